@@ -1,0 +1,9 @@
+use Rattle.std.specs.Prelude.{◌<◌}
+use Rattle.xbar_equip.specs.declared.conn.Conn.{Conn}
+use Rattle.xbar_equip.specs.declared.conn.Conn.TheVariants.{Llf, Tlf, Group}
+
+-- a connector for each line link frame, each trunk link frame, and each of sixteen trunk groups
+abbrev pub IsConn : Conn → Type 0
+IsConn (Llf frame) = frame < 10
+IsConn (Tlf frame) = frame < 10
+IsConn (Group group) = group < 16

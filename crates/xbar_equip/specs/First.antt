@@ -1,0 +1,16 @@
+use Rattle.std.specs.Prelude.{◌≡◌, ℕ, zero, suc, ◌<◌, Bool, true, false, Option, Some, None, MatchOption, if◌then◌else◌}
+
+-- the first of the numbers k, k + 1, .., `count` of them, that passes the test
+abbrev pub first_from : (ℕ → Bool) → ℕ → ℕ → Option ℕ
+first_from test k zero = None
+first_from test k (suc count) = if test k then Some k else first_from test (suc k) count
+
+-- the first of the numbers below `count` that passes the test
+unfoldable pub first_below : (ℕ → Bool) → ℕ → Option ℕ
+first_below test count = first_from test 0 count
+
+-- the number found is the first below `count` that passes the test; where none is found, none passes
+abbrev pub IsFirstBelow : (ℕ → Bool) → ℕ → Option ℕ → Type 0
+IsFirstBelow test count found =
+    MatchOption found ((j : ℕ) → j < count → test j ≡ false)
+    (λ first. (first < count) × (test first ≡ true) × ((j : ℕ) → j < first → test j ≡ false))

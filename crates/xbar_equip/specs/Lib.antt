@@ -1,0 +1,15 @@
+pub mod Among
+pub mod Digits
+pub mod Fault
+pub mod Len
+pub mod Ten
+pub mod Channel
+pub mod DirNo
+pub mod Dialled
+pub mod Link
+pub mod Path
+pub mod Conn
+pub mod Word
+pub mod Crosspoint
+pub mod First
+pub mod Paths

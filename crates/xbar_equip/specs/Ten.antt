@@ -1,0 +1,29 @@
+use Rattle.std.specs.Prelude.{ℕ, ◌<◌, ◌==◌, ◌&&◌, Bool, List, [], ◌∷◌}
+use Rattle.std.specs.Ordering.{nat_cmp, ordering_then}
+use Rattle.std.specs.declared.cmp.Ordering.{Ordering}
+use Rattle.xbar_equip.specs.Digits.{digit}
+
+-- where a trunk or a register stands: a trunk link frame, a trunk switch of it, and an appearance on that switch
+pub record TrunkPlace : Type 0 where
+  pub frame : ℕ
+  pub switch : ℕ
+  pub appearance : ℕ
+
+-- ten frames of ten trunk switches, each with ten appearances
+pub record IsTrunkPlace (place : TrunkPlace) : Type 0 where
+  pub frame : place.frame < 10
+  pub switch : place.switch < 10
+  pub appearance : place.appearance < 10
+
+-- frame, switch and appearance, a digit each
+abbrev pub place_text : TrunkPlace → List ℕ
+place_text place = digit place.frame ∷ digit place.switch ∷ digit place.appearance ∷ []
+
+-- whether two trunk places are one
+abbrev pub place_eq : TrunkPlace → TrunkPlace → Bool
+place_eq a b = a.frame == b.frame && a.switch == b.switch && a.appearance == b.appearance
+
+-- by frame, then by switch, then by appearance: the order of the texts
+abbrev pub place_cmp : TrunkPlace → TrunkPlace → Ordering
+place_cmp a b =
+    ordering_then (nat_cmp a.frame b.frame) (ordering_then (nat_cmp a.switch b.switch) (nat_cmp a.appearance b.appearance))

@@ -1,0 +1,34 @@
+//! The equipment of a No. 5 Crossbar office: numbers and their texts, paths, and the shared words.
+#![tactic(auto)]
+
+pub use channel::Channel;
+pub use conn::Conn;
+pub use crosspoint::Crosspoint;
+pub use dialled::Dialled;
+pub use dir_no::DirNo;
+pub use fault::EquipFault;
+pub use len::Len;
+pub use link::{Link, LinkKind};
+pub use path::Path;
+pub use ten::Ten;
+pub use word::{
+    WordNo, conn_word, group_word, line_junctor, line_switch, protects, trunk_junctor,
+    trunk_switch, turn_word,
+};
+
+mod ascii;
+mod channel;
+mod conn;
+mod crosspoint;
+mod dialled;
+mod digits;
+mod dir_no;
+mod fault;
+pub mod laws;
+mod len;
+mod link;
+mod path;
+mod ten;
+#[cfg(test)]
+mod tests;
+mod word;

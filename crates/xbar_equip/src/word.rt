@@ -1,0 +1,119 @@
+ghost use Rattle.std.specs.Prelude.{◌≡◌, ◌<◌, ◌+◌, ◌*◌, ℕ, IfSome};
+ghost use Rattle.xbar_equip.specs.Conn.{IsConn};
+ghost use Rattle.xbar_equip.specs.Word.{Word, IsWord, word_number, protector, LineSwitch, LineJunctor, TrunkSwitch, TrunkJunctor, GroupWord, ConnWord, TurnWord};
+
+use crate::conn::Conn;
+use std::marker::Model;
+
+/// The number of one of the office's 453 shared words.
+#[derive(Clone, Copy, Debug, PartialEq, Eq, PartialOrd, Ord, Hash)]
+pub struct WordNo {
+    number: u16,
+}
+
+impl Model for WordNo {
+    ghost use Rattle.std.specs.Prelude.{ℕ, ◌<◌};
+
+    ghost Value = { ℕ };
+
+    ghost view = { λ a. a.number };
+
+    ghost invariant = { λ a. a.number < 453 };
+
+    ghost inverse = { λ number. record { number = number } };
+}
+
+impl WordNo {
+    pub fn new(number: u16) -> Self
+        requires { number < 453 }
+        ensures { result ≡ number }
+    {
+        WordNo { number }
+    }
+
+    /// 0 to 452.
+    pub fn number(self) -> u16
+        ensures value { result ≡ self }
+        ensures range { self < 453 }
+    {
+        self.number
+    }
+}
+
+/// The switch between the lines of a horizontal group and their ten line links.
+pub fn line_switch(frame: u8, switch: u8) -> WordNo
+    requires frame { frame < 10 }
+    requires switch { switch < 10 }
+    ensures { result ≡ word_number (LineSwitch frame switch) }
+{
+    WordNo::new(20 * u16::from(frame) + u16::from(switch))
+}
+
+/// The switch between the ten line links of a channel and the junctors to the ten trunk link frames.
+pub fn line_junctor(frame: u8, channel: u8) -> WordNo
+    requires frame { frame < 10 }
+    requires channel { channel < 10 }
+    ensures { result ≡ word_number (LineJunctor frame channel) }
+{
+    WordNo::new(20 * u16::from(frame) + 10 + u16::from(channel))
+}
+
+/// The switch between ten trunk links and ten appearances of trunks and registers.
+pub fn trunk_switch(frame: u8, switch: u8) -> WordNo
+    requires frame { frame < 10 }
+    requires switch { switch < 10 }
+    ensures { result ≡ word_number (TrunkSwitch frame switch) }
+{
+    WordNo::new(200 + 20 * u16::from(frame) + u16::from(switch))
+}
+
+/// The switch between the junctors from the ten line link frames and the ten trunk links of a channel.
+pub fn trunk_junctor(frame: u8, channel: u8) -> WordNo
+    requires frame { frame < 10 }
+    requires channel { channel < 10 }
+    ensures { result ≡ word_number (TrunkJunctor frame channel) }
+{
+    WordNo::new(200 + 20 * u16::from(frame) + 10 + u16::from(channel))
+}
+
+/// The busy bits of a trunk group.
+pub fn group_word(group: u8) -> WordNo
+    requires { group < 16 }
+    ensures { result ≡ word_number (GroupWord group) }
+{
+    WordNo::new(400 + u16::from(group))
+}
+
+/// The word that says who holds a connector and who asks for it.
+pub fn conn_word(conn: Conn) -> WordNo
+    requires { IsConn conn }
+    ensures { result ≡ word_number (ConnWord conn) }
+{
+    WordNo::new(match conn {
+        Conn::Llf(frame) => 416 + u16::from(frame),
+        Conn::Tlf(frame) => 426 + u16::from(frame),
+        Conn::Group(group) => 436 + u16::from(group),
+    })
+}
+
+/// The word that counts turns.
+pub fn turn_word() -> WordNo
+    ensures { result ≡ word_number TurnWord }
+{
+    WordNo::new(452)
+}
+
+/// The connector that a marker holds whenever it reads or changes the word. The connectors' own
+/// words and the turn word have none.
+pub fn protects(word: WordNo) -> Option<Conn>
+    ensures exact { (named : Word) → IsWord named → word ≡ word_number named → result ≡ protector named }
+    ensures range { IfSome result IsConn }
+{
+    let number = word.number();
+    match number {
+        0..=199 => Some(Conn::Llf((number / 20) as u8)),
+        200..=399 => Some(Conn::Tlf(((number - 200) / 20) as u8)),
+        400..=415 => Some(Conn::Group((number - 400) as u8)),
+        _ => None,
+    }
+}

@@ -1,0 +1,23 @@
+use Rattle.std.specs.Prelude.{◌≡◌, ℕ, ◌+◌, Option, bit_and, bit_or}
+use Rattle.xbar_switch.specs.declared.shape.Shape.{Shape}
+use Rattle.xbar_switch.specs.Field.{field_of, ChangesField, close_bits_of, open_mask_of}
+
+-- a switch: which kind it is, what stands in its word, and the place that its select magnets prepare
+pub record SwitchState : Type 0 where
+  pub shape : Shape
+  pub word : ℕ
+  pub selection : Option ℕ
+
+-- what field v of the switch holds
+abbrev pub field_at : SwitchState → ℕ → ℕ
+field_at switch v = field_of switch.shape switch.word v
+
+-- field v is now closed at this place, and nothing else has changed
+pub record Closes (old new : SwitchState) (v place : ℕ) : Type 0 where
+  pub switch : new ≡ record old { word = bit_or old.word (close_bits_of old.shape v place) }
+  pub field : ChangesField old.shape old.word new.word v (1 + place)
+
+-- field v is now open, and nothing else has changed
+pub record Opens (old new : SwitchState) (v : ℕ) : Type 0 where
+  pub switch : new ≡ record old { word = bit_and old.word (open_mask_of old.shape v) }
+  pub field : ChangesField old.shape old.word new.word v 0
