@@ -1,4 +1,4 @@
-use Rattle.std.specs.Prelude.{ℕ, Bool, true, false, not, ◌==◌, Option, Some, None, List, length}
+use Rattle.std.specs.Prelude.{ℕ, Bool, true, false, not, ◌==◌, Option, Some, None, List, length, codes}
 use Rattle.xbar_equip.specs.Digits.{are_digits}
 use Rattle.xbar_equip.specs.declared.fault.EquipFault.{EquipFault}
 use Rattle.xbar_equip.specs.declared.fault.EquipFault.TheVariants.{Length, NotDigit, Range}
@@ -13,3 +13,9 @@ first_fault false false false = None
 -- the fault of a text that is to be `count` digits, each of them of any value
 abbrev pub digits_fault : ℕ → List ℕ → Option EquipFault
 digits_fault count text = first_fault (not (length text == count)) (not (are_digits text)) false
+
+-- what is said of a fault
+abbrev pub fault_text : EquipFault → List ℕ
+fault_text Length = codes "wrong number of characters"
+fault_text NotDigit = codes "a character that may not stand there"
+fault_text Range = codes "a digit out of its range"

@@ -13,6 +13,11 @@ pub enum EquipFault {
 }
 
 impl fmt::Display for EquipFault {
+    ghost use Rattle.std.specs.Prelude.{Some};
+    ghost use Rattle.xbar_equip.specs.Fault.{fault_text};
+
+    ghost output = { λ fault. Some (fault_text fault) };
+
     fn fmt<W: fmt::Write>(&self, f: &mut fmt::Formatter<W>) -> fmt::Result {
         f.write_str(match self {
             EquipFault::Length => "wrong number of characters",

@@ -1,0 +1,11 @@
+pub mod SwitchShapes
+pub mod PathCrosspoints
+pub mod OneCrosspoint
+pub mod ClosedCounts
+pub mod IdleFields
+pub mod PathEffects
+pub mod OpenChannels
+pub mod TracedPaths
+pub mod CountedPaths
+pub mod OneField
+pub mod OneWord

@@ -1,0 +1,62 @@
+use Rattle.std.specs.Prelude.{◌≡◌, ℕ, ◌-◌, ◌<◌, ◌≤◌, ◌==◌, if◌then◌else◌, List, [], ◌∷◌, slice_index, slice_set, bit_and, bit_or, fold}
+use Rattle.xbar_equip.specs.Crosspoint.{crosspoints}
+use Rattle.xbar_equip.specs.declared.path.Path.{Path}
+use Rattle.xbar_equip.specs.declared.crosspoint.Crosspoint.{Crosspoint}
+use Rattle.xbar_switch.specs.Shape.{places}
+use Rattle.xbar_switch.specs.Field.{close_bits_of, open_mask_of}
+use Rattle.xbar_match.specs.Switches.{shape_at, held_at}
+
+-- a crosspoint of the office: one of a switch's ten fields, with a value that stands for one of its places
+pub record IsCrosspoint (c : Crosspoint) : Type 0 where
+  pub word : c.word < 400
+  pub field : c.field < 10
+  pub closed : 0 < c.value
+  pub place : c.value ≤ places (shape_at c.word)
+
+-- what closing a crosspoint makes of its switch's word
+abbrev pub closed_word : Crosspoint → ℕ → ℕ
+closed_word c word = bit_or word (close_bits_of (shape_at c.word) c.field (c.value - 1))
+
+-- what opening a crosspoint makes of its switch's word
+abbrev pub opened_word : Crosspoint → ℕ → ℕ
+opened_word c word = bit_and word (open_mask_of (shape_at c.word) c.field)
+
+-- what closing a crosspoint makes of word n, and what opening it does: nothing where it stands on another
+abbrev pub close_in : ℕ → ℕ → Crosspoint → ℕ
+close_in n word c = if c.word == n then closed_word c word else word
+
+abbrev pub open_in : ℕ → ℕ → Crosspoint → ℕ
+open_in n word c = if c.word == n then opened_word c word else word
+
+-- what closing the four crosspoints of a path makes of word n, and what opening them does
+unfoldable pub close_path_in : ℕ → ℕ → Path → ℕ
+close_path_in n word path = fold (close_in n) word (crosspoints path)
+
+unfoldable pub open_path_in : ℕ → ℕ → Path → ℕ
+open_path_in n word path = fold (open_in n) word (crosspoints path)
+
+-- the words once the crosspoint is closed
+abbrev pub close_at : List ℕ → Crosspoint → List ℕ
+close_at words c = slice_set words c.word (closed_word c (slice_index words c.word))
+
+-- the words once the crosspoint is open
+abbrev pub open_at : List ℕ → Crosspoint → List ℕ
+open_at words c = slice_set words c.word (opened_word c (slice_index words c.word))
+
+-- the words once the four crosspoints of a path are closed, in their order
+unfoldable pub close_path : List ℕ → Path → List ℕ
+close_path words path = fold close_at words (crosspoints path)
+
+-- the words once they are open, in their order
+unfoldable pub open_path : List ℕ → Path → List ℕ
+open_path words path = fold open_at words (crosspoints path)
+
+-- closed one after another, each of the crosspoints goes to a field that is open then
+abbrev pub EachCloses : List ℕ → List Crosspoint → Type 0
+EachCloses words [] = Unit {0}
+EachCloses words (c ∷ cs) = (held_at words c.word c.field ≡ 0) × EachCloses (close_at words c) cs
+
+-- opened one after another, each of them is closed then
+abbrev pub EachOpens : List ℕ → List Crosspoint → Type 0
+EachOpens words [] = Unit {0}
+EachOpens words (c ∷ cs) = (held_at words c.word c.field ≡ c.value) × EachOpens (open_at words c) cs

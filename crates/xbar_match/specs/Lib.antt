@@ -1,0 +1,17 @@
+pub use Rattle.xbar_equip.specs.Among
+pub use Rattle.xbar_equip.specs.Len
+pub use Rattle.xbar_equip.specs.Ten
+pub use Rattle.xbar_equip.specs.Link
+pub use Rattle.xbar_equip.specs.Path
+pub use Rattle.xbar_equip.specs.Paths
+pub use Rattle.xbar_equip.specs.Crosspoint
+pub use Rattle.xbar_equip.specs.Word
+pub use Rattle.xbar_equip.specs.First
+pub use Rattle.xbar_switch.specs.Shape
+pub use Rattle.xbar_switch.specs.Field
+pub mod Switches
+pub mod Shows
+pub mod Effects
+pub mod Channels
+pub mod Traces
+pub mod Counts

@@ -1,0 +1,26 @@
+use Rattle.std.specs.Prelude.{◌≡◌, ℕ, ◌<◌, ◌⊎◌, List, slice_index}
+use Rattle.xbar_equip.specs.Among.{IsIn}
+use Rattle.xbar_equip.specs.Path.{IsPath}
+use Rattle.xbar_equip.specs.Crosspoint.{crosspoints}
+use Rattle.xbar_equip.specs.declared.path.Path.{Path}
+use Rattle.xbar_equip.specs.declared.crosspoint.Crosspoint.{Crosspoint}
+use Rattle.xbar_switch.specs.Field.{field_of, above_fields}
+use Rattle.xbar_match.specs.Switches.{shape_at}
+
+-- each of the paths has its numbers in their ranges
+abbrev pub AreInRange : List Path → Type 0
+AreInRange paths = (path : Path) → IsIn path paths → IsPath path
+
+-- the crosspoints that are closed where these paths stand
+abbrev pub IsClosedIn : List Path → Crosspoint → Type 0
+IsClosedIn paths c = (path : Path) × IsIn path paths × IsIn c (crosspoints path)
+
+-- the word of switch n shows what is closed: each closed crosspoint is what its field holds, all other fields are 0, and nothing stands above the fields
+pub record WordShows (IsClosed : Crosspoint → Type 0) (n word : ℕ) : Type 0 where
+  pub closed : (c : Crosspoint) → IsClosed c → c.word ≡ n → field_of (shape_at n) word c.field ≡ c.value
+  pub others : (v : ℕ) → v < 10 → (field_of (shape_at n) word v ≡ 0) ⊎ IsClosed (record { word = n; field = v; value = field_of (shape_at n) word v })
+  pub above : above_fields (shape_at n) word ≡ 0
+
+-- the 400 switch words show the paths; what stands behind them plays no part
+pub record ShowsPaths (words : List ℕ) (paths : List Path) : Type 0 where
+  pub switch : (n : ℕ) → n < 400 → WordShows (IsClosedIn paths) n (slice_index words n)

@@ -1,0 +1,22 @@
+//! What a marker works out from words that it has read: the channel test, traces and counts.
+//!
+//! Nothing here takes memory or fails. On words that show a set of paths the answers are the set's; each
+//! contract also says what the answer is on any other words.
+#![tactic(auto)]
+
+pub use channels::{idle_links, idle_trunk_links, match_channel};
+pub use counts::{count_closed, count_paths};
+pub use effects::effects_of;
+pub use fields::{find_line, find_number, line_place_of, place_of};
+pub use traces::{trace, trace_back};
+pub use words::shape_at;
+
+mod channels;
+mod counts;
+mod effects;
+mod fields;
+pub mod laws;
+#[cfg(test)]
+mod tests;
+mod traces;
+mod words;

@@ -1,0 +1,26 @@
+ghost use Rattle.std.specs.Prelude.{◌≡◌, ◌<◌, ℕ, length, slice_index};
+ghost use Rattle.xbar_match.specs.Switches.{shape_at as shape_of_switch};
+
+use xbar_equip::WordNo;
+use xbar_switch::Shape;
+
+/// The shape of a switch by its number among the 400.
+#[tactic(auto, unfolding(crate::specs::Switches::shape_at))]
+pub fn shape_at(number: u16) -> Shape
+    requires { number < 400 }
+    ensures { result ≡ shape_of_switch number }
+{
+    if number < 200 && number % 20 < 10 {
+        Shape::Line
+    } else {
+        Shape::Other
+    }
+}
+
+/// What stands in a word, of all 453.
+pub(crate) fn word_at(words: &[u64], word: WordNo) -> u64
+    requires { length words.now ≡ 453 }
+    ensures { result ≡ slice_index words.now word }
+{
+    words[usize::from(word.number())]
+}

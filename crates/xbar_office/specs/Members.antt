@@ -1,0 +1,30 @@
+use Rattle.std.specs.Prelude.{ℕ, ◌+◌, ◌-◌, Bool, false, Option, List, [], length, slice_get, unwrap_or, option_map}
+use Rattle.std.specs.Option.{option_map_or}
+use Rattle.std.specs.List.{list_all}
+use Rattle.xbar_equip.specs.First.{first_below}
+use Rattle.xbar_equip.specs.Paths.{has_place, is_idle}
+use Rattle.xbar_equip.specs.declared.path.Path.{Path}
+use Rattle.xbar_plan.specs.Group.{places}
+use Rattle.xbar_plan.specs.Tables.{Tables}
+use Rattle.xbar_plan.specs.declared.group.Member.{Member}
+
+-- the members of a group
+abbrev pub members_of : Tables → ℕ → List Member
+members_of plan group = option_map_or (λ found. found.members) (slice_get plan.groups group) []
+
+-- a member is idle where each of its places is
+abbrev pub is_member_idle : List Path → Member → Bool
+is_member_idle paths member = list_all (λ place. is_idle (has_place place) paths) (places member)
+
+-- whether the member of this number is idle
+abbrev pub is_idle_at : List Path → List Member → ℕ → Bool
+is_idle_at paths members index = option_map_or (is_member_idle paths) (slice_get members index) false
+
+-- the first idle one of a group's members
+abbrev pub first_idle : List Path → List Member → Option ℕ
+first_idle paths members = first_below (is_idle_at paths members) (length members)
+
+-- the idle one that follows a member next; where none follows, that member again
+abbrev pub next_idle : List Path → List Member → ℕ → ℕ
+next_idle paths members index =
+    unwrap_or (option_map (λ k. index + 1 + k) (first_below (λ k. is_idle_at paths members (index + 1 + k)) (length members - (index + 1)))) index

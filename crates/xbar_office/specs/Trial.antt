@@ -1,0 +1,62 @@
+use Rattle.std.specs.Prelude.{ℕ, Option, Some, None, List, [], ◌∷◌, ◌++◌, find, option_map, option_and_then}
+use Rattle.xbar_equip.specs.Link.{Link}
+use Rattle.xbar_equip.specs.Path.{path_by, line_link, junctor, trunk_link}
+use Rattle.xbar_equip.specs.Paths.{channel_test, with_path}
+use Rattle.xbar_equip.specs.declared.path.Path.{Path}
+use Rattle.xbar_plan.specs.Tables.{Tables, is_faulty}
+use Rattle.xbar_plan.specs.declared.group.Member.{Member}
+use Rattle.xbar_office.specs.declared.trial.Parties.{Parties}
+use Rattle.xbar_office.specs.declared.trial.Leg.{Leg}
+use Rattle.xbar_office.specs.declared.trial.Pair.{Pair}
+use Rattle.xbar_office.specs.declared.trial.TrialEnd.{TrialEnd}
+use Rattle.xbar_office.specs.declared.trial.TrialEnd.TheVariants.{Chosen, Faulty, NoChannel}
+
+-- the calling line is to be joined to the member's first place
+abbrev pub calling_leg : Parties → Member → Leg
+calling_leg parties member = record { line = parties.calling; place = member.first }
+
+-- the called line, if there is one, is to be joined to the second place of a pair
+abbrev pub called_leg : Parties → Member → Option Leg
+called_leg parties member = option_and_then (λ line. option_map (λ place. record { line = line; place = place }) member.second) parties.called
+
+-- the path for a leg, by the channel test
+abbrev pub leg_path : List Path → ℕ → Leg → Option Path
+leg_path paths start leg = option_map (path_by leg.line leg.place) (channel_test paths leg.line leg.place start)
+
+-- the called line's leg is matched once the calling path was added, with the same start
+abbrev pub with_called : List Path → ℕ → Option Leg → Path → Option Pair
+with_called paths start None calling = Some (record { calling = calling; called = None })
+with_called paths start (Some leg) calling =
+    option_map (λ called. record { calling = calling; called = Some called }) (leg_path (with_path paths calling) start leg)
+
+-- the paths that join the parties to the member, where each of them finds a channel
+abbrev pub matched : List Path → ℕ → Parties → Member → Option Pair
+matched paths start parties member =
+    option_and_then (with_called paths start (called_leg parties member)) (leg_path paths start (calling_leg parties member))
+
+-- a path's links in the order in which they are looked up in the fault list
+abbrev pub links : Path → List Link
+links path = line_link path ∷ junctor path ∷ trunk_link path ∷ []
+
+-- the same of the called path, if there is one
+abbrev pub called_links : Option Path → List Link
+called_links None = []
+called_links (Some called) = links called
+
+-- chosen paths of which a link is out of order make a faulty trial
+abbrev pub faulty_or_chosen : Pair → Option Link → TrialEnd
+faulty_or_chosen pair None = Chosen pair
+faulty_or_chosen pair (Some link) = Faulty link
+
+-- chosen paths are looked through for the first link that is out of order, the calling path's links first
+abbrev pub tested : Tables → Pair → TrialEnd
+tested plan pair = faulty_or_chosen pair (find (is_faulty plan) (links pair.calling ++ called_links pair.called))
+
+-- a trial ends without a channel, or as its chosen paths are
+abbrev pub end_of : Tables → Option Pair → TrialEnd
+end_of plan None = NoChannel
+end_of plan (Some pair) = tested plan pair
+
+-- a trial: join the parties to a member, with this start of the channel test
+abbrev pub trial : Tables → List Path → ℕ → Parties → Member → TrialEnd
+trial plan paths start parties member = end_of plan (matched paths start parties member)

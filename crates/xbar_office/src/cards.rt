@@ -1,0 +1,59 @@
+ghost use Rattle.std.specs.Prelude.{◌≡◌, ◌<◌, ◌↔◌, IsTrue, List, [], ◌∷◌, ◌++◌, length};
+
+use crate::reply::Card;
+use arrayvec::ArrayVec;
+use std::marker::Model;
+
+/// The cards of one job, at most two. They take no memory.
+#[derive(Debug, Drop)]
+pub struct Cards {
+    cards: ArrayVec<Card, 2>,
+}
+
+impl Model for Cards {
+    ghost use Rattle.std.specs.Prelude.{List};
+    ghost use Rattle.xbar_office.specs.declared.reply.Card.{Card};
+
+    ghost Value = { List Card };
+
+    ghost view = { λ a. a.cards.items };
+}
+
+impl Cards {
+    pub fn new() -> Self
+        ensures { result ≡ [] }
+    {
+        Cards {
+            cards: ArrayVec::new(),
+        }
+    }
+
+    /// A list of one card.
+    pub fn one(card: Card) -> Self
+        ensures { result ≡ card ∷ [] }
+    {
+        let mut cards = Cards::new();
+        cards.push(card);
+        cards
+    }
+
+    pub fn push(&mut self, card: Card)
+        requires { length self.old < 2 }
+        ensures { self.new ≡ self.old ++ card ∷ [] }
+    {
+        self.cards.push(card);
+    }
+
+    pub fn is_empty(&self) -> bool
+        ensures { IsTrue result ↔ (self.now ≡ []) }
+    {
+        self.cards.is_empty()
+    }
+
+    /// The cards in the order of trials.
+    pub fn as_slice(&self) -> &[Card]
+        ensures { result.now ≡ self.now }
+    {
+        self.cards.as_slice()
+    }
+}

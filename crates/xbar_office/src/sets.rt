@@ -1,0 +1,137 @@
+//! Sets of paths, as slices in the order of paths.
+
+ghost use Rattle.std.specs.Prelude.{◌≡◌, ◌<◌, ◌≤◌, ◌+◌, length, vec_len, vec_capacity, option_map, OnOk, OnErr, MatchOption, insert as insert_at};
+ghost use Rattle.xbar_equip.specs.Paths.{has_line, has_place, has_link as has_the_link, is_idle, has_idle_links as has_idle_links_in, channel_test, with_path};
+ghost use Rattle.xbar_equip.specs.Path.{path_by};
+ghost use Rattle.xbar_office.specs.Chosen.{with_chosen};
+ghost use Rattle.xbar_office.specs.Whole.{with_pair};
+
+use crate::trial::Pair;
+use std::alloc::AllocError;
+use std::cmp::Ordering;
+use xbar_equip::{Channel, Len, Link, Path, Ten};
+
+/// Whether no path of the set has the line.
+pub fn is_line_idle(paths: &[Path], line: Len) -> bool
+    ensures { result ≡ is_idle (has_line line) paths.now }
+{
+    for path in paths {
+        if path.line == line {
+            return false;
+        }
+    }
+    true
+}
+
+/// Whether no path of the set has the trunk place.
+pub fn is_place_idle(paths: &[Path], place: Ten) -> bool
+    ensures { result ≡ is_idle (has_place place) paths.now }
+{
+    for path in paths {
+        if path.place == place {
+            return false;
+        }
+    }
+    true
+}
+
+fn has_link(path: &Path, link: Link) -> bool
+    ensures { result ≡ has_the_link link path.now }
+{
+    path.line_link() == link || path.junctor() == link || path.trunk_link() == link
+}
+
+/// Whether no path of the set has the link.
+pub fn is_link_idle(paths: &[Path], link: Link) -> bool
+    ensures { result ≡ is_idle (has_the_link link) paths.now }
+{
+    for path in paths {
+        if has_link(path, link) {
+            return false;
+        }
+    }
+    true
+}
+
+/// The same where one more path was chosen.
+fn is_link_idle_beside(paths: &[Path], chosen: &Option<Path>, link: Link) -> bool
+    ensures { result ≡ is_idle (has_the_link link) (with_chosen paths.now chosen.now) }
+{
+    match chosen {
+        None => is_link_idle(paths, link),
+        Some(path) => is_link_idle(paths, link) && !has_link(path, link),
+    }
+}
+
+/// Whether the three links of a path are idle.
+fn has_idle_links(paths: &[Path], chosen: &Option<Path>, path: &Path) -> bool
+    ensures { result ≡ has_idle_links_in (with_chosen paths.now chosen.now) path.now }
+{
+    is_link_idle_beside(paths, chosen, path.line_link())
+        && is_link_idle_beside(paths, chosen, path.junctor())
+        && is_link_idle_beside(paths, chosen, path.trunk_link())
+}
+
+/// The path between a line and a trunk place by the first idle channel, from `start` on round ten,
+/// in the set with the path that was chosen before, if there is one.
+pub fn find_path(
+    paths: &[Path],
+    chosen: &Option<Path>,
+    line: Len,
+    place: Ten,
+    start: u8,
+) -> Option<Path>
+    requires { start < 10 }
+    ensures { result ≡ option_map (path_by line place) (channel_test (with_chosen paths.now chosen.now) line place start) }
+{
+    for turn in 0..10 {
+        let path = Path {
+            line,
+            channel: Channel::new((start + turn) % 10),
+            place,
+        };
+        if has_idle_links(paths, chosen, &path) {
+            return Some(path);
+        }
+    }
+    None
+}
+
+/// Where a path is to be put into the set; nowhere, if it is there already.
+fn place_for(paths: &[Path], path: &Path) -> Option<usize>
+    ensures { MatchOption result (with_path paths.now path.now ≡ paths.now) (λ at. (at ≤ length paths.now) × (with_path paths.now path.now ≡ insert_at paths.now at path.now)) }
+{
+    for (at, other) in paths.iter().enumerate() {
+        match path.cmp(other) {
+            Ordering::Less => return Some(at),
+            Ordering::Equal => return None,
+            Ordering::Greater => {}
+        }
+    }
+    Some(paths.len())
+}
+
+/// Adds a path to the set, which has room for it.
+fn insert(paths: &mut Vec<Path>, path: &Path)
+    requires { vec_len paths.old < vec_capacity paths.old }
+    ensures paths { paths.new.items ≡ with_path paths.old.items path.now }
+    ensures len { vec_len paths.new ≤ vec_len paths.old + 1 }
+    ensures capacity { vec_capacity paths.new ≡ vec_capacity paths.old }
+{
+    if let Some(at) = place_for(paths, path) {
+        paths.insert(at, *path).unwrap();
+    }
+}
+
+/// Adds the paths that a trial chose.
+pub fn insert_pair(paths: &mut Vec<Path>, pair: &Pair) -> Result<(), AllocError>
+    ensures ok { OnOk result (paths.new.items ≡ with_pair paths.old.items pair.now) }
+    ensures err { OnErr result (paths.new.items ≡ paths.old.items) }
+{
+    paths.reserve(2)?;
+    insert(paths, &pair.calling);
+    if let Some(called) = &pair.called {
+        insert(paths, called);
+    }
+    Ok(())
+}

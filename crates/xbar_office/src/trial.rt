@@ -1,0 +1,122 @@
+//! A trial: join the parties to a member of a trunk group.
+
+ghost use Rattle.std.specs.Prelude.{◌≡◌, ◌<◌, find};
+ghost use Rattle.xbar_plan.specs.Tables.{is_faulty};
+ghost use Rattle.xbar_office.specs.Trial.{called_leg as called_leg_of, with_called as with_called_of, matched as matched_of, links, called_links, tested as tested_of, trial as trial_of};
+
+use crate::sets::find_path;
+use xbar_equip::{Len, Link, Path, Ten};
+use xbar_plan::{Member, Plan};
+
+/// The lines that a job wants to join to a member of a trunk group.
+#[derive(Clone, Copy, Debug, PartialEq, Eq)]
+pub struct Parties {
+    pub calling: Len,
+    pub called: Option<Len>,
+}
+
+/// A line and the trunk place that it is to be joined to.
+#[derive(Clone, Copy, Debug, PartialEq, Eq)]
+pub struct Leg {
+    pub line: Len,
+    pub place: Ten,
+}
+
+/// The paths that a trial chose.
+#[derive(Clone, Copy, Debug, PartialEq, Eq)]
+pub struct Pair {
+    pub calling: Path,
+    pub called: Option<Path>,
+}
+
+/// How a trial ends.
+#[derive(Clone, Copy, Debug, PartialEq, Eq)]
+pub enum TrialEnd {
+    Chosen(Pair),
+    /// The first link of the chosen paths that is out of order.
+    Faulty(Link),
+    NoChannel,
+}
+
+fn called_leg(parties: &Parties, member: &Member) -> Option<Leg>
+    ensures { result ≡ called_leg_of parties.now member.now }
+{
+    match (parties.called, member.second) {
+        (Some(line), Some(place)) => Some(Leg { line, place }),
+        _ => None,
+    }
+}
+
+fn with_called(paths: &[Path], start: u8, leg: Option<Leg>, calling: &Path) -> Option<Pair>
+    requires { start < 10 }
+    ensures { result ≡ with_called_of paths.now start leg calling.now }
+{
+    match leg {
+        None => Some(Pair {
+            calling: *calling,
+            called: None,
+        }),
+        Some(leg) => {
+            let called = find_path(paths, &Some(*calling), leg.line, leg.place, start)?;
+            Some(Pair {
+                calling: *calling,
+                called: Some(called),
+            })
+        }
+    }
+}
+
+fn matched(paths: &[Path], start: u8, parties: &Parties, member: &Member) -> Option<Pair>
+    requires { start < 10 }
+    ensures { result ≡ matched_of paths.now start parties.now member.now }
+{
+    let calling = find_path(paths, &None, parties.calling, member.first, start)?;
+    with_called(paths, start, called_leg(parties, member), &calling)
+}
+
+fn first_faulty(plan: &Plan, path: &Path) -> Option<Link>
+    ensures { result ≡ find (is_faulty plan.now) (links path.now) }
+{
+    if plan.faulty(path.line_link()) {
+        return Some(path.line_link());
+    }
+    if plan.faulty(path.junctor()) {
+        return Some(path.junctor());
+    }
+    if plan.faulty(path.trunk_link()) {
+        return Some(path.trunk_link());
+    }
+    None
+}
+
+fn first_faulty_called(plan: &Plan, called: &Option<Path>) -> Option<Link>
+    ensures { result ≡ find (is_faulty plan.now) (called_links called.now) }
+{
+    match called {
+        None => None,
+        Some(path) => first_faulty(plan, path),
+    }
+}
+
+fn tested(plan: &Plan, pair: &Pair) -> TrialEnd
+    ensures { result ≡ tested_of plan.now pair.now }
+{
+    if let Some(link) = first_faulty(plan, &pair.calling) {
+        return TrialEnd::Faulty(link);
+    }
+    match first_faulty_called(plan, &pair.called) {
+        Some(link) => TrialEnd::Faulty(link),
+        None => TrialEnd::Chosen(*pair),
+    }
+}
+
+/// A trial on a member, with this start of the channel test.
+pub fn trial(plan: &Plan, paths: &[Path], start: u8, parties: &Parties, member: &Member) -> TrialEnd
+    requires { start < 10 }
+    ensures { result ≡ trial_of plan.now paths.now start parties.now member.now }
+{
+    match matched(paths, start, parties, member) {
+        None => TrialEnd::NoChannel,
+        Some(pair) => tested(plan, &pair),
+    }
+}

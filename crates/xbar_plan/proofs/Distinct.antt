@@ -1,0 +1,115 @@
+use Rattle.std.proofs.Common.{◌≡◌, ℕ, zero, suc, Bool, true, false, ◌⊎◌, List, [], ◌∷◌, ◌++◌, inl, inr, refl, sym, ◌∙◌, ap, subst}
+use Rattle.std.specs.Prelude.{Some, slice_get, flat_map, not, ◌||◌}
+use Rattle.std.specs.List.{list_any, list_all}
+use Rattle.std.proofs.lemmas.List.Folds.{list_any-append}
+use Rattle.xbar_equip.specs.Among.{IsIn}
+use Rattle.xbar_plan.specs.Lawful.{are_distinct}
+use Rattle.xbar_plan.proofs.Ranges.{both, both_hold}
+
+-- an item of one list is an item of both together
+pub IsIn-append_left : {X : Type 0} (x : X) (xs ys : List X) → IsIn x xs → IsIn x (xs ++ ys)
+IsIn-append_left x [] ys h = absurd h
+IsIn-append_left x (y ∷ xs) ys (inl e) = inl e
+IsIn-append_left x (y ∷ xs) ys (inr h) = inr (IsIn-append_left x xs ys h)
+
+pub IsIn-append_right : {X : Type 0} (x : X) (xs ys : List X) → IsIn x ys → IsIn x (xs ++ ys)
+IsIn-append_right x [] ys h = h
+IsIn-append_right x (y ∷ xs) ys h = inr (IsIn-append_right x xs ys h)
+
+same_some : {X : Type 0} (a b : X) → Some a ≡ Some b → a ≡ b
+same_some a b e = cc
+
+-- what one item of a list gives is among what all give
+pub IsIn-flat_map : {X Y : Type 0} (f : X → List Y) (xs : List X) (i : ℕ) (x : X) (y : Y) → slice_get xs i ≡ Some x → IsIn y (f x) → IsIn y (flat_map f xs)
+IsIn-flat_map f [] i x y e h = cc
+IsIn-flat_map f (a ∷ xs) zero x y e h =
+    IsIn-append_left y (f a) (flat_map f xs) (subst (λ (z : _). IsIn y (f z)) (sym (same_some a x e)) h)
+IsIn-flat_map f (a ∷ xs) (suc i) x y e h = IsIn-append_right y (f a) (flat_map f xs) (IsIn-flat_map f xs i x y e h)
+
+-- what all items pass each passes
+pub all_pass : {X : Type 0} (p : X → Bool) (xs : List X) (i : ℕ) (x : X) → list_all p xs ≡ true → slice_get xs i ≡ Some x → p x ≡ true
+all_pass p [] i x all e = cc
+all_pass p (a ∷ xs) zero x all e = ap p (sym (same_some a x e)) ∙ (both (p a) (list_all p xs) all).0
+all_pass p (a ∷ xs) (suc i) x all e = all_pass p xs i x (both (p a) (list_all p xs) all).1 e
+
+pub has_passes : {X : Type 0} (p : X → Bool) (xs : List X) (x : X) → list_all p xs ≡ true → IsIn x xs → p x ≡ true
+has_passes p [] x all h = absurd h
+has_passes p (a ∷ xs) x all (inl e) = ap p e ∙ (both (p a) (list_all p xs) all).0
+has_passes p (a ∷ xs) x all (inr h) = has_passes p xs x (both (p a) (list_all p xs) all).1 h
+
+pub either : (a b : Bool) → (a || b) ≡ true → (a ≡ true) ⊎ (b ≡ true)
+either true b e = inl refl
+either false b e = inr e
+
+either_holds : (a b : Bool) → (a ≡ true) ⊎ (b ≡ true) → (a || b) ≡ true
+either_holds true b e = refl
+either_holds false b (inl e) = cc
+either_holds false b (inr e) = e
+
+-- an item that passes makes some item pass
+pub any_passes : {X : Type 0} (p : X → Bool) (xs : List X) (x : X) → IsIn x xs → p x ≡ true → list_any p xs ≡ true
+any_passes p [] x h e = absurd h
+any_passes p (a ∷ xs) x (inl same) e = either_holds (p a) (list_any p xs) (inl (ap p (sym same) ∙ e))
+any_passes p (a ∷ xs) x (inr h) e = either_holds (p a) (list_any p xs) (inr (any_passes p xs x h e))
+
+-- where the test finds only the item itself, an item that is found is among the items
+pub any_is_among : {X : Type 0} (p : X → Bool) (x : X) → ((y : X) → p y ≡ true → y ≡ x) → (xs : List X) → list_any p xs ≡ true → IsIn x xs
+any_is_among p x only [] e = cc
+any_is_among p x only (a ∷ xs) e = elim (either (p a) (list_any p xs) e) [
+  | inl here ↦ inl (sym (only a here))
+  | inr there ↦ inr (any_is_among p x only xs there)
+]
+
+not_both : (b : Bool) → not b ≡ true → b ≡ true → ⊥
+not_both true x y = cc
+not_both false x y = cc
+
+module _ {X : Type 0} (same : X → X → Bool) (itself : (x : X) → same x x ≡ true) where
+  -- distinct items of two lists are distinct in each
+  pub distinct-left : (xs ys : List X) → are_distinct same (xs ++ ys) ≡ true → are_distinct same xs ≡ true
+  distinct-left [] ys e = refl
+  distinct-left (x ∷ xs) ys e =
+      let h = both (not (list_any (λ other. same other x) (xs ++ ys))) (are_distinct same (xs ++ ys)) e in
+      both_hold (not (list_any (λ other. same other x) xs)) (are_distinct same xs)
+      (fewer (list_any (λ other. same other x) xs) (list_any (λ other. same other x) ys)
+      (ap not (sym (list_any-append (λ other. same other x) xs ys)) ∙ h.0)) (distinct-left xs ys h.1) where
+        fewer : (a b : Bool) → not (a || b) ≡ true → not a ≡ true
+        fewer true b e = e
+        fewer false b e = refl
+
+  pub distinct-right : (xs ys : List X) → are_distinct same (xs ++ ys) ≡ true → are_distinct same ys ≡ true
+  distinct-right [] ys e = e
+  distinct-right (x ∷ xs) ys e =
+      distinct-right xs ys (both (not (list_any (λ other. same other x) (xs ++ ys))) (are_distinct same (xs ++ ys)) e).1
+
+  -- the first of distinct items is not among the others
+  pub not_again : (x : X) (xs : List X) → are_distinct same (x ∷ xs) ≡ true → IsIn x xs → ⊥
+  not_again x xs e h =
+      not_both (list_any (λ other. same other x) xs) (both (not (list_any (λ other. same other x) xs)) (are_distinct same xs) e).0
+      (any_passes (λ other. same other x) xs x h (itself x))
+
+  -- and none is in both
+  pub distinct-apart : (x : X) (xs ys : List X) → are_distinct same (xs ++ ys) ≡ true → IsIn x xs → IsIn x ys → ⊥
+  distinct-apart x [] ys e h k = absurd h
+  distinct-apart x (a ∷ xs) ys e (inl is) k =
+      not_again a (xs ++ ys) e (subst (λ (z : X). IsIn z (xs ++ ys)) is (IsIn-append_right x xs ys k))
+  distinct-apart x (a ∷ xs) ys e (inr h) k =
+      distinct-apart x xs ys (both (not (list_any (λ other. same other a) (xs ++ ys))) (are_distinct same (xs ++ ys)) e).1 h k
+
+  -- what one item gives is distinct where what all give is
+  pub distinct-at : {A : Type 0} (f : A → List X) (items : List A) (i : ℕ) (a : A) → are_distinct same (flat_map f items) ≡ true → slice_get items i ≡ Some a → are_distinct same (f a) ≡ true
+  distinct-at f [] i a e at = cc
+  distinct-at f (b ∷ items) zero a e at =
+      subst (λ (z : _). are_distinct same (f z) ≡ true) (same_some b a at) (distinct-left (f b) (flat_map f items) e)
+  distinct-at f (b ∷ items) (suc i) a e at = distinct-at f items i a (distinct-right (f b) (flat_map f items) e) at
+
+  -- two items that give one thing are one item
+  pub one_giver : {A : Type 0} (f : A → List X) (items : List A) (i j : ℕ) (a b : A) (x : X) → are_distinct same (flat_map f items) ≡ true → slice_get items i ≡ Some a → slice_get items j ≡ Some b → IsIn x (f a) → IsIn x (f b) → i ≡ j
+  one_giver f [] i j a b x e at bt h k = cc
+  one_giver f (c ∷ items) zero zero a b x e at bt h k = refl
+  one_giver f (c ∷ items) zero (suc j) a b x e at bt h k =
+      absurd (distinct-apart x (f c) (flat_map f items) e (subst (λ (z : _). IsIn x (f z)) (sym (same_some c a at)) h) (IsIn-flat_map f items j b x bt k))
+  one_giver f (c ∷ items) (suc i) zero a b x e at bt h k =
+      absurd (distinct-apart x (f c) (flat_map f items) e (subst (λ (z : _). IsIn x (f z)) (sym (same_some c b bt)) k) (IsIn-flat_map f items i a x at h))
+  one_giver f (c ∷ items) (suc i) (suc j) a b x e at bt h k =
+      ap suc (one_giver f items i j a b x (distinct-right (f c) (flat_map f items) e) at bt h k)

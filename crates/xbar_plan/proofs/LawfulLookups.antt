@@ -1,0 +1,114 @@
+use Rattle.std.proofs.Common.{◌≡◌, ℕ, ◌<◌, ◌≤◌, Bool, true, false, ◌⊎◌, List, length, inl, inr, refl, sym, ◌∙◌, ap, subst, arith}
+use Rattle.std.specs.Prelude.{Option, Some, None, IsSomeAnd, IfSome, slice_get, ◌==◌}
+use Rattle.std.specs.Option.{option_map_or}
+use Rattle.std.specs.List.{list_all}
+use borrow.Author.Tests.{eqb-true}
+use Rattle.xbar_equip.specs.Len.{Line, IsLine}
+use Rattle.xbar_equip.specs.Ten.{TrunkPlace}
+use Rattle.xbar_equip.specs.Link.{Link, IsLink, link_eq}
+use Rattle.xbar_equip.proofs.PathTests.{link_eq-exact}
+use Rattle.xbar_plan.specs.Group.{TrunkGroup, stands_at, is_register, is_intra, is_outgoing, other_place}
+use Rattle.xbar_plan.specs.Tables.{Tables, Station, Route, member_at, register_group, lines_of, route_of, is_faulty, IsNoMembers, IsOfMember, IsMemberPlace}
+use Rattle.xbar_plan.specs.Lawful.{IsLawful, LeadsOnlyTo, is_between, is_line, is_link, is_group, leads_to_trunks}
+use Rattle.xbar_plan.specs.declared.group.Member.{Member}
+use Rattle.xbar_plan.specs.declared.group.MemberPlace.{MemberPlace}
+use Rattle.xbar_plan.proofs.Ranges.{between, line_in_range, link_in_range}
+use Rattle.xbar_plan.proofs.Distinct.{all_pass, has_passes, any_is_among, either}
+use Rattle.xbar_plan.proofs.Lookups.{found-item, count-one, position-one}
+use Rattle.xbar_plan.proofs.LawfulPlans.{stands_at-has, one_member}
+
+-- the register group is there, and has registers
+pub register_group-is : (plan : Tables) → IsLawful plan → (group : TrunkGroup) × (slice_get plan.groups (register_group plan) ≡ Some group) × (is_register group ≡ true)
+register_group-is plan lawful = position-one is_register plan.groups (eqb-true _ 1 lawful.groups.one_register_group)
+
+-- no other group has registers
+pub register_group-only : (plan : Tables) → IsLawful plan → (number : ℕ) (group : TrunkGroup) → slice_get plan.groups number ≡ Some group → is_register group ≡ true → number ≡ register_group plan
+register_group-only plan lawful number group here registers =
+    let first = register_group-is plan lawful in
+    count-one is_register plan.groups number (register_group plan) group first.0 (eqb-true _ 1 lawful.groups.one_register_group) here registers first.1 first.2
+
+-- a number with one to ten lines
+pub lines_of-count : (plan : Tables) → IsLawful plan → (number : ℕ) (lines : List Line) → lines_of plan number ≡ Some lines → (0 < length lines) × (length lines ≤ 10)
+lines_of-count plan lawful number lines e =
+    let found = found-item (λ (s : Station). s.lines) (λ (s : Station). s.number == number) plan.stations lines e in
+    let size = has_passes (λ (s : Station). is_between 1 10 (length s.lines)) plan.stations found.0 lawful.stations.sizes found.1 in
+    let h = between 1 10 (length found.0.lines) size in
+    let same = ap length found.3 in
+    (omega (arith, h.0, same), omega (arith, h.1, same))
+
+-- which are lines
+pub lines_of-range : (plan : Tables) → IsLawful plan → (number : ℕ) (lines : List Line) → lines_of plan number ≡ Some lines → (k : ℕ) (line : Line) → slice_get lines k ≡ Some line → IsLine line
+lines_of-range plan lawful number lines e k line here =
+    let found = found-item (λ (s : Station). s.lines) (λ (s : Station). s.number == number) plan.stations lines e in
+    let all = has_passes (λ (s : Station). list_all is_line s.lines) plan.stations found.0 lawful.stations.lines found.1 in
+    line_in_range line (all_pass is_line found.0.lines k line all (ap (λ (ls : List Line). slice_get ls k) found.3 ∙ here))
+
+-- a code leads to one to four groups
+pub route_of-count : (plan : Tables) → IsLawful plan → (code : ℕ) (groups : List ℕ) → route_of plan code ≡ Some groups → (0 < length groups) × (length groups ≤ 4)
+route_of-count plan lawful code groups e =
+    let found = found-item (λ (r : Route). r.groups) (λ (r : Route). r.code == code) plan.routes groups e in
+    let size = has_passes (λ (r : Route). is_between 1 4 (length r.groups)) plan.routes found.0 lawful.routes.sizes found.1 in
+    let h = between 1 4 (length found.0.groups) size in
+    let same = ap length found.3 in
+    (omega (arith, h.0, same), omega (arith, h.1, same))
+
+-- a group of a number that is tested is there, and passes
+group-there : (test : TrunkGroup → Bool) (groups : List TrunkGroup) (number : ℕ) → is_group test groups number ≡ true → (group : TrunkGroup) × (slice_get groups number ≡ Some group) × (test group ≡ true)
+group-there test groups number e = of (slice_get groups number) refl e where
+  of : (o : Option TrunkGroup) → slice_get groups number ≡ o → option_map_or test o false ≡ true → (group : TrunkGroup) × (slice_get groups number ≡ Some group) × (test group ≡ true)
+  of None here passes = cc
+  of (Some group) here passes = (group, here, passes)
+
+leads-only : (test : TrunkGroup → Bool) (plan : Tables) (groups : List ℕ) → list_all (is_group test plan.groups) groups ≡ true → LeadsOnlyTo test plan groups
+leads-only test plan groups all = λ k number here.
+    group-there test plan.groups number (all_pass (is_group test plan.groups) groups k number all here)
+
+-- all intra, or all outgoing
+pub route_of-trunks : (plan : Tables) → IsLawful plan → (code : ℕ) (groups : List ℕ) → route_of plan code ≡ Some groups → LeadsOnlyTo is_intra plan groups ⊎ LeadsOnlyTo is_outgoing plan groups
+route_of-trunks plan lawful code groups e =
+    let found = found-item (λ (r : Route). r.groups) (λ (r : Route). r.code == code) plan.routes groups e in
+    let leads = has_passes (leads_to_trunks plan.groups) plan.routes found.0 lawful.routes.trunks found.1 in
+    subst (λ (gs : List ℕ). LeadsOnlyTo is_intra plan gs ⊎ LeadsOnlyTo is_outgoing plan gs) found.3
+    (elim (either (list_all (is_group is_intra plan.groups) found.0.groups) (list_all (is_group is_outgoing plan.groups) found.0.groups) leads)
+    as (λ _. LeadsOnlyTo is_intra plan found.0.groups ⊎ LeadsOnlyTo is_outgoing plan found.0.groups) [
+      | inl all ↦ inl (leads-only is_intra plan found.0.groups all)
+      | inr all ↦ inr (leads-only is_outgoing plan found.0.groups all)
+    ])
+
+-- what is out of order is a link
+pub is_faulty-range : (plan : Tables) → IsLawful plan → (link : Link) → is_faulty plan link ≡ true → IsLink link
+is_faulty-range plan lawful link e =
+    let among = any_is_among (λ fault. link_eq fault link) link (λ fault same. (link_eq-exact fault link).0 same) plan.faults e in
+    link_in_range link (has_passes is_link plan.faults link lawful.faults.ranges among)
+
+-- a member that is found, with what is known of it
+of_some : {X : Type 0} (o : Option X) (P : X → Type 0) → IsSomeAnd o P → (x : X) × (o ≡ Some x) × P x
+of_some None P h = absurd h
+of_some (Some x) P h = (x, refl, h)
+
+true_false : (b : Bool) → b ≡ true → b ≡ false → ⊥
+true_false b holds fails = let e : true ≡ false = sym holds ∙ fails in cc
+
+-- where a member stands at a place, it is not so that none does
+found_not_none : (plan : Tables) (place : TrunkPlace) (found : MemberPlace) → IsOfMember plan place found → IsNoMembers plan place → ⊥
+found_not_none plan place found is none =
+    let h = of_some (member_at plan found.group found.index) (λ member. (stands_at member place ≡ true) × (found.other ≡ other_place member place)) is in
+    let here = subst (λ (o : Option Member). IfSome o (λ member. stands_at member place ≡ false)) h.1 (none found.group found.index) in
+    true_false (stands_at h.0 place) h.2.0 here
+
+-- only one answer fits a place
+pub one_answer : (plan : Tables) → IsLawful plan → (place : TrunkPlace) (found found' : Option MemberPlace) → IsMemberPlace plan place found → IsMemberPlace plan place found' → found ≡ found'
+one_answer plan lawful place None None none none' = refl
+one_answer plan lawful place None (Some found) none is = absurd (found_not_none plan place found is none)
+one_answer plan lawful place (Some found) None is none = absurd (found_not_none plan place found is none)
+one_answer plan lawful place (Some found) (Some found') is is' =
+    let h = of_some (member_at plan found.group found.index) (λ member. (stands_at member place ≡ true) × (found.other ≡ other_place member place)) is in
+    let h' = of_some (member_at plan found'.group found'.index) (λ member. (stands_at member place ≡ true) × (found'.other ≡ other_place member place)) is' in
+    let same = one_member plan lawful found.group found.index found'.group found'.index h.0 h'.0 place h.1 h'.1 (stands_at-has h.0 place h.2.0) (stands_at-has h'.0 place h'.2.0) in
+    let group = same.0 in
+    let index = same.1 in
+    let members : Some h.0 ≡ Some h'.0 = sym h.1 ∙ ap (λ (g : ℕ). member_at plan g found.index) group ∙ ap (λ (i : ℕ). member_at plan found'.group i) index ∙ h'.1 in
+    let member : h.0 ≡ h'.0 = cc in
+    let other : found.other ≡ found'.other = h.2.1 ∙ ap (λ (m : Member). other_place m place) member ∙ sym h'.2.1 in
+    let places : found ≡ found' = λ i. record { group = group i; index = index i; other = other i } in
+    ap (λ (m : MemberPlace). Some m) places

@@ -1,0 +1,8 @@
+pub mod Lists
+pub mod MemberPlaces
+pub mod Ranges
+pub mod Distinct
+pub mod Lookups
+pub mod LawfulPlans
+pub mod LawfulLookups
+pub mod OtherPlaces

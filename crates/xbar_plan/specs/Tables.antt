@@ -1,0 +1,59 @@
+use Rattle.std.specs.Prelude.{◌≡◌, ℕ, ◌==◌, Bool, true, false, Option, MatchOption, IfSome, IsSomeAnd, List, find, position, unwrap_or, option_map, option_and_then, slice_get}
+use Rattle.std.specs.List.{list_any}
+use Rattle.xbar_equip.specs.Len.{Line}
+use Rattle.xbar_equip.specs.Ten.{TrunkPlace}
+use Rattle.xbar_equip.specs.Link.{Link, link_eq}
+use Rattle.xbar_plan.specs.Group.{TrunkGroup, is_register, stands_at, other_place}
+use Rattle.xbar_plan.specs.declared.group.Member.{Member}
+use Rattle.xbar_plan.specs.declared.group.MemberPlace.{MemberPlace}
+
+-- a directory number and its lines, in the order in which they are hunted
+pub record Station : Type 0 where
+  pub number : ℕ
+  pub lines : List Line
+
+-- a code and the groups that it leads to, by their numbers, in the order in which they are tried
+pub record Route : Type 0 where
+  pub code : ℕ
+  pub groups : List ℕ
+
+-- what a plan lays down: trunk groups, the number group, routes, and the links that are out of order
+pub record Tables : Type 0 where
+  pub groups : List TrunkGroup
+  pub stations : List Station
+  pub routes : List Route
+  pub faults : List Link
+
+-- the lines of a directory number, if it has any
+abbrev pub lines_of : Tables → ℕ → Option (List Line)
+lines_of plan number = option_map (λ station. station.lines) (find (λ station. station.number == number) plan.stations)
+
+-- the groups of a code, if it has any
+abbrev pub route_of : Tables → ℕ → Option (List ℕ)
+route_of plan code = option_map (λ route. route.groups) (find (λ route. route.code == code) plan.routes)
+
+-- the number of the first register group
+abbrev pub register_group : Tables → ℕ
+register_group plan = unwrap_or (position is_register plan.groups) 0
+
+-- whether a link is listed as out of order
+abbrev pub is_faulty : Tables → Link → Bool
+is_faulty plan link = list_any (λ fault. link_eq fault link) plan.faults
+
+-- member `index` of group `group`, both counted from 0, if there is one
+abbrev pub member_at : Tables → ℕ → ℕ → Option Member
+member_at plan group index = option_and_then (λ found. slice_get found.members index) (slice_get plan.groups group)
+
+-- no member of any group stands at the place
+abbrev pub IsNoMembers : Tables → TrunkPlace → Type 0
+IsNoMembers plan place = (group index : ℕ) → IfSome (member_at plan group index) (λ member. stands_at member place ≡ false)
+
+-- the member found stands at the place, and its other place is the one found
+abbrev pub IsOfMember : Tables → TrunkPlace → MemberPlace → Type 0
+IsOfMember plan place found =
+    IsSomeAnd (member_at plan found.group found.index)
+    (λ member. (stands_at member place ≡ true) × (found.other ≡ other_place member place))
+
+-- which member stands at a place, with its other place; none is found only where no member stands there
+abbrev pub IsMemberPlace : Tables → TrunkPlace → Option MemberPlace → Type 0
+IsMemberPlace plan place found = MatchOption found (IsNoMembers plan place) (λ member. IsOfMember plan place member)

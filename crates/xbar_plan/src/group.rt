@@ -1,0 +1,136 @@
+ghost use Rattle.std.specs.Prelude.{◌≡◌, position};
+
+use std::marker::Model;
+use xbar_equip::Ten;
+
+/// What the members of a trunk group are.
+#[derive(Clone, Copy, Debug, PartialEq, Eq)]
+pub enum GroupKind {
+    /// Originating registers, which take the dialled digits.
+    Register,
+    /// Trunks between two lines of this office, with a place for each of them.
+    Intra,
+    /// Trunks to another office.
+    Outgoing,
+}
+
+/// A member of a trunk group: where it stands.
+#[derive(Clone, Copy, Debug, PartialEq, Eq)]
+pub struct Member {
+    /// The only place, or that of the calling side.
+    pub first: Ten,
+    /// The place of the called side, which only an intra trunk has.
+    pub second: Option<Ten>,
+}
+
+impl Member {
+    ghost use Rattle.xbar_plan.specs.Group.{stands_at as stands_at_place, other_place as other_place_of};
+
+    /// Whether one of the member's places is this one.
+    pub fn stands_at(self, place: Ten) -> bool
+        ensures { result ≡ stands_at_place self place }
+    {
+        self.first == place || self.second == Some(place)
+    }
+
+    /// Seen from one of the member's places, the other one, if it has two.
+    pub fn other_place(self, place: Ten) -> Option<Ten>
+        ensures { result ≡ other_place_of self place }
+    {
+        if self.first == place {
+            self.second
+        } else {
+            Some(self.first)
+        }
+    }
+}
+
+/// Which member of a plan stands at a place.
+#[derive(Clone, Copy, Debug, PartialEq, Eq)]
+pub struct MemberPlace {
+    /// The number of its group, counted from 0.
+    pub group: u8,
+    /// Which member of the group it is, counted from 0.
+    pub index: u8,
+    /// The member's other place, if it has two.
+    pub other: Option<Ten>,
+}
+
+/// A trunk group: its name, its kind, and its members in the order in which they are tried.
+#[derive(Debug, Drop)]
+pub struct Group {
+    name: String,
+    kind: GroupKind,
+    members: Vec<Member>,
+}
+
+impl Model for Group {
+    ghost use Rattle.std.specs.Prelude.{string_bytes};
+    ghost use Rattle.xbar_plan.specs.Group.{TrunkGroup};
+
+    ghost Value = { TrunkGroup };
+
+    ghost view = { λ a. record { name = string_bytes a.name; kind = a.kind; members = a.members.items } };
+}
+
+impl Group {
+    ghost use Rattle.std.specs.Prelude.{string_bytes};
+    ghost use Rattle.xbar_plan.specs.Group.{is_register as is_register_group, is_intra as is_intra_group, is_outgoing as is_outgoing_group, stands_at as stands_at_place};
+
+    pub fn new(name: String, kind: GroupKind, members: Vec<Member>) -> Self
+        ensures { result ≡ record { name = string_bytes name; kind = kind; members = members.items } }
+    {
+        Group {
+            name,
+            kind,
+            members,
+        }
+    }
+
+    /// 1 to 8 characters of `A` to `Z` and `0` to `9`, in a lawful plan.
+    pub fn name(&self) -> &str
+        ensures { result.now ≡ self.now.name }
+    {
+        self.name.as_str()
+    }
+
+    pub fn kind(&self) -> GroupKind
+        ensures { result ≡ self.now.kind }
+    {
+        self.kind
+    }
+
+    /// The members in their order: member `i` has place `i` here, and bit `i` of the group's word.
+    pub fn members(&self) -> &[Member]
+        ensures { result.now ≡ self.now.members }
+    {
+        self.members.as_slice()
+    }
+
+    pub fn is_register(&self) -> bool
+        ensures { result ≡ is_register_group self.now }
+    {
+        matches!(self.kind, GroupKind::Register)
+    }
+
+    pub fn is_intra(&self) -> bool
+        ensures { result ≡ is_intra_group self.now }
+    {
+        matches!(self.kind, GroupKind::Intra)
+    }
+
+    pub fn is_outgoing(&self) -> bool
+        ensures { result ≡ is_outgoing_group self.now }
+    {
+        matches!(self.kind, GroupKind::Outgoing)
+    }
+
+    /// Which member stands at the place, counted from 0.
+    pub fn position_of(&self, place: Ten) -> Option<usize>
+        ensures { result ≡ position (λ member. stands_at_place member place) self.now.members }
+    {
+        self.members
+            .iter()
+            .position(|member| member.stands_at(place))
+    }
+}

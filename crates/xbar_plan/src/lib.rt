@@ -1,0 +1,18 @@
+//! The plan of a No. 5 Crossbar office: trunk groups, directory numbers, routes, and links that are
+//! out of order.
+#![tactic(auto)]
+
+pub use group::{Group, GroupKind, Member, MemberPlace};
+pub use plan::Plan;
+pub use route::Route;
+pub use station::Station;
+
+mod example;
+mod group;
+mod lawful;
+pub mod laws;
+mod plan;
+mod route;
+mod station;
+#[cfg(test)]
+mod tests;

@@ -1,0 +1,169 @@
+ghost use Rattle.std.specs.Prelude.{◌≡◌, ◌<◌, IfOk, option_copied, length, position};
+ghost use Rattle.xbar_plan.specs.Group.{is_register};
+
+use crate::group::{Group, MemberPlace};
+use crate::route::Route;
+use crate::station::Station;
+use crate::{example, lawful};
+use std::alloc::{AllocError, Global};
+use std::marker::Model;
+use xbar_equip::{DirNo, Len, Link, Ten};
+
+/// The plan of an office. Every plan is lawful.
+#[derive(Debug, Drop)]
+pub struct Plan {
+    groups: Vec<Group>,
+    stations: Vec<Station>,
+    routes: Vec<Route>,
+    faults: Vec<Link>,
+}
+
+impl Model for Plan {
+    ghost use Rattle.xbar_plan.specs.Tables.{Tables};
+    ghost use Rattle.xbar_plan.specs.Lawful.{IsLawful};
+
+    ghost Value = { Tables };
+
+    ghost view = { λ a. record { groups = a.groups.items; stations = a.stations.items; routes = a.routes.items; faults = a.faults.items } };
+
+    ghost invariant = { λ a. IsLawful (record { groups = a.groups.items; stations = a.stations.items; routes = a.routes.items; faults = a.faults.items }) };
+}
+
+impl Plan {
+    ghost use Rattle.std.specs.Prelude.{slice_get, Some, SomeIff};
+    ghost use Rattle.xbar_plan.specs.Tables.{Tables, lines_of, route_of, register_group as register_group_of, is_faulty, IsMemberPlace};
+    ghost use Rattle.xbar_plan.specs.Lawful.{IsLawful};
+    ghost use Rattle.xbar_plan.specs.Example.{example as the_example};
+
+    /// Makes a plan of tables that are known to be lawful.
+    pub fn new(
+        groups: Vec<Group>,
+        stations: Vec<Station>,
+        routes: Vec<Route>,
+        faults: Vec<Link>,
+    ) -> Self
+        requires { IsLawful (record { groups = groups.items; stations = stations.items; routes = routes.items; faults = faults.items }) }
+        ensures { result ≡ record { groups = groups.items; stations = stations.items; routes = routes.items; faults = faults.items } }
+    {
+        Plan {
+            groups,
+            stations,
+            routes,
+            faults,
+        }
+    }
+
+    /// Makes a plan of tables, or nothing where they aren't lawful.
+    pub fn try_new(
+        alloc: Global,
+        groups: Vec<Group>,
+        stations: Vec<Station>,
+        routes: Vec<Route>,
+        faults: Vec<Link>,
+    ) -> Result<Option<Self>, AllocError>
+        ensures { let tables : Tables = record { groups = groups.items; stations = stations.items; routes = routes.items; faults = faults.items } in IfOk result (λ plan. SomeIff plan (IsLawful tables) tables) }
+    {
+        if lawful::are_lawful_groups(alloc, &groups)?
+            && lawful::are_lawful_stations(alloc, &stations)?
+            && lawful::are_lawful_routes(alloc, &groups, &routes)?
+            && lawful::are_lawful_faults(&faults)
+        {
+            return Ok(Some(Plan::new(groups, stations, routes, faults)));
+        }
+        Ok(None)
+    }
+
+    /// A small plan with a group of each kind: registers 417, 418 and 509, two intra trunks, and two
+    /// groups of outgoing ones.
+    pub fn example(alloc: Global) -> Result<Self, AllocError>
+        ensures { IfOk result (λ plan. plan ≡ the_example) }
+    {
+        Ok(Plan::new(
+            example::groups(alloc)?,
+            example::stations(alloc)?,
+            example::routes(alloc)?,
+            Vec::new(alloc),
+        ))
+    }
+
+    /// 1 to 16.
+    pub fn group_count(&self) -> u8
+        ensures count { result ≡ length self.now.groups }
+        ensures lawful { IsLawful self.now }
+    {
+        self.groups.len() as u8
+    }
+
+    /// The group of this number, counted from 0.
+    pub fn group(&self, number: u8) -> &Group
+        requires { number < length self.now.groups }
+        ensures group { slice_get self.now.groups number ≡ Some result.now }
+        ensures lawful { IsLawful self.now }
+    {
+        &self.groups[number as usize]
+    }
+
+    /// The number of the only group of registers.
+    pub fn register_group(&self) -> u8
+        ensures group { result ≡ register_group_of self.now }
+        ensures lawful { IsLawful self.now }
+    {
+        register_position(&self.groups).unwrap_or(0) as u8
+    }
+
+    /// Which member stands at the place, with its other place.
+    pub fn member_of(&self, place: Ten) -> Option<MemberPlace>
+        ensures member { IsMemberPlace self.now place result }
+        ensures lawful { IsLawful self.now }
+    {
+        for (number, group) in self.groups.iter().enumerate() {
+            if let Some(index) = group.position_of(place) {
+                let member = group.members()[index];
+                return Some(MemberPlace {
+                    group: number as u8,
+                    index: index as u8,
+                    other: member.other_place(place),
+                });
+            }
+        }
+        None
+    }
+
+    /// The groups of a code, by their numbers, in the order in which they are tried; none for a
+    /// code that isn't in use.
+    pub fn route(&self, code: u16) -> Option<&[u8]>
+        ensures route { option_copied result ≡ route_of self.now code }
+        ensures lawful { IsLawful self.now }
+    {
+        self.routes
+            .iter()
+            .find(|route| route.code() == code)
+            .map(|route| route.groups())
+    }
+
+    /// The lines of a directory number, one to ten, in the order in which they are hunted; none for
+    /// a number that isn't in use.
+    pub fn stations(&self, number: DirNo) -> Option<&[Len]>
+        ensures lines { option_copied result ≡ lines_of self.now number }
+        ensures lawful { IsLawful self.now }
+    {
+        self.stations
+            .iter()
+            .find(|station| station.number() == number)
+            .map(|station| station.lines())
+    }
+
+    /// Whether the link is out of order.
+    pub fn faulty(&self, link: Link) -> bool
+        ensures faulty { result ≡ is_faulty self.now link }
+        ensures lawful { IsLawful self.now }
+    {
+        self.faults.contains(&link)
+    }
+}
+
+fn register_position(groups: &[Group]) -> Option<usize>
+    ensures { result ≡ position is_register groups.now }
+{
+    groups.iter().position(|group| group.is_register())
+}

@@ -1,0 +1,39 @@
+ghost use Rattle.std.specs.Prelude.{◌≡◌};
+
+use std::marker::Model;
+
+/// A code, the first three digits that are dialled, with the groups that it leads to, by their
+/// numbers, in the order in which they are tried.
+#[derive(Debug, Drop)]
+pub struct Route {
+    code: u16,
+    groups: Vec<u8>,
+}
+
+impl Model for Route {
+    ghost use Rattle.xbar_plan.specs.Tables.{Route as TheRoute};
+
+    ghost Value = { TheRoute };
+
+    ghost view = { λ a. record { code = a.code; groups = a.groups.items } };
+}
+
+impl Route {
+    pub fn new(code: u16, groups: Vec<u8>) -> Self
+        ensures { result ≡ record { code = code; groups = groups.items } }
+    {
+        Route { code, groups }
+    }
+
+    pub fn code(&self) -> u16
+        ensures { result ≡ self.now.code }
+    {
+        self.code
+    }
+
+    pub fn groups(&self) -> &[u8]
+        ensures { result.now ≡ self.now.groups }
+    {
+        self.groups.as_slice()
+    }
+}

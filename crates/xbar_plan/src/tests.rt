@@ -1,0 +1,217 @@
+use super::*;
+use std::alloc::{AllocError, Global};
+use std::test::Fail;
+use xbar_equip::{DirNo, Len, Link, LinkKind, Ten};
+
+fn singles<const N: usize>(alloc: Global, places: [Ten; N]) -> Result<Vec<Member>, AllocError> {
+    let mut members = Vec::new(alloc);
+    for first in places {
+        members.push(Member {
+            first,
+            second: None,
+        })?;
+    }
+    Ok(members)
+}
+
+fn pair(alloc: Global, first: Ten, second: Ten) -> Result<Vec<Member>, AllocError> {
+    let second = Some(second);
+    Ok(vec![in alloc; Member { first, second }]?)
+}
+
+fn group(
+    alloc: Global,
+    name: &str,
+    kind: GroupKind,
+    members: Vec<Member>,
+) -> Result<Group, AllocError> {
+    Ok(Group::new(String::from_str(alloc, name)?, kind, members))
+}
+
+/// Registers 417, an intra pair and a trunk out, of which a test changes one thing.
+fn groups(
+    alloc: Global,
+    kinds: [GroupKind; 3],
+    called: Ten,
+    out: Ten,
+) -> Result<Vec<Group>, AllocError> {
+    let [first, second, third] = kinds;
+    let register = singles(alloc, [Ten::new(4, 1, 7)])?;
+    let intra = pair(alloc, Ten::new(6, 0, 0), called)?;
+    let out = singles(alloc, [out])?;
+    Ok(vec![in alloc;
+        group(alloc, "REG", first, register)?,
+        group(alloc, "INTRA", second, intra)?,
+        group(alloc, "OUT2", third, out)?,
+    ]?)
+}
+
+const KINDS: [GroupKind; 3] = [GroupKind::Register, GroupKind::Intra, GroupKind::Outgoing];
+
+#[test]
+fn example_has_its_groups(rt: HostRuntime) -> Result<(), Fail> {
+    let plan = Plan::example(rt.alloc())?;
+    assert_eq!(rt; plan.group_count(), 4);
+    assert_eq!(rt; plan.register_group(), 0);
+    let groups = [
+        (0, "REG", GroupKind::Register, 3),
+        (1, "INTRA", GroupKind::Intra, 2),
+        (2, "OUTA", GroupKind::Outgoing, 1),
+        (3, "OUTB", GroupKind::Outgoing, 2),
+    ];
+    for (number, name, kind, members) in groups {
+        assert!(rt; number < plan.group_count());
+        let group = plan.group(number);
+        assert!(rt; group.name() == name, "{name}");
+        assert_eq!(rt; group.kind(), kind, "{name}");
+        assert_eq!(rt; group.members().len(), members, "{name}");
+    }
+    Ok(())
+}
+
+#[test]
+fn members_are_found_by_their_places(rt: HostRuntime) -> Result<(), Fail> {
+    let plan = Plan::example(rt.alloc())?;
+    let found = [
+        (Ten::new(4, 1, 7), 0, 0, None),
+        (Ten::new(5, 0, 9), 0, 2, None),
+        (Ten::new(6, 0, 0), 1, 0, Some(Ten::new(6, 0, 1))),
+        (Ten::new(6, 0, 1), 1, 0, Some(Ten::new(6, 0, 0))),
+        (Ten::new(7, 1, 1), 1, 1, Some(Ten::new(7, 0, 0))),
+        (Ten::new(8, 0, 0), 2, 0, None),
+        (Ten::new(9, 0, 2), 3, 1, None),
+    ];
+    for (place, group, index, other) in found {
+        let member = MemberPlace {
+            group,
+            index,
+            other,
+        };
+        assert_eq!(rt; plan.member_of(place), Some(member), "{place}");
+    }
+    for place in [Ten::new(9, 9, 9), Ten::new(4, 1, 9), Ten::new(7, 0, 1)] {
+        assert_eq!(rt; plan.member_of(place), None, "{place}");
+    }
+    Ok(())
+}
+
+#[test]
+fn codes_and_numbers_are_looked_up(rt: HostRuntime) -> Result<(), Fail> {
+    let plan = Plan::example(rt.alloc())?;
+    assert!(rt; plan.route(234).ok_or("234")? == [1].as_slice());
+    assert!(rt; plan.route(555).ok_or("555")? == [2, 3].as_slice());
+    for code in [0, 999, 556, 65535] {
+        assert!(rt; plan.route(code).is_none(), "{code}");
+    }
+    let lines = [
+        (1, Len::new(3, 0, 21)),
+        (2, Len::new(3, 0, 27)),
+        (3, Len::new(1, 0, 0)),
+        (4, Len::new(3, 1, 0)),
+    ];
+    for (number, line) in lines {
+        let lines = plan.stations(DirNo::new(number)).ok_or("a number")?;
+        assert!(rt; lines == [line].as_slice(), "{line}");
+    }
+    for number in [0, 5, 9999] {
+        assert!(rt; plan.stations(DirNo::new(number)).is_none(), "{number}");
+    }
+    assert!(rt; !plan.faulty(Link::new(LinkKind::Junctor, 3, 4, 0)));
+    Ok(())
+}
+
+#[test]
+fn lawful_tables_make_a_plan(rt: HostRuntime) -> Result<(), Fail> {
+    let alloc = rt.alloc();
+    let lines = vec![in alloc; Len::new(3, 0, 21), Len::new(3, 0, 27)]?;
+    let plan = Plan::try_new(
+        alloc,
+        groups(alloc, KINDS, Ten::new(6, 9, 9), Ten::new(8, 0, 0))?,
+        vec![in alloc; Station::new(DirNo::new(7), lines)]?,
+        vec![in alloc; Route::new(100, vec![in alloc; 2, 2]?)]?,
+        vec![in alloc;
+            Link::new(LinkKind::Junctor, 3, 4, 0),
+            Link::new(LinkKind::Junctor, 3, 4, 5),
+        ]?,
+    )?;
+    let plan = plan.ok_or("lawful")?;
+    for (channel, faulty) in [(0, true), (1, false), (5, true)] {
+        let junctor = Link::new(LinkKind::Junctor, 3, 4, channel);
+        assert_eq!(rt; plan.faulty(junctor), faulty, "{junctor}");
+        let line_link = Link::new(LinkKind::LineLink, 3, 4, channel);
+        assert!(rt; !plan.faulty(line_link), "{line_link}");
+    }
+    assert_eq!(rt; plan.stations(DirNo::new(7)).ok_or("a number")?.len(), 2);
+    assert!(rt; plan.route(100).ok_or("a code")? == [2, 2].as_slice());
+    Ok(())
+}
+
+#[test]
+fn unlawful_groups_make_none(rt: HostRuntime) -> Result<(), Fail> {
+    let alloc = rt.alloc();
+    let [register, intra, outgoing] = KINDS;
+    let changed = [
+        ("no register", [outgoing, intra, outgoing], (6, 9), (8, 0)),
+        ("two", [register, intra, register], (6, 9), (8, 0)),
+        (
+            "a pair of registers",
+            [outgoing, register, outgoing],
+            (6, 9),
+            (8, 0),
+        ),
+        ("a single intra", [register, intra, intra], (6, 9), (8, 0)),
+        ("two frames", KINDS, (7, 9), (8, 0)),
+        ("a pair of one", KINDS, (6, 0), (8, 0)),
+        ("a place twice", KINDS, (6, 9), (6, 9)),
+    ];
+    for (why, kinds, (called_frame, called_switch), (frame, switch)) in changed {
+        let groups = groups(
+            alloc,
+            kinds,
+            Ten::new(called_frame, called_switch, 0),
+            Ten::new(frame, switch, 0),
+        )?;
+        let plan = Plan::try_new(
+            alloc,
+            groups,
+            Vec::new(alloc),
+            Vec::new(alloc),
+            Vec::new(alloc),
+        )?;
+        assert!(rt; plan.is_none(), "{why}");
+    }
+    Ok(())
+}
+
+#[test]
+fn unlawful_routes_and_numbers_make_none(rt: HostRuntime) -> Result<(), Fail> {
+    let alloc = rt.alloc();
+    let lawful = Ten::new(6, 9, 9);
+    let routes = [
+        ("a code of four digits", 1000, [2, 2]),
+        ("the register group", 100, [2, 0]),
+        ("an unknown group", 100, [3, 2]),
+        ("mixed", 100, [1, 2]),
+    ];
+    for (why, code, numbers) in routes {
+        let plan = Plan::try_new(
+            alloc,
+            groups(alloc, KINDS, lawful, Ten::new(8, 0, 0))?,
+            Vec::new(alloc),
+            vec![in alloc; Route::new(code, numbers.to_vec(alloc)?)]?,
+            Vec::new(alloc),
+        )?;
+        assert!(rt; plan.is_none(), "{why}");
+    }
+    for (first, second, lawful_numbers) in [(1, 2, true), (1, 1, false)] {
+        let line = Len::new(0, 0, 0);
+        let stations = vec![in alloc;
+            Station::new(DirNo::new(first), vec![in alloc; line]?),
+            Station::new(DirNo::new(second), vec![in alloc; line, line]?),
+        ]?;
+        let groups = groups(alloc, KINDS, lawful, Ten::new(8, 0, 0))?;
+        let plan = Plan::try_new(alloc, groups, stations, Vec::new(alloc), Vec::new(alloc))?;
+        assert_eq!(rt; plan.is_some(), lawful_numbers);
+    }
+    Ok(())
+}
