@@ -21,17 +21,19 @@ closed_word c word = bit_or word (close_bits_of (shape_at c.word) c.field (c.val
 abbrev pub opened_word : Crosspoint → ℕ → ℕ
 opened_word c word = bit_and word (open_mask_of (shape_at c.word) c.field)
 
--- what closing a crosspoint makes of word n, and what opening it does: nothing where it stands on another
+-- what closing a crosspoint makes of word n: nothing else where it stands on another word
 abbrev pub close_in : ℕ → ℕ → Crosspoint → ℕ
 close_in n word c = if c.word == n then closed_word c word else word
 
+-- what opening a crosspoint makes of word n
 abbrev pub open_in : ℕ → ℕ → Crosspoint → ℕ
 open_in n word c = if c.word == n then opened_word c word else word
 
--- what closing the four crosspoints of a path makes of word n, and what opening them does
+-- what closing the four crosspoints of a path makes of word n
 unfoldable pub close_path_in : ℕ → ℕ → Path → ℕ
 close_path_in n word path = fold (close_in n) word (crosspoints path)
 
+-- what opening the four makes of word n
 unfoldable pub open_path_in : ℕ → ℕ → Path → ℕ
 open_path_in n word path = fold (open_in n) word (crosspoints path)
 
