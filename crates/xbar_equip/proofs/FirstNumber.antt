@@ -1,9 +1,9 @@
-use Rattle.std.proofs.Common.{◌≡◌, ℕ, zero, suc, ◌+◌, ◌<◌, ◌≤◌, ◌⊎◌, Bool, true, false, inl, inr, refl, sym, ◌∙◌, ap, arith}
-use Rattle.std.specs.Prelude.{Option, Some, None, MatchOption, if◌then◌else◌}
+use Rattle.std.proofs.Common.{◌≡◌, ℕ, zero, suc, ◌+◌, ◌-◌, ◌<◌, ◌≤◌, ◌⊎◌, Bool, true, false, inl, inr, refl, sym, ◌∙◌, ap, arith}
+use Rattle.std.specs.Prelude.{Option, Some, None, MatchOption, unwrap_or, if◌then◌else◌}
 use Rattle.std.specs.Option.{option_map}
 use mathlib.Core.Bool.{true≢false}
 use Rattle.xbar_equip.proofs.WordNumbers.{below_or_from}
-use Rattle.xbar_equip.specs.First.{first_from, first_below, IsFirstBelow}
+use Rattle.xbar_equip.specs.First.{first_from, first_below, next_below, IsFirstBelow}
 
 -- the first number from k on, among `count`, that passes; or none of them passes
 pub record IsFirst (test : ℕ → Bool) (k count r : ℕ) : Type 0 where
@@ -83,3 +83,24 @@ first_below-none test count none = no_first (first_below test count) (first_belo
   no_first : (found : Option ℕ) → IsFirstBelow test count found → found ≡ None
   no_first None is = refl
   no_first (Some r) is = absurd (true≢false (sym is.1 ∙ none r is.0))
+
+module _ (test : ℕ → Bool) (count k : ℕ) where
+  after : ℕ → Bool
+  after j = test (k + 1 + j)
+
+  answer : Option ℕ → ℕ
+  answer found = unwrap_or (option_map (λ j. k + 1 + j) found) k
+
+  -- the first number after one that passes is the next
+  pub next_below-found : (next : ℕ) → k + 1 ≤ next → next < count → test next ≡ true → ((j : ℕ) → k + 1 + j < next → test (k + 1 + j) ≡ false) → next_below test count k ≡ next
+  unfolding after answer
+  next_below-found next from below passes earlier =
+      let step = next - (k + 1) in
+      let here : k + 1 + (next - (k + 1)) ≡ next = omega arith in
+      let found = first_below-found after (count - (k + 1)) step (omega arith) (ap test here ∙ passes) (λ j before. earlier j (omega arith)) in
+      ap answer found ∙ here
+
+  -- where none passes after it, it is the next itself
+  pub next_below-none : ((j : ℕ) → k + 1 + j < count → test (k + 1 + j) ≡ false) → next_below test count k ≡ k
+  unfolding after answer
+  next_below-none none = ap answer (first_below-none after (count - (k + 1)) (λ j before. none j (omega arith)))

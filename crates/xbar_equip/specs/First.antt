@@ -1,4 +1,4 @@
-use Rattle.std.specs.Prelude.{◌≡◌, ℕ, zero, suc, ◌<◌, Bool, true, false, Option, Some, None, MatchOption, if◌then◌else◌}
+use Rattle.std.specs.Prelude.{◌≡◌, ℕ, zero, suc, ◌+◌, ◌-◌, ◌<◌, Bool, true, false, Option, Some, None, MatchOption, option_map, unwrap_or, if◌then◌else◌}
 
 -- the first of the numbers k, k + 1, .., `count` of them, that passes the test
 abbrev pub first_from : (ℕ → Bool) → ℕ → ℕ → Option ℕ
@@ -14,3 +14,7 @@ abbrev pub IsFirstBelow : (ℕ → Bool) → ℕ → Option ℕ → Type 0
 IsFirstBelow test count found =
     MatchOption found ((j : ℕ) → j < count → test j ≡ false)
     (λ first. (first < count) × (test first ≡ true) × ((j : ℕ) → j < first → test j ≡ false))
+
+-- the first number after k and below `count` that passes the test; k again, where none does
+abbrev pub next_below : (ℕ → Bool) → ℕ → ℕ → ℕ
+next_below test count k = unwrap_or (option_map (λ j. k + 1 + j) (first_below (λ j. test (k + 1 + j)) (count - (k + 1)))) k

@@ -8,3 +8,10 @@ pub enum Conn {
     /// Of a trunk group, 0 to 15.
     Group(u8),
 }
+
+/// What stands in the free places of a list of connectors.
+impl Default for Conn {
+    fn default() -> Self {
+        Conn::Llf(0)
+    }
+}

@@ -117,6 +117,23 @@ fields words paths p shows ranges within =
       trunk = with_shape words _ p.channel _ Other (shape_at-trunk_switch p.place.frame p.place.switch) ((shows.switch (200 + 20 * p.place.frame + p.place.switch) (omega arith)).closed _ (p, within, inr (inr (inr (inl refl)))) refl);
     }
 
+-- a line's field in its line switch is that of its path
+pub line_field-path : (words : List ℕ) (paths : List Path) (p : Path) → ShowsPaths words paths → AreInRange paths → AreApart paths → IsIn p paths → field_at_place LineShape (word_of words (LineSwitch p.line.frame p.line.switch)) p.line.x ≡ Some p.channel
+line_field-path words paths p shows ranges apart within =
+    let r = ranges p within in
+    let held = fields words paths p shows ranges within in
+    least LineShape _ p.line.x p.channel r.channel held.line (λ j in_j e.
+    let o = line_owner words paths p.line.frame p.line.switch j p.line.x shows ranges r.line.frame r.line.switch in_j e in
+    let same = apart p o.0 within o.1 (inl (sym (line_at o.0 p.line j o.2))) in
+    ap (λ (q : Path). q.channel) same ∙ o.2.channel)
+
+-- and a line in no path has none
+pub line_field-none : (words : List ℕ) (paths : List Path) (line : Line) → ShowsPaths words paths → AreInRange paths → IsLine line → ((q : Path) → IsIn q paths → has_line line q ≡ false) → field_at_place LineShape (word_of words (LineSwitch line.frame line.switch)) line.x ≡ None
+line_field-none words paths line shows ranges l none =
+    no_field LineShape _ line.x (λ j in_j e.
+    let o = line_owner words paths line.frame line.switch j line.x shows ranges l.frame l.switch in_j e in
+    true≢false (sym ((line_eq-exact o.0.line line).1 (line_at o.0 line j o.2)) ∙ none o.0 o.1))
+
 -- the trace of a path's line goes along it
 pub traced-path : (words : List ℕ) (paths : List Path) (p : Path) → ShowsPaths words paths → AreInRange paths → AreApart paths → IsIn p paths → traced words p.line ≡ Some p
 traced-path words paths p shows ranges apart within =
@@ -132,10 +149,7 @@ traced-path words paths p shows ranges apart within =
       along a = record { line = p.line; channel = p.channel; place = record { frame = p.place.frame; switch = p.place.switch; appearance = a } }
 
       channel : field_at_place LineShape (word_of words (LineSwitch p.line.frame p.line.switch)) p.line.x ≡ Some p.channel
-      channel = least LineShape _ p.line.x p.channel r.channel held.line (λ j in_j e.
-          let o = line_owner words paths p.line.frame p.line.switch j p.line.x shows ranges r.line.frame r.line.switch in_j e in
-          let same = apart p o.0 within o.1 (inl (sym (line_at o.0 p.line j o.2))) in
-          ap (λ (q : Path). q.channel) same ∙ o.2.channel)
+      channel = line_field-path words paths p shows ranges apart within
 
       frame : field_at_place Other (word_of words (LineJunctor p.line.frame p.channel)) p.line.switch ≡ Some p.place.frame
       frame = least Other _ p.line.switch p.place.frame r.place.frame held.line_junctor (λ j in_j e.
@@ -187,10 +201,7 @@ traced_back-path words paths p shows ranges apart within =
 
 -- a line in no path, and a place in none, has no trace
 pub traced-none : (words : List ℕ) (paths : List Path) (line : Line) → ShowsPaths words paths → AreInRange paths → IsLine line → ((q : Path) → IsIn q paths → has_line line q ≡ false) → traced words line ≡ None
-traced-none words paths line shows ranges l none =
-    ap (option_and_then (traced_by words line)) (no_field LineShape _ line.x (λ j in_j e.
-    let o = line_owner words paths line.frame line.switch j line.x shows ranges l.frame l.switch in_j e in
-    true≢false (sym ((line_eq-exact o.0.line line).1 (line_at o.0 line j o.2)) ∙ none o.0 o.1)))
+traced-none words paths line shows ranges l none = ap (option_and_then (traced_by words line)) (line_field-none words paths line shows ranges l none)
 
 pub traced_back-none : (words : List ℕ) (paths : List Path) (place : TrunkPlace) → ShowsPaths words paths → AreInRange paths → IsTrunkPlace place → ((q : Path) → IsIn q paths → has_place place q ≡ false) → traced_back words place ≡ None
 traced_back-none words paths place shows ranges p none =

@@ -23,7 +23,7 @@ use Rattle.xbar_office.specs.LawfulSet.{IsLawfulSet}
 use Rattle.xbar_office.specs.Members.{members_of, is_member_idle, is_idle_at, first_idle, next_idle}
 use Rattle.xbar_office.specs.Trial.{with_called, faulty_or_chosen, end_of, trial}
 use Rattle.xbar_office.specs.TwoTrials.{second_decides, first_decides, trial_at, two_trials}
-use Rattle.xbar_office.specs.Whole.{dial, dial_tone, dial_register, refused}
+use Rattle.xbar_office.specs.Whole.{dial, dial_register, pair_of, refused, with_taken}
 use Rattle.xbar_office.specs.declared.reply.Card.{Card}
 use Rattle.xbar_office.specs.declared.reply.End.TheVariants.{LineBusy}
 use Rattle.xbar_office.specs.declared.trial.Parties.{Parties}
@@ -39,7 +39,7 @@ both true b e = (refl, e)
 both false b e = cc
 
 -- a member of a group is a member of the plan
-at_group : (i : ℕ) (member : Member) (o : Option TrunkGroup) → slice_get (option_map_or (λ found. found.members) o []) i ≡ Some member → option_and_then (λ found. slice_get found.members i) o ≡ Some member
+pub at_group : (i : ℕ) (member : Member) (o : Option TrunkGroup) → slice_get (option_map_or (λ found. found.members) o []) i ≡ Some member → option_and_then (λ found. slice_get found.members i) o ≡ Some member
 at_group i member None e = e
 at_group i member (Some group) e = e
 
@@ -66,24 +66,26 @@ next_is_idle paths members first idle = of (first_below after bound) (first_belo
   of (Some k) is = is.1
 
 module _ (plan : Tables) (paths : List Path) (line : Line) (laws : IsLawful plan) (lawful : IsLawfulSet plan paths) (in_range : IsLine line) (line_idle : is_idle (has_line line) paths ≡ true) where
-  -- paths that may be added: one, which can stand
-  record Good (pair : Pair) : Type 0 where
-    alone : pair.called ≡ None
-    stands : CanStand plan paths pair.calling
+  -- paths that may be added: one, which can stand, to the register of this number
+  pub record Good (number : ℕ) (pair : Pair) : Type 0 where
+    pub alone : pair.called ≡ None
+    pub stands : CanStand plan paths pair.calling
+    pub group : stands.group ≡ register_group plan
+    pub index : stands.index ≡ number
 
-  abbrev GoodEnd : TrialEnd → Type 0
-  GoodEnd (Chosen pair) = Good pair
-  GoodEnd (Faulty link) = Unit {0}
-  GoodEnd NoChannel = Unit {0}
+  abbrev GoodEnd : ℕ → TrialEnd → Type 0
+  GoodEnd number (Chosen pair) = Good number pair
+  GoodEnd number (Faulty link) = Unit {0}
+  GoodEnd number NoChannel = Unit {0}
 
-  abbrev GoodOutcome : Outcome → Type 0
-  GoodOutcome (Taken number index pair) = Good pair
+  abbrev pub GoodOutcome : Outcome → Type 0
+  GoodOutcome (Taken trial index pair) = Good index pair
   GoodOutcome NotTaken = Unit {0}
 
-  abbrev alone : Parties
+  abbrev pub alone : Parties
   alone = record { calling = line; called = None }
 
-  abbrev registers : List Member
+  abbrev pub registers : List Member
   registers = members_of plan (register_group plan)
 
   listed_register : (i : ℕ) (member : Member) → slice_get registers i ≡ Some member → member_at plan (register_group plan) i ≡ Some member
@@ -110,44 +112,46 @@ module _ (plan : Tables) (paths : List Path) (line : Line) (laws : IsLawful plan
         single = single_register i member here;
       }
 
-  good_tested : (pair : Pair) (fault : Option Link) → Good pair → GoodEnd (faulty_or_chosen pair fault)
-  good_tested pair None good = good
-  good_tested pair (Some link) good = tt
+  good_tested : (i : ℕ) (pair : Pair) (fault : Option Link) → Good i pair → GoodEnd i (faulty_or_chosen pair fault)
+  good_tested i pair None good = good
+  good_tested i pair (Some link) good = tt
 
-  good_trial : (i start : ℕ) (member : Member) → slice_get registers i ≡ Some member → is_member_idle paths member ≡ true → (found : Option ℕ) → IsFirstIdleChannel paths line member.first start found → GoodEnd (end_of plan (option_and_then (with_called paths start None) (option_map (path_by line member.first) found)))
+  good_trial : (i start : ℕ) (member : Member) → slice_get registers i ≡ Some member → is_member_idle paths member ≡ true → (found : Option ℕ) → IsFirstIdleChannel paths line member.first start found → GoodEnd i (end_of plan (option_and_then (with_called paths start None) (option_map (path_by line member.first) found)))
+  unfolding register_stands
   good_trial i start member here idle None none = tt
   good_trial i start member here idle (Some channel) is =
-      good_tested _ _ (record { alone = refl; stands = register_stands i channel start is.0 member here idle is.2 is.3 })
+      good_tested i _ _ (record { alone = refl; stands = register_stands i channel start is.0 member here idle is.2 is.3; group = refl; index = refl })
 
   channel_found : (place : TrunkPlace) (start : ℕ) → IsFirstIdleChannel paths line place start (channel_test paths line place start)
   channel_found place start =
       let test = λ (k : ℕ). has_idle_links paths (path_by line place (channel_in_turn start k)) in
       in_turn-law test (channel_in_turn start) (first_below test 10) (first_below-law test 10)
 
-  good_at : (i start : ℕ) (o : Option Member) → slice_get registers i ≡ o → option_map_or (is_member_idle paths) o false ≡ true → GoodEnd (option_map_or (trial plan paths start alone) o NoChannel)
+  good_at : (i start : ℕ) (o : Option Member) → slice_get registers i ≡ o → option_map_or (is_member_idle paths) o false ≡ true → GoodEnd i (option_map_or (trial plan paths start alone) o NoChannel)
   good_at i start None here idle = tt
   good_at i start (Some member) here idle = good_trial i start member here idle (channel_test paths line member.first start) (channel_found member.first start)
 
-  good_second : (cards : List Card) (index : ℕ) (end : TrialEnd) → GoodEnd end → GoodOutcome (second_decides cards index end).outcome
+  good_second : (cards : List Card) (index : ℕ) (end : TrialEnd) → GoodEnd index end → GoodOutcome (second_decides cards index end).outcome
   good_second cards index (Chosen pair) good = good
   good_second cards index (Faulty link) good = tt
   good_second cards index NoChannel good = tt
 
-  good_first : (index : ℕ) (end : TrialEnd) (next : ℕ) (other : TrialEnd) → GoodEnd end → GoodEnd other → GoodOutcome (first_decides index end next other).outcome
+  good_first : (index : ℕ) (end : TrialEnd) (next : ℕ) (other : TrialEnd) → GoodEnd index end → GoodEnd next other → GoodOutcome (first_decides index end next other).outcome
   good_first index (Chosen pair) next other good good_next = good
   good_first index (Faulty link) next other good good_next = good_second _ next other good_next
   good_first index NoChannel next other good good_next = good_second _ next other good_next
 
-  good_trials : (first : ℕ) → is_idle_at paths registers first ≡ true → GoodOutcome (two_trials plan paths alone registers first).outcome
+  -- what two trials take is such a path
+  pub good_trials : (first : ℕ) → is_idle_at paths registers first ≡ true → GoodOutcome (two_trials plan paths alone registers first).outcome
   good_trials first idle =
       let next = next_idle paths registers first in
       good_first first (trial_at plan paths 0 alone registers first) next (trial_at plan paths 5 alone registers next)
       (good_at first 0 (slice_get registers first) refl idle)
       (good_at next 5 (slice_get registers next) refl (next_is_idle paths registers first idle))
 
-  lawful_tone : (cards : List Card) (outcome : Outcome) → GoodOutcome outcome → IsLawfulSet plan (dial_tone paths cards outcome).paths
-  lawful_tone cards NotTaken good = lawful
-  lawful_tone cards (Taken number index pair) good =
+  lawful_taken : (outcome : Outcome) → GoodOutcome outcome → IsLawfulSet plan (with_taken paths (pair_of outcome))
+  lawful_taken NotTaken good = lawful
+  lawful_taken (Taken number index pair) good =
       subst (λ (called : Option Path). IsLawfulSet plan (with_chosen (with_path paths pair.calling) called)) (sym good.alone)
       (lawful-with plan paths pair.calling good.stands laws lawful)
 
@@ -155,7 +159,7 @@ module _ (plan : Tables) (paths : List Path) (line : Line) (laws : IsLawful plan
   lawful_register None none = lawful
   lawful_register (Some first) is =
       let trials = two_trials plan paths alone registers first in
-      lawful_tone trials.cards trials.outcome (good_trials first is.1)
+      lawful_taken trials.outcome (good_trials first is.1)
 
 -- a dial tone job leaves a lawful set
 pub dial-lawful : (plan : Tables) (paths : List Path) (line : Line) → IsLawful plan → IsLawfulSet plan paths → IsLine line → IsLawfulSet plan (dial plan paths line).paths

@@ -1,7 +1,7 @@
-use Rattle.std.specs.Prelude.{ℕ, ◌+◌, ◌-◌, Bool, false, Option, List, [], length, slice_get, unwrap_or, option_map}
+use Rattle.std.specs.Prelude.{ℕ, Bool, false, Option, List, [], length, slice_get}
 use Rattle.std.specs.Option.{option_map_or}
 use Rattle.std.specs.List.{list_all}
-use Rattle.xbar_equip.specs.First.{first_below}
+use Rattle.xbar_equip.specs.First.{first_below, next_below}
 use Rattle.xbar_equip.specs.Paths.{has_place, is_idle}
 use Rattle.xbar_equip.specs.declared.path.Path.{Path}
 use Rattle.xbar_plan.specs.Group.{places}
@@ -26,5 +26,4 @@ first_idle paths members = first_below (is_idle_at paths members) (length member
 
 -- the idle one that follows a member next; where none follows, that member again
 abbrev pub next_idle : List Path → List Member → ℕ → ℕ
-next_idle paths members index =
-    unwrap_or (option_map (λ k. index + 1 + k) (first_below (λ k. is_idle_at paths members (index + 1 + k)) (length members - (index + 1)))) index
+next_idle paths members index = next_below (is_idle_at paths members) (length members) index

@@ -16,15 +16,20 @@ use Rattle.xbar_office.specs.declared.reply.Reply.{Reply}
 use Rattle.xbar_office.specs.declared.trial.Pair.{Pair}
 use Rattle.xbar_office.specs.declared.two_trials.Outcome.{Outcome}
 use Rattle.xbar_office.specs.declared.two_trials.Outcome.TheVariants.{Taken, NotTaken}
+use Rattle.xbar_office.specs.declared.two_trials.Trials.{Trials}
 
 -- what a job leaves: the set of paths after it, and its reply
 pub record Done : Type 0 where
   pub paths : List Path
   pub reply : Reply
 
+-- the reply of a job that meets no faulty link
+abbrev pub plain_reply : End → Reply
+plain_reply end = record { end = end; cards = [] }
+
 -- a job that closes nothing and meets no faulty link
 abbrev pub refused : List Path → End → Done
-refused paths end = record { paths = paths; reply = record { end = end; cards = [] } }
+refused paths end = record { paths = paths; reply = plain_reply end }
 
 -- the set with the paths that a trial chose
 abbrev pub with_pair : List Path → Pair → List Path
@@ -40,18 +45,25 @@ abbrev pub failed_end : List Card → End
 failed_end [] = NoPath
 failed_end (card ∷ cards) = Trouble
 
+-- the reply to a dial tone job, by what its trials came to
+abbrev pub dial_tone_reply : Outcome → List Card → Reply
+dial_tone_reply (Taken trial index pair) cards = record { end = DialTone pair.calling trial; cards = cards }
+dial_tone_reply NotTaken cards = record { end = failed_end cards; cards = cards }
+
+-- the paths that were taken, if any
+abbrev pub pair_of : Outcome → Option Pair
+pair_of (Taken trial index pair) = Some pair
+pair_of NotTaken = None
+
 -- a dial tone job, by what its trials came to
-abbrev pub dial_tone : List Path → List Card → Outcome → Done
-dial_tone paths cards (Taken trial index pair) =
-    record { paths = with_pair paths pair; reply = record { end = DialTone pair.calling trial; cards = cards } }
-dial_tone paths cards NotTaken = record { paths = paths; reply = record { end = failed_end cards; cards = cards } }
+abbrev pub dial_tone : List Path → Trials → Done
+dial_tone paths trials = record { paths = with_taken paths (pair_of trials.outcome); reply = dial_tone_reply trials.outcome trials.cards }
 
 -- a dial tone job, with two trials on the registers from the first idle one on
 abbrev pub dial_register : Tables → List Path → Line → List Member → Option ℕ → Done
 dial_register plan paths line registers None = refused paths RegistersBusy
 dial_register plan paths line registers (Some first) =
-    let trials = two_trials plan paths (record { calling = line; called = None }) registers first in
-    dial_tone paths trials.cards trials.outcome
+    dial_tone paths (two_trials plan paths (record { calling = line; called = None }) registers first)
 
 -- a dial tone job: a line that is in no path gets an idle register, and a path to it
 abbrev pub dial : Tables → List Path → Line → Done

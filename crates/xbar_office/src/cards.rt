@@ -44,6 +44,18 @@ impl Cards {
         self.cards.push(card);
     }
 
+    /// The same cards again. It takes no memory.
+    pub fn copy(&self) -> Self
+        ensures { result ≡ self.now }
+    {
+        let all = self.cards.as_slice();
+        let mut cards = Cards::new();
+        for card in all {
+            cards.push(*card);
+        }
+        cards
+    }
+
     pub fn is_empty(&self) -> bool
         ensures { IsTrue result ↔ (self.now ≡ []) }
     {

@@ -1,18 +1,17 @@
 //! A dial tone job: find a line an idle register, and a path to it.
 
-ghost use Rattle.std.specs.Prelude.{◌≡◌, ◌≤◌, [], List, None, length};
+ghost use Rattle.std.specs.Prelude.{◌≡◌, ◌≤◌, length};
 ghost use Rattle.xbar_plan.specs.Tables.{register_group as register_group_of};
 ghost use Rattle.xbar_equip.specs.Len.{IsLine};
 ghost use Rattle.xbar_plan.specs.Lawful.{IsLawful};
 ghost use Rattle.xbar_office.specs.Members.{members_of};
-ghost use Rattle.xbar_office.specs.Whole.{dial as dial_of, dial_tone as dial_tone_of, failed_end as failed_end_of, with_taken};
+ghost use Rattle.xbar_office.specs.Whole.{dial as dial_of, with_taken};
 
-use crate::cards::Cards;
 use crate::members::first_idle;
 use crate::reply::{End, Reply};
 use crate::sets::is_line_idle;
 use crate::trial::{Pair, Parties};
-use crate::two_trials::{Outcome, Trials, two_trials};
+use crate::two_trials::{Trials, two_trials};
 use xbar_equip::{Len, Path};
 use xbar_plan::{Member, Plan};
 
@@ -21,6 +20,21 @@ use xbar_plan::{Member, Plan};
 pub struct Decision {
     pub reply: Reply,
     pub pair: Option<Pair>,
+}
+
+impl Decision {
+    ghost use Rattle.std.specs.Prelude.{None};
+    ghost use Rattle.xbar_office.specs.Whole.{plain_reply};
+
+    fn refused(end: End) -> Self
+        ensures reply { result.reply ≡ plain_reply end }
+        ensures pair { result.pair ≡ None }
+    {
+        Decision {
+            reply: Reply::plain(end),
+            pair: None,
+        }
+    }
 }
 
 fn registers(plan: &Plan) -> &[Member]
@@ -34,52 +48,6 @@ fn registers(plan: &Plan) -> &[Member]
     plan.group(number).members()
 }
 
-fn failed_end(cards: &Cards) -> End
-    ensures { result ≡ failed_end_of cards.now }
-{
-    if cards.is_empty() {
-        End::NoPath
-    } else {
-        End::Trouble
-    }
-}
-
-fn refused(end: End) -> Decision
-    ensures reply { result.reply ≡ record { end = end; cards = [] } }
-    ensures pair { result.pair ≡ None }
-{
-    let reply = Reply {
-        end,
-        cards: Cards::new(),
-    };
-    Decision { reply, pair: None }
-}
-
-fn dial_tone(outcome: &Outcome, cards: Cards) -> Decision
-    ensures reply { (paths : List Path) → result.reply ≡ (dial_tone_of paths cards outcome.now).reply }
-    ensures paths { (paths : List Path) → with_taken paths result.pair ≡ (dial_tone_of paths cards outcome.now).paths }
-{
-    match outcome {
-        Outcome::NotTaken => {
-            let reply = Reply {
-                end: failed_end(&cards),
-                cards,
-            };
-            Decision { reply, pair: None }
-        }
-        Outcome::Taken { trial, pair, .. } => {
-            let end = End::DialTone {
-                path: pair.calling,
-                trial: *trial,
-            };
-            Decision {
-                reply: Reply { end, cards },
-                pair: Some(*pair),
-            }
-        }
-    }
-}
-
 /// Decides a dial tone job on a set of paths.
 pub fn dial(plan: &Plan, paths: &[Path], line: Len) -> Decision
     ensures reply { result.reply ≡ (dial_of plan.now paths.now line).reply }
@@ -91,15 +59,18 @@ pub fn dial(plan: &Plan, paths: &[Path], line: Len) -> Decision
     // Where the line stands tells that it is in range, which callers need.
     let _place = line.x();
     if !is_line_idle(paths, line) {
-        return refused(End::LineBusy);
+        return Decision::refused(End::LineBusy);
     }
     let Some(first) = first_idle(paths, registers) else {
-        return refused(End::RegistersBusy);
+        return Decision::refused(End::RegistersBusy);
     };
     let parties = Parties {
         calling: line,
         called: None,
     };
     let Trials { outcome, cards } = two_trials(plan, paths, &parties, registers, first);
-    dial_tone(&outcome, cards)
+    Decision {
+        pair: outcome.pair(),
+        reply: Reply::dial_tone(&outcome, cards),
+    }
 }

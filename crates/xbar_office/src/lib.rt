@@ -6,6 +6,8 @@ pub use cards::Cards;
 pub use job::Job;
 pub use office::Office;
 pub use reply::{Card, End, Record, Reply};
+pub use trial::{Pair, TrialEnd};
+pub use two_trials::{Outcome, Trials};
 
 mod cards;
 mod dial;

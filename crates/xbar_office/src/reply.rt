@@ -2,6 +2,7 @@ ghost use Rattle.std.specs.Prelude.{◌≡◌, ◌<◌, ℕ, [], ◌∷◌, ◌+
 
 use crate::cards::Cards;
 use crate::job::Job;
+use crate::two_trials::Outcome;
 use xbar_equip::{Link, LinkKind, Path};
 
 /// A trouble card: the trial that met a faulty link, and the link.
@@ -42,6 +43,54 @@ pub enum End {
 pub struct Reply {
     pub end: End,
     pub cards: Cards,
+}
+
+impl Reply {
+    ghost use Rattle.xbar_office.specs.Whole.{plain_reply, failed_end as failed_end_of, dial_tone_reply};
+
+    /// The reply of a job that met no faulty link.
+    pub fn plain(end: End) -> Self
+        ensures { result ≡ plain_reply end }
+    {
+        Reply {
+            end,
+            cards: Cards::new(),
+        }
+    }
+
+    /// The reply to a dial tone job whose trials came to this.
+    pub fn dial_tone(outcome: &Outcome, cards: Cards) -> Self
+        ensures { result ≡ dial_tone_reply outcome.now cards }
+    {
+        let end = match outcome {
+            Outcome::Taken { trial, pair, .. } => End::DialTone {
+                path: pair.calling,
+                trial: *trial,
+            },
+            Outcome::NotTaken => Reply::failed_end(&cards),
+        };
+        Reply { end, cards }
+    }
+
+    /// The same reply again. It takes no memory.
+    pub fn copy(&self) -> Self
+        ensures { result ≡ self.now }
+    {
+        Reply {
+            end: self.end,
+            cards: self.cards.copy(),
+        }
+    }
+
+    fn failed_end(cards: &Cards) -> End
+        ensures { result ≡ failed_end_of cards.now }
+    {
+        if cards.is_empty() {
+            End::NoPath
+        } else {
+            End::Trouble
+        }
+    }
 }
 
 /// What is known of a job that has taken its turn.

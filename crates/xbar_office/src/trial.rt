@@ -110,13 +110,24 @@ fn tested(plan: &Plan, pair: &Pair) -> TrialEnd
     }
 }
 
+impl TrialEnd {
+    ghost use Rattle.xbar_office.specs.Trial.{end_of};
+
+    /// How a trial ends that found these paths, or no channel.
+    pub fn of(plan: &Plan, found: Option<Pair>) -> Self
+        ensures { result ≡ end_of plan.now found }
+    {
+        match found {
+            None => TrialEnd::NoChannel,
+            Some(pair) => tested(plan, &pair),
+        }
+    }
+}
+
 /// A trial on a member, with this start of the channel test.
 pub fn trial(plan: &Plan, paths: &[Path], start: u8, parties: &Parties, member: &Member) -> TrialEnd
     requires { start < 10 }
     ensures { result ≡ trial_of plan.now paths.now start parties.now member.now }
 {
-    match matched(paths, start, parties, member) {
-        None => TrialEnd::NoChannel,
-        Some(pair) => tested(plan, &pair),
-    }
+    TrialEnd::of(plan, matched(paths, start, parties, member))
 }

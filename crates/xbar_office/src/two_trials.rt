@@ -25,25 +25,61 @@ pub struct Trials {
     pub cards: Cards,
 }
 
-fn second_decides(mut cards: Cards, index: u8, end: TrialEnd) -> Trials
-    requires { length cards ≤ 1 }
-    ensures { result ≡ second_decides_of cards index end }
-{
-    match end {
-        TrialEnd::Chosen(pair) => {
-            let outcome = Outcome::Taken {
-                trial: 2,
-                index,
-                pair,
-            };
-            return Trials { outcome, cards };
+impl Outcome {
+    ghost use Rattle.xbar_office.specs.Whole.{pair_of};
+
+    /// The paths that were taken, if any.
+    pub fn pair(&self) -> Option<Pair>
+        ensures { result ≡ pair_of self.now }
+    {
+        match self {
+            Outcome::Taken { pair, .. } => Some(*pair),
+            Outcome::NotTaken => None,
         }
-        TrialEnd::Faulty(link) => cards.push(Card { trial: 2, link }),
-        TrialEnd::NoChannel => {}
     }
-    Trials {
-        outcome: Outcome::NotTaken,
-        cards,
+}
+
+impl Trials {
+    ghost use Rattle.std.specs.Prelude.{[], length, ◌≤◌};
+    ghost use Rattle.xbar_office.specs.declared.two_trials.Outcome.TheVariants.{Taken as TakenBy};
+
+    /// The first trial chose paths, so there is no second one.
+    pub fn first(index: u8, pair: &Pair) -> Self
+        ensures { result ≡ record { outcome = TakenBy 1 index pair.now; cards = [] } }
+    {
+        let outcome = Outcome::Taken {
+            trial: 1,
+            index,
+            pair: *pair,
+        };
+        Trials {
+            outcome,
+            cards: Cards::new(),
+        }
+    }
+
+    /// The first trial failed, with this card or with none, and the second one, on the member of
+    /// this number, ended so.
+    pub fn second(mut cards: Cards, index: u8, end: TrialEnd) -> Self
+        requires { length cards ≤ 1 }
+        ensures { result ≡ second_decides_of cards index end }
+    {
+        match end {
+            TrialEnd::Chosen(pair) => {
+                let outcome = Outcome::Taken {
+                    trial: 2,
+                    index,
+                    pair,
+                };
+                return Trials { outcome, cards };
+            }
+            TrialEnd::Faulty(link) => cards.push(Card { trial: 2, link }),
+            TrialEnd::NoChannel => {}
+        }
+        Trials {
+            outcome: Outcome::NotTaken,
+            cards,
+        }
     }
 }
 
@@ -61,22 +97,12 @@ pub fn two_trials(
     ensures { result ≡ two_trials_of plan.now paths.now parties.now members.now first }
 {
     let cards = match trial(plan, paths, 0, parties, &members[first]) {
-        TrialEnd::Chosen(pair) => {
-            let outcome = Outcome::Taken {
-                trial: 1,
-                index: first as u8,
-                pair,
-            };
-            return Trials {
-                outcome,
-                cards: Cards::new(),
-            };
-        }
+        TrialEnd::Chosen(pair) => return Trials::first(first as u8, &pair),
         TrialEnd::Faulty(link) => Cards::one(Card { trial: 1, link }),
         TrialEnd::NoChannel => Cards::new(),
     };
     let next = next_idle(paths, members, first);
-    second_decides(
+    Trials::second(
         cards,
         next as u8,
         trial(plan, paths, 5, parties, &members[next]),
