@@ -1,0 +1,7 @@
+pub mod Decimals
+pub mod FaultLines
+pub mod FiveFields
+pub mod OneReading
+pub mod RecordCounts
+pub mod RowsSoFar
+pub mod UnderWay

@@ -1,0 +1,128 @@
+use Rattle.std.proofs.Common.{◌≡◌, ◌/◌, ◌%◌, ◌⊎◌, ◌++◌, ℕ, Bool, true, List, [], ◌∷◌, Some, None, refl, sym, ap, subst, ◌∙◌, arith, inl, inr}
+use Rattle.std.specs.Prelude.{Option, Ok, Err, All}
+use Rattle.std.proofs.lemmas.Fmt.{decimal_injective}
+use Rattle.std.proofs.lemmas.List.Elements.{All-cons, All-nil}
+use Rattle.xbar_equip.specs.Digits.{digit}
+use Rattle.xbar_equip.specs.Len.{Line, line_text}
+use Rattle.xbar_office.specs.declared.job.Job.{Job}
+use Rattle.xbar_office.specs.declared.job.Job.TheVariants.{Dial}
+use Rattle.xbar_traffic.specs.Job.{job_fields}
+use Rattle.xbar_traffic.specs.Row.{IsReadAs, IsRow, row_fields}
+use Rattle.xbar_traffic.specs.Traffic.{AreReadAfter, IsJudgedAs, repeats, stands_in}
+use Rattle.xbar_traffic.specs.declared.fault.RowFault.{RowFault}
+use Rattle.xbar_traffic.specs.declared.fault.RowFault.TheVariants.{Unreadable, UnknownKind, Malformed, NumberTwice, Marker, OtherMode}
+use Rattle.xbar_traffic.specs.declared.row.Row.{Row}
+use Rattle.xbar_traffic.specs.declared.row.Row.TheVariants.{Assign, Steps}
+
+first_same : {A : Type 0} (x y : A) (xs ys : List A) → x ∷ xs ≡ y ∷ ys → x ≡ y
+first_same x y xs ys e = cc
+
+rest_same : {A : Type 0} (x y : A) (xs ys : List A) → x ∷ xs ≡ y ∷ ys → xs ≡ ys
+rest_same x y xs ys e = cc
+
+digit_same : (m n : ℕ) → digit m ≡ digit n → m ≡ n
+digit_same m n e = omega arith
+
+-- a line's text is no other's
+line_text_injective : (a b : Line) → line_text a ≡ line_text b → a ≡ b
+line_text_injective a b e =
+    let frame = digit_same a.frame b.frame (first_same _ _ _ _ e) in
+    let e1 = rest_same _ _ _ _ e in
+    let switch = digit_same a.switch b.switch (first_same _ _ _ _ e1) in
+    let e2 = rest_same _ _ _ _ e1 in
+    let group = digit_same (a.x / 5) (b.x / 5) (first_same _ _ _ _ e2) in
+    let file = digit_same (a.x % 5) (b.x % 5) (first_same _ _ _ _ (rest_same _ _ _ _ e2)) in
+    let x : a.x ≡ b.x = omega arith in
+    λ i. record { frame = frame i; switch = switch i; x = x i }
+
+-- a job's fields are no other's
+job_fields_injective : (a b : Job) → job_fields a ≡ job_fields b → a ≡ b
+job_fields_injective (Dial a) (Dial b) e = ap Dial (line_text_injective a b (first_same _ _ _ _ (rest_same _ _ _ _ e)))
+
+-- a row's fields are no other's
+row_fields_injective : (a b : Row) → IsRow a → IsRow b → row_fields a ≡ row_fields b → a ≡ b
+row_fields_injective (Assign m j job) (Assign m2 j2 job2) h h2 e =
+    let e1 = rest_same _ _ _ _ e in
+    let marker = decimal_injective m m2 (omega (arith, h.0)) (omega (arith, h2.0)) (first_same _ _ _ _ e1) in
+    let e2 = rest_same _ _ _ _ e1 in
+    let number = decimal_injective j j2 (omega (arith, h.1)) (omega (arith, h2.1)) (first_same _ _ _ _ e2) in
+    let same = job_fields_injective job job2 (rest_same _ _ _ _ e2) in
+    cc
+row_fields_injective (Steps m c) (Steps m2 c2) h h2 e =
+    let e1 = rest_same _ _ _ _ e in
+    let marker = decimal_injective m m2 (omega (arith, h.0)) (omega (arith, h2.0)) (first_same _ _ _ _ e1) in
+    let e2 = rest_same _ _ _ _ e1 in
+    let count = decimal_injective c c2 (omega (arith, h.1)) (omega (arith, h2.1)) (first_same _ _ _ _ e2) in
+    cc
+row_fields_injective (Assign m j job) (Steps m2 c2) h h2 e = absurd (let letter : 74 ≡ 83 = first_same _ _ _ _ (first_same _ _ _ _ e) in omega arith)
+row_fields_injective (Steps m c) (Assign m2 j2 job2) h h2 e = absurd (let letter : 83 ≡ 74 = first_same _ _ _ _ (first_same _ _ _ _ e) in omega arith)
+
+-- fields are read as one row
+one_row : (fields : List (List ℕ)) (a b : Row) → IsReadAs fields (Ok a) → IsReadAs fields (Ok b) → a ≡ b
+one_row fields a b h j = row_fields_injective a b h.0 j.0 (sym h.1 ∙ j.1)
+
+-- a fault of fields is that of a number that stands twice, or one of the fields alone
+fault_split : (stood : ℕ → Bool) (fields : List (List ℕ)) (fault : RowFault) → IsJudgedAs stood fields (Err fault)
+    → ((fault ≡ NumberTwice) × (row : Row) × IsReadAs fields (Ok row) × (repeats stood row ≡ true)) ⊎ IsReadAs fields (Err fault)
+fault_split stood fields NumberTwice h = inl (refl, h.0, h.1, h.2)
+fault_split stood fields Unreadable h = inr h
+fault_split stood fields UnknownKind h = inr h
+fault_split stood fields Malformed h = inr h
+fault_split stood fields (Marker why) h = inr h
+fault_split stood fields OtherMode h = inr h
+
+-- no fields are judged as a row and at fault
+row_or_fault : (stood : ℕ → Bool) (fields : List (List ℕ)) (row : Row) (fault : RowFault)
+    → IsJudgedAs stood fields (Ok row) → IsJudgedAs stood fields (Err fault) → ⊥
+row_or_fault stood fields row fault h j = elim (fault_split stood fields fault j) [
+  | inl twice ↦
+      let (_, other, read, again) = twice in
+      let same = one_row fields row other h.0 read in
+      let once = h.1 in
+      let both : repeats stood row ≡ true = ap (repeats stood) same ∙ again in
+      cc
+  | inr alone ↦ alone.0 row h.0.0 h.0.1
+]
+
+-- fields have one fault
+one_fault : (stood : ℕ → Bool) (fields : List (List ℕ)) (a b : RowFault)
+    → IsJudgedAs stood fields (Err a) → IsJudgedAs stood fields (Err b) → a ≡ b
+one_fault stood fields a b h j = elim (fault_split stood fields a h) [
+  | inl twice ↦ elim (fault_split stood fields b j) [
+    | inl again ↦ twice.0 ∙ sym again.0
+    | inr alone ↦ absurd (alone.0 twice.1 twice.2.0 twice.2.1)
+  ]
+  | inr alone ↦ elim (fault_split stood fields b j) [
+    | inl twice ↦ absurd (alone.0 twice.1 twice.2.0 twice.2.1)
+    | inr other ↦ alone.1 ∙ sym other.1
+  ]
+]
+
+-- records after rows are one traffic
+pub one_traffic : (before : List Row) (records : List (List (List ℕ))) (rows rows2 : List Row) (fault fault2 : Option RowFault)
+    → AreReadAfter before records rows fault → AreReadAfter before records rows2 fault2 → (rows ≡ rows2) × (fault ≡ fault2)
+one_traffic before [] [] [] None None h j = (refl, refl)
+one_traffic before [] [] [] None (Some f2) h j = absurd j
+one_traffic before [] [] [] (Some f) fault2 h j = absurd h
+one_traffic before [] [] (r2 ∷ rows2) fault fault2 h j = absurd j
+one_traffic before [] (r ∷ rows) rows2 fault fault2 h j = absurd h
+one_traffic before (f ∷ records) [] [] None fault2 h j = absurd h
+one_traffic before (f ∷ records) [] [] (Some a) None h j = absurd j
+one_traffic before (f ∷ records) [] [] (Some a) (Some b) h j = (refl, ap Some (one_fault (stands_in before) f a b h j))
+one_traffic before (f ∷ records) [] (r2 ∷ rows2) None fault2 h j = absurd h
+one_traffic before (f ∷ records) [] (r2 ∷ rows2) (Some a) fault2 h j = absurd (row_or_fault (stands_in before) f r2 a j.0 h)
+one_traffic before (f ∷ records) (r ∷ rows) [] fault None h j = absurd j
+one_traffic before (f ∷ records) (r ∷ rows) [] fault (Some b) h j = absurd (row_or_fault (stands_in before) f r b h.0 j)
+one_traffic before (f ∷ records) (r ∷ rows) (r2 ∷ rows2) fault fault2 h j =
+    let same = one_row f r r2 h.0.0 j.0.0 in
+    let later : AreReadAfter (before ++ r ∷ []) records rows2 fault2 =
+    subst (λ (row : Row). AreReadAfter (before ++ row ∷ []) records rows2 fault2) (sym same) j.1 in
+    let (rest, end) = one_traffic (before ++ r ∷ []) records rows rows2 fault fault2 h.1 later in
+    (cc, end)
+
+-- and each of their rows is in range
+pub rows_in_range : (before : List Row) (records : List (List (List ℕ))) (rows : List Row) (fault : Option RowFault)
+    → AreReadAfter before records rows fault → All IsRow rows
+rows_in_range before records [] fault h = All-nil IsRow
+rows_in_range before [] (r ∷ rows) fault h = absurd h
+rows_in_range before (f ∷ records) (r ∷ rows) fault h = All-cons IsRow r rows h.0.0.0 (rows_in_range (before ++ r ∷ []) records rows fault h.1)

@@ -1,0 +1,14 @@
+use Rattle.std.proofs.Common.{◌≡◌, ℕ}
+use Rattle.std.specs.BTreeSet.{contains}
+use Rattle.std.specs.Ordering.{nat_cmp}
+use Rattle.csv.specs.Reading.{strip_bom}
+use Rattle.xbar_traffic.specs.Traffic.{stands_in}
+use Rattle.xbar_traffic.proofs.UnderWay.{IsUnderWay}
+use Rattle.xbar_traffic.proofs.traffic.Traffic.read.Given as goal
+
+abbrev pub invariant-loop-row : goal.invariant-loop-row
+invariant-loop-row l =
+    record {
+      reading : IsUnderWay (strip_bom l.fn.bytes) l.row-iterator.rdr l.row-iterator.left l.rows.items;
+      numbers : (number : ℕ) → contains nat_cmp l.numbers number ≡ stands_in l.rows.items number;
+    }

@@ -1,0 +1,6 @@
+pub mod Fault
+pub mod Fields
+pub mod Job
+pub mod Number
+pub mod Row
+pub mod Traffic

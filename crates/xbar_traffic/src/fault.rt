@@ -1,0 +1,88 @@
+ghost use Rattle.std.specs.Prelude.{◌≡◌, IfOk, string_bytes};
+ghost use Rattle.xbar_traffic.specs.Fault.{fault_line};
+
+use std::alloc::{AllocError, Global};
+use std::fmt;
+
+/// Why a marker can't be asked what a row asks of it.
+#[derive(Clone, Copy, Debug, PartialEq, Eq)]
+pub enum MarkerFault {
+    /// The office has no such marker.
+    NoMarker,
+    /// The marker isn't idle when the row's turn comes.
+    NotIdle,
+    /// The marker does no jobs of this kind.
+    WrongKind,
+}
+
+impl fmt::Display for MarkerFault {
+    ghost use Rattle.std.specs.Prelude.{Some};
+    ghost use Rattle.xbar_traffic.specs.Fault.{marker_code};
+
+    ghost output = { λ fault. Some (marker_code fault) };
+
+    fn fmt<W: fmt::Write>(&self, f: &mut fmt::Formatter<W>) -> fmt::Result {
+        f.write_str(match self {
+            MarkerFault::NoMarker => "C1",
+            MarkerFault::NotIdle => "C2",
+            MarkerFault::WrongKind => "C3",
+        })
+    }
+}
+
+/// What is wrong with a row. Of several, the first in the order of the traffic's format is told,
+/// which is not the order here.
+#[derive(Clone, Copy, Debug, PartialEq, Eq)]
+pub enum RowFault {
+    /// The row hasn't exactly five fields.
+    Unreadable,
+    /// The first field is no row's letter, or the kind of job is none that `Job` has.
+    UnknownKind,
+    /// A field has another form than it must, or its number is out of range.
+    Malformed,
+    /// The job's number stood in an earlier row.
+    NumberTwice,
+    /// The office's state doesn't allow it.
+    Marker(MarkerFault),
+    /// The row belongs to the other mode.
+    OtherMode,
+}
+
+impl fmt::Display for RowFault {
+    ghost use Rattle.std.specs.Prelude.{Some};
+    ghost use Rattle.xbar_traffic.specs.Fault.{fault_code};
+
+    ghost output = { λ fault. Some (fault_code fault) };
+
+    fn fmt<W: fmt::Write>(&self, f: &mut fmt::Formatter<W>) -> fmt::Result {
+        f.write_str(match self {
+            RowFault::Unreadable => "T1",
+            RowFault::UnknownKind => "T2",
+            RowFault::Malformed => "T3",
+            RowFault::NumberTwice => "T4",
+            RowFault::Marker(_) => "T5",
+            RowFault::OtherMode => "T6",
+        })
+    }
+}
+
+/// Why traffic is refused: the first row with a fault, and the fault.
+#[derive(Clone, Copy, Debug, PartialEq, Eq)]
+pub struct TrafficFault {
+    /// The rows have the numbers 1, 2 and so on.
+    pub row: u64,
+    pub fault: RowFault,
+}
+
+impl TrafficFault {
+    /// The line that tells it, with its line feed.
+    pub fn text(self, alloc: Global) -> Result<String, AllocError>
+        ensures { IfOk result (λ text. string_bytes text ≡ fault_line self) }
+    {
+        let TrafficFault { row, fault } = self;
+        match fault {
+            RowFault::Marker(why) => format!(in alloc; "FAULT,{fault},{row},{why}\n"),
+            _ => format!(in alloc; "FAULT,{fault},{row}\n"),
+        }
+    }
+}

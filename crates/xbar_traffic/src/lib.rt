@@ -1,0 +1,16 @@
+//! What the rows of traffic ask for: jobs for markers, and steps of markers. And what is wrong with
+//! a row, as far as the row and those before it tell.
+#![tactic(auto)]
+
+pub use fault::{MarkerFault, RowFault, TrafficFault};
+pub use row::Row;
+pub use traffic::Traffic;
+
+mod fault;
+mod fields;
+pub mod laws;
+mod number;
+mod row;
+#[cfg(test)]
+mod tests;
+mod traffic;

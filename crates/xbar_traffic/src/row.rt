@@ -1,0 +1,86 @@
+ghost use Rattle.std.specs.Prelude.{◌≡◌, ◌∷◌, codes, []};
+ghost use Rattle.csv.specs.Records.{fields_of};
+ghost use Rattle.xbar_traffic.specs.Row.{IsReadAs};
+ghost use Rattle.xbar_traffic.specs.Fields.{five_fields};
+ghost use Rattle.xbar_traffic.specs.Job.{IsJobReadAs};
+
+use crate::fault::RowFault;
+use crate::fields::Fields;
+use crate::number::read_number;
+use csv::ByteRecord;
+use xbar_equip::Len;
+use xbar_office::Job;
+
+/// What a row of traffic asks for.
+#[derive(Clone, Copy, Debug, PartialEq, Eq)]
+pub enum Row {
+    /// A marker is assigned a job, and makes no step.
+    Assign { marker: u32, job_no: u32, job: Job },
+    /// A marker makes so many steps.
+    Steps { marker: u32, count: u32 },
+}
+
+/// The highest number of a marker in a row.
+const MARKER_LIMIT: u32 = 99;
+/// The highest number of a job, and the most steps.
+const NUMBER_LIMIT: u32 = 9999;
+
+impl Row {
+    /// Reads a record as a row, whatever rows came before it.
+    pub(crate) fn read(row: &ByteRecord) -> Result<Row, RowFault>
+        ensures { IsReadAs (fields_of row.now) result }
+    {
+        match Fields::of(row) {
+            Some(fields) => Row::of_fields(&fields),
+            None => Err(RowFault::Unreadable),
+        }
+    }
+
+    fn of_fields(fields: &Fields<'_>) -> Result<Row, RowFault>
+        ensures { IsReadAs (five_fields fields.now) result }
+    {
+        match fields.first {
+            b"J" => Row::assign(fields.second, fields.third, fields.fourth, fields.fifth),
+            b"S" => Row::steps(fields.second, fields.third, fields.fourth, fields.fifth),
+            b"C" => Err(RowFault::OtherMode),
+            _ => Err(RowFault::UnknownKind),
+        }
+    }
+
+    fn assign(marker: &[u8], job_no: &[u8], kind: &[u8], args: &[u8]) -> Result<Row, RowFault>
+        ensures { IsReadAs (codes "J" ∷ marker.now ∷ job_no.now ∷ kind.now ∷ args.now ∷ []) result }
+    {
+        let job = read_job(kind, args)?;
+        let marker = read_number(marker, MARKER_LIMIT).ok_or(RowFault::Malformed)?;
+        let job_no = read_number(job_no, NUMBER_LIMIT).ok_or(RowFault::Malformed)?;
+        Ok(Row::Assign {
+            marker,
+            job_no,
+            job,
+        })
+    }
+
+    fn steps(marker: &[u8], count: &[u8], fourth: &[u8], fifth: &[u8]) -> Result<Row, RowFault>
+        ensures { IsReadAs (codes "S" ∷ marker.now ∷ count.now ∷ fourth.now ∷ fifth.now ∷ []) result }
+    {
+        if !fourth.is_empty() || !fifth.is_empty() {
+            return Err(RowFault::Malformed);
+        }
+        let marker = read_number(marker, MARKER_LIMIT).ok_or(RowFault::Malformed)?;
+        let count = read_number(count, NUMBER_LIMIT).ok_or(RowFault::Malformed)?;
+        Ok(Row::Steps { marker, count })
+    }
+}
+
+/// The job of these last two fields of a row.
+fn read_job(kind: &[u8], args: &[u8]) -> Result<Job, RowFault>
+    ensures { IsJobReadAs kind.now args.now result }
+{
+    match kind {
+        b"D" => match Len::parse(args) {
+            Ok(line) => Ok(Job::Dial(line)),
+            Err(_) => Err(RowFault::Malformed),
+        },
+        _ => Err(RowFault::UnknownKind),
+    }
+}

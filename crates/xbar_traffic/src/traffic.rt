@@ -1,0 +1,91 @@
+ghost use Rattle.std.specs.Prelude.{◌≡◌, ◌+◌, ◌||◌, ℕ, Ok, IfOk, true, option_map, vec_len};
+ghost use Rattle.std.specs.BTreeSet.{contains};
+ghost use Rattle.std.specs.Ordering.{nat_cmp};
+ghost use Rattle.csv.specs.Records.{fields_of};
+ghost use Rattle.csv.specs.Reading.{default_config, records, strip_bom, stops_reader, error_kind};
+ghost use Rattle.xbar_traffic.specs.Traffic.{IsJudgedAs, IsTrafficOf, has_number};
+
+use crate::fault::{RowFault, TrafficFault};
+use crate::row::Row;
+use csv::{ByteRecord, Error, ErrorKind, ReaderBuilder};
+use std::alloc::{AllocError, Global};
+use std::collections::BTreeSet;
+
+/// The rows of traffic up to the first that is at fault by itself or by a number that stood before.
+#[derive(Debug, Drop)]
+pub struct Traffic {
+    pub rows: Vec<Row>,
+    /// What is wrong with the row after `rows`.
+    pub fault: Option<RowFault>,
+}
+
+impl Traffic {
+    /// Reads the bytes of a whole traffic.
+    ///
+    /// A kind of job that `Job` hasn't is unknown, so `C` and `R` are until it has them.
+    pub fn read(alloc: Global, bytes: &[u8]) -> Result<Traffic, AllocError>
+        ensures { IfOk result (λ traffic. IsTrafficOf (records default_config (strip_bom bytes.now)) traffic.rows.items traffic.fault) }
+    {
+        let reader = ReaderBuilder::new()
+            .has_headers(false)
+            .flexible(true)
+            .from_reader(alloc, bytes);
+        let mut rows = Vec::new(alloc);
+        let mut numbers = BTreeSet::new(alloc);
+        for row in reader.into_byte_records() {
+            let row = match row {
+                Ok(row) => row,
+                Err(error) => return Err(want_of_memory(error)),
+            };
+            match judge(&row, &mut numbers)? {
+                // `push` gets no proof where another crate's enum is in the item.
+                Ok(row) => rows.extend_from_slice(&[row])?,
+                Err(fault) => {
+                    let fault = Some(fault);
+                    return Ok(Traffic { rows, fault });
+                }
+            }
+        }
+        Ok(Traffic { rows, fault: None })
+    }
+
+    /// The fault that comes after all rows, with the number of its row.
+    pub fn refusal(&self) -> Option<TrafficFault>
+        ensures { result ≡ option_map (λ fault. record { row = vec_len self.now.rows + 1; fault = fault }) self.now.fault }
+    {
+        let row = self.rows.len() as u64 + 1;
+        self.fault.map(|fault| TrafficFault { row, fault })
+    }
+}
+
+/// Reads a row, where these job numbers stood before, and adds its own to them.
+fn judge(row: &ByteRecord, numbers: &mut BTreeSet<u32>) -> Result<Result<Row, RowFault>, AllocError>
+    ensures judged { IfOk result (λ judged. IsJudgedAs (contains nat_cmp numbers.old) (fields_of row.now) judged) }
+    ensures numbers { IfOk result (λ judged. IfOk judged (λ row. (number : ℕ) → contains nat_cmp numbers.new number ≡ (contains nat_cmp numbers.old number || has_number number row))) }
+{
+    let row = match Row::read(row) {
+        Ok(row) => row,
+        Err(fault) => return Ok(Err(fault)),
+    };
+    match row {
+        Row::Assign { job_no, .. } => {
+            if numbers.insert(job_no)? {
+                Ok(Ok(row))
+            } else {
+                Ok(Err(RowFault::NumberTwice))
+            }
+        }
+        Row::Steps { .. } => Ok(Ok(row)),
+    }
+}
+
+/// Why rows of any length could not be read from bytes in memory: memory ran out.
+fn want_of_memory(error: Error) -> AllocError
+    requires { stops_reader (error_kind error) ≡ true }
+{
+    match error.into_kind() {
+        // `Io` never comes, since a slice's `read` gives no error. No contract of `Read` says so.
+        ErrorKind::OutOfMemory | ErrorKind::Io(_) => AllocError,
+        _ => unreachable!(),
+    }
+}
