@@ -1,0 +1,5 @@
+use Rattle.crossbar5.proofs.RunRows.{HasRun}
+use Rattle.crossbar5.proofs.run.run.Given as goal
+
+abbrev pub invariant-loop-row : goal.invariant-loop-row
+invariant-loop-row l = HasRun l.plan l.traffic.rows.items l.traffic.fault l.replay l.number l.row-index

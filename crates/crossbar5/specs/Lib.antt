@@ -1,0 +1,11 @@
+pub use Rattle.xbar_plan.specs.Tables
+pub use Rattle.xbar_office.specs.Legal
+pub use Rattle.xbar_jobs.specs.Office
+pub use Rattle.xbar_traffic.specs.Traffic
+pub use Rattle.xbar_traffic.specs.Fault
+pub mod Failures
+pub mod Counted
+pub mod EngineFault
+pub mod Report
+pub mod Replay
+pub mod Run

@@ -1,0 +1,23 @@
+ghost use Rattle.std.specs.Prelude.{Some};
+ghost use Rattle.crossbar5.specs.Report.{end_fields};
+
+use std::fmt;
+use xbar_office::End;
+
+/// The fields of an end: its name, trial, first path, second path.
+#[derive(Clone, Copy)]
+pub struct EndFields<'a>(pub &'a End);
+
+impl fmt::Display for EndFields<'_> {
+    ghost output = { λ fields. Some (end_fields fields.0.now) };
+
+    fn fmt<W: fmt::Write>(&self, f: &mut fmt::Formatter<W>) -> fmt::Result {
+        match self.0 {
+            End::DialTone { path, trial } => write!(f, "DIALTONE,{trial},{path},-"),
+            End::LineBusy => f.write_str("LINEBUSY,-,-,-"),
+            End::RegistersBusy => f.write_str("REGISTERSBUSY,-,-,-"),
+            End::NoPath => f.write_str("NOPATH,-,-,-"),
+            End::Trouble => f.write_str("TROUBLE,-,-,-"),
+        }
+    }
+}

@@ -1,0 +1,8 @@
+/// How a run of the program ended, where no fault stopped it.
+#[derive(Clone, Copy, Debug, PartialEq, Eq)]
+pub enum Status {
+    /// The traffic was done, and what came of it was written.
+    Fine,
+    /// A row of the traffic was refused, and the line that tells it was written.
+    TrafficRefused,
+}

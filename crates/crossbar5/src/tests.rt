@@ -1,0 +1,4 @@
+mod devices;
+mod fakes;
+mod replays;
+mod reports;

@@ -1,0 +1,4 @@
+use Rattle.dial_bench.proofs.dial_3041.Goals as goal
+
+pub returns : goal.returns
+returns c = c.new-2.ensures.plan c.args.plan.now

@@ -1,0 +1,53 @@
+//! Does one dial tone job over and over, as a marker's steps on words that are plain data, and
+//! prints how many steps that took.
+#![tactic(auto)]
+
+ghost use Rattle.std.specs.Prelude.{◌≡◌, length};
+ghost use Rattle.xbar_jobs.specs.Standing.{Stands};
+
+use std::io;
+use xbar_equip::Len;
+use xbar_jobs::{Program, Step};
+use xbar_office::Job;
+use xbar_plan::Plan;
+
+const JOBS: u32 = 20_000;
+
+/// The bound on the steps of an attempt that nothing puts off.
+const STEPS: u32 = 128;
+
+/// Line 3041 goes off hook, under this plan.
+fn dial_3041(plan: &Plan) -> Program
+    ensures { Stands plan.now result }
+{
+    Program::new(Job::Dial(Len::new(3, 0, 21)), 0)
+}
+
+/// Makes the job's steps on the words to its end, and answers how many they were.
+fn serve(plan: &Plan, words: &mut [u64]) -> u32
+    requires { length words.old ≡ 453 }
+    ensures { length words.new ≡ 453 }
+{
+    let mut program = dial_3041(plan);
+    for _made in 0..STEPS {
+        let step = program.next();
+        if step == Step::Finished {
+            break;
+        }
+        let answer = step.make(0, words);
+        program.take(plan, answer);
+    }
+    program.count()
+}
+
+fn main(rt: HostRuntime) -> io::Result<()> {
+    let plan = Plan::example(rt.alloc())?;
+    let mut words = [0; 453];
+    let mut steps: u64 = 0;
+    for _job in 0..JOBS {
+        words.fill(0);
+        steps = steps.saturating_add(u64::from(serve(&plan, &mut words)));
+    }
+    println!(rt; "{steps} steps")?;
+    Ok(())
+}
