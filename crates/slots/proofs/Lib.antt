@@ -1,0 +1,6 @@
+pub mod FreeSlots
+pub mod SlotBits
+pub mod SlotsSystem
+pub mod TakenOnce
+pub mod SlotBounds
+pub mod RunByHand

@@ -1,0 +1,4 @@
+pub mod Slots
+pub mod System
+pub mod Taken
+pub mod WorkedRun

@@ -1,0 +1,108 @@
+use Rattle.std.specs.Prelude.{◌≡◌, ℕ, ◌+◌, ◌-◌, ◌*◌, ◌/◌, ◌%◌, ◌^◌, ◌<◌, ◌==◌, Option, Some, None, List, [], ◌∷◌, map, slice_index, bit_and, bit_or, ⊤}
+use Rattle.std.specs.Int.{bit_at}
+use Rattle.turns.specs.Script.{Script, Ends, Tests, Seizes}
+use Rattle.turns.specs.Sharings.{preferring}
+use Rattle.turns.specs.System.{System}
+use Rattle.slots.specs.Slots.{Busy, none_busy, lowest_free, whole}
+use Rattle.slots.specs.declared.effect.Effect.{Effect}
+use Rattle.slots.specs.declared.effect.Effect.TheVariants.{Mark, Clear}
+use Rattle.slots.specs.declared.job.Job.{Job}
+use Rattle.slots.specs.declared.job.Job.TheVariants.{Take, TakeBoth, Give}
+
+-- the words: 0 and 1 have a bit for each slot of the two banks, 2 and 3 are the banks' locks, 4 is the turn word
+pub record Shows (words : List ℕ) (busy : Busy) : Type 0 where
+  pub bits : (slot : ℕ) → slot < 8 → busy slot ≡ (bit_at (slice_index words (slot / 4)) (slot % 4) == 1)
+
+-- a bank's lock protects the bank's word
+abbrev pub Protects : ℕ → ℕ → Type 0
+Protects bank word = (word ≡ bank) × (word < 2)
+
+-- a bank's word with a slot marked, or cleared
+abbrev pub effect_on : Effect → ℕ → ℕ
+effect_on (Mark slot) word = bit_or word (2 ^ (slot % 4))
+effect_on (Clear slot) word = bit_and word (2 ^ 64 - 1 - 2 ^ (slot % 4))
+
+abbrev pub slot_of : Effect → ℕ
+slot_of (Mark slot) = slot
+slot_of (Clear slot) = slot
+
+-- a slot that is marked is free
+abbrev pub Due : Effect → ℕ → Type 0
+Due (Mark slot) word = bit_at word (slot % 4) ≡ 0
+Due (Clear slot) word = ⊤
+
+-- what a job comes to
+pub data Decision : Type 0 where
+  Takes : List ℕ → Decision
+  Gives : ℕ → Decision
+
+abbrev pub reply_of : Decision → List ℕ
+reply_of (Takes slots) = slots
+reply_of (Gives slot) = []
+
+abbrev pub effects_of : Decision → List Effect
+effects_of (Takes slots) = map Mark slots
+effects_of (Gives slot) = Clear slot ∷ []
+
+-- the lowest free slot of a bank, by the bank's word
+abbrev pub free_in : ℕ → ℕ → Option ℕ
+free_in bank word = lowest_free (λ slot. bit_at word (slot % 4) == 1) (4 * bank) 4
+
+-- a slot that was found is taken, or else the script goes on
+abbrev pub taken_or : Option ℕ → Script ℕ Decision → Script ℕ Decision
+taken_or (Some slot) otherwise = Ends (Takes (slot ∷ []))
+taken_or None otherwise = otherwise
+
+-- with a slot of the lower bank, one of the upper bank is wanted too
+abbrev pub both_or_none : Option ℕ → Option ℕ → Script ℕ Decision
+both_or_none (Some lower) (Some upper) = Ends (Takes (lower ∷ upper ∷ []))
+both_or_none (Some lower) None = Ends (Takes [])
+both_or_none None upper = Ends (Takes [])
+
+abbrev pub and_upper : Option ℕ → Script ℕ Decision
+and_upper (Some lower) = Seizes 1 (Tests 1 (λ word. both_or_none (Some lower) (free_in 1 word)))
+and_upper None = Ends (Takes [])
+
+-- what a job does, step by step
+abbrev pub script : Job → Script ℕ Decision
+script Take = Seizes 0 (Tests 0 (λ lower. taken_or (free_in 0 lower) (Seizes 1 (Tests 1 (λ upper. taken_or (free_in 1 upper) (Ends (Takes [])))))))
+script TakeBoth = Seizes 0 (Tests 0 (λ lower. and_upper (free_in 0 lower)))
+script (Give slot) = Seizes (slot / 4) (Ends (Gives slot))
+
+abbrev pub first_lock : Job → ℕ
+first_lock Take = 0
+first_lock TakeBoth = 0
+first_lock (Give slot) = slot / 4
+
+abbrev pub IsJob : Job → Type 0
+IsJob Take = ⊤
+IsJob TakeBoth = ⊤
+IsJob (Give slot) = slot < 8
+
+abbrev pub slots : System
+slots = record {
+  Job = Job;
+  IsJob = IsJob;
+  State = Busy;
+  Reply = List ℕ;
+  opening = none_busy;
+  whole = whole;
+  Lock = ℕ;
+  IsLock = λ bank. bank < 2;
+  same = λ a b. a == b;
+  Decision = Decision;
+  first = first_lock;
+  script = script;
+  Effect = Effect;
+  reply_of = reply_of;
+  effects_of = effects_of;
+  effect_word = λ effect. slot_of effect / 4;
+  effect_on = effect_on;
+  Due = Due;
+  size = 5;
+  Protects = Protects;
+  lock_word = λ bank. 2 + bank;
+  sharing = preferring;
+  turn_word = 4;
+  Shows = Shows;
+}

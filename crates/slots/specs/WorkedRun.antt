@@ -1,0 +1,26 @@
+use Rattle.std.specs.Prelude.{ℕ, List, [], ◌∷◌, map}
+use Rattle.turns.specs.Runs.{Move, Assigns, Steps, run_of}
+use Rattle.turns.specs.World.{World, RecordOf}
+use Rattle.slots.specs.System.{slots}
+use Rattle.slots.specs.declared.job.Job.{Job}
+use Rattle.slots.specs.declared.job.Job.TheVariants.{Take, TakeBoth}
+
+-- actor 0 takes a slot while actor 1 wants one of each bank: actor 1 is put off twice, by preference and by a hold, and begins anew
+abbrev pub two_at_once : List (Move Job)
+two_at_once =
+    Assigns 0 1 Take ∷ Assigns 1 2 TakeBoth ∷
+    -- both request the lower bank, and actor 0 is preferred
+    Steps 0 ∷ Steps 1 ∷ Steps 0 ∷ Steps 1 ∷
+    -- actor 0 sees the word change once more, and seizes the bank; actor 1 finds it held
+    Steps 0 ∷ Steps 0 ∷ Steps 1 ∷
+    -- actor 0 tests, takes its turn; actor 1 withdraws; actor 0 marks slot 0 and frees the bank
+    Steps 0 ∷ Steps 0 ∷ Steps 1 ∷ Steps 0 ∷ Steps 0 ∷
+    -- actor 1 takes one slot of each bank
+    Steps 1 ∷ Steps 1 ∷ Steps 1 ∷ Steps 1 ∷ Steps 1 ∷ Steps 1 ∷ Steps 1 ∷ Steps 1 ∷ Steps 1 ∷ Steps 1 ∷ Steps 1 ∷ []
+
+-- the world after it
+abbrev pub worked : World slots
+worked = run_of slots 2 two_at_once
+
+abbrev pub replies : List (RecordOf slots) → List (List ℕ)
+replies order = map (λ (r : RecordOf slots). r.reply) order

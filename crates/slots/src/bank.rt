@@ -1,0 +1,42 @@
+//! A bank's word: bit `slot % 4` is set where the slot is taken.
+
+ghost use Rattle.std.specs.Prelude.{◌≡◌, ◌<◌, ◌==◌, ◌%◌, not};
+ghost use Rattle.std.specs.Int.{bit_at};
+ghost use Rattle.slots.specs.System.{free_in};
+
+fn is_free(word: u64, slot: u32) -> bool
+    ensures { result ≡ not (bit_at word (slot % 4) == 1) }
+{
+    word >> (slot % 4) & 1 == 0
+}
+
+/// The lowest free slot of bank 0 or 1, by the bank's word.
+pub fn lowest_free(bank: u32, word: u64) -> Option<u32>
+    requires { bank < 2 }
+    ensures { result ≡ free_in bank word }
+{
+    for slot in 4 * bank..4 * bank + 4 {
+        if is_free(word, slot) {
+            return Some(slot);
+        }
+    }
+    None
+}
+
+#[cfg(test)]
+mod tests {
+    use super::*;
+
+    #[test]
+    fn finds_the_lowest_free_slot(rt: HostRuntime) {
+        for (bank, word, want) in [
+            (0, 0b0000, Some(0)),
+            (0, 0b0101, Some(1)),
+            (0, 0b1111, None),
+            (1, 0b0000, Some(4)),
+            (1, 0b0111, Some(7)),
+        ] {
+            assert_eq!(rt; lowest_free(bank, word), want, "bank {bank}, word {word}");
+        }
+    }
+}

@@ -1,0 +1,149 @@
+-- an answer is of its step's kind, and after a step what is expected of a lock's word is what the word has
+use Rattle.std.proofs.Common.{◌≡◌, ◌≢◌, ℕ, ◌<◌, ◌⊎◌, Bool, true, false, List, [], ◌∷◌, ◌++◌, length, slice_set, slice_index, inl, inr, refl, sym, ◌∙◌, ap, subst}
+use Rattle.std.specs.Prelude.{◌==◌, ◌||◌, Option, Some, None, Result, Ok, Err, if◌then◌else◌}
+use Rattle.turns.specs.Among.{IsIn}
+use Rattle.turns.specs.Seen.{Seen}
+use Rattle.turns.specs.Script.{Script, Ends, Tests, Seizes, is_held, value_read, left, left_of_test, left_of_seizing, first_wanted, walk}
+use Rattle.turns.specs.System.{System}
+use Rattle.turns.specs.Attempt.{Act, Rest, Ask, Take, Leave, Free as FreeAct, Look, Turn, Make, AttemptOf, IsAnswerTo, StandsIn, act_in, answered, changed, closing_act, come_to, free_act, freed, goes_on, operated, rest_of, told}
+use Rattle.turns.specs.World.{becomes, place}
+use Rattle.turns.specs.Law.{word_at}
+use Rattle.turns.specs.declared.answer.Answer.{Answer}
+use Rattle.turns.specs.declared.answer.Answer.TheVariants.{Asked, Seized, Again, Done}
+use Rattle.turns.specs.declared.judgement.Judgement.{Judgement}
+use Rattle.turns.specs.declared.judgement.Judgement.TheVariants as judgement
+use Rattle.turns.specs.declared.phase.Phase.{Phase}
+use Rattle.turns.specs.declared.phase.Phase.TheVariants.{Requests, Seizes as SeizesNext, Tests as TestsNext, Turns, Withdraws, GivesBack, Operates}
+use Rattle.turns.specs.declared.wanted.Wanted.{Wanted}
+use Rattle.turns.specs.declared.wanted.Wanted.TheVariants.{Seize, Test}
+use Rattle.turns.proofs.Lists.{index_same}
+
+module _ {Lock : Type 0} (same : Lock → Lock → Bool) where
+  -- a lock that is held is held by the test
+  pub held_of : (held : List Lock) (lock : Lock) → ((l : Lock) → same l l ≡ true) → IsIn lock held → is_held same held lock ≡ true
+  unfolding is_held
+  held_of [] lock self within = absurd within
+  held_of (own ∷ held) lock self (inl e) = ap (λ b. b || is_held same held lock) (ap (same own) e ∙ self own)
+  held_of (own ∷ held) lock self (inr later) = ap (λ b. same own lock || b) (held_of held lock self later) ∙ or_true (same own lock) where
+    or_true : (b : Bool) → (b || true) ≡ true
+    or_true true = refl
+    or_true false = refl
+
+  -- a lock that a walk wants is not held
+  pub wanted_bare : {A : Type 0} (seen : Seen Lock) (lock : Lock) (script : Script Lock A) → walk same seen script ≡ Err (Seize lock) → is_held same seen.held lock ≡ false
+  unfolding walk left left_of_test left_of_seizing first_wanted
+  wanted_bare seen lock (Ends found) e = absurd cc
+  wanted_bare seen lock (Tests word script) e = at (value_read seen.readings word) (λ value. wanted_bare seen lock (script value)) e where
+    at : (o : Option ℕ) → ((value : ℕ) → walk same seen (script value) ≡ Err (Seize lock) → is_held same seen.held lock ≡ false) → first_wanted (left_of_test script (λ value. left same seen (script value)) word o) ≡ Err (Seize lock) → is_held same seen.held lock ≡ false
+    at None later e = absurd cc
+    at (Some value) later e = later value e
+  wanted_bare seen lock (Seizes other script) e = at (is_held same seen.held other) refl (wanted_bare seen lock script) e where
+    at : (b : Bool) → is_held same seen.held other ≡ b → (walk same seen script ≡ Err (Seize lock) → is_held same seen.held lock ≡ false) → first_wanted (left_of_seizing script (left same seen script) other b) ≡ Err (Seize lock) → is_held same seen.held lock ≡ false
+    at false own later e = let one : other ≡ lock = cc in ap (is_held same seen.held) (sym one) ∙ own
+    at true own later e = later e
+
+pub rest_or_not : {Lock Effect : Type 0} (step : Act Lock Effect) → (step ≡ Rest) ⊎ (step ≢ Rest)
+rest_or_not Rest = inl refl
+rest_or_not (Ask lock) = inr (λ e. absurd cc)
+rest_or_not (Take lock expected) = inr (λ e. absurd cc)
+rest_or_not (Leave lock) = inr (λ e. absurd cc)
+rest_or_not (FreeAct lock) = inr (λ e. absurd cc)
+rest_or_not (Look word) = inr (λ e. absurd cc)
+rest_or_not Turn = inr (λ e. absurd cc)
+rest_or_not (Make effect) = inr (λ e. absurd cc)
+
+module _ (O : System) where
+  open O use {Lock, Effect, Decision, IsLock, sharing}
+
+  -- an answer is of the step's kind
+  told_asked : (lock : Lock) (word : ℕ) (j : Judgement) → IsAnswerTo {Effect = Effect} (Ask lock) (told (Asked word) j)
+  told_asked lock word judgement.Free = tt
+  told_asked lock word (judgement.Held holder) = tt
+  told_asked lock word (judgement.Preferred other) = tt
+
+  told_taken : (lock : Lock) (expected word : ℕ) (b : Bool) (j : Judgement) → IsAnswerTo {Effect = Effect} (Take lock expected) (if b then Seized else told (Again word) j)
+  told_taken lock expected word true j = tt
+  told_taken lock expected word false judgement.Free = tt
+  told_taken lock expected word false (judgement.Held holder) = tt
+  told_taken lock expected word false (judgement.Preferred other) = tt
+
+  pub answers_fit : (k : ℕ) (step : Act Lock Effect) (found : ℕ) → step ≢ Rest → IsAnswerTo step (answered O k step found)
+  answers_fit k Rest found acts = absurd (acts refl)
+  answers_fit k (Ask lock) found acts = told_asked lock (sharing.asked k found) (sharing.judged k (sharing.asked k found))
+  answers_fit k (Take lock expected) found acts = told_taken lock expected found (found == expected) (sharing.judged k found)
+  answers_fit k (Leave lock) found acts = tt
+  answers_fit k (FreeAct lock) found acts = tt
+  answers_fit k (Look word) found acts = tt
+  answers_fit k Turn found acts = tt
+  answers_fit k (Make effect) found acts = tt
+
+  -- what is expected of a lock's word is what it has
+  abbrev pub IsExact : List ℕ → Phase Lock ℕ → Type 0
+  IsExact words (SeizesNext lock expected) = word_at O words lock ≡ expected
+  IsExact words (Requests lock) = Unit {0}
+  IsExact words (TestsNext word) = Unit {0}
+  IsExact words Turns = Unit {0}
+  IsExact words (Withdraws lock) = Unit {0}
+  IsExact words GivesBack = Unit {0}
+  IsExact words (Operates turn) = Unit {0}
+
+  exact_on : (words : List ℕ) (a : AttemptOf O) (to : Result Decision (Wanted Lock ℕ)) → IsExact words (goes_on O a to).phase
+  exact_on words a (Ok decision) = tt
+  exact_on words a (Err (Seize lock)) = tt
+  exact_on words a (Err (Test word)) = tt
+
+  exact_freed : (words : List ℕ) (a : AttemptOf O) (held : List Lock) → IsExact words (freed O a held).phase
+  exact_freed words a [] = tt
+  exact_freed words a (lock ∷ held) = tt
+
+  exact_operated : (words : List ℕ) (a : AttemptOf O) (turn : ℕ) (effects : List Effect) → a.phase ≡ Operates turn → IsExact words (operated a effects).phase
+  exact_operated words a turn [] at = subst (IsExact words) (sym at) tt
+  exact_operated words a turn (effect ∷ effects) at = subst (IsExact words) (sym at) tt
+
+  pub free_done : (k found : ℕ) (held : List Lock) → answered O k (free_act held) found ≡ Done
+  free_done k found [] = refl
+  free_done k found (lock ∷ held) = refl
+
+  pub closing_done : (k found : ℕ) (effects : List Effect) (held : List Lock) → answered O k (closing_act effects held) found ≡ Done
+  closing_done k found [] held = free_done k found held
+  closing_done k found (effect ∷ effects) held = refl
+
+  module _ (k : ℕ) (words : List ℕ) (a : AttemptOf O) where
+    -- the number that a step finds, the answer to it, and the words after it
+    abbrev pub found_by : Act Lock Effect → ℕ
+    found_by step = slice_index words (place O step)
+
+    abbrev pub words_after : Act Lock Effect → List ℕ
+    words_after step = slice_set words (place O step) (becomes O k step (found_by step))
+
+    exact_asked : (lock : Lock) (word : ℕ) (j : Judgement) (after : List ℕ) → word_at O after lock ≡ word → IsExact after (changed O a (Requests lock) (told (Asked word) j)).phase
+    exact_asked lock word judgement.Free after e = e
+    exact_asked lock word (judgement.Held holder) after e = tt
+    exact_asked lock word (judgement.Preferred other) after e = tt
+
+    exact_again : (lock : Lock) (expected word : ℕ) (j : Judgement) (after : List ℕ) → word_at O after lock ≡ word → IsExact after (changed O a (SeizesNext lock expected) (told (Again word) j)).phase
+    exact_again lock expected word judgement.Free after e = e
+    exact_again lock expected word (judgement.Held holder) after e = tt
+    exact_again lock expected word (judgement.Preferred other) after e = tt
+
+    exact_taken : (lock : Lock) (expected word taken : ℕ) (b : Bool) (j : Judgement) → O.lock_word lock < length words → IsExact (slice_set words (O.lock_word lock) (if b then taken else word)) (changed O a (SeizesNext lock expected) (if b then Seized else told (Again word) j)).phase
+    exact_taken lock expected word taken true j there = let b : AttemptOf O = record a { held = a.held ++ lock ∷ [] } in exact_on (slice_set words (O.lock_word lock) taken) b (come_to O b)
+    exact_taken lock expected word taken false j there = exact_again lock expected word j (slice_set words (O.lock_word lock) word) (index_same words (O.lock_word lock) word there)
+
+    -- after any step, what is expected of a lock's word is what it has
+    pub exact_after : (phase : Phase Lock ℕ) → a.phase ≡ phase → StandsIn O a phase → ((lock : Lock) → come_to O a ≡ Err (Seize lock) → O.lock_word lock < length words) →
+        IsExact (words_after (act_in phase a)) (changed O a phase (answered O k (act_in phase a) (found_by (act_in phase a)))).phase
+    exact_after (Requests lock) at stands there =
+        let v = sharing.asked k (word_at O words lock) in
+        exact_asked lock v (sharing.judged k v) (slice_set words (O.lock_word lock) v) (index_same words (O.lock_word lock) v (there lock stands))
+    exact_after (SeizesNext lock expected) at stands there =
+        let found = word_at O words lock in
+        exact_taken lock expected found (sharing.taken k found) (found == expected) (sharing.judged k found) (there lock stands)
+    exact_after (TestsNext word) at stands there = let b : AttemptOf O = record a { readings = a.readings ++ record { word = word; value = slice_index words word } ∷ [] } in exact_on (words_after (Look word)) b (come_to O b)
+    exact_after Turns at stands there = tt
+    exact_after (Withdraws lock) at stands there = exact_freed (words_after (Leave lock)) a a.held
+    exact_after GivesBack at stands there =
+        subst (λ (x : Answer). IsExact (words_after (free_act a.held)) (changed O a GivesBack x).phase) (sym (free_done k (found_by (free_act a.held)) a.held)) (exact_freed (words_after (free_act a.held)) a (rest_of a.held))
+    exact_after (Operates turn) at stands there =
+        let step : Act Lock Effect = closing_act a.effects a.held in
+        subst (λ (x : Answer). IsExact (words_after step) (changed O a (Operates turn) x).phase) (sym (closing_done k (found_by step) a.effects a.held)) (exact_operated (words_after step) a turn a.effects at)

@@ -1,0 +1,120 @@
+-- an actor that is left alone: each of its steps is steady, and it ends its job
+use Rattle.std.proofs.Common.{◌≡◌, ◌≢◌, ℕ, zero, suc, ◌<◌, ◌⊎◌, Bool, true, false, List, slice_index, inl, inr, refl, sym, ◌∙◌, ap, subst, arith}
+use Rattle.std.specs.Prelude.{◌==◌, ◌||◌, Some, None, Err, if◌then◌else◌}
+use Rattle.std.proofs.lemmas.Bool.{eqb-true, eq-eqb}
+use mathlib.Core.Bool.{true≢false}
+use mathlib.Core.Option.{some, some-injective}
+use lib.ListN.{get_elem?}
+use Rattle.turns.specs.Among.{IsIn}
+use Rattle.turns.specs.System.{System, IsSystem}
+use Rattle.turns.specs.Attempt.{AttemptOf, StandsIn, act, act_in, answered, closing_act, come_to, free_act, next, request_in, seen_of, told}
+use Rattle.turns.specs.World.{World, ActorOf, Does, moved, place}
+use Rattle.turns.specs.Law.{Holds, HasRequested, Lawful, holder_at, word_at}
+use Rattle.turns.specs.Runs.{made_by, stepped_at, Steps}
+use Rattle.turns.specs.Bounds.{IsAside, IsSteady}
+use Rattle.turns.specs.declared.answer.Answer.{Answer}
+use Rattle.turns.specs.declared.answer.Answer.TheVariants.{Asked, Seized, Again}
+use Rattle.turns.specs.declared.judgement.Judgement.{Judgement}
+use Rattle.turns.specs.declared.judgement.Judgement.TheVariants as judgement
+use Rattle.turns.specs.declared.phase.Phase.{Phase}
+use Rattle.turns.specs.declared.phase.Phase.TheVariants.{Requests, Seizes as SeizesNext, Tests as TestsNext, Turns, Withdraws, GivesBack, Operates}
+use Rattle.turns.specs.declared.wanted.Wanted.TheVariants.{Seize}
+use Rattle.turns.proofs.Lists.{one_or_two, set_here, set_else, there_below}
+use Rattle.turns.proofs.Standing.{wanted_lock}
+use Rattle.turns.proofs.ExactWords.{held_of, wanted_bare, IsExact, free_done, closing_done, exact_after}
+
+module _ (O : System) (is : IsSystem O) where
+  open O use {Lock, Effect, IsLock, sharing}
+
+  -- every actor but k is out of the way
+  abbrev pub AreAside : ℕ → List (ActorOf O) → Type 0
+  AreAside k actors = (j : ℕ) (m : ActorOf O) → ¬ (j ≡ k) → get_elem? actors j ≡ some m → IsAside O m
+
+  module _ (w : World O) (law : Lawful O w) (k number : ℕ) (a : AttemptOf O) (there : get_elem? w.actors k ≡ some (Does number a)) (aside : AreAside k w.actors) where
+    few : k < sharing.most
+    few = let below = there_below w.actors k (Does number a) there in omega (arith, law.few)
+
+    pub does_same : (j other : ℕ) (b : AttemptOf O) → j ≡ k → get_elem? w.actors j ≡ some (Does other b) → b ≡ a
+    does_same j other b one e =
+        let same : some (Does other b) ≡ some (Does number a) = sym e ∙ ap (λ (i : ℕ). get_elem? w.actors i) one ∙ there in
+        let these : Does other b ≡ Does number a = some-injective (Does other b) (Does number a) same in
+        cc
+
+    -- a lock's word names none but actor k, and none but actor k has a request in it
+    named_mine : (lock : Lock) (j : ℕ) → IsLock lock → holder_at O w.words lock ≡ suc j → IsIn lock a.held
+    named_mine lock j right e = at (one_or_two j k) where
+      holds : Holds O w.actors j lock
+      holds = (law.shared lock right).named j e
+
+      at : (j ≡ k) ⊎ (j ≢ k) → IsIn lock a.held
+      at (inl one) = subst (λ (b : AttemptOf O). IsIn lock b.held) (does_same j holds.number holds.attempt one holds.does) holds.held
+      at (inr other) = absurd (subst (IsIn lock) (aside j (Does holds.number holds.attempt) other holds.does).0 holds.held)
+
+    asked_mine : (lock : Lock) (j : ℕ) → IsLock lock → j < sharing.most → sharing.requests j (word_at O w.words lock) ≡ true → j ≡ k
+    asked_mine lock j right below e = at (one_or_two j k) where
+      requested : HasRequested O w.actors j lock
+      requested = ((law.shared lock right).requested j below).0 e
+
+      at : (j ≡ k) ⊎ (j ≢ k) → j ≡ k
+      at (inl one) = one
+      at (inr other) =
+          let none : request_in requested.attempt.phase ≡ None = (aside j (Does requested.number requested.attempt) other requested.does).1 in
+          let some_lock : request_in requested.attempt.phase ≡ Some lock = requested.requests in
+          absurd cc
+
+    module _ (lock : Lock) (wants : come_to O a ≡ Err (Seize lock)) where
+      right : IsLock lock
+      right = wanted_lock O is a lock (law.sound k number a there).job wants
+
+      -- what it wants nobody holds
+      nobody : sharing.holder (word_at O w.words lock) ≡ 0
+      nobody = at (sharing.holder (word_at O w.words lock)) refl where
+        at : (n : ℕ) → sharing.holder (word_at O w.words lock) ≡ n → sharing.holder (word_at O w.words lock) ≡ 0
+        at zero e = e
+        at (suc j) e = absurd (true≢false (sym (held_of O.same a.held lock (λ l. (is.same l l).1 refl) (named_mine lock j right e)) ∙ wanted_bare O.same (seen_of a) lock (O.script a.job) wants))
+
+      -- so it may go on, with its request, or once that stands
+      free_asked : sharing.judged k (sharing.asked k (word_at O w.words lock)) ≡ judgement.Free
+      free_asked =
+          let shared = law.shared lock right in
+          let word = word_at O w.words lock in
+          is.sharing.alone_free k (sharing.asked k word) few (is.sharing.asked_is k word few shared.is_word) (is.sharing.asked_holder k word few shared.is_word ∙ nobody)
+          (λ j below e. alone j below (j == k) refl (sym (is.sharing.asked_requests k word few shared.is_word j below) ∙ e)) where
+            alone : (j : ℕ) → j < sharing.most → (b : Bool) → (j == k) ≡ b → (b || sharing.requests j (word_at O w.words lock)) ≡ true → j ≡ k
+            alone j below true same e = eqb-true j k same
+            alone j below false same e = asked_mine lock j right below e
+
+      pub free_again : sharing.judged k (word_at O w.words lock) ≡ judgement.Free
+      free_again = is.sharing.alone_free k (word_at O w.words lock) few (law.shared lock right).is_word nobody (λ j below e. asked_mine lock j right below e)
+
+    -- its step's answer is steady where what it expects is what there is
+    abbrev answer_in : Phase Lock ℕ → Answer
+    answer_in phase = answered O k (act_in phase a) (slice_index w.words (place O (act_in phase a)))
+
+    steady_in : (phase : Phase Lock ℕ) → StandsIn O a phase → IsExact O w.words phase → IsSteady (answer_in phase)
+    steady_in (Requests lock) stands exact = subst (λ (j : Judgement). IsSteady (told (Asked (sharing.asked k (word_at O w.words lock))) j)) (sym (free_asked lock stands)) tt
+    steady_in (SeizesNext lock expected) stands exact =
+        subst (λ (b : Bool). IsSteady (if b then Seized else told (Again (word_at O w.words lock)) (sharing.judged k (word_at O w.words lock)))) (sym (eq-eqb (word_at O w.words lock) expected exact)) tt
+    steady_in (TestsNext word) stands exact = tt
+    steady_in Turns stands exact = tt
+    steady_in (Withdraws lock) stands exact = tt
+    steady_in GivesBack stands exact = subst IsSteady (sym (free_done O k (slice_index w.words (place O (free_act a.held))) a.held)) tt
+    steady_in (Operates turn) stands exact = subst IsSteady (sym (closing_done O k (slice_index w.words (place O (closing_act a.effects a.held))) a.effects a.held)) tt
+
+    pub steady : IsExact O w.words a.phase → IsSteady (answered O k (act a) (slice_index w.words (place O (act a))))
+    steady exact = steady_in a.phase (law.sound k number a there).stands exact
+
+    -- after its step what it expects is what there is, and the others are still out of the way
+    pub exact_next : IsExact O (moved O k number a w).words (next O k a (slice_index w.words (place O (act a)))).phase
+    exact_next =
+        exact_after O k w.words a a.phase refl (law.sound k number a there).stands
+        (λ lock wants. let below = is.words.lock_word_there lock (wanted_lock O is a lock (law.sound k number a there).job wants) in omega (arith, law.size))
+
+    pub there_next : get_elem? (moved O k number a w).actors k ≡ some (Does number (next O k a (slice_index w.words (place O (act a)))))
+    there_next = set_here w.actors k (Does number (next O k a (slice_index w.words (place O (act a))))) (Does number a) there
+
+    pub aside_next : AreAside k (moved O k number a w).actors
+    aside_next j m other e = aside j m other (sym (set_else w.actors k j (Does number (next O k a (slice_index w.words (place O (act a))))) other) ∙ e)
+
+    pub step_is : made_by O w (Steps k) ≡ moved O k number a w
+    step_is = ap (λ o. stepped_at O k o w) there

@@ -1,0 +1,100 @@
+use Rattle.std.proofs.Common.{◌≡◌, ℕ, zero, suc, ◌<◌, ◌≤◌, List, [], ◌∷◌, replicate, slice_index, sym, refl, ap, ◌∙◌, subst}
+use Rattle.std.specs.Prelude.{Bool, true, false, Option, None}
+use mathlib.Core.Option.{some, some-injective, some-ne-none}
+use lib.ListN.{get_elem?, length-replicate, get_or-replicate}
+use Rattle.turns.specs.Among.{IsIn}
+use Rattle.turns.specs.System.{System, IsSystem}
+use Rattle.turns.specs.Attempt.{AttemptOf, Rest, act, left_in, begin, request_in}
+use Rattle.turns.specs.World.{World, ActorOf, Idle, Does, left_of, moved, assigned, given_back, opened, made, completed}
+use Rattle.turns.specs.Law.{IsFree, IsShared, Lawful, word_at}
+use Rattle.turns.specs.declared.phase.Phase.{Phase}
+use Rattle.turns.specs.declared.phase.Phase.TheVariants.{Requests, Seizes, Tests, Turns, Withdraws, GivesBack, Operates}
+use Rattle.turns.specs.declared.reading.Reading.{Reading}
+use Rattle.turns.proofs.Completed.{all_spare, completed_index, completed_length}
+use Rattle.turns.proofs.Sound.{begin_sound}
+use Rattle.turns.proofs.Settings.{held_of, request_of}
+use Rattle.turns.proofs.Quiet.{still}
+use Rattle.turns.proofs.Moves.{attempt, keeps_in, gives_back_in}
+
+module _ (O : System) where
+  open O use {Lock, Job, Reply, Effect, IsLock, IsJob, lock_word, sharing}
+
+  -- an actor with no next step has no effects left, holds nothing and requests nothing
+  pub rest_bare : (phase : Phase Lock ℕ) (job : Job) (readings : List (Reading ℕ)) (held : List Lock) (reply : Option Reply) (effects : List Effect) → act (attempt O phase job readings held reply effects) ≡ Rest → (left_in phase effects ≡ []) × (held ≡ []) × (request_in phase ≡ None)
+  rest_bare (Requests lock) job readings held reply effects e = cc
+  rest_bare (Seizes lock expected) job readings held reply effects e = cc
+  rest_bare (Tests word) job readings held reply effects e = cc
+  rest_bare Turns job readings held reply effects e = cc
+  rest_bare (Withdraws lock) job readings held reply effects e = cc
+  rest_bare GivesBack job readings [] reply effects e = (refl, refl, refl)
+  rest_bare GivesBack job readings (c ∷ held) reply effects e = cc
+  rest_bare (Operates turn) job readings [] reply [] e = (refl, refl, refl)
+  rest_bare (Operates turn) job readings (c ∷ held) reply [] e = cc
+  rest_bare (Operates turn) job readings held reply (effect ∷ effects) e = cc
+
+  free_bare : (m : ActorOf O) → IsFree O m → (left_of O m ≡ []) × (held_of O m ≡ []) × (request_of O m ≡ None)
+  free_bare Idle free = (refl, refl, refl)
+  free_bare (Does number a) free = rest_bare a.phase a.job a.readings a.held a.reply a.effects free
+
+  abbrev idle : ActorOf O
+  idle = Idle
+
+  -- idle actors do nothing
+  idle_none : (count k number : ℕ) (a : AttemptOf O) → get_elem? (replicate count idle) k ≡ some (Does number a) → ⊥
+  idle_none zero k number a e = some-ne-none (Does number a) (sym e)
+  idle_none (suc count) zero number a e = let x = some-injective Idle (Does number a) e in cc
+  idle_none (suc count) (suc k) number a e = idle_none count k number a e
+
+  idle_left : (count k : ℕ) (m : ActorOf O) → get_elem? (replicate count idle) k ≡ some m → left_of O m ≡ []
+  idle_left count k Idle e = refl
+  idle_left count k (Does number a) e = absurd (idle_none count k number a e)
+
+  module _ (system : IsSystem O) where
+    word_zero : (n : ℕ) → n < O.size → slice_index (replicate O.size 0) n ≡ 0
+    word_zero n below = get_or-replicate O.size n 0 0 below
+
+    -- nobody holds or requests a lock
+    opens_shared : (count : ℕ) (lock : Lock) → IsLock lock → IsShared O (opened O count) lock
+    opens_shared count lock is =
+        let bare : word_at O (replicate O.size 0) lock ≡ 0 = word_zero (lock_word lock) (system.words.lock_word_there lock is) in
+        record {
+          is_word = subst sharing.IsWord (sym bare) system.sharing.zero_is;
+          named = λ k e. absurd (let x : suc k ≡ 0 = sym e ∙ ap sharing.holder bare ∙ system.sharing.zero_free in cc);
+          requested = λ k few. (
+            (λ e. absurd (let x : ◌≡◌ {A = Bool} true false = sym e ∙ ap (sharing.requests k) bare ∙ system.sharing.zero_unasked k few in cc)),
+            (λ asks. absurd (idle_none count k asks.number asks.attempt asks.does)),
+          );
+        }
+
+    -- a system opens lawfully
+    pub opens : (count : ℕ) → count ≤ sharing.most → Lawful O (opened O count)
+    opens count few = record {
+      few = subst (λ (l : ℕ). l ≤ sharing.most) (sym (length-replicate count Idle)) few;
+      size = length-replicate O.size 0;
+      turn = word_zero O.turn_word system.words.turn_there;
+      legal = tt;
+      shows = system.looks (replicate O.size 0) (completed O (opened O count)) O.opening (record {
+        this_length = length-replicate O.size 0;
+        that_length = completed_length O (replicate count Idle) 0 (replicate O.size 0) ∙ length-replicate O.size 0;
+        under = λ n lock e.
+            sym (completed_index O (opened O count) n (subst (λ (l : ℕ). n < l) (sym (length-replicate O.size 0)) (system.words.word_there n lock e)) ∙
+            all_spare O (replicate count Idle) n (slice_index (replicate O.size 0) n) (λ j m at v. ap (λ (effects : List Effect). made O effects n v) (idle_left count j m at)));
+      }) system.opens;
+      sound = λ k number a at. absurd (idle_none count k number a at);
+      shared = λ lock is. opens_shared count lock is;
+    }
+
+    module _ (w : World O) (law : Lawful O w) (k number : ℕ) where
+      -- an assignment, a step and a give back keep the law
+      pub assigns : (m : ActorOf O) (job : Job) → get_elem? w.actors k ≡ some m → IsFree O m → IsJob job → Lawful O (assigned O k number job w)
+      assigns m job there free given =
+          let bare = free_bare m free in
+          still O system w law k m there number (begin O job) (sym bare.0) (begin_sound O system w k number job given)
+          (λ lock within. absurd (subst (λ (l : List Lock). IsIn lock l) bare.1 within))
+          (λ lock. ((λ e. sym bare.2 ∙ e), (λ e. bare.2 ∙ e)))
+
+      pub keeps : (a : AttemptOf O) → get_elem? w.actors k ≡ some (Does number a) → Lawful O (moved O k number a w)
+      keeps a there = keeps_in O system w law k number a.phase a.job a.readings a.held a.reply a.effects there
+
+      pub gives_back : (a : AttemptOf O) → get_elem? w.actors k ≡ some (Does number a) → Lawful O (given_back O k number a w)
+      gives_back a there = gives_back_in O system w law k number a.phase a.job a.readings a.held a.reply a.effects there

@@ -1,0 +1,38 @@
+use Rattle.std.proofs.Common.{◌≡◌, ℕ, zero, suc, ◌+◌, ◌%◌, ◌^◌, List, [], ◌∷◌, ◌++◌, length, refl, ap, ◌∙◌, arith}
+use Rattle.std.specs.Prelude.{Some, slice_get}
+use Rattle.std.proofs.Math.Nat.{mod-add-mod}
+use Rattle.turns.specs.System.{System}
+use Rattle.turns.specs.World.{RecordOf, after}
+use Rattle.turns.specs.Law.{IsLegal}
+
+-- one turn more, modulo 2^64
+pub turn_more : (n : ℕ) → (n % 2 ^ 64 + 1) % 2 ^ 64 ≡ suc n % 2 ^ 64
+turn_more n = let e : n + 1 ≡ suc n = omega arith in mod-add-mod n (2 ^ 64) 1 ∙ ap (λ (m : ℕ). m % 2 ^ 64) e
+
+pub length_more : {A : Type 0} (xs : List A) (x : A) → length (xs ++ x ∷ []) ≡ suc (length xs)
+length_more [] x = refl
+length_more (y ∷ xs) x = ap suc (length_more xs x)
+
+-- the last of a list, and what stood in it before one more
+pub get_last : {A : Type 0} (xs : List A) (x : A) → slice_get (xs ++ x ∷ []) (length xs) ≡ Some x
+get_last [] x = refl
+get_last (y ∷ xs) x = get_last xs x
+
+pub get_before : {A : Type 0} (xs more : List A) (i : ℕ) (x : A) → slice_get xs i ≡ Some x → slice_get (xs ++ more) i ≡ Some x
+get_before [] more i x e = absurd cc
+get_before (y ∷ xs) more zero x e = e
+get_before (y ∷ xs) more (suc i) x e = get_before xs more i x e
+
+module _ (O : System) where
+  open O use {State, whole}
+
+  pub after_more : (state : State) (order : List (RecordOf O)) (r : RecordOf O) → after O state (order ++ r ∷ []) ≡ (whole (after O state order) r.job).state
+  after_more state [] r = refl
+  after_more state (x ∷ order) r = after_more (whole state x.job).state order r
+
+  -- a legal order goes on by a record with the next turn, and the reply of its job done whole
+  pub legal_more : (i : ℕ) (state : State) (order : List (RecordOf O)) (r : RecordOf O) → IsLegal O i state order → O.IsJob r.job → r.turn ≡ (i + length order) % 2 ^ 64 → r.reply ≡ (whole (after O state order) r.job).reply → IsLegal O i state (order ++ r ∷ [])
+  legal_more i state [] r legal given turn reply = let e : i + zero ≡ i = omega arith in (given, turn ∙ ap (λ (m : ℕ). m % 2 ^ 64) e, reply, tt)
+  legal_more i state (x ∷ order) r legal given turn reply =
+      let e : i + suc (length order) ≡ suc i + length order = omega arith in
+      (legal.0, legal.1, legal.2, legal_more (suc i) (whole state x.job).state order r legal.3 given (turn ∙ ap (λ (m : ℕ). m % 2 ^ 64) e) reply)

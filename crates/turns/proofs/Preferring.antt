@@ -1,0 +1,28 @@
+-- sharing by requests and preference is one
+use Rattle.turns.specs.Sharing.{IsSharing}
+use Rattle.turns.specs.Sharings.{preferring}
+use Rattle.std.proofs.Common.{◌+◌, ◌==◌, refl, ap, arith}
+use Rattle.std.proofs.lemmas.Nat.Bits.{bit_at-zero}
+use Rattle.turns.proofs.LockWords.{asked_holder, without_holder, taken_holder, unheld_holder, asked_requests, without_requests, taken_requests, unheld_requests, asked_is, without_is, taken_is, unheld_is}
+use Rattle.turns.proofs.FirstRequests.{judged_true, alone_free}
+
+pub preferring_is : IsSharing preferring
+preferring_is = record {
+  zero_is = record { holder = omega arith; bits = λ i set. absurd (omega (arith, bit_at-zero i)); below = omega arith };
+  zero_free = refl;
+  zero_unasked = λ j few. ap (λ n. n == 1) (bit_at-zero (8 + j));
+  asked_is = λ k word few is. asked_is k word few is;
+  asked_holder = λ k word few is. asked_holder k word;
+  asked_requests = λ k word few is. asked_requests k word;
+  withdrawn_is = λ k word few is. without_is k word few is;
+  withdrawn_holder = λ k word few is. without_holder k word few;
+  withdrawn_requests = λ k word few is. without_requests k word few;
+  taken_is = λ k word few is free. taken_is k word few is free;
+  taken_holder = λ k word few is free. taken_holder k word few free;
+  taken_requests = λ k word few is free. taken_requests k word few;
+  freed_is = λ word is. unheld_is word is;
+  freed_holder = λ word is. unheld_holder word;
+  freed_requests = λ word is. unheld_requests word;
+  judged_true = λ k word few is. judged_true k word;
+  alone_free = λ k word few is free alone. alone_free k word few free alone;
+}

@@ -1,0 +1,57 @@
+use Rattle.std.proofs.Common.{◌≡◌, ℕ, ◌≤◌, Bool, true, false, List, [], ◌∷◌, refl}
+use Rattle.std.specs.Prelude.{if◌then◌else◌}
+use mathlib.Core.Option.{Option, some, none}
+use lib.ListN.{get_elem?}
+use Rattle.turns.specs.System.{System, IsSystem}
+use Rattle.turns.specs.Attempt.{Act, Rest, Ask, Take, Leave, Look, Turn, Make, Free, act}
+use Rattle.turns.specs.World.{World, ActorOf, Idle, Does, assigned, opened}
+use Rattle.turns.specs.Law.{IsFree, Lawful}
+use Rattle.turns.specs.Runs.{Move, Assigns, Steps, Backs, is_rest, is_free, assigned_at, stepped_at, backed_at, made_by, run_from, run_of, IsMove, AreMoves}
+use Rattle.turns.proofs.Moving.{opens, assigns, keeps, gives_back}
+
+rest_is : {Lock Effect : Type 0} (a : Act Lock Effect) → is_rest a ≡ true → a ≡ Rest
+rest_is Rest e = refl
+rest_is (Ask lock) e = cc
+rest_is (Take lock expected) e = cc
+rest_is (Leave lock) e = cc
+rest_is (Look word) e = cc
+rest_is Turn e = cc
+rest_is (Make effect) e = cc
+rest_is (Free lock) e = cc
+
+module _ (O : System) (system : IsSystem O) where
+  free_is : (m : ActorOf O) → is_free O m ≡ true → IsFree O m
+  free_is Idle e = tt
+  free_is (Does number a) e = rest_is (act a) e
+
+  module _ (w : World O) (law : Lawful O w) (k : ℕ) where
+    assigns_if : (number : ℕ) (job : O.Job) (m : ActorOf O) → O.IsJob job → get_elem? w.actors k ≡ some m → (t : Bool) → is_free O m ≡ t → Lawful O (if t then assigned O k number job w else w)
+    assigns_if number job m is there true e = assigns O system w law k number m job there (free_is m e) is
+    assigns_if number job m is there false e = law
+
+    assigns_at : (number : ℕ) (job : O.Job) (found : Option (ActorOf O)) → O.IsJob job → get_elem? w.actors k ≡ found → Lawful O (assigned_at O k number job found w)
+    assigns_at number job none is there = law
+    assigns_at number job (some m) is there = assigns_if number job m is there (is_free O m) refl
+
+    steps_at : (found : Option (ActorOf O)) → get_elem? w.actors k ≡ found → Lawful O (stepped_at O k found w)
+    steps_at none there = law
+    steps_at (some Idle) there = law
+    steps_at (some (Does number a)) there = keeps O system w law k number a there
+
+    backs_at : (found : Option (ActorOf O)) → get_elem? w.actors k ≡ found → Lawful O (backed_at O k found w)
+    backs_at none there = law
+    backs_at (some Idle) there = law
+    backs_at (some (Does number a)) there = gives_back O system w law k number a there
+
+  made_lawful : (w : World O) (move : Move O.Job) → Lawful O w → IsMove O move → Lawful O (made_by O w move)
+  made_lawful w (Assigns k number job) law is = assigns_at w law k number job (get_elem? w.actors k) is refl
+  made_lawful w (Steps k) law is = steps_at w law k (get_elem? w.actors k) refl
+  made_lawful w (Backs k) law is = backs_at w law k (get_elem? w.actors k) refl
+
+  run_lawful : (w : World O) (moves : List (Move O.Job)) → Lawful O w → AreMoves O moves → Lawful O (run_from O w moves)
+  run_lawful w [] law are = law
+  run_lawful w (move ∷ moves) law are = run_lawful (made_by O w move) moves (made_lawful w move law are.0) are.1
+
+  -- every run is lawful
+  pub runs : (count : ℕ) (moves : List (Move O.Job)) → count ≤ O.sharing.most → AreMoves O moves → Lawful O (run_of O count moves)
+  runs count moves few are = run_lawful (opened O count) moves (opens O system count few) are

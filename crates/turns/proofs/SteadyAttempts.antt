@@ -1,0 +1,247 @@
+-- how many steps an attempt takes that is never put off
+use Rattle.std.proofs.Common.{◌≡◌, ℕ, suc, ◌+◌, ◌-◌, ◌*◌, ◌≤◌, Bool, true, false, List, [], ◌∷◌, ◌++◌, length, length-append, refl, sym, ap, subst, arith}
+use Rattle.std.specs.Prelude.{Option, Some, None, Result, Ok, Err}
+use Rattle.turns.specs.Seen.{Seen}
+use Rattle.turns.specs.Script.{Script, Ends, Tests, Seizes, AsksAtMost, is_held, value_read, left, left_of_test, left_of_seizing, first_wanted, walk}
+use Rattle.turns.specs.System.{System, IsSystem}
+use Rattle.turns.specs.Attempt.{AttemptOf, IsAnswerTo, Stands, StandsIn, act, act_in, begin, change, changed, closing_act, come_to, free_act, freed, goes_on, operated, rest_of, seen_of}
+use Rattle.turns.specs.Bounds.{AreBounded, AreSteady, EndsIn, IsSteady}
+use Rattle.turns.specs.declared.answer.Answer.{Answer}
+use Rattle.turns.specs.declared.answer.Answer.TheVariants.{Asked, Seized, Held, Preferred, Again, Value, Turn as TurnNumber, Done}
+use Rattle.turns.specs.declared.phase.Phase.{Phase}
+use Rattle.turns.specs.declared.phase.Phase.TheVariants.{Requests, Seizes as SeizesNext, Tests as TestsNext, Turns, Withdraws, GivesBack, Operates}
+use Rattle.turns.specs.declared.reading.Reading.{Reading}
+use Rattle.turns.specs.declared.wanted.Wanted.{Wanted}
+use Rattle.turns.specs.declared.wanted.Wanted.TheVariants.{Seize, Test}
+use Rattle.turns.proofs.Room.{Grows, held_last, held_before, read_last, read_before, left_asks, seized_at, read_at}
+use Rattle.turns.proofs.Standing.{stands_change}
+
+module _ {Lock A : Type 0} (same : Lock → Lock → Bool) (Has : A → Type 0) (seen : Seen Lock) where
+  -- what is left of a script ends as the script does
+  left_ends : (script : Script Lock A) → EndsIn Has script → EndsIn Has (left same seen script)
+  unfolding EndsIn left left_of_test left_of_seizing
+  left_ends (Ends found) has = has
+  left_ends (Tests word script) has = at (value_read seen.readings word) (λ value. left_ends (script value) (has value)) where
+    at : (o : Option ℕ) → ((value : ℕ) → EndsIn Has (left same seen (script value))) → EndsIn Has (left_of_test script (λ value. left same seen (script value)) word o)
+    at None later = has
+    at (Some value) later = later value
+  left_ends (Seizes lock script) has = at (is_held same seen.held lock) (left_ends script has) where
+    at : (b : Bool) → EndsIn Has (left same seen script) → EndsIn Has (left_of_seizing script (left same seen script) lock b)
+    at false later = has
+    at true later = later
+
+  first_end : (script : Script Lock A) (found : A) → EndsIn Has script → first_wanted script ≡ Ok found → Has found
+  unfolding EndsIn first_wanted
+  first_end (Ends end) found has e = let one : end ≡ found = cc in subst Has one has
+  first_end (Tests word script) found has e = absurd cc
+  first_end (Seizes lock script) found has e = absurd cc
+
+  -- and so does a walk through it
+  pub walk_ends : (script : Script Lock A) (found : A) → EndsIn Has script → walk same seen script ≡ Ok found → Has found
+  unfolding walk
+  walk_ends script found has e = first_end (left same seen script) found (left_ends script has) e
+
+-- past the turn, and in giving back, a step has no other answer than that it is done
+free_done : {Lock : Type 0} (Effect : Type 0) (held : List Lock) (answer : Answer) → IsAnswerTo (free_act {Effect = Effect} held) answer → answer ≡ Done
+free_done Effect [] answer fits = absurd fits
+free_done Effect (lock ∷ held) Done fits = refl
+free_done Effect (lock ∷ held) answer fits = absurd fits
+
+closing_done : {Lock Effect : Type 0} (effects : List Effect) (held : List Lock) (answer : Answer) → IsAnswerTo (closing_act effects held) answer → answer ≡ Done
+closing_done {Effect = Effect} [] held answer fits = free_done Effect held answer fits
+closing_done (effect ∷ effects) held Done fits = refl
+closing_done (effect ∷ effects) held answer fits = absurd fits
+
+module _ (O : System) where
+  freed_job : (a : AttemptOf O) (held : List O.Lock) → (freed O a held).job ≡ a.job
+  freed_job a [] = refl
+  freed_job a (lock ∷ held) = refl
+
+  goes_on_job : (a : AttemptOf O) (to : Result O.Decision (Wanted O.Lock ℕ)) → (goes_on O a to).job ≡ a.job
+  goes_on_job a (Ok decision) = refl
+  goes_on_job a (Err (Seize lock)) = refl
+  goes_on_job a (Err (Test word)) = refl
+
+  operated_job : (a : AttemptOf O) (effects : List O.Effect) → (operated a effects).job ≡ a.job
+  operated_job a [] = refl
+  operated_job a (effect ∷ effects) = refl
+
+  -- an attempt's job stays
+  changed_job : (a : AttemptOf O) (phase : Phase O.Lock ℕ) (answer : Answer) → (changed O a phase answer).job ≡ a.job
+  changed_job a (Requests lock) (Asked word) = refl
+  changed_job a (Requests lock) (Held holder) = refl
+  changed_job a (Requests lock) (Preferred other) = refl
+  changed_job a (SeizesNext lock expected) Seized = let b : AttemptOf O = record a { held = a.held ++ lock ∷ [] } in goes_on_job b (come_to O b)
+  changed_job a (SeizesNext lock expected) (Held holder) = refl
+  changed_job a (SeizesNext lock expected) (Preferred other) = refl
+  changed_job a (SeizesNext lock expected) (Again word) = refl
+  changed_job a (TestsNext word) (Value value) = let b : AttemptOf O = record a { readings = a.readings ++ record { word = word; value = value } ∷ [] } in goes_on_job b (come_to O b)
+  changed_job a Turns (TurnNumber number) = refl
+  changed_job a (Withdraws lock) Done = freed_job a a.held
+  changed_job a GivesBack Done = freed_job a (rest_of a.held)
+  changed_job a (Operates turn) Done = operated_job a a.effects
+  changed_job a _ _ = refl
+
+  pub job_stays : (a : AttemptOf O) (answer : Answer) → O.IsJob a.job → O.IsJob (change O a answer).job
+  job_stays a answer right = subst O.IsJob (sym (changed_job a a.phase answer)) right
+
+module _ (O : System) (is : IsSystem O) (tests seizings effects : ℕ) (bounded : AreBounded O tests seizings effects) where
+  open O use {Lock, Job, Effect, Decision}
+
+  -- so many steps are enough for a whole job
+  abbrev pub whole_job : ℕ
+  whole_job = 3 * seizings + tests + effects + 1
+
+  -- so many are enough for what is left of its script, its turn, its effects and its frees
+  pub record HasRoom (enough : ℕ) (a : AttemptOf O) : Type 0 where
+    pub more_tests : ℕ
+    pub more_seizings : ℕ
+    pub asks : AsksAtMost more_tests more_seizings (left O.same (seen_of a) (O.script a.job))
+    pub fits : 3 * more_seizings + more_tests + effects + 1 + length a.held ≤ enough
+
+  -- so many steps are enough for an attempt in a phase
+  abbrev pub WithinIn : ℕ → AttemptOf O → Phase Lock ℕ → Type 0
+  WithinIn enough a (Requests lock) = HasRoom enough a
+  WithinIn enough a (SeizesNext lock expected) = HasRoom (suc enough) a
+  WithinIn enough a (TestsNext word) = HasRoom enough a
+  WithinIn enough a Turns = length a.effects + 1 + length a.held ≤ enough
+  WithinIn enough a (Withdraws lock) = 1 + length a.held + whole_job ≤ enough
+  WithinIn enough a GivesBack = length a.held + whole_job ≤ enough
+  WithinIn enough a (Operates turn) = length a.effects + length a.held ≤ enough
+
+  abbrev pub IsWithin : ℕ → AttemptOf O → Type 0
+  IsWithin enough a = WithinIn enough a a.phase
+
+  -- a decision has few effects
+  few_effects : (job : Job) (seen : Seen Lock) (decision : Decision) → O.IsJob job → walk O.same seen (O.script job) ≡ Ok decision → length (O.effects_of decision) ≤ effects
+  few_effects job seen decision right come = walk_ends O.same (λ d. length (O.effects_of d) ≤ effects) seen (O.script job) decision (bounded.effects job right) come
+
+  within_on : (enough : ℕ) (a : AttemptOf O) (to : Result Decision (Wanted Lock ℕ)) → O.IsJob a.job → come_to O a ≡ to → HasRoom enough a → IsWithin enough (goes_on O a to)
+  within_on enough a (Ok decision) right come room = omega (arith, few_effects a.job (seen_of a) decision right come, room.fits)
+  within_on enough a (Err (Seize lock)) right come room = record { more_tests = room.more_tests; more_seizings = room.more_seizings; asks = room.asks; fits = room.fits }
+  within_on enough a (Err (Test word)) right come room = record { more_tests = room.more_tests; more_seizings = room.more_seizings; asks = room.asks; fits = room.fits }
+
+  -- an attempt has room for a whole job besides what it holds
+  pub room_anywhere : (a : AttemptOf O) → O.IsJob a.job → HasRoom (whole_job + length a.held) a
+  room_anywhere a right = record { more_tests = tests; more_seizings = seizings; asks = left_asks O.same (λ lock. (is.same lock lock).1 refl) (seen_of a) tests seizings (O.script a.job) (bounded.asks a.job right); fits = omega arith }
+
+  pub within_begin : (enough : ℕ) (job : Job) → O.IsJob job → whole_job ≤ enough → IsWithin enough (begin O job)
+  within_begin enough job right fits =
+      let room = room_anywhere (begin O job) right in
+      record { more_tests = room.more_tests; more_seizings = room.more_seizings; asks = room.asks; fits = omega (arith, room.fits) }
+
+  within_freed : (enough : ℕ) (a : AttemptOf O) (held : List Lock) → O.IsJob a.job → length held + whole_job ≤ enough → IsWithin enough (freed O a held)
+  within_freed enough a [] right fits = within_begin enough a.job right (omega arith)
+  within_freed enough a (lock ∷ held) right fits = fits
+
+  -- a lock that was wanted is held: one seizing less
+  pub room_seized : (enough : ℕ) (a : AttemptOf O) (lock : Lock) → come_to O a ≡ Err (Seize lock) → HasRoom (suc (suc enough)) a → HasRoom enough (record a { held = a.held ++ lock ∷ [] })
+  unfolding walk
+  room_seized enough a lock come room =
+      let more : Seen Lock = record { held = a.held ++ lock ∷ []; readings = a.readings } in
+      let self : (l : Lock) → O.same l l ≡ true = λ l. (is.same l l).1 refl in
+      let grows : Grows O.same self (seen_of a) more = record { held = λ l e. held_before O.same self a.held lock l e; readings = λ word value e. e } in
+      let one = seized_at O.same self (seen_of a) more lock room.more_tests room.more_seizings (O.script a.job) (left O.same (seen_of a) (O.script a.job)) grows (held_last O.same self a.held lock) refl come room.asks in
+      record {
+        more_tests = room.more_tests;
+        more_seizings = one.rest;
+        asks = one.asks;
+        fits = omega (arith, room.fits, one.one, length-append a.held (lock ∷ []));
+      }
+
+  -- a word that was wanted is read: one test less
+  room_read : (enough : ℕ) (a : AttemptOf O) (reading : Reading ℕ) → come_to O a ≡ Err (Test reading.word) → HasRoom (suc enough) a → HasRoom enough (record a { readings = a.readings ++ reading ∷ [] })
+  unfolding walk
+  room_read enough a reading come room =
+      let more : Seen Lock = record { held = a.held; readings = a.readings ++ reading ∷ [] } in
+      let self : (l : Lock) → O.same l l ≡ true = λ l. (is.same l l).1 refl in
+      let grows : Grows O.same self (seen_of a) more = record { held = λ l e. e; readings = λ word value e. read_before O.same self a.readings reading word value e } in
+      let one = read_at O.same self (seen_of a) more reading.word room.more_tests room.more_seizings (O.script a.job) (left O.same (seen_of a) (O.script a.job)) grows (read_last O.same self a.readings reading) refl come room.asks in
+      record {
+        more_tests = one.rest;
+        more_seizings = room.more_seizings;
+        asks = one.asks;
+        fits = omega (arith, room.fits, one.one);
+      }
+
+  -- the same room, counted from more
+  pub room_more : (enough more : ℕ) (a : AttemptOf O) → enough ≤ more → HasRoom enough a → HasRoom more a
+  room_more enough more a fits room = record { more_tests = room.more_tests; more_seizings = room.more_seizings; asks = room.asks; fits = omega (arith, room.fits) }
+
+  -- a step was made, so there is one less to make
+  pub record HasMadeOne (enough : ℕ) (a : AttemptOf O) : Type 0 where
+    pub less : ℕ
+    pub one : enough ≡ suc less
+    pub within : IsWithin less a
+
+  made_operated : (enough turn : ℕ) (a : AttemptOf O) (left : List Effect) (held : List Lock) → a.phase ≡ Operates turn → a.effects ≡ left → a.held ≡ held → length left + length held ≤ enough → IsAnswerTo (closing_act left held) Done → HasMadeOne enough (operated a left)
+  made_operated enough turn a [] [] at these those fits answer = absurd answer
+  made_operated enough turn a [] (lock ∷ held) at these those fits answer =
+      let none : length a.effects ≡ 0 = ap (length {A = Effect}) these in
+      let rest : length (rest_of a.held) ≡ length held = ap (λ (l : List Lock). length (rest_of l)) those in
+      record { less = enough - 1; one = omega arith; within = subst (WithinIn (enough - 1) (operated a [])) (sym at) (omega (arith, none, rest)) }
+  made_operated enough turn a (effect ∷ left) held at these those fits answer =
+      let all : length a.held ≡ length held = ap (length {A = Lock}) those in
+      record { less = enough - 1; one = omega arith; within = subst (WithinIn (enough - 1) (operated a (effect ∷ left))) (sym at) (omega (arith, all)) }
+
+  made_given : (enough : ℕ) (a : AttemptOf O) (held : List Lock) → a.held ≡ held → O.IsJob a.job → length held + whole_job ≤ enough → IsAnswerTo (free_act {Effect = Effect} held) Done → HasMadeOne enough (freed O a (rest_of held))
+  made_given enough a [] those right fits answer = absurd answer
+  made_given enough a (lock ∷ held) those right fits answer = record { less = enough - 1; one = omega arith; within = within_freed (enough - 1) a held right (omega arith) }
+
+  -- a steady answer to an attempt's step leaves one step less
+  pub made_in : (enough : ℕ) (a : AttemptOf O) (phase : Phase Lock ℕ) (answer : Answer) → O.IsJob a.job → a.phase ≡ phase → StandsIn O a phase → WithinIn enough a phase → IsAnswerTo (act_in phase a) answer → IsSteady answer → HasMadeOne enough (changed O a phase answer)
+  made_in enough a (Requests lock) (Asked word) right at stands room fits steady = record {
+    less = enough - 1;
+    one = omega (arith, room.fits);
+    within = record { more_tests = room.more_tests; more_seizings = room.more_seizings; asks = room.asks; fits = omega (arith, room.fits) };
+  }
+  made_in enough a (Requests lock) (Held holder) right at stands room fits steady = absurd steady
+  made_in enough a (Requests lock) (Preferred other) right at stands room fits steady = absurd steady
+  made_in enough a (Requests lock) answer right at stands room fits steady = absurd fits
+  made_in enough a (SeizesNext lock expected) Seized right at stands room fits steady =
+      let b : AttemptOf O = record a { held = a.held ++ lock ∷ [] } in
+      let after = room_seized (enough - 1) a lock stands (room_more (suc enough) (suc (suc (enough - 1))) a (omega arith) room) in
+      record { less = enough - 1; one = omega (arith, after.fits); within = within_on (enough - 1) b (come_to O b) right refl after }
+  made_in enough a (SeizesNext lock expected) (Held holder) right at stands room fits steady = absurd steady
+  made_in enough a (SeizesNext lock expected) (Preferred other) right at stands room fits steady = absurd steady
+  made_in enough a (SeizesNext lock expected) (Again word) right at stands room fits steady = absurd steady
+  made_in enough a (SeizesNext lock expected) answer right at stands room fits steady = absurd fits
+  made_in enough a (TestsNext word) (Value value) right at stands room fits steady =
+      let reading : Reading ℕ = record { word = word; value = value } in
+      let b : AttemptOf O = record a { readings = a.readings ++ reading ∷ [] } in
+      let after = room_read (enough - 1) a reading stands (room_more enough (suc (enough - 1)) a (omega arith) room) in
+      record { less = enough - 1; one = omega (arith, room.fits); within = within_on (enough - 1) b (come_to O b) right refl after }
+  made_in enough a (TestsNext word) answer right at stands room fits steady = absurd fits
+  made_in enough a Turns (TurnNumber number) right at stands room fits steady = record { less = enough - 1; one = omega arith; within = omega arith }
+  made_in enough a Turns answer right at stands room fits steady = absurd fits
+  made_in enough a (Withdraws lock) Done right at stands room fits steady = record { less = enough - 1; one = omega arith; within = within_freed (enough - 1) a a.held right (omega arith) }
+  made_in enough a (Withdraws lock) answer right at stands room fits steady = absurd fits
+  made_in enough a GivesBack Done right at stands room fits steady = made_given enough a a.held refl right room fits
+  made_in enough a GivesBack answer right at stands room fits steady = let done : answer ≡ Done = free_done Effect a.held answer fits in absurd cc
+  made_in enough a (Operates turn) Done right at stands room fits steady = made_operated enough turn a a.effects a.held at refl refl room fits
+  made_in enough a (Operates turn) answer right at stands room fits steady = let done : answer ≡ Done = closing_done a.effects a.held answer fits in absurd cc
+
+  pub made_one : (enough : ℕ) (a : AttemptOf O) (answer : Answer) → O.IsJob a.job → Stands O a → IsWithin enough a → IsAnswerTo (act a) answer → IsSteady answer → HasMadeOne enough (change O a answer)
+  made_one enough a answer right stands within fits steady = made_in enough a a.phase answer right refl stands within fits steady
+
+  -- steady answers, one after another, are no more than are enough
+  pub steady_within : (enough : ℕ) (a : AttemptOf O) (answers : List Answer) → O.IsJob a.job → Stands O a → IsWithin enough a → AreSteady O a answers → length answers ≤ enough
+  steady_within enough a [] right stands within steady = omega arith
+  steady_within enough a (answer ∷ answers) right stands within (fits, steady, later) =
+      let one = made_one enough a answer right stands within fits steady in
+      let rest = steady_within one.less (change O a answer) answers (job_stays O a answer right) (stands_change O is a answer right stands) one.within later in
+      omega (arith, one.one, rest)
+
+  -- wherever it is, an attempt ends in a whole job's steps once what it holds is freed
+  within_in : (a : AttemptOf O) (phase : Phase Lock ℕ) → O.IsJob a.job → StandsIn O a phase → WithinIn (1 + length a.held + whole_job) a phase
+  within_in a (Requests lock) right stands = room_more (whole_job + length a.held) (1 + length a.held + whole_job) a (omega arith) (room_anywhere a right)
+  within_in a (SeizesNext lock expected) right stands = room_more (whole_job + length a.held) (suc (1 + length a.held + whole_job)) a (omega arith) (room_anywhere a right)
+  within_in a (TestsNext word) right stands = room_more (whole_job + length a.held) (1 + length a.held + whole_job) a (omega arith) (room_anywhere a right)
+  within_in a Turns right stands = omega (arith, ap (length {A = Effect}) stands.effects, few_effects a.job (seen_of a) stands.decision right stands.come)
+  within_in a (Withdraws lock) right stands = omega arith
+  within_in a GivesBack right stands = omega arith
+  within_in a (Operates turn) right stands =
+      omega (arith, ap (length {A = Effect}) stands.effects, length-append stands.made a.effects, few_effects a.job stands.seen stands.decision right stands.come)
+
+  pub within_anywhere : (a : AttemptOf O) → O.IsJob a.job → Stands O a → IsWithin (1 + length a.held + whole_job) a
+  within_anywhere a right stands = within_in a a.phase right stands

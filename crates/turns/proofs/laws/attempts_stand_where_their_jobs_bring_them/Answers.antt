@@ -1,0 +1,11 @@
+use Rattle.turns.proofs.Standing.{stands_begin, stands_change, stands_restarted}
+use Rattle.turns.proofs.laws.attempts_stand_where_their_jobs_bring_them.Goals as goal
+
+pub returns-clause-begins : goal.returns-clause-begins
+returns-clause-begins g c = λ setting job is right. stands_begin (g.F.Family.system setting) is job right
+
+pub returns-clause-changes : goal.returns-clause-changes
+returns-clause-changes g c = λ setting a answer is right stands. stands_change (g.F.Family.system setting) is a answer right stands
+
+pub returns-clause-restarts : goal.returns-clause-restarts
+returns-clause-restarts g c = λ setting a is right stands. stands_restarted (g.F.Family.system setting) is a right stands

@@ -1,0 +1,115 @@
+use Rattle.std.specs.Prelude.{◌≡◌, ◌↔◌, ℕ, suc, ◌<◌, ◌≤◌, ◌^◌, ◌%◌, true, Some, List, [], ◌∷◌, length, slice_index, slice_get, ⊤}
+use mathlib.Core.Option.{some}
+use lib.ListN.{get_elem?}
+use Rattle.turns.specs.Among.{IsIn, AreDistinct}
+use Rattle.turns.specs.System.{System, IsUnder, AreUnder, AreDue}
+use Rattle.turns.specs.Attempt.{AttemptOf, Rest, Stands, act, read_in, request_in}
+use Rattle.turns.specs.World.{World, ActorOf, Idle, Does, RecordOf, completed, after}
+use Rattle.turns.specs.declared.judgement.Judgement.TheVariants.{Free}
+use Rattle.turns.specs.declared.phase.Phase.{Phase}
+use Rattle.turns.specs.declared.phase.Phase.TheVariants.{Requests, Seizes, Tests, Turns, Withdraws, GivesBack, Operates}
+use Rattle.turns.specs.declared.reading.Reading.{Reading}
+
+module _ (O : System) where
+  open O use {Lock, Job, State, Effect, IsLock, IsJob, lock_word, sharing, whole, Shows}
+
+  -- a lock's own word; who holds the lock, by its word
+  abbrev pub word_at : List ℕ → Lock → ℕ
+  word_at words lock = slice_index words (lock_word lock)
+
+  abbrev pub holder_at : List ℕ → Lock → ℕ
+  holder_at words lock = sharing.holder (word_at words lock)
+
+  -- records from number i and a state on: each has its number as its turn, and the reply of its job done whole on the state after those before
+  abbrev pub IsLegal : ℕ → State → List (RecordOf O) → Type 0
+  IsLegal i state [] = ⊤
+  IsLegal i state (r ∷ order) = IsJob r.job × (r.turn ≡ i % 2 ^ 64) × (r.reply ≡ (whole state r.job).reply) × IsLegal (suc i) (whole state r.job).state order
+
+  -- actor k's turn stands in the order, at the place that its number tells, with its job and reply
+  pub record IsRecorded (order : List (RecordOf O)) (k number turn : ℕ) (a : AttemptOf O) : Type 0 where
+    pub place : ℕ
+    pub recorded : RecordOf O
+    pub stands : slice_get order place ≡ Some recorded
+    pub turn_is : recorded.turn ≡ turn
+    pub actor : recorded.actor ≡ k
+    pub number_is : recorded.number ≡ number
+    pub job : recorded.job ≡ a.job
+    pub reply : a.reply ≡ Some recorded.reply
+
+  -- past its turn: the effects that are left are under what is held, each is due, and the turn is recorded
+  pub record IsOperating (words : List ℕ) (order : List (RecordOf O)) (k number turn : ℕ) (a : AttemptOf O) : Type 0 where
+    pub under : AreUnder O a.held a.effects
+    pub due : AreDue O words a.effects
+    pub recorded : IsRecorded order k number turn a
+
+  -- what is expected of a lock's word is a word by which actor k, whose request stands there, may seize it
+  pub record MaySeize (k expected : ℕ) : Type 0 where
+    pub is_word : sharing.IsWord expected
+    pub requested : sharing.requests k expected ≡ true
+    pub free : sharing.judged k expected ≡ Free
+
+  -- what a phase adds to it
+  abbrev pub FitsIn : World O → ℕ → ℕ → AttemptOf O → Phase Lock ℕ → Type 0
+  FitsIn w k number a (Requests lock) = IsLock lock
+  FitsIn w k number a (Seizes lock expected) = IsLock lock × MaySeize k expected
+  FitsIn w k number a (Tests word) = IsUnder O a.held word
+  FitsIn w k number a Turns = AreUnder O a.held a.effects
+  FitsIn w k number a (Withdraws lock) = ⊤
+  FitsIn w k number a GivesBack = ⊤
+  FitsIn w k number a (Operates turn) = IsOperating w.words w.order k number turn a
+
+  -- a reading is what its word has, and its lock is held
+  pub record IsRead (words : List ℕ) (held : List Lock) (r : Reading ℕ) : Type 0 where
+    pub value : slice_index words r.word ≡ r.value
+    pub under : IsUnder O held r.word
+
+  -- a lock is the system's, and its word names actor k
+  pub record IsHeld (words : List ℕ) (k : ℕ) (lock : Lock) : Type 0 where
+    pub there : IsLock lock
+    pub names : holder_at words lock ≡ suc k
+
+  -- what holds of actor k's attempt at the job of a number
+  pub record IsSound (w : World O) (k number : ℕ) (a : AttemptOf O) : Type 0 where
+    pub job : IsJob a.job
+    pub held : (lock : Lock) → IsIn lock a.held → IsHeld w.words k lock
+    pub distinct : AreDistinct a.held
+    pub read : (r : Reading ℕ) → IsIn r (read_in a.phase a.readings) → IsRead w.words a.held r
+    pub stands : Stands O a
+    pub fits : FitsIn w k number a a.phase
+
+  -- actor k holds the lock
+  pub record Holds (actors : List (ActorOf O)) (k : ℕ) (lock : Lock) : Type 0 where
+    pub number : ℕ
+    pub attempt : AttemptOf O
+    pub does : get_elem? actors k ≡ some (Does number attempt)
+    pub held : IsIn lock attempt.held
+
+  -- actor k's request for the lock stands: it requested it, and has neither seized it nor withdrawn
+  pub record HasRequested (actors : List (ActorOf O)) (k : ℕ) (lock : Lock) : Type 0 where
+    pub number : ℕ
+    pub attempt : AttemptOf O
+    pub does : get_elem? actors k ≡ some (Does number attempt)
+    pub requests : request_in attempt.phase ≡ Some lock
+
+  -- a lock's word is that of a lock, a holder it names holds it, and a request stands in it exactly where it was made
+  pub record IsShared (w : World O) (lock : Lock) : Type 0 where
+    pub is_word : sharing.IsWord (word_at w.words lock)
+    pub named : (k : ℕ) → holder_at w.words lock ≡ suc k → Holds w.actors k lock
+    pub requested : (k : ℕ) → k < sharing.most → (sharing.requests k (word_at w.words lock) ≡ true) ↔ HasRequested w.actors k lock
+
+  -- a world that the system can come to
+  pub record Lawful (w : World O) : Type 0 where
+    pub few : length w.actors ≤ sharing.most
+    pub size : length w.words ≡ O.size
+    pub turn : slice_index w.words O.turn_word ≡ length w.order % 2 ^ 64
+    -- the order is legal, and the words, completed, show the state after it
+    pub legal : IsLegal 0 O.opening w.order
+    pub shows : Shows (completed O w) (after O O.opening w.order)
+    -- each actor is sound, and each lock's word tells the truth
+    pub sound : (k number : ℕ) (a : AttemptOf O) → get_elem? w.actors k ≡ some (Does number a) → IsSound w k number a
+    pub shared : (lock : Lock) → IsLock lock → IsShared w lock
+
+  -- an actor to which a job may be assigned
+  abbrev pub IsFree : ActorOf O → Type 0
+  IsFree Idle = ⊤
+  IsFree (Does number a) = act a ≡ Rest

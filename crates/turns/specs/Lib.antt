@@ -1,0 +1,11 @@
+pub mod Among
+pub mod Seen
+pub mod Script
+pub mod Sharing
+pub mod System
+pub mod Attempt
+pub mod World
+pub mod Law
+pub mod Runs
+pub mod Sharings
+pub mod Bounds

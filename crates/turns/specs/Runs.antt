@@ -1,0 +1,59 @@
+use Rattle.std.specs.Prelude.{ℕ, Bool, true, false, List, [], ◌∷◌, ⊤, if◌then◌else◌}
+use mathlib.Core.Option.{Option, some, none}
+use lib.ListN.{get_elem?}
+use Rattle.turns.specs.System.{System}
+use Rattle.turns.specs.Attempt.{Act, Rest, act}
+use Rattle.turns.specs.World.{World, ActorOf, Idle, Does, moved, assigned, given_back, opened}
+
+-- what may happen next: a job is assigned to an actor under a number, an actor makes its next step, or it gives back
+pub data Move (Job : Type 0) : Type 0 where
+  Assigns : ℕ → ℕ → Job → Move Job
+  Steps : ℕ → Move Job
+  Backs : ℕ → Move Job
+
+abbrev pub is_rest : {Lock Effect : Type 0} → Act Lock Effect → Bool
+is_rest Rest = true
+is_rest _ = false
+
+module _ (O : System) where
+  abbrev pub is_free : ActorOf O → Bool
+  is_free Idle = true
+  is_free (Does number a) = is_rest (act a)
+
+  -- at the actor of this number, if there is one; a job goes to a free actor only
+  abbrev pub assigned_at : ℕ → ℕ → O.Job → Option (ActorOf O) → World O → World O
+  assigned_at k number job none w = w
+  assigned_at k number job (some m) w = if is_free m then assigned O k number job w else w
+
+  abbrev pub stepped_at : ℕ → Option (ActorOf O) → World O → World O
+  stepped_at k none w = w
+  stepped_at k (some Idle) w = w
+  stepped_at k (some (Does number a)) w = moved O k number a w
+
+  abbrev pub backed_at : ℕ → Option (ActorOf O) → World O → World O
+  backed_at k none w = w
+  backed_at k (some Idle) w = w
+  backed_at k (some (Does number a)) w = given_back O k number a w
+
+  abbrev pub made_by : World O → Move O.Job → World O
+  made_by w (Assigns k number job) = assigned_at k number job (get_elem? w.actors k) w
+  made_by w (Steps k) = stepped_at k (get_elem? w.actors k) w
+  made_by w (Backs k) = backed_at k (get_elem? w.actors k) w
+
+  -- moves of any actors, one after another
+  abbrev pub run_from : World O → List (Move O.Job) → World O
+  run_from w [] = w
+  run_from w (move ∷ moves) = run_from (made_by w move) moves
+
+  -- a run of so many actors
+  abbrev pub run_of : ℕ → List (Move O.Job) → World O
+  run_of count moves = run_from (opened O count) moves
+
+  abbrev pub IsMove : Move O.Job → Type 0
+  IsMove (Assigns k number job) = O.IsJob job
+  IsMove (Steps k) = ⊤
+  IsMove (Backs k) = ⊤
+
+  abbrev pub AreMoves : List (Move O.Job) → Type 0
+  AreMoves [] = ⊤
+  AreMoves (move ∷ moves) = IsMove move × AreMoves moves

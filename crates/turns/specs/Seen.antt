@@ -1,0 +1,12 @@
+use Rattle.std.specs.Prelude.{◌≡◌, ℕ, List, slice_index}
+use Rattle.turns.specs.Among.{IsIn}
+use Rattle.turns.specs.declared.reading.Reading.{Reading}
+
+-- what an attempt has come by: the locks that it holds, in the order of seizing, and what it has read, in the order of reading
+pub record Seen (Lock : Type 0) : Type 0 where
+  pub held : List Lock
+  pub readings : List (Reading ℕ)
+
+-- each reading is what its word has
+abbrev pub AreReadFrom : List ℕ → List (Reading ℕ) → Type 0
+AreReadFrom words readings = (r : Reading ℕ) → IsIn r readings → slice_index words r.word ≡ r.value

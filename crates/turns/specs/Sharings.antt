@@ -1,0 +1,56 @@
+use Rattle.std.specs.Prelude.{◌≡◌, ℕ, zero, suc, ◌+◌, ◌-◌, ◌<◌, ◌≤◌, ◌^◌, ◌%◌, ◌==◌, ◌⊎◌, Option, Some, None, if◌then◌else◌, bit_and, bit_or}
+use Rattle.std.specs.Int.{bit_at}
+use Rattle.turns.specs.Sharing.{Sharing}
+use Rattle.turns.specs.declared.judgement.Judgement.{Judgement}
+use Rattle.turns.specs.declared.judgement.Judgement.TheVariants.{Free, Held, Preferred}
+
+-- an actor's request is a bit of its own, above the lowest eight
+abbrev pub request_bit : ℕ → ℕ
+request_bit k = 2 ^ (8 + k)
+
+-- the first of the actors j, j + 1, .., `count` of them, whose request stands in a word
+abbrev pub first_request : ℕ → ℕ → ℕ → Option ℕ
+first_request word j zero = None
+first_request word j (suc count) = if bit_at word (8 + j) == 1 then Some j else first_request word (suc j) count
+
+-- the least actor below this one whose request stands in a word
+unfoldable pub lower_request : ℕ → ℕ → Option ℕ
+lower_request k word = first_request word 0 k
+
+-- nobody holds the lock: the least lower actor that requests it is preferred
+abbrev pub by_request : Option ℕ → Judgement
+by_request None = Free
+by_request (Some other) = Preferred other
+
+-- the lowest six bits are 0, or one more than the number of the actor that holds the lock
+abbrev pub by_holder : ℕ → Option ℕ → Judgement
+by_holder zero lower = by_request lower
+by_holder (suc holder) lower = Held holder
+
+-- what a lock's word says to an actor that requests it
+unfoldable pub judged : ℕ → ℕ → Judgement
+judged k word = by_holder (word % 64) (lower_request k word)
+
+-- the own request becomes the own hold
+abbrev pub taken_by : ℕ → ℕ → ℕ
+taken_by k word = bit_or (bit_and word (2 ^ 64 - 1 - request_bit k)) (1 + k)
+
+-- a lock's word: the lowest six bits name a holder of 48, each of the bits 8 to 55 is a request, and no other bit is set
+pub record IsLockWord (word : ℕ) : Type 0 where
+  pub holder : word % 64 ≤ 48
+  pub bits : (i : ℕ) → bit_at word i ≡ 1 → (i < 6) ⊎ ((8 ≤ i) × (i < 56))
+  pub below : word < 2 ^ 64
+
+-- up to 48 actors; of those that request a lock that nobody holds, the lowest is preferred
+abbrev pub preferring : Sharing
+preferring = record {
+  most = 48;
+  IsWord = IsLockWord;
+  holder = λ word. word % 64;
+  requests = λ k word. bit_at word (8 + k) == 1;
+  asked = λ k word. bit_or word (request_bit k);
+  withdrawn = λ k word. bit_and word (2 ^ 64 - 1 - request_bit k);
+  taken = taken_by;
+  freed = λ word. bit_and word (2 ^ 64 - 1 - 63);
+  judged = judged;
+}

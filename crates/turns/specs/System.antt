@@ -1,0 +1,116 @@
+use Rattle.std.specs.Prelude.{◌≡◌, ◌↔◌, ℕ, ◌<◌, Bool, true, List, [], ◌∷◌, ◌++◌, length, fold, replicate, slice_index, slice_set, ⊤, Err}
+use Rattle.turns.specs.Among.{IsIn}
+use Rattle.turns.specs.Script.{Script, Ends, Tests, Seizes, run, first_wanted}
+use Rattle.turns.specs.Sharing.{Sharing, IsSharing}
+use Rattle.turns.specs.declared.wanted.Wanted.TheVariants.{Seize}
+
+-- the state that a job leaves, and its reply
+pub record Whole (State Reply : Type 0) : Type 0 where
+  pub state : State
+  pub reply : Reply
+
+-- a system of jobs: what they do one after another, what they do step by step, and the words that they do it on
+pub record System : Type 1 where
+  -- the jobs one after another, from the opening state on
+  pub Job : Type 0
+  pub IsJob : Job → Type 0
+  pub State : Type 0
+  pub Reply : Type 0
+  pub opening : State
+  pub whole : State → Job → Whole State Reply
+  -- the jobs step by step: the lock that a job seizes first, and what it does until it decides
+  pub Lock : Type 0
+  pub IsLock : Lock → Type 0
+  pub same : Lock → Lock → Bool
+  pub Decision : Type 0
+  pub first : Job → Lock
+  pub script : Job → Script Lock Decision
+  -- a decision's reply, and its effects in their order
+  pub Effect : Type 0
+  pub reply_of : Decision → Reply
+  pub effects_of : Decision → List Effect
+  -- an effect's word, what it makes of the number found there, and the number that it must find
+  pub effect_word : Effect → ℕ
+  pub effect_on : Effect → ℕ → ℕ
+  pub Due : Effect → ℕ → Type 0
+  -- the words: how many there are, which lock protects a word, where each lock's own word stands and how it is shared, the turn word
+  pub size : ℕ
+  pub Protects : Lock → ℕ → Type 0
+  pub lock_word : Lock → ℕ
+  pub sharing : Sharing
+  pub turn_word : ℕ
+  -- these words show this state
+  pub Shows : List ℕ → State → Type 0
+
+module _ (O : System) where
+  open O use {Lock, Job, State, Reply, Effect, Decision, IsLock, Protects, effect_word, effect_on, Due, effects_of, reply_of, size}
+
+  -- the word is one that some of these locks protects
+  pub record IsUnder (locks : List Lock) (number : ℕ) : Type 0 where
+    pub lock : Lock
+    pub protects : Protects lock number
+    pub held : IsIn lock locks
+
+  -- each effect changes a word that some of these locks protects
+  abbrev pub AreUnder : List Lock → List Effect → Type 0
+  AreUnder held effects = (effect : Effect) → IsIn effect effects → IsUnder held (effect_word effect)
+
+  -- with these locks held, a script tests only words that what is seized by then protects, and its ends fit what is held then
+  unfoldable pub KeepsTo : {A : Type 0} → (List Lock → A → Type 0) → List Lock → Script Lock A → Type 0
+  KeepsTo Fits held (Ends found) = Fits held found
+  KeepsTo Fits held (Tests word script) = IsUnder held word × ((value : ℕ) → KeepsTo Fits held (script value))
+  KeepsTo Fits held (Seizes lock script) = IsLock lock × KeepsTo Fits (held ++ lock ∷ []) script
+
+  -- a decision has effects on words that some of these locks protects
+  abbrev pub DecidesUnder : List Lock → Decision → Type 0
+  DecidesUnder held decision = AreUnder held (effects_of decision)
+
+  -- the words after an effect, and after effects one after another
+  abbrev pub perform : List ℕ → Effect → List ℕ
+  perform words effect = slice_set words (effect_word effect) (effect_on effect (slice_index words (effect_word effect)))
+
+  unfoldable pub perform_all : List ℕ → List Effect → List ℕ
+  perform_all words effects = fold perform words effects
+
+  -- each effect finds what it must when it is made
+  abbrev pub AreDue : List ℕ → List Effect → Type 0
+  AreDue words [] = ⊤
+  AreDue words (effect ∷ effects) = Due effect (slice_index words (effect_word effect)) × AreDue (perform words effect) effects
+
+  -- a decision is that of the job done whole: its reply, and effects that lead to words that show its state
+  pub record DecidesAs (words : List ℕ) (after : Whole State Reply) (decision : Decision) : Type 0 where
+    pub reply : reply_of decision ≡ after.reply
+    pub shows : O.Shows (perform_all words (effects_of decision)) after.state
+    pub due : AreDue words (effects_of decision)
+
+  -- two lists of words have the same under every lock
+  pub record AreAlike (words other : List ℕ) : Type 0 where
+    pub this_length : length words ≡ size
+    pub that_length : length other ≡ size
+    pub under : (number : ℕ) (lock : Lock) → Protects lock number → slice_index words number ≡ slice_index other number
+
+  -- where the words stand: all within `size`, a lock's own word and the turn word under no lock, each word under at most one
+  pub record AreApart : Type 0 where
+    pub one_lock_word : (a b : Lock) → IsLock a → IsLock b → O.lock_word a ≡ O.lock_word b → a ≡ b
+    pub lock_word_there : (a : Lock) → IsLock a → O.lock_word a < size
+    pub lock_word_bare : (a lock : Lock) → IsLock a → ¬ Protects lock (O.lock_word a)
+    pub turn_there : O.turn_word < size
+    pub turn_bare : (lock : Lock) → ¬ Protects lock O.turn_word
+    pub turn_apart : (a : Lock) → IsLock a → ¬ (O.lock_word a ≡ O.turn_word)
+    pub word_there : (number : ℕ) (lock : Lock) → Protects lock number → number < size
+    pub lock_there : (number : ℕ) (lock : Lock) → Protects lock number → IsLock lock
+    pub one_protector : (number : ℕ) (a b : Lock) → Protects a number → Protects b number → a ≡ b
+
+  -- what must hold of a system
+  pub record IsSystem : Type 0 where
+    pub sharing : IsSharing O.sharing
+    pub same : (a b : Lock) → (O.same a b ≡ true) ↔ (a ≡ b)
+    pub words : AreApart
+    -- a job seizes its first lock first, and keeps to what it holds
+    pub first : (job : Job) → O.IsJob job → first_wanted (O.script job) ≡ Err (Seize (O.first job))
+    pub keeps : (job : Job) → O.IsJob job → KeepsTo DecidesUnder [] (O.script job)
+    -- run alone on words that show a state, a job decides as it does whole
+    pub decides : (job : Job) (words : List ℕ) (state : State) → O.IsJob job → length words ≡ size → O.Shows words state → DecidesAs words (O.whole state job) (run words (O.script job))
+    -- what words show is told by the words under locks; words of 0 show the opening state
+    pub looks : (words other : List ℕ) (state : State) → AreAlike words other → O.Shows words state → O.Shows other state
+    pub opens : O.Shows (replicate size 0) O.opening

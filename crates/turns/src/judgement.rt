@@ -1,0 +1,73 @@
+ghost use Rattle.std.specs.Prelude.{◌≡◌, ◌<◌};
+ghost use Rattle.turns.specs.Sharings.{judged, preferring, lower_request as lower_request_of};
+
+/// What a lock's word says to an actor that requests the lock.
+#[derive(Clone, Copy, Debug, PartialEq, Eq)]
+pub enum Judgement {
+    /// It may go on.
+    Free,
+    /// This actor holds the lock.
+    Held(u32),
+    /// Nobody holds it, but this actor of a lower number requests it too.
+    Preferred(u32),
+}
+
+fn requests(actor: u32, word: u64) -> bool
+    requires { actor < 48 }
+    ensures { result ≡ preferring.requests actor word }
+{
+    word >> (8 + actor) & 1 == 1
+}
+
+fn lower_request(actor: u32, word: u64) -> Option<u32>
+    requires { actor < 48 }
+    ensures { result ≡ lower_request_of actor word }
+{
+    for other in 0..actor {
+        if requests(other, word) {
+            return Some(other);
+        }
+    }
+    None
+}
+
+impl Judgement {
+    /// Judges the word of a lock that is shared by requests and preference, for an actor below 48.
+    #[tactic(auto, unfolding(crate::specs::Sharings::judged))]
+    pub fn of(actor: u32, word: u64) -> Self
+        requires { actor < 48 }
+        ensures { result ≡ judged actor word }
+    {
+        let holder = (word % 64) as u32;
+        if holder > 0 {
+            return Judgement::Held(holder - 1);
+        }
+        match lower_request(actor, word) {
+            None => Judgement::Free,
+            Some(other) => Judgement::Preferred(other),
+        }
+    }
+}
+
+#[cfg(test)]
+mod tests {
+    use super::*;
+
+    #[test]
+    fn judges_a_word(rt: HostRuntime) {
+        let both = 1 << (8 + 2) | 1 << (8 + 5);
+        for (actor, word, want) in [
+            (0, 0, Judgement::Free),
+            (0, 3, Judgement::Held(2)),
+            (2, both, Judgement::Free),
+            (5, both, Judgement::Preferred(2)),
+            (5, both | 48, Judgement::Held(47)),
+        ] {
+            assert_eq!(rt;
+                Judgement::of(actor, word),
+                want,
+                "actor {actor}, word {word}"
+            );
+        }
+    }
+}

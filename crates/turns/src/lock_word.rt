@@ -1,0 +1,59 @@
+//! The word of a lock that up to 48 actors share by requests and preference: the lowest six bits are 0, or
+//! one more than the number of the actor that holds the lock, and bit 8 + `actor` is the actor's request.
+
+ghost use Rattle.std.specs.Prelude.{◌≡◌, ◌<◌};
+ghost use Rattle.turns.specs.Sharings.{preferring, request_bit as request_bit_of, taken_by as taken_by_of};
+
+/// The bit of an actor's request.
+pub fn request_bit(actor: u32) -> u64
+    requires { actor < 48 }
+    ensures { result ≡ request_bit_of actor }
+{
+    1 << (8 + actor)
+}
+
+/// The word with the actor's request.
+pub fn asked_by(actor: u32, word: u64) -> u64
+    requires { actor < 48 }
+    ensures { result ≡ preferring.asked actor word }
+{
+    word | request_bit(actor)
+}
+
+/// The word without the actor's request.
+pub fn withdrawn_by(actor: u32, word: u64) -> u64
+    requires { actor < 48 }
+    ensures { result ≡ preferring.withdrawn actor word }
+{
+    word & !request_bit(actor)
+}
+
+/// The word once the actor has seized the lock, which nobody held: its request becomes its hold.
+pub fn taken_by(actor: u32, word: u64) -> u64
+    requires { actor < 48 }
+    ensures { result ≡ taken_by_of actor word }
+{
+    withdrawn_by(actor, word) | u64::from(1 + actor)
+}
+
+/// The word once its holder has freed the lock.
+pub fn freed(word: u64) -> u64
+    ensures { result ≡ preferring.freed word }
+{
+    word & !63
+}
+
+#[cfg(test)]
+mod tests {
+    use super::*;
+
+    #[test]
+    fn passes_a_lock_on(rt: HostRuntime) {
+        let asked = asked_by(3, asked_by(0, 0));
+        assert_eq!(rt; asked, 0b1001 << 8);
+        let taken = taken_by(0, asked);
+        assert_eq!(rt; taken, 0b1000 << 8 | 1);
+        assert_eq!(rt; freed(taken), 0b1000 << 8);
+        assert_eq!(rt; withdrawn_by(3, taken), 1);
+    }
+}
