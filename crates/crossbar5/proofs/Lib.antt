@@ -1,13 +1,4 @@
-pub mod ShownWords
-pub mod LegalRecords
-pub mod WantedConns
-pub mod OtherWords
-pub mod ConnWords
-pub mod Holding
-pub mod StepsBeforeTurn
-pub mod StepsFromTurn
-pub mod EachStep
-pub mod ManySteps
+pub mod OneActor
 pub mod OneHistory
 pub mod Steps
 pub mod RunRows

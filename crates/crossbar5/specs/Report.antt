@@ -1,13 +1,16 @@
-use Rattle.std.specs.Prelude.{ℕ, List, [], ◌∷◌, ◌++◌, codes, decimal, flat_map}
+use Rattle.std.specs.Prelude.{ℕ, Option, List, [], ◌∷◌, ◌++◌, codes, decimal, flat_map}
 use Rattle.std.specs.List.{join_with_byte}
+use Rattle.std.specs.Option.{option_map_or}
+use Rattle.xbar_equip.specs.Dialled.{dialled_text}
 use Rattle.xbar_equip.specs.Len.{line_text}
 use Rattle.xbar_equip.specs.Link.{link_text}
 use Rattle.xbar_equip.specs.Path.{path_text}
+use Rattle.xbar_equip.specs.declared.path.Path.{Path}
 use Rattle.xbar_office.specs.declared.job.Job.{Job}
-use Rattle.xbar_office.specs.declared.job.Job.TheVariants.{Dial}
+use Rattle.xbar_office.specs.declared.job.Job.TheVariants.{Dial, Complete, Release}
 use Rattle.xbar_office.specs.declared.reply.Card.{Card}
 use Rattle.xbar_office.specs.declared.reply.End.{End}
-use Rattle.xbar_office.specs.declared.reply.End.TheVariants.{DialTone, LineBusy, RegistersBusy, NoPath, Trouble}
+use Rattle.xbar_office.specs.declared.reply.End.TheVariants.{DialTone, Connected, Released, CalledBusy, LineBusy, RegistersBusy, TrunksBusy, NoPath, Trouble, VacantCode, VacantNumber, NoRegister, NoCall}
 use Rattle.xbar_office.specs.declared.reply.Record.{Record}
 
 -- fields, parted by commas
@@ -21,6 +24,12 @@ nothing = codes "-"
 -- the fields of a job: kind, line, dialled
 abbrev pub job_fields : Job → List ℕ
 job_fields (Dial line) = fields (codes "D" ∷ line_text line ∷ nothing ∷ [])
+job_fields (Complete line dialled) = fields (codes "C" ∷ line_text line ∷ dialled_text dialled ∷ [])
+job_fields (Release line) = fields (codes "R" ∷ line_text line ∷ nothing ∷ [])
+
+-- the field of a path, if there is one
+abbrev pub path_field : Option Path → List ℕ
+path_field path = option_map_or path_text path nothing
 
 -- the fields of an end that has neither a trial nor a path
 abbrev pub plain_end_fields : List ℕ → List ℕ
@@ -29,10 +38,18 @@ plain_end_fields name = fields (name ∷ nothing ∷ nothing ∷ nothing ∷ [])
 -- the fields of an end: its name, trial, first path, second path
 abbrev pub end_fields : End → List ℕ
 end_fields (DialTone path trial) = fields (codes "DIALTONE" ∷ decimal trial ∷ path_text path ∷ nothing ∷ [])
+end_fields (Connected calling called trial) = fields (codes "CONNECTED" ∷ decimal trial ∷ path_text calling ∷ path_field called ∷ [])
+end_fields (Released own other) = fields (codes "RELEASED" ∷ nothing ∷ path_text own ∷ path_field other ∷ [])
+end_fields CalledBusy = plain_end_fields (codes "CALLEDBUSY")
 end_fields LineBusy = plain_end_fields (codes "LINEBUSY")
 end_fields RegistersBusy = plain_end_fields (codes "REGISTERSBUSY")
+end_fields TrunksBusy = plain_end_fields (codes "TRUNKSBUSY")
 end_fields NoPath = plain_end_fields (codes "NOPATH")
 end_fields Trouble = plain_end_fields (codes "TROUBLE")
+end_fields VacantCode = plain_end_fields (codes "VACANTCODE")
+end_fields VacantNumber = plain_end_fields (codes "VACANTNUMBER")
+end_fields NoRegister = plain_end_fields (codes "NOREGISTER")
+end_fields NoCall = plain_end_fields (codes "NOCALL")
 
 -- a line of these fields
 abbrev pub line_with : List (List ℕ) → List ℕ

@@ -1,6 +1,8 @@
-use Rattle.std.specs.Prelude.{◌≡◌, ℕ, ◌+◌, Option, Some, None, List, [], ◌∷◌, ⊤}
+use Rattle.std.specs.Prelude.{◌≡◌, ℕ, ◌+◌, ◌*◌, length, Option, Some, None, List, [], ◌∷◌, ⊤}
 use Rattle.csv.specs.Reading.{default_config, records as csv_records, strip_bom}
 use Rattle.xbar_plan.specs.Tables.{Tables}
+use Rattle.xbar_equip.specs.Word.{TurnWord}
+use Rattle.xbar_match.specs.Switches.{word_of}
 use Rattle.xbar_match.specs.Counts.{closed_line_fields, closed_switch_fields}
 use Rattle.xbar_office.specs.Legal.{IsLegal, after}
 use Rattle.xbar_jobs.specs.Office.{ShowsOffice}
@@ -55,11 +57,15 @@ pub record IsWrittenOf (came : Outcome) (text : List ℕ) (status : Status) : Ty
   pub text_is : text ≡ outcome_text came
   pub status_is : status ≡ outcome_status came
 
--- the records of an office are those of the one-marker office, job by job in turn order, and its words show the set after them
+-- the records of an office are those of the one-marker office, job by job in turn order, and its words show the set after them:
+-- the turn word counts the records, and the closed fields the paths
 pub record IsOneHistory (plan : Tables) (office : Office) : Type 0 where
   pub idle : office.work ≡ None
   pub legal : IsLegal plan office.records
   pub shows : ShowsOffice plan office.words (after plan office.records)
+  pub turns : word_of office.words TurnWord ≡ length office.records
+  pub paths : closed_line_fields office.words ≡ length (after plan office.records)
+  pub crosspoints : closed_switch_fields office.words ≡ 4 * length (after plan office.records)
 
 abbrev pub LeavesOneHistory : Tables → Outcome → Type 0
 LeavesOneHistory plan (Refused refused) = ⊤

@@ -20,8 +20,7 @@ fn replay(alloc: Global, plan: &Plan, bytes: &[u8]) -> Result<Written, AllocErro
     ensures { IfOk result (λ written. IsReplay plan.now bytes.now written.text.items written.status) }
 {
     xbar_traffic::laws::rows_are_in_range();
-    // That the plan is lawful is known where it is read.
-    let _groups = plan.group_count();
+    xbar_plan::laws::every_plan_is_lawful(plan);
     let traffic = Traffic::read(alloc, bytes)?;
     run(alloc, plan, &traffic)
 }

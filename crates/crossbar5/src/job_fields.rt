@@ -14,6 +14,8 @@ impl fmt::Display for JobFields<'_> {
     fn fmt<W: fmt::Write>(&self, f: &mut fmt::Formatter<W>) -> fmt::Result {
         match self.0 {
             Job::Dial(line) => write!(f, "D,{line},-"),
+            Job::Complete(line, dialled) => write!(f, "C,{line},{dialled}"),
+            Job::Release(line) => write!(f, "R,{line},-"),
         }
     }
 }

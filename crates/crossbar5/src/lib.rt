@@ -19,6 +19,7 @@ mod engine_fault;
 mod input;
 mod job_fields;
 mod output;
+mod path_field;
 mod record_line;
 mod replay;
 mod report_text;

@@ -1,21 +1,24 @@
 //! An office with marker 0 alone.
 
 ghost use Rattle.std.specs.Prelude.{◌≡◌, ◌++◌, IfOk, OnOk, Some, length, option_to_list};
-ghost use Rattle.xbar_jobs.specs.Attempt.{begin, next_step};
+ghost use Rattle.xbar_equip.specs.Word.{word_count};
+ghost use Rattle.xbar_office.specs.Legal.{IsDialJob};
+ghost use Rattle.xbar_jobs.specs.Attempt.{fresh, next_step};
 ghost use Rattle.xbar_jobs.specs.Standing.{Stands};
+ghost use Rattle.xbar_traffic.specs.Row.{IsRow};
 ghost use Rattle.crossbar5.specs.Replay.{opened, stepped, stepped_at, still_at, after_steps, settled, is_idle as is_idle_work, row_fault, done, IsWorking};
 
 use crate::work::Work;
 use std::alloc::{AllocError, Global};
 use std::marker::Model;
+use xbar_equip::WORD_COUNT;
 use xbar_office::{Job, Record};
 use xbar_plan::Plan;
 use xbar_traffic::{MarkerFault, Row};
 
-/// The number of an office's words.
-const WORDS: usize = 453;
-/// No job has more steps.
-const MOST_STEPS: u32 = 128;
+/// An attempt of a marker that is alone has no more steps to its end: two to withdraw and to try again,
+/// 19 frees, and the 114 of the job anew.
+const SETTLING: u32 = 135;
 
 /// An office with marker 0 alone, which makes its steps on words of its own.
 #[derive(Debug, Drop)]
@@ -43,7 +46,7 @@ impl<'p> Replay<'p> {
     {
         Ok(Replay {
             plan,
-            words: vec![in alloc; 0; WORDS]?,
+            words: vec![in alloc; 0; WORD_COUNT]?,
             work: None,
             records: Vec::new(alloc),
         })
@@ -55,10 +58,10 @@ impl<'p> Replay<'p> {
         self.records.as_slice()
     }
 
-    /// All 453 words.
+    /// All of the office's words.
     pub fn words(&self) -> &[u64]
         ensures words { result.now ≡ self.now.office.words }
-        ensures count { length result.now ≡ 453 }
+        ensures count { length result.now ≡ word_count }
     {
         self.words.as_slice()
     }
@@ -94,15 +97,17 @@ impl<'p> Replay<'p> {
     }
 
     fn assign(&mut self, job_no: u32, job: &Job)
-        ensures { self.new ≡ record self.old { office = record self.old.office { work = Some (record { job_no = job_no; attempt = begin job.now 0 }) } } }
+        requires { IsDialJob job.now }
+        ensures { self.new ≡ record self.old { office = record self.old.office { work = Some (record { job_no = job_no; program = fresh job.now }) } } }
     {
+        xbar_plan::laws::every_plan_is_lawful(self.plan);
         self.work = Some(Work::begin(job_no, *job));
     }
 
     /// The marker keeps its job until it is finished.
     fn keep(&mut self, work: Work)
-        requires { Stands self.old.plan work.attempt }
-        ensures { self.new ≡ record self.old { office = record self.old.office { work = still_at work (next_step work.attempt) } } }
+        requires { Stands self.old.plan work.program.attempt }
+        ensures { self.new ≡ record self.old { office = record self.old.office { work = still_at work (next_step work.program.attempt) } } }
     {
         self.work = if work.is_finished() { None } else { Some(work) };
     }
@@ -149,6 +154,7 @@ impl<'p> Replay<'p> {
 
     /// Does what the row asks of the marker, which doesn't refuse it.
     pub fn act(&mut self, row: &Row) -> Result<(), AllocError>
+        requires { IsRow row.now }
         ensures ok { OnOk result (self.new ≡ record self.old { office = done self.old.plan self.old.office row.now }) }
     {
         match row {
@@ -164,6 +170,6 @@ impl<'p> Replay<'p> {
     pub fn settle(&mut self) -> Result<(), AllocError>
         ensures ok { OnOk result (self.new ≡ record self.old { office = settled self.old.plan self.old.office }) }
     {
-        self.steps(MOST_STEPS)
+        self.steps(SETTLING)
     }
 }

@@ -1,6 +1,7 @@
 //! What traffic comes to, as text.
 
-ghost use Rattle.std.specs.Prelude.{◌^◌, ◌<◌, IfOk, length};
+ghost use Rattle.std.specs.Prelude.{◌^◌, ◌<◌, All, IfOk, length};
+ghost use Rattle.xbar_traffic.specs.Row.{IsRow};
 ghost use Rattle.crossbar5.specs.Replay.{settled as settled_office};
 ghost use Rattle.crossbar5.specs.Run.{Left, Refused, outcome, IsWrittenOf};
 
@@ -43,6 +44,7 @@ fn settled(alloc: Global, replay: Replay<'_>) -> Result<Written, AllocError>
 
 /// Does the rows of traffic one after another in an office with marker 0 alone.
 pub fn run(alloc: Global, plan: &Plan, traffic: &Traffic) -> Result<Written, AllocError>
+    requires { All IsRow traffic.now.rows.items }
     ensures written { IfOk result (λ written. IsWrittenOf (outcome plan.now traffic.now.rows.items traffic.now.fault) written.text.items written.status) }
     ensures few { length traffic.now.rows.items < 2 ^ 64 }
 {

@@ -3,10 +3,11 @@
 #![tactic(auto)]
 
 ghost use Rattle.std.specs.Prelude.{◌≡◌, length};
+ghost use Rattle.xbar_equip.specs.Word.{word_count};
 ghost use Rattle.xbar_jobs.specs.Standing.{Stands};
 
 use std::io;
-use xbar_equip::Len;
+use xbar_equip::{Len, WORD_COUNT};
 use xbar_jobs::{Program, Step};
 use xbar_office::Job;
 use xbar_plan::Plan;
@@ -18,15 +19,16 @@ const STEPS: u32 = 128;
 
 /// Line 3041 goes off hook, under this plan.
 fn dial_3041(plan: &Plan) -> Program
-    ensures { Stands plan.now result }
+    ensures { Stands plan.now result.attempt }
 {
-    Program::new(Job::Dial(Len::new(3, 0, 21)), 0)
+    xbar_plan::laws::every_plan_is_lawful(plan);
+    Program::new(Job::Dial(Len::new(3, 0, 21)))
 }
 
 /// Makes the job's steps on the words to its end, and answers how many they were.
 fn serve(plan: &Plan, words: &mut [u64]) -> u32
-    requires { length words.old ≡ 453 }
-    ensures { length words.new ≡ 453 }
+    requires { length words.old ≡ word_count }
+    ensures { length words.new ≡ word_count }
 {
     let mut program = dial_3041(plan);
     for _made in 0..STEPS {
@@ -42,7 +44,7 @@ fn serve(plan: &Plan, words: &mut [u64]) -> u32
 
 fn main(rt: HostRuntime) -> io::Result<()> {
     let plan = Plan::example(rt.alloc())?;
-    let mut words = [0; 453];
+    let mut words = [0; WORD_COUNT];
     let mut steps: u64 = 0;
     for _job in 0..JOBS {
         words.fill(0);

@@ -3,7 +3,7 @@ use Rattle.std.specs.Prelude.{Option, Some, None, MatchOption, unwrap_or, if◌t
 use Rattle.std.specs.Option.{option_map}
 use mathlib.Core.Bool.{true≢false}
 use Rattle.xbar_equip.proofs.WordNumbers.{below_or_from}
-use Rattle.xbar_equip.specs.First.{first_from, first_below, next_below, IsFirstBelow}
+use Rattle.xbar_equip.specs.First.{first_from, first_below, next_below, IsFirstBelow, IsNextBelow}
 
 -- the first number from k on, among `count`, that passes; or none of them passes
 pub record IsFirst (test : ℕ → Bool) (k count r : ℕ) : Type 0 where
@@ -104,3 +104,16 @@ module _ (test : ℕ → Bool) (count k : ℕ) where
   pub next_below-none : ((j : ℕ) → k + 1 + j < count → test (k + 1 + j) ≡ false) → next_below test count k ≡ k
   unfolding after answer
   next_below-none none = ap answer (first_below-none after (count - (k + 1)) (λ j before. none j (omega arith)))
+
+  -- the law of `next_below`
+  pub next_below-law : IsNextBelow test count k (next_below test count k)
+  unfolding after answer
+  next_below-law = of (first_below after (count - (k + 1))) (first_below-law after (count - (k + 1))) where
+    of : (found : Option ℕ) → IsFirstBelow after (count - (k + 1)) found → IsNextBelow test count k (answer found)
+    of None none = inl (refl, λ j past below. let at : k + 1 + (j - (k + 1)) ≡ j = omega arith in ap test (sym at) ∙ none (j - (k + 1)) (omega arith))
+    of (Some first) is = inr (
+      omega arith,
+      omega (arith, is.0),
+      is.1,
+      λ j past before. let at : k + 1 + (j - (k + 1)) ≡ j = omega arith in ap test (sym at) ∙ is.2 (j - (k + 1)) (omega arith),
+    )

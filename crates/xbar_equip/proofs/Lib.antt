@@ -1,3 +1,6 @@
+pub mod Logic
+pub mod Lists
+pub mod Ranges
 pub mod DigitTexts
 pub mod WordNumbers
 pub mod FirstNumber

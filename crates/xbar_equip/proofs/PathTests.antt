@@ -2,33 +2,19 @@ use Rattle.std.proofs.Common.{◌≡◌, ℕ, Bool, true, false, ◌⊎◌, List
 use Rattle.std.specs.Prelude.{◌↔◌, ◌&&◌, ◌||◌, ◌==◌, not}
 use Rattle.std.specs.List.{list_any}
 use borrow.Author.Tests.{eqb-true, eq-eqb}
+use Rattle.xbar_equip.proofs.Logic.{both, both_hold, either, either_holds, not_either}
+use Rattle.xbar_equip.specs.Conn.{conn_eq}
 use Rattle.xbar_equip.specs.Len.{Line, line_eq}
 use Rattle.xbar_equip.specs.Ten.{TrunkPlace, place_eq}
 use Rattle.xbar_equip.specs.Link.{Link, link_eq, kind_eq}
 use Rattle.xbar_equip.specs.Among.{IsIn}
 use Rattle.xbar_equip.specs.Path.{line_link, junctor, trunk_link}
 use Rattle.xbar_equip.specs.Paths.{has_link, is_idle}
+use Rattle.xbar_equip.specs.declared.conn.Conn.{Conn}
+use Rattle.xbar_equip.specs.declared.conn.Conn.TheVariants.{Llf, Tlf, Group}
 use Rattle.xbar_equip.specs.declared.link.LinkKind.{LinkKind}
 use Rattle.xbar_equip.specs.declared.link.LinkKind.TheVariants.{LineLink, Junctor, TrunkLink}
 use Rattle.xbar_equip.specs.declared.path.Path.{Path}
-
--- both parts of a test that holds hold
-both : (a b : Bool) → (a && b) ≡ true → (a ≡ true) × (b ≡ true)
-both true b e = (refl, e)
-both false b e = cc
-
-both_hold : (a b : Bool) → a ≡ true → b ≡ true → (a && b) ≡ true
-both_hold true b x y = y
-both_hold false b x y = cc
-
-either : (a b : Bool) → (a || b) ≡ true → (a ≡ true) ⊎ (b ≡ true)
-either true b e = inl refl
-either false b e = inr e
-
-either_holds : (a b : Bool) → (a ≡ true) ⊎ (b ≡ true) → (a || b) ≡ true
-either_holds true b e = refl
-either_holds false b (inl e) = cc
-either_holds false b (inr e) = e
 
 number_eq-itself : (n : ℕ) → (n == n) ≡ true
 number_eq-itself n = eq-eqb n n refl
@@ -65,6 +51,7 @@ place_eq-exact a b = (one, λ same. ap (place_eq a) (sym same) ∙ itself a) whe
   itself l = both_hold (l.frame == l.frame && l.switch == l.switch) (l.appearance == l.appearance)
       (both_hold (l.frame == l.frame) (l.switch == l.switch) (number_eq-itself l.frame) (number_eq-itself l.switch)) (number_eq-itself l.appearance)
 
+-- the same of kinds of link
 kind_eq-one : (a b : LinkKind) → kind_eq a b ≡ true → a ≡ b
 kind_eq-one LineLink LineLink e = refl
 kind_eq-one Junctor Junctor e = refl
@@ -80,6 +67,29 @@ kind_eq-itself : (a : LinkKind) → kind_eq a a ≡ true
 kind_eq-itself LineLink = refl
 kind_eq-itself Junctor = refl
 kind_eq-itself TrunkLink = refl
+
+pub kind_eq-exact : (a b : LinkKind) → (kind_eq a b ≡ true) ↔ (a ≡ b)
+kind_eq-exact a b = (kind_eq-one a b, λ same. ap (kind_eq a) (sym same) ∙ kind_eq-itself a)
+
+-- the same of connectors
+conn_eq-one : (a b : Conn) → conn_eq a b ≡ true → a ≡ b
+conn_eq-one (Llf a) (Llf b) e = ap Llf (eqb-true a b e)
+conn_eq-one (Tlf a) (Tlf b) e = ap Tlf (eqb-true a b e)
+conn_eq-one (Group a) (Group b) e = ap Group (eqb-true a b e)
+conn_eq-one (Llf a) (Tlf b) e = cc
+conn_eq-one (Llf a) (Group b) e = cc
+conn_eq-one (Tlf a) (Llf b) e = cc
+conn_eq-one (Tlf a) (Group b) e = cc
+conn_eq-one (Group a) (Llf b) e = cc
+conn_eq-one (Group a) (Tlf b) e = cc
+
+pub conn_eq-itself : (conn : Conn) → conn_eq conn conn ≡ true
+conn_eq-itself (Llf frame) = number_eq-itself frame
+conn_eq-itself (Tlf frame) = number_eq-itself frame
+conn_eq-itself (Group group) = number_eq-itself group
+
+pub conn_eq-exact : (a b : Conn) → (conn_eq a b ≡ true) ↔ (a ≡ b)
+conn_eq-exact a b = (conn_eq-one a b, λ same. ap (conn_eq a) (sym same) ∙ conn_eq-itself a)
 
 -- the same of links
 pub link_eq-exact : (a b : Link) → (link_eq a b ≡ true) ↔ (a ≡ b)
@@ -131,10 +141,6 @@ has_link-exact link path = (one, has) where
 pub idle-none : (has : Path → Bool) (paths : List Path) → ((p : Path) → IsIn p paths → has p ≡ false) → is_idle has paths ≡ true
 idle-none has [] none = refl
 idle-none has (p ∷ paths) none = ap (λ b. not (b || list_any has paths)) (none p (inl refl)) ∙ idle-none has paths (λ q within. none q (inr within))
-
-not_either : (a b : Bool) → not (a || b) ≡ true → (a ≡ false) × (not b ≡ true)
-not_either true b e = cc
-not_either false b e = (refl, e)
 
 -- where it is idle, none of the paths has it
 pub none-idle : (has : Path → Bool) (paths : List Path) → is_idle has paths ≡ true → (p : Path) → IsIn p paths → has p ≡ false

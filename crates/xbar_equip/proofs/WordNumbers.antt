@@ -1,6 +1,6 @@
 use Rattle.std.proofs.Common.{◌≡◌, ℕ, zero, suc, ◌/◌, ◌%◌, ◌-◌, ◌<◌, ◌≤◌, ◌⊎◌, inl, inr, refl, ◌∙◌, ap, arith}
 use Rattle.xbar_equip.specs.Conn.{IsConn}
-use Rattle.xbar_equip.specs.Word.{Word, IsWord, word_number, LineSwitch, LineJunctor, TrunkSwitch, TrunkJunctor, GroupWord, ConnWord, TurnWord}
+use Rattle.xbar_equip.specs.Word.{Word, IsWord, word_count, word_number, LineSwitch, LineJunctor, TrunkSwitch, TrunkJunctor, GroupWord, ConnWord, TurnWord}
 use Rattle.xbar_equip.specs.declared.conn.Conn.{Conn}
 use Rattle.xbar_equip.specs.declared.conn.Conn.TheVariants.{Llf, Tlf, Group}
 
@@ -47,8 +47,8 @@ pub record Named (n : ℕ) : Type 0 where
 named : {n : ℕ} (w : Word) → IsWord w → word_number w ≡ n → Named n
 named w h e = record { word = w; is_word = h; number = e }
 
--- each number below 453 is a word's
-pub each_named : (n : ℕ) → n < 453 → Named n
+-- each number of a word is a word's
+pub each_named : (n : ℕ) → n < word_count → Named n
 each_named n h = elim (below_or_from n 200) [ inl a ↦ line_side a | inr a ↦ elim (below_or_from n 400) [ inl b ↦ trunk_side a b | inr b ↦ others a b ] ] where
   line_side : n < 200 → Named n
   line_side a = elim (below_or_from (n % 20) 10) [

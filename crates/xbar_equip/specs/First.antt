@@ -1,4 +1,4 @@
-use Rattle.std.specs.Prelude.{◌≡◌, ℕ, zero, suc, ◌+◌, ◌-◌, ◌<◌, Bool, true, false, Option, Some, None, MatchOption, option_map, unwrap_or, if◌then◌else◌}
+use Rattle.std.specs.Prelude.{◌≡◌, ◌⊎◌, ℕ, zero, suc, ◌+◌, ◌-◌, ◌<◌, Bool, true, false, Option, Some, None, MatchOption, option_map, unwrap_or, if◌then◌else◌}
 
 -- the first of the numbers k, k + 1, .., `count` of them, that passes the test
 abbrev pub first_from : (ℕ → Bool) → ℕ → ℕ → Option ℕ
@@ -14,6 +14,12 @@ abbrev pub IsFirstBelow : (ℕ → Bool) → ℕ → Option ℕ → Type 0
 IsFirstBelow test count found =
     MatchOption found ((j : ℕ) → j < count → test j ≡ false)
     (λ first. (first < count) × (test first ≡ true) × ((j : ℕ) → j < first → test j ≡ false))
+
+-- the number is the first after k and below `count` that passes the test; where none does, it is k again
+abbrev pub IsNextBelow : (ℕ → Bool) → ℕ → ℕ → ℕ → Type 0
+IsNextBelow test count k next =
+    ((next ≡ k) × ((j : ℕ) → k < j → j < count → test j ≡ false))
+    ⊎ ((k < next) × (next < count) × (test next ≡ true) × ((j : ℕ) → k < j → j < next → test j ≡ false))
 
 -- the first number after k and below `count` that passes the test; k again, where none does
 abbrev pub next_below : (ℕ → Bool) → ℕ → ℕ → ℕ

@@ -17,6 +17,10 @@ pub record IsLine (line : Line) : Type 0 where
   pub switch : line.switch < 10
   pub x : line.x < 30
 
+-- `IsLine` as a test
+abbrev pub is_line : Line → Bool
+is_line line = nat_lt line.frame 10 && nat_lt line.switch 10 && nat_lt line.x 30
+
 -- a digit each: frame, horizontal group (the switch), vertical group and vertical file, with x = 5 * group + file
 abbrev pub line_text : Line → List ℕ
 line_text line = digit line.frame ∷ digit line.switch ∷ digit (line.x / 5) ∷ digit (line.x % 5) ∷ []

@@ -1,4 +1,4 @@
-use Rattle.std.specs.Prelude.{ℕ, ◌<◌, ◌==◌, ◌&&◌, ◌||◌, not, Bool, true, false, Option, List, [], ◌∷◌, ◌++◌, length, drop, codes, nat_eq}
+use Rattle.std.specs.Prelude.{ℕ, ◌<◌, ◌==◌, ◌&&◌, ◌||◌, nat_lt, not, Bool, true, false, Option, List, [], ◌∷◌, ◌++◌, length, drop, codes, nat_eq}
 use Rattle.std.specs.List.{starts_with}
 use Rattle.xbar_equip.specs.Digits.{digit, are_digits}
 use Rattle.xbar_equip.specs.Fault.{first_fault}
@@ -19,6 +19,10 @@ pub record IsLink (link : Link) : Type 0 where
   pub frame : link.frame < 10
   pub at : link.at < 10
   pub channel : link.channel < 10
+
+-- `IsLink` as a test
+abbrev pub is_link : Link → Bool
+is_link link = nat_lt link.frame 10 && nat_lt link.at 10 && nat_lt link.channel 10
 
 -- the two letters that a link's text begins with
 abbrev pub letters : LinkKind → List ℕ

@@ -1,4 +1,4 @@
-use Rattle.std.specs.Prelude.{ℕ, ◌<◌, ◌==◌, ◌&&◌, Bool, List, [], ◌∷◌}
+use Rattle.std.specs.Prelude.{ℕ, ◌<◌, ◌==◌, ◌&&◌, nat_lt, Bool, List, [], ◌∷◌}
 use Rattle.std.specs.Ordering.{nat_cmp, ordering_then}
 use Rattle.std.specs.declared.cmp.Ordering.{Ordering}
 use Rattle.xbar_equip.specs.Digits.{digit}
@@ -14,6 +14,10 @@ pub record IsTrunkPlace (place : TrunkPlace) : Type 0 where
   pub frame : place.frame < 10
   pub switch : place.switch < 10
   pub appearance : place.appearance < 10
+
+-- `IsTrunkPlace` as a test
+abbrev pub is_trunk_place : TrunkPlace → Bool
+is_trunk_place place = nat_lt place.frame 10 && nat_lt place.switch 10 && nat_lt place.appearance 10
 
 -- frame, switch and appearance, a digit each
 abbrev pub place_text : TrunkPlace → List ℕ

@@ -24,7 +24,11 @@ IsWord (GroupWord group) = group < 16
 IsWord (ConnWord conn) = IsConn conn
 IsWord TurnWord = Unit {0}
 
--- where the word stands among all 453
+-- how many shared words there are
+abbrev pub word_count : ℕ
+word_count = 453
+
+-- where the word stands among them all
 abbrev pub word_number : Word → ℕ
 word_number (LineSwitch frame switch) = 20 * frame + switch
 word_number (LineJunctor frame channel) = 20 * frame + 10 + channel

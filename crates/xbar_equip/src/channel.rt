@@ -10,8 +10,9 @@ use crate::fault::EquipFault;
 use std::fmt;
 use std::marker::Model;
 
-/// One of the ten channels between a line switch and a trunk switch. Its text is one digit.
-#[derive(Clone, Copy, Debug, PartialEq, Eq, PartialOrd, Ord, Hash)]
+/// One of the ten channels between a line switch and a trunk switch: the number that a path's line link,
+/// junctor and trunk link share. Its text is one digit.
+#[derive(Clone, Copy, Debug, PartialEq, Eq, PartialOrd, Ord)]
 pub struct Channel {
     number: u8,
 }
@@ -30,6 +31,7 @@ impl Model for Channel {
 }
 
 impl Channel {
+    /// Channel 0 to 9.
     pub fn new(number: u8) -> Self
         requires { number < 10 }
         ensures { result ≡ number }
@@ -37,7 +39,7 @@ impl Channel {
         Channel { number }
     }
 
-    /// Reads one digit.
+    /// Reads one digit, as `7`.
     pub fn parse(text: &[u8]) -> Result<Self, EquipFault>
         ensures reads { (channel : ℕ) → IsChannel channel → text.now ≡ channel_text channel → result ≡ Ok channel }
         ensures only { IfOk result (λ channel. IsChannel channel × (text.now ≡ channel_text channel)) }
@@ -51,6 +53,7 @@ impl Channel {
         })
     }
 
+    /// The digit's byte.
     pub fn text(self) -> [u8; 1]
         ensures text { result ≡ channel_text self }
         ensures ascii { IsAscii result }
@@ -58,7 +61,7 @@ impl Channel {
         [b'0' + self.number]
     }
 
-    /// 0 to 9.
+    /// 0 to 9, and the number of the fields of its line link and its trunk link.
     pub fn number(self) -> u8
         ensures value { result ≡ self }
         ensures range { IsChannel self }

@@ -12,7 +12,7 @@ use std::fmt;
 use std::marker::Model;
 
 /// What a caller dials: seven digits, a code of three and a directory number of four.
-#[derive(Clone, Copy, Debug, PartialEq, Eq, PartialOrd, Ord, Hash)]
+#[derive(Clone, Copy, Debug, PartialEq, Eq)]
 pub struct Dialled {
     number: u32,
 }
@@ -31,6 +31,7 @@ impl Model for Dialled {
 }
 
 impl Dialled {
+    /// Of the seven digits as a number, 0 to 9,999,999; leading zeros are digits too.
     pub fn new(number: u32) -> Self
         requires { number < 10 ^ 7 }
         ensures { result ≡ number }
@@ -51,6 +52,7 @@ impl Dialled {
         Ok(Dialled { number })
     }
 
+    /// The bytes of the seven digits, with leading zeros.
     pub fn text(self) -> [u8; 7]
         ensures text { result ≡ dialled_text self }
         ensures ascii { IsAscii result }
@@ -75,7 +77,7 @@ impl Dialled {
         self.number
     }
 
-    /// The first three digits, 0 to 999.
+    /// The first three digits, 0 to 999: the office code, by which a call is routed.
     pub fn code(self) -> u16
         ensures value { result ≡ code_of self }
         ensures range { result < 1000 }
@@ -83,7 +85,7 @@ impl Dialled {
         (self.number / 10_000) as u16
     }
 
-    /// The last four digits.
+    /// The last four digits: in a call within this office the called number.
     pub fn number(self) -> DirNo
         ensures { result ≡ number_of self }
     {

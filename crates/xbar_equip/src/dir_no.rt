@@ -10,8 +10,9 @@ use crate::fault::EquipFault;
 use std::fmt;
 use std::marker::Model;
 
-/// A directory number: four digits, 0000 to 9999.
-#[derive(Clone, Copy, Debug, PartialEq, Eq, PartialOrd, Ord, Hash)]
+/// A directory number, 0000 to 9999: what the office's own telephones are called by. It leads to one line or
+/// to several, which are hunted in turn.
+#[derive(Clone, Copy, Debug, PartialEq, Eq, PartialOrd, Ord)]
 pub struct DirNo {
     number: u16,
 }
@@ -30,6 +31,7 @@ impl Model for DirNo {
 }
 
 impl DirNo {
+    /// Of the four digits as a number, 0 to 9999.
     pub fn new(number: u16) -> Self
         requires { number < 10 ^ 4 }
         ensures { result ≡ number }
@@ -50,6 +52,7 @@ impl DirNo {
         Ok(DirNo { number })
     }
 
+    /// The bytes of the four digits, with leading zeros.
     pub fn text(self) -> [u8; 4]
         ensures text { result ≡ dir_no_text self }
         ensures ascii { IsAscii result }
@@ -58,7 +61,7 @@ impl DirNo {
         [digit(1000), digit(100), digit(10), digit(1)]
     }
 
-    /// 0 to 9999.
+    /// The four digits as a number, 0 to 9999.
     pub fn number(self) -> u16
         ensures value { result ≡ self }
         ensures range { IsDirNo self }

@@ -2,7 +2,7 @@ use std::error::Error;
 use std::fmt;
 
 /// Why a text names nothing in the office. Of several, the first in this order is answered.
-#[derive(Clone, Copy, Debug, PartialEq, Eq, PartialOrd, Ord, Hash)]
+#[derive(Clone, Copy, Debug, PartialEq, Eq)]
 pub enum EquipFault {
     /// The text has a wrong number of bytes.
     Length,

@@ -1,27 +1,36 @@
 //! What holds of the definitions themselves, for the crates above. Each function does nothing: its
 //! contract is the law.
 
-ghost use Rattle.std.specs.Prelude.{◌≡◌, ◌≢◌, ◌<◌, ◌↔◌, ◌⊎◌, ℕ, Bool, true, false, List};
+ghost use Rattle.std.specs.Prelude.{◌≡◌, ◌≢◌, ◌<◌, ◌↔◌, ◌⊎◌, ℕ, Bool, IsTrue, true, false, List};
+ghost use Rattle.std.specs.List.{list_all};
 ghost use Rattle.xbar_equip.specs.Among.{IsIn};
-ghost use Rattle.xbar_equip.specs.Word.{Word, IsWord, word_number};
-ghost use Rattle.xbar_equip.specs.First.{first_below, IsFirstBelow};
-ghost use Rattle.xbar_equip.specs.Len.{Line};
-ghost use Rattle.xbar_equip.specs.Ten.{TrunkPlace};
-ghost use Rattle.xbar_equip.specs.Link.{Link};
+ghost use Rattle.xbar_equip.specs.Channel.{IsChannel};
+ghost use Rattle.xbar_equip.specs.Conn.{conn_eq};
+ghost use Rattle.xbar_equip.specs.Word.{Word, IsWord, word_count, word_number};
+ghost use Rattle.xbar_equip.specs.First.{first_below, next_below, IsFirstBelow, IsNextBelow};
+ghost use Rattle.xbar_equip.specs.Len.{Line, IsLine, is_line, line_eq};
+ghost use Rattle.xbar_equip.specs.Ten.{TrunkPlace, IsTrunkPlace, is_trunk_place, place_eq};
+ghost use Rattle.xbar_equip.specs.Link.{Link as TheLink, IsLink, is_link, kind_eq, link_eq};
 ghost use Rattle.xbar_equip.specs.Path.{IsPath, SharesPart, line_link, junctor, trunk_link};
 ghost use Rattle.xbar_equip.specs.Crosspoint.{crosspoints};
 ghost use Rattle.xbar_equip.specs.Paths.{IsSet, with_path, without_path, is_idle, has_line, has_place, has_link, channel_test, IsFirstIdleChannel};
-ghost use Rattle.xbar_equip.specs.declared.path.Path.{Path};
 ghost use Rattle.xbar_equip.specs.declared.crosspoint.Crosspoint.{Crosspoint};
+
+use crate::channel::Channel;
+use crate::conn::Conn;
+use crate::len::Len;
+use crate::link::{Link, LinkKind};
+use crate::path::Path;
+use crate::ten::Ten;
 
 /// No two words have one number.
 pub fn word_numbers_are_distinct()
     ensures { (v w : Word) → IsWord v → IsWord w → word_number v ≡ word_number w → v ≡ w }
 {}
 
-/// Each number below 453 is the number of a word.
+/// Each number below the count of words is the number of a word.
 pub fn each_number_has_a_word()
-    ensures { (n : ℕ) → n < 453 → (w : Word) × IsWord w × (word_number w ≡ n) }
+    ensures { (n : ℕ) → n < word_count → (w : Word) × IsWord w × (word_number w ≡ n) }
 {}
 
 /// The search for the first number below a count that passes a test.
@@ -29,12 +38,26 @@ pub fn first_below_is_the_first()
     ensures { (test : ℕ → Bool) (count : ℕ) → IsFirstBelow test count (first_below test count) }
 {}
 
+/// The search for the next number after one that passes a test.
+pub fn next_below_is_the_next()
+    ensures { (test : ℕ → Bool) (count k : ℕ) → IsNextBelow test count k (next_below test count k) }
+{}
+
+/// The tests of two lines, places, links, kinds of link or connectors tell whether they are one.
+pub fn equality_tests_are_equality()
+    ensures line { (a b : Line) → (line_eq a b ≡ true) ↔ (a ≡ b) }
+    ensures place { (a b : TrunkPlace) → (place_eq a b ≡ true) ↔ (a ≡ b) }
+    ensures link { (a b : TheLink) → (link_eq a b ≡ true) ↔ (a ≡ b) }
+    ensures kind { (a b : LinkKind) → (kind_eq a b ≡ true) ↔ (a ≡ b) }
+    ensures conn { (a b : Conn) → (conn_eq a b ≡ true) ↔ (a ≡ b) }
+{}
+
 /// A line, a place or a link is idle exactly where no path of the set has it.
 pub fn idle_is_in_no_path()
     ensures idle { (has : Path → Bool) (paths : List Path) → (is_idle has paths ≡ true) ↔ ((path : Path) → IsIn path paths → has path ≡ false) }
     ensures line { (line : Line) (path : Path) → (has_line line path ≡ true) ↔ (path.line ≡ line) }
     ensures place { (place : TrunkPlace) (path : Path) → (has_place place path ≡ true) ↔ (path.place ≡ place) }
-    ensures link { (link : Link) (path : Path) → (has_link link path ≡ true) ↔ ((line_link path ≡ link) ⊎ (junctor path ≡ link) ⊎ (trunk_link path ≡ link)) }
+    ensures link { (link : TheLink) (path : Path) → (has_link link path ≡ true) ↔ ((line_link path ≡ link) ⊎ (junctor path ≡ link) ⊎ (trunk_link path ≡ link)) }
 {}
 
 /// The channel test answers the first channel in its order whose three links are idle.
@@ -63,3 +86,75 @@ pub fn without_path_removes_the_path()
 pub fn sets_with_the_same_paths_are_one()
     ensures { (a b : List Path) → IsSet a → IsSet b → ((path : Path) → IsIn path a ↔ IsIn path b) → a ≡ b }
 {}
+
+/// A line's numbers lie in their ranges.
+pub fn line_is_in_range(line: Len)
+    ensures { IsLine line }
+{}
+
+/// A trunk place's numbers lie in their ranges.
+pub fn place_is_in_range(place: Ten)
+    ensures { IsTrunkPlace place }
+{}
+
+/// A link's numbers lie in their ranges.
+pub fn link_is_in_range(link: Link)
+    ensures { IsLink link }
+{}
+
+/// A channel's number lies in its range.
+pub fn channel_is_in_range(channel: Channel)
+    ensures { IsChannel channel }
+{}
+
+/// The numbers of a path's line, channel and place lie in their ranges.
+pub fn path_is_in_range(path: &Path)
+    ensures { IsPath path.now }
+{
+    line_is_in_range(path.line);
+    channel_is_in_range(path.channel);
+    place_is_in_range(path.place);
+}
+
+/// The same of each line of a list.
+#[tactic(auto, using(crate::proofs::Lists::all_more, crate::proofs::Ranges::line_passes))]
+pub fn lines_are_in_range(lines: &[Len])
+    ensures each { (line : Line) → IsIn line lines.now → IsLine line }
+    ensures all { IsTrue (list_all is_line lines.now) }
+{
+    for line in lines {
+        line_is_in_range(*line);
+    }
+}
+
+/// The same of each trunk place of a list.
+#[tactic(auto, using(crate::proofs::Lists::all_more, crate::proofs::Ranges::place_passes))]
+pub fn places_are_in_range(places: &[Ten])
+    ensures each { (place : TrunkPlace) → IsIn place places.now → IsTrunkPlace place }
+    ensures all { IsTrue (list_all is_trunk_place places.now) }
+{
+    for place in places {
+        place_is_in_range(*place);
+    }
+}
+
+/// The same of each link of a list.
+#[tactic(auto, using(crate::proofs::Lists::all_more, crate::proofs::Ranges::link_passes))]
+pub fn links_are_in_range(links: &[Link])
+    ensures each { (link : TheLink) → IsIn link links.now → IsLink link }
+    ensures all { IsTrue (list_all is_link links.now) }
+{
+    for link in links {
+        link_is_in_range(*link);
+    }
+}
+
+/// The same of each path of a list.
+#[tactic(auto, using(crate::proofs::Lists::all_more, crate::proofs::Ranges::path_passes))]
+pub fn paths_are_in_range(paths: &[Path])
+    ensures { (path : Path) → IsIn path paths.now → IsPath path }
+{
+    for path in paths {
+        path_is_in_range(path);
+    }
+}

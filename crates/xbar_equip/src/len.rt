@@ -9,11 +9,12 @@ use crate::fault::EquipFault;
 use std::fmt;
 use std::marker::Model;
 
-/// Where a line stands: a line link frame, a line switch of it, and a place on that switch.
+/// Where a line stands, its line equipment number: a line link frame, a line switch of it, and a place on
+/// that switch. Ten frames of ten switches with thirty places serve 3,000 lines.
 ///
 /// Its text has four digits: the frame, the horizontal group, which is the switch, the vertical
 /// group and the vertical file.
-#[derive(Clone, Copy, Debug, PartialEq, Eq, PartialOrd, Ord, Hash)]
+#[derive(Clone, Copy, Debug, PartialEq, Eq, PartialOrd, Ord)]
 pub struct Len {
     frame: u8,
     switch: u8,
@@ -33,6 +34,7 @@ impl Model for Len {
 }
 
 impl Len {
+    /// Of frame 0 to 9, switch 0 to 9 and place 0 to 29.
     pub fn new(frame: u8, switch: u8, x: u8) -> Self
         requires frame { frame < 10 }
         requires switch { switch < 10 }
@@ -62,6 +64,7 @@ impl Len {
         Ok(Len { frame, switch, x })
     }
 
+    /// The bytes of the four digits, as `3041`.
     pub fn text(self) -> [u8; 4]
         ensures text { result ≡ line_text self }
         ensures ascii { IsAscii result }
@@ -98,14 +101,15 @@ impl Len {
         self.x
     }
 
-    /// 0 to 5.
+    /// The vertical group, 0 to 5: which five of the switch's places the line is among, and the text's third
+    /// digit.
     pub fn vertical_group(self) -> u8
         ensures { result ≡ self.x / 5 }
     {
         self.x / 5
     }
 
-    /// 0 to 4.
+    /// The vertical file, 0 to 4: the line among those five, and the text's fourth digit.
     pub fn vertical_file(self) -> u8
         ensures { result ≡ self.x % 5 }
     {

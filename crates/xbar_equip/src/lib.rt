@@ -12,7 +12,7 @@ pub use link::{Link, LinkKind};
 pub use path::Path;
 pub use ten::Ten;
 pub use word::{
-    WordNo, conn_word, group_word, line_junctor, line_switch, protects, trunk_junctor,
+    WORD_COUNT, WordNo, conn_word, group_word, line_junctor, line_switch, protects, trunk_junctor,
     trunk_switch, turn_word,
 };
 

@@ -10,7 +10,7 @@ use std::fmt;
 use std::marker::Model;
 
 /// The three kinds of link that a path takes.
-#[derive(Clone, Copy, Debug, PartialEq, Eq, PartialOrd, Ord, Hash)]
+#[derive(Clone, Copy, Debug, PartialEq, Eq)]
 pub enum LinkKind {
     /// From a line switch to the line junctor switches of its frame.
     LineLink,
@@ -20,8 +20,9 @@ pub enum LinkKind {
     TrunkLink,
 }
 
-/// A link. Its text has two letters for its kind and three digits, as `JU340`.
-#[derive(Clone, Copy, Debug, PartialEq, Eq, PartialOrd, Ord, Hash)]
+/// A link, which one path at a time takes; a plan may list it as out of order. There are a thousand of each
+/// kind. Its text has two letters for its kind, `LL`, `JU` or `TL`, and three digits, as `JU340`.
+#[derive(Clone, Copy, Debug, PartialEq, Eq)]
 pub struct Link {
     kind: LinkKind,
     frame: u8,
@@ -42,6 +43,8 @@ impl Model for Link {
 }
 
 impl Link {
+    /// Of a kind and three numbers, each 0 to 9: a line or trunk link has frame, switch and channel, a junctor
+    /// line link frame, trunk link frame and channel.
     pub fn new(kind: LinkKind, frame: u8, at: u8, channel: u8) -> Self
         requires frame { frame < 10 }
         requires at { at < 10 }
@@ -56,7 +59,7 @@ impl Link {
         }
     }
 
-    /// Reads two letters and three digits.
+    /// Reads two letters and three digits, as `JU340`.
     pub fn parse(text: &[u8]) -> Result<Self, EquipFault>
         ensures reads { (link : TheLink) → IsLink link → text.now ≡ link_text link → result ≡ Ok link }
         ensures only { IfOk result (λ link. IsLink link × (text.now ≡ link_text link)) }
@@ -79,6 +82,7 @@ impl Link {
         })
     }
 
+    /// The bytes of the two letters and three digits.
     pub fn text(self) -> [u8; 5]
         ensures text { result ≡ link_text self }
         ensures ascii { IsAscii result }
@@ -97,6 +101,7 @@ impl Link {
         ]
     }
 
+    /// Which of the three stages of a path the link is on.
     pub fn kind(self) -> LinkKind
         ensures { result ≡ self.kind }
     {

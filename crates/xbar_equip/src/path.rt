@@ -13,10 +13,13 @@ use std::fmt;
 
 /// A path through the office: from a line, by a line link, a junctor and a trunk link of one
 /// channel, to a trunk place. Its text is `LEN-n-TEN`, as `3041-0-417`.
-#[derive(Clone, Copy, Debug, PartialEq, Eq, PartialOrd, Ord, Hash)]
+#[derive(Clone, Copy, Debug, PartialEq, Eq, PartialOrd, Ord)]
 pub struct Path {
+    /// Where it begins.
     pub line: Len,
+    /// The channel that its three links share.
     pub channel: Channel,
+    /// Where it ends, at a trunk or a register.
     pub place: Ten,
 }
 
@@ -24,6 +27,7 @@ impl Path {
     ghost use Rattle.xbar_equip.specs.Path.{IsPath, line_link as line_link_of, junctor as junctor_of, trunk_link as trunk_link_of, path_text};
     ghost use Rattle.xbar_equip.specs.Crosspoint.{crosspoints as crosspoints_of};
 
+    /// From the line's switch to the line junctor switch of the channel.
     pub fn line_link(&self) -> Link
         ensures { result ≡ line_link_of self.now }
     {
@@ -35,6 +39,7 @@ impl Path {
         )
     }
 
+    /// From the line link frame to the trunk link frame.
     pub fn junctor(&self) -> Link
         ensures { result ≡ junctor_of self.now }
     {
@@ -46,6 +51,7 @@ impl Path {
         )
     }
 
+    /// From the trunk junctor switch of the channel to the place's switch.
     pub fn trunk_link(&self) -> Link
         ensures { result ≡ trunk_link_of self.now }
     {
@@ -90,6 +96,7 @@ impl Path {
         ]
     }
 
+    /// The bytes of line, channel and place, joined by dashes, as `3041-0-417`.
     pub fn text(&self) -> [u8; 10]
         ensures text { result ≡ path_text self.now }
         ensures ascii { IsAscii result }

@@ -10,9 +10,9 @@ use crate::fault::EquipFault;
 use std::fmt;
 use std::marker::Model;
 
-/// Where a trunk or a register stands: a trunk link frame, a trunk switch of it, and an appearance
-/// on that switch. Its text has these three digits.
-#[derive(Clone, Copy, Debug, PartialEq, Eq, PartialOrd, Ord, Hash)]
+/// Where a trunk or a register stands, its trunk equipment number: a trunk link frame, a trunk switch of it,
+/// and an appearance on that switch. There are a thousand. Its text has these three digits.
+#[derive(Clone, Copy, Debug, PartialEq, Eq, PartialOrd, Ord)]
 pub struct Ten {
     frame: u8,
     switch: u8,
@@ -32,6 +32,7 @@ impl Model for Ten {
 }
 
 impl Ten {
+    /// Of frame, switch and appearance, each 0 to 9.
     pub fn new(frame: u8, switch: u8, appearance: u8) -> Self
         requires frame { frame < 10 }
         requires switch { switch < 10 }
@@ -61,6 +62,7 @@ impl Ten {
         })
     }
 
+    /// The bytes of the three digits, as `417`.
     pub fn text(self) -> [u8; 3]
         ensures text { result ≡ place_text self }
         ensures ascii { IsAscii result }

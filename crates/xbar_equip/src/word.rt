@@ -1,46 +1,60 @@
 ghost use Rattle.std.specs.Prelude.{◌≡◌, ◌<◌, ◌+◌, ◌*◌, ℕ, IfSome};
 ghost use Rattle.xbar_equip.specs.Conn.{IsConn};
-ghost use Rattle.xbar_equip.specs.Word.{Word, IsWord, word_number, protector, LineSwitch, LineJunctor, TrunkSwitch, TrunkJunctor, GroupWord, ConnWord, TurnWord};
+ghost use Rattle.xbar_equip.specs.Word.{Word, IsWord, word_count, word_number, protector, LineSwitch, LineJunctor, TrunkSwitch, TrunkJunctor, GroupWord, ConnWord, TurnWord};
 
 use crate::conn::Conn;
 use std::marker::Model;
 
-/// The number of one of the office's 453 shared words.
-#[derive(Clone, Copy, Debug, PartialEq, Eq, PartialOrd, Ord, Hash)]
+/// How many shared words an office has: the list of all of them has this length, and word number `n` is its
+/// item `n`.
+pub const WORD_COUNT: usize = 453;
+
+/// The number of one of the office's shared words, below `WORD_COUNT`.
+#[derive(Clone, Copy, Debug, PartialEq, Eq)]
 pub struct WordNo {
     number: u16,
 }
 
 impl Model for WordNo {
     ghost use Rattle.std.specs.Prelude.{ℕ, ◌<◌};
+    ghost use Rattle.xbar_equip.specs.Word.{word_count};
 
     ghost Value = { ℕ };
 
     ghost view = { λ a. a.number };
 
-    ghost invariant = { λ a. a.number < 453 };
+    ghost invariant = { λ a. a.number < word_count };
 
     ghost inverse = { λ number. record { number = number } };
 }
 
 impl WordNo {
+    /// Word 0 to 452, in the order line link frames, trunk link frames, groups, connectors, turn word.
     pub fn new(number: u16) -> Self
-        requires { number < 453 }
+        requires { number < word_count }
         ensures { result ≡ number }
     {
         WordNo { number }
     }
 
-    /// 0 to 452.
+    /// 0 to 452: where the word stands in the list of all words.
     pub fn number(self) -> u16
         ensures value { result ≡ self }
-        ensures range { self < 453 }
+        ensures range { self < word_count }
     {
         self.number
     }
 }
 
-/// The switch between the lines of a horizontal group and their ten line links.
+/// What stands in the free places of a list of words.
+impl Default for WordNo {
+    fn default() -> Self {
+        WordNo::new(0)
+    }
+}
+
+/// Words 0 to 199, ten of each twenty: the switch between the lines of a horizontal group and their ten line
+/// links. Field `n` is for line link `n`.
 pub fn line_switch(frame: u8, switch: u8) -> WordNo
     requires frame { frame < 10 }
     requires switch { switch < 10 }
@@ -49,7 +63,8 @@ pub fn line_switch(frame: u8, switch: u8) -> WordNo
     WordNo::new(20 * u16::from(frame) + u16::from(switch))
 }
 
-/// The switch between the ten line links of a channel and the junctors to the ten trunk link frames.
+/// Words 0 to 199, the other ten: the switch between the ten line links of a channel and the junctors to the
+/// ten trunk link frames. Field `n` is for trunk link frame `n`.
 pub fn line_junctor(frame: u8, channel: u8) -> WordNo
     requires frame { frame < 10 }
     requires channel { channel < 10 }
@@ -58,7 +73,8 @@ pub fn line_junctor(frame: u8, channel: u8) -> WordNo
     WordNo::new(20 * u16::from(frame) + 10 + u16::from(channel))
 }
 
-/// The switch between ten trunk links and ten appearances of trunks and registers.
+/// Words 200 to 399, ten of each twenty: the switch between ten trunk links and ten appearances of trunks and
+/// registers. Field `n` is for trunk link `n`.
 pub fn trunk_switch(frame: u8, switch: u8) -> WordNo
     requires frame { frame < 10 }
     requires switch { switch < 10 }
@@ -67,7 +83,8 @@ pub fn trunk_switch(frame: u8, switch: u8) -> WordNo
     WordNo::new(200 + 20 * u16::from(frame) + u16::from(switch))
 }
 
-/// The switch between the junctors from the ten line link frames and the ten trunk links of a channel.
+/// Words 200 to 399, the other ten: the switch between the junctors from the ten line link frames and the ten
+/// trunk links of a channel. Field `n` is for line link frame `n`.
 pub fn trunk_junctor(frame: u8, channel: u8) -> WordNo
     requires frame { frame < 10 }
     requires channel { channel < 10 }
@@ -76,7 +93,7 @@ pub fn trunk_junctor(frame: u8, channel: u8) -> WordNo
     WordNo::new(200 + 20 * u16::from(frame) + 10 + u16::from(channel))
 }
 
-/// The busy bits of a trunk group.
+/// Words 400 to 415: the busy bits of a trunk group. Bit `k` is 1 where member `k` is busy.
 pub fn group_word(group: u8) -> WordNo
     requires { group < 16 }
     ensures { result ≡ word_number (GroupWord group) }
@@ -84,7 +101,7 @@ pub fn group_word(group: u8) -> WordNo
     WordNo::new(400 + u16::from(group))
 }
 
-/// The word that says who holds a connector and who asks for it.
+/// Words 416 to 451: who holds a connector and who asks for it.
 pub fn conn_word(conn: Conn) -> WordNo
     requires { IsConn conn }
     ensures { result ≡ word_number (ConnWord conn) }
@@ -96,7 +113,7 @@ pub fn conn_word(conn: Conn) -> WordNo
     })
 }
 
-/// The word that counts turns.
+/// Word 452, which counts turns.
 pub fn turn_word() -> WordNo
     ensures { result ≡ word_number TurnWord }
 {

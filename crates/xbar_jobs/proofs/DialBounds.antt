@@ -8,17 +8,17 @@ use Rattle.xbar_switch.specs.declared.shape.Shape.TheVariants.{Line as LineShape
 use Rattle.xbar_match.specs.Traces.{field_at_place}
 use Rattle.xbar_plan.specs.Tables.{Tables}
 use Rattle.xbar_plan.specs.declared.group.Member.{Member}
-use Rattle.xbar_office.specs.TwoTrials.{cards_of}
+use Rattle.xbar_office.specs.TwoTrials.{cards_of, second_decides}
 use Rattle.xbar_office.specs.declared.job.Job.{Job}
-use Rattle.xbar_office.specs.declared.job.Job.TheVariants.{Dial}
 use Rattle.xbar_office.specs.declared.reply.Card.{Card}
 use Rattle.xbar_office.specs.declared.trial.TrialEnd.{TrialEnd}
 use Rattle.xbar_office.specs.declared.trial.TrialEnd.TheVariants.{Chosen, Faulty, NoChannel}
 use Rattle.xbar_jobs.specs.Closing.{effects as effects_of, take_effects, path_closes, called_closes}
-use Rattle.xbar_jobs.specs.Jobs.{registers, try_registers, find_register, serve_idle_line, dial_steps, script}
-use Rattle.xbar_jobs.specs.Keeping.{AsksAtMost}
-use Rattle.xbar_jobs.specs.Script.{Script, Ends, Tests, Seizes, ◌>>=◌}
-use Rattle.xbar_jobs.specs.Trials.{Trunks, is_bit_clear, test_junctors, trial_steps, trial_steps_at, second_trial_steps, next_clear, after_first_trial, two_trials_steps}
+use Rattle.xbar_jobs.specs.Jobs.{registers, try_registers, find_register, serve_idle_line, dial_steps, job_line, script}
+use Rattle.turns.specs.Script.{AsksAtMost}
+use Rattle.turns.specs.Script.{Ends, Tests, Seizes, ◌>>=◌}
+use Rattle.xbar_jobs.specs.Script.{Script}
+use Rattle.xbar_jobs.specs.Trials.{Trunks, is_bit_clear, test_junctors, reach, trial_end, first_trial_steps, second_trial_at, second_trial_steps, next_clear, after_first_trial, two_trials_steps}
 use Rattle.xbar_jobs.specs.declared.decision.Decision.{Decision}
 use Rattle.xbar_jobs.specs.declared.decision.Take.{Take}
 use Rattle.xbar_jobs.specs.declared.effect.Effect.TheVariants.{SetBit}
@@ -58,64 +58,74 @@ junctors_ask frame channel zero = tt
 junctors_ask frame channel (suc count) =
     λ word. asks_bind count 0 0 0 count 0 (test_junctors frame (channel + 1) count) (λ words. Ends (word ∷ words)) (omega arith) refl (junctors_ask frame (channel + 1) count) (λ words. tt)
 
--- a trial has eleven tests and one seizing
-pub trial_asks : (plan : Tables) (calling : Calling) (start : ℕ) (member : Member) → AsksAtMost 11 1 (trial_steps plan calling start member)
-unfolding AsksAtMost trial_steps ◌>>=◌
-trial_asks plan calling start member =
-    λ trunk. asks_bind 10 0 0 0 10 0 (test_junctors calling.line.frame 0 10) _ refl refl (junctors_ask calling.line.frame 0 10) (λ junctors. tt)
-
--- where no member is listed it has none
-pub trial_at_asks : (plan : Tables) (calling : Calling) (members : List Member) (start index : ℕ) → AsksAtMost 11 1 (trial_steps_at plan calling members start index)
-unfolding AsksAtMost trial_steps_at
-trial_at_asks plan calling members start index = at (slice_get members index) where
-  at : (o : Option Member) → AsksAtMost 11 1 (option_map_or (trial_steps plan calling start) o (Ends NoChannel))
-  at None = tt
-  at (Some member) = trial_asks plan calling start member
+-- a member is reached with one test and one seizing
+pub reach_asks : (member : Member) → AsksAtMost 1 1 (reach member)
+unfolding AsksAtMost reach ◌>>=◌
+reach_asks member = λ trunk. tt
 
 -- the second trial has no more
-pub second_trial_asks : (plan : Tables) (calling : Calling) (trunks : Trunks) (cards : List Card) (index : ℕ) → AsksAtMost 11 1 (second_trial_steps plan calling trunks cards index)
+pub second_trial_asks : (plan : Tables) (calling : Calling) (junctors : List ℕ) (cards : List Card) (index : ℕ) (member : Member) → AsksAtMost 1 1 (second_trial_steps plan calling junctors cards index member)
 unfolding AsksAtMost second_trial_steps
-second_trial_asks plan calling trunks cards index =
-    asks_bind 11 1 0 0 11 1 (trial_steps_at plan calling trunks.members 5 index) _ refl refl (trial_at_asks plan calling trunks.members 5 index) (λ end. tt)
+second_trial_asks plan calling junctors cards index member = asks_bind 1 1 0 0 1 1 (reach member) _ refl refl (reach_asks member) (λ trunk. tt)
+
+-- where no member is listed it has none
+pub second_trial_at_asks : (plan : Tables) (calling : Calling) (junctors : List ℕ) (trunks : Trunks) (cards : List Card) (index : ℕ) → AsksAtMost 1 1 (second_trial_at plan calling junctors trunks cards index)
+unfolding AsksAtMost second_trial_at
+second_trial_at_asks plan calling junctors trunks cards index = at (slice_get trunks.members index) where
+  at : (o : Option Member) → AsksAtMost 1 1 (option_map_or (second_trial_steps plan calling junctors cards index) o (Ends (second_decides cards index NoChannel)))
+  at None = tt
+  at (Some member) = second_trial_asks plan calling junctors cards index member
 
 -- nor has what follows the first one
-pub after_trial_asks : (plan : Tables) (calling : Calling) (trunks : Trunks) (first : ℕ) (end : TrialEnd) → AsksAtMost 11 1 (after_first_trial plan calling trunks first end)
+pub after_trial_asks : (plan : Tables) (calling : Calling) (junctors : List ℕ) (trunks : Trunks) (first : ℕ) (end : TrialEnd) → AsksAtMost 1 1 (after_first_trial plan calling junctors trunks first end)
 unfolding AsksAtMost after_first_trial
-after_trial_asks plan calling trunks first (Chosen pair) = tt
-after_trial_asks plan calling trunks first (Faulty link) = second_trial_asks plan calling trunks (cards_of 1 (Faulty link)) (next_clear trunks first)
-after_trial_asks plan calling trunks first NoChannel = second_trial_asks plan calling trunks [] (next_clear trunks first)
+after_trial_asks plan calling junctors trunks first (Chosen pair) = tt
+after_trial_asks plan calling junctors trunks first (Faulty link) = second_trial_at_asks plan calling junctors trunks (cards_of 1 (Faulty link)) (next_clear trunks first)
+after_trial_asks plan calling junctors trunks first NoChannel = second_trial_at_asks plan calling junctors trunks [] (next_clear trunks first)
 
--- two trials have twice as much as one
-pub two_trials_ask : (plan : Tables) (calling : Calling) (trunks : Trunks) (first : ℕ) → AsksAtMost 22 2 (two_trials_steps plan calling trunks first)
-unfolding two_trials_steps
-two_trials_ask plan calling trunks first =
-    asks_bind 11 1 11 1 22 2 (trial_steps_at plan calling trunks.members 0 first) (after_first_trial plan calling trunks first) refl refl (trial_at_asks plan calling trunks.members 0 first) (after_trial_asks plan calling trunks first)
+-- the first trial has the tests of the line junctor switches besides
+pub first_trial_asks : (plan : Tables) (calling : Calling) (trunks : Trunks) (first : ℕ) (member : Member) → AsksAtMost 12 2 (first_trial_steps plan calling trunks first member)
+unfolding first_trial_steps
+first_trial_asks plan calling trunks first member =
+    asks_bind 1 1 11 1 12 2 (reach member) _ refl refl (reach_asks member)
+    (
+    λ trunk. asks_bind 10 0 1 1 11 1 (test_junctors calling.line.frame 0 10) _ refl refl (junctors_ask calling.line.frame 0 10)
+    (λ junctors. after_trial_asks plan calling junctors trunks first (trial_end plan calling junctors 0 member trunk))
+    )
 
-registers_ask : (plan : Tables) (calling : Calling) (trunks : Trunks) (found : Option ℕ) → AsksAtMost 22 2 (try_registers plan calling trunks found)
+-- so two trials have twelve tests and two seizings
+pub two_trials_ask : (plan : Tables) (calling : Calling) (trunks : Trunks) (first : ℕ) → AsksAtMost 12 2 (two_trials_steps plan calling trunks first)
+unfolding AsksAtMost two_trials_steps
+two_trials_ask plan calling trunks first = at (slice_get trunks.members first) where
+  at : (o : Option Member) → AsksAtMost 12 2 (option_map_or (first_trial_steps plan calling trunks first) o (Ends (second_decides [] first NoChannel)))
+  at None = tt
+  at (Some member) = first_trial_asks plan calling trunks first member
+
+registers_ask : (plan : Tables) (calling : Calling) (trunks : Trunks) (found : Option ℕ) → AsksAtMost 12 2 (try_registers plan calling trunks found)
 unfolding AsksAtMost try_registers
 registers_ask plan calling trunks None = tt
 registers_ask plan calling trunks (Some first) =
-    asks_bind 22 2 0 0 22 2 (two_trials_steps plan calling trunks first) _ refl refl (two_trials_ask plan calling trunks first) (λ trials. tt)
+    asks_bind 12 2 0 0 12 2 (two_trials_steps plan calling trunks first) _ refl refl (two_trials_ask plan calling trunks first) (λ trials. tt)
 
-register_asks : (plan : Tables) (calling : Calling) → AsksAtMost 23 3 (find_register plan calling)
+register_asks : (plan : Tables) (calling : Calling) → AsksAtMost 13 3 (find_register plan calling)
 unfolding AsksAtMost find_register ◌>>=◌
 register_asks plan calling =
     λ word. registers_ask plan calling (registers plan word) (first_below (is_bit_clear word) (length (registers plan word).members))
 
-idle_line_asks : (plan : Tables) (calling : Calling) (found : Option ℕ) → AsksAtMost 23 3 (serve_idle_line plan calling found)
+idle_line_asks : (plan : Tables) (calling : Calling) (found : Option ℕ) → AsksAtMost 13 3 (serve_idle_line plan calling found)
 unfolding AsksAtMost serve_idle_line
 idle_line_asks plan calling (Some channel) = tt
 idle_line_asks plan calling None = register_asks plan calling
 
--- a dial tone script has 24 tests and four seizings
-pub dial_asks : (plan : Tables) (line : Line) → AsksAtMost 24 4 (dial_steps plan line)
+-- a dial tone script has 14 tests and four seizings
+pub dial_asks : (plan : Tables) (line : Line) → AsksAtMost 14 4 (dial_steps plan line)
 unfolding AsksAtMost dial_steps ◌>>=◌
 dial_asks plan line = λ word. idle_line_asks plan (record { line = line; word = word }) (field_at_place LineShape word line.x)
 
--- no job's script has more than 41 tests and 18 seizings
-pub script_asks : (plan : Tables) (job : Job) → AsksAtMost 41 18 (script plan job)
+-- no job's script has more than 42 tests and 19 seizings
+pub script_asks : (plan : Tables) (job : Job) → AsksAtMost 42 19 (script plan job)
 unfolding script
-script_asks plan (Dial line) = asks_more 24 4 41 18 (dial_steps plan line) (omega arith) (omega arith) (dial_asks plan line)
+script_asks plan job = asks_more 14 4 42 19 (dial_steps plan (job_line job)) (omega arith) (omega arith) (dial_asks plan (job_line job))
 
 -- a decision has no more effects than there is room for
 abbrev pub HasFew : Decision → Type 0
@@ -130,4 +140,4 @@ few_effects decision = of_option decision.take where
 
   of_option : (o : Option Take) → length (option_map_or take_effects o []) ≤ 14
   of_option None = omega arith
-  of_option (Some take) = of_path take.pair.calling take.pair.called take.group take.index
+  of_option (Some take) = of_path take.paths.calling take.paths.called take.group take.index

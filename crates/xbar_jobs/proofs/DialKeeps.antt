@@ -1,8 +1,8 @@
-use Rattle.std.proofs.Common.{◌≡◌, ℕ, zero, suc, ◌+◌, ◌<◌, ◌≤◌, List, [], ◌∷◌, ◌++◌, length, inl, refl, sym, subst, arith}
+use Rattle.std.proofs.Common.{◌≡◌, ℕ, zero, suc, ◌+◌, ◌<◌, ◌≤◌, List, [], ◌∷◌, ◌++◌, length, inl, refl, sym, ◌∙◌, subst, arith}
 use Rattle.std.specs.Prelude.{Option, Some, None, slice_get, option_map}
 use Rattle.std.specs.Option.{option_map_or}
 use Rattle.std.proofs.lemmas.Option.{slice_get_within}
-use Rattle.xbar_equip.specs.Among.{IsIn}
+use Rattle.turns.specs.Among.{IsIn}
 use Rattle.xbar_equip.specs.First.{first_below}
 use Rattle.xbar_equip.specs.Len.{Line, IsLine}
 use Rattle.xbar_equip.specs.Link.{Link}
@@ -19,47 +19,45 @@ use Rattle.xbar_plan.specs.Tables.{Tables, member_at, register_group}
 use Rattle.xbar_plan.specs.declared.group.Member.{Member}
 use Rattle.xbar_plan.proofs.LawfulPlans.{place_at-range, member-numbers, group_count-range}
 use Rattle.xbar_plan.proofs.LawfulLookups.{register_group-is}
-use Rattle.xbar_office.specs.Legal.{IsJob}
-use Rattle.xbar_office.proofs.DialLawful.{at_group}
+use Rattle.xbar_office.specs.Legal.{IsDialJob}
+use Rattle.xbar_office.proofs.GoodTrials.{at_group}
 use Rattle.xbar_office.specs.Members.{members_of}
 use Rattle.xbar_office.specs.Trial.{faulty_or_chosen, end_of}
 use Rattle.xbar_office.specs.TwoTrials.{cards_of, second_decides}
 use Rattle.xbar_office.specs.declared.job.Job.{Job}
-use Rattle.xbar_office.specs.declared.job.Job.TheVariants.{Dial}
+use Rattle.xbar_office.specs.declared.job.Job.TheVariants.{Dial, Complete, Release}
 use Rattle.xbar_office.specs.declared.reply.Card.{Card}
 use Rattle.xbar_office.specs.declared.reply.End.TheVariants.{LineBusy, RegistersBusy}
-use Rattle.xbar_office.specs.declared.trial.Pair.{Pair}
+use Rattle.xbar_office.specs.declared.trial.CallPaths.{CallPaths}
 use Rattle.xbar_office.specs.declared.trial.TrialEnd.{TrialEnd}
 use Rattle.xbar_office.specs.declared.trial.TrialEnd.TheVariants.{Chosen, Faulty, NoChannel}
 use Rattle.xbar_office.specs.declared.two_trials.Trials.{Trials}
-use Rattle.xbar_jobs.specs.Closing.{dial_tone}
+use Rattle.xbar_jobs.specs.Closing.{tried}
 use Rattle.xbar_jobs.specs.Jobs.{registers, try_registers, find_register, serve_idle_line, dial_steps, script}
-use Rattle.xbar_jobs.specs.Keeping.{KeepsTo, IsCovered}
-use Rattle.xbar_jobs.specs.Script.{Script, Ends, Tests, Seizes, ◌>>=◌}
-use Rattle.xbar_jobs.specs.Trials.{Trunks, is_bit_clear, alone, open_path, test_junctors, trial_steps, trial_steps_at, second_trial_steps, next_clear, after_first_trial, two_trials_steps}
+use Rattle.turns.specs.System.{KeepsTo}
+use Rattle.xbar_jobs.specs.Keeping.{IsCovered}
+use Rattle.turns.specs.Script.{Ends, ◌>>=◌}
+use Rattle.xbar_jobs.specs.Script.{Script}
+use Rattle.xbar_jobs.specs.Trials.{Trunks, is_bit_clear, alone, test_junctors, reach, trial_end, first_trial_steps, second_trial_at, second_trial_steps, next_clear, after_first_trial, two_trials_steps}
 use Rattle.xbar_jobs.specs.declared.trials.Calling.{Calling}
-use Rattle.xbar_jobs.proofs.Keeping.{in_front, in_back, keeps_bind}
-use Rattle.xbar_jobs.proofs.TakenEffects.{IsGoodPair, IsGoodEnd, IsGoodOutcome, MayTake, line_switch_under, line_junctor_under, trunk_switch_under, group_under, dial_covered, refused_covered}
+use Rattle.turns.proofs.Keeping.{keeps_bind, keeps_map}
+use Rattle.turns.proofs.Lists.{in_front, in_back}
+use Rattle.xbar_jobs.specs.Office.{office}
+use Rattle.xbar_office.specs.declared.aim.Aim.TheVariants.{DialTone}
+use Rattle.xbar_jobs.proofs.TakenEffects.{IsGoodPair, IsGoodEnd, IsGoodChoice, MayTake, line_switch_under, line_junctor_under, trunk_switch_under, group_under, dial_covered, refused_covered}
 
--- a script that keeps to a property keeps to one that follows from it
-pub keeps_more : {A : Type 0} (Fits FitsToo : List Conn → A → Type 0) (held : List Conn) (script : Script A) → ((conns : List Conn) (found : A) → Fits conns found → FitsToo conns found) → KeepsTo Fits held script → KeepsTo FitsToo held script
-unfolding KeepsTo
-keeps_more Fits FitsToo held (Ends found) follows keeps = follows held found keeps
-keeps_more Fits FitsToo held (Tests word script) follows keeps = (keeps.0, λ value. keeps_more Fits FitsToo held (script value) follows (keeps.1 value))
-keeps_more Fits FitsToo held (Seizes conn script) follows keeps = (keeps.0, keeps_more Fits FitsToo (held ++ conn ∷ []) script follows keeps.1)
-
--- the same with another script behind it
-pub keeps_then : {A B : Type 0} (Fits : List Conn → A → Type 0) (FitsNext : List Conn → B → Type 0) (held : List Conn) (script : Script A) (next : A → Script B) → KeepsTo Fits held script → ((conns : List Conn) (found : A) → Fits conns found → KeepsTo FitsNext conns (next found)) → KeepsTo FitsNext held (script >>= next)
-keeps_then Fits FitsNext held script next keeps follows =
-    keeps_bind FitsNext held script next (keeps_more Fits (λ conns found. KeepsTo FitsNext conns (next found)) held script follows keeps)
+-- a script keeps to what follows from what it keeps to, and so it does with another script behind it
+pub keeps_then : (plan : Tables) {A B : Type 0} (Fits : List Conn → A → Type 0) (FitsNext : List Conn → B → Type 0) (held : List Conn) (script : Script A) (next : A → Script B) → KeepsTo (office plan) Fits held script → ((conns : List Conn) (found : A) → Fits conns found → KeepsTo (office plan) FitsNext conns (next found)) → KeepsTo (office plan) FitsNext held (script >>= next)
+keeps_then plan Fits FitsNext held script next keeps follows =
+    keeps_bind (office plan) FitsNext held script next (keeps_map (office plan) Fits (λ conns found. KeepsTo (office plan) FitsNext conns (next found)) held script follows keeps)
 
 -- with their frame held, line junctor switches may be tested, and no more is held then
-pub junctors_keep : (held : List Conn) (frame channel count : ℕ) → IsIn (Llf frame) held → frame < 10 → channel + count ≤ 10 → KeepsTo (λ conns words. conns ≡ held) held (test_junctors frame channel count)
+pub junctors_keep : (plan : Tables) (held : List Conn) (frame channel count : ℕ) → IsIn (Llf frame) held → frame < 10 → channel + count ≤ 10 → KeepsTo (office plan) (λ conns words. conns ≡ held) held (test_junctors frame channel count)
 unfolding KeepsTo test_junctors ◌>>=◌
-junctors_keep held frame channel zero own below range = refl
-junctors_keep held frame channel (suc count) own below range = (
-  line_junctor_under held frame channel own below (omega arith),
-  λ word. keeps_then (λ conns words. conns ≡ held) (λ conns words. conns ≡ held) held (test_junctors frame (channel + 1) count) (λ words. Ends (word ∷ words)) (junctors_keep held frame (channel + 1) count own below (omega arith)) (λ conns words same. same),
+junctors_keep plan held frame channel zero own below range = refl
+junctors_keep plan held frame channel (suc count) own below range = (
+  line_junctor_under plan held frame channel own below (omega arith),
+  λ word. keeps_then plan (λ conns words. conns ≡ held) (λ conns words. conns ≡ held) held (test_junctors frame (channel + 1) count) (λ words. Ends (word ∷ words)) (junctors_keep plan held frame (channel + 1) count own below (omega arith)) (λ conns words same. same),
 )
 
 -- a line's frame and a group are held
@@ -71,18 +69,13 @@ module _ (plan : Tables) (calling : Calling) (number : ℕ) (laws : IsLawful pla
   abbrev pub HasOwn : List Conn → Type 0
   HasOwn held = HasBoth held calling.line.frame number
 
-  -- a trial leaves them held, and chooses what may be taken then
-  record GoodTrial (index : ℕ) (held : List Conn) (end : TrialEnd) : Type 0 where
-    both : HasBoth held calling.line.frame number
-    good : IsGoodEnd held number index end
-
   abbrev pub members : List Member
   members = members_of plan number
 
   with_conn : (held : List Conn) (conn : Conn) → HasOwn held → HasOwn (held ++ conn ∷ [])
   with_conn held conn both = record { line = in_front _ held (conn ∷ []) both.line; group = in_front _ held (conn ∷ []) both.group }
 
-  good_tested : (held : List Conn) (index : ℕ) (pair : Pair) (fault : Option Link) → IsGoodPair held number index pair → IsGoodEnd held number index (faulty_or_chosen pair fault)
+  good_tested : (held : List Conn) (index : ℕ) (pair : CallPaths) (fault : Option Link) → IsGoodPair held number index pair → IsGoodEnd held number index (faulty_or_chosen pair fault)
   good_tested held index pair None good = good
   good_tested held index pair (Some link) good = tt
 
@@ -108,38 +101,27 @@ module _ (plan : Tables) (calling : Calling) (number : ℕ) (laws : IsLawful pla
     good_found held (Some k) both own =
         good_tested held index _ _ (record { path = path_by calling.line member.first (channel_in_turn start k); is = refl; may = may_take held k both own })
 
-    good_trial : (held : List Conn) (trunk : ℕ) (junctors : List ℕ) → HasOwn held → IsIn (Tlf member.first.frame) held → GoodTrial index held (end_of plan (option_map alone (open_path calling start member.first trunk junctors)))
-    good_trial held trunk junctors both own = record {
-      both = both;
-      good = good_found held (first_below (λ k. is_open_channel (match_words calling.word junctors trunk) member.first.frame (channel_in_turn start k)) 10) both own;
-    }
+    -- a trial chooses what may be taken then
+    good_trial : (held : List Conn) (trunk : ℕ) (junctors : List ℕ) → HasOwn held → IsIn (Tlf member.first.frame) held → IsGoodEnd held number index (trial_end plan calling junctors start member trunk)
+    good_trial held trunk junctors both own = good_found held (first_below (λ k. is_open_channel (match_words calling.word junctors trunk) member.first.frame (channel_in_turn start k)) 10) both own
 
-    trial_keeps : (held : List Conn) → HasOwn held → KeepsTo (GoodTrial index) held (trial_steps plan calling start member)
-    unfolding KeepsTo trial_steps ◌>>=◌
-    trial_keeps held both =
-        let frame : Conn = Tlf member.first.frame in
-        let more : List Conn = held ++ frame ∷ [] in
-        let own : IsIn frame more = in_back frame held (frame ∷ []) (inl refl) in
-        let still : HasOwn more = with_conn held frame both in (
-          place.frame,
-          (
-            trunk_switch_under more member.first.frame member.first.switch own place.frame place.switch,
-            λ trunk. keeps_then (λ conns words. conns ≡ more) (GoodTrial index) more (test_junctors calling.line.frame 0 10) _
-                (junctors_keep more calling.line.frame 0 10 still.line in_range.frame (omega arith))
-                (λ conns junctors same. subst (λ (c : List Conn). GoodTrial index c (end_of plan (option_map alone (open_path calling start member.first trunk junctors)))) (sym same) (good_trial more trunk junctors still own)),
-          ),
-        )
+  -- what is held once a member was reached
+  abbrev reached : List Conn → Member → List Conn
+  reached held member = held ++ Tlf member.first.frame ∷ []
 
-  trial_at_keeps : (held : List Conn) (start index : ℕ) → HasOwn held → KeepsTo (GoodTrial index) held (trial_steps_at plan calling members start index)
-  unfolding KeepsTo trial_steps_at
-  trial_at_keeps held start index both = at (slice_get members index) refl where
-    at : (o : Option Member) → slice_get members index ≡ o → KeepsTo (GoodTrial index) held (option_map_or (trial_steps plan calling start) o (Ends NoChannel))
-    at None here = record { both = both; good = tt }
-    at (Some member) here = trial_keeps index start member here held both
+  has_reached : (held : List Conn) (member : Member) → IsIn (Tlf member.first.frame) (reached held member)
+  has_reached held member = in_back (Tlf member.first.frame) held (Tlf member.first.frame ∷ []) (inl refl)
+
+  reach_keeps : (held : List Conn) (member : Member) → IsTrunkPlace member.first → KeepsTo (office plan) (λ conns trunk. conns ≡ reached held member) held (reach member)
+  unfolding KeepsTo reach ◌>>=◌
+  reach_keeps held member place = (
+    place.frame,
+    (trunk_switch_under plan (reached held member) member.first.frame member.first.switch (has_reached held member) place.frame place.switch, λ trunk. refl),
+  )
 
   -- two trials come to what may be taken
   abbrev pub GoodTrials : List Conn → Trials → Type 0
-  GoodTrials held trials = IsGoodOutcome held number trials.outcome
+  GoodTrials held trials = IsGoodChoice held number trials.choice
 
   good_second : (held : List Conn) (cards : List Card) (index : ℕ) (end : TrialEnd) → IsGoodEnd held number index end → GoodTrials held (second_decides cards index end)
   good_second held cards index (Chosen pair) good = good
@@ -150,24 +132,49 @@ module _ (plan : Tables) (calling : Calling) (number : ℕ) (laws : IsLawful pla
   abbrev pub trunks_by : ℕ → Trunks
   trunks_by word = record { members = members; word = word }
 
-  second_keeps : (held : List Conn) (word : ℕ) (cards : List Card) (index : ℕ) → HasOwn held → KeepsTo GoodTrials held (second_trial_steps plan calling (trunks_by word) cards index)
-  unfolding KeepsTo second_trial_steps
-  second_keeps held word cards index both =
-      keeps_then (GoodTrial index) GoodTrials held (trial_steps_at plan calling members 5 index) (λ end. Ends (second_decides cards index end)) (trial_at_keeps held 5 index both)
-      (λ conns end trial. good_second conns cards index end trial.good)
+  second_keeps : (held : List Conn) (junctors : List ℕ) (word : ℕ) (cards : List Card) (index : ℕ) → HasOwn held → KeepsTo (office plan) GoodTrials held (second_trial_at plan calling junctors (trunks_by word) cards index)
+  unfolding KeepsTo second_trial_at second_trial_steps
+  second_keeps held junctors word cards index both = at (slice_get members index) refl where
+    at : (o : Option Member) → slice_get members index ≡ o → KeepsTo (office plan) GoodTrials held (option_map_or (second_trial_steps plan calling junctors cards index) o (Ends (second_decides cards index NoChannel)))
+    at None here = tt
+    at (Some member) here =
+        keeps_then plan (λ conns trunk. conns ≡ reached held member) GoodTrials held (reach member) _ (reach_keeps held member (place index 5 member here))
+        (
+        λ conns trunk same.
+        subst (λ (c : List Conn). GoodTrials c (second_decides cards index (trial_end plan calling junctors 5 member trunk))) (sym same)
+        (good_second (reached held member) cards index _ (good_trial index 5 member here (reached held member) trunk junctors (with_conn held (Tlf member.first.frame) both) (has_reached held member)))
+        )
 
-  after_keeps : (held : List Conn) (word first : ℕ) (end : TrialEnd) → GoodTrial first held end → KeepsTo GoodTrials held (after_first_trial plan calling (trunks_by word) first end)
+  after_keeps : (held : List Conn) (junctors : List ℕ) (word first : ℕ) (end : TrialEnd) → HasOwn held → IsGoodEnd held number first end → KeepsTo (office plan) GoodTrials held (after_first_trial plan calling junctors (trunks_by word) first end)
   unfolding KeepsTo after_first_trial
-  after_keeps held word first (Chosen pair) trial = trial.good
-  after_keeps held word first (Faulty link) trial = second_keeps held word (cards_of 1 (Faulty link)) (next_clear (trunks_by word) first) trial.both
-  after_keeps held word first NoChannel trial = second_keeps held word [] (next_clear (trunks_by word) first) trial.both
+  after_keeps held junctors word first (Chosen pair) both good = good
+  after_keeps held junctors word first (Faulty link) both good = second_keeps held junctors word (cards_of 1 (Faulty link)) (next_clear (trunks_by word) first) both
+  after_keeps held junctors word first NoChannel both good = second_keeps held junctors word [] (next_clear (trunks_by word) first) both
+
+  first_keeps : (held : List Conn) (word first : ℕ) (member : Member) → slice_get members first ≡ Some member → HasOwn held → KeepsTo (office plan) GoodTrials held (first_trial_steps plan calling (trunks_by word) first member)
+  unfolding first_trial_steps
+  first_keeps held word first member here both =
+      let more : List Conn = reached held member in
+      let still : HasOwn more = with_conn held (Tlf member.first.frame) both in
+      keeps_then plan (λ conns trunk. conns ≡ more) GoodTrials held (reach member) _ (reach_keeps held member (place first 0 member here))
+      (
+      λ conns trunk same.
+      keeps_then plan (λ later words. later ≡ conns) GoodTrials conns (test_junctors calling.line.frame 0 10) _
+      (junctors_keep plan conns calling.line.frame 0 10 (subst (λ (c : List Conn). IsIn (Llf calling.line.frame) c) (sym same) still.line) in_range.frame (omega arith))
+      (
+      λ later junctors again.
+      subst (λ (c : List Conn). KeepsTo (office plan) GoodTrials c (after_first_trial plan calling junctors (trunks_by word) first (trial_end plan calling junctors 0 member trunk))) (sym (again ∙ same))
+      (after_keeps more junctors word first _ still (good_trial first 0 member here more trunk junctors still (has_reached held member)))
+      )
+      )
 
   -- two trials on the group's members keep to what is held, with the line's frame and the group among it
-  pub two_trials_keep : (held : List Conn) (word first : ℕ) → HasOwn held → KeepsTo GoodTrials held (two_trials_steps plan calling (trunks_by word) first)
-  unfolding two_trials_steps
-  two_trials_keep held word first both =
-      keeps_then (GoodTrial first) GoodTrials held (trial_steps_at plan calling members 0 first) (after_first_trial plan calling (trunks_by word) first) (trial_at_keeps held 0 first both)
-      (λ conns end trial. after_keeps conns word first end trial)
+  pub two_trials_keep : (held : List Conn) (word first : ℕ) → HasOwn held → KeepsTo (office plan) GoodTrials held (two_trials_steps plan calling (trunks_by word) first)
+  unfolding KeepsTo two_trials_steps
+  two_trials_keep held word first both = at (slice_get members first) refl where
+    at : (o : Option Member) → slice_get members first ≡ o → KeepsTo (office plan) GoodTrials held (option_map_or (first_trial_steps plan calling (trunks_by word) first) o (Ends (second_decides [] first NoChannel)))
+    at None here = tt
+    at (Some member) here = first_keeps held word first member here both
 
 module _ (plan : Tables) (calling : Calling) (laws : IsLawful plan) (in_range : IsLine calling.line) where
   register_group-range : register_group plan < 16
@@ -177,15 +184,15 @@ module _ (plan : Tables) (calling : Calling) (laws : IsLawful plan) (in_range : 
       let count = group_count-range plan laws in
       omega (arith, within, count.1)
 
-  try_keeps : (held : List Conn) (word : ℕ) (found : Option ℕ) → HasBoth held calling.line.frame (register_group plan) → KeepsTo IsCovered held (try_registers plan calling (registers plan word) found)
+  try_keeps : (held : List Conn) (word : ℕ) (found : Option ℕ) → HasBoth held calling.line.frame (register_group plan) → KeepsTo (office plan) (IsCovered plan) held (try_registers plan calling (registers plan word) found)
   unfolding KeepsTo try_registers
-  try_keeps held word None both = refused_covered held RegistersBusy
+  try_keeps held word None both = refused_covered plan held RegistersBusy
   try_keeps held word (Some first) both =
-      keeps_then (GoodTrials plan calling (register_group plan) laws in_range) IsCovered held (two_trials_steps plan calling (registers plan word) first) (λ trials. Ends (dial_tone (register_group plan) trials))
+      keeps_then plan (GoodTrials plan calling (register_group plan) laws in_range) (IsCovered plan) held (two_trials_steps plan calling (registers plan word) first) (λ trials. Ends (tried DialTone (register_group plan) trials))
       (two_trials_keep plan calling (register_group plan) laws in_range held word first both)
-      (λ conns trials good. dial_covered conns (register_group plan) trials.outcome trials.cards good)
+      (λ conns trials good. dial_covered plan conns (register_group plan) trials.choice trials.cards good)
 
-  find_keeps : (held : List Conn) → IsIn (Llf calling.line.frame) held → KeepsTo IsCovered held (find_register plan calling)
+  find_keeps : (held : List Conn) → IsIn (Llf calling.line.frame) held → KeepsTo (office plan) (IsCovered plan) held (find_register plan calling)
   unfolding KeepsTo find_register ◌>>=◌
   find_keeps held line =
       let group : Conn = Group (register_group plan) in
@@ -193,28 +200,30 @@ module _ (plan : Tables) (calling : Calling) (laws : IsLawful plan) (in_range : 
       let own : IsIn group more = in_back _ held (group ∷ []) (inl refl) in (
         register_group-range,
         (
-          group_under more (register_group plan) own register_group-range,
+          group_under plan more (register_group plan) own register_group-range,
           λ word. try_keeps more word (first_below (is_bit_clear word) (length (registers plan word).members)) (record { line = in_front _ held (group ∷ []) line; group = own }),
         ),
       )
 
-  serve_keeps : (held : List Conn) (found : Option ℕ) → IsIn (Llf calling.line.frame) held → KeepsTo IsCovered held (serve_idle_line plan calling found)
+  serve_keeps : (held : List Conn) (found : Option ℕ) → IsIn (Llf calling.line.frame) held → KeepsTo (office plan) (IsCovered plan) held (serve_idle_line plan calling found)
   unfolding KeepsTo serve_idle_line
-  serve_keeps held (Some channel) line = refused_covered held LineBusy
+  serve_keeps held (Some channel) line = refused_covered plan held LineBusy
   serve_keeps held None line = find_keeps held line
 
 -- a dial tone script tests what is protected, and what it decides is covered
-pub dial_keeps : (plan : Tables) (line : Line) → IsLawful plan → IsLine line → KeepsTo IsCovered [] (dial_steps plan line)
+pub dial_keeps : (plan : Tables) (line : Line) → IsLawful plan → IsLine line → KeepsTo (office plan) (IsCovered plan) [] (dial_steps plan line)
 unfolding KeepsTo dial_steps ◌>>=◌
 dial_keeps plan line laws in_range = (
   in_range.frame,
   (
-    line_switch_under (Llf line.frame ∷ []) line.frame line.switch (inl refl) in_range.frame in_range.switch,
+    line_switch_under plan (Llf line.frame ∷ []) line.frame line.switch (inl refl) in_range.frame in_range.switch,
     λ word. serve_keeps plan (record { line = line; word = word }) laws in_range (Llf line.frame ∷ []) (field_at_place LineShape word line.x) (inl refl),
   ),
 )
 
 -- and so does each job's script
-pub script_keeps : (plan : Tables) (job : Job) → IsLawful plan → IsJob job → KeepsTo IsCovered [] (script plan job)
+pub script_keeps : (plan : Tables) (job : Job) → IsLawful plan → IsDialJob job → KeepsTo (office plan) (IsCovered plan) [] (script plan job)
 unfolding script
 script_keeps plan (Dial line) laws in_range = dial_keeps plan line laws in_range
+script_keeps plan (Complete line dialled) laws in_range = absurd in_range
+script_keeps plan (Release line) laws in_range = absurd in_range

@@ -3,6 +3,8 @@ use Rattle.std.proofs.Common.{◌≡◌, ℕ, zero, suc, ◌+◌, ◌<◌, Bool,
 use Rattle.std.specs.Prelude.{Option, Some, None, IsSome, find, ◌==◌, not, slice_get, slice_index, option_map, option_and_then, if◌then◌else◌}
 use Rattle.std.specs.Option.{option_map_or}
 use Rattle.xbar_equip.specs.Len.{Line, IsLine}
+use Rattle.xbar_equip.proofs.FirstNumber.{first_below-law}
+use Rattle.xbar_equip.specs.First.{IsFirstBelow}
 use Rattle.xbar_equip.specs.Path.{path_by}
 use Rattle.xbar_equip.specs.Paths.{channel_test, has_line, is_idle}
 use Rattle.xbar_equip.specs.Word.{LineSwitch, LineJunctor, TrunkSwitch, GroupWord}
@@ -11,6 +13,7 @@ use Rattle.xbar_equip.proofs.PathTests.{idle-none, none-idle, line_eq-exact}
 use Rattle.xbar_switch.specs.declared.shape.Shape.TheVariants.{Line as LineShape}
 use Rattle.xbar_match.specs.Traces.{field_at_place}
 use Rattle.xbar_match.proofs.TracedPaths.{Found, One, NoOne, find-found, line_field-none, line_field-path}
+use Rattle.xbar_office.specs.declared.aim.Aim.TheVariants.{DialTone}
 use Rattle.xbar_office.specs.declared.reply.End.TheVariants.{LineBusy, RegistersBusy}
 use mathlib.Core.Bool.{true≢false}
 use Rattle.xbar_match.specs.Channels.{match_words}
@@ -27,15 +30,16 @@ use Rattle.xbar_office.specs.declared.reply.Card.{Card}
 use Rattle.xbar_office.specs.declared.trial.Parties.{Parties}
 use Rattle.xbar_office.specs.declared.trial.TrialEnd.{TrialEnd}
 use Rattle.xbar_office.specs.declared.trial.TrialEnd.TheVariants.{Chosen, Faulty, NoChannel}
+use Rattle.xbar_office.specs.declared.two_trials.Trials.{Trials}
 use Rattle.xbar_jobs.specs.Office.{ShowsOffice, is_busy_at}
-use Rattle.xbar_jobs.specs.Script.{Ends, ◌>>=◌, run}
-use Rattle.xbar_jobs.specs.Trials.{Trunks, alone, is_bit_clear, test_junctors, trial_steps, trial_steps_at, next_clear, second_trial_steps, after_first_trial, two_trials_steps}
+use Rattle.turns.specs.Script.{Ends, ◌>>=◌, run}
+use Rattle.xbar_jobs.specs.Trials.{Trunks, alone, is_bit_clear, test_junctors, reach, trial_end, next_clear, first_trial_steps, second_trial_at, second_trial_steps, after_first_trial, two_trials_steps}
 use Rattle.xbar_jobs.specs.declared.trials.Calling.{Calling}
-use Rattle.xbar_office.proofs.DialLawful.{at_group}
-use Rattle.xbar_jobs.specs.Closing.{refused, dial_tone}
+use Rattle.xbar_office.proofs.GoodTrials.{at_group}
+use Rattle.xbar_jobs.specs.Closing.{refused, tried}
 use Rattle.xbar_jobs.specs.Jobs.{registers, try_registers, find_register, serve_idle_line, dial_steps}
 use Rattle.xbar_jobs.specs.declared.decision.Decision.{Decision}
-use Rattle.xbar_jobs.proofs.Runs.{run_bind}
+use Rattle.turns.proofs.Walks.{run_bind}
 use Rattle.xbar_jobs.proofs.SameChoice.{first_below-same, next_below-same}
 
 -- the words that the tests of the line junctor switches find
@@ -93,24 +97,24 @@ module _ (plan : Tables) (words : List ℕ) (paths : List Path) (line : Line) (l
   listed : (i : ℕ) (member : Member) → slice_get members i ≡ Some member → member_at plan group i ≡ Some member
   listed i member here = at_group i member (slice_get plan.groups group) here
 
-  -- a trial's end on the words is its end on the set
-  trial_runs : (start i : ℕ) (member : Member) → slice_get members i ≡ Some member → run words (trial_steps plan calling start member) ≡ trial plan paths start parties member
-  unfolding run trial_steps ◌>>=◌
-  trial_runs start i member here =
-      let place = place_at-range plan laws group i member member.first (listed i member here) (inl refl) in
-      let junctors = run words (test_junctors line.frame 0 10) in
-      let links = shows_links-shown words junctors paths line member.first shows.switches shows.lawful.ranges in_range place (λ n below. let same : 0 + n ≡ n = omega arith in junctors_run words line.frame 0 10 n below ∙ ap (λ (k : ℕ). word_of words (LineJunctor line.frame k)) same) in
-      let same = first_open_channel-shown (match_words calling.word junctors (word_of words (TrunkSwitch member.first.frame member.first.switch))) paths line member.first start links in
-      run_bind words (test_junctors line.frame 0 10) _
-      ∙ ap (λ (found : Option ℕ). end_of plan (option_map alone (option_map (path_by line member.first) found))) (sym same)
-      ∙ ap (end_of plan) (sym (one_leg paths start (option_map (path_by line member.first) (channel_test paths line member.first start))))
+  abbrev junctors : List ℕ
+  junctors = run words (test_junctors line.frame 0 10)
 
-  trial_at_runs : (start i : ℕ) → run words (trial_steps_at plan calling members start i) ≡ trial_at plan paths start parties members i
-  unfolding run trial_steps_at
-  trial_at_runs start i = at (slice_get members i) refl where
-    at : (o : Option Member) → slice_get members i ≡ o → run words (option_map_or (trial_steps plan calling start) o (Ends NoChannel)) ≡ option_map_or (trial plan paths start parties) o NoChannel
-    at None here = refl
-    at (Some member) here = trial_runs start i member here
+  abbrev trunk_of : Member → ℕ
+  trunk_of member = word_of words (TrunkSwitch member.first.frame member.first.switch)
+
+  reach_runs : (member : Member) → run words (reach member) ≡ trunk_of member
+  unfolding run reach ◌>>=◌
+  reach_runs member = refl
+
+  -- a trial's end by the words is its end on the set
+  end_runs : (start i : ℕ) (member : Member) → slice_get members i ≡ Some member → trial_end plan calling junctors start member (trunk_of member) ≡ trial plan paths start parties member
+  end_runs start i member here =
+      let place = place_at-range plan laws group i member member.first (listed i member here) (inl refl) in
+      let links = shows_links-shown words junctors paths line member.first shows.switches shows.lawful.orderly.ranges in_range place (λ n below. let same : 0 + n ≡ n = omega arith in junctors_run words line.frame 0 10 n below ∙ ap (λ (k : ℕ). word_of words (LineJunctor line.frame k)) same) in
+      let same = first_open_channel-shown (match_words calling.word junctors (trunk_of member)) paths line member.first start links in
+      ap (λ (found : Option ℕ). end_of plan (option_map alone (option_map (path_by line member.first) found))) (sym same)
+      ∙ ap (end_of plan) (sym (one_leg paths start (option_map (path_by line member.first) (channel_test paths line member.first start))))
 
   -- the registers' bits tell which are idle
   bits_tell : (i : ℕ) → i < length members → is_bit_clear trunks.word i ≡ is_idle_at paths members i
@@ -126,42 +130,57 @@ module _ (plan : Tables) (words : List ℕ) (paths : List Path) (line : Line) (l
   next_runs : (first : ℕ) → next_clear trunks first ≡ next_idle paths members first
   next_runs first = next_below-same (is_bit_clear trunks.word) (is_idle_at paths members) (length members) first bits_tell
 
-  second_runs : (cards : List Card) (next : ℕ) → run words (second_trial_steps plan calling trunks cards next) ≡ second_decides cards next (trial_at plan paths 5 parties members next)
-  unfolding run second_trial_steps
-  second_runs cards next = run_bind words (trial_steps_at plan calling members 5 next) _ ∙ ap (second_decides cards next) (trial_at_runs 5 next)
+  second_runs : (cards : List Card) (next : ℕ) → run words (second_trial_at plan calling junctors trunks cards next) ≡ second_decides cards next (trial_at plan paths 5 parties members next)
+  unfolding run second_trial_at second_trial_steps
+  second_runs cards next = at (slice_get members next) refl where
+    at : (o : Option Member) → slice_get members next ≡ o → run words (option_map_or (second_trial_steps plan calling junctors cards next) o (Ends (second_decides cards next NoChannel))) ≡ second_decides cards next (option_map_or (trial plan paths 5 parties) o NoChannel)
+    at None here = refl
+    at (Some member) here =
+        run_bind words (reach member) _
+        ∙ ap (λ (trunk : ℕ). second_decides cards next (trial_end plan calling junctors 5 member trunk)) (reach_runs member)
+        ∙ ap (second_decides cards next) (end_runs 5 next member here)
 
-  after_runs : (first : ℕ) (end : TrialEnd) → run words (after_first_trial plan calling trunks first end) ≡ first_decides first end (next_idle paths members first) (trial_at plan paths 5 parties members (next_idle paths members first))
+  after_runs : (first : ℕ) (end : TrialEnd) → run words (after_first_trial plan calling junctors trunks first end) ≡ first_decides first end (next_idle paths members first) (trial_at plan paths 5 parties members (next_idle paths members first))
   unfolding run after_first_trial
   after_runs first (Chosen pair) = refl
-  after_runs first (Faulty link) = ap (λ (next : ℕ). run words (second_trial_steps plan calling trunks (cards_of 1 (Faulty link)) next)) (next_runs first) ∙ second_runs (cards_of 1 (Faulty link)) (next_idle paths members first)
-  after_runs first NoChannel = ap (λ (next : ℕ). run words (second_trial_steps plan calling trunks [] next)) (next_runs first) ∙ second_runs [] (next_idle paths members first)
+  after_runs first (Faulty link) = ap (λ (next : ℕ). run words (second_trial_at plan calling junctors trunks (cards_of 1 (Faulty link)) next)) (next_runs first) ∙ second_runs (cards_of 1 (Faulty link)) (next_idle paths members first)
+  after_runs first NoChannel = ap (λ (next : ℕ). run words (second_trial_at plan calling junctors trunks [] next)) (next_runs first) ∙ second_runs [] (next_idle paths members first)
 
   -- two trials on the words come to what they come to on the set
-  trials_run : (first : ℕ) → run words (two_trials_steps plan calling trunks first) ≡ two_trials plan paths parties members first
-  unfolding two_trials_steps
-  trials_run first =
-      run_bind words (trial_steps_at plan calling members 0 first) _
-      ∙ ap (λ (end : TrialEnd). run words (after_first_trial plan calling trunks first end)) (trial_at_runs 0 first)
-      ∙ after_runs first (trial_at plan paths 0 parties members first)
+  trials_run : (first : ℕ) → first < length members → run words (two_trials_steps plan calling trunks first) ≡ two_trials plan paths parties members first
+  unfolding two_trials_steps first_trial_steps
+  trials_run first below = at (slice_get members first) refl (there_is members first below) where
+    decides : TrialEnd → Trials
+    decides end = first_decides first end (next_idle paths members first) (trial_at plan paths 5 parties members (next_idle paths members first))
+
+    at : (o : Option Member) → slice_get members first ≡ o → IsSome o
+        → run words (option_map_or (first_trial_steps plan calling trunks first) o (Ends (second_decides [] first NoChannel))) ≡ decides (option_map_or (trial plan paths 0 parties) o NoChannel)
+    at None here there = cc
+    at (Some member) here there =
+        run_bind words (reach member) _
+        ∙ run_bind words (test_junctors line.frame 0 10) _
+        ∙ ap (λ (trunk : ℕ). run words (after_first_trial plan calling junctors trunks first (trial_end plan calling junctors 0 member trunk))) (reach_runs member)
+        ∙ after_runs first (trial_end plan calling junctors 0 member (trunk_of member))
+        ∙ ap decides (end_runs 0 first member here)
 
   -- the decision that corresponds to what the one-marker office does with the registers
   abbrev pub decided : Option ℕ → Decision
   decided None = refused RegistersBusy
-  decided (Some first) = dial_tone group (two_trials plan paths parties members first)
+  decided (Some first) = tried DialTone group (two_trials plan paths parties members first)
 
-  registers_run : (o : Option ℕ) → run words (try_registers plan calling trunks o) ≡ decided o
+  registers_run : (o : Option ℕ) → IsFirstBelow (is_idle_at paths members) (length members) o → run words (try_registers plan calling trunks o) ≡ decided o
   unfolding run try_registers
-  registers_run None = refl
-  registers_run (Some first) = run_bind words (two_trials_steps plan calling trunks first) _ ∙ ap (dial_tone group) (trials_run first)
+  registers_run None is = refl
+  registers_run (Some first) is = run_bind words (two_trials_steps plan calling trunks first) _ ∙ ap (tried DialTone group) (trials_run first is.0)
 
   -- an idle line gets what the one-marker office gives it
   pub idle_line_runs : is_idle (has_line line) paths ≡ true → run words (dial_steps plan line) ≡ decided (first_idle paths members)
   unfolding run dial_steps serve_idle_line find_register ◌>>=◌
   idle_line_runs idle =
-      let none = line_field-none words paths line shows.switches shows.lawful.ranges in_range (none-idle (has_line line) paths idle) in
+      let none = line_field-none words paths line shows.switches shows.lawful.orderly.ranges in_range (none-idle (has_line line) paths idle) in
       ap (λ (found : Option ℕ). run words (serve_idle_line plan calling found)) none
       ∙ ap (λ (found : Option ℕ). run words (try_registers plan calling trunks found)) (first_below-same (is_bit_clear trunks.word) (is_idle_at paths members) (length members) bits_tell)
-      ∙ registers_run (first_idle paths members)
+      ∙ registers_run (first_idle paths members) (first_below-law (is_idle_at paths members) (length members))
 
   -- and a line with a path is busy
   pub busy_line_runs : is_idle (has_line line) paths ≡ false → run words (dial_steps plan line) ≡ refused LineBusy
@@ -170,7 +189,7 @@ module _ (plan : Tables) (words : List ℕ) (paths : List Path) (line : Line) (l
     by_found : Found (has_line line) paths (find (has_line line) paths) → run words (serve_idle_line plan calling (field_at_place LineShape calling.word line.x)) ≡ refused LineBusy
     by_found (One p within passes found) =
         let same : p.line ≡ line = (line_eq-exact p.line line).0 passes in
-        let field = line_field-path words paths p shows.switches shows.lawful.ranges shows.lawful.apart within in
+        let field = line_field-path words paths p shows.switches shows.lawful.orderly.ranges shows.lawful.orderly.apart within in
         let here : field_at_place LineShape calling.word line.x ≡ Some p.channel = subst (λ (l : Line). field_at_place LineShape (word_of words (LineSwitch l.frame l.switch)) l.x ≡ Some p.channel) same field in
         ap (λ (o : Option ℕ). run words (serve_idle_line plan calling o)) here
     by_found (NoOne none found) = absurd (true≢false (sym (idle-none (has_line line) paths none) ∙ busy))

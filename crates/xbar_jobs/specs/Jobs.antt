@@ -9,10 +9,12 @@ use Rattle.xbar_match.specs.Traces.{field_at_place}
 use Rattle.xbar_plan.specs.Tables.{Tables, register_group}
 use Rattle.xbar_office.specs.Members.{members_of}
 use Rattle.xbar_office.specs.declared.job.Job.{Job}
-use Rattle.xbar_office.specs.declared.job.Job.TheVariants.{Dial}
+use Rattle.xbar_office.specs.declared.job.Job.TheVariants.{Dial, Complete, Release}
+use Rattle.xbar_office.specs.declared.aim.Aim.TheVariants.{DialTone}
 use Rattle.xbar_office.specs.declared.reply.End.TheVariants.{LineBusy, RegistersBusy}
-use Rattle.xbar_jobs.specs.Closing.{refused, dial_tone}
-use Rattle.xbar_jobs.specs.Script.{Script, Ends, ◌>>=◌, ◌>>◌, test, seize}
+use Rattle.xbar_jobs.specs.Closing.{refused, tried}
+use Rattle.turns.specs.Script.{Ends, ◌>>=◌, ◌>>◌, seize}
+use Rattle.xbar_jobs.specs.Script.{Script, test}
 use Rattle.xbar_jobs.specs.Trials.{Trunks, is_bit_clear, two_trials_steps}
 use Rattle.xbar_jobs.specs.declared.decision.Decision.{Decision}
 use Rattle.xbar_jobs.specs.declared.trials.Calling.{Calling}
@@ -26,7 +28,7 @@ unfoldable pub try_registers : Tables → Calling → Trunks → Option ℕ → 
 try_registers plan calling trunks None = Ends (refused RegistersBusy)
 try_registers plan calling trunks (Some first) = do
   trials ← two_trials_steps plan calling trunks first
-  Ends (dial_tone (register_group plan) trials)
+  Ends (tried DialTone (register_group plan) trials)
 
 -- seize the register group and test its word
 unfoldable pub find_register : Tables → Calling → Script Decision
@@ -47,10 +49,16 @@ dial_steps plan line = do
   word ← test (LineSwitch line.frame line.switch)
   serve_idle_line plan (record { line = line; word = word }) (field_at_place LineShape word line.x)
 
--- what a marker is to do for a job, until it can decide
-unfoldable pub script : Tables → Job → Script Decision
-script plan (Dial line) = dial_steps plan line
+-- the line that a job is of
+abbrev pub job_line : Job → Line
+job_line (Dial line) = line
+job_line (Complete line dialled) = line
+job_line (Release line) = line
 
--- the connector that a job's script seizes first
+-- what a marker is to do for a dial tone job, until it can decide: jobs of no other kind are made as steps
+unfoldable pub script : Tables → Job → Script Decision
+script plan job = dial_steps plan (job_line job)
+
+-- the connector that a job seizes first: that of its line's frame
 abbrev pub first_conn : Job → Conn
-first_conn (Dial line) = Llf line.frame
+first_conn job = Llf (job_line job).frame

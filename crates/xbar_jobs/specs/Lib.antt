@@ -9,7 +9,6 @@ pub use Rattle.xbar_office.specs.Whole
 pub use Rattle.xbar_office.specs.Legal
 pub use Rattle.xbar_match.specs.Shows
 pub use Rattle.xbar_match.specs.Effects
-pub mod Seen
 pub mod Script
 pub mod Closing
 pub mod Trials
@@ -18,6 +17,5 @@ pub mod Attempt
 pub mod Office
 pub mod Keeping
 pub mod Standing
-pub mod Steady
 pub mod Turning
 pub mod OnWords

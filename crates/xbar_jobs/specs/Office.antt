@@ -1,13 +1,25 @@
-use Rattle.std.specs.Prelude.{◌≡◌, ℕ, ◌<◌, not, Bool, false, List, if◌then◌else◌}
+use Rattle.std.specs.Prelude.{◌≡◌, ℕ, ◌<◌, not, Bool, false, Some, List, [], if◌then◌else◌}
 use Rattle.std.specs.Int.{bit_at}
 use Rattle.std.specs.Option.{option_map_or}
-use Rattle.xbar_equip.specs.Word.{GroupWord}
+use Rattle.xbar_equip.specs.Conn.{IsConn, conn_eq}
+use Rattle.xbar_equip.specs.Word.{Word, IsWord, ConnWord, GroupWord, TurnWord, word_count, word_number, protector}
+use Rattle.xbar_equip.specs.declared.conn.Conn.{Conn}
 use Rattle.xbar_equip.specs.declared.path.Path.{Path}
 use Rattle.xbar_plan.specs.Tables.{Tables, member_at}
 use Rattle.xbar_match.specs.Shows.{ShowsPaths}
 use Rattle.xbar_match.specs.Switches.{word_of}
 use Rattle.xbar_office.specs.LawfulSet.{IsLawfulSet}
+use Rattle.xbar_office.specs.Legal.{IsDialJob}
 use Rattle.xbar_office.specs.Members.{is_member_idle}
+use Rattle.xbar_office.specs.Whole.{whole}
+use Rattle.xbar_office.specs.declared.job.Job.{Job}
+use Rattle.xbar_office.specs.declared.reply.Reply.{Reply}
+use Rattle.turns.specs.Sharings.{preferring}
+use Rattle.turns.specs.System.{System}
+use Rattle.xbar_jobs.specs.Closing.{IsDue, effects as effects_of, effect_on, effect_word}
+use Rattle.xbar_jobs.specs.Jobs.{first_conn, script}
+use Rattle.xbar_jobs.specs.declared.decision.Decision.{Decision}
+use Rattle.xbar_jobs.specs.declared.effect.Effect.{Effect}
 
 -- whether a group has a member of this number that is not idle
 abbrev pub is_busy_at : Tables → List Path → ℕ → ℕ → Bool
@@ -22,3 +34,39 @@ pub record ShowsOffice (plan : Tables) (words : List ℕ) (paths : List Path) : 
   pub lawful : IsLawfulSet plan paths
   pub switches : ShowsPaths words paths
   pub groups : (number : ℕ) → number < 16 → GroupShows plan paths number (word_of words (GroupWord number))
+
+-- a connector protects the number of a word
+pub record Protects (conn : Conn) (number : ℕ) : Type 0 where
+  pub word : Word
+  pub there : IsWord word
+  pub named : word_number word ≡ number
+  pub protects : protector word ≡ Some conn
+
+-- the office under a plan: its jobs one after another and step by step, and its words; its jobs are dial tone jobs, the only ones that are made as steps
+abbrev pub office : Tables → System
+office plan = record {
+  Job = Job;
+  IsJob = IsDialJob;
+  State = List Path;
+  Reply = Reply;
+  opening = [];
+  whole = λ paths job. record { state = (whole plan paths job).paths; reply = (whole plan paths job).reply };
+  Lock = Conn;
+  IsLock = IsConn;
+  same = conn_eq;
+  Decision = Decision;
+  first = first_conn;
+  script = script plan;
+  Effect = Effect;
+  reply_of = λ decision. decision.reply;
+  effects_of = effects_of;
+  effect_word = effect_word;
+  effect_on = effect_on;
+  Due = IsDue;
+  size = word_count;
+  Protects = Protects;
+  lock_word = λ conn. word_number (ConnWord conn);
+  sharing = preferring;
+  turn_word = word_number TurnWord;
+  Shows = ShowsOffice plan;
+}

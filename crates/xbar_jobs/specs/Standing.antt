@@ -1,68 +1,86 @@
-use Rattle.std.specs.Prelude.{◌≡◌, ℕ, ◌-◌, Some, List, length, Result, Ok, Err, ⊤}
-use Rattle.xbar_equip.specs.Among.{IsIn}
-use Rattle.xbar_equip.specs.Conn.{IsConn}
+use Rattle.std.specs.Prelude.{◌≡◌, ◌<◌, ◌≤◌, ◌-◌, ℕ, Option, Some, IsSome, List, length, ⊤}
+use Rattle.turns.specs.Among.{IsIn}
+use Rattle.turns.specs.Attempt as generic
+use Rattle.turns.specs.Script.{AsksAtMost, left, value_read}
+use Rattle.turns.specs.declared.phase.Phase.TheVariants.{Requests, Seizes, Tests, Turns, Withdraws, GivesBack, Operates}
+use Rattle.turns.specs.declared.reading.Reading.{Reading}
+use Rattle.xbar_equip.specs.Conn.{IsConn, conn_eq}
+use Rattle.xbar_equip.specs.Word.{word_count}
 use Rattle.xbar_equip.specs.declared.conn.Conn.{Conn}
 use Rattle.xbar_plan.specs.Tables.{Tables}
-use Rattle.xbar_office.specs.Legal.{IsJob}
-use Rattle.xbar_jobs.specs.Script.{left, walk}
-use Rattle.xbar_jobs.specs.Closing.{effects as effects_of}
-use Rattle.xbar_jobs.specs.Keeping.{AreEffects, AsksAtMost}
+use Rattle.xbar_office.specs.Legal.{IsDialJob}
+use Rattle.xbar_office.specs.declared.reply.Reply.{Reply}
+use Rattle.xbar_jobs.specs.Attempt.{Attempt, Phase}
 use Rattle.xbar_jobs.specs.Jobs.{script}
-use Rattle.xbar_jobs.specs.Attempt.{Attempt, seen_of}
-use Rattle.xbar_jobs.specs.declared.decision.Decision.{Decision}
-use Rattle.xbar_jobs.specs.declared.phase.Phase.{Phase}
-use Rattle.xbar_jobs.specs.declared.phase.Phase.TheVariants.{Requests, Seizes, Tests, Turns, Withdraws, GivesBack, Operates}
-use Rattle.xbar_jobs.specs.declared.wanted.Wanted.{Wanted}
-use Rattle.xbar_jobs.specs.declared.wanted.Wanted.TheVariants.{Seize, Test}
+use Rattle.xbar_jobs.specs.Keeping.{AreEffects}
+use Rattle.xbar_jobs.specs.Office.{office}
 
--- the connector that a phase is about, if it is about one, is one of the office's
+-- an attempt never reads more words, and never holds more connectors
+abbrev pub most_readings : ℕ
+most_readings = 42
+
+abbrev pub most_held : ℕ
+most_held = 19
+
+-- nor does a job ever have more effects
+abbrev pub most_effects : ℕ
+most_effects = 14
+
+-- nor does an attempt take more steps, where nothing puts it off
+abbrev pub most_steps : ℕ
+most_steps = 128
+
+-- no word was read twice: each reading is the one that stands
+abbrev pub AreReadOnce : List (Reading ℕ) → Type 0
+AreReadOnce readings = (reading : Reading ℕ) → IsIn reading readings → value_read readings reading.word ≡ Some reading.value
+
+-- the connector that a phase is about, if it is about one, or the word is one of the office's
 abbrev pub IsPhase : Phase → Type 0
 IsPhase (Requests conn) = IsConn conn
 IsPhase (Seizes conn expected) = IsConn conn
-IsPhase (Tests word) = ⊤
+IsPhase (Tests word) = word < word_count
 IsPhase Turns = ⊤
 IsPhase (Withdraws conn) = IsConn conn
 IsPhase GivesBack = ⊤
-IsPhase Operates = ⊤
+IsPhase (Operates turn) = ⊤
 
 abbrev pub AreConns : List Conn → Type 0
 AreConns conns = (conn : Conn) → IsIn conn conns → IsConn conn
 
--- what every attempt keeps: its line, its connectors and its effects are the office's
+-- what is decided has a reply
+abbrev pub HasReplyIn : Phase → Option Reply → Type 0
+HasReplyIn Turns reply = IsSome reply
+HasReplyIn (Operates turn) reply = IsSome reply
+HasReplyIn (Requests conn) reply = ⊤
+HasReplyIn (Seizes conn expected) reply = ⊤
+HasReplyIn (Tests word) reply = ⊤
+HasReplyIn (Withdraws conn) reply = ⊤
+HasReplyIn GivesBack reply = ⊤
+
+-- what every attempt keeps, whatever the plan: its job is a dial tone job; its connectors, its words and its effects are the office's
 pub record IsAttempt (a : Attempt) : Type 0 where
-  pub job : IsJob a.job
+  pub job : IsDialJob a.job
   pub phase : IsPhase a.phase
   pub held : AreConns a.held
+  pub reply : HasReplyIn a.phase a.reply
   pub effects : AreEffects a.effects
 
--- an attempt never reads more words, and never holds more connectors
-abbrev pub most_readings : ℕ
-most_readings = 41
+-- the attempt has room for what is left of its script
+abbrev pub HasRoom : Tables → Attempt → Type 0
+HasRoom plan a = AsksAtMost (most_readings - length a.readings) (most_held - length a.held) (left conn_eq (generic.seen_of a) (script plan a.job))
 
-abbrev pub most_held : ℕ
-most_held = 18
+-- it needs room only as long as it goes through its script
+abbrev pub HasRoomIn : Tables → Attempt → Phase → Type 0
+HasRoomIn plan a (Requests conn) = HasRoom plan a
+HasRoomIn plan a (Seizes conn expected) = HasRoom plan a
+HasRoomIn plan a (Tests word) = HasRoom plan a
+HasRoomIn plan a Turns = ⊤
+HasRoomIn plan a (Withdraws conn) = ⊤
+HasRoomIn plan a GivesBack = ⊤
+HasRoomIn plan a (Operates turn) = ⊤
 
--- the attempt has come through its script as far as this, and has room for what is left
-pub record HasCome (plan : Tables) (a : Attempt) (found : Result Decision Wanted) : Type 0 where
-  pub walk : walk (seen_of a) (script plan a.job) ≡ found
-  pub room : AsksAtMost (most_readings - length a.readings) (most_held - length a.held) (left (seen_of a) (script plan a.job))
-
--- it has come to its script's end, and has this reply and these effects to give
-pub record HasDecided (plan : Tables) (a : Attempt) : Type 0 where
-  pub decision : Decision
-  pub come : HasCome plan a (Ok decision)
-  pub reply : a.reply ≡ Some decision.reply
-  pub effects : a.effects ≡ effects_of decision
-
--- an attempt stands, in a phase, where the script of its job brings it under this plan
-abbrev pub StandsIn : Tables → Attempt → Phase → Type 0
-StandsIn plan a (Requests conn) = HasCome plan a (Err (Seize conn))
-StandsIn plan a (Seizes conn expected) = HasCome plan a (Err (Seize conn))
-StandsIn plan a (Tests word) = HasCome plan a (Err (Test word))
-StandsIn plan a Turns = HasDecided plan a
-StandsIn plan a (Withdraws conn) = ⊤
-StandsIn plan a GivesBack = ⊤
-StandsIn plan a Operates = ⊤
-
-abbrev pub Stands : Tables → Attempt → Type 0
-Stands plan a = StandsIn plan a a.phase
+-- an attempt stands where its job brings it under this plan, with room for what it will come by
+pub record Stands (plan : Tables) (a : Attempt) : Type 0 where
+  pub comes : generic.Stands (office plan) a
+  pub few : length a.held ≤ most_held
+  pub room : HasRoomIn plan a a.phase

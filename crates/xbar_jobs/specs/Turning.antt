@@ -1,13 +1,13 @@
-use Rattle.std.specs.Prelude.{◌≡◌, ℕ, ◌≤◌, Bool, true, false, Some, List, length, ⊤}
+use Rattle.std.specs.Prelude.{◌≡◌, ℕ, ◌<◌, Some, List, length}
+use Rattle.turns.specs.Seen.{AreReadFrom}
+use Rattle.turns.specs.System.{AreDue, AreUnder, perform_all}
 use Rattle.xbar_equip.specs.Conn.{IsConn}
+use Rattle.xbar_equip.specs.Word.{word_count}
 use Rattle.xbar_equip.specs.declared.path.Path.{Path}
 use Rattle.xbar_plan.specs.Tables.{Tables}
 use Rattle.xbar_office.specs.Whole.{whole}
-use Rattle.xbar_jobs.specs.Seen.{AreReadFrom}
-use Rattle.xbar_jobs.specs.Closing.{AreDue, perform_all}
-use Rattle.xbar_jobs.specs.Keeping.{AreUnder}
 use Rattle.xbar_jobs.specs.Attempt.{Attempt}
-use Rattle.xbar_jobs.specs.Office.{ShowsOffice}
+use Rattle.xbar_jobs.specs.Office.{ShowsOffice, office}
 use Rattle.xbar_jobs.specs.declared.step.Step.{Step}
 use Rattle.xbar_jobs.specs.declared.step.Step.TheVariants.{Request, Seize, Withdraw, Test, Turn, Close, Open, Free, Finished}
 
@@ -15,35 +15,23 @@ use Rattle.xbar_jobs.specs.declared.step.Step.TheVariants.{Request, Seize, Withd
 -- that it has left lead to words that show that office's paths; each is due when its turn comes, on a word that is held
 pub record DoesAsWhole (plan : Tables) (words : List ℕ) (paths : List Path) (a : Attempt) : Type 0 where
   pub reply : a.reply ≡ Some (whole plan paths a.job).reply
-  pub shows : ShowsOffice plan (perform_all words a.effects) (whole plan paths a.job).paths
-  pub due : AreDue words a.effects
-  pub under : AreUnder a.held a.effects
+  pub shows : ShowsOffice plan (perform_all (office plan) words a.effects) (whole plan paths a.job).paths
+  pub due : AreDue (office plan) words a.effects
+  pub under : AreUnder (office plan) a.held a.effects
 
 -- whatever the words show, if they have what the attempt has read
 abbrev pub DoesAsOffice : Tables → Attempt → Type 0
 DoesAsOffice plan a =
-    (words : List ℕ) (paths : List Path) → 453 ≤ length words → ShowsOffice plan words paths → AreReadFrom words a.readings → DoesAsWhole plan words paths a
+    (words : List ℕ) (paths : List Path) → length words ≡ word_count → ShowsOffice plan words paths → AreReadFrom words a.readings → DoesAsWhole plan words paths a
 
--- whether a step is a request for a connector or the seizing of one
-abbrev pub seizes : Step → Bool
-seizes (Request conn) = true
-seizes (Seize conn expected) = true
-seizes (Withdraw conn) = false
-seizes (Test word) = false
-seizes Turn = false
-seizes (Close word bits) = false
-seizes (Open word mask) = false
-seizes (Free conn) = false
-seizes Finished = false
-
--- the connector that a step is about, if it is about one, is one of the office's
+-- the connector of a step is one of the office's, and its word is one of the office's words
 abbrev pub IsStep : Step → Type 0
 IsStep (Request conn) = IsConn conn
 IsStep (Seize conn expected) = IsConn conn
 IsStep (Withdraw conn) = IsConn conn
-IsStep (Test word) = ⊤
-IsStep Turn = ⊤
-IsStep (Close word bits) = ⊤
-IsStep (Open word mask) = ⊤
+IsStep (Test word) = word < word_count
+IsStep Turn = Unit {0}
+IsStep (Close word bits) = word < word_count
+IsStep (Open word mask) = word < word_count
 IsStep (Free conn) = IsConn conn
-IsStep Finished = ⊤
+IsStep Finished = Unit {0}

@@ -1,4 +1,4 @@
-ghost use Rattle.std.specs.Prelude.{◌≡◌, ◌≤◌, ◌+◌, ◌++◌, [], ◌∷◌};
+ghost use Rattle.std.specs.Prelude.{◌≡◌, ◌≤◌, ◌+◌, ◌++◌, [], ◌∷◌, option_map};
 ghost use Rattle.arrayvec.specs.ArrayVec.{array_vec_len};
 ghost use Rattle.xbar_jobs.specs.Closing.{path_closes};
 
@@ -6,14 +6,14 @@ use crate::effect::Effect;
 use arrayvec::ArrayVec;
 use xbar_equip::Path;
 use xbar_match::effects_of;
-use xbar_office::{End, Outcome, Pair, Reply, Trials};
+use xbar_office::{Aim, CallPaths, Choice, End, Reply, Trials};
 
 /// A member of a trunk group that a job takes, with the paths that lead to it.
 #[derive(Clone, Copy, Debug, PartialEq, Eq)]
 pub struct Take {
     pub group: u8,
     pub index: u8,
-    pub pair: Pair,
+    pub paths: CallPaths,
 }
 
 /// The effects of a job. A call inside the office has the most: five opens for its register, and nine
@@ -40,8 +40,8 @@ impl Take {
         ensures { result.items ≡ take_effects self.now }
     {
         let mut effects = Effects::new();
-        close_path(&mut effects, &self.pair.calling);
-        if let Some(called) = &self.pair.called {
+        close_path(&mut effects, &self.paths.calling);
+        if let Some(called) = &self.paths.called {
             close_path(&mut effects, called);
         }
         effects.push(Effect::SetBit {
@@ -60,7 +60,7 @@ pub struct Decision {
 }
 
 impl Decision {
-    ghost use Rattle.xbar_jobs.specs.Closing.{refused as refused_by, dial_tone as dial_tone_of, take_of as take_of_outcome, effects as effects_of_decision};
+    ghost use Rattle.xbar_jobs.specs.Closing.{refused as refused_by, tried as tried_by, take_of as take_by, effects as effects_of_decision};
 
     /// Nothing is taken.
     pub fn refused(end: End) -> Self
@@ -72,14 +72,13 @@ impl Decision {
         }
     }
 
-    /// What the trials on a group of registers came to.
-    pub fn dial_tone(group: u8, trials: Trials) -> Self
-        ensures { result ≡ dial_tone_of group trials }
+    /// What the trials on a group came to.
+    pub fn tried(aim: Aim, group: u8, trials: Trials) -> Self
+        ensures { result ≡ tried_by aim group trials }
     {
-        let Trials { outcome, cards } = trials;
         Decision {
-            take: Decision::take_of(group, &outcome),
-            reply: Reply::dial_tone(&outcome, cards),
+            take: Decision::take_of(group, &trials.choice),
+            reply: Reply::of_trials(aim, trials),
         }
     }
 
@@ -93,16 +92,16 @@ impl Decision {
         }
     }
 
-    fn take_of(group: u8, outcome: &Outcome) -> Option<Take>
-        ensures { result ≡ take_of_outcome group outcome.now }
+    fn take_of(group: u8, choice: &Option<Choice>) -> Option<Take>
+        ensures { result ≡ option_map (take_by group) choice.now }
     {
-        match outcome {
-            Outcome::Taken { index, pair, .. } => Some(Take {
+        match choice {
+            None => None,
+            Some(choice) => Some(Take {
                 group,
-                index: *index,
-                pair: *pair,
+                index: choice.index,
+                paths: choice.paths,
             }),
-            Outcome::NotTaken => None,
         }
     }
 }

@@ -5,12 +5,12 @@ ghost use Rattle.xbar_jobs.specs.Script.{walk};
 ghost use Rattle.xbar_jobs.specs.Jobs.{registers as registers_of, find_register as find_register_script, dial_steps};
 
 use crate::decision::Decision;
+use crate::kinds::Wanted;
 use crate::seen::Seen;
 use crate::trials::{Calling, Trunks, first_clear, two_trials};
-use crate::wanted::Wanted;
 use xbar_equip::{Conn, Len, group_word, line_switch};
 use xbar_match::find_line;
-use xbar_office::End;
+use xbar_office::{Aim, End};
 use xbar_plan::Plan;
 
 fn registers(plan: &Plan, word: u64) -> Trunks<'_>
@@ -25,7 +25,7 @@ fn registers(plan: &Plan, word: u64) -> Trunks<'_>
     }
 }
 
-#[tactic(auto, using(crate::proofs::Walks::walk_bind, crate::proofs::Walks::walk_end), unfolding(crate::specs::Jobs::find_register, crate::specs::Jobs::try_registers))]
+#[tactic(auto, using(turns::proofs::Walks::walk_bind, turns::proofs::Walks::walk_end), unfolding(crate::specs::Jobs::find_register, crate::specs::Jobs::try_registers))]
 fn find_register(plan: &Plan, seen: &Seen, calling: &Calling) -> Result<Decision, Wanted>
     ensures { result ≡ walk seen.now (find_register_script plan.now calling.now) }
 {
@@ -37,11 +37,11 @@ fn find_register(plan: &Plan, seen: &Seen, calling: &Calling) -> Result<Decision
         return Ok(Decision::refused(End::RegistersBusy));
     };
     let trials = two_trials(plan, seen, calling, &registers, first)?;
-    Ok(Decision::dial_tone(group, trials))
+    Ok(Decision::tried(Aim::DialTone, group, trials))
 }
 
 /// Goes through a dial tone job, to its decision or to what is wanted first.
-#[tactic(auto, using(crate::proofs::Walks::walk_bind, crate::proofs::Walks::walk_end), unfolding(crate::specs::Jobs::dial_steps, crate::specs::Jobs::serve_idle_line))]
+#[tactic(auto, using(turns::proofs::Walks::walk_bind, turns::proofs::Walks::walk_end), unfolding(crate::specs::Jobs::dial_steps, crate::specs::Jobs::serve_idle_line))]
 pub fn dial(plan: &Plan, seen: &Seen, line: Len) -> Result<Decision, Wanted>
     ensures { result ≡ walk seen.now (dial_steps plan.now line) }
 {

@@ -5,7 +5,7 @@ ghost use Rattle.xbar_jobs.specs.Attempt.{effect_step};
 use crate::step::Step;
 use xbar_equip::{Crosspoint, group_word};
 use xbar_match::shape_at;
-use xbar_switch::field::{close_bits, open_mask};
+use xbar_switch::{close_bits, open_mask};
 
 /// What a job does to a word, past its turn.
 #[derive(Clone, Copy, Debug, PartialEq, Eq)]

@@ -1,57 +1,86 @@
 //! What holds of jobs as steps, for the crates above. Each function does nothing: its contract is the
-//! law.
+//! law. What holds of every system of jobs is said by the laws of `turns`, of which an office under a
+//! lawful plan is one.
 
-ghost use Rattle.std.specs.Prelude.{◌≡◌, ◌≤◌, ◌<◌, ℕ, [], List, false, Ok, length};
-ghost use Rattle.xbar_equip.specs.declared.path.Path.{Path};
+ghost use Rattle.std.specs.Prelude.{◌≡◌, ◌+◌, ◌≤◌, ℕ, [], List, Err, None, length};
+ghost use mathlib.Core.Option.{some};
+ghost use lib.ListN.{get_elem?};
+ghost use Rattle.turns.specs.Among.{IsIn};
+ghost use Rattle.turns.specs.Attempt.{HasDecided, Free, act, answered as told_of, begin};
+ghost use Rattle.turns.specs.Bounds.{AreBounded, AreSteady};
+ghost use Rattle.turns.specs.Script.{value_read};
+ghost use Rattle.turns.specs.System.{IsSystem, KeepsTo};
+ghost use Rattle.turns.specs.Law.{Lawful};
+ghost use Rattle.turns.specs.World.{World, Does, becomes, place};
+ghost use Rattle.turns.specs.declared.answer.Answer.{Answer};
 ghost use Rattle.xbar_plan.specs.Tables.{Tables};
 ghost use Rattle.xbar_plan.specs.Lawful.{IsLawful};
-ghost use Rattle.xbar_office.specs.Legal.{IsJob};
+ghost use Rattle.xbar_office.specs.Legal.{IsDialJob};
 ghost use Rattle.xbar_office.specs.declared.job.Job.{Job};
-ghost use Rattle.xbar_jobs.specs.Seen.{Seen, AreReadFrom};
-ghost use Rattle.xbar_jobs.specs.Script.{Script, run, walk};
+ghost use Rattle.xbar_jobs.specs.Attempt.{Act, Attempt, step_of};
 ghost use Rattle.xbar_jobs.specs.Jobs.{script};
-ghost use Rattle.xbar_jobs.specs.Keeping.{IsCovered, KeepsTo};
-ghost use Rattle.xbar_jobs.specs.Attempt.{Attempt, begin, change, next_step, restarted};
-ghost use Rattle.xbar_jobs.specs.Standing.{HasDecided, Stands};
-ghost use Rattle.xbar_jobs.specs.Steady.{AreSteady, after_answers};
-ghost use Rattle.xbar_jobs.specs.Turning.{DoesAsOffice, seizes};
-ghost use Rattle.xbar_jobs.specs.declared.answer.Answer.{Answer};
+ghost use Rattle.xbar_jobs.specs.Keeping.{IsCovered};
+ghost use Rattle.xbar_jobs.specs.Office.{office};
+ghost use Rattle.xbar_jobs.specs.OnWords.{answered, applied, operation, step_word};
+ghost use Rattle.xbar_jobs.specs.Script.{Script, Seen, walk};
 ghost use Rattle.xbar_jobs.specs.declared.decision.Decision.{Decision};
+ghost use Rattle.xbar_jobs.specs.Standing.{most_effects, most_held, most_readings, most_steps};
+ghost use Rattle.xbar_jobs.specs.Turning.{DoesAsOffice};
+ghost use Rattle.xbar_equip.specs.declared.conn.Conn.{Conn};
 
-use crate::phase::Phase;
+use crate::offices::Offices;
+use turns::{Phase, Wanted};
 
-/// A job's script tests only words whose connectors it has seized by then, and its effects are on such
-/// words.
+/// An office under a lawful plan is a system of jobs over shared words. Its jobs are dial tone jobs, the
+/// only ones that are made as steps yet.
+pub fn the_office_is_a_system()
+    ensures { (plan : Tables) → IsLawful plan → IsSystem (office plan) }
+{}
+
+/// A dial tone job's script tests only words whose connectors it has seized by then, and its effects are
+/// on such words.
 pub fn scripts_keep_to_what_they_hold()
-    ensures { (plan : Tables) (job : Job) → IsLawful plan → IsJob job → KeepsTo IsCovered [] (script plan job) }
+    ensures { (plan : Tables) (job : Job) → IsLawful plan → IsDialJob job → KeepsTo (office plan) (IsCovered plan) [] (script plan job) }
 {}
 
-/// Past its turn an attempt requests and seizes nothing, and stays past its turn.
-pub fn nothing_is_seized_past_the_turn()
-    ensures step { (a : Attempt) → a.phase ≡ Phase.Operates → seizes (next_step a) ≡ false }
-    ensures stays { (plan : Tables) (a : Attempt) (answer : Answer) → a.phase ≡ Phase.Operates → (change plan a answer).phase ≡ Phase.Operates }
-    ensures restart { (a : Attempt) → a.phase ≡ Phase.Operates → restarted a ≡ a }
+/// What a walk wants is neither held nor read by then.
+pub fn walks_want_what_is_not_there()
+    ensures conn { (seen : Seen) (script : Script Decision) (conn : Conn) → walk seen script ≡ Err (Wanted.Seize conn) → ¬ IsIn conn seen.held }
+    ensures word { (seen : Seen) (script : Script Decision) (word : ℕ) → walk seen script ≡ Err (Wanted.Test word) → value_read seen.readings word ≡ None }
 {}
 
-/// A walk over readings that are what given words have ends as the script does on those words.
-pub fn walks_end_as_scripts_do()
-    ensures { (words : List ℕ) (seen : Seen) (script : Script Decision) (decision : Decision) → AreReadFrom words seen.readings → walk seen script ≡ Ok decision → run words script ≡ decision }
+/// A step's operation on its word makes of the number found what the marker's act makes of it, and its
+/// answer is what the marker is told.
+pub fn steps_do_what_their_acts_do()
+    ensures word { (plan : Tables) (act : Act) → step_word (step_of act) ≡ place (office plan) act }
+    ensures operation { (plan : Tables) (marker : ℕ) (act : Act) (found : ℕ) → applied (operation marker (step_of act)) found ≡ becomes (office plan) marker act found }
+    ensures answer { (plan : Tables) (marker : ℕ) (act : Act) (found : ℕ) → answered marker (step_of act) found ≡ told_of (office plan) marker act found }
 {}
 
-/// Whatever comes of its steps, an attempt stands where the script of its job brings it.
-pub fn attempts_stand_where_scripts_bring_them()
-    ensures begins { (plan : Tables) (job : Job) (marker : ℕ) → Stands plan (begin job marker) }
-    ensures goes_on { (plan : Tables) (a : Attempt) (answer : Answer) → Stands plan a → Stands plan (change plan a answer) }
-    ensures restarts { (plan : Tables) (a : Attempt) → Stands plan a → Stands plan (restarted a) }
+/// Past the turn what is held is freed last: once no effect is left.
+pub fn frees_come_last()
+    ensures { (a : Attempt) (turn : ℕ) (conn : Conn) → a.phase ≡ Phase.Operates turn → act a ≡ Free conn → a.effects ≡ [] }
 {}
 
-/// Whatever words show: an attempt that has read them and decided has the one-marker office's reply, and
-/// effects that lead to words that show that office's paths.
+/// Whatever words show: an attempt at a dial tone job that has read them and decided has the one-marker
+/// office's reply, and effects that lead to words that show that office's paths.
 pub fn decisions_are_the_one_marker_offices()
-    ensures { (plan : Tables) (a : Attempt) → IsLawful plan → IsJob a.job → HasDecided plan a → DoesAsOffice plan a }
+    ensures { (plan : Tables) (a : Attempt) → IsLawful plan → IsDialJob a.job → HasDecided (office plan) a → DoesAsOffice plan a }
 {}
 
-/// An attempt that is never put off and never tries a seizing again takes at most 128 steps.
+/// An attempt that is never put off and never tries a seizing again ends within 128 steps; one that
+/// restarted, or is anywhere else on its way, does so once what it holds is freed and its request is
+/// withdrawn.
 pub fn steady_attempts_are_short()
-    ensures { (plan : Tables) (job : Job) (marker : ℕ) (answers : List Answer) → AreSteady plan (begin job marker) answers → (after_answers plan (begin job marker) answers).count ≤ 128 }
+    ensures fresh { (plan : Tables) (job : Job) (answers : List Answer) → IsLawful plan → IsDialJob job → AreSteady (office plan) (begin (office plan) job) answers → length answers ≤ most_steps }
+    ensures anywhere { (plan : Tables) (w : World (office plan)) (k number : ℕ) (a : Attempt) (answers : List Answer) → IsLawful plan → Lawful (office plan) w → get_elem? w.actors k ≡ some (Does number a) → AreSteady (office plan) a answers → length answers ≤ 1 + length a.held + most_steps }
+{
+    the_office_is_a_system();
+    jobs_are_bounded();
+    turns::laws::steady_attempts_are_short::<Offices>();
+}
+
+/// How much each job asks for at most: so many tests, seizings and effects.
+pub fn jobs_are_bounded()
+    ensures { (plan : Tables) → IsLawful plan → AreBounded (office plan) most_readings most_held most_effects }
 {}

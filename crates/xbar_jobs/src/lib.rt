@@ -2,25 +2,25 @@
 //! makes each step that it asks for, and tells it what came of it.
 #![tactic(auto)]
 
-pub use answer::Answer;
-pub use judgement::Judgement;
+pub use offices::Offices;
+pub use operation::Operation;
 pub use program::Program;
 pub use step::Step;
+pub use turns::{Answer, Judgement};
 
-mod answer;
+mod attempt;
 mod decision;
 mod dial;
 mod effect;
-mod judgement;
+mod kinds;
 pub mod laws;
-mod on_words;
-mod phase;
+mod offices;
+mod operation;
 mod program;
-mod reading;
+mod readings;
 mod seen;
 mod step;
 #[cfg(test)]
 mod tests;
 mod trials;
 mod walk;
-mod wanted;

@@ -1,9 +1,12 @@
-ghost use Rattle.std.specs.Prelude.{◌≡◌, ◌+◌, ◌≤◌, ◌<◌, Some, None, MatchResult};
-ghost use Rattle.xbar_jobs.specs.Seen.{is_held as is_held_of, value_read as value_read_of};
-ghost use Rattle.xbar_jobs.specs.Script.{Tests, Ends, walk, seize as seize_script};
+ghost use Rattle.std.specs.Prelude.{◌≡◌};
+ghost use Rattle.xbar_equip.specs.Conn.{conn_eq};
+ghost use Rattle.turns.specs.Script.{is_held as is_held_of};
+ghost use Rattle.turns.specs.Script.{Tests, Ends, seize as seize_script};
+ghost use Rattle.xbar_jobs.specs.Script.{walk};
 
-use crate::reading::Reading;
-use crate::wanted::Wanted;
+use crate::kinds::Wanted;
+use crate::readings::Readings;
+use std::cell::Cell;
 use std::marker::Model;
 use xbar_equip::{Conn, WordNo};
 
@@ -12,21 +15,30 @@ use xbar_equip::{Conn, WordNo};
 #[derive(Debug, Drop)]
 pub struct Seen<'a> {
     held: &'a [Conn],
-    readings: &'a [Reading],
+    readings: &'a Readings,
+    /// Where the next connector and the next reading are looked for first: jobs ask for them in the order
+    /// in which they were come by.
+    held_place: Cell<usize>,
+    reading_place: Cell<usize>,
 }
 
 impl<'a> Model for Seen<'a> {
-    ghost use Rattle.xbar_jobs.specs.Seen.{Seen};
+    ghost use Rattle.xbar_jobs.specs.Script.{Seen};
 
     ghost Value = { Seen };
 
     ghost view = { λ a. record { held = a.held.now; readings = a.readings.now } };
 }
 
-#[tactic(auto, unfolding(crate::specs::Seen::is_held))]
-fn is_held(held: &[Conn], conn: Conn) -> bool
-    ensures { result ≡ is_held_of held.now conn }
+#[tactic(auto, unfolding(turns::specs::Script::is_held))]
+fn is_held(held: &[Conn], conn: Conn, place: &Cell<usize>) -> bool
+    ensures { result ≡ is_held_of conn_eq held.now conn }
 {
+    let at = place.get();
+    if at < held.len() && held[at] == conn {
+        place.set(at + 1);
+        return true;
+    }
     for own in held {
         if *own == conn {
             return true;
@@ -35,29 +47,24 @@ fn is_held(held: &[Conn], conn: Conn) -> bool
     false
 }
 
-#[tactic(auto, unfolding(crate::specs::Seen::value_read))]
-fn value_read(readings: &[Reading], word: WordNo) -> Option<u64>
-    ensures { result ≡ value_read_of readings.now word }
-{
-    readings
-        .iter()
-        .find(|reading| reading.word == word)
-        .map(|reading| reading.value)
-}
-
 impl<'a> Seen<'a> {
-    pub fn new(held: &'a [Conn], readings: &'a [Reading]) -> Self
+    pub fn new(held: &'a [Conn], readings: &'a Readings) -> Self
         ensures { result ≡ record { held = held.now; readings = readings.now } }
     {
-        Seen { held, readings }
+        Seen {
+            held,
+            readings,
+            held_place: Cell::new(0),
+            reading_place: Cell::new(0),
+        }
     }
 
     /// Goes on where the connector is held.
-    #[tactic(auto, unfolding(crate::specs::Script::walk, crate::specs::Script::left, crate::specs::Script::left_of_seizing, crate::specs::Script::first_wanted))]
+    #[tactic(auto, unfolding(turns::specs::Script::walk, turns::specs::Script::left, turns::specs::Script::left_of_seizing, turns::specs::Script::first_wanted))]
     pub fn seize(&self, conn: Conn) -> Result<(), Wanted>
         ensures { result ≡ walk self.now (seize_script conn) }
     {
-        if is_held(self.held, conn) {
+        if is_held(self.held, conn, &self.held_place) {
             Ok(())
         } else {
             Err(Wanted::Seize(conn))
@@ -65,10 +72,12 @@ impl<'a> Seen<'a> {
     }
 
     /// Goes on with the word's value where it was read.
-    #[tactic(auto, unfolding(crate::specs::Script::walk, crate::specs::Script::left, crate::specs::Script::left_of_test, crate::specs::Script::first_wanted))]
+    #[tactic(auto, unfolding(turns::specs::Script::walk, turns::specs::Script::left, turns::specs::Script::left_of_test, turns::specs::Script::first_wanted))]
     pub fn test(&self, word: WordNo) -> Result<u64, Wanted>
         ensures { result ≡ walk self.now (Tests word Ends) }
     {
-        value_read(self.readings, word).ok_or(Wanted::Test(word))
+        self.readings
+            .value(word, &self.reading_place)
+            .ok_or(Wanted::Test(word))
     }
 }

@@ -1,4 +1,14 @@
-use xbar_equip::{Conn, WordNo};
+ghost use Rattle.std.specs.Prelude.{◌≡◌, ◌≢◌, ◌<◌, length};
+ghost use Rattle.turns.specs.Attempt.{IsAnswerTo, told};
+ghost use Rattle.xbar_equip.specs.Word.{word_count};
+ghost use Rattle.xbar_jobs.specs.OnWords.{step_word, operation as operation_of, answered, made, answer_of};
+ghost use Rattle.xbar_jobs.specs.Attempt.{Act, step_of};
+ghost use Rattle.xbar_jobs.specs.Turning.{IsStep};
+
+use crate::operation::Operation;
+use turns::lock_word::{asked_by, request_bit, taken_by};
+use turns::{Answer, Judgement};
+use xbar_equip::{Conn, WordNo, conn_word, turn_word};
 
 /// An atomic step: one operation on one word.
 #[derive(Clone, Copy, Debug, PartialEq, Eq)]
@@ -21,4 +31,93 @@ pub enum Step {
     Free(Conn),
     /// There is none: the job is done, and nothing is held.
     Finished,
+}
+
+/// The answer to a request or a seizing that may go on by this one.
+fn tell(answer: Answer, judgement: Judgement) -> Answer
+    ensures { result ≡ told answer judgement }
+{
+    match judgement {
+        Judgement::Free => answer,
+        Judgement::Held(holder) => Answer::Held(holder),
+        Judgement::Preferred(other) => Answer::Preferred(other),
+    }
+}
+
+impl Step {
+    /// The word that the step is made on.
+    pub fn word(&self) -> WordNo
+        requires { IsStep self.now }
+        ensures word { result ≡ step_word self.now }
+        ensures range { step_word self.now < word_count }
+    {
+        match self {
+            Step::Request(conn) | Step::Seize(conn, _) | Step::Withdraw(conn) | Step::Free(conn) =>
+                conn_word(*conn),
+            Step::Test(word) | Step::Close(word, _) | Step::Open(word, _) => *word,
+            Step::Turn | Step::Finished => turn_word(),
+        }
+    }
+
+    /// The operation that makes a marker's step on its word.
+    pub fn operation(&self, marker: u32) -> Operation
+        requires { marker < 48 }
+        ensures { result ≡ operation_of marker self.now }
+    {
+        match self {
+            Step::Request(_) => Operation::Or(request_bit(marker)),
+            Step::Seize(_, expected) => Operation::CompareExchange {
+                expected: *expected,
+                new: taken_by(marker, *expected),
+            },
+            Step::Withdraw(_) => Operation::And(!request_bit(marker)),
+            Step::Test(_) | Step::Finished => Operation::Load,
+            Step::Turn => Operation::Add(1),
+            Step::Close(_, bits) => Operation::Or(*bits),
+            Step::Open(_, mask) => Operation::And(*mask),
+            Step::Free(_) => Operation::And(!63),
+        }
+    }
+
+    /// What the marker is told of its step that found this number.
+    pub fn answer(&self, marker: u32, found: u64) -> Answer
+        requires { marker < 48 }
+        ensures { result ≡ answered marker self.now found }
+    {
+        match self {
+            Step::Request(_) => {
+                let word = asked_by(marker, found);
+                tell(Answer::Asked(word), Judgement::of(marker, word))
+            }
+            Step::Seize(_, expected) => {
+                if found == *expected {
+                    Answer::Seized
+                } else {
+                    tell(Answer::Again(found), Judgement::of(marker, found))
+                }
+            }
+            Step::Test(_) => Answer::Value(found),
+            Step::Turn => Answer::Turn(found),
+            Step::Withdraw(_)
+            | Step::Close(_, _)
+            | Step::Open(_, _)
+            | Step::Free(_)
+            | Step::Finished => Answer::Done,
+        }
+    }
+
+    /// Makes a marker's step on all of the office's words, and tells what came of it.
+    pub fn make(&self, marker: u32, words: &mut [u64]) -> Answer
+        requires step { IsStep self.now }
+        requires marker { marker < 48 }
+        requires words { length words.old ≡ word_count }
+        ensures words { words.new ≡ made marker self.now words.old }
+        ensures answer { result ≡ answer_of marker self.now words.old }
+        ensures kind { (act : Act) → self.now ≡ step_of act → self.now ≢ Step.Finished → IsAnswerTo act result }
+    {
+        let place = usize::from(self.word().number());
+        let found = words[place];
+        words[place] = self.operation(marker).apply(found);
+        self.answer(marker, found)
+    }
 }

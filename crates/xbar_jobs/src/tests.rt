@@ -1,11 +1,12 @@
 ghost use Rattle.std.specs.Prelude.{◌≡◌, ◌<◌, length};
+ghost use Rattle.xbar_equip.specs.Word.{word_count};
 ghost use Rattle.xbar_jobs.specs.Standing.{Stands};
 
 use super::*;
 use std::alloc::Global;
 use std::process::Abort;
 use std::test::Fail;
-use xbar_equip::{Conn, Len, Link, Ten, WordNo};
+use xbar_equip::{Conn, Len, Link, Ten, WORD_COUNT, WordNo};
 use xbar_office::{End, Job, Reply};
 use xbar_plan::{Group, GroupKind, Member, Plan};
 
@@ -21,13 +22,13 @@ fn line(rt: &impl Abort, text: &[u8]) -> Len {
 }
 
 fn test(number: u16) -> Step
-    requires { number < 453 }
+    requires { number < word_count }
 {
     Step::Test(WordNo::new(number))
 }
 
 fn close(number: u16, bits: u64) -> Step
-    requires { number < 453 }
+    requires { number < word_count }
 {
     Step::Close(WordNo::new(number), bits)
 }
@@ -35,10 +36,10 @@ fn close(number: u16, bits: u64) -> Step
 /// Makes the next step on the words, and tells the program what came of it.
 fn step(program: &mut Program, plan: &Plan, marker: u32, words: &mut [u64]) -> Answer
     requires marker { marker < 48 }
-    requires plan { Stands plan.now program.old }
-    requires words { length words.old ≡ 453 }
-    ensures plan { Stands plan.now program.new }
-    ensures words { length words.new ≡ 453 }
+    requires plan { Stands plan.now program.old.attempt }
+    requires words { length words.old ≡ word_count }
+    ensures plan { Stands plan.now program.new.attempt }
+    ensures words { length words.new ≡ word_count }
 {
     let step = program.next();
     let answer = step.make(marker, words);
@@ -50,10 +51,10 @@ fn step(program: &mut Program, plan: &Plan, marker: u32, words: &mut [u64]) -> A
 
 fn steps(program: &mut Program, plan: &Plan, marker: u32, words: &mut [u64], count: usize)
     requires marker { marker < 48 }
-    requires plan { Stands plan.now program.old }
-    requires words { length words.old ≡ 453 }
-    ensures plan { Stands plan.now program.new }
-    ensures words { length words.new ≡ 453 }
+    requires plan { Stands plan.now program.old.attempt }
+    requires words { length words.old ≡ word_count }
+    ensures plan { Stands plan.now program.new.attempt }
+    ensures words { length words.new ≡ word_count }
 {
     for _made in 0..count {
         step(program, plan, marker, words);
@@ -71,10 +72,10 @@ fn makes(
     wanted: &[Step],
 )
     requires marker { marker < 48 }
-    requires plan { Stands plan.now program.old }
-    requires words { length words.old ≡ 453 }
-    ensures plan { Stands plan.now program.new }
-    ensures words { length words.new ≡ 453 }
+    requires plan { Stands plan.now program.old.attempt }
+    requires words { length words.old ≡ word_count }
+    ensures plan { Stands plan.now program.new.attempt }
+    ensures words { length words.new ≡ word_count }
 {
     for next in wanted {
         let is_known = program.reply().is_some();
@@ -97,18 +98,17 @@ fn check_words(rt: &impl Abort, words: &[u64], wanted: &[(usize, u64)]) {
 }
 
 /// A line goes off hook, under this plan.
-fn off_hook(plan: &Plan, line: Len, marker: u32) -> Program
-    requires { marker < 48 }
-    ensures { Stands plan.now result }
+fn off_hook(plan: &Plan, line: Len) -> Program
+    ensures { Stands plan.now result.attempt }
 {
-    Program::new(Job::Dial(line), marker)
+    xbar_plan::laws::every_plan_is_lawful(plan);
+    Program::new(Job::Dial(line))
 }
 
-fn dial_3041(plan: &Plan, marker: u32) -> Program
-    requires { marker < 48 }
-    ensures { Stands plan.now result }
+fn dial_3041(plan: &Plan) -> Program
+    ensures { Stands plan.now result.attempt }
 {
-    off_hook(plan, Len::new(3, 0, 21), marker)
+    off_hook(plan, Len::new(3, 0, 21))
 }
 
 /// What a reply says, as `DIALTONE 3041-0-417 1`, with its cards.
@@ -119,6 +119,7 @@ fn told(alloc: Global, reply: &Reply) -> Result<String, Fail> {
         End::RegistersBusy => String::from_str(alloc, "REGISTERSBUSY")?,
         End::NoPath => String::from_str(alloc, "NOPATH")?,
         End::Trouble => String::from_str(alloc, "TROUBLE")?,
+        other => format!(in alloc; "{other:?}, which no dial tone job has")?,
     };
     for card in reply.cards.as_slice() {
         let trial = card.trial;
@@ -140,8 +141,8 @@ fn end_of(rt: &impl Abort, alloc: Global, program: &Program) -> Result<String, F
 fn a_line_gets_a_register(rt: HostRuntime) -> Result<(), Fail> {
     let alloc = rt.alloc();
     let plan = Plan::example(alloc)?;
-    let mut words = [0; 453];
-    let mut program = dial_3041(&plan, 0);
+    let mut words = [0; WORD_COUNT];
+    let mut program = dial_3041(&plan);
     assert_eq!(rt; *program.job(), Job::Dial(Len::new(3, 0, 21)));
     let before_the_turn = [
         Step::Request(FRAME),
@@ -202,9 +203,9 @@ fn a_line_gets_a_register(rt: HostRuntime) -> Result<(), Fail> {
 fn busy_lines_and_busy_registers_are_refused(rt: HostRuntime) -> Result<(), Fail> {
     let alloc = rt.alloc();
     let plan = Plan::example(alloc)?;
-    let mut words = [0; 453];
+    let mut words = [0; WORD_COUNT];
     words[60] = 22;
-    let mut program = dial_3041(&plan, 0);
+    let mut program = dial_3041(&plan);
     let busy_line = [
         Step::Request(FRAME),
         Step::Seize(FRAME, 256),
@@ -218,9 +219,9 @@ fn busy_lines_and_busy_registers_are_refused(rt: HostRuntime) -> Result<(), Fail
     assert_eq!(rt; end_of(&rt, alloc, &program)?.as_str(), "LINEBUSY");
     check_words(&rt, &words, &[(60, 22), (452, 1)]);
 
-    let mut words = [0; 453];
+    let mut words = [0; WORD_COUNT];
     words[400] = 7;
-    let mut program = dial_3041(&plan, 0);
+    let mut program = dial_3041(&plan);
     let busy_registers = [
         Step::Request(FRAME),
         Step::Seize(FRAME, 256),
@@ -242,9 +243,9 @@ fn busy_lines_and_busy_registers_are_refused(rt: HostRuntime) -> Result<(), Fail
 
 /// Marker 1 finds this in the connector of the registers, and begins anew.
 fn is_put_off(rt: &impl Abort, plan: &Plan, found: u64, wanted: Answer) {
-    let mut words = [0; 453];
+    let mut words = [0; WORD_COUNT];
     words[436] = found;
-    let mut program = dial_3041(plan, 1);
+    let mut program = dial_3041(plan);
     steps(&mut program, plan, 1, &mut words, 3);
     assert_eq!(rt; step(&mut program, plan, 1, &mut words), wanted);
     assert_eq!(rt; program.count(), 4);
@@ -275,10 +276,10 @@ fn meets(
     wanted: (Answer, u64),
 )
     requires marker { marker < 48 }
-    requires plan { Stands plan.now program.old }
-    requires words { length words.old ≡ 453 }
-    ensures plan { Stands plan.now program.new }
-    ensures words { length words.new ≡ 453 }
+    requires plan { Stands plan.now program.old.attempt }
+    requires words { length words.old ≡ word_count }
+    ensures plan { Stands plan.now program.new.attempt }
+    ensures words { length words.new ≡ word_count }
 {
     let answer = step(program, plan, marker, words);
     assert_eq!(rt; (answer, words[419]), wanted);
@@ -287,9 +288,9 @@ fn meets(
 #[test]
 fn the_lower_marker_is_preferred(rt: HostRuntime) -> Result<(), Fail> {
     let plan = Plan::example(rt.alloc())?;
-    let mut words = [0; 453];
-    let mut low = dial_3041(&plan, 0);
-    let mut high = dial_3041(&plan, 1);
+    let mut words = [0; WORD_COUNT];
+    let mut low = dial_3041(&plan);
+    let mut high = dial_3041(&plan);
     meets(
         &rt,
         &mut low,
@@ -325,9 +326,9 @@ fn the_lower_marker_is_preferred(rt: HostRuntime) -> Result<(), Fail> {
 #[test]
 fn the_later_request_of_the_lower_marker_is_preferred(rt: HostRuntime) -> Result<(), Fail> {
     let plan = Plan::example(rt.alloc())?;
-    let mut words = [0; 453];
-    let mut low = dial_3041(&plan, 0);
-    let mut high = dial_3041(&plan, 1);
+    let mut words = [0; WORD_COUNT];
+    let mut low = dial_3041(&plan);
+    let mut high = dial_3041(&plan);
     meets(
         &rt,
         &mut high,
@@ -357,16 +358,17 @@ fn the_later_request_of_the_lower_marker_is_preferred(rt: HostRuntime) -> Result
 }
 
 fn restart(plan: &Plan, program: &mut Program)
-    requires { Stands plan.now program.old }
-    ensures { Stands plan.now program.new }
+    requires { Stands plan.now program.old.attempt }
+    ensures { Stands plan.now program.new.attempt }
 {
+    xbar_plan::laws::every_plan_is_lawful(plan);
     program.restart();
 }
 
 /// After so many steps a restart makes this the next step.
 fn restarts(rt: &impl Abort, plan: &Plan, made: usize, wanted: Step) {
-    let mut words = [0; 453];
-    let mut program = dial_3041(plan, 0);
+    let mut words = [0; WORD_COUNT];
+    let mut program = dial_3041(plan);
     steps(&mut program, plan, 0, &mut words, made);
     restart(plan, &mut program);
     assert_eq!(rt; program.next(), wanted, "after {made} steps");
@@ -389,8 +391,8 @@ fn a_restart_gives_back_what_is_held(rt: HostRuntime) -> Result<(), Fail> {
     for (made, wanted) in table {
         restarts(&rt, &plan, made, wanted);
     }
-    let mut words = [0; 453];
-    let mut program = dial_3041(&plan, 0);
+    let mut words = [0; WORD_COUNT];
+    let mut program = dial_3041(&plan);
     steps(&mut program, &plan, 0, &mut words, 7);
     restart(&plan, &mut program);
     let gives_back = [
@@ -406,21 +408,23 @@ fn a_restart_gives_back_what_is_held(rt: HostRuntime) -> Result<(), Fail> {
 }
 
 #[test]
-fn connector_words_are_judged(rt: HostRuntime) {
+fn steps_are_operations_on_words(rt: HostRuntime) {
     let table = [
-        (0, 256, Judgement::Free),
-        (1, 768, Judgement::Preferred(0)),
-        (0, 768, Judgement::Free),
-        (1, 513, Judgement::Held(0)),
-        (47, 36028797018963968, Judgement::Free),
+        (Step::Request(FRAME), 0, 36028797018963968),
+        (Step::Seize(FRAME, 36028797018963968), 36028797018963968, 48),
+        (Step::Seize(FRAME, 36028797018963968), 8, 8),
+        (Step::Withdraw(FRAME), 36028797018963969, 1),
+        (test(60), 22, 22),
+        (Step::Turn, u64::MAX, 0),
+        (close(60, 22), 256, 278),
+        (Step::Open(WordNo::new(60), 240), 278, 16),
+        (Step::Free(FRAME), 304, 256),
+        (Step::Finished, 7, 7),
     ];
-    for (marker, word, wanted) in table {
-        assert_eq!(rt; Judgement::of(marker, word), wanted, "{word}");
+    for (step, found, left) in table {
+        let operation = step.operation(47);
+        assert_eq!(rt; operation.apply(found), left, "{step:?} on {found}");
     }
-    let request = Step::Request(FRAME);
-    let last = 36028797018963968;
-    assert_eq!(rt; request.apply(47, 0), last);
-    assert_eq!(rt; request.answer(47, 0), Answer::Asked(last));
 }
 
 /// A plan with these registers alone, and these links out of order.
@@ -449,10 +453,7 @@ fn plan(
     }
     let name = String::from_str(alloc, "REG")?;
     let groups = vec![in alloc; Group::new(name, GroupKind::Register, members)]?;
-    match Plan::try_new(alloc, groups, Vec::new(alloc), Vec::new(alloc), faults)? {
-        Some(plan) => Ok(plan),
-        None => panic!(rt; "the plan is lawful"),
-    }
+    Ok(Plan::try_new(alloc, groups, Vec::new(alloc), Vec::new(alloc), faults)?)
 }
 
 /// Does the job of a line that goes off hook, and tells how it ended.
@@ -463,10 +464,10 @@ fn dial(
     words: &mut [u64],
     from: &[u8],
 ) -> Result<String, Fail>
-    requires { length words.old ≡ 453 }
-    ensures { length words.new ≡ 453 }
+    requires { length words.old ≡ word_count }
+    ensures { length words.new ≡ word_count }
 {
-    let mut program = off_hook(plan, line(rt, from), 0);
+    let mut program = off_hook(plan, line(rt, from));
     steps(&mut program, plan, 0, words, 128);
     end_of(rt, alloc, &program)
 }
@@ -479,7 +480,7 @@ fn ten_lines_use_up_their_links(rt: HostRuntime) -> Result<(), Fail> {
         b"500",
     ];
     let plan = plan(&rt, alloc, &registers, &[])?;
-    let mut words = [0; 453];
+    let mut words = [0; WORD_COUNT];
     let lines: [(&[u8], &str); 12] = [
         (b"3000", "DIALTONE 3000-0-410 1"),
         (b"3001", "DIALTONE 3001-1-411 1"),
@@ -509,7 +510,7 @@ fn faulty_links_give_cards(rt: HostRuntime) -> Result<(), Fail> {
     ];
     for (faults, wanted) in cases {
         let plan = plan(&rt, alloc, &[b"417", b"418", b"509"], faults)?;
-        let mut words = [0; 453];
+        let mut words = [0; WORD_COUNT];
         assert_eq!(rt;
             dial(&rt, alloc, &plan, &mut words, b"3041")?.as_str(),
             wanted
@@ -519,11 +520,28 @@ fn faulty_links_give_cards(rt: HostRuntime) -> Result<(), Fail> {
 }
 
 #[test]
+fn the_turn_and_the_reply_are_known_together(rt: HostRuntime) -> Result<(), Fail> {
+    let plan = Plan::example(rt.alloc())?;
+    let mut words = [0; WORD_COUNT];
+    words[452] = 5;
+    let mut program = dial_3041(&plan);
+    steps(&mut program, &plan, 0, &mut words, 19);
+    assert_eq!(rt; program.turn(), None);
+    steps(&mut program, &plan, 0, &mut words, 1);
+    assert_eq!(rt; program.turn(), Some(5));
+    steps(&mut program, &plan, 0, &mut words, 8);
+    assert_eq!(rt; program.turn(), Some(5));
+    Ok(())
+}
+
+#[test]
 fn laws_can_be_called() {
+    laws::the_office_is_a_system();
     laws::scripts_keep_to_what_they_hold();
-    laws::nothing_is_seized_past_the_turn();
-    laws::walks_end_as_scripts_do();
-    laws::attempts_stand_where_scripts_bring_them();
+    laws::walks_want_what_is_not_there();
+    laws::steps_do_what_their_acts_do();
+    laws::frees_come_last();
     laws::decisions_are_the_one_marker_offices();
+    laws::jobs_are_bounded();
     laws::steady_attempts_are_short();
 }

@@ -1,5 +1,5 @@
 -- on words that show a set of paths, each path has four of the closed fields, and one of those of line switches
-use Rattle.std.proofs.Common.{◌≡◌, ◌≢◌, ℕ, ◌+◌, ◌*◌, ◌/◌, ◌%◌, ◌<◌, ◌≤◌, ◌==◌, if◌then◌else◌, List, [], ◌∷◌, length, get_or, inl, inr, refl, sym, ◌∙◌, ap, subst, arith, bit_and, get_or-set_same, get_or-set_other}
+use Rattle.std.proofs.Common.{◌≡◌, ◌≢◌, ℕ, ◌+◌, ◌*◌, ◌/◌, ◌%◌, ◌<◌, ◌≤◌, ◌==◌, if◌then◌else◌, List, [], ◌∷◌, length, get_or, inl, inr, refl, sym, ◌∙◌, ap, subst, arith, get_or-set_same, get_or-set_other}
 use Rattle.xbar_equip.specs.Among.{IsIn}
 use Rattle.xbar_equip.specs.Path.{IsPath}
 use Rattle.xbar_equip.specs.Paths.{IsSet, AreApart}
@@ -8,7 +8,7 @@ use Rattle.xbar_equip.specs.Word.{LineSwitch, LineJunctor, TrunkSwitch, TrunkJun
 use Rattle.xbar_equip.specs.declared.path.Path.{Path}
 use Rattle.xbar_equip.specs.declared.crosspoint.Crosspoint.{Crosspoint}
 use Rattle.xbar_equip.proofs.PathSets.{before-apart}
-use Rattle.xbar_switch.specs.Field.{field_of, open_mask_of}
+use Rattle.xbar_switch.specs.Field.{field_of, with_open}
 use Rattle.xbar_switch.specs.declared.shape.Shape.{Shape}
 use Rattle.xbar_switch.specs.declared.shape.Shape.TheVariants.{Line}
 use Rattle.xbar_switch.proofs.Fields.{field_of-open_same, field_of-open_other}
@@ -22,9 +22,9 @@ use Rattle.xbar_match.proofs.PathEffects.{crosspoint, Removes, four_opened, open
 use Rattle.xbar_match.proofs.ClosedCounts.{sum_below-same, sum_below-none, sum_below-change, counts-closed, counts-open}
 
 -- opening a closed field leaves one closed field fewer in the word
-closed_fields-open : (shape : Shape) (word v : ℕ) → v < 10 → (field_of shape word v ≡ 0 → ⊥) → closed_fields shape word ≡ closed_fields shape (bit_and word (open_mask_of shape v)) + 1
+closed_fields-open : (shape : Shape) (word v : ℕ) → v < 10 → (field_of shape word v ≡ 0 → ⊥) → closed_fields shape word ≡ closed_fields shape (with_open shape word v) + 1
 closed_fields-open shape word v in_range closed =
-    let new = bit_and word (open_mask_of shape v) in
+    let new = with_open shape word v in
     let f : ℕ → ℕ = λ j. if field_of shape word j == 0 then 0 else 1 in
     let g : ℕ → ℕ = λ j. if field_of shape new j == 0 then 0 else 1 in
     let here : f v ≡ g v + 1 = counts-closed (field_of shape word v) closed ∙ ap (λ n. n + 1) (sym (counts-open (field_of shape new v) (field_of-open_same shape word v in_range))) in

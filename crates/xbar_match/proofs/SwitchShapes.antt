@@ -1,30 +1,27 @@
-use Rattle.std.proofs.Common.{◌≡◌, ℕ, ◌+◌, ◌*◌, ◌%◌, ◌<◌, ◌≤◌, Bool, true, false, ◌&&◌, nat_lt, if◌then◌else◌, arith, lt-ltb, le-ltb}
+use Rattle.std.proofs.Common.{◌≡◌, ℕ, ◌+◌, ◌*◌, ◌%◌, ◌<◌, ◌≤◌, Bool, nat_lt, if◌then◌else◌, ap, arith, lt-ltb, le-ltb}
+use Rattle.std.proofs.lemmas.Bool.{and_left, and_right}
+use Rattle.xbar_equip.proofs.Logic.{both_hold}
+use Rattle.xbar_switch.specs.declared.shape.Shape.{Shape}
 use Rattle.xbar_switch.specs.declared.shape.Shape.TheVariants.{Line, Other}
 use Rattle.xbar_match.specs.Switches.{shape_at}
 
-both : (a b : Bool) → a ≡ true → b ≡ true → (if a && b then Line else Other) ≡ Line
-both a b x y = rw (x, y)
-
-not_first : (a b : Bool) → a ≡ false → (if a && b then Line else Other) ≡ Other
-not_first a b x = rw x
-
-not_second : (a b : Bool) → a ≡ true → b ≡ false → (if a && b then Line else Other) ≡ Other
-not_second a b x y = rw (x, y)
+abbrev by_test : Bool → Shape
+by_test first = if first then Line else Other
 
 -- the shape of each kind of switch
 pub shape_at-line_switch : (frame switch : ℕ) → frame < 10 → switch < 10 → shape_at (20 * frame + switch) ≡ Line
 unfolding shape_at
 shape_at-line_switch frame switch in_frame in_switch =
-    both (nat_lt (20 * frame + switch) 200) (nat_lt ((20 * frame + switch) % 20) 10) (lt-ltb _ _ (omega arith)) (lt-ltb _ _ (omega arith))
+    ap by_test (both_hold (nat_lt (20 * frame + switch) 200) (nat_lt ((20 * frame + switch) % 20) 10) (lt-ltb _ _ (omega arith)) (lt-ltb _ _ (omega arith)))
 
 pub shape_at-line_junctor : (frame channel : ℕ) → frame < 10 → channel < 10 → shape_at (20 * frame + 10 + channel) ≡ Other
 unfolding shape_at
 shape_at-line_junctor frame channel in_frame in_channel =
-    not_second (nat_lt (20 * frame + 10 + channel) 200) (nat_lt ((20 * frame + 10 + channel) % 20) 10) (lt-ltb _ _ (omega arith)) (le-ltb _ _ (omega arith))
+    ap by_test (and_right (nat_lt (20 * frame + 10 + channel) 200) (nat_lt ((20 * frame + 10 + channel) % 20) 10) (le-ltb _ _ (omega arith)))
 
 pub shape_at-trunk_side : (n : ℕ) → 200 ≤ n → shape_at n ≡ Other
 unfolding shape_at
-shape_at-trunk_side n from = not_first (nat_lt n 200) (nat_lt (n % 20) 10) (le-ltb _ _ from)
+shape_at-trunk_side n from = ap by_test (and_left (nat_lt n 200) (nat_lt (n % 20) 10) (le-ltb _ _ from))
 
 pub shape_at-trunk_switch : (frame switch : ℕ) → shape_at (200 + 20 * frame + switch) ≡ Other
 shape_at-trunk_switch frame switch = shape_at-trunk_side (200 + 20 * frame + switch) (omega arith)

@@ -1,9 +1,9 @@
-use Rattle.std.specs.Prelude.{◌≡◌, ℕ, ◌-◌, ◌<◌, ◌≤◌, ◌==◌, if◌then◌else◌, List, [], ◌∷◌, slice_index, slice_set, bit_and, bit_or, fold}
+use Rattle.std.specs.Prelude.{◌≡◌, ℕ, ◌-◌, ◌<◌, ◌≤◌, ◌==◌, if◌then◌else◌, List, [], ◌∷◌, slice_index, slice_set, fold}
 use Rattle.xbar_equip.specs.Crosspoint.{crosspoints}
 use Rattle.xbar_equip.specs.declared.path.Path.{Path}
 use Rattle.xbar_equip.specs.declared.crosspoint.Crosspoint.{Crosspoint}
 use Rattle.xbar_switch.specs.Shape.{places}
-use Rattle.xbar_switch.specs.Field.{close_bits_of, open_mask_of}
+use Rattle.xbar_switch.specs.Field.{with_closed, with_open}
 use Rattle.xbar_match.specs.Switches.{shape_at, held_at}
 
 -- a crosspoint of the office: one of a switch's ten fields, with a value that stands for one of its places
@@ -15,11 +15,11 @@ pub record IsCrosspoint (c : Crosspoint) : Type 0 where
 
 -- what closing a crosspoint makes of its switch's word
 abbrev pub closed_word : Crosspoint → ℕ → ℕ
-closed_word c word = bit_or word (close_bits_of (shape_at c.word) c.field (c.value - 1))
+closed_word c word = with_closed (shape_at c.word) word c.field (c.value - 1)
 
 -- what opening a crosspoint makes of its switch's word
 abbrev pub opened_word : Crosspoint → ℕ → ℕ
-opened_word c word = bit_and word (open_mask_of (shape_at c.word) c.field)
+opened_word c word = with_open (shape_at c.word) word c.field
 
 -- what closing a crosspoint makes of word n: nothing else where it stands on another word
 abbrev pub close_in : ℕ → ℕ → Crosspoint → ℕ

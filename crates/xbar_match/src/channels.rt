@@ -7,8 +7,7 @@ ghost use Rattle.xbar_equip.specs.declared.path.Path.{Path};
 ghost use Rattle.xbar_match.specs.Channels.{match_words, is_open_channel, first_open_channel, ShowsLinks, TellsOpenFields};
 
 use xbar_equip::Channel;
-use xbar_switch::Shape;
-use xbar_switch::field::field;
+use xbar_switch::{Shape, field};
 
 /// A bit for each field of the word, set where the field is open.
 fn open_fields(shape: Shape, word: u64) -> u16
@@ -48,28 +47,6 @@ fn is_open(line_word: u64, junctor_words: &[u64; 10], trunk_word: u64, t: u8, n:
         && field(Shape::Other, trunk_word, n) == 0
 }
 
-/// The first channel from the start on, round ten, whose three fields are open.
-fn first_open(
-    line_word: u64,
-    junctor_words: &[u64; 10],
-    trunk_word: u64,
-    t: u8,
-    start: u8,
-) -> Option<Channel>
-    requires frame { t < 10 }
-    requires start { start < 10 }
-    ensures least { result ≡ first_open_channel (match_words line_word junctor_words.now trunk_word) t start }
-    ensures range { IfSome result IsChannel }
-{
-    for k in 0..10 {
-        let n = (start + k) % 10;
-        if is_open(line_word, junctor_words, trunk_word, t, n) {
-            return Some(Channel::new(n));
-        }
-    }
-    None
-}
-
 /// The channel test on words: of the line's switch, the ten line junctor switches of its frame, and the
 /// switch of the place, which stands on trunk link frame `t`.
 pub fn match_channel(
@@ -87,5 +64,11 @@ pub fn match_channel(
         → result ≡ channel_test paths line place start }
     ensures range { IfSome result IsChannel }
 {
-    first_open(line_word, junctor_words, trunk_word, t, start)
+    for k in 0..10 {
+        let n = (start + k) % 10;
+        if is_open(line_word, junctor_words, trunk_word, t, n) {
+            return Some(Channel::new(n));
+        }
+    }
+    None
 }

@@ -1,5 +1,5 @@
 ghost use Rattle.std.specs.Prelude.{◌≡◌, ◌*◌, ◌/◌, ◌%◌, ◌<◌, ◌≤◌, List, length};
-ghost use Rattle.xbar_equip.specs.Word.{LineSwitch};
+ghost use Rattle.xbar_equip.specs.Word.{LineSwitch, word_count};
 ghost use Rattle.xbar_equip.specs.Paths.{IsSet, AreApart};
 ghost use Rattle.xbar_equip.specs.declared.path.Path.{Path};
 ghost use Rattle.xbar_match.specs.Switches.{word_of};
@@ -8,8 +8,7 @@ ghost use Rattle.xbar_match.specs.Counts.{closed_fields, closed_line_fields, clo
 
 use crate::words::{shape_at, word_at};
 use xbar_equip::line_switch;
-use xbar_switch::Shape;
-use xbar_switch::field::field;
+use xbar_switch::{Shape, field};
 
 /// How many fields of a switch's word are closed.
 fn count_fields(shape: Shape, word: u64) -> u16
@@ -27,7 +26,7 @@ fn count_fields(shape: Shape, word: u64) -> u16
 
 /// The word of a line switch, of a hundred.
 fn line_word(words: &[u64], k: u8) -> u64
-    requires words { length words.now ≡ 453 }
+    requires words { length words.now ≡ word_count }
     requires switch { k < 100 }
     ensures { result ≡ word_of words.now (LineSwitch (k / 10) (k % 10)) }
 {
@@ -36,7 +35,7 @@ fn line_word(words: &[u64], k: u8) -> u64
 
 /// How many fields of the hundred line switches are closed.
 fn count_line_fields(words: &[u64]) -> u16
-    requires { length words.now ≡ 453 }
+    requires { length words.now ≡ word_count }
     ensures { result ≡ closed_line_fields words.now }
 {
     let mut count = 0;
@@ -48,7 +47,7 @@ fn count_line_fields(words: &[u64]) -> u16
 
 /// How many fields of all 400 switches are closed.
 fn count_switch_fields(words: &[u64]) -> u16
-    requires { length words.now ≡ 453 }
+    requires { length words.now ≡ word_count }
     ensures { result ≡ closed_switch_fields words.now }
 {
     let mut count = 0;
@@ -60,7 +59,7 @@ fn count_switch_fields(words: &[u64]) -> u16
 
 /// How many paths the words show: each has one line link, and so one field of the line switches.
 pub fn count_paths(words: &[u64]) -> u16
-    requires { length words.now ≡ 453 }
+    requires { length words.now ≡ word_count }
     ensures exact { result ≡ closed_line_fields words.now }
     ensures shown { (paths : List Path) → ShowsPaths words.now paths → AreInRange paths → AreApart paths → IsSet paths
         → result ≡ length paths }
@@ -70,7 +69,7 @@ pub fn count_paths(words: &[u64]) -> u16
 
 /// How many crosspoints the words show: each path has four.
 pub fn count_closed(words: &[u64]) -> u16
-    requires { length words.now ≡ 453 }
+    requires { length words.now ≡ word_count }
     ensures exact { result ≡ closed_switch_fields words.now }
     ensures shown { (paths : List Path) → ShowsPaths words.now paths → AreInRange paths → AreApart paths → IsSet paths
         → result ≡ 4 * length paths }

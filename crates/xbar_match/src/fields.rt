@@ -2,8 +2,7 @@ ghost use Rattle.std.specs.Prelude.{◌≡◌, ◌+◌, ◌<◌, IfSome};
 ghost use Rattle.xbar_switch.specs.Shape.{places};
 ghost use Rattle.xbar_match.specs.Traces.{field_at_place, place_at_field};
 
-use xbar_switch::Shape;
-use xbar_switch::field::field;
+use xbar_switch::{Shape, field};
 
 /// The least field that is closed at a place.
 fn find_place(shape: Shape, word: u64, place: u8) -> Option<u8>

@@ -1,7 +1,7 @@
 //! What holds of words that show a set of paths, for the crates above. Each function does nothing: its
 //! contract is the law.
 
-ghost use Rattle.std.specs.Prelude.{◌≡◌, ◌≢◌, ◌<◌, ◌≤◌, ◌==◌, ℕ, true, List, length, slice_index};
+ghost use Rattle.std.specs.Prelude.{◌≡◌, ◌≢◌, ◌<◌, ◌≤◌, ◌==◌, ◌*◌, ℕ, true, List, length, slice_index};
 ghost use Rattle.xbar_equip.specs.Among.{IsIn};
 ghost use Rattle.xbar_equip.specs.Len.{Line, IsLine};
 ghost use Rattle.xbar_equip.specs.Ten.{TrunkPlace, IsTrunkPlace};
@@ -15,6 +15,7 @@ ghost use Rattle.xbar_match.specs.Switches.{shape_at, held_at, word_of};
 ghost use Rattle.xbar_match.specs.Shows.{AreInRange, IsClosedIn, WordShows, ShowsPaths};
 ghost use Rattle.xbar_match.specs.Effects.{IsCrosspoint, close_at, open_at, close_path, open_path, close_path_in, open_path_in, EachCloses, EachOpens};
 ghost use Rattle.xbar_match.specs.Channels.{match_words, ShowsLinks};
+ghost use Rattle.xbar_match.specs.Counts.{closed_line_fields, closed_switch_fields};
 
 use xbar_switch::Shape;
 
@@ -88,6 +89,15 @@ pub fn each_word_shows_the_change()
         → WordShows (IsClosedIn paths) n word → WordShows (IsClosedIn (with_path paths path)) n (close_path_in n word path) }
     ensures opening { (paths : List Path) (path : Path) (n word : ℕ) → AreInRange paths → AreApart paths → IsSet paths → IsIn path paths
         → WordShows (IsClosedIn paths) n word → WordShows (IsClosedIn (without_path paths path)) n (open_path_in n word path) }
+{}
+
+/// On words that show a set, the line switches have one closed field for each path, and all switches have
+/// four.
+pub fn closed_fields_count_the_paths()
+    ensures line_switches { (words : List ℕ) (paths : List Path) → 400 ≤ length words → ShowsPaths words paths → AreInRange paths → AreApart paths → IsSet paths
+        → closed_line_fields words ≡ length paths }
+    ensures switches { (words : List ℕ) (paths : List Path) → 400 ≤ length words → ShowsPaths words paths → AreInRange paths → AreApart paths → IsSet paths
+        → closed_switch_fields words ≡ 4 * length paths }
 {}
 
 /// Effects on the words are effects on each word.

@@ -4,9 +4,8 @@ use crate::{
 };
 use std::process::Abort;
 use std::test::Fail;
-use xbar_equip::{Channel, Crosspoint, Len, Path, Ten};
-use xbar_switch::Shape;
-use xbar_switch::field::close_bits;
+use xbar_equip::{Channel, Crosspoint, Len, Path, Ten, WORD_COUNT};
+use xbar_switch::{Shape, close_bits};
 
 /// The path 2954-9-999, which has the highest of most numbers.
 fn far_path() -> Path {
@@ -18,8 +17,8 @@ fn far_path() -> Path {
 }
 
 /// The words of an office in which that path alone stands.
-fn far_words() -> [u64; 453] {
-    let mut words = [0; 453];
+fn far_words() -> [u64; WORD_COUNT] {
+    let mut words = [0; WORD_COUNT];
     words[49] = 540431955284459520;
     words[59] = 687194767360;
     words[399] = 2560;
@@ -156,5 +155,6 @@ fn states_the_laws() {
     laws::closing_a_path_adds_it();
     laws::opening_a_path_removes_it();
     laws::each_word_shows_the_change();
+    laws::closed_fields_count_the_paths();
     laws::effects_go_word_by_word();
 }

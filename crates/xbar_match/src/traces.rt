@@ -4,6 +4,7 @@ ghost use Rattle.xbar_equip.specs.Ten.{IsTrunkPlace};
 ghost use Rattle.xbar_equip.specs.Path.{IsPath};
 ghost use Rattle.xbar_equip.specs.Paths.{AreApart, has_line, has_place};
 ghost use Rattle.xbar_equip.specs.declared.path.Path.{Path};
+ghost use Rattle.xbar_equip.specs.Word.{word_count};
 ghost use Rattle.xbar_match.specs.Shows.{AreInRange, ShowsPaths};
 ghost use Rattle.xbar_match.specs.Traces.{traced, traced_back};
 
@@ -13,7 +14,7 @@ use xbar_equip::{Channel, Len, Path, Ten, line_junctor, line_switch, trunk_junct
 
 /// From the line's switch on, a switch at a time.
 fn follow(words: &[u64], line: Len) -> Option<Path>
-    requires { length words.now ≡ 453 }
+    requires { length words.now ≡ word_count }
     ensures path { result ≡ traced words.now line }
     ensures line { IsLine line }
     ensures range { IfSome result IsPath }
@@ -32,7 +33,7 @@ fn follow(words: &[u64], line: Len) -> Option<Path>
 
 /// From the place's trunk switch back, a switch at a time.
 fn follow_back(words: &[u64], place: Ten) -> Option<Path>
-    requires { length words.now ≡ 453 }
+    requires { length words.now ≡ word_count }
     ensures path { result ≡ traced_back words.now place }
     ensures place { IsTrunkPlace place }
     ensures range { IfSome result IsPath }
@@ -55,7 +56,7 @@ fn follow_back(words: &[u64], place: Ten) -> Option<Path>
 
 /// The path of a line, from its line switch on. Words that break the way off have none.
 pub fn trace(words: &[u64], line: Len) -> Option<Path>
-    requires { length words.now ≡ 453 }
+    requires { length words.now ≡ word_count }
     ensures exact { result ≡ traced words.now line }
     ensures shown { (paths : List Path) → ShowsPaths words.now paths → AreInRange paths → AreApart paths
         → result ≡ find (has_line line) paths }
@@ -66,7 +67,7 @@ pub fn trace(words: &[u64], line: Len) -> Option<Path>
 
 /// The path of a trunk place, from its trunk switch back. Words that break the way off have none.
 pub fn trace_back(words: &[u64], place: Ten) -> Option<Path>
-    requires { length words.now ≡ 453 }
+    requires { length words.now ≡ word_count }
     ensures exact { result ≡ traced_back words.now place }
     ensures shown { (paths : List Path) → ShowsPaths words.now paths → AreInRange paths → AreApart paths
         → result ≡ find (has_place place) paths }

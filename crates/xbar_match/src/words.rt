@@ -1,4 +1,5 @@
 ghost use Rattle.std.specs.Prelude.{◌≡◌, ◌<◌, ℕ, length, slice_index};
+ghost use Rattle.xbar_equip.specs.Word.{word_count};
 ghost use Rattle.xbar_match.specs.Switches.{shape_at as shape_of_switch};
 
 use xbar_equip::WordNo;
@@ -17,9 +18,9 @@ pub fn shape_at(number: u16) -> Shape
     }
 }
 
-/// What stands in a word, of all 453.
+/// What stands in a word, of all.
 pub(crate) fn word_at(words: &[u64], word: WordNo) -> u64
-    requires { length words.now ≡ 453 }
+    requires { length words.now ≡ word_count }
     ensures { result ≡ slice_index words.now word }
 {
     words[usize::from(word.number())]

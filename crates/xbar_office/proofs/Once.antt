@@ -1,25 +1,20 @@
-use Rattle.std.proofs.Common.{◌≡◌, ◌⊎◌, List, [], ◌∷◌, ◌++◌, inl, inr, refl, sym, ap, subst, ◌+◌, ◌*◌, drop, arith}
+use Rattle.std.proofs.Common.{◌≡◌, List, [], ◌∷◌, ◌++◌, inl, inr, refl, sym, ap, subst, ◌+◌, ◌*◌, drop, arith}
 use Rattle.xbar_equip.specs.Among.{IsIn}
 use Rattle.xbar_equip.specs.Path.{IsPath}
 use Rattle.xbar_equip.specs.Crosspoint.{crosspoints}
 use Rattle.xbar_equip.specs.Paths.{IsSet, AreApart}
 use Rattle.xbar_equip.specs.declared.path.Path.{Path}
 use Rattle.xbar_equip.specs.declared.crosspoint.Crosspoint.{Crosspoint}
+use Rattle.xbar_equip.proofs.Lists.{in_either}
 use Rattle.xbar_equip.proofs.Meeting.{meet}
 use Rattle.xbar_equip.proofs.PathSets.{before-apart}
 use Rattle.xbar_office.specs.Closed.{closed, NamesFieldsOnce}
-
--- what is in two lists one after the other is in one of them
-in_append : (x : Crosspoint) (xs ys : List Crosspoint) → IsIn x (xs ++ ys) → IsIn x xs ⊎ IsIn x ys
-in_append x [] ys within = inr within
-in_append x (y ∷ xs) ys (inl same) = inl (inl same)
-in_append x (y ∷ xs) ys (inr later) = elim (in_append x xs ys later) [ inl front ↦ inl (inr front) | inr back ↦ inr back ]
 
 -- two lists that name fields once, and no field both
 once_append : (xs ys : List Crosspoint) → NamesFieldsOnce xs → NamesFieldsOnce ys → ((c d : Crosspoint) → IsIn c xs → IsIn d ys → c.word ≡ d.word → c.field ≡ d.field → ⊥) → NamesFieldsOnce (xs ++ ys)
 once_append [] ys once_x once_y across = once_y
 once_append (x ∷ xs) ys once_x once_y across = (
-  λ d within. elim (in_append d xs ys within) [ inl front ↦ once_x.0 d front | inr back ↦ across x d (inl refl) back ],
+  λ d within. elim (in_either d xs ys within) [ inl front ↦ once_x.0 d front | inr back ↦ across x d (inl refl) back ],
   once_append xs ys once_x.1 once_y (λ c d in_x in_y. across c d (inr in_x) in_y),
 )
 
@@ -31,7 +26,7 @@ record OfPath (c : Crosspoint) (paths : List Path) : Type 0 where
 
 of_path : (c : Crosspoint) (paths : List Path) → IsIn c (closed paths) → OfPath c paths
 of_path c [] within = absurd within
-of_path c (p ∷ paths) within = elim (in_append c (crosspoints p) (closed paths) within) [
+of_path c (p ∷ paths) within = elim (in_either c (crosspoints p) (closed paths) within) [
   | inl own ↦ record { path = p; within = inl refl; own = own }
   | inr later ↦ let of = of_path c paths later in record { path = of.path; within = inr of.within; own = of.own }
 ]

@@ -16,15 +16,23 @@ pub record IsMembersPlace (plan : Tables) (place : TrunkPlace) : Type 0 where
   pub listed : member_at plan group index ≡ Some member
   pub stands : stands_at member place ≡ true
 
+-- each path ends at a member's place, and no two paths share a part: what single paths that come and go leave so
+pub record IsOrderlySet (plan : Tables) (paths : List Path) : Type 0 where
+  pub set : IsSet paths
+  pub ranges : (path : Path) → IsIn path paths → IsPath path
+  pub places : (path : Path) → IsIn path paths → IsMembersPlace plan path.place
+  pub apart : AreApart paths
+
 -- of a pair both places have a path, or neither has
 abbrev pub HasBothOrNone : List Path → Member → Type 0
 HasBothOrNone paths member =
     (second : TrunkPlace) → member.second ≡ Some second → is_idle (has_place member.first) paths ≡ is_idle (has_place second) paths
 
--- a set that an office may have: each path ends at a member's place, no two paths share a part, and a pair has both of its paths or none
+-- and so it is with each member of the plan
+abbrev pub HasWholePairs : Tables → List Path → Type 0
+HasWholePairs plan paths = (group index : ℕ) (member : Member) → member_at plan group index ≡ Some member → HasBothOrNone paths member
+
+-- a set that an office may have
 pub record IsLawfulSet (plan : Tables) (paths : List Path) : Type 0 where
-  pub set : IsSet paths
-  pub ranges : (path : Path) → IsIn path paths → IsPath path
-  pub places : (path : Path) → IsIn path paths → IsMembersPlace plan path.place
-  pub apart : AreApart paths
-  pub pairs : (group index : ℕ) (member : Member) → member_at plan group index ≡ Some member → HasBothOrNone paths member
+  pub orderly : IsOrderlySet plan paths
+  pub pairs : HasWholePairs plan paths

@@ -1,15 +1,24 @@
 use Rattle.std.specs.Prelude.{◌≡◌, ℕ, ◌+◌, List, [], ◌∷◌, map}
+use Rattle.xbar_equip.specs.Dialled.{IsDialled}
 use Rattle.xbar_equip.specs.Len.{IsLine}
 use Rattle.xbar_equip.specs.declared.path.Path.{Path}
 use Rattle.xbar_plan.specs.Tables.{Tables}
 use Rattle.xbar_office.specs.Whole.{whole}
 use Rattle.xbar_office.specs.declared.job.Job.{Job}
-use Rattle.xbar_office.specs.declared.job.Job.TheVariants.{Dial}
+use Rattle.xbar_office.specs.declared.job.Job.TheVariants.{Dial, Complete, Release}
 use Rattle.xbar_office.specs.declared.reply.Record.{Record}
 
--- a job is of a line that there is
+-- a job is of a line that there is, and of seven digits
 abbrev pub IsJob : Job → Type 0
 IsJob (Dial line) = IsLine line
+IsJob (Complete line dialled) = IsLine line × IsDialled dialled
+IsJob (Release line) = IsLine line
+
+-- a dial tone job, of a line that there is
+abbrev pub IsDialJob : Job → Type 0
+IsDialJob (Dial line) = IsLine line
+IsDialJob (Complete line dialled) = ⊥
+IsDialJob (Release line) = ⊥
 
 abbrev pub AreJobs : List Job → Type 0
 AreJobs [] = Unit {0}
@@ -20,16 +29,26 @@ abbrev pub after_jobs : Tables → List Path → List Job → List Path
 after_jobs plan paths [] = paths
 after_jobs plan paths (job ∷ jobs) = after_jobs plan (whole plan paths job).paths jobs
 
--- records from a turn and a set on: each has its turn, and the reply of the one-marker office on the set after those before it
-abbrev pub IsLegalFrom : Tables → ℕ → List Path → List Record → Type 0
-IsLegalFrom plan turn paths [] = Unit {0}
-IsLegalFrom plan turn paths (r ∷ records) =
-    (r.turn ≡ turn) × (r.reply ≡ (whole plan paths r.job).reply) × IsLegalFrom plan (turn + 1) (whole plan paths r.job).paths records
-
--- a legal list of records: it begins at turn 0 with the empty set
-abbrev pub IsLegal : Tables → List Record → Type 0
-IsLegal plan records = IsLegalFrom plan 0 [] records
+-- the jobs of records
+abbrev pub jobs_of : List Record → List Job
+jobs_of records = map (λ r. r.job) records
 
 -- the set after a list of records
 abbrev pub after : Tables → List Record → List Path
-after plan records = after_jobs plan [] (map (λ r. r.job) records)
+after plan records = after_jobs plan [] (jobs_of records)
+
+-- the records have the turns from this one on
+abbrev pub HaveTurns : ℕ → List Record → Type 0
+HaveTurns turn [] = Unit {0}
+HaveTurns turn (r ∷ records) = (r.turn ≡ turn) × HaveTurns (turn + 1) records
+
+-- each record has the reply of the one-marker office, on the set that this one becomes by the records before it
+abbrev pub HaveReplies : Tables → List Path → List Record → Type 0
+HaveReplies plan paths [] = Unit {0}
+HaveReplies plan paths (r ∷ records) = (r.reply ≡ (whole plan paths r.job).reply) × HaveReplies plan (whole plan paths r.job).paths records
+
+-- a legal list of records: jobs that there are, the turns from 0 on, and the replies of an office that begins with the empty set
+pub record IsLegal (plan : Tables) (records : List Record) : Type 0 where
+  pub jobs : AreJobs (jobs_of records)
+  pub turns : HaveTurns 0 records
+  pub replies : HaveReplies plan [] records

@@ -1,6 +1,7 @@
 pub use Rattle.xbar_equip.specs.Among
 pub use Rattle.xbar_equip.specs.Len
 pub use Rattle.xbar_equip.specs.Ten
+pub use Rattle.xbar_equip.specs.Dialled
 pub use Rattle.xbar_equip.specs.Link
 pub use Rattle.xbar_equip.specs.Path
 pub use Rattle.xbar_equip.specs.Paths
@@ -13,7 +14,17 @@ pub mod Members
 pub mod LawfulSet
 pub mod Trial
 pub mod TwoTrials
+pub mod Cards
+pub mod Replies
+pub mod Done
+pub mod Room
+pub mod Dial
+pub mod Standing
+pub mod Trunks
+pub mod Complete
+pub mod Release
 pub mod Whole
 pub mod State
 pub mod Legal
+pub mod Audit
 pub mod Closed

@@ -7,7 +7,7 @@ use Rattle.xbar_plan.specs.Tables.{Tables, is_faulty}
 use Rattle.xbar_plan.specs.declared.group.Member.{Member}
 use Rattle.xbar_office.specs.declared.trial.Parties.{Parties}
 use Rattle.xbar_office.specs.declared.trial.Leg.{Leg}
-use Rattle.xbar_office.specs.declared.trial.Pair.{Pair}
+use Rattle.xbar_office.specs.declared.trial.CallPaths.{CallPaths}
 use Rattle.xbar_office.specs.declared.trial.TrialEnd.{TrialEnd}
 use Rattle.xbar_office.specs.declared.trial.TrialEnd.TheVariants.{Chosen, Faulty, NoChannel}
 
@@ -24,13 +24,13 @@ abbrev pub leg_path : List Path → ℕ → Leg → Option Path
 leg_path paths start leg = option_map (path_by leg.line leg.place) (channel_test paths leg.line leg.place start)
 
 -- the called line's leg is matched once the calling path was added, with the same start
-abbrev pub with_called : List Path → ℕ → Option Leg → Path → Option Pair
+abbrev pub with_called : List Path → ℕ → Option Leg → Path → Option CallPaths
 with_called paths start None calling = Some (record { calling = calling; called = None })
 with_called paths start (Some leg) calling =
     option_map (λ called. record { calling = calling; called = Some called }) (leg_path (with_path paths calling) start leg)
 
 -- the paths that join the parties to the member, where each of them finds a channel
-abbrev pub matched : List Path → ℕ → Parties → Member → Option Pair
+abbrev pub matched : List Path → ℕ → Parties → Member → Option CallPaths
 matched paths start parties member =
     option_and_then (with_called paths start (called_leg parties member)) (leg_path paths start (calling_leg parties member))
 
@@ -44,18 +44,18 @@ called_links None = []
 called_links (Some called) = links called
 
 -- chosen paths of which a link is out of order make a faulty trial
-abbrev pub faulty_or_chosen : Pair → Option Link → TrialEnd
-faulty_or_chosen pair None = Chosen pair
-faulty_or_chosen pair (Some link) = Faulty link
+abbrev pub faulty_or_chosen : CallPaths → Option Link → TrialEnd
+faulty_or_chosen call None = Chosen call
+faulty_or_chosen call (Some link) = Faulty link
 
 -- chosen paths are looked through for the first link that is out of order, the calling path's links first
-abbrev pub tested : Tables → Pair → TrialEnd
-tested plan pair = faulty_or_chosen pair (find (is_faulty plan) (links pair.calling ++ called_links pair.called))
+abbrev pub tested : Tables → CallPaths → TrialEnd
+tested plan call = faulty_or_chosen call (find (is_faulty plan) (links call.calling ++ called_links call.called))
 
 -- a trial ends without a channel, or as its chosen paths are
-abbrev pub end_of : Tables → Option Pair → TrialEnd
+abbrev pub end_of : Tables → Option CallPaths → TrialEnd
 end_of plan None = NoChannel
-end_of plan (Some pair) = tested plan pair
+end_of plan (Some call) = tested plan call
 
 -- a trial: join the parties to a member, with this start of the channel test
 abbrev pub trial : Tables → List Path → ℕ → Parties → Member → TrialEnd

@@ -1,4 +1,4 @@
-use Rattle.std.specs.Prelude.{ℕ, List, [], ◌∷◌, ◌++◌, slice_get}
+use Rattle.std.specs.Prelude.{ℕ, Some, None, List, [], ◌∷◌, ◌++◌, slice_get}
 use Rattle.std.specs.Option.{option_map_or}
 use Rattle.xbar_equip.specs.declared.path.Path.{Path}
 use Rattle.xbar_plan.specs.Tables.{Tables}
@@ -9,24 +9,23 @@ use Rattle.xbar_office.specs.declared.reply.Card.{Card}
 use Rattle.xbar_office.specs.declared.trial.Parties.{Parties}
 use Rattle.xbar_office.specs.declared.trial.TrialEnd.{TrialEnd}
 use Rattle.xbar_office.specs.declared.trial.TrialEnd.TheVariants.{Chosen, Faulty, NoChannel}
-use Rattle.xbar_office.specs.declared.two_trials.Outcome.TheVariants.{Taken, NotTaken}
 use Rattle.xbar_office.specs.declared.two_trials.Trials.{Trials}
 
 -- a faulty trial gives a card
 abbrev pub cards_of : ℕ → TrialEnd → List Card
-cards_of number (Chosen pair) = []
+cards_of number (Chosen call) = []
 cards_of number (Faulty link) = record { trial = number; link = link } ∷ []
 cards_of number NoChannel = []
 
 -- the second trial decides, and its card follows those of the first
 abbrev pub second_decides : List Card → ℕ → TrialEnd → Trials
-second_decides cards index (Chosen pair) = record { outcome = Taken 2 index pair; cards = cards }
-second_decides cards index (Faulty link) = record { outcome = NotTaken; cards = cards ++ cards_of 2 (Faulty link) }
-second_decides cards index NoChannel = record { outcome = NotTaken; cards = cards }
+second_decides cards index (Chosen call) = record { choice = Some (record { trial = 2; index = index; paths = call }); cards = cards }
+second_decides cards index (Faulty link) = record { choice = None; cards = cards ++ cards_of 2 (Faulty link) }
+second_decides cards index NoChannel = record { choice = None; cards = cards }
 
 -- the first trial decides if it succeeds, else the second does
 abbrev pub first_decides : ℕ → TrialEnd → ℕ → TrialEnd → Trials
-first_decides index (Chosen pair) next end = record { outcome = Taken 1 index pair; cards = [] }
+first_decides index (Chosen call) next end = record { choice = Some (record { trial = 1; index = index; paths = call }); cards = [] }
 first_decides index (Faulty link) next end = second_decides (cards_of 1 (Faulty link)) next end
 first_decides index NoChannel next end = second_decides [] next end
 

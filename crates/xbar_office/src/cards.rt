@@ -19,6 +19,24 @@ impl Model for Cards {
     ghost view = { λ a. a.cards.items };
 }
 
+impl PartialEq for Cards {
+    ghost use Rattle.xbar_office.specs.Cards.{cards_eq, cards-partial_equivalence};
+
+    ghost eq = { cards_eq };
+
+    ghost laws = { cards-partial_equivalence };
+
+    fn eq(&self, other: &Self) -> bool {
+        self.cards == other.cards
+    }
+}
+
+impl Eq for Cards {
+    ghost use Rattle.xbar_office.specs.Cards.{cards-equivalence};
+
+    ghost laws = { cards-equivalence };
+}
+
 impl Cards {
     pub fn new() -> Self
         ensures { result ≡ [] }
@@ -54,6 +72,14 @@ impl Cards {
             cards.push(*card);
         }
         cards
+    }
+
+    /// Whether the two are the same cards: `==`, with a contract for callers that need it.
+    #[tactic(auto, using(crate::specs::Cards::cards_exact))]
+    pub fn is_same(&self, other: &Self) -> bool
+        ensures { IsTrue result ↔ (self.now ≡ other.now) }
+    {
+        self == other
     }
 
     pub fn is_empty(&self) -> bool

@@ -2,22 +2,32 @@
 //! It is slow and plain on purpose, since all other offices are measured by it.
 #![tactic(auto)]
 
+pub use aim::Aim;
+pub use audit_fault::AuditFault;
+pub use auditor::audit;
 pub use cards::Cards;
 pub use job::Job;
 pub use office::Office;
 pub use reply::{Card, End, Record, Reply};
-pub use trial::{Pair, TrialEnd};
-pub use two_trials::{Outcome, Trials};
+pub use trial::{CallPaths, TrialEnd};
+pub use two_trials::{Choice, Trials};
 
+mod aim;
+mod audit_fault;
+mod auditor;
 mod cards;
+mod complete;
 mod dial;
 mod job;
 pub mod laws;
 mod members;
 mod office;
 mod reply;
+mod route;
 mod sets;
+mod standing;
 #[cfg(test)]
 mod tests;
 mod trial;
 mod two_trials;
+mod whole;

@@ -1,16 +1,17 @@
-ghost use Rattle.std.specs.Prelude.{◌≡◌, [], IfOk, OnOk, OnErr};
+ghost use Rattle.std.specs.Prelude.{◌≡◌, ◌<◌, length, [], IfOk, OnOk, OnErr};
 ghost use Rattle.xbar_office.specs.LawfulSet.{IsLawfulSet};
 ghost use Rattle.xbar_office.specs.Whole.{whole as whole_of};
 ghost use Rattle.xbar_office.specs.Closed.{closed, NamesFieldsOnce};
 
-use crate::dial::{Decision, dial};
 use crate::job::Job;
+use crate::laws::job_is_in_range;
 use crate::reply::Reply;
-use crate::sets::insert_pair;
+use crate::whole;
 use std::alloc::{AllocError, Global};
 use std::marker::Model;
 use xbar_equip::{Crosspoint, Path};
 use xbar_plan::Plan;
+use xbar_plan::laws::every_plan_is_lawful;
 
 /// An office with one marker, which does jobs whole.
 #[derive(Debug, Drop)]
@@ -46,14 +47,17 @@ impl<'p> Office<'p> {
         ensures reply { IfOk result (λ reply. reply ≡ (whole_of self.old.plan self.old.paths job).reply) }
         ensures ok { OnOk result (self.new ≡ record self.old { paths = (whole_of self.old.plan self.old.paths job).paths }) }
         ensures err { OnErr result (self.new ≡ self.old) }
+        ensures memory { OnErr result (length self.old.paths < length (whole_of self.old.plan self.old.paths job).paths) }
     {
-        let Decision { reply, pair } = match job {
-            Job::Dial(line) => dial(self.plan, &self.paths, line),
-        };
-        if let Some(pair) = &pair {
-            insert_pair(&mut self.paths, pair)?;
+        job_is_in_range(&job);
+        every_plan_is_lawful(self.plan);
+        match job {
+            Job::Dial(line) => whole::dial(self.plan, &mut self.paths, line),
+            Job::Complete(line, dialled) => {
+                whole::complete(self.plan, &mut self.paths, line, dialled)
+            }
+            Job::Release(line) => Ok(whole::release(self.plan, &mut self.paths, line)),
         }
-        Ok(reply)
     }
 
     /// The paths that stand, in their order.

@@ -1,12 +1,13 @@
 //! Sets of paths, as slices in the order of paths.
 
-ghost use Rattle.std.specs.Prelude.{◌≡◌, ◌<◌, ◌≤◌, ◌+◌, length, vec_len, vec_capacity, option_map, OnOk, OnErr, MatchOption, insert as insert_at};
-ghost use Rattle.xbar_equip.specs.Paths.{has_line, has_place, has_link as has_the_link, is_idle, has_idle_links as has_idle_links_in, channel_test, with_path};
+ghost use Rattle.std.specs.Prelude.{◌≡◌, ◌<◌, ◌≤◌, ◌+◌, length, vec_len, vec_capacity, option_map, MatchOption, OnOk, OnErr, insert as insert_at, remove as remove_at};
+ghost use Rattle.xbar_equip.specs.Paths.{has_line, has_place, has_link as has_the_link, is_idle, has_idle_links as has_idle_links_in, channel_test, with_path, without_path};
 ghost use Rattle.xbar_equip.specs.Path.{path_by};
 ghost use Rattle.xbar_office.specs.Chosen.{with_chosen};
-ghost use Rattle.xbar_office.specs.Whole.{with_pair};
+ghost use Rattle.xbar_office.specs.Done.{with_call_paths, with_added};
+ghost use Rattle.xbar_office.specs.Room.{call_count, added_count};
 
-use crate::trial::Pair;
+use crate::trial::CallPaths;
 use std::alloc::AllocError;
 use std::cmp::Ordering;
 use xbar_equip::{Channel, Len, Link, Path, Ten};
@@ -112,7 +113,7 @@ fn place_for(paths: &[Path], path: &Path) -> Option<usize>
 }
 
 /// Adds a path to the set, which has room for it.
-fn insert(paths: &mut Vec<Path>, path: &Path)
+pub fn insert(paths: &mut Vec<Path>, path: &Path)
     requires { vec_len paths.old < vec_capacity paths.old }
     ensures paths { paths.new.items ≡ with_path paths.old.items path.now }
     ensures len { vec_len paths.new ≤ vec_len paths.old + 1 }
@@ -123,15 +124,50 @@ fn insert(paths: &mut Vec<Path>, path: &Path)
     }
 }
 
-/// Adds the paths that a trial chose.
-pub fn insert_pair(paths: &mut Vec<Path>, pair: &Pair) -> Result<(), AllocError>
-    ensures ok { OnOk result (paths.new.items ≡ with_pair paths.old.items pair.now) }
-    ensures err { OnErr result (paths.new.items ≡ paths.old.items) }
+fn insert_call(paths: &mut Vec<Path>, call: &CallPaths)
+    requires { vec_len paths.old + call_count call.now ≤ vec_capacity paths.old }
+    ensures { paths.new.items ≡ with_call_paths paths.old.items call.now }
 {
-    paths.reserve(2)?;
-    insert(paths, &pair.calling);
-    if let Some(called) = &pair.called {
+    insert(paths, &call.calling);
+    if let Some(called) = &call.called {
         insert(paths, called);
     }
+}
+
+/// Adds the paths of a call, if there is one; where memory is refused the set stays.
+pub fn add(paths: &mut Vec<Path>, call: &Option<CallPaths>) -> Result<(), AllocError>
+    ensures ok { OnOk result (paths.new.items ≡ with_added paths.old.items call.now) }
+    ensures err { OnErr result (paths.new.items ≡ paths.old.items) }
+    ensures room { OnErr result ((vec_len paths.new ≡ vec_len paths.old) × (vec_capacity paths.new ≡ vec_capacity paths.old)) }
+    ensures full { OnErr result (vec_capacity paths.old < vec_len paths.old + added_count call.now) }
+{
+    if let Some(call) = call {
+        paths.reserve(call.count())?;
+        insert_call(paths, call);
+    }
     Ok(())
+}
+
+/// Where a path stands in the set.
+fn place_in(paths: &[Path], path: &Path) -> Option<usize>
+    ensures { MatchOption result (without_path paths.now path.now ≡ paths.now) (λ at. (at < length paths.now) × (without_path paths.now path.now ≡ remove_at paths.now at)) }
+{
+    for (at, other) in paths.iter().enumerate() {
+        match path.cmp(other) {
+            Ordering::Less => return None,
+            Ordering::Equal => return Some(at),
+            Ordering::Greater => {}
+        }
+    }
+    None
+}
+
+/// Takes a path out of the set.
+pub fn remove(paths: &mut Vec<Path>, path: &Path)
+    ensures paths { paths.new.items ≡ without_path paths.old.items path.now }
+    ensures capacity { vec_capacity paths.new ≡ vec_capacity paths.old }
+{
+    if let Some(at) = place_in(paths, path) {
+        paths.remove(at);
+    }
 }

@@ -22,17 +22,31 @@ pub struct Leg {
     pub place: Ten,
 }
 
-/// The paths that a trial chose.
+/// The paths of a call: from the calling line, and in a call inside the office from the called line.
 #[derive(Clone, Copy, Debug, PartialEq, Eq)]
-pub struct Pair {
+pub struct CallPaths {
     pub calling: Path,
     pub called: Option<Path>,
+}
+
+impl CallPaths {
+    ghost use Rattle.xbar_office.specs.Room.{call_count};
+
+    /// 1, or 2 inside the office.
+    pub fn count(&self) -> usize
+        ensures { result ≡ call_count self.now }
+    {
+        match self.called {
+            None => 1,
+            Some(_) => 2,
+        }
+    }
 }
 
 /// How a trial ends.
 #[derive(Clone, Copy, Debug, PartialEq, Eq)]
 pub enum TrialEnd {
-    Chosen(Pair),
+    Chosen(CallPaths),
     /// The first link of the chosen paths that is out of order.
     Faulty(Link),
     NoChannel,
@@ -47,18 +61,18 @@ fn called_leg(parties: &Parties, member: &Member) -> Option<Leg>
     }
 }
 
-fn with_called(paths: &[Path], start: u8, leg: Option<Leg>, calling: &Path) -> Option<Pair>
+fn with_called(paths: &[Path], start: u8, leg: Option<Leg>, calling: &Path) -> Option<CallPaths>
     requires { start < 10 }
     ensures { result ≡ with_called_of paths.now start leg calling.now }
 {
     match leg {
-        None => Some(Pair {
+        None => Some(CallPaths {
             calling: *calling,
             called: None,
         }),
         Some(leg) => {
             let called = find_path(paths, &Some(*calling), leg.line, leg.place, start)?;
-            Some(Pair {
+            Some(CallPaths {
                 calling: *calling,
                 called: Some(called),
             })
@@ -66,7 +80,7 @@ fn with_called(paths: &[Path], start: u8, leg: Option<Leg>, calling: &Path) -> O
     }
 }
 
-fn matched(paths: &[Path], start: u8, parties: &Parties, member: &Member) -> Option<Pair>
+fn matched(paths: &[Path], start: u8, parties: &Parties, member: &Member) -> Option<CallPaths>
     requires { start < 10 }
     ensures { result ≡ matched_of paths.now start parties.now member.now }
 {
@@ -98,15 +112,15 @@ fn first_faulty_called(plan: &Plan, called: &Option<Path>) -> Option<Link>
     }
 }
 
-fn tested(plan: &Plan, pair: &Pair) -> TrialEnd
-    ensures { result ≡ tested_of plan.now pair.now }
+fn tested(plan: &Plan, call: &CallPaths) -> TrialEnd
+    ensures { result ≡ tested_of plan.now call.now }
 {
-    if let Some(link) = first_faulty(plan, &pair.calling) {
+    if let Some(link) = first_faulty(plan, &call.calling) {
         return TrialEnd::Faulty(link);
     }
-    match first_faulty_called(plan, &pair.called) {
+    match first_faulty_called(plan, &call.called) {
         Some(link) => TrialEnd::Faulty(link),
-        None => TrialEnd::Chosen(*pair),
+        None => TrialEnd::Chosen(*call),
     }
 }
 
@@ -114,12 +128,12 @@ impl TrialEnd {
     ghost use Rattle.xbar_office.specs.Trial.{end_of};
 
     /// How a trial ends that found these paths, or no channel.
-    pub fn of(plan: &Plan, found: Option<Pair>) -> Self
+    pub fn of(plan: &Plan, found: Option<CallPaths>) -> Self
         ensures { result ≡ end_of plan.now found }
     {
         match found {
             None => TrialEnd::NoChannel,
-            Some(pair) => tested(plan, &pair),
+            Some(call) => tested(plan, &call),
         }
     }
 }

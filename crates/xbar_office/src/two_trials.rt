@@ -6,54 +6,53 @@ ghost use Rattle.xbar_office.specs.TwoTrials.{second_decides as second_decides_o
 use crate::cards::Cards;
 use crate::members::next_idle;
 use crate::reply::Card;
-use crate::trial::{Pair, Parties, TrialEnd, trial};
+use crate::trial::{CallPaths, Parties, TrialEnd, trial};
 use xbar_equip::Path;
 use xbar_plan::{Member, Plan};
 
-/// What two trials come to.
+/// What a trial that succeeded chose.
 #[derive(Clone, Copy, Debug, PartialEq, Eq)]
-pub enum Outcome {
-    /// Trial 1 or 2, on the member of this number, chose these paths.
-    Taken { trial: u8, index: u8, pair: Pair },
-    NotTaken,
+pub struct Choice {
+    /// 1 or 2.
+    pub trial: u8,
+    /// The member of the group, counted from 0.
+    pub index: u8,
+    pub paths: CallPaths,
 }
 
 /// What two trials come to, with the cards of those that met a faulty link.
 #[derive(Debug, Drop)]
 pub struct Trials {
-    pub outcome: Outcome,
+    /// None where both failed.
+    pub choice: Option<Choice>,
     pub cards: Cards,
 }
 
-impl Outcome {
-    ghost use Rattle.xbar_office.specs.Whole.{pair_of};
+impl Trials {
+    ghost use Rattle.std.specs.Prelude.{[], length, ◌≤◌, Some};
+    ghost use Rattle.xbar_office.specs.Done.{chosen_paths};
 
-    /// The paths that were taken, if any.
-    pub fn pair(&self) -> Option<Pair>
-        ensures { result ≡ pair_of self.now }
+    /// The paths that were chosen, if any.
+    pub fn paths(&self) -> Option<CallPaths>
+        ensures { result ≡ chosen_paths self.now.choice }
     {
-        match self {
-            Outcome::Taken { pair, .. } => Some(*pair),
-            Outcome::NotTaken => None,
+        match &self.choice {
+            Some(choice) => Some(choice.paths),
+            None => None,
         }
     }
-}
 
-impl Trials {
-    ghost use Rattle.std.specs.Prelude.{[], length, ◌≤◌};
-    ghost use Rattle.xbar_office.specs.declared.two_trials.Outcome.TheVariants.{Taken as TakenBy};
-
-    /// The first trial chose paths, so there is no second one.
-    pub fn first(index: u8, pair: &Pair) -> Self
-        ensures { result ≡ record { outcome = TakenBy 1 index pair.now; cards = [] } }
+    /// The first trial chose these paths, so there is no second one.
+    pub fn first(index: u8, paths: &CallPaths) -> Self
+        ensures { result ≡ record { choice = Some (record { trial = 1; index = index; paths = paths.now }); cards = [] } }
     {
-        let outcome = Outcome::Taken {
+        let choice = Choice {
             trial: 1,
             index,
-            pair: *pair,
+            paths: *paths,
         };
         Trials {
-            outcome,
+            choice: Some(choice),
             cards: Cards::new(),
         }
     }
@@ -65,19 +64,19 @@ impl Trials {
         ensures { result ≡ second_decides_of cards index end }
     {
         match end {
-            TrialEnd::Chosen(pair) => {
-                let outcome = Outcome::Taken {
+            TrialEnd::Chosen(paths) => {
+                let choice = Some(Choice {
                     trial: 2,
                     index,
-                    pair,
-                };
-                return Trials { outcome, cards };
+                    paths,
+                });
+                return Trials { choice, cards };
             }
             TrialEnd::Faulty(link) => cards.push(Card { trial: 2, link }),
             TrialEnd::NoChannel => {}
         }
         Trials {
-            outcome: Outcome::NotTaken,
+            choice: None,
             cards,
         }
     }
@@ -97,7 +96,7 @@ pub fn two_trials(
     ensures { result ≡ two_trials_of plan.now paths.now parties.now members.now first }
 {
     let cards = match trial(plan, paths, 0, parties, &members[first]) {
-        TrialEnd::Chosen(pair) => return Trials::first(first as u8, &pair),
+        TrialEnd::Chosen(call) => return Trials::first(first as u8, &call),
         TrialEnd::Faulty(link) => Cards::one(Card { trial: 1, link }),
         TrialEnd::NoChannel => Cards::new(),
     };

@@ -1,43 +1,147 @@
-use Rattle.std.proofs.Common.{◌≡◌, ℕ, ◌+◌, ◌<◌, ◌≤◌, true, false, length, inl, inr, refl, sym, ◌∙◌, ap, subst, arith}
-use Rattle.std.specs.Prelude.{Option, Some, None, IfSome, IsSomeAnd, slice_get, position, option_and_then}
-use Rattle.std.proofs.lemmas.Option.{slice_get_cases}
-use borrow.Author.Count.{below_more}
-use Rattle.xbar_equip.specs.Ten.{TrunkPlace}
+use Rattle.std.proofs.Common.{◌≡◌, ℕ, zero, suc, ◌<◌, Bool, true, false, List, [], ◌∷◌, refl, sym, ◌∙◌, ap, subst}
+use Rattle.std.specs.Prelude.{◌||◌, Option, Some, None, IfSome, IsSomeAnd, slice_get, position, option_map, option_and_then}
+use Rattle.std.specs.List.{list_any}
+use Rattle.xbar_equip.specs.Ten.{TrunkPlace, IsTrunkPlace}
 use Rattle.xbar_plan.specs.Group.{TrunkGroup, stands_at, other_place}
-use Rattle.xbar_plan.specs.Tables.{Tables, member_at, IsNoMembers, IsOfMember}
+use Rattle.xbar_plan.specs.Tables.{Tables, member_at, first_with, has_member_at, member_within, member_place, IsNoMembers, IsOfMember, IsMemberPlace}
+use Rattle.xbar_plan.specs.Lawful.{IsLawful}
 use Rattle.xbar_plan.specs.declared.group.Member.{Member}
+use Rattle.xbar_plan.specs.declared.group.MemberPlace.{MemberPlace}
 use Rattle.xbar_plan.proofs.Lists.{position-none, position-some}
+use Rattle.xbar_plan.proofs.LawfulPlans.{member-numbers, place_at-range, stands_at-has}
+use Rattle.xbar_plan.proofs.OtherPlaces.{others}
 
--- no member of the first `count` groups stands at the place
-abbrev pub IsNoneBelow : Tables → TrunkPlace → ℕ → Type 0
-IsNoneBelow plan place count = (group index : ℕ) → group < count → IfSome (member_at plan group index) (λ member. stands_at member place ≡ false)
+-- the first item that passes is at its position
+first_with-is : {X : Type 0} (test : X → Bool) (xs : List X) (n : ℕ) (x : X) → position test xs ≡ Some n → slice_get xs n ≡ Some x → first_with test xs ≡ Some (n, x)
+first_with-is {X} test xs n x at here =
+    ap (option_and_then (λ number. option_map {U = ℕ × X} (λ item. (number, item)) (slice_get xs number))) at ∙ ap (option_map {U = ℕ × X} (λ item. (n, item))) here
 
--- nor of the next group, where it has none
-pub none_below-more : (plan : Tables) (place : TrunkPlace) (n : ℕ) (group : TrunkGroup) → slice_get plan.groups n ≡ Some group → position (λ member. stands_at member place) group.members ≡ None → IsNoneBelow plan place n → IsNoneBelow plan place (n + 1)
-none_below-more plan place n group here none below =
-    let P : ℕ → Type 0 = λ k. (index : ℕ) → IfSome (member_at plan k index) (λ member. stands_at member place ≡ false) in
-    let next : P n = λ index. subst (λ (o : Option TrunkGroup). IfSome (option_and_then (λ found. slice_get found.members index) o) (λ member. stands_at member place ≡ false)) (sym here)
-    (position-none (λ member. stands_at member place) group.members none index) in
-    let all = below_more P n (λ k less index. below k index less) next in
-    λ k index within. all k within index
+first_with-none : {X : Type 0} (test : X → Bool) (xs : List X) → position test xs ≡ None → first_with test xs ≡ None
+first_with-none {X} test xs e = ap (option_and_then (λ number. option_map {U = ℕ × X} (λ item. (number, item)) (slice_get xs number))) e
 
--- after the last group there is none
-pub none_below-all : (plan : Tables) (place : TrunkPlace) (n : ℕ) → length plan.groups ≤ n → IsNoneBelow plan place n → IsNoMembers plan place
-none_below-all plan place n all below = λ k index. elim (slice_get_cases plan.groups k).1 [
-  | inl within ↦ below k index (omega (arith, within.1, all))
-  | inr past ↦ subst (λ (o : Option TrunkGroup). IfSome (option_and_then (λ found. slice_get found.members index) o) (λ member. stands_at member place ≡ false)) (sym past.1) tt
-]
+-- what is found is an item that passes
+pub record IsFirst {X : Type 0} (test : X → Bool) (xs : List X) (n : ℕ) (x : X) : Type 0 where
+  pub here : slice_get xs n ≡ Some x
+  pub passes : test x ≡ true
 
--- what is read there is the member of that number
-pub member_at-read : (plan : Tables) (n i : ℕ) (group : TrunkGroup) (member : Member) → slice_get plan.groups n ≡ Some group → slice_get group.members i ≡ Some member → member_at plan n i ≡ Some member
-member_at-read plan n i group member here there = ap (option_and_then (λ found. slice_get found.members i)) here ∙ there
+first_with-found : {X : Type 0} (test : X → Bool) (xs : List X) (n : ℕ) (x : X) → first_with test xs ≡ Some (n, x) → IsFirst test xs n x
+first_with-found {X} test xs n x e = of (position test xs) refl e where
+  found : (m : ℕ) (o : Option X) → slice_get xs m ≡ o → IsSomeAnd o (λ y. test y ≡ true) → option_map {U = ℕ × X} (λ item. (m, item)) o ≡ Some (n, x) → IsFirst test xs n x
+  found m None is passes e = absurd passes
+  found m (Some y) is passes e =
+      let number : m ≡ n = ap (λ (o : Option (ℕ × X)). first_of o) e in
+      let item : y ≡ x = ap (λ (o : Option (ℕ × X)). second_of o) e in
+      record { here = ap (slice_get xs) (sym number) ∙ is ∙ ap (λ (z : X). Some z) item; passes = ap test (sym item) ∙ passes } where
+        first_of : Option (ℕ × X) → ℕ
+        first_of None = m
+        first_of (Some p) = p.0
 
--- the member at the position found stands at the place
-pub found_is : (plan : Tables) (place : TrunkPlace) (n i : ℕ) (group : TrunkGroup) (member : Member) → slice_get plan.groups n ≡ Some group → position (λ member. stands_at member place) group.members ≡ Some i → slice_get group.members i ≡ Some member → IsOfMember plan place (record { group = n; index = i; other = other_place member place })
-found_is plan place n i group member here found there =
-    subst (λ (o : Option Member). IsSomeAnd o (λ own. (stands_at own place ≡ true) × (other_place member place ≡ other_place own place)))
-    (sym (member_at-read plan n i group member here there)) (
-      subst (λ (o : Option Member). IsSomeAnd o (λ own. stands_at own place ≡ true)) there
-          (position-some (λ member. stands_at member place) i group.members found),
-      refl,
-    )
+        second_of : Option (ℕ × X) → X
+        second_of None = y
+        second_of (Some p) = p.1
+
+  of : (o : Option ℕ) → position test xs ≡ o → option_and_then (λ number. option_map {U = ℕ × X} (λ item. (number, item)) (slice_get xs number)) o ≡ Some (n, x) → IsFirst test xs n x
+  of None at e = cc
+  of (Some m) at e = found m (slice_get xs m) refl (position-some test m xs at) e
+
+-- where nothing is found no item passes
+first_with-fails : {X : Type 0} (test : X → Bool) (xs : List X) → first_with test xs ≡ None → (i : ℕ) → IfSome (slice_get xs i) (λ x. test x ≡ false)
+first_with-fails {X} test xs e = of (position test xs) refl e where
+  found : (m : ℕ) (o : Option X) → IsSomeAnd o (λ y. test y ≡ true) → option_map {U = ℕ × X} (λ item. (m, item)) o ≡ None → (i : ℕ) → IfSome (slice_get xs i) (λ x. test x ≡ false)
+  found m None passes e = absurd passes
+  found m (Some y) passes e = cc
+
+  of : (o : Option ℕ) → position test xs ≡ o → option_and_then (λ number. option_map {U = ℕ × X} (λ item. (number, item)) (slice_get xs number)) o ≡ None → (i : ℕ) → IfSome (slice_get xs i) (λ x. test x ≡ false)
+  of None at e = position-none test xs at
+  of (Some m) at e = found m (slice_get xs m) (position-some test m xs at) e
+
+-- the member at the position found in the group found is the answer
+pub member_place-is : (plan : Tables) (place : TrunkPlace) (number index : ℕ) (group : TrunkGroup) (member : Member) → position (has_member_at place) plan.groups ≡ Some number → slice_get plan.groups number ≡ Some group → position (λ own. stands_at own place) group.members ≡ Some index → slice_get group.members index ≡ Some member → member_place plan place ≡ Some (record { group = number; index = index; other = other_place member place })
+member_place-is plan place number index group member at here in_group there =
+    ap (option_and_then (λ found. member_within found.0 found.1 place)) (first_with-is (has_member_at place) plan.groups number group at here)
+    ∙ ap (option_map (λ found. record { group = number; index = found.0; other = other_place found.1 place }))
+    (first_with-is (λ own. stands_at own place) group.members index member in_group there)
+
+-- no answer where no group has such a member
+pub member_place-none : (plan : Tables) (place : TrunkPlace) → position (has_member_at place) plan.groups ≡ None → member_place plan place ≡ None
+member_place-none plan place e =
+    ap (option_and_then (λ found. member_within found.0 found.1 place)) (first_with-none (has_member_at place) plan.groups e)
+
+pub member_place-no_member : (plan : Tables) (place : TrunkPlace) (number : ℕ) (group : TrunkGroup) → position (has_member_at place) plan.groups ≡ Some number → slice_get plan.groups number ≡ Some group → position (λ own. stands_at own place) group.members ≡ None → member_place plan place ≡ None
+member_place-no_member plan place number group at here none =
+    ap (option_and_then (λ found. member_within found.0 found.1 place)) (first_with-is (has_member_at place) plan.groups number group at here)
+    ∙ ap (option_map (λ found. record { group = number; index = found.0; other = other_place found.1 place }))
+    (first_with-none (λ own. stands_at own place) group.members none)
+
+neither : (a b : Bool) → (a || b) ≡ false → (a ≡ false) × (b ≡ false)
+neither true b e = cc
+neither false b e = (refl, e)
+
+any_fails : {X : Type 0} (test : X → Bool) (xs : List X) → list_any test xs ≡ false → (i : ℕ) → IfSome (slice_get xs i) (λ x. test x ≡ false)
+any_fails test [] e i = tt
+any_fails test (x ∷ xs) e zero = (neither (test x) (list_any test xs) e).0
+any_fails test (x ∷ xs) e (suc i) = any_fails test xs (neither (test x) (list_any test xs) e).1 i
+
+none_of_any : {X : Type 0} (test : X → Bool) (xs : List X) → ((i : ℕ) → IfSome (slice_get xs i) (λ x. test x ≡ false)) → list_any test xs ≡ true → ⊥
+none_of_any test [] none e = cc
+none_of_any test (x ∷ xs) none e = none_of_any test xs (λ i. none (suc i)) (ap (λ b. b || list_any test xs) (sym (none zero)) ∙ e)
+
+true_and_false : (b : Bool) → b ≡ true → b ≡ false → ⊥
+true_and_false b holds fails = let e : true ≡ false = sym holds ∙ fails in cc
+
+-- no group has a member there, so no member stands there
+no_members : (plan : Tables) (place : TrunkPlace) → ((i : ℕ) → IfSome (slice_get plan.groups i) (λ group. has_member_at place group ≡ false)) → IsNoMembers plan place
+no_members plan place none number index = of (slice_get plan.groups number) (none number) where
+  of : (o : Option TrunkGroup) → IfSome o (λ group. has_member_at place group ≡ false) → IfSome (option_and_then (λ group. slice_get group.members index) o) (λ member. stands_at member place ≡ false)
+  of None h = tt
+  of (Some group) h = any_fails (λ own. stands_at own place) group.members h index
+
+is_of_member : (plan : Tables) (place : TrunkPlace) (number index : ℕ) (group : TrunkGroup) (member : Member) → slice_get plan.groups number ≡ Some group → slice_get group.members index ≡ Some member → stands_at member place ≡ true → IsOfMember plan place (record { group = number; index = index; other = other_place member place })
+is_of_member plan place number index group member here there stands =
+    let at : member_at plan number index ≡ Some member = ap (option_and_then (λ g. slice_get g.members index)) here ∙ there in
+    subst (λ (o : Option Member). IsSomeAnd o (λ own. (stands_at own place ≡ true) × (other_place member place ≡ other_place own place))) (sym at) (stands, refl)
+
+-- the answer is the member that stands there, or none stands there
+pub member_place-fits : (plan : Tables) (place : TrunkPlace) → IsMemberPlace plan place (member_place plan place)
+member_place-fits plan place = of (first_with (has_member_at place) plan.groups) refl where
+  within : (number : ℕ) (group : TrunkGroup) → IsFirst (has_member_at place) plan.groups number group → (o : Option (ℕ × Member)) → first_with (λ own. stands_at own place) group.members ≡ o → IsMemberPlace plan place (option_map (λ found. record { group = number; index = found.0; other = other_place found.1 place }) o)
+  within number group is None e =
+      absurd (none_of_any (λ own. stands_at own place) group.members (first_with-fails (λ own. stands_at own place) group.members e) is.passes)
+  within number group is (Some (index, member)) e =
+      let found = first_with-found (λ own. stands_at own place) group.members index member e in
+      is_of_member plan place number index group member is.here found.here found.passes
+
+  of : (o : Option (ℕ × TrunkGroup)) → first_with (has_member_at place) plan.groups ≡ o → IsMemberPlace plan place (option_and_then (λ found. member_within found.0 found.1 place) o)
+  of None e = no_members plan place (first_with-fails (has_member_at place) plan.groups e)
+  of (Some (number, group)) e =
+      within number group (first_with-found (has_member_at place) plan.groups number group e) (first_with (λ own. stands_at own place) group.members) refl
+
+-- the member that an answer names
+pub record IsNamed (plan : Tables) (place : TrunkPlace) (found : MemberPlace) : Type 0 where
+  pub member : Member
+  pub here : member_at plan found.group found.index ≡ Some member
+  pub stands : stands_at member place ≡ true
+  pub other : found.other ≡ other_place member place
+
+pub member_place-member : (plan : Tables) (place : TrunkPlace) (found : MemberPlace) → member_place plan place ≡ Some found → IsNamed plan place found
+member_place-member plan place found e = of (member_at plan found.group found.index) refl (subst (λ (o : Option MemberPlace). IsMemberPlace plan place o) e (member_place-fits plan place)) where
+  of : (o : Option Member) → member_at plan found.group found.index ≡ o → IsSomeAnd o (λ member. (stands_at member place ≡ true) × (found.other ≡ other_place member place)) → IsNamed plan place found
+  of None here h = absurd h
+  of (Some member) here h = record { member = member; here = here; stands = h.0; other = h.1 }
+
+-- and its numbers and places are in range
+pub member_place-numbers : (plan : Tables) → IsLawful plan → (place : TrunkPlace) (found : MemberPlace) → member_place plan place ≡ Some found → (found.group < 16) × (found.index < 40)
+member_place-numbers plan lawful place found e =
+    let named = member_place-member plan place found e in
+    member-numbers plan lawful found.group found.index named.member named.here
+
+pub member_place-place : (plan : Tables) → IsLawful plan → (place : TrunkPlace) (found : MemberPlace) → member_place plan place ≡ Some found → IsTrunkPlace place
+member_place-place plan lawful place found e =
+    let named = member_place-member plan place found e in
+    place_at-range plan lawful found.group found.index named.member place named.here (stands_at-has named.member place named.stands)
+
+pub member_place-other : (plan : Tables) → IsLawful plan → (place other : TrunkPlace) (found : MemberPlace) → member_place plan place ≡ Some found → found.other ≡ Some other → IsTrunkPlace other
+member_place-other plan lawful place other found e beside =
+    let named = member_place-member plan place found e in
+    let seen = others plan lawful found.group found.index named.member place other named.here named.stands (sym named.other ∙ beside) in
+    place_at-range plan lawful found.group found.index named.member other named.here (stands_at-has named.member other seen.stands)

@@ -32,6 +32,10 @@ lines_of plan number = option_map (λ station. station.lines) (find (λ station.
 abbrev pub route_of : Tables → ℕ → Option (List ℕ)
 route_of plan code = option_map (λ route. route.groups) (find (λ route. route.code == code) plan.routes)
 
+-- the first item that passes a test, with its number, counted from 0
+abbrev pub first_with : {A : Type 0} → (A → Bool) → List A → Option (ℕ × A)
+first_with test items = option_and_then (λ number. option_map (λ item. (number, item)) (slice_get items number)) (position test items)
+
 -- the number of the first register group
 abbrev pub register_group : Tables → ℕ
 register_group plan = unwrap_or (position is_register plan.groups) 0
@@ -43,6 +47,21 @@ is_faulty plan link = list_any (λ fault. link_eq fault link) plan.faults
 -- member `index` of group `group`, both counted from 0, if there is one
 abbrev pub member_at : Tables → ℕ → ℕ → Option Member
 member_at plan group index = option_and_then (λ found. slice_get found.members index) (slice_get plan.groups group)
+
+-- a member of the group stands at the place
+abbrev pub has_member_at : TrunkPlace → TrunkGroup → Bool
+has_member_at place group = list_any (λ member. stands_at member place) group.members
+
+-- the first member of group `number` that stands at the place, with its other place
+abbrev pub member_within : ℕ → TrunkGroup → TrunkPlace → Option MemberPlace
+member_within number group place =
+    option_map (λ found. record { group = number; index = found.0; other = other_place found.1 place })
+    (first_with (λ member. stands_at member place) group.members)
+
+-- the first member that stands at a place, in the first group that has one
+abbrev pub member_place : Tables → TrunkPlace → Option MemberPlace
+member_place plan place =
+    option_and_then (λ found. member_within found.0 found.1 place) (first_with (has_member_at place) plan.groups)
 
 -- no member of any group stands at the place
 abbrev pub IsNoMembers : Tables → TrunkPlace → Type 0

@@ -1,15 +1,27 @@
 //! What holds of every lawful plan, for the crates above. Each function does nothing: its contract
 //! is the law.
 
-ghost use Rattle.std.specs.Prelude.{◌≡◌, ◌≢◌, ◌<◌, ◌≤◌, ◌⊎◌, ℕ, List, true, Option, Some, is_some, slice_get, length};
+ghost use Rattle.std.specs.Prelude.{◌↔◌, Ok, None, ◌≡◌, ◌≢◌, ◌<◌, ◌≤◌, ◌⊎◌, ℕ, List, true, Option, Some, is_some, slice_get, length};
 ghost use Rattle.xbar_equip.specs.Len.{Line, IsLine};
 ghost use Rattle.xbar_equip.specs.Ten.{TrunkPlace, IsTrunkPlace};
 ghost use Rattle.xbar_equip.specs.Link.{Link, IsLink};
 ghost use Rattle.xbar_plan.specs.Group.{TrunkGroup, stands_at, other_place, is_register, is_intra, is_outgoing};
-ghost use Rattle.xbar_plan.specs.Tables.{Tables, member_at, register_group, lines_of, route_of, is_faulty, IsMemberPlace};
-ghost use Rattle.xbar_plan.specs.Lawful.{IsLawful, LeadsOnlyTo};
+ghost use Rattle.xbar_plan.specs.Tables.{Tables, member_at, register_group, lines_of, route_of, is_faulty, member_place, IsMemberPlace};
+ghost use Rattle.xbar_plan.specs.Lawful.{IsLawful, LeadsOnlyTo, fault_in};
+ghost use Rattle.toml.specs.Data.{Members};
+ghost use Rattle.xbar_plan.specs.Document.{DifferInVersion, plan_of_document};
+ghost use Rattle.xbar_plan.specs.Written.{document_in_version_2};
 ghost use Rattle.xbar_plan.specs.declared.group.Member.{Member};
 ghost use Rattle.xbar_plan.specs.declared.group.MemberPlace.{MemberPlace};
+
+use crate::plan::Plan;
+
+/// Each plan is lawful, so what holds of lawful tables holds of its tables.
+pub fn every_plan_is_lawful(plan: &Plan)
+    ensures { IsLawful plan.now }
+{
+    let _count = plan.group_count();
+}
 
 /// There are 1 to 16 groups of 1 to 40 members.
 pub fn groups_have_members()
@@ -44,6 +56,18 @@ pub fn places_of_a_pair_see_each_other()
     ensures back { (plan : Tables) → IsLawful plan → (number index : ℕ) (member : Member) (place other : TrunkPlace) → member_at plan number index ≡ Some member → stands_at member place ≡ true → other_place member place ≡ Some other → other_place member other ≡ Some place }
 {}
 
+/// `member_of` answers with a member that stands at the place, and with none only where none does.
+pub fn member_places_are_of_members()
+    ensures { (plan : Tables) (place : TrunkPlace) → IsMemberPlace plan place (member_place plan place) }
+{}
+
+/// What `member_of` answers in a lawful plan is in range: the group, the member, and the other place.
+pub fn member_places_are_in_range()
+    ensures numbers { (plan : Tables) → IsLawful plan → (place : TrunkPlace) (found : MemberPlace) → member_place plan place ≡ Some found → (found.group < 16) × (found.index < 40) }
+    ensures place { (plan : Tables) → IsLawful plan → (place : TrunkPlace) (found : MemberPlace) → member_place plan place ≡ Some found → IsTrunkPlace place }
+    ensures other { (plan : Tables) → IsLawful plan → (place other : TrunkPlace) (found : MemberPlace) → member_place plan place ≡ Some found → found.other ≡ Some other → IsTrunkPlace other }
+{}
+
 /// Only one answer fits the question which member stands at a place.
 pub fn one_answer_fits_a_place()
     ensures { (plan : Tables) → IsLawful plan → (place : TrunkPlace) (found found' : Option MemberPlace) → IsMemberPlace plan place found → IsMemberPlace plan place found' → found ≡ found' }
@@ -64,10 +88,27 @@ pub fn numbers_have_lines()
 /// A code that is in use leads to 1 to 4 groups, all of them intra or all of them outgoing.
 pub fn codes_lead_to_trunks()
     ensures count { (plan : Tables) → IsLawful plan → (code : ℕ) (groups : List ℕ) → route_of plan code ≡ Some groups → (0 < length groups) × (length groups ≤ 4) }
+    ensures range { (plan : Tables) → IsLawful plan → (code : ℕ) (groups : List ℕ) → route_of plan code ≡ Some groups → (k number : ℕ) → slice_get groups k ≡ Some number → number < length plan.groups }
     ensures kind { (plan : Tables) → IsLawful plan → (code : ℕ) (groups : List ℕ) → route_of plan code ≡ Some groups → LeadsOnlyTo is_intra plan groups ⊎ LeadsOnlyTo is_outgoing plan groups }
 {}
 
 /// What is listed as out of order is a link.
 pub fn faults_are_links()
     ensures { (plan : Tables) → IsLawful plan → (link : Link) → is_faulty plan link ≡ true → IsLink link }
+{}
+
+/// Tables are lawful exactly where no test of tables tells a fault.
+pub fn lawful_tables_have_no_fault()
+    ensures { (plan : Tables) → IsLawful plan ↔ (fault_in plan ≡ None) }
+{}
+
+/// Of two documents that differ in `version` alone, 1 and 2, the second is accepted where the first
+/// is, with the same tables.
+pub fn version_1_reads_the_same_as_version_2()
+    ensures { (one two : Members) (tables : Tables) → DifferInVersion one two → plan_of_document one ≡ Ok tables → plan_of_document two ≡ Ok tables }
+{}
+
+/// Lawful tables are those of their own document in version 2.
+pub fn lawful_tables_read_back()
+    ensures { (plan : Tables) → IsLawful plan → plan_of_document (document_in_version_2 plan) ≡ Ok plan }
 {}

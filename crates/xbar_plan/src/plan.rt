@@ -1,10 +1,12 @@
 ghost use Rattle.std.specs.Prelude.{◌≡◌, ◌<◌, IfOk, option_copied, length, position};
 ghost use Rattle.xbar_plan.specs.Group.{is_register};
+ghost use Rattle.xbar_plan.specs.Tables.{has_member_at};
 
+use crate::fault::PlanFault;
 use crate::group::{Group, MemberPlace};
 use crate::route::Route;
 use crate::station::Station;
-use crate::{example, lawful};
+use crate::{example, lawful, read, write};
 use std::alloc::{AllocError, Global};
 use std::marker::Model;
 use xbar_equip::{DirNo, Len, Link, Ten};
@@ -30,9 +32,10 @@ impl Model for Plan {
 }
 
 impl Plan {
-    ghost use Rattle.std.specs.Prelude.{slice_get, Some, SomeIff};
-    ghost use Rattle.xbar_plan.specs.Tables.{Tables, lines_of, route_of, register_group as register_group_of, is_faulty, IsMemberPlace};
-    ghost use Rattle.xbar_plan.specs.Lawful.{IsLawful};
+    ghost use Rattle.std.specs.Prelude.{slice_get, Some, Ok};
+    ghost use Rattle.xbar_plan.specs.Tables.{Tables, lines_of, route_of, register_group as register_group_of, is_faulty, member_place};
+    ghost use Rattle.xbar_plan.specs.Lawful.{IsLawful, IsPlanOf};
+    ghost use Rattle.xbar_plan.specs.Document.{IsReading, plan_of};
     ghost use Rattle.xbar_plan.specs.Example.{example as the_example};
 
     /// Makes a plan of tables that are known to be lawful.
@@ -53,28 +56,33 @@ impl Plan {
         }
     }
 
-    /// Makes a plan of tables, or nothing where they aren't lawful.
+    /// Makes a plan of tables, or tells the least fault that they have.
     pub fn try_new(
         alloc: Global,
         groups: Vec<Group>,
         stations: Vec<Station>,
         routes: Vec<Route>,
         faults: Vec<Link>,
-    ) -> Result<Option<Self>, AllocError>
-        ensures { let tables : Tables = record { groups = groups.items; stations = stations.items; routes = routes.items; faults = faults.items } in IfOk result (λ plan. SomeIff plan (IsLawful tables) tables) }
+    ) -> Result<Self, PlanFault>
+        ensures { IsPlanOf (record { groups = groups.items; stations = stations.items; routes = routes.items; faults = faults.items }) result }
     {
-        if lawful::are_lawful_groups(alloc, &groups)?
-            && lawful::are_lawful_stations(alloc, &stations)?
-            && lawful::are_lawful_routes(alloc, &groups, &routes)?
-            && lawful::are_lawful_faults(&faults)
-        {
-            return Ok(Some(Plan::new(groups, stations, routes, faults)));
+        match lawful::fault_in(alloc, &groups, &stations, &routes, &faults)? {
+            None => Ok(Plan::new(groups, stations, routes, faults)),
+            Some(fault) => Err(fault),
         }
-        Ok(None)
+    }
+
+    /// The plan that a TOML text holds, in version 1 or 2 of its form, or the least fault that it has.
+    /// Want of memory may be told in place of a fault that would be found later.
+    pub fn read(alloc: Global, text: &[u8]) -> Result<Self, PlanFault>
+        ensures { IsReading (plan_of text.now) result }
+    {
+        read::read(alloc, text)
     }
 
     /// A small plan with a group of each kind: registers 417, 418 and 509, two intra trunks, and two
     /// groups of outgoing ones.
+    #[tactic(auto, unfolding(crate::specs::Lawful::fault_in))]
     pub fn example(alloc: Global) -> Result<Self, AllocError>
         ensures { IfOk result (λ plan. plan ≡ the_example) }
     {
@@ -84,6 +92,19 @@ impl Plan {
             example::routes(alloc)?,
             Vec::new(alloc),
         ))
+    }
+
+    /// A TOML text of the plan in version 2 of its form, which reads back as the same plan.
+    pub fn version_2(&self, alloc: Global) -> Result<Vec<u8>, AllocError>
+        ensures { IfOk result (λ text. plan_of text.items ≡ Ok self.now) }
+    {
+        write::version_2(
+            alloc,
+            &self.groups,
+            &self.stations,
+            &self.routes,
+            &self.faults,
+        )
     }
 
     /// 1 to 16.
@@ -113,20 +134,18 @@ impl Plan {
 
     /// Which member stands at the place, with its other place.
     pub fn member_of(&self, place: Ten) -> Option<MemberPlace>
-        ensures member { IsMemberPlace self.now place result }
+        ensures member { result ≡ member_place self.now place }
         ensures lawful { IsLawful self.now }
     {
-        for (number, group) in self.groups.iter().enumerate() {
-            if let Some(index) = group.position_of(place) {
-                let member = group.members()[index];
-                return Some(MemberPlace {
-                    group: number as u8,
-                    index: index as u8,
-                    other: member.other_place(place),
-                });
-            }
-        }
-        None
+        let number = position_at(&self.groups, place)?;
+        let group = &self.groups[number];
+        let index = group.position_of(place)?;
+        let member = group.members()[index];
+        Some(MemberPlace {
+            group: number as u8,
+            index: index as u8,
+            other: member.other_place(place),
+        })
     }
 
     /// The groups of a code, by their numbers, in the order in which they are tried; none for a
@@ -160,6 +179,13 @@ impl Plan {
     {
         self.faults.contains(&link)
     }
+}
+
+/// The first group that has a member at the place.
+fn position_at(groups: &[Group], place: Ten) -> Option<usize>
+    ensures { result ≡ position (has_member_at place) groups.now }
+{
+    groups.iter().position(|group| group.has_member_at(place))
 }
 
 fn register_position(groups: &[Group]) -> Option<usize>

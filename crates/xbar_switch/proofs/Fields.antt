@@ -6,7 +6,7 @@ use Rattle.std.proofs.lemmas.Bool.{agree_below, agree_below_at, cases_lt, cond-t
 use Rattle.xbar_switch.specs.declared.shape.Shape.{Shape}
 use Rattle.xbar_switch.specs.declared.shape.Shape.TheVariants.{Line, Other}
 use Rattle.xbar_switch.specs.Shape.{width, places}
-use Rattle.xbar_switch.specs.Field.{field_of, above_fields, close_bits_of, open_mask_of, ChangesField}
+use Rattle.xbar_switch.specs.Field.{field_of, above_fields, close_bits_of, open_mask_of, ChangesField, with_closed, with_open}
 
 -- one more than a place fits its field
 pub place-fits : (shape : Shape) (h : ℕ) → h < places shape → 1 + h < 2 ^ width shape
@@ -159,14 +159,14 @@ above_fields-open_mask shape v is_field =
 
 -- closing an open field sets it to one more than the place
 pub field_of-close_same : (shape : Shape) (word v h : ℕ) → h < places shape → field_of shape word v ≡ 0
-    → field_of shape (bit_or word (close_bits_of shape v h)) v ≡ 1 + h
+    → field_of shape (with_closed shape word v h) v ≡ 1 + h
 field_of-close_same shape word v h in_range is_open =
     field_of-or shape word (close_bits_of shape v h) v
     ∙ ap₂ bit_or is_open (field_of-close_bits_same shape v h in_range)
 
 -- closing a field leaves every other field
 pub field_of-close_other : (shape : Shape) (word v h other : ℕ) → h < places shape → other ≢ v
-    → field_of shape (bit_or word (close_bits_of shape v h)) other ≡ field_of shape word other
+    → field_of shape (with_closed shape word v h) other ≡ field_of shape word other
 field_of-close_other shape word v h other in_range differs =
     field_of-or shape word (close_bits_of shape v h) other
     ∙ ap (bit_or (field_of shape word other)) (field_of-close_bits_other shape v h other in_range differs)
@@ -174,7 +174,7 @@ field_of-close_other shape word v h other in_range differs =
 
 -- closing a field leaves what stands above the fields
 pub above_fields-close : (shape : Shape) (word v h : ℕ) → v < 10 → h < places shape
-    → above_fields shape (bit_or word (close_bits_of shape v h)) ≡ above_fields shape word
+    → above_fields shape (with_closed shape word v h) ≡ above_fields shape word
 above_fields-close shape word v h is_field in_range =
     above_fields-or shape word (close_bits_of shape v h)
     ∙ ap (bit_or (above_fields shape word)) (above_fields-close_bits shape v h is_field in_range)
@@ -182,7 +182,7 @@ above_fields-close shape word v h is_field in_range =
 
 -- opening a field makes it 0
 pub field_of-open_same : (shape : Shape) (word v : ℕ) → v < 10
-    → field_of shape (bit_and word (open_mask_of shape v)) v ≡ 0
+    → field_of shape (with_open shape word v) v ≡ 0
 field_of-open_same shape word v is_field =
     field_of-and shape word (open_mask_of shape v) v
     ∙ ap (bit_and (field_of shape word v)) (field_of-open_mask_same shape v is_field)
@@ -190,7 +190,7 @@ field_of-open_same shape word v is_field =
 
 -- opening a field leaves every other field
 pub field_of-open_other : (shape : Shape) (word v other : ℕ) → v < 10 → other < 10 → other ≢ v
-    → field_of shape (bit_and word (open_mask_of shape v)) other ≡ field_of shape word other
+    → field_of shape (with_open shape word v) other ≡ field_of shape word other
 field_of-open_other shape word v other is_field other_is_field differs =
     field_of-and shape word (open_mask_of shape v) other
     ∙ ap (bit_and (field_of shape word other))
@@ -205,7 +205,7 @@ above_fields-lt Other word in_word = shr_below word 24 40 in_word
 
 -- opening a field leaves what stands above the fields
 pub above_fields-open : (shape : Shape) (word v : ℕ) → word < 2 ^ 64 → v < 10
-    → above_fields shape (bit_and word (open_mask_of shape v)) ≡ above_fields shape word
+    → above_fields shape (with_open shape word v) ≡ above_fields shape word
 above_fields-open shape word v in_word is_field =
     above_fields-and shape word (open_mask_of shape v)
     ∙ ap (bit_and (above_fields shape word)) (above_fields-open_mask shape v is_field)
@@ -214,7 +214,7 @@ above_fields-open shape word v in_word is_field =
 
 -- closing an open field changes that field alone
 pub ChangesField-close : (shape : Shape) (word v h : ℕ) → v < 10 → h < places shape → field_of shape word v ≡ 0
-    → ChangesField shape word (bit_or word (close_bits_of shape v h)) v (1 + h)
+    → ChangesField shape word (with_closed shape word v h) v (1 + h)
 ChangesField-close shape word v h is_field in_range is_open = record {
   changed = field_of-close_same shape word v h in_range is_open;
   others = λ other _ differs. field_of-close_other shape word v h other in_range differs;
@@ -223,7 +223,7 @@ ChangesField-close shape word v h is_field in_range is_open = record {
 
 -- opening a field changes that field alone
 pub ChangesField-open : (shape : Shape) (word v : ℕ) → word < 2 ^ 64 → v < 10
-    → ChangesField shape word (bit_and word (open_mask_of shape v)) v 0
+    → ChangesField shape word (with_open shape word v) v 0
 ChangesField-open shape word v in_word is_field = record {
   changed = field_of-open_same shape word v is_field;
   others = λ other other_is_field differs.

@@ -1,4 +1,4 @@
-use Rattle.std.specs.Prelude.{◌≡◌, ◌≢◌, ℕ, ◌+◌, ◌-◌, ◌*◌, ◌/◌, ◌%◌, ◌^◌, ◌<◌}
+use Rattle.std.specs.Prelude.{◌≡◌, ◌≢◌, ℕ, ◌+◌, ◌-◌, ◌*◌, ◌/◌, ◌%◌, ◌^◌, ◌<◌, bit_and, bit_or}
 use Rattle.xbar_switch.specs.declared.shape.Shape.{Shape}
 use Rattle.xbar_switch.specs.Shape.{width}
 
@@ -17,6 +17,14 @@ close_bits_of shape v h = (1 + h) * 2 ^ (width shape * v)
 -- every bit of a word but those of field v
 unfoldable pub open_mask_of : Shape → ℕ → ℕ
 open_mask_of shape v = 2 ^ 64 - 1 - (2 ^ width shape - 1) * 2 ^ (width shape * v)
+
+-- the word with field v closed at place h, where it was open
+abbrev pub with_closed : Shape → ℕ → ℕ → ℕ → ℕ
+with_closed shape word v h = bit_or word (close_bits_of shape v h)
+
+-- the word with field v open
+abbrev pub with_open : Shape → ℕ → ℕ → ℕ
+with_open shape word v = bit_and word (open_mask_of shape v)
 
 -- field v of the new word holds this value, and all else in the word is as it was
 pub record ChangesField (shape : Shape) (old new v value : ℕ) : Type 0 where

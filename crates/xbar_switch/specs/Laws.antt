@@ -1,40 +1,40 @@
-use Rattle.std.specs.Prelude.{◌≡◌, ◌≢◌, ℕ, ◌+◌, ◌^◌, ◌<◌, bit_and, bit_or}
+use Rattle.std.specs.Prelude.{◌≡◌, ◌≢◌, ℕ, ◌+◌, ◌^◌, ◌<◌}
 use Rattle.xbar_switch.specs.declared.shape.Shape.{Shape}
 use Rattle.xbar_switch.specs.Shape.{places}
-use Rattle.xbar_switch.specs.Field.{field_of, above_fields, close_bits_of, open_mask_of}
+use Rattle.xbar_switch.specs.Field.{field_of, above_fields, with_closed, with_open}
 
 -- closing an open field sets it to one more than the place
 abbrev pub ClosingSetsField : Type 0
 ClosingSetsField =
     (shape : Shape) (word v h : ℕ) → word < 2 ^ 64 → v < 10 → h < places shape → field_of shape word v ≡ 0
-    → field_of shape (bit_or word (close_bits_of shape v h)) v ≡ 1 + h
+    → field_of shape (with_closed shape word v h) v ≡ 1 + h
 
 -- closing a field leaves every other field as it was
 abbrev pub ClosingKeepsOthers : Type 0
 ClosingKeepsOthers =
     (shape : Shape) (word v h other : ℕ) → word < 2 ^ 64 → v < 10 → h < places shape → other < 10 → other ≢ v
-    → field_of shape (bit_or word (close_bits_of shape v h)) other ≡ field_of shape word other
+    → field_of shape (with_closed shape word v h) other ≡ field_of shape word other
 
 -- closing a field leaves what stands above the fields as it was
 abbrev pub ClosingKeepsAbove : Type 0
 ClosingKeepsAbove =
     (shape : Shape) (word v h : ℕ) → word < 2 ^ 64 → v < 10 → h < places shape
-    → above_fields shape (bit_or word (close_bits_of shape v h)) ≡ above_fields shape word
+    → above_fields shape (with_closed shape word v h) ≡ above_fields shape word
 
 -- opening a field makes it 0
 abbrev pub OpeningClearsField : Type 0
 OpeningClearsField =
     (shape : Shape) (word v : ℕ) → word < 2 ^ 64 → v < 10
-    → field_of shape (bit_and word (open_mask_of shape v)) v ≡ 0
+    → field_of shape (with_open shape word v) v ≡ 0
 
 -- opening a field leaves every other field as it was
 abbrev pub OpeningKeepsOthers : Type 0
 OpeningKeepsOthers =
     (shape : Shape) (word v other : ℕ) → word < 2 ^ 64 → v < 10 → other < 10 → other ≢ v
-    → field_of shape (bit_and word (open_mask_of shape v)) other ≡ field_of shape word other
+    → field_of shape (with_open shape word v) other ≡ field_of shape word other
 
 -- opening a field leaves what stands above the fields as it was
 abbrev pub OpeningKeepsAbove : Type 0
 OpeningKeepsAbove =
     (shape : Shape) (word v : ℕ) → word < 2 ^ 64 → v < 10
-    → above_fields shape (bit_and word (open_mask_of shape v)) ≡ above_fields shape word
+    → above_fields shape (with_open shape word v) ≡ above_fields shape word

@@ -1,6 +1,6 @@
-use Rattle.std.specs.Prelude.{◌≡◌, ℕ, ◌+◌, Option, bit_and, bit_or}
+use Rattle.std.specs.Prelude.{◌≡◌, ℕ, ◌+◌, Option}
 use Rattle.xbar_switch.specs.declared.shape.Shape.{Shape}
-use Rattle.xbar_switch.specs.Field.{field_of, ChangesField, close_bits_of, open_mask_of}
+use Rattle.xbar_switch.specs.Field.{field_of, with_closed, with_open, ChangesField}
 
 -- a switch: which kind it is, what stands in its word, and the place that its select magnets prepare
 pub record SwitchState : Type 0 where
@@ -14,10 +14,10 @@ field_at switch v = field_of switch.shape switch.word v
 
 -- field v is now closed at this place, and nothing else has changed
 pub record Closes (old new : SwitchState) (v place : ℕ) : Type 0 where
-  pub switch : new ≡ record old { word = bit_or old.word (close_bits_of old.shape v place) }
+  pub switch : new ≡ record old { word = with_closed old.shape old.word v place }
   pub field : ChangesField old.shape old.word new.word v (1 + place)
 
 -- field v is now open, and nothing else has changed
 pub record Opens (old new : SwitchState) (v : ℕ) : Type 0 where
-  pub switch : new ≡ record old { word = bit_and old.word (open_mask_of old.shape v) }
+  pub switch : new ≡ record old { word = with_open old.shape old.word v }
   pub field : ChangesField old.shape old.word new.word v 0

@@ -7,8 +7,11 @@ use std::fmt;
 /// Why a magnet of a switch did not act.
 #[derive(Clone, Copy, Debug, PartialEq, Eq, Hash)]
 pub enum SwitchFault {
+    /// A hold magnet was operated while no select magnet prepares a place.
     NothingSelected,
+    /// A hold magnet was operated whose field is closed already.
     AlreadyHeld,
+    /// A hold magnet was let go whose field is open already.
     NotHeld,
 }
 

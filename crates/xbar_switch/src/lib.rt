@@ -5,14 +5,15 @@
 //! has fallen back.
 #![tactic(auto)]
 
-pub mod fault;
-pub mod field;
-pub mod laws;
-pub mod shape;
-pub mod switch;
-#[cfg(test)]
-mod tests;
-
 pub use fault::SwitchFault;
 pub use shape::Shape;
 pub use switch::Switch;
+pub use word::{close_bits, field, open_mask};
+
+mod fault;
+pub mod laws;
+mod shape;
+mod switch;
+#[cfg(test)]
+mod tests;
+mod word;

@@ -3,8 +3,8 @@ ghost use Rattle.xbar_switch.specs.Shape.{places};
 ghost use Rattle.xbar_switch.specs.Switch.{field_at, Closes, Opens};
 
 use crate::fault::SwitchFault;
-use crate::field;
 use crate::shape::Shape;
+use crate::word::{close_bits, field, open_mask};
 use std::marker::Model;
 
 /// A crossbar switch: its word, and the place that its select magnets prepare.
@@ -73,10 +73,10 @@ impl Switch {
         let Some(h) = self.selected else {
             return Err(SwitchFault::NothingSelected);
         };
-        if field::field(self.shape, self.word, v) != 0 {
+        if field(self.shape, self.word, v) != 0 {
             return Err(SwitchFault::AlreadyHeld);
         }
-        self.word |= field::close_bits(self.shape, v, h);
+        self.word |= close_bits(self.shape, v, h);
         Ok(())
     }
 
@@ -95,10 +95,10 @@ impl Switch {
         ensures not_held { (result ≡ Err SwitchFault.NotHeld) ↔ (field_at self.old v ≡ 0) }
         ensures err { OnErr result (self.new ≡ self.old) }
     {
-        if field::field(self.shape, self.word, v) == 0 {
+        if field(self.shape, self.word, v) == 0 {
             return Err(SwitchFault::NotHeld);
         }
-        self.word &= field::open_mask(self.shape, v);
+        self.word &= open_mask(self.shape, v);
         Ok(())
     }
 
@@ -109,6 +109,6 @@ impl Switch {
         ensures open { IsNone result ↔ (field_at self.now v ≡ 0) }
         ensures place { IfSome result (λ place. field_at self.now v ≡ 1 + place) }
     {
-        field::field(self.shape, self.word, v).checked_sub(1)
+        field(self.shape, self.word, v).checked_sub(1)
     }
 }

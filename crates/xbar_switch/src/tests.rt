@@ -1,5 +1,4 @@
-use crate::field::{close_bits, field, open_mask};
-use crate::{Shape, Switch, SwitchFault, laws};
+use crate::{Shape, Switch, SwitchFault, close_bits, field, laws, open_mask};
 use std::test::Fail;
 
 #[test]

@@ -4,8 +4,9 @@ use Rattle.std.proofs.lemmas.Fmt.{decimal_injective}
 use Rattle.std.proofs.lemmas.List.Elements.{All-cons, All-nil}
 use Rattle.xbar_equip.specs.Digits.{digit}
 use Rattle.xbar_equip.specs.Len.{Line, line_text}
+use Rattle.xbar_office.specs.Legal.{IsDialJob}
 use Rattle.xbar_office.specs.declared.job.Job.{Job}
-use Rattle.xbar_office.specs.declared.job.Job.TheVariants.{Dial}
+use Rattle.xbar_office.specs.declared.job.Job.TheVariants.{Dial, Complete, Release}
 use Rattle.xbar_traffic.specs.Job.{job_fields}
 use Rattle.xbar_traffic.specs.Row.{IsReadAs, IsRow, row_fields}
 use Rattle.xbar_traffic.specs.Traffic.{AreReadAfter, IsJudgedAs, repeats, stands_in}
@@ -35,9 +36,13 @@ line_text_injective a b e =
     let x : a.x ≡ b.x = omega arith in
     λ i. record { frame = frame i; switch = switch i; x = x i }
 
--- a job's fields are no other's
-job_fields_injective : (a b : Job) → job_fields a ≡ job_fields b → a ≡ b
-job_fields_injective (Dial a) (Dial b) e = ap Dial (line_text_injective a b (first_same _ _ _ _ (rest_same _ _ _ _ e)))
+-- a dial tone job's fields are no other's
+job_fields_injective : (a b : Job) → IsDialJob a → IsDialJob b → job_fields a ≡ job_fields b → a ≡ b
+job_fields_injective (Dial a) (Dial b) h h2 e = ap Dial (line_text_injective a b (first_same _ _ _ _ (rest_same _ _ _ _ e)))
+job_fields_injective (Dial a) (Complete b dialled) h h2 e = absurd h2
+job_fields_injective (Dial a) (Release b) h h2 e = absurd h2
+job_fields_injective (Complete a dialled) b h h2 e = absurd h
+job_fields_injective (Release a) b h h2 e = absurd h
 
 -- a row's fields are no other's
 row_fields_injective : (a b : Row) → IsRow a → IsRow b → row_fields a ≡ row_fields b → a ≡ b
@@ -46,7 +51,7 @@ row_fields_injective (Assign m j job) (Assign m2 j2 job2) h h2 e =
     let marker = decimal_injective m m2 (omega (arith, h.0)) (omega (arith, h2.0)) (first_same _ _ _ _ e1) in
     let e2 = rest_same _ _ _ _ e1 in
     let number = decimal_injective j j2 (omega (arith, h.1)) (omega (arith, h2.1)) (first_same _ _ _ _ e2) in
-    let same = job_fields_injective job job2 (rest_same _ _ _ _ e2) in
+    let same = job_fields_injective job job2 h.2 h2.2 (rest_same _ _ _ _ e2) in
     cc
 row_fields_injective (Steps m c) (Steps m2 c2) h h2 e =
     let e1 = rest_same _ _ _ _ e in

@@ -36,7 +36,7 @@ impl fmt::Display for MarkerFault {
 pub enum RowFault {
     /// The row hasn't exactly five fields.
     Unreadable,
-    /// The first field is no row's letter, or the kind of job is none that `Job` has.
+    /// The first field is no row's letter, or the kind of job is none that rows ask for.
     UnknownKind,
     /// A field has another form than it must, or its number is out of range.
     Malformed,

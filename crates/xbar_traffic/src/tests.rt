@@ -52,7 +52,7 @@ fn rows_are_read(rt: HostRuntime) -> Result<(), Fail> {
 
 #[test]
 fn faults_are_told(rt: HostRuntime) -> Result<(), Fail> {
-    let table: [(&[u8], usize, &str); 22] = [
+    let table: [(&[u8], usize, &str); 24] = [
         (b"", 0, "none"),
         (b"\n\r\n", 0, "none"),
         (b"J,99,9999,D,3041\nS,99,9999,,", 2, "none"),
@@ -63,6 +63,8 @@ fn faults_are_told(rt: HostRuntime) -> Result<(), Fail> {
         (b"\xFF,0,1,D,3041", 0, "FAULT,T2,1\n"),
         (b"J,0,1,E,3041", 0, "FAULT,T2,1\n"),
         (b"J,0,x,E,3041", 0, "FAULT,T2,1\n"),
+        (b"J,0,1,C,3041 5551234", 0, "FAULT,T2,1\n"),
+        (b"J,0,1,R,3041", 0, "FAULT,T2,1\n"),
         (b"J,0,1,D,3060", 0, "FAULT,T3,1\n"),
         (b"J,0,01,D,3041", 0, "FAULT,T3,1\n"),
         (b"J,0,+1,D,3041", 0, "FAULT,T3,1\n"),

@@ -1,7 +1,9 @@
-use Rattle.std.proofs.Common.{List, length, get_or, arith, sym, ◌∙◌, ap}
+use Rattle.std.proofs.Common.{List, length, get_or, arith, sym, ◌∙◌, ap, subst}
+use Rattle.std.proofs.lemmas.List.Elements.{All-get_or}
 use Rattle.xbar_plan.specs.Tables.{Tables}
 use Rattle.crossbar5.specs.Replay.{settled}
 use Rattle.crossbar5.specs.Run.{Left}
+use Rattle.xbar_traffic.specs.Row.{IsRow}
 use Rattle.xbar_traffic.specs.declared.row.Row.{Row}
 use Rattle.crossbar5.proofs.RunRows.{row_refused, row_done, rows_done, end_refused, end_settled, written_as}
 use Rattle.crossbar5.proofs.run.run.Goals as goal
@@ -40,3 +42,10 @@ returns-in-None-refusal-clause-written c =
     ∙ end_settled c.args.plan.now c.loop-row.replay.office c.loop-row.number _ c.args.traffic.now.fault (sym c.refusal.ensures ∙ c.in-None-refusal.is)
     ∙ ap (λ (plan : Tables). Left (settled plan c.loop-row.replay.office)) (sym c.loop-row.invariant.under))
     c.settled.ensures
+
+pub act-requires : goal.act-requires
+act-requires c =
+    let same = c.deref-row-items.ensures.value in
+    let size = ap length same in
+    let here = c.row-item.is ∙ ap (λ (rows : List Row). get_or rows c.loop-row.row-index c.row-item.result) same in
+    subst IsRow (sym here) (All-get_or IsRow c.args.traffic.now.rows.items c.loop-row.row-index c.row-item.result (omega arith) c.requires)

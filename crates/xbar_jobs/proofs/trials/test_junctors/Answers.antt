@@ -1,5 +1,6 @@
 use Rattle.std.proofs.Common.{ℕ, arith, refl, sym, ap, ◌∙◌}
-use Rattle.xbar_jobs.specs.Script.{Tests, Ends, walk}
+use Rattle.turns.specs.Script.{Tests, Ends}
+use Rattle.xbar_jobs.specs.Script.{walk}
 use Rattle.xbar_jobs.proofs.JunctorTests.{then_none, all_read, one_more_read}
 use Rattle.xbar_jobs.proofs.trials.test_junctors.Goals as goal
 

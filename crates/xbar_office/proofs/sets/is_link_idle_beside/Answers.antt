@@ -3,7 +3,7 @@ use Rattle.std.specs.Prelude.{Option, ◌&&◌, not}
 use Rattle.xbar_equip.specs.Paths.{has_link, is_idle}
 use Rattle.xbar_equip.specs.declared.path.Path.{Path}
 use Rattle.xbar_office.specs.Chosen.{with_chosen}
-use Rattle.xbar_office.proofs.Chosen.{idle-with}
+use Rattle.xbar_office.proofs.AddedPaths.{idle-with}
 use Rattle.xbar_office.proofs.sets.is_link_idle_beside.Goals as goal
 
 pub returns-then-is_link_idle : goal.returns-then-is_link_idle

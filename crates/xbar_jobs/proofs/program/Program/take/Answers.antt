@@ -1,18 +1,22 @@
-use Rattle.std.proofs.Common.{subst, sym}
-use Rattle.xbar_office.specs.Legal.{IsJob}
-use Rattle.xbar_jobs.specs.Attempt.{Attempt}
+use Rattle.std.proofs.Common.{ap, subst, sym}
+use Rattle.turns.specs.Attempt.{IsAnswerTo, act}
+use Rattle.xbar_jobs.specs.Attempt.{Attempt, Counted}
 use Rattle.xbar_jobs.specs.Standing.{Stands}
 use Rattle.xbar_jobs.specs.Turning.{DoesAsOffice}
-use Rattle.xbar_jobs.proofs.Changes.{stands_change}
+use Rattle.xbar_jobs.proofs.AttemptStands.{stands_after}
 use Rattle.xbar_jobs.proofs.JobTurns.{turn_does}
 use Rattle.xbar_jobs.proofs.program.Program.take.Goals as goal
 
 pub returns-clause-plan : goal.returns-clause-plan
 returns-clause-plan c =
-    subst (λ (a : Attempt). Stands c.args.plan.now a) (sym c.make_change.ensures) (stands_change c.args.plan.now c.args.self.now c.args.answer c.requires.plan)
+    let same = ap (λ (a : Counted). a.attempt) (sym c.self.view_is) in
+    let stands = subst (λ (a : Attempt). Stands c.args.plan.now a) same c.requires.plan in
+    subst (λ (a : Attempt). Stands c.args.plan.now a) (sym c.take.ensures) (stands_after c.args.plan.now c.self.inside.attempt c.args.answer c.every_plan_is_lawful.ensures c.job-job.ensures.range stands)
 
 pub returns-clause-turn : goal.returns-clause-turn
 returns-clause-turn c =
-    let job = subst (λ (a : Attempt). IsJob a.job) c.self.view_is c.self.invariant.job in
-    λ number is. subst (λ (a : Attempt). DoesAsOffice c.args.plan.now a) (sym c.make_change.ensures)
-    (turn_does c.args.plan.now c.args.self.now c.args.answer number c.register_group-registers.ensures.lawful job c.requires.answer c.requires.plan is)
+    let same = ap (λ (a : Counted). a.attempt) (sym c.self.view_is) in
+    let stands = subst (λ (a : Attempt). Stands c.args.plan.now a) same c.requires.plan in
+    let fits = subst (λ (a : Attempt). IsAnswerTo (act a) c.args.answer) same c.requires.answer in
+    λ number is. subst (λ (a : Attempt). DoesAsOffice c.args.plan.now a) (sym c.take.ensures)
+    (turn_does c.args.plan.now c.self.inside.attempt c.args.answer number c.every_plan_is_lawful.ensures c.job-job.ensures.range fits stands.comes is)

@@ -10,4 +10,4 @@ returns-clause-once c =
     let paths = c.self.inside.paths.items in
     let all : c.loop-path.all.items ≡ closed paths =
     c.loop-path.invariant ∙ ap closed (take_all _ _ (omega arith) ∙ c.deref-path-items.ensures.value) in
-    subst (λ (x : List Crosspoint). NamesFieldsOnce x) (sym all) (once_closed paths c.self.invariant.set c.self.invariant.apart c.self.invariant.ranges)
+    subst (λ (x : List Crosspoint). NamesFieldsOnce x) (sym all) (once_closed paths c.self.invariant.orderly.set c.self.invariant.orderly.apart c.self.invariant.orderly.ranges)

@@ -1,22 +1,24 @@
-use Rattle.std.proofs.Common.{List, sym, ◌∙◌, ap, subst}
-use Rattle.std.specs.Prelude.{Option}
+use Rattle.std.proofs.Common.{List, sym, subst}
 use Rattle.xbar_equip.specs.declared.path.Path.{Path}
 use Rattle.xbar_office.specs.LawfulSet.{IsLawfulSet}
-use Rattle.xbar_office.specs.Whole.{with_pair, with_taken}
-use Rattle.xbar_office.specs.declared.trial.Pair.{Pair}
-use Rattle.xbar_office.proofs.DialLawful.{dial-lawful}
+use Rattle.xbar_office.specs.Legal.{IsJob}
+use Rattle.xbar_office.specs.declared.job.Job.{Job}
+use Rattle.xbar_office.specs.declared.job.Job.TheVariants.{Dial, Complete, Release}
+use Rattle.xbar_office.proofs.LawfulJobs.{lawful-whole, lawful-either}
 use Rattle.xbar_office.proofs.office.Office.whole.Goals as goal
 
 pub invariant_of-self : goal.invariant_of-self
 invariant_of-self c =
-    let plan = c.self.inside.plan.now in
-    let paths = c.deref.result.now in
-    let here = c.deref.ensures.value in
-    let lawful = subst (λ (p : List Path). IsLawfulSet plan p) (sym here) c.self.invariant in
-    let after = dial-lawful plan paths _ c.dial.ensures.lawful lawful c.dial.ensures.range in
-    let same =
-    c.in_ok-insert_pair.ensures.ok
-    ∙ ap (λ (p : List Path). with_pair p c.in-Some.pair) (sym here)
-    ∙ ap (λ (o : Option Pair). with_taken paths o) (sym c.in-Some.is)
-    ∙ c.dial.ensures.paths in
-    subst (λ (p : List Path). IsLawfulSet plan p) (sym same) after
+    lawful-either c.self.inside.plan.now c.self.inside.paths.items (Dial c.in-Dial.line) c.every_plan_is_lawful.ensures c.self.invariant
+    (subst (λ (j : Job). IsJob j) c.in-Dial.is c.job_is_in_range.ensures) c.dial.result c.dial.new.paths.items c.dial.ensures.ok c.dial.ensures.err
+
+pub invariant_of-self-in-Complete : goal.invariant_of-self-in-Complete
+invariant_of-self-in-Complete c =
+    lawful-either c.self.inside.plan.now c.self.inside.paths.items (Complete c.in-Complete.line c.in-Complete.dialled) c.every_plan_is_lawful.ensures c.self.invariant
+    (subst (λ (j : Job). IsJob j) c.in-Complete.is c.job_is_in_range.ensures) c.complete.result c.complete.new.paths.items c.complete.ensures.ok c.complete.ensures.err
+
+pub invariant_of-self-in-Release : goal.invariant_of-self-in-Release
+invariant_of-self-in-Release c =
+    subst (λ (p : List Path). IsLawfulSet c.self.inside.plan.now p) (sym c.release.ensures.paths)
+    (lawful-whole c.self.inside.plan.now c.self.inside.paths.items (Release c.in-Release.line) c.every_plan_is_lawful.ensures c.self.invariant
+    (subst (λ (j : Job). IsJob j) c.in-Release.is c.job_is_in_range.ensures))

@@ -1,0 +1,179 @@
+-- a frame's ten line junctor switches are tested one after another, whatever they show
+use Rattle.std.proofs.Common.{◌≡◌, ℕ, zero, suc, ◌+◌, List, [], ◌∷◌, ◌++◌, length, refl, sym, ◌∙◌, ap, subst, arith, ◌<◌}
+use Rattle.std.specs.Prelude.{Option, Some, None, Bool, true, false, Err, ⊤, slice_get}
+use Rattle.std.specs.Option.{option_map_or}
+use Rattle.xbar_equip.specs.First.{first_below}
+use Rattle.xbar_equip.specs.Len.{Line, IsLine}
+use Rattle.xbar_switch.specs.declared.shape.Shape.TheVariants.{Line as LineShape}
+use Rattle.xbar_match.specs.Traces.{field_at_place}
+use Rattle.xbar_plan.specs.Tables.{Tables}
+use Rattle.xbar_plan.specs.declared.group.Member.{Member}
+use Rattle.xbar_office.specs.Legal.{IsDialJob}
+use Rattle.xbar_office.specs.TwoTrials.{cards_of, second_decides}
+use Rattle.xbar_office.specs.declared.job.Job.{Job}
+use Rattle.xbar_office.specs.declared.job.Job.TheVariants.{Dial, Complete, Release}
+use Rattle.xbar_office.specs.declared.reply.Card.{Card}
+use Rattle.xbar_office.specs.declared.trial.TrialEnd.{TrialEnd}
+use Rattle.xbar_office.specs.declared.trial.TrialEnd.TheVariants.{Chosen, Faulty, NoChannel}
+use Rattle.turns.specs.Attempt.{StandsIn, changed, come_to, goes_on, walks_on, seen_of}
+use Rattle.xbar_equip.specs.Conn.{conn_eq}
+use Rattle.xbar_equip.proofs.PathTests.{conn_eq-itself}
+use Rattle.xbar_jobs.specs.Attempt.{Attempt, Phase}
+use Rattle.xbar_jobs.specs.Office.{office}
+use Rattle.turns.specs.declared.answer.Answer.TheVariants.{Value}
+use Rattle.turns.specs.declared.phase.Phase.TheVariants.{Tests as TestsPhase}
+use Rattle.turns.specs.declared.reading.Reading.{Reading}
+use Rattle.xbar_jobs.specs.Jobs.{registers, try_registers, find_register, serve_idle_line, dial_steps, script}
+use Rattle.turns.specs.Script.{Ends, Tests, Seizes, ◌>>=◌, first_wanted, is_held, left, left_of_test, left_of_seizing, value_read, walk}
+use Rattle.xbar_jobs.specs.Script.{Script, Seen}
+use Rattle.xbar_jobs.specs.Trials.{Trunks, IsNextJunctor, is_bit_clear, test_junctors, reach, trial_end, first_trial_steps, second_trial_at, second_trial_steps, next_clear, after_first_trial, two_trials_steps}
+use Rattle.xbar_jobs.specs.declared.trials.Calling.{Calling}
+use Rattle.turns.specs.declared.wanted.Wanted.TheVariants.{Test}
+use Rattle.turns.proofs.Room.{Grows, left_again, read_last, read_before}
+
+-- a script begins with the test of this word
+abbrev pub BeginsWith : {A : Type 0} → ℕ → Script A → Type 0
+BeginsWith number (Ends found) = ⊥
+BeginsWith number (Tests word script) = word ≡ number
+BeginsWith number (Seizes conn script) = ⊥
+
+-- where a script tests a line junctor switch and others of its frame follow, it goes on to the next one whatever it found
+unfoldable pub KeepsRows : {A : Type 0} → Script A → Type 0
+KeepsRows (Ends found) = ⊤
+KeepsRows (Tests word script) = ((next : ℕ) → IsNextJunctor word next → (value : ℕ) → BeginsWith next (script value)) × ((value : ℕ) → KeepsRows (script value))
+KeepsRows (Seizes conn script) = KeepsRows script
+
+begins_bind : {A B : Type 0} (number : ℕ) (script : Script A) (next : A → Script B) → BeginsWith number script → BeginsWith number (script >>= next)
+unfolding ◌>>=◌
+begins_bind number (Ends found) next begins = absurd begins
+begins_bind number (Tests word script) next begins = begins
+begins_bind number (Seizes conn script) next begins = absurd begins
+
+rows_bind : {A B : Type 0} (script : Script A) (next : A → Script B) → KeepsRows script → ((found : A) → KeepsRows (next found)) → KeepsRows (script >>= next)
+unfolding KeepsRows ◌>>=◌
+rows_bind (Ends found) next rows later = later found
+rows_bind (Tests word script) next rows later =
+    (λ number is value. begins_bind number (script value) next (rows.0 number is value), λ value. rows_bind (script value) next (rows.1 value) later)
+rows_bind (Seizes conn script) next rows later = rows_bind script next rows later
+
+-- what is left of such a script is such a script
+rows_left : {A : Type 0} (seen : Seen) (script : Script A) → KeepsRows script → KeepsRows (left conn_eq seen script)
+unfolding KeepsRows left left_of_test left_of_seizing
+rows_left seen (Ends found) rows = rows
+rows_left seen (Tests word script) rows = at (value_read seen.readings word) (λ value. rows_left seen (script value) (rows.1 value)) where
+  at : (o : Option ℕ) → ((value : ℕ) → KeepsRows (left conn_eq seen (script value))) → KeepsRows (left_of_test script (λ value. left conn_eq seen (script value)) word o)
+  at None later = rows
+  at (Some value) later = later value
+rows_left seen (Seizes conn script) rows = at (is_held conn_eq seen.held conn) (rows_left seen script rows) where
+  at : (b : Bool) → KeepsRows (left conn_eq seen script) → KeepsRows (left_of_seizing script (left conn_eq seen script) conn b)
+  at false later = rows
+  at true later = later
+
+begins_wanted : {A : Type 0} (more : Seen) (next : ℕ) (script : Script A) → BeginsWith next script → value_read more.readings next ≡ None → first_wanted (left conn_eq more script) ≡ Err (Test next)
+unfolding left left_of_test first_wanted
+begins_wanted more next (Ends found) begins unread = absurd begins
+begins_wanted more next (Tests word rest) begins unread = rw (ap (value_read more.readings) begins ∙ unread) (ap (λ (n : ℕ). Err (Test n)) begins)
+begins_wanted more next (Seizes conn rest) begins unread = absurd begins
+
+goes_on_at : {A : Type 0} (more : Seen) (number next : ℕ) (rest : Script A) → KeepsRows rest → IsNextJunctor number next → (value : ℕ) × (value_read more.readings number ≡ Some value) → value_read more.readings next ≡ None → first_wanted rest ≡ Err (Test number) → first_wanted (left conn_eq more rest) ≡ Err (Test next)
+unfolding KeepsRows left left_of_test first_wanted
+goes_on_at more number next (Ends found) rows is own unread wants = absurd cc
+goes_on_at more number next (Seizes conn rest) rows is own unread wants = absurd cc
+goes_on_at {A} more number next (Tests word rest) rows is own unread wants =
+    let same : word ≡ number = cc in
+    rw (ap (value_read more.readings) same ∙ own.1) (begins_wanted more next (rest own.0) (rows.0 next (subst (λ (n : ℕ). IsNextJunctor n next) (sym same) is) own.0) unread)
+
+-- once a line junctor switch was read, the next one is wanted, if it was not read before
+pub next_is_wanted : {A : Type 0} (seen more : Seen) (number next : ℕ) (script : Script A) → KeepsRows script → Grows conn_eq conn_eq-itself seen more → IsNextJunctor number next → (value : ℕ) × (value_read more.readings number ≡ Some value) → value_read more.readings next ≡ None → walk conn_eq seen script ≡ Err (Test number) → walk conn_eq more script ≡ Err (Test next)
+unfolding walk
+next_is_wanted seen more number next script rows grows is own unread wants =
+    ap first_wanted (left_again conn_eq conn_eq-itself seen more script grows) ∙ goes_on_at more number next (left conn_eq seen script) (rows_left seen script rows) is own unread wants
+
+junctor_rows : (frame channel count : ℕ) → channel + count ≡ 10 → KeepsRows (test_junctors frame channel count)
+unfolding KeepsRows test_junctors ◌>>=◌
+junctor_rows frame channel zero sum = tt
+junctor_rows frame channel (suc zero) sum = (λ next is value. absurd (omega (arith, is.this, is.channel_range)), λ value. tt)
+junctor_rows frame channel (suc (suc count)) sum = (
+  λ next is value. omega (arith, is.this, is.that, is.channel_range),
+  λ value. rows_bind (test_junctors frame (channel + 1) (suc count)) (λ words. Ends (value ∷ words)) (junctor_rows frame (channel + 1) (suc count) (omega arith)) (λ words. tt),
+)
+
+reach_rows : (member : Member) → KeepsRows (reach member)
+unfolding KeepsRows reach ◌>>=◌
+reach_rows member = (λ next is value. absurd (omega (arith, is.this, is.frame_range, is.channel_range)), λ value. tt)
+
+second_rows : (plan : Tables) (calling : Calling) (junctors : List ℕ) (trunks : Trunks) (cards : List Card) (index : ℕ) → KeepsRows (second_trial_at plan calling junctors trunks cards index)
+unfolding KeepsRows second_trial_at second_trial_steps
+second_rows plan calling junctors trunks cards index = at (slice_get trunks.members index) where
+  at : (o : Option Member) → KeepsRows (option_map_or (second_trial_steps plan calling junctors cards index) o (Ends (second_decides cards index NoChannel)))
+  at None = tt
+  at (Some member) = rows_bind (reach member) _ (reach_rows member) (λ trunk. tt)
+
+after_rows : (plan : Tables) (calling : Calling) (junctors : List ℕ) (trunks : Trunks) (first : ℕ) (end : TrialEnd) → KeepsRows (after_first_trial plan calling junctors trunks first end)
+unfolding KeepsRows after_first_trial
+after_rows plan calling junctors trunks first (Chosen pair) = tt
+after_rows plan calling junctors trunks first (Faulty link) = second_rows plan calling junctors trunks (cards_of 1 (Faulty link)) (next_clear trunks first)
+after_rows plan calling junctors trunks first NoChannel = second_rows plan calling junctors trunks [] (next_clear trunks first)
+
+trials_rows : (plan : Tables) (calling : Calling) (trunks : Trunks) (first : ℕ) → KeepsRows (two_trials_steps plan calling trunks first)
+unfolding KeepsRows two_trials_steps first_trial_steps
+trials_rows plan calling trunks first = at (slice_get trunks.members first) where
+  at : (o : Option Member) → KeepsRows (option_map_or (first_trial_steps plan calling trunks first) o (Ends (second_decides [] first NoChannel)))
+  at None = tt
+  at (Some member) =
+      rows_bind (reach member) _ (reach_rows member)
+      (
+      λ trunk. rows_bind (test_junctors calling.line.frame 0 10) _ (junctor_rows calling.line.frame 0 10 refl)
+      (λ junctors. after_rows plan calling junctors trunks first (trial_end plan calling junctors 0 member trunk))
+      )
+
+registers_rows : (plan : Tables) (calling : Calling) (trunks : Trunks) (found : Option ℕ) → KeepsRows (try_registers plan calling trunks found)
+unfolding KeepsRows try_registers
+registers_rows plan calling trunks None = tt
+registers_rows plan calling trunks (Some first) = rows_bind (two_trials_steps plan calling trunks first) _ (trials_rows plan calling trunks first) (λ trials. tt)
+
+register_rows : (plan : Tables) (calling : Calling) → KeepsRows (find_register plan calling)
+unfolding KeepsRows find_register ◌>>=◌
+register_rows plan calling = (
+  λ next is value. absurd (omega (arith, is.this, is.frame_range, is.channel_range)),
+  λ word. registers_rows plan calling (registers plan word) (first_below (is_bit_clear word) (length (registers plan word).members)),
+)
+
+idle_line_rows : (plan : Tables) (calling : Calling) (found : Option ℕ) → KeepsRows (serve_idle_line plan calling found)
+unfolding KeepsRows serve_idle_line
+idle_line_rows plan calling (Some channel) = tt
+idle_line_rows plan calling None = register_rows plan calling
+
+dial_rows : (plan : Tables) (line : Line) → IsLine line → KeepsRows (dial_steps plan line)
+unfolding KeepsRows dial_steps ◌>>=◌
+dial_rows plan line in_range = (
+  λ next is value. absurd (omega (arith, is.this, is.channel_range, in_range.switch)),
+  λ word. idle_line_rows plan (record { line = line; word = word }) (field_at_place LineShape word line.x),
+)
+
+-- each job's script is such a one
+pub script_rows : (plan : Tables) (job : Job) → IsDialJob job → KeepsRows (script plan job)
+unfolding script
+script_rows plan (Dial line) in_range = dial_rows plan line in_range
+script_rows plan (Complete line dialled) in_range = absurd in_range
+script_rows plan (Release line) in_range = absurd in_range
+
+-- so an attempt that has read a line junctor switch wants the next one, without a walk
+pub read_next : (plan : Tables) (a : Attempt) (reading : Reading ℕ) (next : ℕ) (readings : List (Reading ℕ)) → IsDialJob a.job → come_to (office plan) a ≡ Err (Test reading.word) → readings ≡ a.readings ++ reading ∷ [] → IsNextJunctor reading.word next → value_read readings next ≡ None → record a { readings = readings; phase = TestsPhase next } ≡ walks_on (office plan) (record a { readings = a.readings ++ reading ∷ [] })
+read_next plan a reading next readings in_range come same is unread =
+    let after : Attempt = record a { readings = a.readings ++ reading ∷ [] } in
+    let grows : Grows conn_eq conn_eq-itself (seen_of a) (seen_of after) = record { held = λ c e. e; readings = λ word value e. read_before conn_eq conn_eq-itself a.readings reading word value e } in
+    let wants = next_is_wanted (seen_of a) (seen_of after) reading.word next (script plan a.job) (script_rows plan a.job in_range) grows is (read_last conn_eq conn_eq-itself a.readings reading) (ap (λ (rs : List (Reading ℕ)). value_read rs next) (sym same) ∙ unread) come in
+    ap (λ (rs : List (Reading ℕ)). record a { readings = rs; phase = TestsPhase next }) same ∙ ap (goes_on (office plan) after) (sym wants)
+
+-- and that is the change by the answer to its test
+pub change_by_row : (plan : Tables) (a now : Attempt) (word value next : ℕ) (readings : List (Reading ℕ)) → a ≡ now → a.phase ≡ TestsPhase word → StandsIn (office plan) now now.phase → IsDialJob a.job → readings ≡ a.readings ++ record { word = word; value = value } ∷ [] → IsNextJunctor word next → value_read readings next ≡ None → record a { readings = readings; phase = TestsPhase next } ≡ changed (office plan) now now.phase (Value value)
+change_by_row plan a now word value next readings same in_phase stands in_range more is unread =
+    let come = subst (λ (phase : Phase). StandsIn (office plan) a phase) in_phase (subst (λ (b : Attempt). StandsIn (office plan) b b.phase) (sym same) stands) in
+    let on = read_next plan a (record { word = word; value = value }) next readings in_range come more is unread in
+    let here = subst (λ (phase : Phase). record a { readings = readings; phase = TestsPhase next } ≡ changed (office plan) a phase (Value value)) (sym in_phase) on in
+    subst (λ (b : Attempt). record a { readings = readings; phase = TestsPhase next } ≡ changed (office plan) b b.phase (Value value)) same here
+
+-- a line junctor switch is one of the office's words
+pub junctor_number : (number next : ℕ) → IsNextJunctor number next → next < 453
+junctor_number number next is = omega (arith, is.that, is.frame_range, is.channel_range)

@@ -1,0 +1,24 @@
+use Rattle.std.proofs.Common.{arith, subst, sym}
+use Rattle.turns.specs.Attempt.{StandsIn}
+use Rattle.xbar_jobs.specs.Attempt.{Attempt}
+use Rattle.xbar_jobs.specs.Office.{office}
+use Rattle.xbar_jobs.specs.Standing.{HasRoomIn}
+use Rattle.xbar_jobs.proofs.AttemptRoom.{come_to_test, unread_to_test}
+use Rattle.xbar_jobs.proofs.JunctorRows.{change_by_row}
+use Rattle.xbar_jobs.proofs.attempt.Attempt.read.Goals as goal
+
+pub push-requires-clause-room : goal.push-requires-clause-room
+push-requires-clause-room c =
+    let stands = subst (λ (a : Attempt). StandsIn (office c.args.plan.now) a a.phase) (sym c.self.view_is) c.requires.comes in
+    let has_room = subst (λ (a : Attempt). HasRoomIn c.args.plan.now a a.phase) (sym c.self.view_is) c.requires.room in
+    let room = come_to_test c.args.plan.now _ c.in-Tests.word c.args.value c.in-Tests.is stands has_room in
+    omega (arith, room.fits)
+
+pub push-requires-clause-unread : goal.push-requires-clause-unread
+push-requires-clause-unread c =
+    let stands = subst (λ (a : Attempt). StandsIn (office c.args.plan.now) a a.phase) (sym c.self.view_is) c.requires.comes in
+    unread_to_test c.args.plan.now _ c.in-Tests.word c.in-Tests.is stands
+
+pub returns-in-Some : goal.returns-in-Some
+returns-in-Some c =
+    change_by_row c.args.plan.now _ c.args.self.now c.in-Tests.word c.args.value c.in-Some.next _ c.self.view_is c.in-Tests.is c.requires.comes c.self.invariant.job c.push.ensures c.in-Some.ensures.next c.in-Some.ensures.unread

@@ -1,9 +1,0 @@
-use Rattle.std.proofs.lemmas.Nat.{and_mask}
-use Rattle.xbar_switch.specs.Shape.{width}
-use Rattle.xbar_switch.specs.Field.{field_of}
-use Rattle.xbar_switch.proofs.field.field.Goals as goal
-
-pub returns-clause-value : goal.returns-clause-value
-unfolding field_of
-returns-clause-value c =
-    rw (c.field_shift.ensures.value, c.lowest_field.ensures) (and_mask _ (width c.args.shape))
