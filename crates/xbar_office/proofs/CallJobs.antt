@@ -21,7 +21,6 @@ use Rattle.xbar_plan.specs.Lawful.{IsLawful, is_group, leads_to_trunks}
 use Rattle.xbar_plan.specs.declared.group.GroupKind.{GroupKind}
 use Rattle.xbar_plan.specs.declared.group.GroupKind.TheVariants.{Register, Intra, Outgoing}
 use Rattle.xbar_plan.specs.declared.group.Member.{Member}
-use Rattle.xbar_plan.proofs.LawfulParts.{passes, formed}
 use Rattle.xbar_plan.proofs.LawfulPlans.{member-paired}
 use Rattle.xbar_plan.proofs.Lookups.{found-item}
 use Rattle.xbar_office.specs.Complete.{try_trunk, connect, call_line, call_number, call}
@@ -82,7 +81,7 @@ or_second false b e f = e
 leads_out : (plan : Tables) → IsLawful plan → (code : ℕ) (groups : List ℕ) → route_of plan code ≡ Some groups → leads_inside plan groups ≡ false → list_all (is_group is_outgoing plan.groups) groups ≡ true
 leads_out plan laws code groups e outside =
     let found = found-item (λ (r : Route). r.groups) (λ (r : Route). r.code == code) plan.routes groups e in
-    let leads = each_passes (leads_to_trunks plan.groups) plan.routes found.0 (passes plan laws).trunks found.1 in
+    let leads = each_passes (leads_to_trunks plan.groups) plan.routes found.0 laws.routes.trunks found.1 in
     let here : (leads_inside plan groups || list_all (is_group is_outgoing plan.groups) groups) ≡ true =
     subst (λ (gs : List ℕ). (leads_inside plan gs || list_all (is_group is_outgoing plan.groups) gs) ≡ true) found.3 leads in
     or_second (leads_inside plan groups) (list_all (is_group is_outgoing plan.groups) groups) here outside
@@ -91,7 +90,7 @@ leads_out plan laws code groups e outside =
 lines_range : (plan : Tables) → IsLawful plan → (number : ℕ) (lines : List Line) → lines_of plan number ≡ Some lines → (line : Line) → IsIn line lines → IsLine line
 lines_range plan laws number lines e line within =
     let found = found-item (λ (s : Station). s.lines) (λ (s : Station). s.number == number) plan.stations lines e in
-    let all = each_passes (λ (s : Station). list_all is_line s.lines) plan.stations found.0 (formed plan laws).lines found.1 in
+    let all = each_passes (λ (s : Station). list_all is_line s.lines) plan.stations found.0 laws.stations.lines found.1 in
     line_in_range line (each_passes is_line found.0.lines line all (subst (λ (ls : List Line). IsIn line ls) (sym found.3) within))
 
 module _ (plan : Tables) (paths : List Path) (calling : Line) (laws : IsLawful plan) (in_range : IsLine calling) (idle : is_idle (has_line calling) paths ≡ true) where
