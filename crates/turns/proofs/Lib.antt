@@ -1,5 +1,6 @@
 pub mod Lists
 pub mod Walks
+pub mod ReadWith
 pub mod Room
 pub mod Keeping
 pub mod Standing

@@ -31,6 +31,12 @@ test word = Tests word Ends
 abbrev pub seize : {Lock : Type 0} → Lock → Script Lock ⊤
 seize lock = Seizes lock (Ends tt)
 
+-- a script that goes on by each word's value as this makes it
+unfoldable pub read_with : {Lock A : Type 0} → (ℕ → ℕ → ℕ) → Script Lock A → Script Lock A
+read_with change (Ends found) = Ends found
+read_with change (Tests word script) = Tests word (λ value. read_with change (script (change word value)))
+read_with change (Seizes lock script) = Seizes lock (read_with change script)
+
 -- the end of a script on given words, all locks being free
 unfoldable pub run : {Lock A : Type 0} → List ℕ → Script Lock A → A
 run words (Ends found) = found

@@ -1,4 +1,4 @@
-use Rattle.std.specs.Prelude.{◌≡◌, ◌↔◌, ℕ, ◌<◌, Bool, true, List, [], ◌∷◌, ◌++◌, length, fold, replicate, slice_index, slice_set, ⊤, Err}
+use Rattle.std.specs.Prelude.{◌≡◌, ◌↔◌, ℕ, ◌<◌, ◌==◌, if◌then◌else◌, Bool, true, List, [], ◌∷◌, ◌++◌, length, fold, replicate, slice_index, slice_set, ⊤, Err}
 use Rattle.turns.specs.Among.{IsIn}
 use Rattle.turns.specs.Script.{Script, Ends, Tests, Seizes, run, first_wanted}
 use Rattle.turns.specs.Sharing.{Sharing, IsSharing}
@@ -41,6 +41,11 @@ pub record System : Type 1 where
   pub turn_word : ℕ
   -- these words show this state
   pub Shows : List ℕ → State → Type 0
+
+-- what effects, one after another, make of the number in a word
+abbrev pub made_by : {Effect : Type 0} → (Effect → ℕ) → (Effect → ℕ → ℕ) → List Effect → ℕ → ℕ → ℕ
+made_by word_of on [] word value = value
+made_by word_of on (effect ∷ effects) word value = made_by word_of on effects word (if word_of effect == word then on effect value else value)
 
 module _ (O : System) where
   open O use {Lock, Job, State, Reply, Effect, Decision, IsLock, Protects, effect_word, effect_on, Due, effects_of, reply_of, size}

@@ -1,5 +1,5 @@
 use Rattle.std.specs.Prelude.{ℕ, ◌==◌, ◌+◌, ◌^◌, ◌%◌, suc, Option, Some, None, List, [], ◌∷◌, ◌++◌, set, replicate, slice_index, slice_set, if◌then◌else◌}
-use Rattle.turns.specs.System.{System}
+use Rattle.turns.specs.System.{made_by, System}
 use Rattle.turns.specs.Attempt.{Attempt, Act, Rest, Ask, Take, Leave, Free, Look, Turn, Make, AttemptOf, act, next, left_in, begin, restarted}
 use Rattle.turns.specs.declared.phase.Phase.{Phase}
 use Rattle.turns.specs.declared.phase.Phase.TheVariants.{Requests, Seizes, Tests, Turns, Withdraws, GivesBack, Operates}
@@ -105,8 +105,7 @@ module _ (O : System) where
 
   -- what effects make of the number in a word
   abbrev pub made : List Effect → ℕ → ℕ → ℕ
-  made [] word value = value
-  made (effect ∷ effects) word value = made effects word (if effect_word effect == word then effect_on effect value else value)
+  made = made_by effect_word effect_on
 
   abbrev pub completed_word : List ActorOf → ℕ → ℕ → ℕ
   completed_word [] word value = value

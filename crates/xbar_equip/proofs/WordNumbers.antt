@@ -8,12 +8,12 @@ ap₂ : {A B C : Type 0} (f : A → B → C) {a a' : A} {b b' : B} → a ≡ a' 
 ap₂ f {a} {a'} {b} {b'} p q = ap (λ x. f x b) p ∙ ap (λ y. f a' y) q
 
 -- the connectors' words stand between the groups' words and the turn word
-conn_range : (c : Conn) → IsConn c → (416 ≤ word_number (ConnWord c)) × (word_number (ConnWord c) < 452)
+pub conn_range : (c : Conn) → IsConn c → (416 ≤ word_number (ConnWord c)) × (word_number (ConnWord c) < 452)
 conn_range (Llf f) a = (omega arith, omega arith)
 conn_range (Tlf f) a = (omega arith, omega arith)
 conn_range (Group g) a = (omega arith, omega arith)
 
-distinct_conns : (c d : Conn) → IsConn c → IsConn d → word_number (ConnWord c) ≡ word_number (ConnWord d) → c ≡ d
+pub distinct_conns : (c d : Conn) → IsConn c → IsConn d → word_number (ConnWord c) ≡ word_number (ConnWord d) → c ≡ d
 distinct_conns (Llf f) (Llf g) a b e = ap Llf (omega arith)
 distinct_conns (Tlf f) (Tlf g) a b e = ap Tlf (omega arith)
 distinct_conns (Group f) (Group g) a b e = ap Group (omega arith)

@@ -12,7 +12,7 @@ use Rattle.xbar_equip.specs.declared.conn.Conn.{Conn}
 use Rattle.xbar_equip.specs.declared.conn.Conn.TheVariants.{Llf, Tlf, Group}
 use Rattle.xbar_equip.specs.declared.path.Path.{Path}
 use Rattle.xbar_equip.proofs.PathTests.{conn_eq-exact}
-use Rattle.xbar_equip.proofs.WordNumbers.{distinct, each_named}
+use Rattle.xbar_equip.proofs.WordNumbers.{conn_range, distinct, distinct_conns, each_named}
 use Rattle.xbar_plan.specs.Tables.{Tables}
 use Rattle.xbar_plan.specs.Lawful.{IsLawful}
 use Rattle.xbar_match.specs.Shows.{WordShows, IsClosedIn}
@@ -27,15 +27,6 @@ use Rattle.xbar_jobs.proofs.Covered.{protected_below}
 use Rattle.xbar_jobs.proofs.DialDecides.{DecidesOn, dial_decides}
 use Rattle.xbar_jobs.proofs.DialKeeps.{script_keeps}
 use Rattle.xbar_jobs.proofs.OpenedWords.{shows_opened}
-
--- the connectors' own words stand behind the protected ones
-conn_range : (c : Conn) → IsConn c → (416 ≤ word_number (ConnWord c)) × (word_number (ConnWord c) < 452)
-conn_range (Llf frame) is = (omega arith, omega arith)
-conn_range (Tlf frame) is = (omega arith, omega arith)
-conn_range (Group group) is = (omega arith, omega arith)
-
-one_conn_word : (a b : Conn) → IsConn a → IsConn b → word_number (ConnWord a) ≡ word_number (ConnWord b) → a ≡ b
-one_conn_word a b is_a is_b e = let same = distinct (ConnWord a) (ConnWord b) is_a is_b e in cc
 
 one_protector : (number : ℕ) (a b : Conn) → Protects a number → Protects b number → a ≡ b
 one_protector number a b p q =
@@ -57,7 +48,7 @@ conn_of TurnWord conn is e = absurd cc
 
 words_apart : (plan : Tables) → AreApart (office plan)
 words_apart plan = record {
-  one_lock_word = one_conn_word;
+  one_lock_word = distinct_conns;
   lock_word_there = λ a is. let range = conn_range a is in omega arith;
   lock_word_bare = λ a conn is p. let range = conn_range a is in let below = protected_below conn (word_number (ConnWord a)) p in omega arith;
   turn_there = omega arith;

@@ -453,10 +453,7 @@ fn plan(
     }
     let name = String::from_str(alloc, "REG")?;
     let groups = vec![in alloc; Group::new(name, GroupKind::Register, members)]?;
-    match Plan::try_new(alloc, groups, Vec::new(alloc), Vec::new(alloc), faults)? {
-        Some(plan) => Ok(plan),
-        None => panic!(rt; "the plan is lawful"),
-    }
+    Ok(Plan::try_new(alloc, groups, Vec::new(alloc), Vec::new(alloc), faults)?)
 }
 
 /// Does the job of a line that goes off hook, and tells how it ended.

@@ -21,7 +21,9 @@ use Rattle.xbar_plan.specs.Lawful.{IsLawful, is_group, leads_to_trunks}
 use Rattle.xbar_plan.specs.declared.group.GroupKind.{GroupKind}
 use Rattle.xbar_plan.specs.declared.group.GroupKind.TheVariants.{Register, Intra, Outgoing}
 use Rattle.xbar_plan.specs.declared.group.Member.{Member}
+use Rattle.xbar_plan.proofs.LawfulParts.{passes, formed}
 use Rattle.xbar_plan.proofs.LawfulPlans.{member-paired}
+use Rattle.xbar_plan.proofs.LawfulLookups.{group-there}
 use Rattle.xbar_plan.proofs.Lookups.{found-item}
 use Rattle.xbar_office.specs.Complete.{try_trunk, connect, call_line, call_number, call}
 use Rattle.xbar_office.specs.Members.{members_of, first_idle, is_idle_at}
@@ -49,17 +51,10 @@ idle_trunk-is plan paths (group ∷ groups) trunk e =
           let same : record { group = group; first = first } ≡ trunk = cc in
           subst (λ (t : IdleTrunk). IsIdleTrunk plan paths (group ∷ groups) t) same here
 
--- a group of a number that is tested is there, and passes
-group_passes : (test : TrunkGroup → Bool) (groups : List TrunkGroup) (number : ℕ) → is_group test groups number ≡ true → (group : TrunkGroup) × (slice_get groups number ≡ Some group) × (test group ≡ true)
-group_passes test groups number e = of (slice_get groups number) refl e where
-  of : (o : Option TrunkGroup) → slice_get groups number ≡ o → option_map_or test o false ≡ true → (group : TrunkGroup) × (slice_get groups number ≡ Some group) × (test group ≡ true)
-  of None here passes = absurd (true≢false (sym passes))
-  of (Some group) here passes = (group, here, passes)
-
 -- the members of an intra group are pairs
 intra_paired : (plan : Tables) → IsLawful plan → (group : ℕ) → is_group is_intra plan.groups group ≡ true → (i : ℕ) (member : Member) → member_at plan group i ≡ Some member → is_some member.second ≡ true
 intra_paired plan laws group intra i member listed =
-    let there = group_passes is_intra plan.groups group intra in
+    let there = group-there is_intra plan.groups group intra in
     member-paired plan laws group i there.0 member there.1 listed ∙ there.2
 
 outgoing_not_intra : (kind : GroupKind) → kind_eq kind Outgoing ≡ true → kind_eq kind Intra ≡ false
@@ -70,7 +65,7 @@ outgoing_not_intra Outgoing e = refl
 -- those of an outgoing group have one place
 outgoing_single : (plan : Tables) → IsLawful plan → (group : ℕ) → is_group is_outgoing plan.groups group ≡ true → (i : ℕ) (member : Member) → member_at plan group i ≡ Some member → is_some member.second ≡ false
 outgoing_single plan laws group outgoing i member listed =
-    let there = group_passes is_outgoing plan.groups group outgoing in
+    let there = group-there is_outgoing plan.groups group outgoing in
     member-paired plan laws group i there.0 member there.1 listed ∙ outgoing_not_intra there.0.kind there.2
 
 or_second : (a b : Bool) → (a || b) ≡ true → a ≡ false → b ≡ true
@@ -81,7 +76,7 @@ or_second false b e f = e
 leads_out : (plan : Tables) → IsLawful plan → (code : ℕ) (groups : List ℕ) → route_of plan code ≡ Some groups → leads_inside plan groups ≡ false → list_all (is_group is_outgoing plan.groups) groups ≡ true
 leads_out plan laws code groups e outside =
     let found = found-item (λ (r : Route). r.groups) (λ (r : Route). r.code == code) plan.routes groups e in
-    let leads = each_passes (leads_to_trunks plan.groups) plan.routes found.0 laws.routes.trunks found.1 in
+    let leads = each_passes (leads_to_trunks plan.groups) plan.routes found.0 (passes plan laws).trunks found.1 in
     let here : (leads_inside plan groups || list_all (is_group is_outgoing plan.groups) groups) ≡ true =
     subst (λ (gs : List ℕ). (leads_inside plan gs || list_all (is_group is_outgoing plan.groups) gs) ≡ true) found.3 leads in
     or_second (leads_inside plan groups) (list_all (is_group is_outgoing plan.groups) groups) here outside
@@ -90,7 +85,7 @@ leads_out plan laws code groups e outside =
 lines_range : (plan : Tables) → IsLawful plan → (number : ℕ) (lines : List Line) → lines_of plan number ≡ Some lines → (line : Line) → IsIn line lines → IsLine line
 lines_range plan laws number lines e line within =
     let found = found-item (λ (s : Station). s.lines) (λ (s : Station). s.number == number) plan.stations lines e in
-    let all = each_passes (λ (s : Station). list_all is_line s.lines) plan.stations found.0 laws.stations.lines found.1 in
+    let all = each_passes (λ (s : Station). list_all is_line s.lines) plan.stations found.0 (formed plan laws).lines found.1 in
     line_in_range line (each_passes is_line found.0.lines line all (subst (λ (ls : List Line). IsIn line ls) (sym found.3) within))
 
 module _ (plan : Tables) (paths : List Path) (calling : Line) (laws : IsLawful plan) (in_range : IsLine calling) (idle : is_idle (has_line calling) paths ≡ true) where

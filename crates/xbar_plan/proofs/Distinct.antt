@@ -1,68 +1,22 @@
-use Rattle.std.proofs.Common.{◌≡◌, ℕ, zero, suc, Bool, true, false, ◌⊎◌, List, [], ◌∷◌, ◌++◌, inl, inr, refl, sym, ◌∙◌, ap, subst}
+use Rattle.std.proofs.Common.{◌≡◌, ℕ, zero, suc, Bool, true, false, List, [], ◌∷◌, ◌++◌, inl, inr, refl, sym, ◌∙◌, ap, subst}
 use Rattle.std.specs.Prelude.{Some, slice_get, flat_map, not, ◌||◌}
 use Rattle.std.specs.List.{list_any, list_all}
 use Rattle.std.proofs.lemmas.List.Folds.{list_any-append}
 use Rattle.xbar_equip.specs.Among.{IsIn}
+use Rattle.xbar_equip.proofs.Logic.{both, both_hold, not_both}
+use Rattle.xbar_equip.proofs.Lists.{in_back, in_flat_map, item_in, each_passes, any_passes}
 use Rattle.xbar_plan.specs.Lawful.{are_distinct}
-use Rattle.xbar_plan.proofs.Ranges.{both, both_hold}
 
--- an item of one list is an item of both together
-pub IsIn-append_left : {X : Type 0} (x : X) (xs ys : List X) → IsIn x xs → IsIn x (xs ++ ys)
-IsIn-append_left x [] ys h = absurd h
-IsIn-append_left x (y ∷ xs) ys (inl e) = inl e
-IsIn-append_left x (y ∷ xs) ys (inr h) = inr (IsIn-append_left x xs ys h)
-
-pub IsIn-append_right : {X : Type 0} (x : X) (xs ys : List X) → IsIn x ys → IsIn x (xs ++ ys)
-IsIn-append_right x [] ys h = h
-IsIn-append_right x (y ∷ xs) ys h = inr (IsIn-append_right x xs ys h)
+-- what all items pass each passes
+pub item_passes : {X : Type 0} (p : X → Bool) (xs : List X) (i : ℕ) (x : X) → list_all p xs ≡ true → slice_get xs i ≡ Some x → p x ≡ true
+item_passes p xs i x all here = each_passes p xs x all (item_in xs i x here)
 
 same_some : {X : Type 0} (a b : X) → Some a ≡ Some b → a ≡ b
 same_some a b e = cc
 
--- what one item of a list gives is among what all give
-pub IsIn-flat_map : {X Y : Type 0} (f : X → List Y) (xs : List X) (i : ℕ) (x : X) (y : Y) → slice_get xs i ≡ Some x → IsIn y (f x) → IsIn y (flat_map f xs)
-IsIn-flat_map f [] i x y e h = cc
-IsIn-flat_map f (a ∷ xs) zero x y e h =
-    IsIn-append_left y (f a) (flat_map f xs) (subst (λ (z : _). IsIn y (f z)) (sym (same_some a x e)) h)
-IsIn-flat_map f (a ∷ xs) (suc i) x y e h = IsIn-append_right y (f a) (flat_map f xs) (IsIn-flat_map f xs i x y e h)
-
--- what all items pass each passes
-pub all_pass : {X : Type 0} (p : X → Bool) (xs : List X) (i : ℕ) (x : X) → list_all p xs ≡ true → slice_get xs i ≡ Some x → p x ≡ true
-all_pass p [] i x all e = cc
-all_pass p (a ∷ xs) zero x all e = ap p (sym (same_some a x e)) ∙ (both (p a) (list_all p xs) all).0
-all_pass p (a ∷ xs) (suc i) x all e = all_pass p xs i x (both (p a) (list_all p xs) all).1 e
-
-pub has_passes : {X : Type 0} (p : X → Bool) (xs : List X) (x : X) → list_all p xs ≡ true → IsIn x xs → p x ≡ true
-has_passes p [] x all h = absurd h
-has_passes p (a ∷ xs) x all (inl e) = ap p e ∙ (both (p a) (list_all p xs) all).0
-has_passes p (a ∷ xs) x all (inr h) = has_passes p xs x (both (p a) (list_all p xs) all).1 h
-
-pub either : (a b : Bool) → (a || b) ≡ true → (a ≡ true) ⊎ (b ≡ true)
-either true b e = inl refl
-either false b e = inr e
-
-either_holds : (a b : Bool) → (a ≡ true) ⊎ (b ≡ true) → (a || b) ≡ true
-either_holds true b e = refl
-either_holds false b (inl e) = cc
-either_holds false b (inr e) = e
-
--- an item that passes makes some item pass
-pub any_passes : {X : Type 0} (p : X → Bool) (xs : List X) (x : X) → IsIn x xs → p x ≡ true → list_any p xs ≡ true
-any_passes p [] x h e = absurd h
-any_passes p (a ∷ xs) x (inl same) e = either_holds (p a) (list_any p xs) (inl (ap p (sym same) ∙ e))
-any_passes p (a ∷ xs) x (inr h) e = either_holds (p a) (list_any p xs) (inr (any_passes p xs x h e))
-
--- where the test finds only the item itself, an item that is found is among the items
-pub any_is_among : {X : Type 0} (p : X → Bool) (x : X) → ((y : X) → p y ≡ true → y ≡ x) → (xs : List X) → list_any p xs ≡ true → IsIn x xs
-any_is_among p x only [] e = cc
-any_is_among p x only (a ∷ xs) e = elim (either (p a) (list_any p xs) e) [
-  | inl here ↦ inl (sym (only a here))
-  | inr there ↦ inr (any_is_among p x only xs there)
-]
-
-not_both : (b : Bool) → not b ≡ true → b ≡ true → ⊥
-not_both true x y = cc
-not_both false x y = cc
+-- what the item at a place gives is among what all give
+pub at_flat_map : {X Y : Type 0} (f : X → List Y) (xs : List X) (i : ℕ) (x : X) (y : Y) → slice_get xs i ≡ Some x → IsIn y (f x) → IsIn y (flat_map f xs)
+at_flat_map f xs i x y here own = in_flat_map f xs x y (item_in xs i x here) own
 
 module _ {X : Type 0} (same : X → X → Bool) (itself : (x : X) → same x x ≡ true) where
   -- distinct items of two lists are distinct in each
@@ -92,7 +46,7 @@ module _ {X : Type 0} (same : X → X → Bool) (itself : (x : X) → same x x �
   pub distinct-apart : (x : X) (xs ys : List X) → are_distinct same (xs ++ ys) ≡ true → IsIn x xs → IsIn x ys → ⊥
   distinct-apart x [] ys e h k = absurd h
   distinct-apart x (a ∷ xs) ys e (inl is) k =
-      not_again a (xs ++ ys) e (subst (λ (z : X). IsIn z (xs ++ ys)) is (IsIn-append_right x xs ys k))
+      not_again a (xs ++ ys) e (subst (λ (z : X). IsIn z (xs ++ ys)) is (in_back x xs ys k))
   distinct-apart x (a ∷ xs) ys e (inr h) k =
       distinct-apart x xs ys (both (not (list_any (λ other. same other a) (xs ++ ys))) (are_distinct same (xs ++ ys)) e).1 h k
 
@@ -108,8 +62,8 @@ module _ {X : Type 0} (same : X → X → Bool) (itself : (x : X) → same x x �
   one_giver f [] i j a b x e at bt h k = cc
   one_giver f (c ∷ items) zero zero a b x e at bt h k = refl
   one_giver f (c ∷ items) zero (suc j) a b x e at bt h k =
-      absurd (distinct-apart x (f c) (flat_map f items) e (subst (λ (z : _). IsIn x (f z)) (sym (same_some c a at)) h) (IsIn-flat_map f items j b x bt k))
+      absurd (distinct-apart x (f c) (flat_map f items) e (subst (λ (z : _). IsIn x (f z)) (sym (same_some c a at)) h) (at_flat_map f items j b x bt k))
   one_giver f (c ∷ items) (suc i) zero a b x e at bt h k =
-      absurd (distinct-apart x (f c) (flat_map f items) e (subst (λ (z : _). IsIn x (f z)) (sym (same_some c b bt)) k) (IsIn-flat_map f items i a x at h))
+      absurd (distinct-apart x (f c) (flat_map f items) e (subst (λ (z : _). IsIn x (f z)) (sym (same_some c b bt)) k) (at_flat_map f items i a x at h))
   one_giver f (c ∷ items) (suc i) (suc j) a b x e at bt h k =
       ap suc (one_giver f items i j a b x (distinct-right (f c) (flat_map f items) e) at bt h k)

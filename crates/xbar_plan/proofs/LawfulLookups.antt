@@ -4,35 +4,39 @@ use Rattle.std.specs.Option.{option_map_or}
 use Rattle.std.specs.List.{list_all}
 use Rattle.std.proofs.lemmas.Bool.{ltb-true}
 use borrow.Author.Tests.{eqb-true}
-use Rattle.xbar_equip.specs.Len.{Line, IsLine}
+use Rattle.xbar_equip.specs.Len.{Line, IsLine, is_line}
 use Rattle.xbar_equip.specs.Ten.{TrunkPlace}
-use Rattle.xbar_equip.specs.Link.{Link, IsLink, link_eq}
+use Rattle.xbar_equip.specs.Link.{Link, IsLink, is_link, link_eq}
 use Rattle.xbar_equip.proofs.PathTests.{link_eq-exact}
 use Rattle.xbar_plan.specs.Group.{TrunkGroup, stands_at, is_register, is_intra, is_outgoing, other_place}
 use Rattle.xbar_plan.specs.Tables.{Tables, Station, Route, member_at, register_group, lines_of, route_of, is_faulty, IsNoMembers, IsOfMember, IsMemberPlace}
-use Rattle.xbar_plan.specs.Lawful.{IsLawful, LeadsOnlyTo, is_between, is_line, is_link, is_group, leads_to_trunks}
+use Rattle.xbar_plan.specs.Lawful.{IsLawful, LeadsOnlyTo, is_between, is_group, leads_to_trunks}
 use Rattle.xbar_plan.specs.declared.group.Member.{Member}
 use Rattle.xbar_plan.specs.declared.group.MemberPlace.{MemberPlace}
-use Rattle.xbar_plan.proofs.Ranges.{between, line_in_range, link_in_range}
-use Rattle.xbar_plan.proofs.Distinct.{all_pass, has_passes, any_is_among, either}
+use Rattle.xbar_equip.proofs.Ranges.{line_in_range, link_in_range}
+use Rattle.xbar_equip.proofs.Logic.{either}
+use Rattle.xbar_equip.proofs.Lists.{each_passes, any_is_in}
+use Rattle.xbar_plan.proofs.Ranges.{between}
+use Rattle.xbar_plan.proofs.Distinct.{item_passes}
 use Rattle.xbar_plan.proofs.Lookups.{found-item, count-one, position-one}
 use Rattle.xbar_plan.proofs.LawfulPlans.{stands_at-has, one_member}
+use Rattle.xbar_plan.proofs.LawfulParts.{passes, formed, within}
 
 -- the register group is there, and has registers
 pub register_group-is : (plan : Tables) → IsLawful plan → (group : TrunkGroup) × (slice_get plan.groups (register_group plan) ≡ Some group) × (is_register group ≡ true)
-register_group-is plan lawful = position-one is_register plan.groups (eqb-true _ 1 lawful.groups.one_register_group)
+register_group-is plan lawful = position-one is_register plan.groups (eqb-true _ 1 (passes plan lawful).registers)
 
 -- no other group has registers
 pub register_group-only : (plan : Tables) → IsLawful plan → (number : ℕ) (group : TrunkGroup) → slice_get plan.groups number ≡ Some group → is_register group ≡ true → number ≡ register_group plan
 register_group-only plan lawful number group here registers =
     let first = register_group-is plan lawful in
-    count-one is_register plan.groups number (register_group plan) group first.0 (eqb-true _ 1 lawful.groups.one_register_group) here registers first.1 first.2
+    count-one is_register plan.groups number (register_group plan) group first.0 (eqb-true _ 1 (passes plan lawful).registers) here registers first.1 first.2
 
 -- a number with one to ten lines
 pub lines_of-count : (plan : Tables) → IsLawful plan → (number : ℕ) (lines : List Line) → lines_of plan number ≡ Some lines → (0 < length lines) × (length lines ≤ 10)
 lines_of-count plan lawful number lines e =
     let found = found-item (λ (s : Station). s.lines) (λ (s : Station). s.number == number) plan.stations lines e in
-    let size = has_passes (λ (s : Station). is_between 1 10 (length s.lines)) plan.stations found.0 lawful.stations.sizes found.1 in
+    let size = each_passes (λ (s : Station). is_between 1 10 (length s.lines)) plan.stations found.0 (within plan lawful).lines found.1 in
     let h = between 1 10 (length found.0.lines) size in
     let same = ap length found.3 in
     (omega (arith, h.0, same), omega (arith, h.1, same))
@@ -41,14 +45,14 @@ lines_of-count plan lawful number lines e =
 pub lines_of-range : (plan : Tables) → IsLawful plan → (number : ℕ) (lines : List Line) → lines_of plan number ≡ Some lines → (k : ℕ) (line : Line) → slice_get lines k ≡ Some line → IsLine line
 lines_of-range plan lawful number lines e k line here =
     let found = found-item (λ (s : Station). s.lines) (λ (s : Station). s.number == number) plan.stations lines e in
-    let all = has_passes (λ (s : Station). list_all is_line s.lines) plan.stations found.0 lawful.stations.lines found.1 in
-    line_in_range line (all_pass is_line found.0.lines k line all (ap (λ (ls : List Line). slice_get ls k) found.3 ∙ here))
+    let all = each_passes (λ (s : Station). list_all is_line s.lines) plan.stations found.0 (formed plan lawful).lines found.1 in
+    line_in_range line (item_passes is_line found.0.lines k line all (ap (λ (ls : List Line). slice_get ls k) found.3 ∙ here))
 
 -- a code leads to one to four groups
 pub route_of-count : (plan : Tables) → IsLawful plan → (code : ℕ) (groups : List ℕ) → route_of plan code ≡ Some groups → (0 < length groups) × (length groups ≤ 4)
 route_of-count plan lawful code groups e =
     let found = found-item (λ (r : Route). r.groups) (λ (r : Route). r.code == code) plan.routes groups e in
-    let size = has_passes (λ (r : Route). is_between 1 4 (length r.groups)) plan.routes found.0 lawful.routes.sizes found.1 in
+    let size = each_passes (λ (r : Route). is_between 1 4 (length r.groups)) plan.routes found.0 (within plan lawful).routes found.1 in
     let h = between 1 4 (length found.0.groups) size in
     let same = ap length found.3 in
     (omega (arith, h.0, same), omega (arith, h.1, same))
@@ -57,11 +61,11 @@ route_of-count plan lawful code groups e =
 pub route_of-range : (plan : Tables) → IsLawful plan → (code : ℕ) (groups : List ℕ) → route_of plan code ≡ Some groups → (k number : ℕ) → slice_get groups k ≡ Some number → number < length plan.groups
 route_of-range plan lawful code groups e k number here =
     let found = found-item (λ (r : Route). r.groups) (λ (r : Route). r.code == code) plan.routes groups e in
-    let all = has_passes (λ (r : Route). list_all (λ (g : ℕ). nat_lt g (length plan.groups)) r.groups) plan.routes found.0 lawful.routes.known found.1 in
-    ltb-true number (length plan.groups) (all_pass (λ (g : ℕ). nat_lt g (length plan.groups)) found.0.groups k number all (ap (λ (gs : List ℕ). slice_get gs k) found.3 ∙ here))
+    let all = each_passes (λ (r : Route). list_all (λ (g : ℕ). nat_lt g (length plan.groups)) r.groups) plan.routes found.0 (passes plan lawful).known found.1 in
+    ltb-true number (length plan.groups) (item_passes (λ (g : ℕ). nat_lt g (length plan.groups)) found.0.groups k number all (ap (λ (gs : List ℕ). slice_get gs k) found.3 ∙ here))
 
 -- a group of a number that is tested is there, and passes
-group-there : (test : TrunkGroup → Bool) (groups : List TrunkGroup) (number : ℕ) → is_group test groups number ≡ true → (group : TrunkGroup) × (slice_get groups number ≡ Some group) × (test group ≡ true)
+pub group-there : (test : TrunkGroup → Bool) (groups : List TrunkGroup) (number : ℕ) → is_group test groups number ≡ true → (group : TrunkGroup) × (slice_get groups number ≡ Some group) × (test group ≡ true)
 group-there test groups number e = of (slice_get groups number) refl e where
   of : (o : Option TrunkGroup) → slice_get groups number ≡ o → option_map_or test o false ≡ true → (group : TrunkGroup) × (slice_get groups number ≡ Some group) × (test group ≡ true)
   of None here passes = cc
@@ -69,13 +73,13 @@ group-there test groups number e = of (slice_get groups number) refl e where
 
 leads-only : (test : TrunkGroup → Bool) (plan : Tables) (groups : List ℕ) → list_all (is_group test plan.groups) groups ≡ true → LeadsOnlyTo test plan groups
 leads-only test plan groups all = λ k number here.
-    group-there test plan.groups number (all_pass (is_group test plan.groups) groups k number all here)
+    group-there test plan.groups number (item_passes (is_group test plan.groups) groups k number all here)
 
 -- all intra, or all outgoing
 pub route_of-trunks : (plan : Tables) → IsLawful plan → (code : ℕ) (groups : List ℕ) → route_of plan code ≡ Some groups → LeadsOnlyTo is_intra plan groups ⊎ LeadsOnlyTo is_outgoing plan groups
 route_of-trunks plan lawful code groups e =
     let found = found-item (λ (r : Route). r.groups) (λ (r : Route). r.code == code) plan.routes groups e in
-    let leads = has_passes (leads_to_trunks plan.groups) plan.routes found.0 lawful.routes.trunks found.1 in
+    let leads = each_passes (leads_to_trunks plan.groups) plan.routes found.0 (passes plan lawful).trunks found.1 in
     subst (λ (gs : List ℕ). LeadsOnlyTo is_intra plan gs ⊎ LeadsOnlyTo is_outgoing plan gs) found.3
     (elim (either (list_all (is_group is_intra plan.groups) found.0.groups) (list_all (is_group is_outgoing plan.groups) found.0.groups) leads)
     as (λ _. LeadsOnlyTo is_intra plan found.0.groups ⊎ LeadsOnlyTo is_outgoing plan found.0.groups) [
@@ -86,8 +90,8 @@ route_of-trunks plan lawful code groups e =
 -- what is out of order is a link
 pub is_faulty-range : (plan : Tables) → IsLawful plan → (link : Link) → is_faulty plan link ≡ true → IsLink link
 is_faulty-range plan lawful link e =
-    let among = any_is_among (λ fault. link_eq fault link) link (λ fault same. (link_eq-exact fault link).0 same) plan.faults e in
-    link_in_range link (has_passes is_link plan.faults link lawful.faults.ranges among)
+    let among = any_is_in (λ fault. link_eq fault link) link (λ fault same. (link_eq-exact fault link).0 same) plan.faults e in
+    link_in_range link (each_passes is_link plan.faults link (formed plan lawful).faults among)
 
 -- a member that is found, with what is known of it
 of_some : {X : Type 0} (o : Option X) (P : X → Type 0) → IsSomeAnd o P → (x : X) × (o ≡ Some x) × P x

@@ -4,16 +4,22 @@ use Rattle.std.specs.Option.{option_map_or}
 use Rattle.std.specs.Bool.{beq}
 use Rattle.std.specs.List.{list_all}
 use Rattle.std.proofs.lemmas.Option.{slice_get_within}
+use Rattle.std.proofs.lemmas.Bool.{leb-true}
 use borrow.Author.Tests.{eqb-true}
-use Rattle.xbar_equip.specs.Ten.{TrunkPlace, IsTrunkPlace, place_eq}
+use Rattle.xbar_equip.specs.Ten.{TrunkPlace, IsTrunkPlace, is_trunk_place, place_eq}
 use Rattle.xbar_equip.proofs.PathTests.{place_eq-exact}
-use Rattle.xbar_plan.specs.Group.{TrunkGroup, places, stands_at, is_intra}
+use Rattle.xbar_plan.specs.Group.{TrunkGroup, places, stands_at, is_intra, is_register}
 use Rattle.xbar_plan.specs.Tables.{Tables, member_at}
-use Rattle.xbar_plan.specs.Lawful.{IsLawful, is_between, is_trunk_place, group_places, all_places, has_its_places, is_on_one_frame}
+use Rattle.xbar_plan.specs.Lawful.{IsLawful, is_between, group_places, all_places, is_name, has_its_places, is_well_formed_group, is_on_one_frame}
 use Rattle.xbar_plan.specs.declared.group.Member.{Member}
-use Rattle.xbar_plan.proofs.Ranges.{between, place_in_range}
+use Rattle.xbar_equip.proofs.Ranges.{place_in_range}
+use Rattle.xbar_equip.proofs.Logic.{both}
+use Rattle.xbar_equip.proofs.Lists.{each_passes, any_passes, any_is_in}
+use Rattle.xbar_plan.proofs.Ranges.{between}
 use Rattle.xbar_equip.specs.Among.{IsIn}
-use Rattle.xbar_plan.proofs.Distinct.{IsIn-flat_map, all_pass, has_passes, any_passes, any_is_among, distinct-at, not_again, one_giver}
+use Rattle.xbar_plan.proofs.Distinct.{at_flat_map, item_passes, distinct-at, not_again, one_giver}
+use Rattle.xbar_plan.proofs.Lookups.{position-one}
+use Rattle.xbar_plan.proofs.LawfulParts.{passes, formed, within}
 
 -- a place is equal to itself by the test
 pub place_eq-itself : (place : TrunkPlace) → place_eq place place ≡ true
@@ -22,7 +28,7 @@ place_eq-itself place = (place_eq-exact place place).1 refl
 -- a member stands at the places that it has
 pub stands_at-has : (member : Member) (place : TrunkPlace) → stands_at member place ≡ true → IsIn place (places member)
 stands_at-has member place e =
-    any_is_among (λ own. place_eq own place) place (λ own same. (place_eq-exact own place).0 same) (places member) e
+    any_is_in (λ own. place_eq own place) place (λ own same. (place_eq-exact own place).0 same) (places member) e
 
 pub has-stands_at : (member : Member) (place : TrunkPlace) → IsIn place (places member) → stands_at member place ≡ true
 has-stands_at member place h = any_passes (λ own. place_eq own place) (places member) place h (place_eq-itself place)
@@ -43,35 +49,38 @@ member_at-group plan number index member e = of (slice_get plan.groups number) r
 pub member-places : (plan : Tables) (number index : ℕ) (member : Member) (place : TrunkPlace) → member_at plan number index ≡ Some member → IsIn place (places member) → IsIn place (all_places plan.groups)
 member-places plan number index member place e h =
     let of = member_at-group plan number index member e in
-    IsIn-flat_map group_places plan.groups number of.group place of.group_is (IsIn-flat_map places of.group.members index member place of.member_is h)
+    at_flat_map group_places plan.groups number of.group place of.group_is (at_flat_map places of.group.members index member place of.member_is h)
 
 -- and in range
 pub place_at-range : (plan : Tables) → IsLawful plan → (number index : ℕ) (member : Member) (place : TrunkPlace) → member_at plan number index ≡ Some member → IsIn place (places member) → IsTrunkPlace place
 place_at-range plan lawful number index member place e h =
-    place_in_range place (has_passes is_trunk_place (all_places plan.groups) place lawful.groups.places.ranges (member-places plan number index member place e h))
+    place_in_range place (each_passes is_trunk_place (all_places plan.groups) place (formed plan lawful).places (member-places plan number index member place e h))
 
 -- two members that stand at one place are one
 pub one_member : (plan : Tables) → IsLawful plan → (number index number' index' : ℕ) (member member' : Member) (place : TrunkPlace) → member_at plan number index ≡ Some member → member_at plan number' index' ≡ Some member' → IsIn place (places member) → IsIn place (places member') → (number ≡ number') × (index ≡ index')
 one_member plan lawful number index number' index' member member' place e e' h h' =
     let of = member_at-group plan number index member e in
     let of' = member_at-group plan number' index' member' e' in
-    let in_group = IsIn-flat_map places of.group.members index member place of.member_is h in
-    let in_group' = IsIn-flat_map places of'.group.members index' member' place of'.member_is h' in
-    let same : number ≡ number' = one_giver place_eq place_eq-itself group_places plan.groups number number' of.group of'.group place lawful.groups.places.once of.group_is of'.group_is in_group in_group' in
+    let in_group = at_flat_map places of.group.members index member place of.member_is h in
+    let in_group' = at_flat_map places of'.group.members index' member' place of'.member_is h' in
+    let same : number ≡ number' = one_giver place_eq place_eq-itself group_places plan.groups number number' of.group of'.group place (passes plan lawful).places_once of.group_is of'.group_is in_group in_group' in
     let group : Some of.group ≡ Some of'.group = sym of.group_is ∙ ap (slice_get plan.groups) same ∙ of'.group_is in
     let groups : of.group ≡ of'.group = cc in
     let here : slice_get of.group.members index' ≡ Some member' = ap (λ (g : TrunkGroup). slice_get g.members index') groups ∙ of'.member_is in
-    let once = distinct-at place_eq place_eq-itself group_places plan.groups number of.group lawful.groups.places.once of.group_is in
+    let once = distinct-at place_eq place_eq-itself group_places plan.groups number of.group (passes plan lawful).places_once of.group_is in
     (same, one_giver place_eq place_eq-itself places of.group.members index index' member member' place once of.member_is here h h')
 
 -- a plan has one to sixteen groups
 pub group_count-range : (plan : Tables) → IsLawful plan → (0 < length plan.groups) × (length plan.groups ≤ 16)
-group_count-range plan lawful = let h = between 1 16 (length plan.groups) lawful.groups.count in (omega (arith, h.0), h.1)
+group_count-range plan lawful =
+    let first = position-one is_register plan.groups (eqb-true _ 1 (passes plan lawful).registers) in
+    let there = slice_get_within plan.groups _ first.0 first.1 in
+    (omega (arith, there), leb-true (length plan.groups) 16 (within plan lawful).groups)
 
 -- each with one to forty members
 pub member_count-range : (plan : Tables) → IsLawful plan → (number : ℕ) (group : TrunkGroup) → slice_get plan.groups number ≡ Some group → (0 < length group.members) × (length group.members ≤ 40)
 member_count-range plan lawful number group here =
-    let size = all_pass (λ (g : TrunkGroup). is_between 1 40 (length g.members)) plan.groups number group lawful.groups.members.sizes here in
+    let size = item_passes (λ (g : TrunkGroup). is_between 1 40 (length g.members)) plan.groups number group (within plan lawful).members here in
     let h = between 1 40 (length group.members) size in
     (omega (arith, h.0), h.1)
 
@@ -89,10 +98,11 @@ member-numbers plan lawful number index member here =
 pub member-paired : (plan : Tables) → IsLawful plan → (number index : ℕ) (group : TrunkGroup) (member : Member) → slice_get plan.groups number ≡ Some group → member_at plan number index ≡ Some member → is_some member.second ≡ is_intra group
 member-paired plan lawful number index group member there here =
     let of = member_at-group plan number index member here in
-    let both : Some of.group ≡ Some group = sym of.group_is ∙ there in
+    let groups : Some of.group ≡ Some group = sym of.group_is ∙ there in
     let same : of.group ≡ group = cc in
-    let all = all_pass has_its_places plan.groups number of.group lawful.groups.members.pairs of.group_is in
-    let one = all_pass (λ (m : Member). beq (is_some m.second) (is_intra of.group)) of.group.members index member all of.member_is in
+    let well = item_passes is_well_formed_group plan.groups number of.group (formed plan lawful).groups of.group_is in
+    let all = (both (is_name of.group.name) (has_its_places of.group) well).1 in
+    let one = item_passes (λ (m : Member). beq (is_some m.second) (is_intra of.group)) of.group.members index member all of.member_is in
     beq-same (is_some member.second) (is_intra of.group) one ∙ ap is_intra same where
       beq-same : (a b : Bool) → beq a b ≡ true → a ≡ b
       beq-same true true e = refl
@@ -104,8 +114,8 @@ member-paired plan lawful number index group member there here =
 pub pair-frame : (plan : Tables) → IsLawful plan → (number index : ℕ) (member : Member) (second : TrunkPlace) → member_at plan number index ≡ Some member → member.second ≡ Some second → second.frame ≡ member.first.frame
 pair-frame plan lawful number index member second here paired =
     let of = member_at-group plan number index member here in
-    let all = all_pass (λ (g : TrunkGroup). list_all is_on_one_frame g.members) plan.groups number of.group lawful.groups.members.frames of.group_is in
-    let one = all_pass is_on_one_frame of.group.members index member all of.member_is in
+    let all = item_passes (λ (g : TrunkGroup). list_all is_on_one_frame g.members) plan.groups number of.group (passes plan lawful).frames of.group_is in
+    let one = item_passes is_on_one_frame of.group.members index member all of.member_is in
     eqb-true second.frame member.first.frame
     (sym (ap (λ (o : Option TrunkPlace). option_map_or (λ place. place.frame == member.first.frame) o true) paired) ∙ one)
 
@@ -113,7 +123,7 @@ pair-frame plan lawful number index member second here paired =
 pub pair-apart : (plan : Tables) → IsLawful plan → (number index : ℕ) (member : Member) (second : TrunkPlace) → member_at plan number index ≡ Some member → member.second ≡ Some second → second ≢ member.first
 pair-apart plan lawful number index member second here paired same =
     let of = member_at-group plan number index member here in
-    let group = distinct-at place_eq place_eq-itself group_places plan.groups number of.group lawful.groups.places.once of.group_is in
+    let group = distinct-at place_eq place_eq-itself group_places plan.groups number of.group (passes plan lawful).places_once of.group_is in
     let own = distinct-at place_eq place_eq-itself places of.group.members index member group of.member_is in
     let among : IsIn second (option_to_list member.second) = subst (λ (o : Option TrunkPlace). IsIn second (option_to_list o)) (sym paired) (inl refl) in
     not_again place_eq place_eq-itself member.first (option_to_list member.second) own

@@ -1,23 +1,16 @@
-use Rattle.std.proofs.Common.{◌≡◌, ℕ, zero, suc, ◌+◌, ◌<◌, Bool, true, false, cond, List, [], ◌∷◌, inl, inr, refl, sym, ◌∙◌, ap, arith}
+use Rattle.std.proofs.Common.{◌≡◌, ℕ, zero, suc, ◌+◌, ◌<◌, Bool, true, false, cond, List, [], ◌∷◌, refl, sym, ◌∙◌, ap, arith}
 use Rattle.std.specs.Prelude.{Option, Some, None, IsSomeAnd, IfSome, slice_get, option_map, find, position, unwrap_or, count_by}
 use Rattle.std.proofs.lemmas.List.Sums.{sum_by-cons}
+use Rattle.xbar_equip.proofs.Lists.{found_passes}
 use Rattle.xbar_plan.proofs.Lists.{position-none, position-some}
 use Rattle.xbar_equip.specs.Among.{IsIn}
-
--- what a search finds is among the items, and passes
-pub find-passes : {X : Type 0} (p : X → Bool) (xs : List X) (x : X) → find p xs ≡ Some x → IsIn x xs × (p x ≡ true)
-find-passes p [] x e = cc
-find-passes {X} p (a ∷ xs) x e = of (p a) refl (find-passes p xs x) e where
-  of : (b : Bool) → p a ≡ b → (find p xs ≡ Some x → IsIn x xs × (p x ≡ true)) → cond b (Some a) (find p xs) ≡ Some x → IsIn x (a ∷ xs) × (p x ≡ true)
-  of true here rest found = let same : x ≡ a = cc in (inl same, ap p same ∙ here)
-  of false here rest found = let h = rest found in (inr h.0, h.1)
 
 -- what a look-up gives, an item that is found has
 pub found-item : {X Y : Type 0} (f : X → Y) (p : X → Bool) (xs : List X) (y : Y) → option_map f (find p xs) ≡ Some y → (x : X) × IsIn x xs × (p x ≡ true) × (f x ≡ y)
 found-item {X} f p xs y e = of (find p xs) refl e where
   of : (o : Option X) → find p xs ≡ o → option_map f o ≡ Some y → (x : X) × IsIn x xs × (p x ≡ true) × (f x ≡ y)
   of None found given = cc
-  of (Some x) found given = let h = find-passes p xs x found in (x, h.0, h.1, cc)
+  of (Some x) found given = let h = found_passes p xs x found in (x, h.0, h.1, cc)
 
 -- an item that passes counts as one
 abbrev weight : Bool → ℕ

@@ -86,9 +86,6 @@ none_of_any : {X : Type 0} (test : X → Bool) (xs : List X) → ((i : ℕ) → 
 none_of_any test [] none e = cc
 none_of_any test (x ∷ xs) none e = none_of_any test xs (λ i. none (suc i)) (ap (λ b. b || list_any test xs) (sym (none zero)) ∙ e)
 
-true_and_false : (b : Bool) → b ≡ true → b ≡ false → ⊥
-true_and_false b holds fails = let e : true ≡ false = sym holds ∙ fails in cc
-
 -- no group has a member there, so no member stands there
 no_members : (plan : Tables) (place : TrunkPlace) → ((i : ℕ) → IfSome (slice_get plan.groups i) (λ group. has_member_at place group ≡ false)) → IsNoMembers plan place
 no_members plan place none number index = of (slice_get plan.groups number) (none number) where

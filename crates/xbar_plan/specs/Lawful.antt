@@ -1,13 +1,15 @@
-use Rattle.std.specs.Prelude.{◌≡◌, ℕ, ◌&&◌, ◌||◌, ◌==◌, not, nat_lt, nat_le, nat_eq, Bool, true, false, Some, List, [], ◌∷◌, length, map, flat_map, count_by, slice_get, bytes_eq, IsTrue, is_some}
+use Rattle.std.specs.Prelude.{◌≡◌, ◌⊎◌, Result, MatchResult, ℕ, ◌&&◌, ◌||◌, ◌==◌, not, nat_lt, nat_le, nat_eq, Bool, true, false, if◌then◌else◌, Option, Some, None, List, [], ◌∷◌, length, map, flat_map, count_by, slice_get, bytes_eq, is_some}
 use Rattle.std.specs.Option.{option_map_or}
 use Rattle.std.specs.Bool.{beq}
 use Rattle.std.specs.List.{list_any, list_all}
 use Rattle.std.specs.Char.{is_ascii_digit, is_ascii_uppercase}
-use Rattle.xbar_equip.specs.Len.{Line}
-use Rattle.xbar_equip.specs.Ten.{TrunkPlace, place_eq}
-use Rattle.xbar_equip.specs.Link.{Link}
+use Rattle.xbar_equip.specs.Len.{is_line}
+use Rattle.xbar_equip.specs.Ten.{TrunkPlace, is_trunk_place, place_eq}
+use Rattle.xbar_equip.specs.Link.{is_link}
 use Rattle.xbar_plan.specs.Group.{TrunkGroup, places, is_register, is_intra, is_outgoing}
 use Rattle.xbar_plan.specs.Tables.{Tables, Station, Route}
+use Rattle.xbar_plan.specs.declared.fault.PlanFault.{PlanFault}
+use Rattle.xbar_plan.specs.declared.fault.PlanFault.TheVariants.{Malformed, Limit, GroupTwice, RegisterGroups, PlaceTwice, PairApart, NumberTwice, CodeTwice, UnknownGroup, MixedRoute, Memory}
 use Rattle.xbar_plan.specs.declared.group.Member.{Member}
 
 -- from the least to the most, both included
@@ -18,18 +20,6 @@ is_between least most n = nat_le least n && nat_le n most
 abbrev pub are_distinct : {A : Type 0} → (A → A → Bool) → List A → Bool
 are_distinct same [] = true
 are_distinct same (x ∷ xs) = not (list_any (λ other. same other x) xs) && are_distinct same xs
-
--- `IsLine` as a test
-abbrev pub is_line : Line → Bool
-is_line line = nat_lt line.frame 10 && nat_lt line.switch 10 && nat_lt line.x 30
-
--- `IsTrunkPlace` as a test
-abbrev pub is_trunk_place : TrunkPlace → Bool
-is_trunk_place place = nat_lt place.frame 10 && nat_lt place.switch 10 && nat_lt place.appearance 10
-
--- `IsLink` as a test
-abbrev pub is_link : Link → Bool
-is_link link = nat_lt link.frame 10 && nat_lt link.at 10 && nat_lt link.channel 10
 
 -- a letter of A to Z or a digit
 abbrev pub is_name_character : ℕ → Bool
@@ -55,37 +45,70 @@ group_places group = flat_map places group.members
 abbrev pub all_places : List TrunkGroup → List TrunkPlace
 all_places groups = flat_map group_places groups
 
--- each group has a name, and no name stands twice
-pub record AreLawfulNames (groups : List TrunkGroup) : Type 0 where
-  pub form : IsTrue (list_all (λ group. is_name group.name) groups)
-  pub once : IsTrue (are_distinct bytes_eq (map (λ group. group.name) groups))
+-- a group with a name, whose members have the places that its kind asks for
+abbrev pub is_well_formed_group : TrunkGroup → Bool
+is_well_formed_group group = is_name group.name && has_its_places group
 
--- each group has one to forty members, which have the places that its kind asks for
-pub record AreLawfulMembers (groups : List TrunkGroup) : Type 0 where
-  pub sizes : IsTrue (list_all (λ group. is_between 1 40 (length group.members)) groups)
-  pub pairs : IsTrue (list_all has_its_places groups)
-  pub frames : IsTrue (list_all (λ group. list_all is_on_one_frame group.members) groups)
+-- places, numbers, lines, codes and links in range
+abbrev pub are_in_range : Tables → Bool
+are_in_range plan =
+    list_all is_trunk_place (all_places plan.groups) && list_all (λ station. nat_lt station.number 10000) plan.stations
+    && list_all (λ station. list_all is_line station.lines) plan.stations && list_all (λ route. nat_lt route.code 1000) plan.routes
+    && list_all is_link plan.faults
+
+-- nothing in the tables that no text could say
+abbrev pub are_well_formed : Tables → Bool
+are_well_formed plan = list_all is_well_formed_group plan.groups && are_in_range plan
+
+-- at most 16 groups, with 1 to 40 members each
+abbrev pub are_groups_within_limits : List TrunkGroup → Bool
+are_groups_within_limits groups =
+    nat_le (length groups) 16 && list_all (λ group. is_between 1 40 (length group.members)) groups
+
+-- at most 3000 numbers, with 1 to 10 lines each
+abbrev pub are_stations_within_limits : List Station → Bool
+are_stations_within_limits stations =
+    nat_le (length stations) 3000 && list_all (λ station. is_between 1 10 (length station.lines)) stations
+
+-- at most 64 codes, which lead to 1 to 4 groups each
+abbrev pub are_routes_within_limits : List Route → Bool
+are_routes_within_limits routes =
+    nat_le (length routes) 64 && list_all (λ route. is_between 1 4 (length route.groups)) routes
+
+-- and at most 100 links out of order
+abbrev pub are_within_limits : Tables → Bool
+are_within_limits plan =
+    are_groups_within_limits plan.groups && are_stations_within_limits plan.stations
+    && are_routes_within_limits plan.routes && nat_le (length plan.faults) 100
+
+-- no two groups have one name
+abbrev pub are_names_distinct : List TrunkGroup → Bool
+are_names_distinct groups = are_distinct bytes_eq (map (λ group. group.name) groups)
+
+-- there is just one group of registers
+abbrev pub has_one_register_group : List TrunkGroup → Bool
+has_one_register_group groups = count_by is_register groups == 1
 
 -- no trunk place stands twice, in one group or in two, in one pair or in two
-pub record AreLawfulPlaces (groups : List TrunkGroup) : Type 0 where
-  pub ranges : IsTrue (list_all is_trunk_place (all_places groups))
-  pub once : IsTrue (are_distinct place_eq (all_places groups))
+abbrev pub are_places_distinct : List TrunkGroup → Bool
+are_places_distinct groups = are_distinct place_eq (all_places groups)
 
--- there are one to sixteen groups, and just one of registers
-pub record AreLawfulGroups (groups : List TrunkGroup) : Type 0 where
-  pub count : IsTrue (is_between 1 16 (length groups))
-  pub names : AreLawfulNames groups
-  pub members : AreLawfulMembers groups
-  pub places : AreLawfulPlaces groups
-  pub one_register_group : IsTrue (count_by is_register groups == 1)
+-- both places of each pair are on one trunk link frame
+abbrev pub are_pairs_on_one_frame : List TrunkGroup → Bool
+are_pairs_on_one_frame groups = list_all (λ group. list_all is_on_one_frame group.members) groups
 
--- directory numbers have four digits, stand once each, and have one to ten lines
-pub record AreLawfulStations (stations : List Station) : Type 0 where
-  pub count : IsTrue (nat_le (length stations) 3000)
-  pub ranges : IsTrue (list_all (λ station. nat_lt station.number 10000) stations)
-  pub numbers_once : IsTrue (are_distinct nat_eq (map (λ station. station.number) stations))
-  pub sizes : IsTrue (list_all (λ station. is_between 1 10 (length station.lines)) stations)
-  pub lines : IsTrue (list_all (λ station. list_all is_line station.lines) stations)
+-- no directory number stands twice
+abbrev pub are_numbers_distinct : List Station → Bool
+are_numbers_distinct stations = are_distinct nat_eq (map (λ station. station.number) stations)
+
+-- no code stands twice
+abbrev pub are_codes_distinct : List Route → Bool
+are_codes_distinct routes = are_distinct nat_eq (map (λ route. route.code) routes)
+
+-- each code leads to groups that are there
+abbrev pub are_groups_known : List TrunkGroup → List Route → Bool
+are_groups_known groups routes =
+    list_all (λ route. list_all (λ group. nat_lt group (length groups)) route.groups) routes
 
 -- whether a group of this number is there and passes the test
 abbrev pub is_group : (TrunkGroup → Bool) → List TrunkGroup → ℕ → Bool
@@ -101,23 +124,38 @@ abbrev pub LeadsOnlyTo : (TrunkGroup → Bool) → Tables → List ℕ → Type 
 LeadsOnlyTo test plan groups =
     (k number : ℕ) → slice_get groups k ≡ Some number → (group : TrunkGroup) × (slice_get plan.groups number ≡ Some group) × (test group ≡ true)
 
--- codes have three digits, stand once each, and lead to one to four groups that are there
-pub record AreLawfulRoutes (groups : List TrunkGroup) (routes : List Route) : Type 0 where
-  pub count : IsTrue (nat_le (length routes) 64)
-  pub ranges : IsTrue (list_all (λ route. nat_lt route.code 1000) routes)
-  pub codes_once : IsTrue (are_distinct nat_eq (map (λ route. route.code) routes))
-  pub sizes : IsTrue (list_all (λ route. is_between 1 4 (length route.groups)) routes)
-  pub known : IsTrue (list_all (λ route. list_all (λ group. nat_lt group (length groups)) route.groups) routes)
-  pub trunks : IsTrue (list_all (leads_to_trunks groups) routes)
+-- so does each code
+abbrev pub do_routes_lead_to_trunks : List TrunkGroup → List Route → Bool
+do_routes_lead_to_trunks groups routes = list_all (leads_to_trunks groups) routes
 
--- at most a hundred links are listed as out of order
-pub record AreLawfulFaults (faults : List Link) : Type 0 where
-  pub count : IsTrue (nat_le (length faults) 100)
-  pub ranges : IsTrue (list_all is_link faults)
+-- what tables are tested for, and the fault that they have where the test fails, in the order of the faults' numbers
+abbrev pub tests : Tables → List (Bool × PlanFault)
+tests plan =
+    (are_well_formed plan, Malformed) ∷
+    (are_within_limits plan, Limit) ∷
+    (are_names_distinct plan.groups, GroupTwice) ∷
+    (has_one_register_group plan.groups, RegisterGroups) ∷
+    (are_places_distinct plan.groups, PlaceTwice) ∷
+    (are_pairs_on_one_frame plan.groups, PairApart) ∷
+    (are_numbers_distinct plan.stations, NumberTwice) ∷
+    (are_codes_distinct plan.routes, CodeTwice) ∷
+    (are_groups_known plan.groups plan.routes, UnknownGroup) ∷
+    (do_routes_lead_to_trunks plan.groups plan.routes, MixedRoute) ∷ []
 
--- what every plan keeps
+-- the fault of the first test that fails
+abbrev pub first_failed : List (Bool × PlanFault) → Option PlanFault
+first_failed [] = None
+first_failed (test ∷ others) = if test.0 then first_failed others else Some test.1
+
+-- what is wrong with tables: the least fault that they have
+unfoldable pub fault_in : Tables → Option PlanFault
+fault_in plan = first_failed (tests plan)
+
+-- what every plan keeps: no test fails
 pub record IsLawful (plan : Tables) : Type 0 where
-  pub groups : AreLawfulGroups plan.groups
-  pub stations : AreLawfulStations plan.stations
-  pub routes : AreLawfulRoutes plan.groups plan.routes
-  pub faults : AreLawfulFaults plan.faults
+  pub none_fails : fault_in plan ≡ None
+
+-- a plan of these tables, which are lawful, or the fault that they have, unless memory ran out
+abbrev pub IsPlanOf : Tables → Result Tables PlanFault → Type 0
+IsPlanOf plan result =
+    MatchResult result (λ made. (fault_in plan ≡ None) × (made ≡ plan)) (λ fault. (fault ≡ Memory) ⊎ (fault_in plan ≡ Some fault))

@@ -3,5 +3,10 @@ pub use Rattle.xbar_equip.specs.Ten
 pub use Rattle.xbar_equip.specs.Link
 pub mod Group
 pub mod Tables
+pub mod Fault
 pub mod Lawful
+pub mod Numbered
+pub mod Texts
+pub mod Document
+pub mod Written
 pub mod Example

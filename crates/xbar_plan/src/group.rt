@@ -78,6 +78,7 @@ impl Group {
     ghost use Rattle.xbar_plan.specs.Group.{is_register as is_register_group, is_intra as is_intra_group, is_outgoing as is_outgoing_group, stands_at as stands_at_place};
     ghost use Rattle.xbar_plan.specs.Tables.{has_member_at as group_has_member_at};
 
+    /// A group of this name and kind, with its members in the order in which they are tried.
     pub fn new(name: String, kind: GroupKind, members: Vec<Member>) -> Self
         ensures { result ≡ record { name = string_bytes name; kind = kind; members = members.items } }
     {
@@ -95,6 +96,7 @@ impl Group {
         self.name.as_str()
     }
 
+    /// What its members are.
     pub fn kind(&self) -> GroupKind
         ensures { result ≡ self.now.kind }
     {
@@ -108,18 +110,21 @@ impl Group {
         self.members.as_slice()
     }
 
+    /// Whether its members are registers.
     pub fn is_register(&self) -> bool
         ensures { result ≡ is_register_group self.now }
     {
         matches!(self.kind, GroupKind::Register)
     }
 
+    /// Whether its members are trunks between two lines of the office.
     pub fn is_intra(&self) -> bool
         ensures { result ≡ is_intra_group self.now }
     {
         matches!(self.kind, GroupKind::Intra)
     }
 
+    /// Whether its members are trunks to another office.
     pub fn is_outgoing(&self) -> bool
         ensures { result ≡ is_outgoing_group self.now }
     {

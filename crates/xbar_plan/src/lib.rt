@@ -2,17 +2,25 @@
 //! out of order.
 #![tactic(auto)]
 
+pub use fault::PlanFault;
 pub use group::{Group, GroupKind, Member, MemberPlace};
 pub use plan::Plan;
 pub use route::Route;
 pub use station::Station;
 
 mod example;
+mod fault;
 mod group;
 mod lawful;
 pub mod laws;
 mod plan;
+mod read;
+#[cfg(test)]
+mod reading_tests;
 mod route;
 mod station;
 #[cfg(test)]
 mod tests;
+mod write;
+#[cfg(test)]
+mod writing_tests;

@@ -2,10 +2,11 @@ ghost use Rattle.std.specs.Prelude.{◌≡◌, ◌<◌, IfOk, option_copied, len
 ghost use Rattle.xbar_plan.specs.Group.{is_register};
 ghost use Rattle.xbar_plan.specs.Tables.{has_member_at};
 
+use crate::fault::PlanFault;
 use crate::group::{Group, MemberPlace};
 use crate::route::Route;
 use crate::station::Station;
-use crate::{example, lawful};
+use crate::{example, lawful, read, write};
 use std::alloc::{AllocError, Global};
 use std::marker::Model;
 use xbar_equip::{DirNo, Len, Link, Ten};
@@ -31,9 +32,10 @@ impl Model for Plan {
 }
 
 impl Plan {
-    ghost use Rattle.std.specs.Prelude.{slice_get, Some, SomeIff};
+    ghost use Rattle.std.specs.Prelude.{slice_get, Some, Ok};
     ghost use Rattle.xbar_plan.specs.Tables.{Tables, lines_of, route_of, register_group as register_group_of, is_faulty, member_place};
-    ghost use Rattle.xbar_plan.specs.Lawful.{IsLawful};
+    ghost use Rattle.xbar_plan.specs.Lawful.{IsLawful, IsPlanOf};
+    ghost use Rattle.xbar_plan.specs.Document.{IsReading, plan_of};
     ghost use Rattle.xbar_plan.specs.Example.{example as the_example};
 
     /// Makes a plan of tables that are known to be lawful.
@@ -54,28 +56,33 @@ impl Plan {
         }
     }
 
-    /// Makes a plan of tables, or nothing where they aren't lawful.
+    /// Makes a plan of tables, or tells the least fault that they have.
     pub fn try_new(
         alloc: Global,
         groups: Vec<Group>,
         stations: Vec<Station>,
         routes: Vec<Route>,
         faults: Vec<Link>,
-    ) -> Result<Option<Self>, AllocError>
-        ensures { let tables : Tables = record { groups = groups.items; stations = stations.items; routes = routes.items; faults = faults.items } in IfOk result (λ plan. SomeIff plan (IsLawful tables) tables) }
+    ) -> Result<Self, PlanFault>
+        ensures { IsPlanOf (record { groups = groups.items; stations = stations.items; routes = routes.items; faults = faults.items }) result }
     {
-        if lawful::are_lawful_groups(alloc, &groups)?
-            && lawful::are_lawful_stations(alloc, &stations)?
-            && lawful::are_lawful_routes(alloc, &groups, &routes)?
-            && lawful::are_lawful_faults(&faults)
-        {
-            return Ok(Some(Plan::new(groups, stations, routes, faults)));
+        match lawful::fault_in(alloc, &groups, &stations, &routes, &faults)? {
+            None => Ok(Plan::new(groups, stations, routes, faults)),
+            Some(fault) => Err(fault),
         }
-        Ok(None)
+    }
+
+    /// The plan that a TOML text holds, in version 1 or 2 of its form, or the least fault that it has.
+    /// Want of memory may be told in place of a fault that would be found later.
+    pub fn read(alloc: Global, text: &[u8]) -> Result<Self, PlanFault>
+        ensures { IsReading (plan_of text.now) result }
+    {
+        read::read(alloc, text)
     }
 
     /// A small plan with a group of each kind: registers 417, 418 and 509, two intra trunks, and two
     /// groups of outgoing ones.
+    #[tactic(auto, unfolding(crate::specs::Lawful::fault_in))]
     pub fn example(alloc: Global) -> Result<Self, AllocError>
         ensures { IfOk result (λ plan. plan ≡ the_example) }
     {
@@ -85,6 +92,19 @@ impl Plan {
             example::routes(alloc)?,
             Vec::new(alloc),
         ))
+    }
+
+    /// A TOML text of the plan in version 2 of its form, which reads back as the same plan.
+    pub fn version_2(&self, alloc: Global) -> Result<Vec<u8>, AllocError>
+        ensures { IfOk result (λ text. plan_of text.items ≡ Ok self.now) }
+    {
+        write::version_2(
+            alloc,
+            &self.groups,
+            &self.stations,
+            &self.routes,
+            &self.faults,
+        )
     }
 
     /// 1 to 16.
@@ -107,6 +127,7 @@ impl Plan {
     /// The number of the only group of registers.
     pub fn register_group(&self) -> u8
         ensures group { result ≡ register_group_of self.now }
+        ensures range { result < 16 }
         ensures lawful { IsLawful self.now }
     {
         register_position(&self.groups).unwrap_or(0) as u8

@@ -134,7 +134,6 @@ fn lawful_tables_make_a_plan(rt: HostRuntime) -> Result<(), Fail> {
             Link::new(LinkKind::Junctor, 3, 4, 5),
         ]?,
     )?;
-    let plan = plan.ok_or("lawful")?;
     for (channel, faulty) in [(0, true), (1, false), (5, true)] {
         let junctor = Link::new(LinkKind::Junctor, 3, 4, channel);
         assert_eq!(rt; plan.faulty(junctor), faulty, "{junctor}");
@@ -147,24 +146,39 @@ fn lawful_tables_make_a_plan(rt: HostRuntime) -> Result<(), Fail> {
 }
 
 #[test]
-fn unlawful_groups_make_none(rt: HostRuntime) -> Result<(), Fail> {
+fn faults_of_groups_are_told(rt: HostRuntime) -> Result<(), Fail> {
     let alloc = rt.alloc();
     let [register, intra, outgoing] = KINDS;
     let changed = [
-        ("no register", [outgoing, intra, outgoing], (6, 9), (8, 0)),
-        ("two", [register, intra, register], (6, 9), (8, 0)),
         (
-            "a pair of registers",
+            PlanFault::Malformed,
             [outgoing, register, outgoing],
             (6, 9),
             (8, 0),
         ),
-        ("a single intra", [register, intra, intra], (6, 9), (8, 0)),
-        ("two frames", KINDS, (7, 9), (8, 0)),
-        ("a pair of one", KINDS, (6, 0), (8, 0)),
-        ("a place twice", KINDS, (6, 9), (6, 9)),
+        (
+            PlanFault::Malformed,
+            [register, intra, intra],
+            (6, 9),
+            (8, 0),
+        ),
+        (
+            PlanFault::RegisterGroups,
+            [outgoing, intra, outgoing],
+            (6, 9),
+            (8, 0),
+        ),
+        (
+            PlanFault::RegisterGroups,
+            [register, intra, register],
+            (6, 9),
+            (8, 0),
+        ),
+        (PlanFault::PlaceTwice, KINDS, (6, 0), (8, 0)),
+        (PlanFault::PlaceTwice, KINDS, (6, 9), (6, 9)),
+        (PlanFault::PairApart, KINDS, (7, 9), (8, 0)),
     ];
-    for (why, kinds, (called_frame, called_switch), (frame, switch)) in changed {
+    for (fault, kinds, (called_frame, called_switch), (frame, switch)) in changed {
         let groups = groups(
             alloc,
             kinds,
@@ -177,41 +191,69 @@ fn unlawful_groups_make_none(rt: HostRuntime) -> Result<(), Fail> {
             Vec::new(alloc),
             Vec::new(alloc),
             Vec::new(alloc),
-        )?;
-        assert!(rt; plan.is_none(), "{why}");
+        );
+        assert_eq!(rt; plan.err(), Some(fault));
     }
     Ok(())
 }
 
 #[test]
-fn unlawful_routes_and_numbers_make_none(rt: HostRuntime) -> Result<(), Fail> {
+fn faults_of_routes_and_numbers_are_told(rt: HostRuntime) -> Result<(), Fail> {
     let alloc = rt.alloc();
     let lawful = Ten::new(6, 9, 9);
     let routes = [
-        ("a code of four digits", 1000, [2, 2]),
-        ("the register group", 100, [2, 0]),
-        ("an unknown group", 100, [3, 2]),
-        ("mixed", 100, [1, 2]),
+        (PlanFault::Malformed, 1000, [2, 2]),
+        (PlanFault::MixedRoute, 100, [2, 0]),
+        (PlanFault::UnknownGroup, 100, [3, 2]),
+        (PlanFault::MixedRoute, 100, [1, 2]),
     ];
-    for (why, code, numbers) in routes {
+    for (fault, code, numbers) in routes {
         let plan = Plan::try_new(
             alloc,
             groups(alloc, KINDS, lawful, Ten::new(8, 0, 0))?,
             Vec::new(alloc),
             vec![in alloc; Route::new(code, numbers.to_vec(alloc)?)]?,
             Vec::new(alloc),
-        )?;
-        assert!(rt; plan.is_none(), "{why}");
+        );
+        assert_eq!(rt; plan.err(), Some(fault), "{code}");
     }
-    for (first, second, lawful_numbers) in [(1, 2, true), (1, 1, false)] {
+    for (first, second, fault) in [(1, 2, None), (1, 1, Some(PlanFault::NumberTwice))] {
         let line = Len::new(0, 0, 0);
         let stations = vec![in alloc;
             Station::new(DirNo::new(first), vec![in alloc; line]?),
             Station::new(DirNo::new(second), vec![in alloc; line, line]?),
         ]?;
         let groups = groups(alloc, KINDS, lawful, Ten::new(8, 0, 0))?;
-        let plan = Plan::try_new(alloc, groups, stations, Vec::new(alloc), Vec::new(alloc))?;
-        assert_eq!(rt; plan.is_some(), lawful_numbers);
+        let plan = Plan::try_new(alloc, groups, stations, Vec::new(alloc), Vec::new(alloc));
+        assert_eq!(rt; plan.err(), fault);
     }
+    Ok(())
+}
+
+#[test]
+fn faults_are_told_by_their_numbers(rt: HostRuntime) -> Result<(), Fail> {
+    let alloc = rt.alloc();
+    let faults = [
+        PlanFault::NotToml,
+        PlanFault::Version,
+        PlanFault::KeyMissing,
+        PlanFault::NotTexts,
+        PlanFault::Malformed,
+        PlanFault::Limit,
+        PlanFault::GroupTwice,
+        PlanFault::RegisterGroups,
+        PlanFault::PlaceTwice,
+        PlanFault::PairApart,
+        PlanFault::NumberTwice,
+        PlanFault::CodeTwice,
+        PlanFault::UnknownGroup,
+        PlanFault::MixedRoute,
+        PlanFault::Memory,
+    ];
+    let mut all = String::new(alloc);
+    for fault in faults {
+        all.push_str(format!(in alloc; "{fault} ")?.as_str())?;
+    }
+    assert!(rt; all.as_str() == "P1 P2 P3 P4 P5 P6 P7 P8 P9 P10 P11 P12 P13 P14 MEMORY ");
     Ok(())
 }

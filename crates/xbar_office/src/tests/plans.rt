@@ -2,7 +2,6 @@
 //! links out of order.
 
 use std::alloc::Global;
-use std::process::Abort;
 use std::test::Fail;
 use xbar_equip::{DirNo, Len, Link, Ten};
 use xbar_plan::{Group, GroupKind, Member, Plan, Route, Station};
@@ -75,7 +74,6 @@ fn links(alloc: Global, texts: &[&[u8]]) -> Result<Vec<Link>, Fail> {
 
 /// A plan with these registers, these lines of number 0002, and these links out of order.
 pub fn plan(
-    rt: &impl Abort,
     alloc: Global,
     registers: &[Places<'_>],
     second: &[&[u8]],
@@ -85,8 +83,5 @@ pub fn plan(
     let stations = stations(alloc, second)?;
     let routes = routes(alloc)?;
     let faults = links(alloc, faults)?;
-    match Plan::try_new(alloc, groups, stations, routes, faults)? {
-        Some(plan) => Ok(plan),
-        None => panic!(rt; "the plan is lawful"),
-    }
+    Ok(Plan::try_new(alloc, groups, stations, routes, faults)?)
 }

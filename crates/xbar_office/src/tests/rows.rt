@@ -44,7 +44,7 @@ const SECOND: &[&[u8]] = &[b"3052"];
 const HUNTED: &[&[u8]] = &[b"3052", b"3100"];
 
 fn run(rt: &impl Abort, alloc: Global, case: &Case<'_>) -> Result<(), Fail> {
-    let plan = plan(rt, alloc, case.registers, case.second, case.faults)?;
+    let plan = plan(alloc, case.registers, case.second, case.faults)?;
     let mut office = Office::open(alloc, &plan);
     for (kind, line, digits, wanted) in case.jobs {
         let reply = office.whole(job(*kind, line, digits)?)?;

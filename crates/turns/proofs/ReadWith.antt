@@ -1,0 +1,69 @@
+-- scripts that go on by each word's value as something makes it
+use Rattle.std.proofs.Common.{◌≡◌, ℕ, zero, suc, Bool, true, false, List, [], ◌∷◌, ◌++◌, refl, sym, ◌∙◌, ap}
+use Rattle.std.specs.Prelude.{Option, Some, None, ◌==◌, find, option_map, slice_index, if◌then◌else◌}
+use Rattle.std.proofs.lemmas.Bool.{eqb-true}
+use Rattle.turns.specs.Seen.{Seen, changed_readings}
+use Rattle.turns.specs.Script.{Script, Ends, Tests, Seizes, AsksAtMost, run, read_with, is_held, value_read, left, left_of_test, left_of_seizing, first_wanted, walk}
+use Rattle.turns.specs.System.{System, KeepsTo}
+use Rattle.turns.specs.declared.reading.Reading.{Reading}
+
+-- such a script ends as the plain one does on words that are made so
+pub run_read_with : {Lock A : Type 0} (words other : List ℕ) (change : ℕ → ℕ → ℕ) (script : Script Lock A) → ((word : ℕ) → slice_index other word ≡ change word (slice_index words word)) → run words (read_with change script) ≡ run other script
+unfolding run read_with
+run_read_with words other change (Ends found) made = refl
+run_read_with words other change (Tests word script) made =
+    run_read_with words other change (script (change word (slice_index words word))) made ∙ ap (λ (value : ℕ). run other (script value)) (sym (made word))
+run_read_with words other change (Seizes lock script) made = run_read_with words other change script made
+
+-- what was read in a word, made so
+pub value_read-changed : (change : ℕ → ℕ → ℕ) (readings : List (Reading ℕ)) (word : ℕ) → value_read (changed_readings change readings) word ≡ option_map (change word) (value_read readings word)
+unfolding value_read
+value_read-changed change [] word = refl
+value_read-changed change (reading ∷ readings) word = at (reading.word == word) refl (value_read-changed change readings word) where
+  at : (b : Bool) → (reading.word == word) ≡ b → value_read (changed_readings change readings) word ≡ option_map (change word) (value_read readings word)
+      → option_map (λ (r : Reading ℕ). r.value) (if b then Some (record { word = reading.word; value = change reading.word reading.value }) else find (λ (r : Reading ℕ). r.word == word) (changed_readings change readings))
+      ≡ option_map (change word) (option_map (λ (r : Reading ℕ). r.value) (if b then Some reading else find (λ (r : Reading ℕ). r.word == word) readings))
+  at true same later = ap (λ (w : ℕ). Some (change w reading.value)) (eqb-true reading.word word same)
+  at false other later = later
+
+module _ {Lock : Type 0} (same : Lock → Lock → Bool) where
+  -- its walk is that of the plain one over readings that are made so
+  pub walk_read_with : {A : Type 0} (seen : Seen Lock) (change : ℕ → ℕ → ℕ) (script : Script Lock A) → walk same seen (read_with change script) ≡ walk same (record { held = seen.held; readings = changed_readings change seen.readings }) script
+  unfolding walk left left_of_test left_of_seizing first_wanted read_with
+  walk_read_with seen change (Ends found) = refl
+  walk_read_with {A} seen change (Tests word script) =
+      at (value_read seen.readings word) (λ value. walk_read_with seen change (script value))
+      ∙ ap (λ (o : Option ℕ). first_wanted (left_of_test script (λ value. left same later (script value)) word o)) (sym (value_read-changed change seen.readings word)) where
+        later : Seen Lock
+        later = record { held = seen.held; readings = changed_readings change seen.readings }
+
+        at : (o : Option ℕ) → ((value : ℕ) → walk same seen (read_with change (script value)) ≡ walk same (record { held = seen.held; readings = changed_readings change seen.readings }) (script value))
+            → first_wanted (left_of_test (λ value. read_with change (script (change word value))) (λ value. left same seen (read_with change (script (change word value)))) word o)
+            ≡ first_wanted (left_of_test script (λ value. left same (record { held = seen.held; readings = changed_readings change seen.readings }) (script value)) word (option_map (change word) o))
+        at None same = refl
+        at (Some value) same = same (change word value)
+  walk_read_with {A} seen change (Seizes lock script) = at (is_held same seen.held lock) (walk_read_with seen change script) where
+    at : (b : Bool) → walk same seen (read_with change script) ≡ walk same (record { held = seen.held; readings = changed_readings change seen.readings }) script
+        → first_wanted (left_of_seizing (read_with change script) (left same seen (read_with change script)) lock b)
+        ≡ first_wanted (left_of_seizing script (left same (record { held = seen.held; readings = changed_readings change seen.readings }) script) lock b)
+    at false later = refl
+    at true later = later
+
+-- it asks for no more
+pub asks_read_with : {Lock A : Type 0} (change : ℕ → ℕ → ℕ) (tests seizings : ℕ) (script : Script Lock A) → AsksAtMost tests seizings script → AsksAtMost tests seizings (read_with change script)
+unfolding AsksAtMost read_with
+asks_read_with change tests seizings (Ends found) asks = tt
+asks_read_with change zero seizings (Tests word script) asks = asks
+asks_read_with change (suc tests) seizings (Tests word script) asks = λ value. asks_read_with change tests seizings (script (change word value)) (asks (change word value))
+asks_read_with change tests zero (Seizes lock script) asks = asks
+asks_read_with change tests (suc seizings) (Seizes lock script) asks = asks_read_with change tests seizings script asks
+
+module _ (O : System) where
+  open O use {Lock}
+
+  -- and it keeps to what the plain one keeps to
+  pub keeps_read_with : {A : Type 0} (Fits : List Lock → A → Type 0) (held : List Lock) (change : ℕ → ℕ → ℕ) (script : Script Lock A) → KeepsTo O Fits held script → KeepsTo O Fits held (read_with change script)
+  unfolding KeepsTo read_with
+  keeps_read_with Fits held change (Ends found) keeps = keeps
+  keeps_read_with Fits held change (Tests word script) keeps = (keeps.0, λ value. keeps_read_with Fits held change (script (change word value)) (keeps.1 (change word value)))
+  keeps_read_with Fits held change (Seizes lock script) keeps = (keeps.0, keeps_read_with Fits (held ++ lock ∷ []) change script keeps.1)

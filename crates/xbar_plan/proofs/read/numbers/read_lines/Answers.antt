@@ -1,0 +1,14 @@
+use Rattle.std.proofs.Common.{rules, ◌≡◌, [], ◌∷◌, ◌++◌, refl, inr, sym, ◌∙◌, ap}
+use Rattle.std.specs.Prelude.{Some}
+use Rattle.xbar_plan.specs.Texts.{line_of}
+use Rattle.xbar_plan.proofs.ReadAll.{read_more, read_fails}
+use Rattle.xbar_plan.proofs.read.numbers.read_lines.Goals as goal
+
+pub returns-in_default : goal.returns-in_default
+returns-in_default c =
+    inr (refl, read_fails (λ part. line_of part.now) c.args.parts.now c.loop-part.part-index _ c.loop-part-test.true (sym c.read_line.ensures ∙ c.in_default.is))
+
+pub loop-part-preserved : goal.loop-part-preserved
+loop-part-preserved c =
+    let kept : c.push.new.self.items ≡ c.loop-part.lines.items ++ c.in-Some.line ∷ [] = search rules in
+    read_more (λ part. line_of part.now) c.args.parts.now _ c.loop-part.part-index _ _ c.loop-part-test.true c.loop-part.invariant (sym c.read_line.ensures ∙ c.in-Some.is) ∙ ap (λ z. Some z) (sym kept)

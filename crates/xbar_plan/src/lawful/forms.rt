@@ -1,0 +1,107 @@
+//! Whether each group, number, code and fault has the form that a text gives it.
+
+ghost use Rattle.std.specs.Prelude.{◌≡◌, IfOk, IsTrue, nat_lt};
+ghost use Rattle.std.specs.List.{list_all};
+ghost use Rattle.xbar_equip.specs.Len.{is_line};
+ghost use Rattle.xbar_plan.specs.Lawful.{is_between as lies_between, is_name_character as is_letter_or_digit, is_name as is_group_name, has_its_places as has_own_places, is_well_formed_group as is_formed_group, are_in_range as are_tables_in_range, are_well_formed as are_tables_well_formed};
+
+use super::places::places_of;
+use crate::group::Group;
+use crate::route::Route;
+use crate::station::Station;
+use std::alloc::{AllocError, Global};
+use xbar_equip::Link;
+
+pub fn is_between(least: usize, most: usize, n: usize) -> bool
+    ensures { result ≡ lies_between least most n }
+{
+    least <= n && n <= most
+}
+
+fn is_name_character(byte: u8) -> bool
+    ensures { result ≡ is_letter_or_digit byte }
+{
+    byte.is_ascii_uppercase() || byte.is_ascii_digit()
+}
+
+fn are_name_characters(text: &[u8]) -> bool
+    ensures { result ≡ list_all is_letter_or_digit text.now }
+{
+    text.iter().all(|byte| is_name_character(*byte))
+}
+
+/// Whether a text is a group's name.
+pub fn is_name(name: &[u8]) -> bool
+    ensures { result ≡ is_group_name name.now }
+{
+    is_between(1, 8, name.len()) && are_name_characters(name)
+}
+
+fn has_its_places(group: &Group) -> bool
+    ensures { result ≡ has_own_places group.now }
+{
+    let paired = group.is_intra();
+    group
+        .members()
+        .iter()
+        .all(|member| member.second.is_some() == paired)
+}
+
+fn is_well_formed_group(group: &Group) -> bool
+    ensures { result ≡ is_formed_group group.now }
+{
+    is_name(group.name().as_bytes()) && has_its_places(group)
+}
+
+fn are_well_formed_groups(groups: &[Group]) -> bool
+    ensures { result ≡ list_all is_formed_group groups.now }
+{
+    groups.iter().all(is_well_formed_group)
+}
+
+fn have_three_digits(routes: &[Route]) -> bool
+    ensures { result ≡ list_all (λ route. nat_lt route.code 1000) routes.now }
+{
+    routes.iter().all(|route| route.code() < 1000)
+}
+
+/// States the ranges that each `DirNo` and each `Len` keeps. It does nothing else.
+fn know_stations(stations: &[Station])
+    ensures numbers { IsTrue (list_all (λ station. nat_lt station.number 10000) stations.now) }
+    ensures lines { IsTrue (list_all (λ station. list_all is_line station.lines) stations.now) }
+{
+    for station in stations {
+        let _number = station.number().number();
+        xbar_equip::laws::lines_are_in_range(station.lines());
+    }
+}
+
+/// Places, numbers, lines and links are in range by their types, so that codes alone are looked at.
+fn are_in_range(
+    alloc: Global,
+    groups: &[Group],
+    stations: &[Station],
+    routes: &[Route],
+    faults: &[Link],
+) -> Result<bool, AllocError>
+    ensures { IfOk result (λ holds. holds ≡ are_tables_in_range (record { groups = groups.now; stations = stations.now; routes = routes.now; faults = faults.now })) }
+{
+    let places = places_of(alloc, groups)?;
+    xbar_equip::laws::places_are_in_range(&places);
+    know_stations(stations);
+    xbar_equip::laws::links_are_in_range(faults);
+    Ok(have_three_digits(routes))
+}
+
+pub fn are_well_formed(
+    alloc: Global,
+    groups: &[Group],
+    stations: &[Station],
+    routes: &[Route],
+    faults: &[Link],
+) -> Result<bool, AllocError>
+    ensures { IfOk result (λ holds. holds ≡ are_tables_well_formed (record { groups = groups.now; stations = stations.now; routes = routes.now; faults = faults.now })) }
+{
+    let in_range = are_in_range(alloc, groups, stations, routes, faults)?;
+    Ok(are_well_formed_groups(groups) && in_range)
+}

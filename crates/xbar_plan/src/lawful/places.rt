@@ -1,0 +1,79 @@
+//! What is asked of the trunk places of members.
+
+ghost use Rattle.std.specs.Prelude.{◌≡◌, ◌++◌, IfOk, OnOk, map};
+ghost use Rattle.std.specs.List.{list_all};
+ghost use Rattle.xbar_plan.specs.Lawful.{is_on_one_frame as stands_on_one_frame, group_places, all_places, are_places_distinct as are_places_apart, are_pairs_on_one_frame as are_pairs_on_frames};
+ghost use Rattle.xbar_plan.specs.Numbered.{place_number};
+
+use super::distinct::are_numbers_distinct;
+use crate::group::{Group, Member};
+use std::alloc::{AllocError, Global};
+use xbar_equip::Ten;
+
+fn push_places(places: &mut Vec<Ten>, group: &Group) -> Result<(), AllocError>
+    ensures { OnOk result (places.new.items ≡ places.old.items ++ group_places group.now) }
+{
+    for member in group.members() {
+        places.push(member.first)?;
+        if let Some(second) = member.second {
+            places.push(second)?;
+        }
+    }
+    Ok(())
+}
+
+/// The places of all members of all groups.
+pub fn places_of(alloc: Global, groups: &[Group]) -> Result<Vec<Ten>, AllocError>
+    ensures { IfOk result (λ places. places.items ≡ all_places groups.now) }
+{
+    let mut places = Vec::new(alloc);
+    for group in groups {
+        push_places(&mut places, group)?;
+    }
+    Ok(places)
+}
+
+/// A number for each place, and another for each other place.
+fn number_of(place: Ten) -> u16
+    ensures { result ≡ place_number place }
+{
+    xbar_equip::laws::place_is_in_range(place);
+    100 * u16::from(place.frame()) + 10 * u16::from(place.switch()) + u16::from(place.appearance())
+}
+
+fn numbers_of(alloc: Global, places: &[Ten]) -> Result<Vec<u16>, AllocError>
+    ensures { IfOk result (λ numbers. numbers.items ≡ map place_number places.now) }
+{
+    places.iter().map(|place| number_of(*place)).collect(alloc)
+}
+
+pub fn are_places_distinct(alloc: Global, groups: &[Group]) -> Result<bool, AllocError>
+    ensures { IfOk result (λ distinct. distinct ≡ are_places_apart groups.now) }
+{
+    let places = places_of(alloc, groups)?;
+    xbar_equip::laws::places_are_in_range(&places);
+    let numbers = numbers_of(alloc, &places)?;
+    are_numbers_distinct(alloc, &numbers)
+}
+
+fn is_on_one_frame(member: Member) -> bool
+    ensures { result ≡ stands_on_one_frame member }
+{
+    match member.second {
+        None => true,
+        Some(second) => second.frame() == member.first.frame(),
+    }
+}
+
+fn is_each_on_one_frame(group: &Group) -> bool
+    ensures { result ≡ list_all stands_on_one_frame group.now.members }
+{
+    let members = group.members();
+    members.iter().all(|member| is_on_one_frame(*member))
+}
+
+pub fn are_pairs_on_one_frame(groups: &[Group]) -> bool
+    ensures { result ≡ are_pairs_on_frames groups.now }
+{
+    groups.iter().all(is_each_on_one_frame)
+}
