@@ -15,7 +15,7 @@ use Rattle.turns.proofs.Moving.{keeps}
 use Rattle.xbar_equip.specs.declared.conn.Conn.{Conn}
 use Rattle.xbar_plan.specs.Tables.{Tables}
 use Rattle.xbar_plan.specs.Lawful.{IsLawful}
-use Rattle.xbar_office.specs.Legal.{IsDialJob}
+use Rattle.xbar_office.specs.Legal.{IsJob}
 use Rattle.xbar_office.specs.declared.job.Job.{Job}
 use Rattle.xbar_office.specs.declared.reply.Record.{Record}
 use Rattle.xbar_office.specs.declared.reply.Reply.{Reply}
@@ -189,7 +189,7 @@ module _ (plan : Tables) where
         let found : ℕ = found_by office.words a in
         let answer : Answer = answer_of 0 (next_step a) office.words in
         let lawful = subst (λ (m : ActorOf (office_of plan)). Lawful (office_of plan) (world office m)) here was.lawful in
-        let in_range : IsDialJob a.job = (lawful.sound 0 n a refl).job in
+        let in_range : IsJob a.job = (lawful.sound 0 n a refl).job in
         let same = moved_is office work in
         let size : length (map turned (stepped_at plan office (Some work)).records) ≡ length (map turned office.records) + length (added_in (office_of plan) 0 n a a.phase found) =
         ap (λ (w : World (office_of plan)). length w.order) (sym same) ∙ length-append (map turned office.records) (added_in (office_of plan) 0 n a a.phase found) in

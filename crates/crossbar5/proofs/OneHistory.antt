@@ -22,10 +22,9 @@ use Rattle.xbar_equip.specs.declared.path.Path.{Path}
 use Rattle.xbar_plan.specs.Tables.{Tables}
 use Rattle.xbar_plan.specs.Lawful.{IsLawful}
 use Rattle.xbar_match.proofs.CountedPaths.{counted}
-use Rattle.xbar_office.specs.Legal.{AreJobs, HaveReplies, HaveTurns, IsDialJob, IsJob, after, after_jobs, jobs_of}
+use Rattle.xbar_office.specs.Legal.{AreJobs, HaveReplies, HaveTurns, IsJob, after, after_jobs, jobs_of}
 use Rattle.xbar_office.specs.Whole.{whole}
 use Rattle.xbar_office.specs.declared.job.Job.{Job}
-use Rattle.xbar_office.specs.declared.job.Job.TheVariants.{Dial, Complete, Release}
 use Rattle.xbar_office.specs.declared.reply.Record.{Record}
 use Rattle.xbar_jobs.specs.Attempt.{Attempt, Phase, fresh}
 use Rattle.xbar_jobs.specs.Office.{ShowsOffice, office as office_of}
@@ -61,12 +60,6 @@ bare_in a (Withdraws conn) e = absurd cc
 bare_in a GivesBack e = bare_freed a.held e
 bare_in a (Operates turn) e = bare_closed a.effects a.held e
 
--- a dial tone job is a job
-dial_is_job : (job : Job) → IsDialJob job → IsJob job
-dial_is_job (Dial line) in_range = in_range
-dial_is_job (Complete line dialled) in_range = absurd in_range
-dial_is_job (Release line) in_range = absurd in_range
-
 length-turned : (records : List Record) → length (map turned records) ≡ length records
 length-turned [] = refl
 length-turned (r ∷ records) = ap suc (length-turned records)
@@ -83,7 +76,7 @@ module _ (plan : Tables) where
 
   jobs_legal : (i : ℕ) (paths : List Path) (records : List Record) → law.IsLegal (office_of plan) i paths (map turned records) → AreJobs (jobs_of records)
   jobs_legal i paths [] legal = tt
-  jobs_legal i paths (r ∷ records) legal = (dial_is_job r.job legal.0, jobs_legal (suc i) (whole plan paths r.job).paths records legal.3)
+  jobs_legal i paths (r ∷ records) legal = (legal.0, jobs_legal (suc i) (whole plan paths r.job).paths records legal.3)
 
   replies_legal : (i : ℕ) (paths : List Path) (records : List Record) → law.IsLegal (office_of plan) i paths (map turned records) → HaveReplies plan paths records
   replies_legal i paths [] legal = tt
@@ -115,7 +108,7 @@ module _ (plan : Tables) where
     opened_holds left fits = record { actor = Idle; lawful = opens (office_of plan) (office_is plan laws) 1 (omega arith); at = tt; few = omega arith }
 
     -- an idle marker takes a job
-    begun_holds : (left more job_no : ℕ) (office : Office) (job : Job) → IsDialJob job → left < more → office.work ≡ None → Holds plan more office → Holds plan left (record office { work = Some (record { job_no = job_no; program = fresh job }) })
+    begun_holds : (left more job_no : ℕ) (office : Office) (job : Job) → IsJob job → left < more → office.work ≡ None → Holds plan more office → Holds plan left (record office { work = Some (record { job_no = job_no; program = fresh job }) })
     begun_holds left more job_no office job in_range less idle was =
         let free = subst (λ (work : Option Work). IsAt plan was.actor work) idle was.at in
         record {

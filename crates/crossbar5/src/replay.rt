@@ -2,7 +2,7 @@
 
 ghost use Rattle.std.specs.Prelude.{◌≡◌, ◌++◌, IfOk, OnOk, Some, length, option_to_list};
 ghost use Rattle.xbar_equip.specs.Word.{word_count};
-ghost use Rattle.xbar_office.specs.Legal.{IsDialJob};
+ghost use Rattle.xbar_office.specs.Legal.{IsJob};
 ghost use Rattle.xbar_jobs.specs.Attempt.{fresh, next_step};
 ghost use Rattle.xbar_jobs.specs.Standing.{Stands};
 ghost use Rattle.xbar_traffic.specs.Row.{IsRow};
@@ -97,7 +97,7 @@ impl<'p> Replay<'p> {
     }
 
     fn assign(&mut self, job_no: u32, job: &Job)
-        requires { IsDialJob job.now }
+        requires { IsJob job.now }
         ensures { self.new ≡ record self.old { office = record self.old.office { work = Some (record { job_no = job_no; program = fresh job.now }) } } }
     {
         xbar_plan::laws::every_plan_is_lawful(self.plan);

@@ -3,7 +3,7 @@
 ghost use Rattle.std.specs.Prelude.{◌≡◌, ◌≢◌, ◌↔◌, IsTrue, None, length, option_to_list};
 ghost use Rattle.turns.specs.Attempt.{reply_in};
 ghost use Rattle.xbar_equip.specs.Word.{word_count};
-ghost use Rattle.xbar_office.specs.Legal.{IsDialJob};
+ghost use Rattle.xbar_office.specs.Legal.{IsJob};
 ghost use Rattle.xbar_jobs.specs.Attempt.{next_step, fresh};
 ghost use Rattle.xbar_jobs.specs.Standing.{Stands};
 ghost use Rattle.xbar_plan.specs.Lawful.{IsLawful};
@@ -36,7 +36,7 @@ impl Model for Work {
 
 impl Work {
     pub fn begin(job_no: u32, job: Job) -> Self
-        requires { IsDialJob job }
+        requires { IsJob job }
         ensures work { result ≡ record { job_no = job_no; program = fresh job } }
         ensures plan { (plan : Tables) → IsLawful plan → IsWorking plan result }
     {

@@ -6,7 +6,7 @@ use Rattle.turns.specs.Among.{IsIn}
 use Rattle.turns.specs.System.{System, IsSystem, IsUnder}
 use Rattle.turns.specs.Attempt.{AttemptOf, act}
 use Rattle.turns.specs.World.{World, ActorOf, Idle, Does, left_of, made, completed, after, moved, place}
-use Rattle.turns.specs.Law.{Lawful, holder_at}
+use Rattle.turns.specs.Law.{IsRecorded, FitsIn, IsOperating, Lawful, WasDecided, holder_at}
 use Rattle.turns.specs.declared.phase.Phase.{Phase}
 use Rattle.turns.specs.declared.phase.Phase.TheVariants.{Requests, Seizes, Tests, Turns, Withdraws, GivesBack, Operates}
 use Rattle.turns.specs.declared.reading.Reading.{Reading}
@@ -73,3 +73,9 @@ module _ (O : System) (system : IsSystem O) (w : World O) (law : Lawful O w) whe
 
     pub spared : (a : AttemptOf O) (n : ℕ) (lock : Lock) → get_elem? w.actors k ≡ some (Does number a) → Protects lock n → ¬ IsIn lock a.held → slice_index (moved O k number a w).words n ≡ slice_index w.words n
     spared a n lock there p apart = index_other w.words _ n _ (λ e. apart (alone a lock there (subst (Protects lock) e p)))
+
+-- what was decided at a turn was decided on words that show the state before it
+pub decided_before : (O : System) (w : World O) (k number : ℕ) (a : AttemptOf O) (turn : ℕ) → Lawful O w → get_elem? w.actors k ≡ some (Does number a) → a.phase ≡ Operates turn → (known : IsRecorded O w.order k number turn a) × WasDecided O w.order known.place a
+decided_before O w k number a turn law there at =
+    let fits : IsOperating O w.words w.order k number turn a = subst (FitsIn O w k number a) at (law.sound k number a there).fits in
+    (fits.recorded, fits.decided)

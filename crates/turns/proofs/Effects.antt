@@ -1,4 +1,4 @@
-use Rattle.std.proofs.Common.{◌≡◌, ◌≢◌, ℕ, ◌<◌, ◌≤◌, ◌⊎◌, List, ◌∷◌, length, set, slice_index, slice_set, sym, refl, ap, inl, inr, ◌∙◌, subst, length-set}
+use Rattle.std.proofs.Common.{◌≡◌, ◌≢◌, ℕ, ◌<◌, ◌≤◌, ◌⊎◌, List, [], ◌∷◌, ◌++◌, length, set, slice_index, slice_set, sym, refl, ap, inl, inr, ◌∙◌, subst, length-set, append_assoc}
 use Rattle.std.specs.Prelude.{Option}
 use mathlib.Core.Option.{some}
 use lib.ListN.{get_elem?}
@@ -74,6 +74,7 @@ module _ (O : System) (system : IsSystem O) (w : World O) (law : Lawful O w) (k 
     own =
         let s = law.sound k number old there in
         let known = fits.recorded in
+        let decided = fits.decided in
         record {
           job = s.job;
           held = λ lock within. let h = s.held lock within in record { there = h.there; names = holders lock h.there ∙ h.names };
@@ -84,6 +85,7 @@ module _ (O : System) (system : IsSystem O) (w : World O) (law : Lawful O w) (k 
             under = λ e within. fits.under e (inr within);
             due = fits.due.1;
             recorded = record { place = known.place; recorded = known.recorded; stands = known.stands; turn_is = known.turn_is; actor = known.actor; number_is = known.number_is; job = known.job; reply = known.reply };
+            decided = record { words = decided.words; size = decided.size; shows = decided.shows; made = decided.made ++ effect ∷ []; effects = decided.effects ∙ sym (append_assoc decided.made (effect ∷ []) effects) };
           };
         }
 

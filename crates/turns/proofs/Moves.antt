@@ -161,6 +161,7 @@ module _ (O : System) (system : IsSystem O) (w : World O) (law : Lawful O w) (k 
         let a = attempt O (Operates turn) job readings (c ∷ rest) reply [] in
         let s = law.sound k number a there in
         let known = s.fits.recorded in
+        let decided = s.fits.decided in
         let stands : Stands O (record a { held = rest }) = stands_change O system a Done s.job s.stands in
         same_order _ _ (frees_first a there c rest refl (record a { held = rest }) refl refl refl refl (λ h. record {
           job = h.job;
@@ -172,6 +173,7 @@ module _ (O : System) (system : IsSystem O) (w : World O) (law : Lawful O w) (k 
             under = λ effect none. absurd none;
             due = tt;
             recorded = record { place = known.place; recorded = known.recorded; stands = known.stands; turn_is = known.turn_is; actor = known.actor; number_is = known.number_is; job = known.job; reply = known.reply };
+            decided = record { words = decided.words; size = decided.size; shows = decided.shows; made = decided.made; effects = decided.effects };
           };
         }))
 

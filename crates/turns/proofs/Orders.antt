@@ -1,5 +1,5 @@
 use Rattle.std.proofs.Common.{◌≡◌, ℕ, zero, suc, ◌+◌, ◌%◌, ◌^◌, List, [], ◌∷◌, ◌++◌, length, refl, ap, ◌∙◌, arith}
-use Rattle.std.specs.Prelude.{Some, slice_get}
+use Rattle.std.specs.Prelude.{Some, slice_get, take}
 use Rattle.std.proofs.Math.Nat.{mod-add-mod}
 use Rattle.turns.specs.System.{System}
 use Rattle.turns.specs.World.{RecordOf, after}
@@ -22,6 +22,17 @@ pub get_before : {A : Type 0} (xs more : List A) (i : ℕ) (x : A) → slice_get
 get_before [] more i x e = absurd cc
 get_before (y ∷ xs) more zero x e = e
 get_before (y ∷ xs) more (suc i) x e = get_before xs more i x e
+
+-- what comes before an item is the same in a list that has the same items at their places
+pub take_before : {A : Type 0} (xs ys : List A) (i : ℕ) (x : A) → ((j : ℕ) (y : A) → slice_get xs j ≡ Some y → slice_get ys j ≡ Some y) → slice_get xs i ≡ Some x → take i ys ≡ take i xs
+take_before xs ys zero x on e = refl
+take_before [] ys (suc i) x on e = absurd cc
+take_before (y ∷ xs) [] (suc i) x on e = let there = on zero y refl in absurd cc
+take_before (y ∷ xs) (z ∷ ys) (suc i) x on e =
+    let there = on zero y refl in
+    let same : z ≡ y = cc in
+    let rest : take i ys ≡ take i xs = take_before xs ys i x (λ j. on (suc j)) e in
+    cc
 
 module _ (O : System) where
   open O use {State, whole}

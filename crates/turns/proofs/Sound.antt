@@ -1,10 +1,10 @@
-use Rattle.std.proofs.Common.{◌≡◌, ℕ, List, [], ◌∷◌, slice_index, length, refl, ap, ◌∙◌, subst}
+use Rattle.std.proofs.Common.{◌≡◌, ℕ, List, [], ◌∷◌, slice_index, length, refl, sym, ap, ◌∙◌, subst}
 use Rattle.std.specs.Prelude.{Result, Ok, Err, Some, None, true, slice_get}
 use Rattle.turns.specs.Among.{IsIn, AreDistinct}
 use Rattle.turns.specs.System.{System, IsSystem, IsUnder, AreUnder, DecidesUnder}
 use Rattle.turns.specs.Attempt.{AttemptOf, Stands, left_in, request_in, come_to, goes_on, walks_on, begin, freed, put_off}
-use Rattle.turns.specs.World.{World, RecordOf}
-use Rattle.turns.specs.Law.{holder_at, FitsIn, IsHeld, IsRead, IsRecorded, IsSound}
+use Rattle.turns.specs.World.{World, RecordOf, after}
+use Rattle.turns.specs.Law.{holder_at, FitsIn, IsHeld, IsRead, IsRecorded, IsSound, WasDecided}
 use Rattle.turns.specs.declared.judgement.Judgement.{Judgement}
 use Rattle.turns.specs.declared.judgement.Judgement.TheVariants.{Free, Held, Preferred}
 use Rattle.turns.specs.declared.phase.Phase.{Phase}
@@ -14,6 +14,7 @@ use Rattle.turns.specs.declared.wanted.Wanted.{Wanted}
 use Rattle.turns.specs.declared.wanted.Wanted.TheVariants.{Seize, Test}
 use Rattle.turns.proofs.Completed.{due_along}
 use Rattle.turns.proofs.Keeping.{WalkFits, under_more}
+use Rattle.turns.proofs.Orders.{take_before}
 use Rattle.turns.proofs.Standing.{come_fits, stands_begin}
 
 module _ (O : System) where
@@ -37,8 +38,18 @@ module _ (O : System) where
   has_sound w k number a sound = record { job = sound.job; held = sound.held; distinct = sound.distinct }
 
   -- a turn that stands in the order stands in an order that goes on
-  recorded_along : (order other : List (RecordOf O)) (k number turn : ℕ) (a : AttemptOf O) → ((i : ℕ) (r : RecordOf O) → slice_get order i ≡ Some r → slice_get other i ≡ Some r) → IsRecorded O order k number turn a → IsRecorded O other k number turn a
+  abbrev recorded_along : (order other : List (RecordOf O)) (k number turn : ℕ) (a : AttemptOf O) → ((i : ℕ) (r : RecordOf O) → slice_get order i ≡ Some r → slice_get other i ≡ Some r) → IsRecorded O order k number turn a → IsRecorded O other k number turn a
   recorded_along order other k number turn a on known = record { place = known.place; recorded = known.recorded; stands = on known.place known.recorded known.stands; turn_is = known.turn_is; actor = known.actor; number_is = known.number_is; job = known.job; reply = known.reply }
+
+  -- and it was decided on the same state there
+  decided_along : (order other : List (RecordOf O)) (place : ℕ) (r : RecordOf O) (a : AttemptOf O) → ((i : ℕ) (x : RecordOf O) → slice_get order i ≡ Some x → slice_get other i ≡ Some x) → slice_get order place ≡ Some r → WasDecided O order place a → WasDecided O other place a
+  decided_along order other place r a on stands decided = record {
+    words = decided.words;
+    size = decided.size;
+    shows = subst (λ (before : List (RecordOf O)). O.Shows decided.words (after O O.opening before)) (sym (take_before order other place r on stands)) decided.shows;
+    made = decided.made;
+    effects = decided.effects;
+  }
 
   fits_along : (system : IsSystem O) (w v : World O) (k number : ℕ) (a : AttemptOf O) → Follows w v a.held → (p : Phase Lock ℕ) → FitsIn O w k number a p → FitsIn O v k number a p
   fits_along system w v k number a along (Requests lock) fits = fits
@@ -51,6 +62,7 @@ module _ (O : System) where
     under = fits.under;
     due = due_along O system a.held w.words v.words a.effects along.this along.that fits.under along.under fits.due;
     recorded = recorded_along w.order v.order k number turn a along.order fits.recorded;
+    decided = decided_along w.order v.order fits.recorded.place fits.recorded.recorded a along.order fits.recorded.stands fits.decided;
   }
 
   -- an attempt is sound in a world that follows for what it holds

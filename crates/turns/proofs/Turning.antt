@@ -1,13 +1,15 @@
 use Rattle.std.proofs.Common.{◌≡◌, ◌≢◌, ℕ, ◌+◌, ◌%◌, ◌^◌, ◌<◌, ◌≤◌, ◌⊎◌, List, [], ◌∷◌, ◌++◌, length, set, slice_index, slice_set, sym, refl, ap, inl, inr, ◌∙◌, subst, length-set, zero-add}
+use Rattle.std.proofs.Math.Seq.{take-append_seam}
 use Rattle.std.specs.Prelude.{Option, Some, None}
 use mathlib.Core.Option.{some}
 use lib.ListN.{get_elem?}
 use Rattle.turns.specs.Among.{IsIn}
+use Rattle.turns.specs.Script.{run}
 use Rattle.turns.specs.Seen.{AreReadFrom}
 use Rattle.turns.specs.System.{System, IsSystem, IsUnder, AreUnder, AreAlike, DecidesAs, perform_all, AreDue}
 use Rattle.turns.specs.Attempt.{AttemptOf, HasDecided, seen_of}
 use Rattle.turns.specs.World.{World, RecordOf, Does, made, completed, completed_word, after, recorded}
-use Rattle.turns.specs.Law.{IsRecorded, IsSound, Lawful, holder_at, word_at}
+use Rattle.turns.specs.Law.{IsRecorded, IsSound, Lawful, WasDecided, holder_at, word_at}
 use Rattle.turns.specs.declared.answer.Answer.TheVariants.{Turn as TurnNumber}
 use Rattle.turns.specs.declared.phase.Phase.TheVariants.{Turns}
 use Rattle.turns.specs.declared.reading.Reading.{Reading}
@@ -64,8 +66,22 @@ module _ (O : System) (system : IsSystem O) (w : World O) (law : Lawful O w) (k 
         let below = subst (λ (l : ℕ). r.word < l) (sym law.size) (system.words.word_there r.word h.under.lock h.under.protects) in
         completed_index O w r.word below ∙ only_one O w.actors k r.word (slice_index w.words r.word) (Does number old) there (others_spare O system w law k number old there r.word h.under) ∙ h.value
 
+    -- so its decision is that of its script on them
+    run_is : run words (O.script job) ≡ decided.decision
+    run_is = walk_run O.same words (seen_of old) (O.script job) decided.decision read decided.come
+
     decides : DecidesAs O words (whole state job) decided.decision
-    decides = subst (DecidesAs O words (whole state job)) (walk_run O.same words (seen_of old) (O.script job) decided.decision read decided.come) (system.decides job words state sound.job words_long law.shows)
+    decides = subst (DecidesAs O words (whole state job)) run_is (system.decides job words state sound.job words_long law.shows)
+
+    -- it was decided on the state that the order so far leaves
+    was_decided : (r : RecordOf O) → WasDecided O (w.order ++ r ∷ []) (length w.order) new
+    was_decided r = record {
+      words = words;
+      size = words_long;
+      shows = subst (λ (before : List (RecordOf O)). Shows words (after O O.opening before)) (sym (take-append_seam w.order (r ∷ []))) law.shows;
+      made = [];
+      effects = ap effects_of run_is ∙ sym decided.effects;
+    }
 
     abbrev other : List ℕ
     other = slice_set w.words O.turn_word ((found + 1) % 2 ^ 64)
@@ -113,8 +129,8 @@ module _ (O : System) (system : IsSystem O) (w : World O) (law : Lawful O w) (k 
         let below = subst (λ (l : ℕ). n < l) (sym law.size) (system.words.word_there n u.lock u.protects) in
         else_same n (no_turn O system n u.lock u.protects) ∙ sym (completed_index O w n below ∙ only_one O w.actors k n (slice_index w.words n) (Does number old) there (others_spare O system w law k number old there n u))
 
-    own : (order : List (RecordOf O)) → IsRecorded O order k number found new → IsSound O (then order) k number new
-    own order known = record {
+    own : (order : List (RecordOf O)) (known : IsRecorded O order k number found new) → WasDecided O order known.place new → IsSound O (then order) k number new
+    own order known was = record {
       job = sound.job;
       held = λ lock within. let h = sound.held lock within in record { there = h.there; names = holders lock h.there ∙ h.names };
       distinct = sound.distinct;
@@ -124,6 +140,7 @@ module _ (O : System) (system : IsSystem O) (w : World O) (law : Lawful O w) (k 
         under = under;
         due = due_along O system held words other effects words_long other_long under held_same (subst (λ (l : List Effect). AreDue O words l) (sym decided.effects) decides.due);
         recorded = known;
+        decided = was;
       };
     }
 
@@ -143,7 +160,7 @@ module _ (O : System) (system : IsSystem O) (w : World O) (law : Lawful O w) (k 
               ap (λ (m : ℕ). (m + 1) % 2 ^ 64) law.turn ∙ turn_more (length w.order) ∙ ap (λ (m : ℕ). m % 2 ^ 64) (sym (length_more w.order r));
           legal = legal_more O 0 O.opening w.order r law.legal (subst O.IsJob (sym is) sound.job) at answer;
           shows = subst (λ (s : State). Shows (completed O (then (w.order ++ r ∷ []))) s) last (system.looks (perform_all O words effects) (completed O (then (w.order ++ r ∷ []))) _ (alike_then (w.order ++ r ∷ [])) shown);
-          sound = all_sound O w k (Does number old) there other (w.order ++ r ∷ []) number new (own (w.order ++ r ∷ []) known)
+          sound = all_sound O w k (Does number old) there other (w.order ++ r ∷ []) number new (own (w.order ++ r ∷ []) known (was_decided r))
               (λ j i b apart at. sound_along O system w (then (w.order ++ r ∷ [])) j i b (record {
                 this = law.size;
                 that = other_long;

@@ -1,7 +1,8 @@
-use Rattle.std.specs.Prelude.{◌≡◌, ◌↔◌, ℕ, suc, ◌<◌, ◌≤◌, ◌^◌, ◌%◌, true, Some, List, [], ◌∷◌, length, slice_index, slice_get, ⊤}
+use Rattle.std.specs.Prelude.{◌≡◌, ◌↔◌, ℕ, suc, ◌<◌, ◌≤◌, ◌^◌, ◌%◌, true, Some, List, [], ◌∷◌, ◌++◌, length, take, slice_index, slice_get, ⊤}
 use mathlib.Core.Option.{some}
 use lib.ListN.{get_elem?}
 use Rattle.turns.specs.Among.{IsIn, AreDistinct}
+use Rattle.turns.specs.Script.{run}
 use Rattle.turns.specs.System.{System, IsUnder, AreUnder, AreDue}
 use Rattle.turns.specs.Attempt.{AttemptOf, Rest, Stands, act, read_in, request_in}
 use Rattle.turns.specs.World.{World, ActorOf, Idle, Does, RecordOf, completed, after}
@@ -11,7 +12,7 @@ use Rattle.turns.specs.declared.phase.Phase.TheVariants.{Requests, Seizes, Tests
 use Rattle.turns.specs.declared.reading.Reading.{Reading}
 
 module _ (O : System) where
-  open O use {Lock, Job, State, Effect, IsLock, IsJob, lock_word, sharing, whole, Shows}
+  open O use {Lock, Job, State, Effect, IsLock, IsJob, effects_of, lock_word, sharing, whole, Shows}
 
   -- a lock's own word; who holds the lock, by its word
   abbrev pub word_at : List ℕ → Lock → ℕ
@@ -36,11 +37,20 @@ module _ (O : System) where
     pub job : recorded.job ≡ a.job
     pub reply : a.reply ≡ Some recorded.reply
 
-  -- past its turn: the effects that are left are under what is held, each is due, and the turn is recorded
+  -- what was decided at a turn: the script's decision on some words that show the state before the turn, of whose effects those left are the end
+  pub record WasDecided (order : List (RecordOf O)) (place : ℕ) (a : AttemptOf O) : Type 0 where
+    pub words : List ℕ
+    pub size : length words ≡ O.size
+    pub shows : Shows words (after O O.opening (take place order))
+    pub made : List Effect
+    pub effects : effects_of (run words (O.script a.job)) ≡ made ++ a.effects
+
+  -- past its turn: the effects that are left are under what is held, each is due, the turn is recorded, and it was decided on the state before it
   pub record IsOperating (words : List ℕ) (order : List (RecordOf O)) (k number turn : ℕ) (a : AttemptOf O) : Type 0 where
     pub under : AreUnder O a.held a.effects
     pub due : AreDue O words a.effects
     pub recorded : IsRecorded order k number turn a
+    pub decided : WasDecided order recorded.place a
 
   -- what is expected of a lock's word is a word by which actor k, whose request stands there, may seize it
   pub record MaySeize (k expected : ℕ) : Type 0 where

@@ -8,8 +8,8 @@ ghost use Rattle.turns.specs.Seen.{Seen, AreReadFrom};
 ghost use Rattle.turns.specs.Script.{run, walk};
 ghost use Rattle.turns.specs.System.{System, IsSystem, IsUnder};
 ghost use Rattle.turns.specs.Attempt.{AttemptOf, IsAnswerTo, Make, Rest, Stands, IsSeizing, act, answered, begin, change, read_in, restarted};
-ghost use Rattle.turns.specs.World.{World, ActorOf, Does, moved, place, assigned, given_back, opened, completed, after, left_of, made, added};
-ghost use Rattle.turns.specs.Law.{Holds, HasRequested, IsFree, IsLegal, IsRecorded, Lawful, MaySeize, holder_at, word_at};
+ghost use Rattle.turns.specs.World.{World, ActorOf, RecordOf, Does, moved, place, assigned, given_back, opened, completed, after, left_of, made, added};
+ghost use Rattle.turns.specs.Law.{Holds, HasRequested, IsFree, IsLegal, IsRecorded, Lawful, MaySeize, WasDecided, holder_at, word_at};
 ghost use Rattle.turns.specs.Runs.{Move, AreMoves, run_of};
 ghost use Rattle.turns.specs.Bounds.{AreBounded, AreSteady, IsAside, stepped};
 ghost use Rattle.turns.specs.Sharing.{IsSharing};
@@ -70,15 +70,17 @@ pub fn words_are_their_holders<F: Family>()
 {}
 
 /// Past its turn an actor requests and seizes nothing, and its record stands in the order with its reply
-/// and its turn; the effects that it has left are the end of its decision's, as `Stands` says. No effect
-/// comes before the turn. While a request stands before the turn, the word that is expected of the lock
-/// is one by which the actor may seize it.
+/// and its turn; the effects that it has left are the end of its decision's, as `Stands` says, and what it
+/// decided is what its script decides on words that show the state before its turn. No effect comes before
+/// the turn. While a request stands before the turn, the word that is expected of the lock is one by which
+/// the actor may seize it.
 pub fn attempts_keep_their_order<F: Family>()
     ensures seizes { (setting : F.Setting) → let O = F.system setting in (a : AttemptOf O) (turn : ℕ) → a.phase ≡ Phase.Operates turn → ¬ IsSeizing (act a) }
     ensures stays { (setting : F.Setting) → let O = F.system setting in (a : AttemptOf O) (turn : ℕ) (answer : Answer) → a.phase ≡ Phase.Operates turn → (change O a answer).phase ≡ Phase.Operates turn }
     ensures restart { (setting : F.Setting) → let O = F.system setting in (a : AttemptOf O) (turn : ℕ) → a.phase ≡ Phase.Operates turn → restarted O a ≡ a }
     ensures effects { (setting : F.Setting) → let O = F.system setting in (a : AttemptOf O) (effect : O.Effect) → act a ≡ Make effect → (turn : ℕ) × (a.phase ≡ Phase.Operates turn) }
     ensures recorded { (setting : F.Setting) → let O = F.system setting in (w : World O) (k number : ℕ) (a : AttemptOf O) (turn : ℕ) → Lawful O w → get_elem? w.actors k ≡ some (Does number a) → a.phase ≡ Phase.Operates turn → IsRecorded O w.order k number turn a }
+    ensures decided { (setting : F.Setting) → let O = F.system setting in (w : World O) (k number : ℕ) (a : AttemptOf O) (turn : ℕ) → Lawful O w → get_elem? w.actors k ≡ some (Does number a) → a.phase ≡ Phase.Operates turn → (known : IsRecorded O w.order k number turn a) × WasDecided O w.order known.place a }
     ensures expected { (setting : F.Setting) → let O = F.system setting in (w : World O) (k number : ℕ) (a : AttemptOf O) (lock : O.Lock) (expected : ℕ) → Lawful O w → get_elem? w.actors k ≡ some (Does number a) → a.phase ≡ Phase.Seizes lock expected → MaySeize O k expected }
     ensures answers { (setting : F.Setting) → let O = F.system setting in (k : ℕ) (a : AttemptOf O) (found : ℕ) → act a ≢ Rest → IsAnswerTo (act a) (answered O k (act a) found) }
 {}

@@ -23,7 +23,7 @@ use Rattle.xbar_jobs.specs.Script.{Seen, Wanted}
 use Rattle.xbar_jobs.specs.Standing.{AreConns, HasRoom, HasRoomIn, IsPhase, most_readings, most_held}
 use Rattle.xbar_jobs.specs.declared.decision.Decision.{Decision}
 use Rattle.xbar_jobs.specs.declared.effect.Effect.{Effect}
-use Rattle.xbar_jobs.proofs.DialBounds.{script_asks}
+use Rattle.xbar_jobs.proofs.JobBounds.{script_asks}
 use Rattle.xbar_jobs.proofs.ReadOnce.{wants_unread}
 
 -- an attempt that has room for what its script wants next has room for what is left then
@@ -59,7 +59,7 @@ room_read plan a reading come fits =
 
 -- one that has just begun has room for all of its script
 pub room_begin : (plan : Tables) (job : Job) → IsLawful plan → HasRoom plan (begin_with (first_conn job) job)
-room_begin plan job laws = left_asks conn_eq conn_eq-itself (record { held = []; readings = [] }) most_readings most_held (script plan job) (script_asks plan job)
+room_begin plan job laws = left_asks conn_eq conn_eq-itself (record { held = []; readings = [] }) most_readings most_held (script plan job) (script_asks plan job laws)
 
 room_freed : (plan : Tables) (a : Attempt) (held : List Conn) → IsLawful plan → HasRoomIn plan (freed (office plan) a held) (freed (office plan) a held).phase
 room_freed plan a [] laws = room_begin plan a.job laws

@@ -5,7 +5,7 @@ use Rattle.turns.specs.declared.answer.Answer.{Answer}
 use Rattle.turns.proofs.Standing.{stands_begin, stands_change, stands_restarted}
 use Rattle.xbar_plan.specs.Tables.{Tables}
 use Rattle.xbar_plan.specs.Lawful.{IsLawful}
-use Rattle.xbar_office.specs.Legal.{IsDialJob}
+use Rattle.xbar_office.specs.Legal.{IsJob}
 use Rattle.xbar_office.specs.declared.job.Job.{Job}
 use Rattle.xbar_jobs.specs.Attempt.{Attempt}
 use Rattle.xbar_jobs.specs.Jobs.{first_conn}
@@ -14,17 +14,17 @@ use Rattle.xbar_jobs.specs.Standing.{Stands}
 use Rattle.xbar_jobs.proofs.AttemptRoom.{few_change, few_restarted, room_begin, room_change, room_restarted}
 use Rattle.xbar_jobs.proofs.OfficeSystem.{office_is}
 
-pub stands_begun : (plan : Tables) (job : Job) → IsLawful plan → IsDialJob job → Stands plan (begin_with (first_conn job) job)
+pub stands_begun : (plan : Tables) (job : Job) → IsLawful plan → IsJob job → Stands plan (begin_with (first_conn job) job)
 stands_begun plan job laws in_range = record { comes = stands_begin (office plan) (office_is plan laws) job in_range; few = omega arith; room = room_begin plan job laws }
 
-pub stands_after : (plan : Tables) (a : Attempt) (answer : Answer) → IsLawful plan → IsDialJob a.job → Stands plan a → Stands plan (change (office plan) a answer)
+pub stands_after : (plan : Tables) (a : Attempt) (answer : Answer) → IsLawful plan → IsJob a.job → Stands plan a → Stands plan (change (office plan) a answer)
 stands_after plan a answer laws in_range stands = record {
   comes = stands_change (office plan) (office_is plan laws) a answer in_range stands.comes;
   few = few_change plan a answer stands.comes stands.room stands.few;
   room = room_change plan a answer laws stands.comes stands.room;
 }
 
-pub stands_again : (plan : Tables) (a : Attempt) → IsLawful plan → IsDialJob a.job → Stands plan a → Stands plan (restarted (office plan) a)
+pub stands_again : (plan : Tables) (a : Attempt) → IsLawful plan → IsJob a.job → Stands plan a → Stands plan (restarted (office plan) a)
 stands_again plan a laws in_range stands = record {
   comes = stands_restarted (office plan) (office_is plan laws) a in_range stands.comes;
   few = few_restarted plan a stands.few;

@@ -18,7 +18,7 @@ use Rattle.xbar_office.proofs.TakenMembers.{CanTake, own-take, others-take}
 use Rattle.xbar_jobs.specs.Office.{is_busy_at}
 
 -- places that are as idle in one set as in another are all idle in both or in neither
-as_idle : (paths more : List Path) (own : List TrunkPlace) → ((place : TrunkPlace) → IsIn place own → is_idle (has_place place) more ≡ is_idle (has_place place) paths)
+pub as_idle : (paths more : List Path) (own : List TrunkPlace) → ((place : TrunkPlace) → IsIn place own → is_idle (has_place place) more ≡ is_idle (has_place place) paths)
     → list_all (λ place. is_idle (has_place place) more) own ≡ list_all (λ place. is_idle (has_place place) paths) own
 as_idle paths more [] same = refl
 as_idle paths more (p ∷ own) same =
@@ -26,7 +26,7 @@ as_idle paths more (p ∷ own) same =
     ∙ ap (λ b. is_idle (has_place p) paths && b) (as_idle paths more own (λ place within. same place (inr within)))
 
 -- whether a member that was found is busy
-abbrev busy_of : List Path → Option Member → Bool
+abbrev pub busy_of : List Path → Option Member → Bool
 busy_of paths found = option_map_or (λ member. not (is_member_idle paths member)) found false
 
 module _ (plan : Tables) (paths : List Path) (group index : ℕ) (call : CallPaths) (can : CanTake plan paths group index call) where

@@ -12,7 +12,7 @@ use Rattle.xbar_equip.specs.Conn.{conn_eq}
 use Rattle.xbar_equip.specs.declared.conn.Conn.{Conn}
 use Rattle.xbar_plan.specs.Tables.{Tables}
 use Rattle.xbar_plan.specs.Lawful.{IsLawful}
-use Rattle.xbar_office.specs.Legal.{IsDialJob}
+use Rattle.xbar_office.specs.Legal.{IsJob}
 use Rattle.xbar_office.specs.Whole.{whole}
 use Rattle.xbar_jobs.specs.Attempt.{Attempt, Phase}
 use Rattle.xbar_jobs.specs.Jobs.{script}
@@ -25,7 +25,7 @@ use Rattle.xbar_jobs.proofs.DialDecides.{DecidesOn}
 use Rattle.xbar_jobs.proofs.OfficeSystem.{script_decides}
 
 -- an attempt that has decided does as the one-marker office does
-pub decided_does : (plan : Tables) (a : Attempt) → IsLawful plan → IsDialJob a.job → HasDecided (office plan) a → DoesAsOffice plan a
+pub decided_does : (plan : Tables) (a : Attempt) → IsLawful plan → IsJob a.job → HasDecided (office plan) a → DoesAsOffice plan a
 decided_does plan a laws in_range stands words paths size shows read =
     let decision = stands.decision in
     let ends : run words (script plan a.job) ≡ decision = walk_run conn_eq words (seen_of a) (script plan a.job) decision read stands.come in
@@ -62,7 +62,7 @@ past_turn plan a number does words paths size shows read =
     record { reply = done.reply; shows = done.shows; due = done.due; under = done.under }
 
 -- with its turn an attempt does as the one-marker office does
-pub turn_does : (plan : Tables) (a : Attempt) (answer : Answer) (number : ℕ) → IsLawful plan → IsDialJob a.job → IsAnswerTo (act a) answer → StandsIn (office plan) a a.phase → answer ≡ Turn number → DoesAsOffice plan (change (office plan) a answer)
+pub turn_does : (plan : Tables) (a : Attempt) (answer : Answer) (number : ℕ) → IsLawful plan → IsJob a.job → IsAnswerTo (act a) answer → StandsIn (office plan) a a.phase → answer ≡ Turn number → DoesAsOffice plan (change (office plan) a answer)
 turn_does plan a answer number laws in_range fits stands is =
     let turned : IsAnswerTo (act a) (Turn number) = subst (λ (told : Answer). IsAnswerTo (act a) told) is fits in
     let at = turns plan a a.phase number refl turned stands in

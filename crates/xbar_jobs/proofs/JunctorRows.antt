@@ -1,35 +1,43 @@
 -- a frame's ten line junctor switches are tested one after another, whatever they show
-use Rattle.std.proofs.Common.{◌≡◌, ℕ, zero, suc, ◌+◌, List, [], ◌∷◌, ◌++◌, length, refl, sym, ◌∙◌, ap, subst, arith, ◌<◌}
+use Rattle.std.proofs.Common.{◌≡◌, ℕ, zero, suc, ◌+◌, List, [], ◌∷◌, ◌++◌, refl, sym, ◌∙◌, ap, subst, arith, ◌<◌}
 use Rattle.std.specs.Prelude.{Option, Some, None, Bool, true, false, Err, ⊤, slice_get}
 use Rattle.std.specs.Option.{option_map_or}
-use Rattle.xbar_equip.specs.First.{first_below}
+use Rattle.turns.specs.Attempt.{StandsIn, changed, come_to, goes_on, walks_on, seen_of}
+use Rattle.turns.specs.Script.{Ends, Tests, Seizes, ◌>>=◌, first_wanted, is_held, left, left_of_test, left_of_seizing, value_read, walk}
+use Rattle.turns.specs.declared.answer.Answer.TheVariants.{Value}
+use Rattle.turns.specs.declared.phase.Phase.TheVariants.{Tests as TestsPhase}
+use Rattle.turns.specs.declared.reading.Reading.{Reading}
+use Rattle.turns.specs.declared.wanted.Wanted.TheVariants.{Test}
+use Rattle.turns.proofs.Room.{Grows, left_again, read_last, read_before}
+use Rattle.xbar_equip.specs.Conn.{conn_eq}
 use Rattle.xbar_equip.specs.Len.{Line, IsLine}
+use Rattle.xbar_equip.specs.Ten.{TrunkPlace}
+use Rattle.xbar_equip.proofs.PathTests.{conn_eq-itself}
 use Rattle.xbar_switch.specs.declared.shape.Shape.TheVariants.{Line as LineShape}
 use Rattle.xbar_match.specs.Traces.{field_at_place}
-use Rattle.xbar_plan.specs.Tables.{Tables}
+use Rattle.xbar_plan.specs.Tables.{Tables, register_group}
 use Rattle.xbar_plan.specs.declared.group.Member.{Member}
-use Rattle.xbar_office.specs.Legal.{IsDialJob}
+use Rattle.xbar_office.specs.Legal.{IsJob}
 use Rattle.xbar_office.specs.TwoTrials.{cards_of, second_decides}
+use Rattle.xbar_office.specs.declared.aim.Aim.{Aim}
+use Rattle.xbar_office.specs.declared.aim.Aim.TheVariants.{DialTone}
 use Rattle.xbar_office.specs.declared.job.Job.{Job}
 use Rattle.xbar_office.specs.declared.job.Job.TheVariants.{Dial, Complete, Release}
 use Rattle.xbar_office.specs.declared.reply.Card.{Card}
 use Rattle.xbar_office.specs.declared.trial.TrialEnd.{TrialEnd}
 use Rattle.xbar_office.specs.declared.trial.TrialEnd.TheVariants.{Chosen, Faulty, NoChannel}
-use Rattle.turns.specs.Attempt.{StandsIn, changed, come_to, goes_on, walks_on, seen_of}
-use Rattle.xbar_equip.specs.Conn.{conn_eq}
-use Rattle.xbar_equip.proofs.PathTests.{conn_eq-itself}
 use Rattle.xbar_jobs.specs.Attempt.{Attempt, Phase}
+use Rattle.xbar_jobs.specs.Connecting.{alone, connect, try_trunk}
+use Rattle.xbar_jobs.specs.Jobs.{IsDial, dial_steps, script, serve_idle_line}
 use Rattle.xbar_jobs.specs.Office.{office}
-use Rattle.turns.specs.declared.answer.Answer.TheVariants.{Value}
-use Rattle.turns.specs.declared.phase.Phase.TheVariants.{Tests as TestsPhase}
-use Rattle.turns.specs.declared.reading.Reading.{Reading}
-use Rattle.xbar_jobs.specs.Jobs.{registers, try_registers, find_register, serve_idle_line, dial_steps, script}
-use Rattle.turns.specs.Script.{Ends, Tests, Seizes, ◌>>=◌, first_wanted, is_held, left, left_of_test, left_of_seizing, value_read, walk}
 use Rattle.xbar_jobs.specs.Script.{Script, Seen}
-use Rattle.xbar_jobs.specs.Trials.{Trunks, IsNextJunctor, is_bit_clear, test_junctors, reach, trial_end, first_trial_steps, second_trial_at, second_trial_steps, next_clear, after_first_trial, two_trials_steps}
-use Rattle.xbar_jobs.specs.declared.trials.Calling.{Calling}
-use Rattle.turns.specs.declared.wanted.Wanted.TheVariants.{Test}
-use Rattle.turns.proofs.Room.{Grows, left_again, read_last, read_before}
+use Rattle.xbar_jobs.specs.Sides.{IsNextJunctor, Sides, reach, test_called, test_junctors, test_place, test_second, test_side, test_sides}
+use Rattle.xbar_jobs.specs.Tracing.{approach}
+use Rattle.xbar_jobs.specs.Trials.{after_first_trial, first_trial_steps, next_clear, second_trial_at, second_trial_steps, trial_end, two_trials_steps}
+use Rattle.xbar_jobs.specs.Trunks.{Trunks, find_trunk, first_clear, idle_or, trunks_of}
+use Rattle.xbar_jobs.specs.declared.party.CallParties.{CallParties}
+use Rattle.xbar_jobs.specs.declared.party.Party.{Party}
+use Rattle.xbar_jobs.specs.declared.trunks.IdleGroup.{IdleGroup}
 
 -- a script begins with the test of this word
 abbrev pub BeginsWith : {A : Type 0} → ℕ → Script A → Type 0
@@ -98,79 +106,115 @@ junctor_rows frame channel (suc (suc count)) sum = (
   λ value. rows_bind (test_junctors frame (channel + 1) (suc count)) (λ words. Ends (value ∷ words)) (junctor_rows frame (channel + 1) (suc count) (omega arith)) (λ words. tt),
 )
 
+-- the tests of both sides are such rows
+side_rows : (party : Party) → KeepsRows (test_side party)
+unfolding KeepsRows test_side
+side_rows party = rows_bind (test_junctors party.line.frame 0 10) _ (junctor_rows party.line.frame 0 10 refl) (λ words. tt)
+
+called_rows : (called : Option Party) → KeepsRows (test_called called)
+unfolding KeepsRows test_called
+called_rows None = tt
+called_rows (Some party) = rows_bind (test_side party) _ (side_rows party) (λ side. tt)
+
+sides_rows : (parties : CallParties) → KeepsRows (test_sides parties)
+unfolding KeepsRows test_sides
+sides_rows parties = rows_bind (test_side parties.calling) _ (side_rows parties.calling) (λ calling. rows_bind (test_called parties.called) _ (called_rows parties.called) (λ called. tt))
+
+-- no row begins with a trunk switch
+place_rows : (place : TrunkPlace) → KeepsRows (test_place place)
+unfolding KeepsRows test_place ◌>>=◌
+place_rows place = (λ next is value. absurd (omega (arith, is.this, is.frame_range, is.channel_range)), λ value. tt)
+
+second_place_rows : (second : Option TrunkPlace) → KeepsRows (test_second second)
+unfolding KeepsRows test_second
+second_place_rows None = tt
+second_place_rows (Some place) = rows_bind (test_place place) _ (place_rows place) (λ reached. tt)
+
 reach_rows : (member : Member) → KeepsRows (reach member)
 unfolding KeepsRows reach ◌>>=◌
-reach_rows member = (λ next is value. absurd (omega (arith, is.this, is.frame_range, is.channel_range)), λ value. tt)
+reach_rows member =
+    rows_bind (test_place member.first) _ (place_rows member.first)
+    (λ first. rows_bind (test_second member.second) _ (second_place_rows member.second) (λ second. tt))
 
-second_rows : (plan : Tables) (calling : Calling) (junctors : List ℕ) (trunks : Trunks) (cards : List Card) (index : ℕ) → KeepsRows (second_trial_at plan calling junctors trunks cards index)
+second_rows : (plan : Tables) (sides : Sides) (trunks : Trunks) (cards : List Card) (index : ℕ) → KeepsRows (second_trial_at plan sides trunks cards index)
 unfolding KeepsRows second_trial_at second_trial_steps
-second_rows plan calling junctors trunks cards index = at (slice_get trunks.members index) where
-  at : (o : Option Member) → KeepsRows (option_map_or (second_trial_steps plan calling junctors cards index) o (Ends (second_decides cards index NoChannel)))
+second_rows plan sides trunks cards index = at (slice_get trunks.members index) where
+  at : (o : Option Member) → KeepsRows (option_map_or (second_trial_steps plan sides cards index) o (Ends (second_decides cards index NoChannel)))
   at None = tt
   at (Some member) = rows_bind (reach member) _ (reach_rows member) (λ trunk. tt)
 
-after_rows : (plan : Tables) (calling : Calling) (junctors : List ℕ) (trunks : Trunks) (first : ℕ) (end : TrialEnd) → KeepsRows (after_first_trial plan calling junctors trunks first end)
+after_rows : (plan : Tables) (sides : Sides) (trunks : Trunks) (first : ℕ) (end : TrialEnd) → KeepsRows (after_first_trial plan sides trunks first end)
 unfolding KeepsRows after_first_trial
-after_rows plan calling junctors trunks first (Chosen pair) = tt
-after_rows plan calling junctors trunks first (Faulty link) = second_rows plan calling junctors trunks (cards_of 1 (Faulty link)) (next_clear trunks first)
-after_rows plan calling junctors trunks first NoChannel = second_rows plan calling junctors trunks [] (next_clear trunks first)
+after_rows plan sides trunks first (Chosen call) = tt
+after_rows plan sides trunks first (Faulty link) = second_rows plan sides trunks (cards_of 1 (Faulty link)) (next_clear trunks first)
+after_rows plan sides trunks first NoChannel = second_rows plan sides trunks [] (next_clear trunks first)
 
-trials_rows : (plan : Tables) (calling : Calling) (trunks : Trunks) (first : ℕ) → KeepsRows (two_trials_steps plan calling trunks first)
+trials_rows : (plan : Tables) (parties : CallParties) (trunks : Trunks) (first : ℕ) → KeepsRows (two_trials_steps plan parties trunks first)
 unfolding KeepsRows two_trials_steps first_trial_steps
-trials_rows plan calling trunks first = at (slice_get trunks.members first) where
-  at : (o : Option Member) → KeepsRows (option_map_or (first_trial_steps plan calling trunks first) o (Ends (second_decides [] first NoChannel)))
+trials_rows plan parties trunks first = at (slice_get trunks.members first) where
+  at : (o : Option Member) → KeepsRows (option_map_or (first_trial_steps plan parties trunks first) o (Ends (second_decides [] first NoChannel)))
   at None = tt
   at (Some member) =
       rows_bind (reach member) _ (reach_rows member)
-      (
-      λ trunk. rows_bind (test_junctors calling.line.frame 0 10) _ (junctor_rows calling.line.frame 0 10 refl)
-      (λ junctors. after_rows plan calling junctors trunks first (trial_end plan calling junctors 0 member trunk))
-      )
+      (λ trunk. rows_bind (test_sides parties) _ (sides_rows parties) (λ sides. after_rows plan sides trunks first (trial_end plan sides 0 trunk)))
 
-registers_rows : (plan : Tables) (calling : Calling) (trunks : Trunks) (found : Option ℕ) → KeepsRows (try_registers plan calling trunks found)
-unfolding KeepsRows try_registers
-registers_rows plan calling trunks None = tt
-registers_rows plan calling trunks (Some first) = rows_bind (two_trials_steps plan calling trunks first) _ (trials_rows plan calling trunks first) (λ trials. tt)
+-- nor with a group's word
+idle_rows : (group word : ℕ) (next : Script (Option IdleGroup)) (found : Option ℕ) → KeepsRows next → KeepsRows (idle_or group word next found)
+unfolding KeepsRows idle_or
+idle_rows group word next None rows = rows
+idle_rows group word next (Some first) rows = tt
 
-register_rows : (plan : Tables) (calling : Calling) → KeepsRows (find_register plan calling)
-unfolding KeepsRows find_register ◌>>=◌
-register_rows plan calling = (
+find_rows : (plan : Tables) (groups : List ℕ) → KeepsRows (find_trunk plan groups)
+unfolding KeepsRows find_trunk ◌>>=◌
+find_rows plan [] = tt
+find_rows plan (group ∷ groups) = (
   λ next is value. absurd (omega (arith, is.this, is.frame_range, is.channel_range)),
-  λ word. registers_rows plan calling (registers plan word) (first_below (is_bit_clear word) (length (registers plan word).members)),
+  λ word. idle_rows group word (find_trunk plan groups) (first_clear (trunks_of plan group word)) (find_rows plan groups),
 )
 
-idle_line_rows : (plan : Tables) (calling : Calling) (found : Option ℕ) → KeepsRows (serve_idle_line plan calling found)
+try_rows : (plan : Tables) (aim : Aim) (parties : CallParties) (idle : Option IdleGroup) → KeepsRows (try_trunk plan aim parties idle)
+unfolding KeepsRows try_trunk
+try_rows plan aim parties None = tt
+try_rows plan aim parties (Some idle) =
+    rows_bind (two_trials_steps plan parties (trunks_of plan idle.group idle.word) idle.first) _ (trials_rows plan parties (trunks_of plan idle.group idle.word) idle.first) (λ trials. tt)
+
+-- whatever the parties and the groups are, connecting them is such a script
+pub connect_rows : (plan : Tables) (aim : Aim) (parties : CallParties) (groups : List ℕ) → KeepsRows (connect plan aim parties groups)
+unfolding connect
+connect_rows plan aim parties groups = rows_bind (find_trunk plan groups) _ (find_rows plan groups) (λ idle. try_rows plan aim parties idle)
+
+idle_line_rows : (plan : Tables) (calling : Party) (channel : Option ℕ) → KeepsRows (serve_idle_line plan calling channel)
 unfolding KeepsRows serve_idle_line
 idle_line_rows plan calling (Some channel) = tt
-idle_line_rows plan calling None = register_rows plan calling
+idle_line_rows plan calling None = connect_rows plan DialTone (alone calling) (register_group plan ∷ [])
 
 dial_rows : (plan : Tables) (line : Line) → IsLine line → KeepsRows (dial_steps plan line)
-unfolding KeepsRows dial_steps ◌>>=◌
+unfolding KeepsRows dial_steps approach ◌>>=◌
 dial_rows plan line in_range = (
   λ next is value. absurd (omega (arith, is.this, is.channel_range, in_range.switch)),
   λ word. idle_line_rows plan (record { line = line; word = word }) (field_at_place LineShape word line.x),
 )
 
--- each job's script is such a one
-pub script_rows : (plan : Tables) (job : Job) → IsDialJob job → KeepsRows (script plan job)
+-- each dial tone job's script is such a one
+pub script_rows : (plan : Tables) (job : Job) → IsJob job → IsDial job → KeepsRows (script plan job)
 unfolding script
-script_rows plan (Dial line) in_range = dial_rows plan line in_range
-script_rows plan (Complete line dialled) in_range = absurd in_range
-script_rows plan (Release line) in_range = absurd in_range
+script_rows plan (Dial line) in_range dials = dial_rows plan line in_range
+script_rows plan (Complete line dialled) in_range dials = absurd dials
+script_rows plan (Release line) in_range dials = absurd dials
 
 -- so an attempt that has read a line junctor switch wants the next one, without a walk
-pub read_next : (plan : Tables) (a : Attempt) (reading : Reading ℕ) (next : ℕ) (readings : List (Reading ℕ)) → IsDialJob a.job → come_to (office plan) a ≡ Err (Test reading.word) → readings ≡ a.readings ++ reading ∷ [] → IsNextJunctor reading.word next → value_read readings next ≡ None → record a { readings = readings; phase = TestsPhase next } ≡ walks_on (office plan) (record a { readings = a.readings ++ reading ∷ [] })
-read_next plan a reading next readings in_range come same is unread =
+pub read_next : (plan : Tables) (a : Attempt) (reading : Reading ℕ) (next : ℕ) (readings : List (Reading ℕ)) → IsJob a.job → IsDial a.job → come_to (office plan) a ≡ Err (Test reading.word) → readings ≡ a.readings ++ reading ∷ [] → IsNextJunctor reading.word next → value_read readings next ≡ None → record a { readings = readings; phase = TestsPhase next } ≡ walks_on (office plan) (record a { readings = a.readings ++ reading ∷ [] })
+read_next plan a reading next readings in_range dials come same is unread =
     let after : Attempt = record a { readings = a.readings ++ reading ∷ [] } in
     let grows : Grows conn_eq conn_eq-itself (seen_of a) (seen_of after) = record { held = λ c e. e; readings = λ word value e. read_before conn_eq conn_eq-itself a.readings reading word value e } in
-    let wants = next_is_wanted (seen_of a) (seen_of after) reading.word next (script plan a.job) (script_rows plan a.job in_range) grows is (read_last conn_eq conn_eq-itself a.readings reading) (ap (λ (rs : List (Reading ℕ)). value_read rs next) (sym same) ∙ unread) come in
+    let wants = next_is_wanted (seen_of a) (seen_of after) reading.word next (script plan a.job) (script_rows plan a.job in_range dials) grows is (read_last conn_eq conn_eq-itself a.readings reading) (ap (λ (rs : List (Reading ℕ)). value_read rs next) (sym same) ∙ unread) come in
     ap (λ (rs : List (Reading ℕ)). record a { readings = rs; phase = TestsPhase next }) same ∙ ap (goes_on (office plan) after) (sym wants)
 
 -- and that is the change by the answer to its test
-pub change_by_row : (plan : Tables) (a now : Attempt) (word value next : ℕ) (readings : List (Reading ℕ)) → a ≡ now → a.phase ≡ TestsPhase word → StandsIn (office plan) now now.phase → IsDialJob a.job → readings ≡ a.readings ++ record { word = word; value = value } ∷ [] → IsNextJunctor word next → value_read readings next ≡ None → record a { readings = readings; phase = TestsPhase next } ≡ changed (office plan) now now.phase (Value value)
-change_by_row plan a now word value next readings same in_phase stands in_range more is unread =
+pub change_by_row : (plan : Tables) (a now : Attempt) (word value next : ℕ) (readings : List (Reading ℕ)) → a ≡ now → a.phase ≡ TestsPhase word → StandsIn (office plan) now now.phase → IsJob a.job → IsDial a.job → readings ≡ a.readings ++ record { word = word; value = value } ∷ [] → IsNextJunctor word next → value_read readings next ≡ None → record a { readings = readings; phase = TestsPhase next } ≡ changed (office plan) now now.phase (Value value)
+change_by_row plan a now word value next readings same in_phase stands in_range dials more is unread =
     let come = subst (λ (phase : Phase). StandsIn (office plan) a phase) in_phase (subst (λ (b : Attempt). StandsIn (office plan) b b.phase) (sym same) stands) in
-    let on = read_next plan a (record { word = word; value = value }) next readings in_range come more is unread in
+    let on = read_next plan a (record { word = word; value = value }) next readings in_range dials come more is unread in
     let here = subst (λ (phase : Phase). record a { readings = readings; phase = TestsPhase next } ≡ changed (office plan) a phase (Value value)) (sym in_phase) on in
     subst (λ (b : Attempt). record a { readings = readings; phase = TestsPhase next } ≡ changed (office plan) b b.phase (Value value)) same here
 

@@ -5,7 +5,7 @@ use Rattle.xbar_equip.specs.Conn.{conn_eq}
 use Rattle.xbar_equip.specs.Word.{LineJunctor}
 use Rattle.xbar_jobs.specs.Script.{Seen}
 use Rattle.xbar_jobs.specs.Script.{test, walk}
-use Rattle.xbar_jobs.specs.Trials.{test_junctors}
+use Rattle.xbar_jobs.specs.Sides.{test_junctors}
 use Rattle.xbar_jobs.specs.Script.{Wanted}
 use Rattle.turns.proofs.Walks.{then_walk, walk_bind, walk_end}
 

@@ -16,16 +16,21 @@ use Rattle.xbar_equip.proofs.WordNumbers.{conn_range, distinct, distinct_conns, 
 use Rattle.xbar_plan.specs.Tables.{Tables}
 use Rattle.xbar_plan.specs.Lawful.{IsLawful}
 use Rattle.xbar_match.specs.Shows.{WordShows, IsClosedIn}
-use Rattle.xbar_office.specs.Legal.{IsDialJob}
+use Rattle.xbar_office.specs.Legal.{IsJob}
 use Rattle.xbar_office.specs.Whole.{whole}
 use Rattle.xbar_office.specs.declared.job.Job.{Job}
 use Rattle.xbar_office.specs.declared.job.Job.TheVariants.{Dial, Complete, Release}
+use Rattle.xbar_jobs.specs.Completing.{complete_steps}
 use Rattle.xbar_jobs.specs.Jobs.{dial_steps, first_conn, script}
 use Rattle.xbar_jobs.specs.Keeping.{IsCovered}
 use Rattle.xbar_jobs.specs.Office.{GroupShows, Protects, ShowsOffice, office}
+use Rattle.xbar_jobs.specs.Releasing.{release_steps}
+use Rattle.xbar_jobs.specs.Tracing.{approach}
+use Rattle.xbar_jobs.proofs.CompleteDecides.{complete_decides}
 use Rattle.xbar_jobs.proofs.Covered.{protected_below}
 use Rattle.xbar_jobs.proofs.DialDecides.{DecidesOn, dial_decides}
-use Rattle.xbar_jobs.proofs.DialKeeps.{script_keeps}
+use Rattle.xbar_jobs.proofs.JobKeeps.{script_keeps}
+use Rattle.xbar_jobs.proofs.ReleaseDecides.{release_decides}
 use Rattle.xbar_jobs.proofs.OpenedWords.{shows_opened}
 
 one_protector : (number : ℕ) (a b : Conn) → Protects a number → Protects b number → a ≡ b
@@ -84,19 +89,21 @@ looks plan words other paths alike shows = record {
 
 -- a job's script begins with its first connector
 first_seized : (plan : Tables) (job : Job) → first_wanted (script plan job) ≡ Err (Seize (first_conn job))
-unfolding script dial_steps first_wanted ◌>>=◌
-first_seized plan job = refl
+unfolding script dial_steps complete_steps release_steps approach first_wanted ◌>>=◌
+first_seized plan (Dial line) = refl
+first_seized plan (Complete line dialled) = refl
+first_seized plan (Release line) = refl
 
--- on words that show a set, a dial tone job's script decides as the one-marker office does
-pub script_decides : (plan : Tables) (words : List ℕ) (paths : List Path) (job : Job) → IsLawful plan → 453 ≤ length words → ShowsOffice plan words paths → IsDialJob job
+-- on words that show a set, a job's script decides as the one-marker office does
+pub script_decides : (plan : Tables) (words : List ℕ) (paths : List Path) (job : Job) → IsLawful plan → 453 ≤ length words → ShowsOffice plan words paths → IsJob job
     → DecidesOn plan words (run words (script plan job)) (whole plan paths job)
 unfolding script
 script_decides plan words paths (Dial line) laws size shows in_range = dial_decides plan words paths laws size shows line in_range
-script_decides plan words paths (Complete line dialled) laws size shows in_range = absurd in_range
-script_decides plan words paths (Release line) laws size shows in_range = absurd in_range
+script_decides plan words paths (Complete line dialled) laws size shows in_range = complete_decides plan words paths laws size shows line in_range.0 dialled
+script_decides plan words paths (Release line) laws size shows in_range = release_decides plan words paths laws size shows line in_range
 
 -- and it keeps to what it holds
-keeps_under : (plan : Tables) (job : Job) → IsLawful plan → IsDialJob job → KeepsTo (office plan) (DecidesUnder (office plan)) [] (script plan job)
+keeps_under : (plan : Tables) (job : Job) → IsLawful plan → IsJob job → KeepsTo (office plan) (DecidesUnder (office plan)) [] (script plan job)
 keeps_under plan job laws in_range =
     keeps_map (office plan) (IsCovered plan) (DecidesUnder (office plan)) [] (script plan job) (λ conns decision covered. covered.under) (script_keeps plan job laws in_range)
 

@@ -1,5 +1,5 @@
 -- an attempt reads no word twice, since a walk wants no word that was read
-use Rattle.std.proofs.Common.{◌≡◌, ℕ, zero, suc, ◌<◌, Bool, true, false, List, [], ◌∷◌, ◌++◌, length, slice_index_or, inl, inr, refl, sym, ◌∙◌, ap, subst, arith}
+use Rattle.std.proofs.Common.{◌≡◌, ℕ, ◌<◌, Bool, true, false, List, [], ◌∷◌, ◌++◌, length, slice_index_or, inl, inr, refl, sym, ◌∙◌, ap, subst}
 use Rattle.std.specs.Prelude.{Option, Some, None, ◌==◌, Err, find, option_map, if◌then◌else◌}
 use Rattle.std.proofs.lemmas.Bool.{eq-eqb, eqb-true}
 use Rattle.turns.specs.Among.{IsIn}
@@ -15,6 +15,7 @@ use Rattle.xbar_jobs.specs.Standing.{AreReadOnce}
 use Rattle.turns.specs.declared.reading.Reading.{Reading}
 use Rattle.turns.specs.declared.wanted.Wanted.TheVariants.{Seize, Test}
 use Rattle.turns.proofs.Room.{read_before}
+use Rattle.xbar_jobs.proofs.Items.{item_within}
 
 -- the word that a walk wants was not read
 pub wants_unread : {A : Type 0} (seen : Seen) (word : ℕ) (script : Script A) → walk conn_eq seen script ≡ Err (Test word) → value_read seen.readings word ≡ None
@@ -67,14 +68,8 @@ once_more readings more last is once unread = subst (λ (all : List (Reading ℕ
   | inr (inr none) ↦ absurd none
 ])
 
-item_at : (readings : List (Reading ℕ)) (at : ℕ) (default : Reading ℕ) → at < length readings → IsIn (slice_index_or readings at default) readings
-item_at [] at default below = absurd (omega arith)
-item_at (reading ∷ readings) zero default below = inl refl
-item_at (reading ∷ readings) (suc at) default below = inr (item_at readings at default (omega arith))
-
 -- a reading of a word, wherever it stands, is what was read in it
 pub read_at_place : (readings slice : List (Reading ℕ)) (at word : ℕ) (reading : Reading ℕ) → slice ≡ readings → AreReadOnce readings → at < length slice → reading ≡ slice_index_or slice at reading → (reading.word == word) ≡ true → Some reading.value ≡ value_read readings word
 read_at_place readings slice at word reading whole once below is same =
-    let there = subst (λ (xs : List (Reading ℕ)). IsIn (slice_index_or slice at reading) xs) whole (item_at slice at reading below) in
-    let within = subst (λ (r : Reading ℕ). IsIn r readings) (sym is) there in
+    let within = subst (λ (xs : List (Reading ℕ)). IsIn reading xs) whole (item_within slice at reading is below) in
     sym (once reading within) ∙ ap (value_read readings) (eqb-true reading.word word same)

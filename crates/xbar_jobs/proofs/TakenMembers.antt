@@ -92,13 +92,13 @@ module _ (plan : Tables) where
   closes-due words (c ∷ cs) each = (each.0, closes-due (close_at words c) cs each.1)
 
   -- effects by which the switches show a set of more paths, with all words behind them as they were
-  record Adds (words : List ℕ) (effects : List Effect) (more : List Path) : Type 0 where
-    switches : ShowsPaths (perform_all (office plan) words effects) more
-    behind : (n : ℕ) → 400 ≤ n → get_or (perform_all (office plan) words effects) n 0 ≡ get_or words n 0
-    size : length (perform_all (office plan) words effects) ≡ length words
-    due : AreDue (office plan) words effects
+  pub record Adds (words : List ℕ) (effects : List Effect) (more : List Path) : Type 0 where
+    pub switches : ShowsPaths (perform_all (office plan) words effects) more
+    pub behind : (n : ℕ) → 400 ≤ n → get_or (perform_all (office plan) words effects) n 0 ≡ get_or words n 0
+    pub size : length (perform_all (office plan) words effects) ≡ length words
+    pub due : AreDue (office plan) words effects
 
-  nothing_added : (words : List ℕ) (paths : List Path) → ShowsPaths words paths → Adds words [] paths
+  pub nothing_added : (words : List ℕ) (paths : List Path) → ShowsPaths words paths → Adds words [] paths
   unfolding perform_all
   nothing_added words paths shows = record { switches = shows; behind = λ n above. refl; size = refl; due = tt }
 
@@ -116,7 +116,7 @@ module _ (plan : Tables) where
       }
 
   -- and then others
-  more_added : (words : List ℕ) (first others : List Effect) (paths more : List Path) → Adds words first paths → Adds (perform_all (office plan) words first) others more → Adds words (first ++ others) more
+  pub more_added : (words : List ℕ) (first others : List Effect) (paths more : List Path) → Adds words first paths → Adds (perform_all (office plan) words first) others more → Adds words (first ++ others) more
   more_added words first others paths more before after =
       let both = sym (perform_all-append words first others) in
       record {

@@ -7,19 +7,23 @@ use Rattle.xbar_equip.specs.declared.path.Path.{Path}
 use Rattle.xbar_switch.specs.Field.{field_of}
 use Rattle.xbar_match.specs.Effects.{closed_word, opened_word}
 use Rattle.xbar_match.specs.Switches.{shape_at}
+use Rattle.xbar_plan.specs.declared.group.MemberPlace.{MemberPlace}
 use Rattle.xbar_office.specs.Replies.{plain_reply, trials_reply}
 use Rattle.xbar_office.specs.declared.aim.Aim.{Aim}
 use Rattle.xbar_office.specs.declared.reply.End.{End}
+use Rattle.xbar_office.specs.declared.reply.End.TheVariants.{Released}
 use Rattle.xbar_office.specs.declared.two_trials.Choice.{Choice}
 use Rattle.xbar_office.specs.declared.two_trials.Trials.{Trials}
+use Rattle.turns.specs.System.{made_by}
 use Rattle.xbar_jobs.specs.declared.decision.Decision.{Decision}
-use Rattle.xbar_jobs.specs.declared.decision.Take.{Take}
+use Rattle.xbar_jobs.specs.declared.leave.Leave.{Leave}
+use Rattle.xbar_jobs.specs.declared.take.Take.{Take}
 use Rattle.xbar_jobs.specs.declared.effect.Effect.{Effect}
 use Rattle.xbar_jobs.specs.declared.effect.Effect.TheVariants.{Close, Open, SetBit, ClearBit}
 
--- decided: nothing is taken
+-- decided: nothing is let go and nothing is taken
 abbrev pub refused : End → Decision
-refused end = record { reply = plain_reply end; take = None }
+refused end = record { reply = plain_reply end; leave = None; take = None }
 
 -- the member of a group that a trial chose, with its paths
 abbrev pub take_of : ℕ → Choice → Take
@@ -27,7 +31,19 @@ take_of number choice = record { group = number; index = choice.index; paths = c
 
 -- decided: the member of a group and the paths that two trials came to, or none
 abbrev pub tried : Aim → ℕ → Trials → Decision
-tried aim number trials = record { reply = trials_reply aim trials; take = option_map (take_of number) trials.choice }
+tried aim number trials = record { reply = trials_reply aim trials; leave = None; take = option_map (take_of number) trials.choice }
+
+-- a member of the plan is let go, with the path that ends there and the other party's
+abbrev pub leave_of : Path → Option Path → MemberPlace → Leave
+leave_of own other found = record { group = found.group; index = found.index; own = own; other = other }
+
+-- decided: a call is let go, and nothing is taken
+abbrev pub released : Leave → Decision
+released leave = record { reply = plain_reply (Released leave.own leave.other); leave = Some leave; take = None }
+
+-- decided so, after a register is let go
+abbrev pub leaving : Leave → Decision → Decision
+leaving leave decision = record decision { leave = Some leave }
 
 -- a path's four crosspoints are closed in their order
 abbrev pub path_closes : Path → List Effect
@@ -42,9 +58,22 @@ called_closes (Some path) = path_closes path
 abbrev pub take_effects : Take → List Effect
 take_effects take = path_closes take.paths.calling ++ called_closes take.paths.called ++ SetBit take.group take.index ∷ []
 
--- the effects of a decision, in their order
+-- a path's four crosspoints are opened in their order
+abbrev pub path_opens : Path → List Effect
+path_opens path = map Open (crosspoints path)
+
+-- the other party's too, if there is one
+abbrev pub other_opens : Option Path → List Effect
+other_opens None = []
+other_opens (Some path) = path_opens path
+
+-- what is let go is opened: the own path, the other party's, and then the member's bit is cleared
+abbrev pub leave_effects : Leave → List Effect
+leave_effects leave = path_opens leave.own ++ other_opens leave.other ++ ClearBit leave.group leave.index ∷ []
+
+-- the effects of a decision, in their order: what is let go comes before what is taken
 abbrev pub effects : Decision → List Effect
-effects decision = option_map_or take_effects decision.take []
+effects decision = option_map_or leave_effects decision.leave [] ++ option_map_or take_effects decision.take []
 
 -- the word that an effect changes
 abbrev pub effect_word : Effect → ℕ
@@ -59,6 +88,10 @@ effect_on (Close c) word = closed_word c word
 effect_on (Open c) word = opened_word c word
 effect_on (SetBit number index) word = bit_or word (2 ^ index)
 effect_on (ClearBit number index) word = bit_and word (2 ^ 64 - 1 - 2 ^ index)
+
+-- what effects, one after another, make of the number in a word
+abbrev pub made : List Effect → ℕ → ℕ → ℕ
+made effects word value = made_by effect_word effect_on effects word value
 
 -- an effect is due on its word: what it closes is open there, what it opens is closed
 abbrev pub IsDue : Effect → ℕ → Type 0

@@ -9,7 +9,7 @@ use Rattle.xbar_plan.specs.Tables.{Tables, member_at}
 use Rattle.xbar_match.specs.Shows.{ShowsPaths}
 use Rattle.xbar_match.specs.Switches.{word_of}
 use Rattle.xbar_office.specs.LawfulSet.{IsLawfulSet}
-use Rattle.xbar_office.specs.Legal.{IsDialJob}
+use Rattle.xbar_office.specs.Legal.{IsJob}
 use Rattle.xbar_office.specs.Members.{is_member_idle}
 use Rattle.xbar_office.specs.Whole.{whole}
 use Rattle.xbar_office.specs.declared.job.Job.{Job}
@@ -42,11 +42,11 @@ pub record Protects (conn : Conn) (number : ℕ) : Type 0 where
   pub named : word_number word ≡ number
   pub protects : protector word ≡ Some conn
 
--- the office under a plan: its jobs one after another and step by step, and its words; its jobs are dial tone jobs, the only ones that are made as steps
+-- the office under a plan: its jobs one after another and step by step, and its words
 abbrev pub office : Tables → System
 office plan = record {
   Job = Job;
-  IsJob = IsDialJob;
+  IsJob = IsJob;
   State = List Path;
   Reply = Reply;
   opening = [];

@@ -8,7 +8,7 @@ use Rattle.xbar_equip.specs.Conn.{IsConn, conn_eq}
 use Rattle.xbar_equip.specs.Word.{word_count}
 use Rattle.xbar_equip.specs.declared.conn.Conn.{Conn}
 use Rattle.xbar_plan.specs.Tables.{Tables}
-use Rattle.xbar_office.specs.Legal.{IsDialJob}
+use Rattle.xbar_office.specs.Legal.{IsJob}
 use Rattle.xbar_office.specs.declared.reply.Reply.{Reply}
 use Rattle.xbar_jobs.specs.Attempt.{Attempt, Phase}
 use Rattle.xbar_jobs.specs.Jobs.{script}
@@ -57,9 +57,9 @@ HasReplyIn (Tests word) reply = ⊤
 HasReplyIn (Withdraws conn) reply = ⊤
 HasReplyIn GivesBack reply = ⊤
 
--- what every attempt keeps, whatever the plan: its job is a dial tone job; its connectors, its words and its effects are the office's
+-- what every attempt keeps, whatever the plan: its job, its connectors, its words and its effects are the office's
 pub record IsAttempt (a : Attempt) : Type 0 where
-  pub job : IsDialJob a.job
+  pub job : IsJob a.job
   pub phase : IsPhase a.phase
   pub held : AreConns a.held
   pub reply : HasReplyIn a.phase a.reply

@@ -1,9 +1,10 @@
-ghost use Rattle.std.specs.Prelude.{◌≡◌, ◌<◌, option_copied, IsSome};
+ghost use Rattle.std.specs.Prelude.{◌≡◌, ◌<◌, ◌≤◌, length, option_copied, IsSome};
 
-use crate::decision::{Decision, Effects};
+use crate::decision::Decision;
+use crate::effects::Effects;
+use crate::gathered::Gathered;
 use crate::kinds::{Phase, Reading, Wanted};
 use crate::readings::Readings;
-use crate::seen::Seen;
 use crate::step::Step;
 use crate::walk::{first_conn, next_in_row, walk};
 use arrayvec::ArrayVec;
@@ -45,19 +46,19 @@ impl Attempt {
     ghost use Rattle.xbar_plan.specs.Tables.{Tables};
     ghost use Rattle.xbar_equip.specs.Conn.{IsConn};
     ghost use Rattle.xbar_equip.specs.Word.{word_count};
-    ghost use Rattle.xbar_office.specs.Legal.{IsDialJob};
+    ghost use Rattle.xbar_office.specs.Legal.{IsJob};
     ghost use Rattle.xbar_jobs.specs.Attempt.{count_in, decided, next_step, step_of, turn_in};
     ghost use Rattle.xbar_jobs.specs.Closing.{effects as effects_of};
     ghost use Rattle.xbar_jobs.specs.Jobs.{first_conn as first_conn_of};
     ghost use Rattle.xbar_jobs.specs.Keeping.{AreEffects, IsWanted};
     ghost use Rattle.xbar_jobs.specs.Office.{office};
     ghost use Rattle.xbar_jobs.specs.OnWords.{step_word};
-    ghost use Rattle.xbar_jobs.specs.Standing.{HasReplyIn, Stands};
+    ghost use Rattle.xbar_jobs.specs.Standing.{HasReplyIn, Stands, most_effects};
     ghost use Rattle.xbar_jobs.specs.Turning.{IsStep};
 
     /// An attempt that has made no step.
     pub fn new(job: Job) -> Self
-        requires { IsDialJob job }
+        requires { IsJob job }
         ensures { result ≡ begin_with (first_conn_of job) job }
     {
         let first = first_conn(&job);
@@ -108,7 +109,7 @@ impl Attempt {
 
     pub fn job(&self) -> &Job
         ensures job { result.now ≡ self.now.job }
-        ensures range { IsDialJob self.now.job }
+        ensures range { IsJob self.now.job }
     {
         &self.job
     }
@@ -217,7 +218,8 @@ impl Attempt {
     }
 
     fn decide(&mut self, decision: Decision)
-        requires { AreEffects (effects_of decision) }
+        requires effects { AreEffects (effects_of decision) }
+        requires few { length (effects_of decision) ≤ most_effects }
         ensures { self.new ≡ decided self.old decision }
     {
         self.effects = decision.effects();
@@ -239,8 +241,11 @@ impl Attempt {
     fn walk_on(&mut self, plan: &Plan)
         ensures { self.new ≡ walks_on (office plan.now) self.old }
     {
-        let seen = Seen::new(self.held.as_slice(), &self.readings);
-        match walk(plan, &seen, &self.job) {
+        let gathered = Gathered {
+            held: self.held.as_slice(),
+            readings: &self.readings,
+        };
+        match walk(plan, &gathered, &self.job) {
             Ok(decision) => self.decide(decision),
             Err(wanted) => self.want(wanted),
         }
@@ -298,7 +303,7 @@ impl Attempt {
         let phase = self.phase;
         if let Phase::Tests(word) = phase {
             self.readings.push(Reading { word, value });
-            match next_in_row(&self.readings, word) {
+            match next_in_row(&self.job, &self.readings, word) {
                 Some(next) => self.phase = Phase::Tests(next),
                 None => self.walk_on(plan),
             }

@@ -1,73 +1,28 @@
-ghost use Rattle.std.specs.Prelude.{◌≡◌, ◌≤◌, ◌+◌, ◌++◌, [], ◌∷◌, option_map};
-ghost use Rattle.arrayvec.specs.ArrayVec.{array_vec_len};
-ghost use Rattle.xbar_jobs.specs.Closing.{path_closes};
+ghost use Rattle.std.specs.Prelude.{◌≡◌, ◌≤◌, length, option_map};
 
-use crate::effect::Effect;
-use arrayvec::ArrayVec;
-use xbar_equip::Path;
-use xbar_match::effects_of;
-use xbar_office::{Aim, CallPaths, Choice, End, Reply, Trials};
+use crate::effects::Effects;
+use crate::leave::Leave;
+use crate::take::Take;
+use xbar_office::{Aim, Choice, End, Reply, Trials};
 
-/// A member of a trunk group that a job takes, with the paths that lead to it.
-#[derive(Clone, Copy, Debug, PartialEq, Eq)]
-pub struct Take {
-    pub group: u8,
-    pub index: u8,
-    pub paths: CallPaths,
-}
-
-/// The effects of a job. A call inside the office has the most: five opens for its register, and nine
-/// closes for two paths and a member.
-pub type Effects = ArrayVec<Effect, 14>;
-
-fn close_path(effects: &mut Effects, path: &Path)
-    requires { array_vec_len effects.old ≤ 10 }
-    ensures effects { effects.new.items ≡ effects.old.items ++ path_closes path.now }
-    ensures len { array_vec_len effects.new ≡ array_vec_len effects.old + 4 }
-{
-    let [line, line_junctor, trunk_junctor, trunk] = effects_of(path);
-    effects.push(Effect::Close(line));
-    effects.push(Effect::Close(line_junctor));
-    effects.push(Effect::Close(trunk_junctor));
-    effects.push(Effect::Close(trunk));
-}
-
-impl Take {
-    ghost use Rattle.xbar_jobs.specs.Closing.{take_effects};
-
-    /// What is made for it past the turn, in this order.
-    pub fn effects(&self) -> Effects
-        ensures { result.items ≡ take_effects self.now }
-    {
-        let mut effects = Effects::new();
-        close_path(&mut effects, &self.paths.calling);
-        if let Some(called) = &self.paths.called {
-            close_path(&mut effects, called);
-        }
-        effects.push(Effect::SetBit {
-            group: self.group,
-            index: self.index,
-        });
-        effects
-    }
-}
-
-/// What a job has decided before its turn: its reply, and what it takes.
+/// What a job has decided before its turn: its reply, what it lets go, and what it takes.
 #[derive(Debug, Drop)]
 pub struct Decision {
     pub reply: Reply,
+    pub leave: Option<Leave>,
     pub take: Option<Take>,
 }
 
 impl Decision {
-    ghost use Rattle.xbar_jobs.specs.Closing.{refused as refused_by, tried as tried_by, take_of as take_by, effects as effects_of_decision};
+    ghost use Rattle.xbar_jobs.specs.Closing.{effects as effects_of_decision, leaving as leaving_by, refused as refused_by, released as released_by, take_of as take_by, tried as tried_by};
 
-    /// Nothing is taken.
+    /// Nothing is let go and nothing is taken.
     pub fn refused(end: End) -> Self
         ensures { result ≡ refused_by end }
     {
         Decision {
             reply: Reply::plain(end),
+            leave: None,
             take: None,
         }
     }
@@ -78,18 +33,49 @@ impl Decision {
     {
         Decision {
             take: Decision::take_of(group, &trials.choice),
+            leave: None,
             reply: Reply::of_trials(aim, trials),
+        }
+    }
+
+    /// A call is let go.
+    pub fn released(leave: Leave) -> Self
+        ensures { result ≡ released_by leave }
+    {
+        let end = End::Released {
+            own: leave.own,
+            other: leave.other,
+        };
+        Decision {
+            reply: Reply::plain(end),
+            leave: Some(leave),
+            take: None,
+        }
+    }
+
+    /// The same, once something is let go.
+    pub fn leaving(self, leave: Leave) -> Self
+        ensures { result ≡ leaving_by leave self }
+    {
+        Decision {
+            leave: Some(leave),
+            ..self
         }
     }
 
     /// What is made for it past the turn, in this order.
     pub fn effects(&self) -> Effects
+        requires { length (effects_of_decision self.now) ≤ 14 }
         ensures { result.items ≡ effects_of_decision self.now }
     {
-        match &self.take {
-            None => Effects::new(),
-            Some(take) => take.effects(),
+        let mut effects = Effects::new();
+        if let Some(leave) = &self.leave {
+            leave.add_effects(&mut effects);
         }
+        if let Some(take) = &self.take {
+            take.add_effects(&mut effects);
+        }
+        effects
     }
 
     fn take_of(group: u8, choice: &Option<Choice>) -> Option<Take>

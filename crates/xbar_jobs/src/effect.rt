@@ -1,9 +1,11 @@
-ghost use Rattle.std.specs.Prelude.{◌≡◌, ◌<◌};
+ghost use Rattle.std.specs.Prelude.{◌≡◌, ◌-◌};
 ghost use Rattle.xbar_match.specs.Effects.{IsCrosspoint};
+ghost use Rattle.xbar_match.specs.Switches.{shape_at as shape_by};
+ghost use Rattle.xbar_switch.specs.Field.{close_bits_of as close_bits_by, open_mask_of as open_mask_by};
 ghost use Rattle.xbar_jobs.specs.Attempt.{effect_step};
 
 use crate::step::Step;
-use xbar_equip::{Crosspoint, group_word};
+use xbar_equip::{Crosspoint, WordNo, group_word};
 use xbar_match::shape_at;
 use xbar_switch::{close_bits, open_mask};
 
@@ -25,40 +27,25 @@ impl Default for Effect {
     }
 }
 
-fn closes(crosspoint: &Crosspoint) -> Step
+/// The bits that a close sets.
+fn close_bits_of(crosspoint: &Crosspoint) -> u64
     requires { IsCrosspoint crosspoint.now }
-    ensures { result ≡ effect_step (Effect.Close crosspoint.now) }
+    ensures { result ≡ close_bits_by (shape_by crosspoint.now.word) crosspoint.now.field (crosspoint.now.value - 1) }
 {
     let shape = shape_at(crosspoint.word.number());
-    let bits = close_bits(shape, crosspoint.field, crosspoint.value - 1);
-    Step::Close(crosspoint.word, bits)
+    close_bits(shape, crosspoint.field, crosspoint.value - 1)
 }
 
-fn opens(crosspoint: &Crosspoint) -> Step
+/// The bits that an open keeps.
+fn open_mask_of(crosspoint: &Crosspoint) -> u64
     requires { IsCrosspoint crosspoint.now }
-    ensures { result ≡ effect_step (Effect.Open crosspoint.now) }
+    ensures { result ≡ open_mask_by (shape_by crosspoint.now.word) crosspoint.now.field }
 {
-    let shape = shape_at(crosspoint.word.number());
-    Step::Open(crosspoint.word, open_mask(shape, crosspoint.field))
-}
-
-fn sets(group: u8, index: u8) -> Step
-    requires group { group < 16 }
-    requires index { index < 40 }
-    ensures { result ≡ effect_step (Effect.SetBit group index) }
-{
-    Step::Close(group_word(group), 1 << index)
-}
-
-fn clears(group: u8, index: u8) -> Step
-    requires group { group < 16 }
-    requires index { index < 40 }
-    ensures { result ≡ effect_step (Effect.ClearBit group index) }
-{
-    Step::Open(group_word(group), !(1 << index))
+    open_mask(shape_at(crosspoint.word.number()), crosspoint.field)
 }
 
 impl Effect {
+    ghost use Rattle.xbar_jobs.specs.Closing.{effect_on, effect_word};
     ghost use Rattle.xbar_jobs.specs.Keeping.{IsEffect};
 
     /// The step that makes it.
@@ -66,11 +53,36 @@ impl Effect {
         requires { IsEffect self.now }
         ensures { result ≡ effect_step self.now }
     {
+        let word = self.word();
         match self {
-            Effect::Close(crosspoint) => closes(crosspoint),
-            Effect::Open(crosspoint) => opens(crosspoint),
-            Effect::SetBit { group, index } => sets(*group, *index),
-            Effect::ClearBit { group, index } => clears(*group, *index),
+            Effect::Close(crosspoint) => Step::Close(word, close_bits_of(crosspoint)),
+            Effect::Open(crosspoint) => Step::Open(word, open_mask_of(crosspoint)),
+            Effect::SetBit { index, .. } => Step::Close(word, 1 << *index),
+            Effect::ClearBit { index, .. } => Step::Open(word, !(1 << *index)),
+        }
+    }
+
+    /// The word that it changes.
+    pub fn word(&self) -> WordNo
+        requires { IsEffect self.now }
+        ensures { result ≡ effect_word self.now }
+    {
+        match self {
+            Effect::Close(crosspoint) | Effect::Open(crosspoint) => crosspoint.word,
+            Effect::SetBit { group, .. } | Effect::ClearBit { group, .. } => group_word(*group),
+        }
+    }
+
+    /// What it makes of the number in its word.
+    pub fn on(&self, value: u64) -> u64
+        requires { IsEffect self.now }
+        ensures { result ≡ effect_on self.now value }
+    {
+        match self {
+            Effect::Close(crosspoint) => value | close_bits_of(crosspoint),
+            Effect::Open(crosspoint) => value & open_mask_of(crosspoint),
+            Effect::SetBit { index, .. } => value | 1 << *index,
+            Effect::ClearBit { index, .. } => value & !(1 << *index),
         }
     }
 }

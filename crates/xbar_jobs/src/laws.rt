@@ -2,26 +2,33 @@
 //! law. What holds of every system of jobs is said by the laws of `turns`, of which an office under a
 //! lawful plan is one.
 
-ghost use Rattle.std.specs.Prelude.{◌≡◌, ◌+◌, ◌≤◌, ℕ, [], List, Err, None, length};
+ghost use Rattle.std.specs.Prelude.{◌≡◌, ◌+◌, ◌≤◌, ℕ, [], List, Err, Option, Some, None, length};
 ghost use mathlib.Core.Option.{some};
 ghost use lib.ListN.{get_elem?};
 ghost use Rattle.turns.specs.Among.{IsIn};
 ghost use Rattle.turns.specs.Attempt.{HasDecided, Free, act, answered as told_of, begin};
 ghost use Rattle.turns.specs.Bounds.{AreBounded, AreSteady};
 ghost use Rattle.turns.specs.Script.{value_read};
+ghost use Rattle.turns.specs.Seen.{AreReadFrom};
 ghost use Rattle.turns.specs.System.{IsSystem, KeepsTo};
 ghost use Rattle.turns.specs.Law.{Lawful};
 ghost use Rattle.turns.specs.World.{World, Does, becomes, place};
 ghost use Rattle.turns.specs.declared.answer.Answer.{Answer};
+ghost use Rattle.xbar_equip.specs.Len.{Line, IsLine};
+ghost use Rattle.xbar_equip.specs.declared.path.Path.{Path};
 ghost use Rattle.xbar_plan.specs.Tables.{Tables};
 ghost use Rattle.xbar_plan.specs.Lawful.{IsLawful};
-ghost use Rattle.xbar_office.specs.Legal.{IsDialJob};
+ghost use Rattle.xbar_office.specs.Legal.{IsJob};
 ghost use Rattle.xbar_office.specs.declared.job.Job.{Job};
+ghost use Rattle.xbar_office.specs.declared.job.Job.TheVariants.{Release};
+ghost use Rattle.xbar_office.specs.declared.reply.Card.{Card};
+ghost use Rattle.xbar_office.specs.declared.reply.End.TheVariants.{Released};
 ghost use Rattle.xbar_jobs.specs.Attempt.{Act, Attempt, step_of};
 ghost use Rattle.xbar_jobs.specs.Jobs.{script};
 ghost use Rattle.xbar_jobs.specs.Keeping.{IsCovered};
-ghost use Rattle.xbar_jobs.specs.Office.{office};
+ghost use Rattle.xbar_jobs.specs.Office.{ShowsOffice, office};
 ghost use Rattle.xbar_jobs.specs.OnWords.{answered, applied, operation, step_word};
+ghost use Rattle.xbar_jobs.specs.Opening.{ReleasesJust};
 ghost use Rattle.xbar_jobs.specs.Script.{Script, Seen, walk};
 ghost use Rattle.xbar_jobs.specs.declared.decision.Decision.{Decision};
 ghost use Rattle.xbar_jobs.specs.Standing.{most_effects, most_held, most_readings, most_steps};
@@ -31,16 +38,15 @@ ghost use Rattle.xbar_equip.specs.declared.conn.Conn.{Conn};
 use crate::offices::Offices;
 use turns::{Phase, Wanted};
 
-/// An office under a lawful plan is a system of jobs over shared words. Its jobs are dial tone jobs, the
-/// only ones that are made as steps yet.
+/// An office under a lawful plan is a system of jobs over shared words.
 pub fn the_office_is_a_system()
     ensures { (plan : Tables) → IsLawful plan → IsSystem (office plan) }
 {}
 
-/// A dial tone job's script tests only words whose connectors it has seized by then, and its effects are
+/// A job's script tests only words whose connectors it has seized by then, and its effects are
 /// on such words.
 pub fn scripts_keep_to_what_they_hold()
-    ensures { (plan : Tables) (job : Job) → IsLawful plan → IsDialJob job → KeepsTo (office plan) (IsCovered plan) [] (script plan job) }
+    ensures { (plan : Tables) (job : Job) → IsLawful plan → IsJob job → KeepsTo (office plan) (IsCovered plan) [] (script plan job) }
 {}
 
 /// What a walk wants is neither held nor read by then.
@@ -62,17 +68,25 @@ pub fn frees_come_last()
     ensures { (a : Attempt) (turn : ℕ) (conn : Conn) → a.phase ≡ Phase.Operates turn → act a ≡ Free conn → a.effects ≡ [] }
 {}
 
-/// Whatever words show: an attempt at a dial tone job that has read them and decided has the one-marker
+/// Whatever words show: an attempt that has read them and decided has the one-marker
 /// office's reply, and effects that lead to words that show that office's paths.
 pub fn decisions_are_the_one_marker_offices()
-    ensures { (plan : Tables) (a : Attempt) → IsLawful plan → IsDialJob a.job → HasDecided (office plan) a → DoesAsOffice plan a }
+    ensures { (plan : Tables) (a : Attempt) → IsLawful plan → IsJob a.job → HasDecided (office plan) a → DoesAsOffice plan a }
+{}
+
+/// From its turn on a releasing marker opens just the crosspoints of the call that its reply names, each
+/// of which is closed, and clears its member's bit; nothing else changes.
+pub fn a_release_opens_just_its_call()
+    ensures { (plan : Tables) (a : Attempt) (line : Line) (own : Path) (other : Option Path) (words : List ℕ) (paths : List Path) → IsLawful plan → IsLine line → a.job ≡ Release line → HasDecided (office plan) a
+        → (cards : List Card) → a.reply ≡ Some (record { end = Released own other; cards = cards }) → length words ≡ 453 → ShowsOffice plan words paths → AreReadFrom words a.readings
+        → ReleasesJust plan own other words a.effects }
 {}
 
 /// An attempt that is never put off and never tries a seizing again ends within 128 steps; one that
 /// restarted, or is anywhere else on its way, does so once what it holds is freed and its request is
 /// withdrawn.
 pub fn steady_attempts_are_short()
-    ensures fresh { (plan : Tables) (job : Job) (answers : List Answer) → IsLawful plan → IsDialJob job → AreSteady (office plan) (begin (office plan) job) answers → length answers ≤ most_steps }
+    ensures fresh { (plan : Tables) (job : Job) (answers : List Answer) → IsLawful plan → IsJob job → AreSteady (office plan) (begin (office plan) job) answers → length answers ≤ most_steps }
     ensures anywhere { (plan : Tables) (w : World (office plan)) (k number : ℕ) (a : Attempt) (answers : List Answer) → IsLawful plan → Lawful (office plan) w → get_elem? w.actors k ≡ some (Does number a) → AreSteady (office plan) a answers → length answers ≤ 1 + length a.held + most_steps }
 {
     the_office_is_a_system();

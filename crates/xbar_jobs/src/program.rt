@@ -27,7 +27,7 @@ impl Program {
     ghost use Rattle.std.specs.Prelude.{ℕ};
     ghost use Rattle.turns.specs.Attempt.{act, change, reply_in, restarted, IsAnswerTo};
     ghost use Rattle.xbar_equip.specs.Word.{word_count};
-    ghost use Rattle.xbar_office.specs.Legal.{IsDialJob};
+    ghost use Rattle.xbar_office.specs.Legal.{IsJob};
     ghost use Rattle.xbar_plan.specs.Lawful.{IsLawful};
     ghost use Rattle.xbar_plan.specs.Tables.{Tables};
     ghost use Rattle.xbar_jobs.specs.Attempt.{counted, fresh, next_step, turn_in, with_count};
@@ -36,10 +36,9 @@ impl Program {
     ghost use Rattle.xbar_jobs.specs.Standing.{Stands};
     ghost use Rattle.xbar_jobs.specs.Turning.{DoesAsOffice, IsStep};
 
-    /// An attempt at a dial tone job that has made no step, whatever the plan will be. Jobs of other
-    /// kinds aren't made as steps yet.
+    /// An attempt that has made no step, whatever the plan will be.
     pub fn new(job: Job) -> Self
-        requires { IsDialJob job }
+        requires { IsJob job }
         ensures begin { result ≡ fresh job }
         ensures plan { (plan : Tables) → IsLawful plan → Stands plan result.attempt }
     {

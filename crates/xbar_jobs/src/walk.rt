@@ -1,18 +1,22 @@
-ghost use Rattle.std.specs.Prelude.{◌≡◌, IfSome, MatchResult, None};
+ghost use Rattle.std.specs.Prelude.{◌≡◌, ◌≤◌, IfSome, MatchResult, None, length};
 ghost use Rattle.xbar_jobs.specs.Closing.{effects};
 ghost use Rattle.xbar_jobs.specs.Keeping.{AreEffects, IsWanted};
-ghost use Rattle.xbar_office.specs.Legal.{IsDialJob};
-ghost use Rattle.xbar_jobs.specs.Jobs.{script, first_conn as first_conn_of, job_line};
+ghost use Rattle.xbar_office.specs.Legal.{IsJob};
+ghost use Rattle.xbar_jobs.specs.Jobs.{IsDial, script, first_conn as first_conn_of, job_line};
 ghost use Rattle.xbar_jobs.specs.Script.{walk as walk_of};
 ghost use Rattle.turns.specs.Script.{value_read};
-ghost use Rattle.xbar_jobs.specs.Trials.{IsNextJunctor};
+ghost use Rattle.xbar_jobs.specs.Sides.{IsNextJunctor};
+ghost use Rattle.xbar_jobs.specs.Standing.{most_effects};
 
+use crate::completing::complete;
 use crate::decision::Decision;
-use crate::dial::dial;
+use crate::dialling::dial;
+use crate::gathered::Gathered;
 use crate::kinds::Wanted;
 use crate::readings::Readings;
+use crate::releasing::release;
 use crate::seen::Seen;
-use crate::trials::next_junctor;
+use crate::sides::next_junctor;
 use xbar_equip::{Conn, Len, WordNo};
 use xbar_office::Job;
 use xbar_plan::Plan;
@@ -33,18 +37,27 @@ pub fn first_conn(job: &Job) -> Conn
 }
 
 #[tactic(auto, unfolding(crate::specs::Jobs::script))]
-fn follow(plan: &Plan, seen: &Seen, job: &Job) -> Result<Decision, Wanted>
-    ensures { result ≡ walk_of seen.now (script plan.now job.now) }
+fn follow(plan: &Plan, gathered: &Gathered, job: &Job) -> Result<Decision, Wanted>
+    ensures { result ≡ walk_of gathered.now (script plan.now job.now) }
 {
-    dial(plan, seen, line_of(job))
+    match job {
+        Job::Dial(line) => dial(plan, &Seen::new(gathered), *line),
+        Job::Complete(line, dialled) => complete(plan, gathered, *line, *dialled),
+        Job::Release(line) => release(plan, &Seen::new(gathered), *line),
+    }
 }
 
-/// The word that a dial tone job wants next, where it has just read this one, if that needs no walk: the
-/// ten line junctor switches of a frame are tested in order, whatever they show and whatever the plan is.
-pub fn next_in_row(readings: &Readings, word: WordNo) -> Option<WordNo>
+/// The word that a job wants next, where it has just read this one, if that needs no walk: a dial tone job
+/// tests the ten line junctor switches of a frame in order, whatever they show and whatever the plan is.
+/// The other jobs trace paths too, where what follows is told by what was read.
+pub fn next_in_row(job: &Job, readings: &Readings, word: WordNo) -> Option<WordNo>
+    ensures job { IfSome result (λ next. IsDial job.now) }
     ensures next { IfSome result (λ next. IsNextJunctor word next) }
     ensures unread { IfSome result (λ next. value_read readings.now next ≡ None) }
 {
+    let Job::Dial(_) = job else {
+        return None;
+    };
     let next = next_junctor(word)?;
     match readings.find(next) {
         Some(_) => None,
@@ -52,14 +65,12 @@ pub fn next_in_row(readings: &Readings, word: WordNo) -> Option<WordNo>
     }
 }
 
-/// Goes through a dial tone job with what an attempt has come by: to its decision, or to what it wants
-/// first.
-pub fn walk(plan: &Plan, seen: &Seen, job: &Job) -> Result<Decision, Wanted>
-    requires { IsDialJob job.now }
-    ensures walk { result ≡ walk_of seen.now (script plan.now job.now) }
-    ensures range { MatchResult result (λ decision. AreEffects (effects decision)) (λ wanted. IsWanted wanted) }
+/// Goes through a job with what an attempt has come by: to its decision, or to what it wants first.
+pub fn walk(plan: &Plan, gathered: &Gathered, job: &Job) -> Result<Decision, Wanted>
+    requires { IsJob job.now }
+    ensures walk { result ≡ walk_of gathered.now (script plan.now job.now) }
+    ensures range { MatchResult result (λ decision. AreEffects (effects decision) × (length (effects decision) ≤ most_effects)) (λ wanted. IsWanted wanted) }
 {
-    // That the plan is lawful is known from a call that reads it.
-    let _registers = plan.register_group();
-    follow(plan, seen, job)
+    xbar_plan::laws::every_plan_is_lawful(plan);
+    follow(plan, gathered, job)
 }

@@ -1,9 +1,7 @@
 -- what a call adds to the set without the register's path
 use Rattle.std.proofs.Common.{◌≡◌, ℕ, Bool, true, false, List, [], ◌∷◌, length, inl, inr, refl, sym, ◌∙◌, subst}
-use Rattle.std.specs.Prelude.{Option, Some, None, ◌&&◌, ◌||◌, ◌==◌, not, is_some, slice_get, if◌then◌else◌}
-use Rattle.std.specs.Option.{option_map_or}
+use Rattle.std.specs.Prelude.{Option, Some, None, ◌&&◌, ◌||◌, ◌==◌, not, is_some, if◌then◌else◌}
 use Rattle.std.specs.List.{list_all}
-use mathlib.Core.Bool.{true≢false}
 use Rattle.xbar_equip.specs.Among.{IsIn}
 use Rattle.xbar_equip.specs.Dialled.{code_of, number_of}
 use Rattle.xbar_equip.specs.First.{IsFirstBelow}
@@ -15,7 +13,7 @@ use Rattle.xbar_equip.proofs.Lists.{each_passes, found_passes}
 use Rattle.xbar_equip.proofs.Logic.{both, not_both}
 use Rattle.xbar_equip.proofs.PathTests.{line_eq-exact}
 use Rattle.xbar_equip.proofs.Ranges.{line_in_range}
-use Rattle.xbar_plan.specs.Group.{TrunkGroup, is_intra, is_outgoing, kind_eq}
+use Rattle.xbar_plan.specs.Group.{is_intra, is_outgoing, kind_eq}
 use Rattle.xbar_plan.specs.Tables.{Tables, Station, Route, member_at, lines_of, route_of}
 use Rattle.xbar_plan.specs.Lawful.{IsLawful, is_group, leads_to_trunks}
 use Rattle.xbar_plan.specs.declared.group.GroupKind.{GroupKind}
@@ -73,7 +71,7 @@ or_second true b e f = cc
 or_second false b e f = e
 
 -- a code that does not lead inside leads to outgoing groups alone
-leads_out : (plan : Tables) → IsLawful plan → (code : ℕ) (groups : List ℕ) → route_of plan code ≡ Some groups → leads_inside plan groups ≡ false → list_all (is_group is_outgoing plan.groups) groups ≡ true
+pub leads_out : (plan : Tables) → IsLawful plan → (code : ℕ) (groups : List ℕ) → route_of plan code ≡ Some groups → leads_inside plan groups ≡ false → list_all (is_group is_outgoing plan.groups) groups ≡ true
 leads_out plan laws code groups e outside =
     let found = found-item (λ (r : Route). r.groups) (λ (r : Route). r.code == code) plan.routes groups e in
     let leads = each_passes (leads_to_trunks plan.groups) plan.routes found.0 (passes plan laws).trunks found.1 in
@@ -82,7 +80,7 @@ leads_out plan laws code groups e outside =
     or_second (leads_inside plan groups) (list_all (is_group is_outgoing plan.groups) groups) here outside
 
 -- the lines of a number are lines
-lines_range : (plan : Tables) → IsLawful plan → (number : ℕ) (lines : List Line) → lines_of plan number ≡ Some lines → (line : Line) → IsIn line lines → IsLine line
+pub lines_range : (plan : Tables) → IsLawful plan → (number : ℕ) (lines : List Line) → lines_of plan number ≡ Some lines → (line : Line) → IsIn line lines → IsLine line
 lines_range plan laws number lines e line within =
     let found = found-item (λ (s : Station). s.lines) (λ (s : Station). s.number == number) plan.stations lines e in
     let all = each_passes (λ (s : Station). list_all is_line s.lines) plan.stations found.0 (formed plan laws).lines found.1 in
@@ -100,7 +98,7 @@ module _ (plan : Tables) (paths : List Path) (calling : Line) (laws : IsLawful p
         (good_trials plan paths trunk.group parties laws (are trunk.group is.within) trunk.first is.idle)
 
   -- a called line that was found is idle, and not the calling one
-  called_are : (groups : List ℕ) → leads_inside plan groups ≡ true → (lines : List Line) → ((line : Line) → IsIn line lines → IsLine line) → (called : Line) → called_line paths calling lines ≡ Some called
+  pub called_are : (groups : List ℕ) → leads_inside plan groups ≡ true → (lines : List Line) → ((line : Line) → IsIn line lines → IsLine line) → (called : Line) → called_line paths calling lines ≡ Some called
       → (group : ℕ) → IsIn group groups → AreParties plan paths group (record { calling = calling; called = Some called })
   called_are groups inside lines ranges called found group within =
       let passes = found_passes (λ line. not (line_eq line calling) && is_idle (has_line line) paths) lines called found in
@@ -122,15 +120,19 @@ module _ (plan : Tables) (paths : List Path) (calling : Line) (laws : IsLawful p
   number_adds groups inside number None found = refused-adds plan paths VacantNumber refl
   number_adds groups inside number (Some lines) found = line_adds groups inside lines (lines_range plan laws number lines found) (called_line paths calling lines) refl
 
-  out_adds : (groups : List ℕ) → list_all (is_group is_outgoing plan.groups) groups ≡ true → AddsPaths plan paths (connect plan paths (record { calling = calling; called = None }) groups)
-  out_adds groups out = connect_adds (record { calling = calling; called = None }) groups (λ group within. record {
+  -- a line that no other is called by suits an outgoing group
+  pub outgoing_are : (groups : List ℕ) → list_all (is_group is_outgoing plan.groups) groups ≡ true → (group : ℕ) → IsIn group groups → AreParties plan paths group (record { calling = calling; called = None })
+  outgoing_are groups out group within = record {
     calling = in_range;
     calling_idle = idle;
     called = λ line is. cc;
     called_idle = λ line is. cc;
     apart = λ line is. cc;
     paired = outgoing_single plan laws group (each_passes (is_group is_outgoing plan.groups) groups group out within);
-  })
+  }
+
+  out_adds : (groups : List ℕ) → list_all (is_group is_outgoing plan.groups) groups ≡ true → AddsPaths plan paths (connect plan paths (record { calling = calling; called = None }) groups)
+  out_adds groups out = connect_adds (record { calling = calling; called = None }) groups (outgoing_are groups out)
 
   route_adds : (dialled code : ℕ) (groups : List ℕ) → route_of plan code ≡ Some groups → (b : Bool) → leads_inside plan groups ≡ b
       → AddsPaths plan paths (if b then call_number plan paths calling groups (lines_of plan (number_of dialled)) else connect plan paths (record { calling = calling; called = None }) groups)

@@ -42,7 +42,8 @@ module _ (plan : Tables) (paths : List Path) (line : Line) (laws : IsLawful plan
   abbrev pub registers : List Member
   registers = members_of plan (register_group plan)
 
-  are_parties : AreParties plan paths (register_group plan) alone
+  -- it suits the registers
+  pub are_parties : AreParties plan paths (register_group plan) alone
   are_parties = record {
     calling = in_range;
     calling_idle = line_idle;

@@ -47,7 +47,7 @@ module _ (plan : Tables) (paths : List Path) (line : Line) (dialled : ℕ) (laws
     of (Some own) e is = two_lines_of _ (adds plan paths line dialled own laws lawful in_range e).apart calling called trial is
 
 -- a path is left where it was there and is neither of those that go
-left_in : (paths : List Path) (own : Path) (other : Option Path) → IsSet paths → (q : Path) → IsIn q (without_other (without_path paths own) other) ↔ (IsIn q paths × (q ≢ own) × (other ≢ Some q))
+pub left_in : (paths : List Path) (own : Path) (other : Option Path) → IsSet paths → (q : Path) → IsIn q (without_other (without_path paths own) other) ↔ (IsIn q paths × (q ≢ own) × (other ≢ Some q))
 left_in paths own None set q = (λ within. let was = without-in paths own q set within in (was.0, was.1, λ e. cc), λ was. in-without paths own q was.0 was.1)
 left_in paths own (Some other) set q = (
   λ within.

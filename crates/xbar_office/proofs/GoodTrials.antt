@@ -74,7 +74,8 @@ joined plan paths line place start k channel can turn links = record {
   own = can.own;
 }
 
-channel_found : (paths : List Path) (line : Line) (place : TrunkPlace) (start : ℕ) → IsFirstIdleChannel paths line place start (channel_test paths line place start)
+-- what the channel test finds is the first idle channel
+pub channel_found : (paths : List Path) (line : Line) (place : TrunkPlace) (start : ℕ) → IsFirstIdleChannel paths line place start (channel_test paths line place start)
 channel_found paths line place start =
     let test = λ (k : ℕ). has_idle_links paths (path_by line place (channel_in_turn start k)) in
     in_turn-law test (channel_in_turn start) (first_below test 10) (first_below-law test 10)

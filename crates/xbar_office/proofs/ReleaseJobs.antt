@@ -77,12 +77,12 @@ module _ (plan : Tables) (paths : List Path) (own : Path) (laws : IsLawful plan)
   own_gone_alone =
       idle-without_own (has_place own.place) paths own lawful.orderly.set (λ q there has. lawful.orderly.apart q own there within (inr (inl ((place_eq-exact q.place own.place).0 has))))
 
-  own_gone : (other : Option Path) → is_idle (has_place own.place) (without_other rest other) ≡ true
+  pub own_gone : (other : Option Path) → is_idle (has_place own.place) (without_other rest other) ≡ true
   own_gone None = own_gone_alone
   own_gone (Some other) = idle-without (has_place own.place) rest other rest_orderly.set own_gone_alone
 
   -- and so is a place of which the path goes too
-  other_gone : (place : TrunkPlace) (found : Option Path) → path_at paths place ≡ found → is_idle (has_place place) (without_other rest found) ≡ true
+  pub other_gone : (place : TrunkPlace) (found : Option Path) → path_at paths place ≡ found → is_idle (has_place place) (without_other rest found) ≡ true
   other_gone place None e = idle-without (has_place place) paths own lawful.orderly.set (idle-not_found (has_place place) paths e)
   other_gone place (Some other) e =
       let passes = found_passes (has_place place) paths other e in
@@ -90,7 +90,7 @@ module _ (plan : Tables) (paths : List Path) (own : Path) (laws : IsLawful plan)
       (λ q there has. lawful.orderly.apart q other (without-in paths own q lawful.orderly.set there).0 passes.0 (inr (inl (same_place q other place has passes.1))))
 
   -- other places are as idle as before
-  others_stay : (place : TrunkPlace) (other : Option Path) → has_place place own ≡ false → ((q : Path) → other ≡ Some q → has_place place q ≡ false) → is_idle (has_place place) (without_other rest other) ≡ is_idle (has_place place) paths
+  pub others_stay : (place : TrunkPlace) (other : Option Path) → has_place place own ≡ false → ((q : Path) → other ≡ Some q → has_place place q ≡ false) → is_idle (has_place place) (without_other rest other) ≡ is_idle (has_place place) paths
   others_stay place None not_own not_other = idle-without_other (has_place place) paths own not_own
   others_stay place (Some other) not_own not_other =
       idle-without_other (has_place place) rest other (not_other other refl) ∙ idle-without_other (has_place place) paths own not_own

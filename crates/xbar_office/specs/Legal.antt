@@ -14,12 +14,6 @@ IsJob (Dial line) = IsLine line
 IsJob (Complete line dialled) = IsLine line × IsDialled dialled
 IsJob (Release line) = IsLine line
 
--- a dial tone job, of a line that there is
-abbrev pub IsDialJob : Job → Type 0
-IsDialJob (Dial line) = IsLine line
-IsDialJob (Complete line dialled) = ⊥
-IsDialJob (Release line) = ⊥
-
 abbrev pub AreJobs : List Job → Type 0
 AreJobs [] = Unit {0}
 AreJobs (job ∷ jobs) = IsJob job × AreJobs jobs

@@ -9,6 +9,7 @@ pub use cards::Cards;
 pub use job::Job;
 pub use office::Office;
 pub use reply::{Card, End, Record, Reply};
+pub use route::leads_inside;
 pub use trial::{CallPaths, TrialEnd};
 pub use two_trials::{Choice, Trials};
 

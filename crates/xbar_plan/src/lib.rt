@@ -13,6 +13,8 @@ mod fault;
 mod group;
 mod lawful;
 pub mod laws;
+#[cfg(test)]
+mod memory_tests;
 mod plan;
 mod read;
 #[cfg(test)]

@@ -48,7 +48,7 @@ fn have_the_same_group(one: &Plan, other: &Plan, number: u8) -> bool {
     a.name() == b.name() && a.kind() == b.kind() && a.members() == b.members()
 }
 
-fn answer_the_same(one: &Plan, other: &Plan) -> bool {
+pub fn answer_the_same(one: &Plan, other: &Plan) -> bool {
     one.group_count() == other.group_count()
         && (0..16).all(|number| have_the_same_group(one, other, number))
         && (0..1000).all(|code| one.route(code) == other.route(code))

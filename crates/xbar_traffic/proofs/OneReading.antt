@@ -1,48 +1,14 @@
-use Rattle.std.proofs.Common.{◌≡◌, ◌/◌, ◌%◌, ◌⊎◌, ◌++◌, ℕ, Bool, true, List, [], ◌∷◌, Some, None, refl, sym, ap, subst, ◌∙◌, arith, inl, inr}
+use Rattle.std.proofs.Common.{◌≡◌, ◌⊎◌, ◌++◌, ℕ, Bool, true, List, [], ◌∷◌, Some, None, refl, sym, ap, subst, ◌∙◌, arith, inl, inr}
 use Rattle.std.specs.Prelude.{Option, Ok, Err, All}
 use Rattle.std.proofs.lemmas.Fmt.{decimal_injective}
 use Rattle.std.proofs.lemmas.List.Elements.{All-cons, All-nil}
-use Rattle.xbar_equip.specs.Digits.{digit}
-use Rattle.xbar_equip.specs.Len.{Line, line_text}
-use Rattle.xbar_office.specs.Legal.{IsDialJob}
-use Rattle.xbar_office.specs.declared.job.Job.{Job}
-use Rattle.xbar_office.specs.declared.job.Job.TheVariants.{Dial, Complete, Release}
-use Rattle.xbar_traffic.specs.Job.{job_fields}
 use Rattle.xbar_traffic.specs.Row.{IsReadAs, IsRow, row_fields}
 use Rattle.xbar_traffic.specs.Traffic.{AreReadAfter, IsJudgedAs, repeats, stands_in}
 use Rattle.xbar_traffic.specs.declared.fault.RowFault.{RowFault}
 use Rattle.xbar_traffic.specs.declared.fault.RowFault.TheVariants.{Unreadable, UnknownKind, Malformed, NumberTwice, Marker, OtherMode}
 use Rattle.xbar_traffic.specs.declared.row.Row.{Row}
 use Rattle.xbar_traffic.specs.declared.row.Row.TheVariants.{Assign, Steps}
-
-first_same : {A : Type 0} (x y : A) (xs ys : List A) → x ∷ xs ≡ y ∷ ys → x ≡ y
-first_same x y xs ys e = cc
-
-rest_same : {A : Type 0} (x y : A) (xs ys : List A) → x ∷ xs ≡ y ∷ ys → xs ≡ ys
-rest_same x y xs ys e = cc
-
-digit_same : (m n : ℕ) → digit m ≡ digit n → m ≡ n
-digit_same m n e = omega arith
-
--- a line's text is no other's
-line_text_injective : (a b : Line) → line_text a ≡ line_text b → a ≡ b
-line_text_injective a b e =
-    let frame = digit_same a.frame b.frame (first_same _ _ _ _ e) in
-    let e1 = rest_same _ _ _ _ e in
-    let switch = digit_same a.switch b.switch (first_same _ _ _ _ e1) in
-    let e2 = rest_same _ _ _ _ e1 in
-    let group = digit_same (a.x / 5) (b.x / 5) (first_same _ _ _ _ e2) in
-    let file = digit_same (a.x % 5) (b.x % 5) (first_same _ _ _ _ (rest_same _ _ _ _ e2)) in
-    let x : a.x ≡ b.x = omega arith in
-    λ i. record { frame = frame i; switch = switch i; x = x i }
-
--- a dial tone job's fields are no other's
-job_fields_injective : (a b : Job) → IsDialJob a → IsDialJob b → job_fields a ≡ job_fields b → a ≡ b
-job_fields_injective (Dial a) (Dial b) h h2 e = ap Dial (line_text_injective a b (first_same _ _ _ _ (rest_same _ _ _ _ e)))
-job_fields_injective (Dial a) (Complete b dialled) h h2 e = absurd h2
-job_fields_injective (Dial a) (Release b) h h2 e = absurd h2
-job_fields_injective (Complete a dialled) b h h2 e = absurd h
-job_fields_injective (Release a) b h h2 e = absurd h
+use Rattle.xbar_traffic.proofs.JobFields.{first_same, job_fields_injective, rest_same}
 
 -- a row's fields are no other's
 row_fields_injective : (a b : Row) → IsRow a → IsRow b → row_fields a ≡ row_fields b → a ≡ b

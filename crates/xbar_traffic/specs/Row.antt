@@ -1,14 +1,14 @@
 use Rattle.std.specs.Prelude.{◌≡◌, ◌≢◌, ◌<◌, ℕ, Bool, true, false, List, [], ◌∷◌, Result, Ok, Err, codes, decimal, bytes_eq}
-use Rattle.xbar_office.specs.Legal.{IsDialJob}
+use Rattle.xbar_office.specs.Legal.{IsJob}
 use Rattle.xbar_traffic.specs.Job.{job_fields, job_fault, is_job_kind}
 use Rattle.xbar_traffic.specs.declared.fault.RowFault.{RowFault}
 use Rattle.xbar_traffic.specs.declared.fault.RowFault.TheVariants.{Unreadable, UnknownKind, Malformed, OtherMode}
 use Rattle.xbar_traffic.specs.declared.row.Row.{Row}
 use Rattle.xbar_traffic.specs.declared.row.Row.TheVariants.{Assign, Steps}
 
--- the numbers of a row are in range, and its job is a dial tone job
+-- the numbers of a row are in range, and its job is one that there is
 abbrev pub IsRow : Row → Type 0
-IsRow (Assign marker job_no job) = (marker < 100) × (job_no < 10000) × IsDialJob job
+IsRow (Assign marker job_no job) = (marker < 100) × (job_no < 10000) × IsJob job
 IsRow (Steps marker count) = (marker < 100) × (count < 10000)
 
 -- the five fields in which a row is written

@@ -13,7 +13,7 @@ pub fn records_are_one_traffic()
     ensures fault { (records : List (List (List ℕ))) (rows rows' : List Row) (fault fault' : Option RowFault) → IsTrafficOf records rows fault → IsTrafficOf records rows' fault' → fault ≡ fault' }
 {}
 
-/// The numbers of all rows are in range, and their jobs are dial tone jobs of lines that there are.
+/// The numbers of all rows are in range, and so are the lines and the digits of their jobs.
 pub fn rows_are_in_range()
     ensures { (records : List (List (List ℕ))) (rows : List Row) (fault : Option RowFault) → IsTrafficOf records rows fault → All IsRow rows }
 {}

@@ -1,5 +1,7 @@
-ghost use Rattle.std.specs.Prelude.{◌≡◌, ◌∷◌, codes, []};
+ghost use Rattle.std.specs.Prelude.{◌≡◌, ◌≢◌, ℕ, List, [], ◌∷◌, ◌++◌, MatchOption, MatchResult, codes, length};
 ghost use Rattle.csv.specs.Records.{fields_of};
+ghost use Rattle.xbar_equip.specs.Dialled.{IsDialled, dialled_text};
+ghost use Rattle.xbar_equip.specs.Len.{IsLine, Line, line_text};
 ghost use Rattle.xbar_traffic.specs.Row.{IsReadAs};
 ghost use Rattle.xbar_traffic.specs.Fields.{five_fields};
 ghost use Rattle.xbar_traffic.specs.Job.{IsJobReadAs};
@@ -8,7 +10,7 @@ use crate::fault::RowFault;
 use crate::fields::Fields;
 use crate::number::read_number;
 use csv::ByteRecord;
-use xbar_equip::Len;
+use xbar_equip::{Dialled, Len};
 use xbar_office::Job;
 
 /// What a row of traffic asks for.
@@ -77,10 +79,40 @@ fn read_job(kind: &[u8], args: &[u8]) -> Result<Job, RowFault>
     ensures { IsJobReadAs kind.now args.now result }
 {
     match kind {
-        b"D" => match Len::parse(args) {
-            Ok(line) => Ok(Job::Dial(line)),
-            Err(_) => Err(RowFault::Malformed),
-        },
+        b"D" => Ok(Job::Dial(read_line(args)?)),
+        b"C" => read_complete(args),
+        b"R" => Ok(Job::Release(read_line(args)?)),
         _ => Err(RowFault::UnknownKind),
     }
+}
+
+/// The completing job of a line and what it dialled, as `3041 5551234`.
+#[tactic(auto, using(crate::proofs::JobFields::no_space, crate::proofs::JobFields::no_line))]
+fn read_complete(args: &[u8]) -> Result<Job, RowFault>
+    ensures { IsJobReadAs (codes "C") args.now result }
+{
+    let (line, dialled) = split_after_line(args).ok_or(RowFault::Malformed)?;
+    let line = read_line(line)?;
+    let dialled = read_dialled(dialled)?;
+    Ok(Job::Complete(line, dialled))
+}
+
+/// The four bytes before a space, and what stands after it.
+fn split_after_line(text: &[u8]) -> Option<(&[u8], &[u8])>
+    ensures { MatchOption result ((line rest : List ℕ) → length line ≡ 4 → text.now ≢ line ++ (codes " " ++ rest)) (λ parts. (length parts.0.now ≡ 4) × (text.now ≡ parts.0.now ++ (codes " " ++ parts.1.now))) }
+{
+    let (line, rest) = text.split_at_checked(4)?;
+    Some((line, rest.strip_prefix(b" ")?))
+}
+
+fn read_line(text: &[u8]) -> Result<Len, RowFault>
+    ensures { MatchResult result (λ line. IsLine line × (text.now ≡ line_text line)) (λ fault. ((line : Line) → IsLine line → text.now ≢ line_text line) × (fault ≡ RowFault.Malformed)) }
+{
+    Len::parse(text).map_err(|_| RowFault::Malformed)
+}
+
+fn read_dialled(text: &[u8]) -> Result<Dialled, RowFault>
+    ensures { MatchResult result (λ dialled. IsDialled dialled × (text.now ≡ dialled_text dialled)) (λ fault. ((dialled : ℕ) → IsDialled dialled → text.now ≢ dialled_text dialled) × (fault ≡ RowFault.Malformed)) }
+{
+    Dialled::parse(text).map_err(|_| RowFault::Malformed)
 }

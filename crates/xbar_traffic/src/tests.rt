@@ -2,7 +2,7 @@ use super::*;
 use std::alloc::Global;
 use std::process::Abort;
 use std::test::Fail;
-use xbar_equip::Len;
+use xbar_equip::{Dialled, Len};
 use xbar_office::Job;
 
 fn line(rt: &impl Abort, text: &[u8]) -> Len {
@@ -51,8 +51,30 @@ fn rows_are_read(rt: HostRuntime) -> Result<(), Fail> {
 }
 
 #[test]
+fn jobs_of_all_kinds_are_read(rt: HostRuntime) -> Result<(), Fail> {
+    let line = line(&rt, b"3041");
+    let complete = Job::Complete(line, Dialled::new(5_551_234));
+    let table: [(&[u8], u32, Job); 3] = [
+        (b"J,0,1,D,3041", 1, Job::Dial(line)),
+        (b"J,0,2,C,3041 5551234", 2, complete),
+        (b"J,0,3,R,3041", 3, Job::Release(line)),
+    ];
+    for (text, job_no, job) in table {
+        let traffic = Traffic::read(rt.alloc(), text)?;
+        let wanted = [Row::Assign {
+            marker: 0,
+            job_no,
+            job,
+        }];
+        assert_eq!(rt; traffic.rows.as_slice(), wanted.as_slice(), "of {text:?}");
+        assert_eq!(rt; traffic.fault, None, "of {text:?}");
+    }
+    Ok(())
+}
+
+#[test]
 fn faults_are_told(rt: HostRuntime) -> Result<(), Fail> {
-    let table: [(&[u8], usize, &str); 24] = [
+    let table: [(&[u8], usize, &str); 29] = [
         (b"", 0, "none"),
         (b"\n\r\n", 0, "none"),
         (b"J,99,9999,D,3041\nS,99,9999,,", 2, "none"),
@@ -63,9 +85,14 @@ fn faults_are_told(rt: HostRuntime) -> Result<(), Fail> {
         (b"\xFF,0,1,D,3041", 0, "FAULT,T2,1\n"),
         (b"J,0,1,E,3041", 0, "FAULT,T2,1\n"),
         (b"J,0,x,E,3041", 0, "FAULT,T2,1\n"),
-        (b"J,0,1,C,3041 5551234", 0, "FAULT,T2,1\n"),
-        (b"J,0,1,R,3041", 0, "FAULT,T2,1\n"),
+        (b"J,0,1,DC,3041 5551234", 0, "FAULT,T2,1\n"),
         (b"J,0,1,D,3060", 0, "FAULT,T3,1\n"),
+        (b"J,0,1,C,3041", 0, "FAULT,T3,1\n"),
+        (b"J,0,1,C,3041  5551234", 0, "FAULT,T3,1\n"),
+        (b"J,0,1,C,30415551234", 0, "FAULT,T3,1\n"),
+        (b"J,0,1,C,3041 555123", 0, "FAULT,T3,1\n"),
+        (b"J,0,1,C,3060 5551234", 0, "FAULT,T3,1\n"),
+        (b"J,0,1,R,3041 5551234", 0, "FAULT,T3,1\n"),
         (b"J,0,01,D,3041", 0, "FAULT,T3,1\n"),
         (b"J,0,+1,D,3041", 0, "FAULT,T3,1\n"),
         (b"J,0,,D,3041", 0, "FAULT,T3,1\n"),

@@ -21,8 +21,6 @@ pub struct Traffic {
 
 impl Traffic {
     /// Reads the bytes of a whole traffic.
-    ///
-    /// Rows ask for dial tone jobs alone so far: the kinds `C` and `R` are unknown.
     pub fn read(alloc: Global, bytes: &[u8]) -> Result<Traffic, AllocError>
         ensures { IfOk result (λ traffic. IsTrafficOf (records default_config (strip_bom bytes.now)) traffic.rows.items traffic.fault) }
     {

@@ -21,11 +21,24 @@ fn comes_to(
     Ok(ended == status && sink.get_ref().as_slice() == text.as_bytes())
 }
 
+/// A call inside the office: it is set up, the register serves another line, the called line releases, and
+/// the calling line has no call any more.
+const CALL: &str =
+    "J,0,1,D,3041\nS,0,96,,\nJ,0,2,C,3041 2340004\nS,0,96,,\nJ,0,3,D,1000\nS,0,96,,\n\
+J,0,4,R,3100\nS,0,96,,\nJ,0,5,R,3041\nS,0,96,,\n";
+
+const CALL_TEXT: &str = "0,1,0,D,3041,-,DIALTONE,1,3041-0-417,-\n\
+1,2,0,C,3041,2340004,CONNECTED,1,3041-0-600,3100-1-601\n\
+2,3,0,D,1000,-,DIALTONE,1,1000-0-417,-\n\
+3,4,0,R,3100,-,RELEASED,-,3100-1-601,3041-0-600\n\
+4,5,0,R,3041,-,NOCALL,-,-,-\nPATHS,1\nCLOSED,4\n";
+
 #[test]
 fn traffic_that_is_done(rt: HostRuntime) -> Result<(), Fail> {
     for (traffic, text) in [
         (FIRST, FIRST_TEXT),
         ("", "PATHS,0\nCLOSED,0\n"),
+        (CALL, CALL_TEXT),
         // Half-done jobs are finished at the end: two connectors held, or two crosspoints closed.
         ("J,0,1,D,3041\nS,0,5,,\n", FIRST_TEXT),
         ("J,0,1,D,3041\nS,0,22,,\n", FIRST_TEXT),

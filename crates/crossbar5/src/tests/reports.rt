@@ -120,48 +120,31 @@ fn the_text_of_records(rt: HostRuntime) -> Result<(), Fail> {
     Ok(())
 }
 
+/// The end of a call by the path 3041-0-600.
+fn connected_end(called: Option<Path>, trial: u8) -> End {
+    End::Connected {
+        calling: calling_path(),
+        called,
+        trial,
+    }
+}
+
+fn released_end(own: Path, other: Option<Path>) -> End {
+    End::Released { own, other }
+}
+
 /// The records of each end that only other kinds of job have, in turn order.
 fn call_records(alloc: Global) -> Result<Vec<Record>, Fail> {
     let records = vec![in alloc;
-        completed(
-            0,
-            1,
-            End::Connected {
-                calling: calling_path(),
-                called: Some(called_path()),
-                trial: 1
-            }
-        ),
-        completed(
-            1,
-            2,
-            End::Connected {
-                calling: calling_path(),
-                called: None,
-                trial: 2
-            }
-        ),
+        completed(0, 1, connected_end(Some(called_path()), 1)),
+        completed(1, 2, connected_end(None, 2)),
         completed(2, 3, End::NoRegister),
         completed(3, 4, End::VacantCode),
         completed(4, 5, End::VacantNumber),
         completed(5, 6, End::CalledBusy),
         completed(6, 7, End::TrunksBusy),
-        released(
-            7,
-            8,
-            End::Released {
-                own: called_path(),
-                other: Some(calling_path())
-            }
-        ),
-        released(
-            8,
-            9,
-            End::Released {
-                own: calling_path(),
-                other: None
-            }
-        ),
+        released(7, 8, released_end(called_path(), Some(calling_path()))),
+        released(8, 9, released_end(calling_path(), None)),
         released(9, 10, End::NoCall),
     ]?;
     Ok(records)

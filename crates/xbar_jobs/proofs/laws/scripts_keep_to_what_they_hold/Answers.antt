@@ -1,4 +1,4 @@
-use Rattle.xbar_jobs.proofs.DialKeeps.{script_keeps}
+use Rattle.xbar_jobs.proofs.JobKeeps.{script_keeps}
 use Rattle.xbar_jobs.proofs.laws.scripts_keep_to_what_they_hold.Goals as goal
 
 pub returns : goal.returns

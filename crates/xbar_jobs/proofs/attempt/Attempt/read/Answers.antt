@@ -21,4 +21,4 @@ push-requires-clause-unread c =
 
 pub returns-in-Some : goal.returns-in-Some
 returns-in-Some c =
-    change_by_row c.args.plan.now _ c.args.self.now c.in-Tests.word c.args.value c.in-Some.next _ c.self.view_is c.in-Tests.is c.requires.comes c.self.invariant.job c.push.ensures c.in-Some.ensures.next c.in-Some.ensures.unread
+    change_by_row c.args.plan.now _ c.args.self.now c.in-Tests.word c.args.value c.in-Some.next _ c.self.view_is c.in-Tests.is c.requires.comes c.self.invariant.job c.in-Some.ensures.job c.push.ensures c.in-Some.ensures.next c.in-Some.ensures.unread

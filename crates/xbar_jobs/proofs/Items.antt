@@ -1,0 +1,9 @@
+-- items of lists, by their places
+use Rattle.std.proofs.Common.{◌≡◌, ℕ, zero, suc, ◌<◌, List, [], ◌∷◌, length, slice_index_or, inl, inr, arith}
+use Rattle.turns.specs.Among.{IsIn}
+
+-- what stands at a place of a list is one of its items
+pub item_within : {A : Type 0} (items : List A) (at : ℕ) (item : A) → item ≡ slice_index_or items at item → at < length items → IsIn item items
+item_within [] at item is below = absurd (omega arith)
+item_within (first ∷ items) zero item is below = inl is
+item_within (first ∷ items) (suc at) item is below = inr (item_within items at item is (omega arith))

@@ -1,0 +1,171 @@
+//! A completing job, as far as an attempt has come with it.
+
+ghost use Rattle.std.specs.Prelude.{◌≡◌, ◌<◌, IfSome};
+ghost use Rattle.xbar_office.specs.Trunks.{AreGroups};
+ghost use Rattle.xbar_plan.specs.Tables.{lines_of, route_of};
+ghost use Rattle.xbar_jobs.specs.Completing.{call as call_script, call_line as call_line_script, call_number as call_number_script, call_without as call_without_script, complete_from as complete_from_script, complete_steps, hunt as hunt_script, register_at as register_at_of};
+ghost use Rattle.xbar_jobs.specs.Script.{walk};
+ghost use Rattle.xbar_equip.specs.Dialled.{code_of};
+
+use crate::connecting::connect;
+use crate::decision::Decision;
+use crate::effects::Effects;
+use crate::gathered::Gathered;
+use crate::kinds::Wanted;
+use crate::leave::Leave;
+use crate::party::{CallParties, Party};
+use crate::seen::Seen;
+use crate::tracing::{approach, trace};
+use xbar_equip::{Conn, Dialled, DirNo, Len, Path};
+use xbar_office::{Aim, End, leads_inside};
+use xbar_plan::{MemberPlace, Plan};
+
+/// The first of a number's lines that isn't the calling one and is in no path: each is approached in turn,
+/// until one is.
+#[tactic(auto, using(turns::proofs::Walks::walk_bind, turns::proofs::Walks::walk_end), unfolding(crate::specs::Completing::hunt, crate::specs::Completing::unless_calling, crate::specs::Completing::unless_busy))]
+fn hunt(seen: &Seen, calling: Len, lines: &[Len]) -> Result<Option<Party>, Wanted>
+    ensures { result ≡ walk seen.now (hunt_script calling lines.now) }
+{
+    for line in lines {
+        if *line == calling {
+            continue;
+        }
+        let party = approach(seen, *line)?;
+        if party.channel().is_none() {
+            return Ok(Some(party));
+        }
+    }
+    Ok(None)
+}
+
+/// A call to a line of the office, where its number has an idle one.
+#[tactic(auto, using(turns::proofs::Walks::walk_end), unfolding(crate::specs::Completing::call_line))]
+fn call_line(
+    plan: &Plan,
+    seen: &Seen,
+    calling: &Party,
+    groups: &[u8],
+    called: &Option<Party>,
+) -> Result<Decision, Wanted>
+    requires { AreGroups plan.now groups.now }
+    ensures { result ≡ walk seen.now (call_line_script plan.now calling.now groups.now called.now) }
+{
+    let Some(called) = called else {
+        return Ok(Decision::refused(End::CalledBusy));
+    };
+    let parties = CallParties {
+        calling: *calling,
+        called: Some(*called),
+    };
+    connect(plan, seen, Aim::Connected, &parties, groups)
+}
+
+/// A call to a number of the office, by the lines that it has.
+#[tactic(auto, using(turns::proofs::Walks::walk_bind, turns::proofs::Walks::walk_end), unfolding(crate::specs::Completing::call_number))]
+fn call_number(
+    plan: &Plan,
+    seen: &Seen,
+    calling: &Party,
+    groups: &[u8],
+    number: DirNo,
+) -> Result<Decision, Wanted>
+    requires { AreGroups plan.now groups.now }
+    ensures { result ≡ walk seen.now (call_number_script plan.now calling.now groups.now (lines_of plan.now number)) }
+{
+    let Some(lines) = plan.stations(number) else {
+        return Ok(Decision::refused(End::VacantNumber));
+    };
+    let called = hunt(seen, calling.line, lines)?;
+    call_line(plan, seen, calling, groups, &called)
+}
+
+/// A call by the groups that the dialled code leads to: inside the office its number counts too.
+#[tactic(auto, using(turns::proofs::Walks::walk_end), unfolding(crate::specs::Completing::call, crate::specs::Completing::call_by))]
+fn call(plan: &Plan, seen: &Seen, calling: &Party, dialled: Dialled) -> Result<Decision, Wanted>
+    ensures { result ≡ walk seen.now (call_script plan.now calling.now dialled (route_of plan.now (code_of dialled))) }
+{
+    xbar_plan::laws::codes_lead_to_trunks();
+    let Some(groups) = plan.route(dialled.code()) else {
+        return Ok(Decision::refused(End::VacantCode));
+    };
+    if leads_inside(plan, groups) {
+        call_number(plan, seen, calling, groups, dialled.number())
+    } else {
+        let alone = CallParties::alone(calling);
+        connect(plan, seen, Aim::Connected, &alone, groups)
+    }
+}
+
+/// A call whose register is let go: the register's group is seized, and the call is decided on the words as
+/// they will be once that is done.
+#[tactic(auto, using(turns::proofs::Walks::walk_bind, turns::proofs::Walks::walk_end, turns::proofs::ReadWith::walk_read_with), unfolding(crate::specs::Completing::call_without))]
+fn call_without(
+    plan: &Plan,
+    gathered: &Gathered,
+    calling: &Party,
+    dialled: Dialled,
+    leave: Leave,
+) -> Result<Decision, Wanted>
+    requires group { leave.group < 16 }
+    requires index { leave.index < 40 }
+    ensures { result ≡ walk gathered.now (call_without_script plan.now calling.now dialled leave) }
+{
+    Seen::new(gathered).seize(Conn::Group(leave.group))?;
+    let mut effects = Effects::new();
+    leave.add_effects(&mut effects);
+    let effects = effects.as_slice();
+    let later = Seen::as_if_made(gathered, effects);
+    let decision = call(plan, &later, &calling.after(effects), dialled)?;
+    Ok(decision.leaving(leave))
+}
+
+/// The register at the end of a path, if it ends at one.
+fn register_at(plan: &Plan, own: &Path) -> Option<MemberPlace>
+    ensures register { result ≡ register_at_of plan.now own.now }
+    ensures range { IfSome result (λ found. (found.group < 16) × (found.index < 40)) }
+{
+    xbar_plan::laws::member_places_are_in_range();
+    let found = plan.member_of(own.place)?;
+    if found.group == plan.register_group() {
+        Some(found)
+    } else {
+        None
+    }
+}
+
+/// Goes on from the calling line's own path, where that ends at a register.
+#[tactic(auto, using(turns::proofs::Walks::walk_end), unfolding(crate::specs::Completing::complete_from, crate::specs::Completing::call_from))]
+fn complete_from(
+    plan: &Plan,
+    gathered: &Gathered,
+    calling: &Party,
+    dialled: Dialled,
+    own: &Option<Path>,
+) -> Result<Decision, Wanted>
+    ensures { result ≡ walk gathered.now (complete_from_script plan.now calling.now dialled own.now) }
+{
+    let Some(own) = own else {
+        return Ok(Decision::refused(End::NoRegister));
+    };
+    let Some(found) = register_at(plan, own) else {
+        return Ok(Decision::refused(End::NoRegister));
+    };
+    let leave = Leave::of(own, &None, &found);
+    call_without(plan, gathered, calling, dialled, leave)
+}
+
+/// Goes through a completing job, to its decision or to what is wanted first.
+#[tactic(auto, using(turns::proofs::Walks::walk_bind), unfolding(crate::specs::Completing::complete_steps))]
+pub fn complete(
+    plan: &Plan,
+    gathered: &Gathered,
+    line: Len,
+    dialled: Dialled,
+) -> Result<Decision, Wanted>
+    ensures { result ≡ walk gathered.now (complete_steps plan.now line dialled) }
+{
+    let seen = Seen::new(gathered);
+    let calling = approach(&seen, line)?;
+    let own = trace(&seen, &calling)?;
+    complete_from(plan, gathered, &calling, dialled, &own)
+}

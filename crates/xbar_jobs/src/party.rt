@@ -1,0 +1,61 @@
+ghost use Rattle.std.specs.Prelude.{◌≡◌, ◌<◌, IfSome};
+ghost use Rattle.xbar_jobs.specs.Keeping.{AreEffects};
+
+use crate::effect::Effect;
+use crate::effects::made;
+use xbar_equip::{Len, line_switch};
+use xbar_match::find_line;
+
+/// A party to a call: its line, with what the line's switch was.
+#[derive(Clone, Copy, Debug, PartialEq, Eq)]
+pub struct Party {
+    pub line: Len,
+    pub word: u64,
+}
+
+impl Party {
+    ghost use Rattle.xbar_jobs.specs.Sides.{party_after};
+    ghost use Rattle.xbar_jobs.specs.Tracing.{channel_of};
+
+    /// The channel of the path that the line has.
+    pub fn channel(&self) -> Option<u8>
+        ensures channel { result ≡ channel_of self.now }
+        ensures range { IfSome result (λ channel. channel < 10) }
+    {
+        find_line(self.word, self.line.x())
+    }
+
+    /// The party as effects will leave its word.
+    pub fn after(&self, effects: &[Effect]) -> Self
+        requires { AreEffects effects.now }
+        ensures { result ≡ party_after effects.now self.now }
+    {
+        let line = self.line;
+        let number = line_switch(line.frame(), line.switch());
+        Party {
+            line,
+            word: made(effects, number, self.word),
+        }
+    }
+}
+
+/// The parties to a call: the calling one, and the called one where it is a line of the office.
+#[derive(Clone, Copy, Debug, PartialEq, Eq)]
+pub struct CallParties {
+    pub calling: Party,
+    pub called: Option<Party>,
+}
+
+impl CallParties {
+    ghost use Rattle.xbar_jobs.specs.Connecting.{alone as alone_of};
+
+    /// A party that is joined to no other line of the office.
+    pub fn alone(calling: &Party) -> Self
+        ensures { result ≡ alone_of calling.now }
+    {
+        CallParties {
+            calling: *calling,
+            called: None,
+        }
+    }
+}

@@ -1,0 +1,52 @@
+//! A release, as far as an attempt has come with it.
+
+ghost use Rattle.std.specs.Prelude.{◌≡◌};
+ghost use Rattle.xbar_jobs.specs.Releasing.{release_from as release_from_script, release_steps, trace_other as trace_other_script};
+ghost use Rattle.xbar_jobs.specs.Script.{walk};
+
+use crate::decision::Decision;
+use crate::kinds::Wanted;
+use crate::leave::Leave;
+use crate::seen::Seen;
+use crate::tracing::{approach, trace, trace_back};
+use xbar_equip::{Conn, Len, Path, Ten};
+use xbar_office::End;
+use xbar_plan::Plan;
+
+/// The other party's path, traced back from the other place of a pair.
+#[tactic(auto, using(turns::proofs::Walks::walk_end), unfolding(crate::specs::Releasing::trace_other))]
+fn trace_other(seen: &Seen, place: Option<Ten>) -> Result<Option<Path>, Wanted>
+    ensures { result ≡ walk seen.now (trace_other_script place) }
+{
+    match place {
+        None => Ok(None),
+        Some(place) => trace_back(seen, place),
+    }
+}
+
+/// Lets go what stands at the end of the line's own path: its group is seized, and of a pair the other party's
+/// path is traced.
+#[tactic(auto, using(turns::proofs::Walks::walk_bind, turns::proofs::Walks::walk_end), unfolding(crate::specs::Releasing::release_from, crate::specs::Releasing::release_member))]
+fn release_from(plan: &Plan, seen: &Seen, own: &Option<Path>) -> Result<Decision, Wanted>
+    ensures { result ≡ walk seen.now (release_from_script plan.now own.now) }
+{
+    let Some(own) = own else {
+        return Ok(Decision::refused(End::NoCall));
+    };
+    let Some(found) = plan.member_of(own.place) else {
+        return Ok(Decision::refused(End::NoCall));
+    };
+    seen.seize(Conn::Group(found.group))?;
+    let other = trace_other(seen, found.other)?;
+    Ok(Decision::released(Leave::of(own, &other, &found)))
+}
+
+/// Goes through a release, to its decision or to what is wanted first.
+#[tactic(auto, using(turns::proofs::Walks::walk_bind), unfolding(crate::specs::Releasing::release_steps))]
+pub fn release(plan: &Plan, seen: &Seen, line: Len) -> Result<Decision, Wanted>
+    ensures { result ≡ walk seen.now (release_steps plan.now line) }
+{
+    let party = approach(seen, line)?;
+    let own = trace(seen, &party)?;
+    release_from(plan, seen, &own)
+}

@@ -1,0 +1,192 @@
+//! The sides of a call: what a marker knows of the parties' frames, and the paths that it finds by that.
+
+ghost use Rattle.std.specs.Prelude.{◌≡◌, ◌<◌, IfSome, option_map};
+ghost use Rattle.xbar_jobs.specs.Keeping.{AreEffects};
+ghost use Rattle.xbar_jobs.specs.Script.{walk};
+ghost use Rattle.xbar_jobs.specs.Sides.{IsNextJunctor, join as join_of, join_called as join_called_of, junctors_after as junctors_after_of, open_path as open_path_of, test_called as test_called_script, test_junctors as junctors_script, test_side as test_side_script, test_sides as test_sides_script};
+
+use crate::effect::Effect;
+use crate::effects::{Effects, close_path, made};
+use crate::kinds::Wanted;
+use crate::party::{CallParties, Party};
+use crate::seen::Seen;
+use crate::trunk::{Reached, Trunk};
+use std::marker::Model;
+use xbar_equip::{Path, WordNo, line_junctor};
+use xbar_match::match_channel;
+use xbar_office::CallPaths;
+
+/// One side of a call: the party, with what the ten line junctor switches of its frame were.
+#[derive(Debug, Drop)]
+pub struct Side {
+    party: Party,
+    junctors: [u64; 10],
+}
+
+impl Model for Side {
+    ghost use Rattle.xbar_jobs.specs.Sides.{Side};
+
+    ghost Value = { Side };
+
+    ghost view = { λ a. record { party = a.party; junctors = a.junctors } };
+}
+
+/// Both sides of a call, or the calling one alone.
+#[derive(Debug, Drop)]
+pub struct Sides {
+    calling: Side,
+    called: Option<Side>,
+}
+
+impl Model for Sides {
+    ghost use Rattle.xbar_jobs.specs.Sides.{Sides};
+
+    ghost Value = { Sides };
+
+    ghost view = { λ a. record { calling = a.calling; called = a.called } };
+}
+
+/// The words of the ten line junctor switches of a frame.
+#[tactic(auto, using(turns::proofs::Walks::walk_bind), unfolding(crate::specs::Sides::test_junctors))]
+fn test_junctors(seen: &Seen, frame: u8) -> Result<[u64; 10], Wanted>
+    requires { frame < 10 }
+    ensures { result ≡ walk seen.now (junctors_script frame 0 10) }
+{
+    let mut words = [0; 10];
+    for channel in 0..10 {
+        words[usize::from(channel)] = seen.test(line_junctor(frame, channel))?;
+    }
+    Ok(words)
+}
+
+/// The line junctor switch that is tested after this word, if the word is one and not a frame's last.
+pub fn next_junctor(word: WordNo) -> Option<WordNo>
+    ensures { IfSome result (λ next. IsNextJunctor word next) }
+{
+    let number = word.number();
+    let frame = number / 20;
+    let place = number % 20;
+    if frame < 10 && place >= 10 && place < 19 {
+        Some(line_junctor(frame as u8, (place - 9) as u8))
+    } else {
+        None
+    }
+}
+
+fn junctors_after(effects: &[Effect], frame: u8, junctors: &[u64; 10]) -> [u64; 10]
+    requires frame { frame < 10 }
+    requires effects { AreEffects effects.now }
+    ensures { result ≡ junctors_after_of effects.now frame 0 junctors.now }
+{
+    let mut words = *junctors;
+    for channel in 0..10 {
+        let index = usize::from(channel);
+        words[index] = made(effects, line_junctor(frame, channel), words[index]);
+    }
+    words
+}
+
+impl Side {
+    ghost use Rattle.xbar_jobs.specs.Sides.{side_after};
+
+    #[tactic(auto, using(turns::proofs::Walks::walk_bind, turns::proofs::Walks::walk_end), unfolding(crate::specs::Sides::test_side))]
+    fn test(seen: &Seen, party: &Party) -> Result<Side, Wanted>
+        ensures { result ≡ walk seen.now (test_side_script party.now) }
+    {
+        let junctors = test_junctors(seen, party.line.frame())?;
+        Ok(Side {
+            party: *party,
+            junctors,
+        })
+    }
+
+    /// The side as effects will leave its words.
+    fn after(&self, effects: &[Effect]) -> Self
+        requires { AreEffects effects.now }
+        ensures { result ≡ side_after effects.now self.now }
+    {
+        let frame = self.party.line.frame();
+        Side {
+            party: self.party.after(effects),
+            junctors: junctors_after(effects, frame, &self.junctors),
+        }
+    }
+
+    /// The path to a place by the first channel from `start` on whose three fields are open.
+    fn open_path(&self, start: u8, reached: &Reached) -> Option<Path>
+        requires { start < 10 }
+        ensures { result ≡ open_path_of self.now start reached.now }
+    {
+        let line = self.party.line;
+        let place = reached.place;
+        let channel = match_channel(
+            self.party.word,
+            &self.junctors,
+            reached.word,
+            place.frame(),
+            start,
+        )?;
+        Some(Path {
+            line,
+            channel,
+            place,
+        })
+    }
+}
+
+#[tactic(auto, using(turns::proofs::Walks::walk_bind, turns::proofs::Walks::walk_end), unfolding(crate::specs::Sides::test_called))]
+fn test_called(seen: &Seen, party: &Option<Party>) -> Result<Option<Side>, Wanted>
+    ensures { result ≡ walk seen.now (test_called_script party.now) }
+{
+    match party {
+        None => Ok(None),
+        Some(party) => Ok(Some(Side::test(seen, party)?)),
+    }
+}
+
+/// Joins the called side to the second place, as the words will be once the calling path is closed.
+fn join_called(
+    side: &Option<Side>,
+    start: u8,
+    reached: &Option<Reached>,
+    calling: &Path,
+) -> Option<CallPaths>
+    requires { start < 10 }
+    ensures { result ≡ join_called_of side.now start reached.now calling.now }
+{
+    let (Some(side), Some(reached)) = (side, reached) else {
+        return Some(CallPaths {
+            calling: *calling,
+            called: None,
+        });
+    };
+    let mut closes = Effects::new();
+    close_path(&mut closes, calling);
+    let closes = closes.as_slice();
+    let called = side.after(closes).open_path(start, &reached.after(closes))?;
+    Some(CallPaths {
+        calling: *calling,
+        called: Some(called),
+    })
+}
+
+impl Sides {
+    /// Tests the line junctor switches of the parties' frames.
+    #[tactic(auto, using(turns::proofs::Walks::walk_bind, turns::proofs::Walks::walk_end), unfolding(crate::specs::Sides::test_sides))]
+    pub fn test(seen: &Seen, parties: &CallParties) -> Result<Sides, Wanted>
+        ensures { result ≡ walk seen.now (test_sides_script parties.now) }
+    {
+        let calling = Side::test(seen, &parties.calling)?;
+        let called = test_called(seen, &parties.called)?;
+        Ok(Sides { calling, called })
+    }
+
+    /// The paths that join the sides to a member, where each of them finds a channel.
+    pub fn join(&self, start: u8, trunk: &Trunk) -> Option<CallPaths>
+        requires { start < 10 }
+        ensures { result ≡ join_of self.now start trunk.now }
+    {
+        let calling = self.calling.open_path(start, &trunk.first)?;
+        join_called(&self.called, start, &trunk.second, &calling)
+    }
+}

@@ -1,0 +1,71 @@
+ghost use Rattle.std.specs.Prelude.{◌≡◌};
+ghost use Rattle.xbar_jobs.specs.Keeping.{AreEffects};
+ghost use Rattle.xbar_jobs.specs.Script.{walk};
+ghost use Rattle.xbar_jobs.specs.Sides.{reach as reach_script, test_place as test_place_script, test_second as test_second_script};
+
+use crate::effect::Effect;
+use crate::effects::made;
+use crate::kinds::Wanted;
+use crate::seen::Seen;
+use xbar_equip::{Conn, Ten, trunk_switch};
+use xbar_plan::Member;
+
+/// A trunk place, with what the place's switch was.
+#[derive(Clone, Copy, Debug, PartialEq, Eq)]
+pub struct Reached {
+    pub place: Ten,
+    pub word: u64,
+}
+
+impl Reached {
+    ghost use Rattle.xbar_jobs.specs.Sides.{reached_after};
+
+    /// The place as effects will leave its word.
+    pub fn after(&self, effects: &[Effect]) -> Self
+        requires { AreEffects effects.now }
+        ensures { result ≡ reached_after effects.now self.now }
+    {
+        let place = self.place;
+        let number = trunk_switch(place.frame(), place.switch());
+        Reached {
+            place,
+            word: made(effects, number, self.word),
+        }
+    }
+}
+
+/// A member of a trunk group that was reached: its place, or of a pair both of its places.
+#[derive(Clone, Copy, Debug, PartialEq, Eq)]
+pub struct Trunk {
+    pub first: Reached,
+    pub second: Option<Reached>,
+}
+
+#[tactic(auto, using(turns::proofs::Walks::walk_bind, turns::proofs::Walks::walk_end), unfolding(crate::specs::Sides::test_place))]
+fn test_place(seen: &Seen, place: Ten) -> Result<Reached, Wanted>
+    ensures { result ≡ walk seen.now (test_place_script place) }
+{
+    let word = seen.test(trunk_switch(place.frame(), place.switch()))?;
+    Ok(Reached { place, word })
+}
+
+#[tactic(auto, using(turns::proofs::Walks::walk_bind, turns::proofs::Walks::walk_end), unfolding(crate::specs::Sides::test_second))]
+fn test_second(seen: &Seen, place: Option<Ten>) -> Result<Option<Reached>, Wanted>
+    ensures { result ≡ walk seen.now (test_second_script place) }
+{
+    match place {
+        None => Ok(None),
+        Some(place) => Ok(Some(test_place(seen, place)?)),
+    }
+}
+
+/// Reaches a member: its trunk link frame is seized, and the trunk switches of its places are tested.
+#[tactic(auto, using(turns::proofs::Walks::walk_bind, turns::proofs::Walks::walk_end), unfolding(crate::specs::Sides::reach))]
+pub fn reach(seen: &Seen, member: &Member) -> Result<Trunk, Wanted>
+    ensures { result ≡ walk seen.now (reach_script member.now) }
+{
+    seen.seize(Conn::Tlf(member.first.frame()))?;
+    let first = test_place(seen, member.first)?;
+    let second = test_second(seen, member.second)?;
+    Ok(Trunk { first, second })
+}
