@@ -1,0 +1,17 @@
+pub mod Actors
+pub mod Records
+pub mod Steps
+pub mod Connectors
+pub mod Holders
+pub mod KeptConnectors
+pub mod FinishedJobs
+pub mod Among
+pub mod TurnedJobs
+pub mod OwnCrosspoints
+pub mod TrunkPaths
+pub mod LetGo
+pub mod TakenOut
+pub mod LinkSides
+pub mod LeftEffects
+pub mod ClosedCrosspoints
+pub mod OneCall
