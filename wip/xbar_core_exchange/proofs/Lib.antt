@@ -1,0 +1,10 @@
+pub mod Actors
+pub mod Keeping
+pub mod StepCases
+pub mod Worlds
+pub mod Kept
+pub mod Stepping
+pub mod Backing
+pub mod Ending
+pub mod Settles
+pub mod Loops

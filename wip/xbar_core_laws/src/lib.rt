@@ -1,0 +1,15 @@
+//! Many markers at once, as plain data: the office's words, its markers, and the moves that they make.
+#![tactic(auto)]
+
+pub use assign_fault::AssignFault;
+pub use event::Event;
+pub use given::Given;
+pub use kind::Kind;
+pub use open_fault::OpenFault;
+
+mod assign_fault;
+mod event;
+mod given;
+mod kind;
+pub mod laws;
+mod open_fault;
