@@ -1,4 +1,4 @@
-use Rattle.std.proofs.Common.{◌≡◌, ℕ, zero, suc, ◌+◌, ◌<◌, ◌≢◌, ◌⊎◌, Bool, true, false, List, [], ◌∷◌, length, set, slice_index, sym, refl, ap, inl, inr, ◌∙◌, subst, arith, eq-eqb, length-set, zero-add}
+use Rattle.std.proofs.Common.{◌≡◌, ℕ, zero, suc, ◌+◌, ◌<◌, ◌≢◌, ◌⊎◌, Bool, true, false, List, [], ◌∷◌, ◌++◌, length, set, slice_index, sym, refl, ap, inl, inr, ◌∙◌, subst, arith, eq-eqb, length-set, zero-add}
 use Rattle.std.specs.Prelude.{◌==◌, if◌then◌else◌}
 use Rattle.std.proofs.lemmas.Bool.{eqb-true}
 use mathlib.Core.Option.{some, some-injective, some-ne-none}
@@ -25,6 +25,11 @@ module _ (O : System) where
 
   pub made_else : (effect : Effect) (effects : List Effect) (n v : ℕ) → effect_word effect ≢ n → made O (effect ∷ effects) n v ≡ made O effects n v
   made_else effect effects n v e = ap (made O effects n) (if_false (effect_word effect == n) (effect_on effect v) v (λ yes. e (eqb-true (effect_word effect) n yes)))
+
+  -- effects and then others
+  pub made_append : (effects more : List Effect) (n v : ℕ) → made O (effects ++ more) n v ≡ made O more n (made O effects n v)
+  made_append [] more n v = refl
+  made_append (effect ∷ effects) more n v = made_append effects more n (if effect_word effect == n then effect_on effect v else v)
 
   -- effects that leave a word as it is
   abbrev pub Spares : List Effect → ℕ → Type 0

@@ -75,7 +75,7 @@ module _ (O : System) (system : IsSystem O) (w : World O) (law : Lawful O w) whe
     spared a n lock there p apart = index_other w.words _ n _ (λ e. apart (alone a lock there (subst (Protects lock) e p)))
 
 -- what was decided at a turn was decided on words that show the state before it
-pub decided_before : (O : System) (w : World O) (k number : ℕ) (a : AttemptOf O) (turn : ℕ) → Lawful O w → get_elem? w.actors k ≡ some (Does number a) → a.phase ≡ Operates turn → (known : IsRecorded O w.order k number turn a) × WasDecided O w.order known.place a
+pub decided_before : (O : System) (w : World O) (k number : ℕ) (a : AttemptOf O) (turn : ℕ) → Lawful O w → get_elem? w.actors k ≡ some (Does number a) → a.phase ≡ Operates turn → (known : IsRecorded O w.order k number turn a) × WasDecided O w.words w.order known.place a
 decided_before O w k number a turn law there at =
     let fits : IsOperating O w.words w.order k number turn a = subst (FitsIn O w k number a) at (law.sound k number a there).fits in
     (fits.recorded, fits.decided)

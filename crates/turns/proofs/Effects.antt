@@ -2,14 +2,14 @@ use Rattle.std.proofs.Common.{◌≡◌, ◌≢◌, ℕ, ◌<◌, ◌≤◌, ◌
 use Rattle.std.specs.Prelude.{Option}
 use mathlib.Core.Option.{some}
 use lib.ListN.{get_elem?}
-use Rattle.turns.specs.System.{System, IsSystem, IsUnder}
+use Rattle.turns.specs.System.{System, IsSystem, IsUnder, AreUnder}
 use Rattle.turns.specs.Attempt.{AttemptOf, Stands}
 use Rattle.turns.specs.World.{World, ActorOf, Idle, Does, left_of, made, completed, completed_word}
 use Rattle.turns.specs.Law.{IsOperating, IsSound, Lawful, holder_at, word_at}
 use Rattle.turns.specs.declared.phase.Phase.TheVariants.{Operates}
 use Rattle.turns.specs.declared.reading.Reading.{Reading}
-use Rattle.turns.proofs.Lists.{one_or_two, set_here, set_else, index_same, index_other}
-use Rattle.turns.proofs.Completed.{Spares, made_here, made_else, under_spares, only_one, same_done}
+use Rattle.turns.proofs.Lists.{in_more, one_or_two, set_here, set_else, index_same, index_other}
+use Rattle.turns.proofs.Completed.{Spares, made_append, made_here, made_else, under_spares, only_one, same_done}
 use Rattle.turns.proofs.Sound.{sound_along, left_under, one_actor}
 use Rattle.turns.proofs.Settings.{all_sound, renewed, shared_on}
 use Rattle.turns.proofs.Quiet.{alike, few_actors}
@@ -70,6 +70,26 @@ module _ (O : System) (system : IsSystem O) (w : World O) (law : Lawful O w) (k 
     long : length other ≡ O.size
     long = length-set w.words p (effect_on effect (slice_index w.words p)) ∙ law.size
 
+    -- what is under what is held is what the effects made so far, and this one, make of the words at the turn
+    since : (n : ℕ) → IsUnder O held n → slice_index other n ≡ made O (fits.decided.made ++ effect ∷ []) n (slice_index fits.decided.words n)
+    since n over = by (one_or_two p n) ∙ sym (made_append O fits.decided.made (effect ∷ []) n (slice_index fits.decided.words n)) where
+      v : ℕ
+      v = made O fits.decided.made n (slice_index fits.decided.words n)
+
+      by : (p ≡ n) ⊎ (p ≢ n) → slice_index other n ≡ made O (effect ∷ []) n v
+      by (inl e) =
+          subst (λ (m : ℕ). slice_index other m ≡ effect_on effect (slice_index w.words m)) e (index_same w.words p (effect_on effect (slice_index w.words p)) p_there)
+          ∙ ap (effect_on effect) (fits.decided.since n over)
+          ∙ sym (made_here O effect [] n v e)
+      by (inr apart) = else_same n (λ e. apart (sym e)) ∙ fits.decided.since n over ∙ sym (made_else O effect [] n v apart)
+
+    -- what the effects made so far, and this one, are on is under what is held
+    made_under : AreUnder O held (fits.decided.made ++ effect ∷ [])
+    made_under e within = elim (in_more e effect fits.decided.made within) [
+      | inl before ↦ fits.decided.under effect (inl refl) e before
+      | inr same ↦ subst (λ (x : Effect). IsUnder O held (effect_word x)) (sym same) under
+    ]
+
     own : IsSound O then k number new
     own =
         let s = law.sound k number old there in
@@ -85,7 +105,7 @@ module _ (O : System) (system : IsSystem O) (w : World O) (law : Lawful O w) (k 
             under = λ e within. fits.under e (inr within);
             due = fits.due.1;
             recorded = record { place = known.place; recorded = known.recorded; stands = known.stands; turn_is = known.turn_is; actor = known.actor; number_is = known.number_is; job = known.job; reply = known.reply };
-            decided = record { words = decided.words; size = decided.size; shows = decided.shows; made = decided.made ++ effect ∷ []; effects = decided.effects ∙ sym (append_assoc decided.made (effect ∷ []) effects) };
+            decided = record { words = decided.words; size = decided.size; shows = decided.shows; made = decided.made ++ effect ∷ []; effects = decided.effects ∙ sym (append_assoc decided.made (effect ∷ []) effects); under = λ e left. made_under; since = since };
           };
         }
 

@@ -15,7 +15,9 @@ use Rattle.turns.specs.declared.judgement.Judgement.TheVariants.{Free, Held, Pre
 use Rattle.turns.specs.declared.phase.Phase.{Phase}
 use Rattle.turns.specs.declared.phase.Phase.TheVariants.{Requests, Seizes, Tests, Turns, Withdraws, GivesBack, Operates}
 use Rattle.turns.specs.declared.reading.Reading.{Reading}
-use Rattle.turns.proofs.Lists.{in_more, set_idle}
+use Rattle.turns.proofs.Lists.{in_more, index_other, set_idle}
+use Rattle.turns.proofs.Keeping.{under_more}
+use Rattle.turns.proofs.Locking.{no_lock_word}
 use Rattle.turns.proofs.Standing.{stands_change}
 use Rattle.turns.proofs.Sound.{Has, freed_held, freed_left, freed_request, freed_sound, has_sound, judged_held, judged_left, judged_request, judged_sound, on_judgement, put_off_sound, walks_held, walks_left, walks_request, walks_sound}
 use Rattle.turns.proofs.Settings.{renewed}
@@ -173,7 +175,7 @@ module _ (O : System) (system : IsSystem O) (w : World O) (law : Lawful O w) (k 
             under = λ effect none. absurd none;
             due = tt;
             recorded = record { place = known.place; recorded = known.recorded; stands = known.stands; turn_is = known.turn_is; actor = known.actor; number_is = known.number_is; job = known.job; reply = known.reply };
-            decided = record { words = decided.words; size = decided.size; shows = decided.shows; made = decided.made; effects = decided.effects };
+            decided = record { words = decided.words; size = decided.size; shows = decided.shows; made = decided.made; effects = decided.effects; under = λ effect none. absurd none; since = λ n over. index_other w.words (lock_word c) n _ (no_lock_word O system n over.lock c (s.held c (inl refl)).there over.protects) ∙ decided.since n (under_more O rest (c ∷ rest) n (λ lock within. inr within) over) };
           };
         }))
 

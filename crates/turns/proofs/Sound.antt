@@ -42,13 +42,15 @@ module _ (O : System) where
   recorded_along order other k number turn a on known = record { place = known.place; recorded = known.recorded; stands = on known.place known.recorded known.stands; turn_is = known.turn_is; actor = known.actor; number_is = known.number_is; job = known.job; reply = known.reply }
 
   -- and it was decided on the same state there
-  decided_along : (order other : List (RecordOf O)) (place : ℕ) (r : RecordOf O) (a : AttemptOf O) → ((i : ℕ) (x : RecordOf O) → slice_get order i ≡ Some x → slice_get other i ≡ Some x) → slice_get order place ≡ Some r → WasDecided O order place a → WasDecided O other place a
-  decided_along order other place r a on stands decided = record {
+  decided_along : (now then : List ℕ) (order other : List (RecordOf O)) (place : ℕ) (r : RecordOf O) (a : AttemptOf O) → ((n : ℕ) → IsUnder O a.held n → slice_index then n ≡ slice_index now n) → ((i : ℕ) (x : RecordOf O) → slice_get order i ≡ Some x → slice_get other i ≡ Some x) → slice_get order place ≡ Some r → WasDecided O now order place a → WasDecided O then other place a
+  decided_along now then order other place r a same on stands decided = record {
     words = decided.words;
     size = decided.size;
     shows = subst (λ (before : List (RecordOf O)). O.Shows decided.words (after O O.opening before)) (sym (take_before order other place r on stands)) decided.shows;
     made = decided.made;
     effects = decided.effects;
+    under = decided.under;
+    since = λ n over. same n over ∙ decided.since n over;
   }
 
   fits_along : (system : IsSystem O) (w v : World O) (k number : ℕ) (a : AttemptOf O) → Follows w v a.held → (p : Phase Lock ℕ) → FitsIn O w k number a p → FitsIn O v k number a p
@@ -62,7 +64,7 @@ module _ (O : System) where
     under = fits.under;
     due = due_along O system a.held w.words v.words a.effects along.this along.that fits.under along.under fits.due;
     recorded = recorded_along w.order v.order k number turn a along.order fits.recorded;
-    decided = decided_along w.order v.order fits.recorded.place fits.recorded.recorded a along.order fits.recorded.stands fits.decided;
+    decided = decided_along w.words v.words w.order v.order fits.recorded.place fits.recorded.recorded a along.under along.order fits.recorded.stands fits.decided;
   }
 
   -- an attempt is sound in a world that follows for what it holds

@@ -73,16 +73,6 @@ module _ (O : System) (system : IsSystem O) (w : World O) (law : Lawful O w) (k 
     decides : DecidesAs O words (whole state job) decided.decision
     decides = subst (DecidesAs O words (whole state job)) run_is (system.decides job words state sound.job words_long law.shows)
 
-    -- it was decided on the state that the order so far leaves
-    was_decided : (r : RecordOf O) → WasDecided O (w.order ++ r ∷ []) (length w.order) new
-    was_decided r = record {
-      words = words;
-      size = words_long;
-      shows = subst (λ (before : List (RecordOf O)). Shows words (after O O.opening before)) (sym (take-append_seam w.order (r ∷ []))) law.shows;
-      made = [];
-      effects = ap effects_of run_is ∙ sym decided.effects;
-    }
-
     abbrev other : List ℕ
     other = slice_set w.words O.turn_word ((found + 1) % 2 ^ 64)
 
@@ -129,7 +119,19 @@ module _ (O : System) (system : IsSystem O) (w : World O) (law : Lawful O w) (k 
         let below = subst (λ (l : ℕ). n < l) (sym law.size) (system.words.word_there n u.lock u.protects) in
         else_same n (no_turn O system n u.lock u.protects) ∙ sym (completed_index O w n below ∙ only_one O w.actors k n (slice_index w.words n) (Does number old) there (others_spare O system w law k number old there n u))
 
-    own : (order : List (RecordOf O)) (known : IsRecorded O order k number found new) → WasDecided O order known.place new → IsSound O (then order) k number new
+    -- it was decided on the state that the order so far leaves
+    was_decided : (r : RecordOf O) → WasDecided O other (w.order ++ r ∷ []) (length w.order) new
+    was_decided r = record {
+      words = words;
+      size = words_long;
+      shows = subst (λ (before : List (RecordOf O)). Shows words (after O O.opening before)) (sym (take-append_seam w.order (r ∷ []))) law.shows;
+      made = [];
+      effects = ap effects_of run_is ∙ sym decided.effects;
+      under = λ effect left e none. absurd none;
+      since = held_same;
+    }
+
+    own : (order : List (RecordOf O)) (known : IsRecorded O order k number found new) → WasDecided O other order known.place new → IsSound O (then order) k number new
     own order known was = record {
       job = sound.job;
       held = λ lock within. let h = sound.held lock within in record { there = h.there; names = holders lock h.there ∙ h.names };

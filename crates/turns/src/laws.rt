@@ -71,8 +71,9 @@ pub fn words_are_their_holders<F: Family>()
 
 /// Past its turn an actor requests and seizes nothing, and its record stands in the order with its reply
 /// and its turn; the effects that it has left are the end of its decision's, as `Stands` says, and what it
-/// decided is what its script decides on words that show the state before its turn. No effect comes before
-/// the turn. While a request stands before the turn, the word that is expected of the lock is one by which
+/// decided is what its script decides on words that show the state before its turn; what is under the locks
+/// that it holds is what the effects that it has made make of those words. No effect comes before the
+/// turn. While a request stands before the turn, the word that is expected of the lock is one by which
 /// the actor may seize it.
 pub fn attempts_keep_their_order<F: Family>()
     ensures seizes { (setting : F.Setting) → let O = F.system setting in (a : AttemptOf O) (turn : ℕ) → a.phase ≡ Phase.Operates turn → ¬ IsSeizing (act a) }
@@ -80,7 +81,7 @@ pub fn attempts_keep_their_order<F: Family>()
     ensures restart { (setting : F.Setting) → let O = F.system setting in (a : AttemptOf O) (turn : ℕ) → a.phase ≡ Phase.Operates turn → restarted O a ≡ a }
     ensures effects { (setting : F.Setting) → let O = F.system setting in (a : AttemptOf O) (effect : O.Effect) → act a ≡ Make effect → (turn : ℕ) × (a.phase ≡ Phase.Operates turn) }
     ensures recorded { (setting : F.Setting) → let O = F.system setting in (w : World O) (k number : ℕ) (a : AttemptOf O) (turn : ℕ) → Lawful O w → get_elem? w.actors k ≡ some (Does number a) → a.phase ≡ Phase.Operates turn → IsRecorded O w.order k number turn a }
-    ensures decided { (setting : F.Setting) → let O = F.system setting in (w : World O) (k number : ℕ) (a : AttemptOf O) (turn : ℕ) → Lawful O w → get_elem? w.actors k ≡ some (Does number a) → a.phase ≡ Phase.Operates turn → (known : IsRecorded O w.order k number turn a) × WasDecided O w.order known.place a }
+    ensures decided { (setting : F.Setting) → let O = F.system setting in (w : World O) (k number : ℕ) (a : AttemptOf O) (turn : ℕ) → Lawful O w → get_elem? w.actors k ≡ some (Does number a) → a.phase ≡ Phase.Operates turn → (known : IsRecorded O w.order k number turn a) × WasDecided O w.words w.order known.place a }
     ensures expected { (setting : F.Setting) → let O = F.system setting in (w : World O) (k number : ℕ) (a : AttemptOf O) (lock : O.Lock) (expected : ℕ) → Lawful O w → get_elem? w.actors k ≡ some (Does number a) → a.phase ≡ Phase.Seizes lock expected → MaySeize O k expected }
     ensures answers { (setting : F.Setting) → let O = F.system setting in (k : ℕ) (a : AttemptOf O) (found : ℕ) → act a ≢ Rest → IsAnswerTo (act a) (answered O k (act a) found) }
 {}

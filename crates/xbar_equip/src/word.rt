@@ -48,7 +48,9 @@ impl WordNo {
 
 /// What stands in the free places of a list of words.
 impl Default for WordNo {
-    fn default() -> Self {
+    fn default() -> Self
+        ensures { result ≡ 0 }
+    {
         WordNo::new(0)
     }
 }

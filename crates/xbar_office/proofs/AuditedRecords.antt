@@ -52,7 +52,8 @@ wrong-reply plan records n r reply below is turns have right other =
     } in
     (turns, subst (λ (t : ℕ). IsFirstWrongReply plan records t) (sym (turn_at records n r turns here)) wrong)
 
-replies_at : (plan : Tables) (paths : List Path) (records : List Record) (n : ℕ) (r : Record) → HaveReplies plan paths records → slice_get records n ≡ Some r → r.reply ≡ (whole plan (after_jobs plan paths (jobs_of (take n records))) r.job).reply
+-- of records that have the one-marker office's replies, the one at a place has that of its job on the set before it
+pub replies_at : (plan : Tables) (paths : List Path) (records : List Record) (n : ℕ) (r : Record) → HaveReplies plan paths records → slice_get records n ≡ Some r → r.reply ≡ (whole plan (after_jobs plan paths (jobs_of (take n records))) r.job).reply
 replies_at plan paths [] n r have here = cc
 replies_at plan paths (x ∷ records) zero r have here = let same : x ≡ r = cc in subst (λ (y : Record). y.reply ≡ (whole plan paths y.job).reply) same have.0
 replies_at plan paths (x ∷ records) (suc n) r have here = replies_at plan (whole plan paths x.job).paths records n r have.1 here

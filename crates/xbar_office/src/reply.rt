@@ -17,7 +17,9 @@ pub struct Card {
 
 /// What stands in the free places of a list of cards; no trial has this number.
 impl Default for Card {
-    fn default() -> Self {
+    fn default() -> Self
+        ensures { result.trial ≡ 0 }
+    {
         Card {
             trial: 0,
             link: Link::new(LinkKind::LineLink, 0, 0, 0),

@@ -1,0 +1,190 @@
+-- what every office keeps that markers drive: it is lawful, its attempts stand where their jobs bring them, and there is room for the records to come
+use Rattle.std.proofs.Common.{◌≡◌, ◌≢◌, ℕ, zero, suc, ◌+◌, ◌<◌, ◌≤◌, ◌⊎◌, List, [], ◌∷◌, length, length-append, length-set, inl, inr, refl, sym, ◌∙◌, ap, subst, arith}
+use Rattle.std.specs.Prelude.{Option, Some, None, slice_get, slice_set}
+use Rattle.std.proofs.lemmas.List.{length-map}
+use Rattle.std.proofs.lemmas.Option.{none-some, same_Some, slice_get_within}
+use Rattle.turns.specs.Attempt as generic
+use Rattle.turns.specs.Attempt.{Ask, Take, act, act_in, begin_with, change, changed, closing_act, forgotten, free_act, freed, operated, restarted_in}
+use Rattle.turns.specs.World as worlds
+use Rattle.turns.specs.World.{Idle, Does, added_in}
+use Rattle.turns.specs.declared.answer.Answer.{Answer}
+use Rattle.turns.specs.declared.answer.Answer.TheVariants.{Value, Done}
+use Rattle.turns.specs.declared.phase.Phase.TheVariants.{Requests, Seizes, Tests, Turns, Withdraws, GivesBack, Operates}
+use mathlib.Core.Option.{some}
+use Rattle.turns.proofs.Lists.{one_or_two}
+use Rattle.xbar_equip.specs.declared.conn.Conn.{Conn}
+use Rattle.xbar_plan.specs.Tables.{Tables}
+use Rattle.xbar_plan.specs.Lawful.{IsLawful}
+use Rattle.xbar_office.specs.Legal.{IsJob}
+use Rattle.xbar_office.specs.declared.job.Job.{Job}
+use Rattle.xbar_office.specs.declared.reply.Reply.{Reply}
+use Rattle.xbar_jobs.specs.Attempt.{Attempt, Phase}
+use Rattle.xbar_jobs.specs.Jobs.{first_conn}
+use Rattle.xbar_jobs.specs.Office.{office}
+use Rattle.xbar_jobs.specs.declared.effect.Effect.{Effect}
+use Rattle.xbar_jobs.proofs.AttemptStands.{stands_after, stands_again, stands_begun}
+use Rattle.xbar_core.specs.AtWork.{told_of, work_anew}
+use Rattle.xbar_core.specs.Exchange.{Exchange, IsLawfulExchange, Marker, Work, opened, turned}
+use Rattle.xbar_core.specs.Moves.{assigned_at, recorded, refusal, refusal_at, stepped, with_work}
+use Rattle.xbar_core.specs.Standing.{HasRoom, IsExchange, StandsAt, waiting, waits, waits_in}
+use Rattle.xbar_core.specs.declared.kind.Kind.{Kind}
+use Rattle.xbar_core.proofs.Markers.{actor_there, marker_else, marker_same, marker_set, waiting_most, waiting_set, waits_most}
+use Rattle.xbar_core.proofs.Keeping.{KeepsRestarts}
+use Rattle.xbar_core.proofs.StepCases.{step_cases}
+use Rattle.xbar_core.proofs.Worlds.{added_at, answer_is, found_by, lawful_assigned, lawful_opened, lawful_stepped, restarted_lawful}
+
+module _ (plan : Tables) where
+  abbrev pub AreStanding : List Marker → Type 0
+  AreStanding markers = (k : ℕ) (m : Marker) → slice_get markers k ≡ Some m → StandsAt plan m.work
+
+  -- with one marker set that stands, all stand
+  pub stands_set : (markers : List Marker) (k : ℕ) (m was : Marker) → slice_get markers k ≡ Some was → StandsAt plan m.work → AreStanding markers → AreStanding (slice_set markers k m)
+  stands_set markers k m was there stands all j other at = by (one_or_two j k) where
+    by : (j ≡ k) ⊎ (j ≢ k) → StandsAt plan other.work
+    by (inl one) =
+        let same : m ≡ other = same_Some m other (sym (marker_set markers k m was there) ∙ ap (slice_get (slice_set markers k m)) (sym one) ∙ at) in
+        subst (λ (o : Marker). StandsAt plan o.work) same stands
+    by (inr two) = all j other (sym (marker_else markers k j m two) ∙ at)
+
+  -- the job of a lawful office's marker is one
+  pub job_there : (e : Exchange) (k n : ℕ) (m : Marker) (a : Attempt) → IsLawfulExchange plan e → slice_get e.markers k ≡ Some m → m.work ≡ Does n a → IsJob a.job
+  job_there e k n m a law there at = (law.sound k n a (actor_there e.markers k m there ∙ ap some at)).job
+
+  pub stands_there : (e : Exchange) (k n : ℕ) (m : Marker) (a : Attempt) → IsExchange plan e → slice_get e.markers k ≡ Some m → m.work ≡ Does n a → StandsAt plan (Does n a)
+  stands_there e k n m a was there at = subst (StandsAt plan) at (was.stands k m there)
+
+  operated_waits : (a : Attempt) (turn : ℕ) (effects : List Effect) → a.phase ≡ Operates turn → waits_in (operated a effects).phase ≤ 0
+  operated_waits a turn [] at = subst (λ (phase : Phase). waits_in phase ≤ 0) (sym at) (omega arith)
+  operated_waits a turn (effect ∷ effects) at = subst (λ (phase : Phase). waits_in phase ≤ 0) (sym at) (omega arith)
+
+  closed_waits : (k found turn : ℕ) (a : Attempt) (effects : List Effect) (held : List Conn) → a.phase ≡ Operates turn → waits_in (changed (office plan) a (Operates turn) (generic.answered (office plan) k (closing_act effects held) found)).phase ≤ 0
+  closed_waits k found turn a [] [] at = operated_waits a turn a.effects at
+  closed_waits k found turn a [] (conn ∷ held) at = operated_waits a turn a.effects at
+  closed_waits k found turn a (effect ∷ effects) held at = operated_waits a turn a.effects at
+
+  few_recorded : (k n found : ℕ) (job : Job) (reply : Option Reply) → length (worlds.recorded (office plan) k n job reply found) ≤ 1
+  few_recorded k n found job None = omega arith
+  few_recorded k n found job (Some reply) = omega arith
+
+  -- with a turn there is one record more, and one turn less to come
+  fewer_in : (k n found : ℕ) (a : Attempt) (phase : Phase) → a.phase ≡ phase → waits_in (changed (office plan) a phase (generic.answered (office plan) k (act_in phase a) found)).phase + length (added_in (office plan) k n a phase found) ≤ waits_in phase
+  fewer_in k n found a (Requests conn) at = let most = waits_most (changed (office plan) a (Requests conn) (generic.answered (office plan) k (Ask conn) found)).phase in omega (arith, most)
+  fewer_in k n found a (Seizes conn expected) at = let most = waits_most (changed (office plan) a (Seizes conn expected) (generic.answered (office plan) k (Take conn expected) found)).phase in omega (arith, most)
+  fewer_in k n found a (Tests word) at = let most = waits_most (changed (office plan) a (Tests word) (Value found)).phase in omega (arith, most)
+  fewer_in k n found a Turns at = let few = few_recorded k n found a.job a.reply in omega (arith, few)
+  fewer_in k n found a (Withdraws conn) at = let most = waits_most (changed (office plan) a (Withdraws conn) Done).phase in omega (arith, most)
+  fewer_in k n found a GivesBack at = let most = waits_most (changed (office plan) a GivesBack (generic.answered (office plan) k (free_act a.held) found)).phase in omega (arith, most)
+  fewer_in k n found a (Operates turn) at = let none = closed_waits k found turn a a.effects a.held at in omega (arith, none)
+
+  pub fewer : (k n : ℕ) (words : List ℕ) (a : Attempt) → waits_in (change (office plan) a (told_of k words a)).phase + length (recorded k n a (told_of k words a)) ≤ waits_in a.phase
+  fewer k n words a =
+      let found : ℕ = found_by plan words a in
+      let one = fewer_in k n found a a.phase refl in
+      let size : length (recorded k n a (generic.answered (office plan) k (act a) found)) ≡ length (added_in (office plan) k n a a.phase found) =
+      sym (length-map (recorded k n a (generic.answered (office plan) k (act a) found)) turned) ∙ ap (length {A = worlds.Record Job Reply}) (added_at plan k n found a a.phase) in
+      subst (λ (answer : Answer). waits_in (change (office plan) a answer).phase + length (recorded k n a answer) ≤ waits_in a.phase) (sym (answer_is plan k words a)) (omega (arith, one, size))
+
+  module _ (laws : IsLawful plan) where
+    -- a step keeps it
+    pub kept_stepped : (e : Exchange) (k : ℕ) → IsExchange plan e → IsExchange plan (stepped plan k e)
+    kept_stepped e k was = record { lawful = lawful_stepped plan e k laws was.lawful; stands = stands } where
+      stands : AreStanding (stepped plan k e).markers
+      stands = elim (step_cases plan e k) [
+        | inl same ↦ subst (λ (x : Exchange). AreStanding x.markers) (sym same) was.stands
+        | inr made ↦
+            let a = made.attempt in
+            subst (λ (x : Exchange). AreStanding x.markers) (sym made.is)
+            (stands_set e.markers k _ made.marker made.there
+            (stands_after plan a (told_of k e.words a) laws (job_there e k made.number made.marker a was.lawful made.there made.at) (stands_there e k made.number made.marker a was made.there made.at)) was.stands)
+      ]
+
+    -- so does a marker that is to give back, and begins its job anew
+    pub kept_restarted : (k : ℕ) → KeepsRestarts plan (IsExchange plan) k
+    kept_restarted k e n m a was there at = record {
+      lawful = restarted_lawful plan laws k e n m a was.lawful there at;
+      stands = stands_set e.markers k _ m there (stands_again plan a laws (job_there e k n m a was.lawful there at) (stands_there e k n m a was there at)) was.stands;
+    }
+
+    -- and a job that is assigned
+    pub kept_assigned : (e : Exchange) (k n : ℕ) (m : Marker) (job : Job) → IsExchange plan e → IsJob job → slice_get e.markers k ≡ Some m → refusal e k job ≡ None → IsExchange plan (with_work k m (Does n (begin_with (first_conn job) job)) e)
+    kept_assigned e k n m job was in_range there free = record {
+      lawful = subst (λ (found : Option Marker). IsLawfulExchange plan (assigned_at k n job found e)) there (lawful_assigned plan e k n job laws was.lawful in_range free);
+      stands = stands_set e.markers k _ m there (stands_begun plan job laws in_range) was.stands;
+    }
+
+  -- a step leaves room for the records to come
+  pub room_stepped : (e : Exchange) (k room : ℕ) → HasRoom e room → HasRoom (stepped plan k e) room
+  room_stepped e k room fits = elim (step_cases plan e k) [
+    | inl same ↦ subst (λ (x : Exchange). HasRoom x room) (sym same) fits
+    | inr made ↦
+        let a = made.attempt in
+        let after = change (office plan) a (told_of k e.words a) in
+        let size = length-append e.records (recorded k made.number a (told_of k e.words a)) in
+        let one = waiting_set e.markers k (record made.marker { work = Does made.number after }) made.marker made.there in
+        let was = ap waits made.at in
+        let less = fewer k made.number e.words a in
+        subst (λ (x : Exchange). HasRoom x room) (sym made.is) (omega (arith, size, one, was, less))
+  ]
+
+  -- and so does a marker that begins its job anew
+  freed_waits : (a : Attempt) (held : List Conn) → waits_in (freed (office plan) a held).phase ≤ 1
+  freed_waits a held = waits_most (freed (office plan) a held).phase
+
+  anew_waits_in : (a : Attempt) (phase : Phase) → a.phase ≡ phase → waits_in (restarted_in (office plan) phase a).phase ≤ waits_in phase
+  anew_waits_in a (Requests conn) at = freed_waits (forgotten a) a.held
+  anew_waits_in a (Seizes conn expected) at = omega arith
+  anew_waits_in a (Tests word) at = freed_waits (forgotten a) a.held
+  anew_waits_in a Turns at = freed_waits (forgotten a) a.held
+  anew_waits_in a (Withdraws conn) at = waits_most a.phase
+  anew_waits_in a GivesBack at = waits_most a.phase
+  anew_waits_in a (Operates turn) at = let same = ap waits_in at in omega (arith, same)
+
+  anew_waits : (work : Work) → waits (work_anew plan work) ≤ waits work
+  anew_waits Idle = omega arith
+  anew_waits (Does n a) = anew_waits_in a a.phase refl
+
+  pub room_anew : (e : Exchange) (k room : ℕ) (m : Marker) → slice_get e.markers k ≡ Some m → HasRoom e room → HasRoom (with_work k m (work_anew plan m.work) e) room
+  room_anew e k room m there fits =
+      let one = waiting_set e.markers k (record m { work = work_anew plan m.work }) m there in
+      let less = anew_waits m.work in
+      omega (arith, one, less)
+
+  pub kept_anew : (e : Exchange) (k : ℕ) (m : Marker) → IsLawful plan → IsExchange plan e → slice_get e.markers k ≡ Some m → IsExchange plan (with_work k m (work_anew plan m.work) e)
+  kept_anew e k m laws was there = by m.work refl where
+    by : (work : Work) → m.work ≡ work → IsExchange plan (with_work k m (work_anew plan work) e)
+    by Idle at =
+        let same : record m { work = Idle } ≡ m = ap (λ (work : Work). record m { work = work }) (sym at) in
+        subst (λ (markers : List Marker). IsExchange plan (record e { markers = markers })) (sym (ap (slice_set e.markers k) same ∙ marker_same e.markers k m there)) was
+    by (Does n a) at = kept_restarted laws k e n m a was there at
+
+  -- an office opens so
+  idle_opened : (kinds : List Kind) (k : ℕ) (m : Marker) → slice_get (opened kinds).markers k ≡ Some m → m.work ≡ Idle
+  idle_opened [] k m there = absurd (none-some m there)
+  idle_opened (kind ∷ kinds) zero m there = ap (λ (o : Marker). o.work) (sym (same_Some (record { kind = kind; work = Idle }) m there))
+  idle_opened (kind ∷ kinds) (suc k) m there = idle_opened kinds k m there
+
+  pub kept_opened : (kinds : List Kind) → IsLawful plan → length kinds ≤ 48 → IsExchange plan (opened kinds)
+  kept_opened kinds laws few = record {
+    lawful = lawful_opened plan kinds laws few;
+    stands = λ k m there. subst (StandsAt plan) (sym (idle_opened kinds k m there)) tt;
+  }
+
+-- nobody waits for a turn in an office that opens
+pub none_waits : (kinds : List Kind) → waiting (opened kinds).markers ≡ 0
+unfolding waiting
+none_waits [] = refl
+none_waits (kind ∷ kinds) = let none = none_waits kinds in omega (arith, none)
+
+-- with room for one more record for each marker there is room for a job that is assigned
+pub room_assigned : (e : Exchange) (k room : ℕ) (m : Marker) (work : Work) → length e.records + length e.markers ≤ room → HasRoom (with_work k m work e) room
+room_assigned e k room m work fits =
+    let most = waiting_most (slice_set e.markers k (record m { work = work })) in
+    let size = length-set e.markers k (record m { work = work }) in
+    omega (arith, most, size)
+
+-- a job that is not refused goes to a marker that is there
+pub within_if_taken : (e : Exchange) (k : ℕ) (job : Job) → refusal e k job ≡ None → k < length e.markers
+within_if_taken e k job free = by (slice_get e.markers k) refl free where
+  by : (found : Option Marker) → slice_get e.markers k ≡ found → refusal_at found job ≡ None → k < length e.markers
+  by None there is = absurd cc
+  by (Some m) there is = slice_get_within e.markers k m there

@@ -1,0 +1,157 @@
+-- what each job's decision lets go: nothing, or paths of the set that the job takes out
+use Rattle.std.proofs.Common.{◌≡◌, ◌≢◌, ℕ, Bool, true, false, List, refl, sym, ◌∙◌, ap, subst}
+use Rattle.std.specs.Prelude.{Option, Some, None, ◌==◌, option_and_then, if◌then◌else◌}
+use Rattle.std.specs.Option.{option_map_or}
+use Rattle.turns.specs.Script.{◌>>=◌, run}
+use Rattle.turns.proofs.Walks.{run_bind}
+use Rattle.xbar_equip.specs.Among.{IsIn}
+use Rattle.xbar_equip.specs.Dialled.{code_of}
+use Rattle.xbar_equip.specs.Len.{Line, IsLine}
+use Rattle.xbar_equip.specs.Paths.{has_line, without_path}
+use Rattle.xbar_equip.specs.declared.path.Path.{Path}
+use Rattle.xbar_equip.proofs.Lists.{found_passes}
+use Rattle.xbar_equip.proofs.PathSets.{without-in}
+use Rattle.xbar_plan.specs.Lawful.{IsLawful}
+use Rattle.xbar_plan.specs.Tables.{Tables, member_place, register_group, route_of}
+use Rattle.xbar_plan.specs.declared.group.MemberPlace.{MemberPlace}
+use Rattle.xbar_office.specs.Legal.{IsJob}
+use Rattle.xbar_office.specs.Release.{release, release_from, without_other}
+use Rattle.xbar_office.specs.Standing.{if_register as path_if_register, path_of, register_path}
+use Rattle.xbar_office.specs.Whole.{whole}
+use Rattle.xbar_office.specs.declared.aim.Aim.{Aim}
+use Rattle.xbar_office.specs.declared.job.Job.{Job}
+use Rattle.xbar_office.specs.declared.job.Job.TheVariants.{Dial, Complete, Release}
+use Rattle.xbar_office.proofs.EndsOfJobs.{left_in}
+use Rattle.xbar_jobs.specs.Closing.{leave_effects, leave_of}
+use Rattle.xbar_jobs.specs.Completing.{call, call_from, call_without, complete_from, complete_steps, if_register}
+use Rattle.xbar_jobs.specs.Connecting.{connect, try_trunk}
+use Rattle.xbar_jobs.specs.Jobs.{dial_steps, script, serve_idle_line}
+use Rattle.xbar_jobs.specs.Office.{ShowsOffice}
+use Rattle.xbar_jobs.specs.Releasing.{release_steps}
+use Rattle.xbar_jobs.specs.Script.{as_if_made}
+use Rattle.xbar_jobs.specs.Sides.{party_after}
+use Rattle.xbar_jobs.specs.Tracing.{approach, trace}
+use Rattle.xbar_jobs.specs.Trials.{two_trials_steps}
+use Rattle.xbar_jobs.specs.Trunks.{find_trunk, trunks_of}
+use Rattle.xbar_jobs.specs.declared.decision.Decision.{Decision}
+use Rattle.xbar_jobs.specs.declared.leave.Leave.{Leave}
+use Rattle.xbar_jobs.specs.declared.party.CallParties.{CallParties}
+use Rattle.xbar_jobs.specs.declared.party.Party.{Party}
+use Rattle.xbar_jobs.specs.declared.trunks.IdleGroup.{IdleGroup}
+use Rattle.xbar_jobs.proofs.FreedMembers.{other_stays}
+use Rattle.xbar_jobs.proofs.LeaveEffects.{IsLeave}
+use Rattle.xbar_jobs.proofs.ReleaseDecides.{ComesTo, HasNone, LetsGo as CallGoes, release_comes}
+use Rattle.xbar_jobs.proofs.TestedParties.{party_of}
+use Rattle.xbar_jobs.proofs.TracedRuns.{approach_runs, trace_runs, traced_shown}
+use Rattle.xbar_core.proofs.TrunkPaths.{register_gone}
+
+-- a path of the set, which the job takes out
+pub record IsGone (plan : Tables) (paths : List Path) (job : Job) (path : Path) : Type 0 where
+  pub there : IsIn path paths
+  pub gone : ¬ IsIn path (whole plan paths job).paths
+
+-- both paths of a call that is let go are
+pub record AreGone (plan : Tables) (paths : List Path) (job : Job) (leave : Leave) : Type 0 where
+  pub own : IsGone plan paths job leave.own
+  pub other : (path : Path) → leave.other ≡ Some path → IsGone plan paths job path
+
+-- what a decision lets go
+pub data LetsGo (plan : Tables) (paths : List Path) (job : Job) (decision : Decision) : Type 0 where
+  Nothing : decision.leave ≡ None → LetsGo plan paths job decision
+  Paths : (leave : Leave) → decision.leave ≡ Some leave → AreGone plan paths job leave → LetsGo plan paths job decision
+
+module _ (plan : Tables) (words : List ℕ) where
+  try_stays : (aim : Aim) (parties : CallParties) (found : Option IdleGroup) → (run words (try_trunk plan aim parties found)).leave ≡ None
+  unfolding run try_trunk ◌>>=◌
+  try_stays aim parties None = refl
+  try_stays aim parties (Some idle) = ap (λ (d : Decision). d.leave) (run_bind words (two_trials_steps plan parties (trunks_of plan idle.group idle.word) idle.first) _)
+
+  -- to join parties lets nothing go
+  connect_stays : (aim : Aim) (parties : CallParties) (groups : List ℕ) → (run words (connect plan aim parties groups)).leave ≡ None
+  unfolding connect
+  connect_stays aim parties groups =
+      ap (λ (d : Decision). d.leave) (run_bind words (find_trunk plan groups) _) ∙ try_stays aim parties (run words (find_trunk plan groups))
+
+  serve_stays : (calling : Party) (channel : Option ℕ) → (run words (serve_idle_line plan calling channel)).leave ≡ None
+  unfolding run serve_idle_line
+  serve_stays calling None = connect_stays _ _ _
+  serve_stays calling (Some channel) = refl
+
+  -- nor does a dial tone job
+  dial_stays : (line : Line) → (run words (dial_steps plan line)).leave ≡ None
+  unfolding dial_steps
+  dial_stays line = ap (λ (d : Decision). d.leave) (run_bind words (approach line) _) ∙ serve_stays (run words (approach line)) _
+
+  -- once its register is let go, a completing job lets no more go
+  without_leaves : (calling : Party) (dialled : ℕ) (leave : Leave) → (run words (call_without plan calling dialled leave)).leave ≡ Some leave
+  unfolding run call_without ◌>>=◌
+  without_leaves calling dialled leave = ap (λ (d : Decision). d.leave) (run_bind words (as_if_made (leave_effects leave) (call plan (party_after (leave_effects leave) calling) dialled (route_of plan (code_of dialled)))) _)
+
+module _ (plan : Tables) (words : List ℕ) (paths : List Path) (laws : IsLawful plan) (shows : ShowsOffice plan words paths) (line : Line) (in_range : IsLine line) where
+  -- a completing job lets its line's register go, if it has one
+  module _ (dialled : ℕ) where
+    abbrev calling : Party
+    calling = party_of words line
+
+    by_group : (own : Path) → path_of paths line ≡ Some own → (found : MemberPlace) → member_place plan own.place ≡ Some found → (register : Bool) → (found.group == register_group plan) ≡ register
+        → LetsGo plan paths (Complete line dialled) (run words (call_from plan calling dialled own (if register then Some found else None)))
+    unfolding run call_from
+    by_group own is found here false other = Nothing refl
+    by_group own is found here true same =
+        let ends : path_if_register plan own ≡ Some own =
+        ap (λ (o : Option MemberPlace). if option_map_or (λ member. member.group == register_group plan) o false then Some own else None) here
+        ∙ ap (λ (b : Bool). if b then Some own else None) same in
+        let register : register_path plan paths line ≡ Some own = ap (option_and_then (path_if_register plan)) is ∙ ends in
+        Paths (leave_of own None found) (without_leaves plan words calling dialled (leave_of own None found)) (record {
+          own = record { there = (found_passes (has_line line) paths own is).0; gone = register_gone plan laws paths line dialled own shows.lawful in_range register };
+          other = λ path goes. absurd cc;
+        })
+
+    by_member : (own : Path) → path_of paths line ≡ Some own → (found : Option MemberPlace) → member_place plan own.place ≡ found
+        → LetsGo plan paths (Complete line dialled) (run words (call_from plan calling dialled own (option_and_then (if_register plan) found)))
+    unfolding run call_from
+    by_member own is None here = Nothing refl
+    by_member own is (Some found) here = by_group own is found here (found.group == register_group plan) refl
+
+    by_path : (own : Option Path) → path_of paths line ≡ own → LetsGo plan paths (Complete line dialled) (run words (complete_from plan calling dialled own))
+    unfolding run complete_from
+    by_path None is = Nothing refl
+    by_path (Some own) is = by_member own is (member_place plan own.place) refl
+
+    steps_run : run words (complete_steps plan line dialled) ≡ run words (complete_from plan calling dialled (path_of paths line))
+    unfolding complete_steps
+    steps_run =
+        run_bind words (approach line) _
+        ∙ ap (λ (party : Party). run words (trace party >>= λ own. complete_from plan party dialled own)) (approach_runs words line)
+        ∙ run_bind words (trace calling) _
+        ∙ ap (λ (own : Option Path). run words (complete_from plan calling dialled own)) (trace_runs words line ∙ traced_shown plan words paths line shows in_range)
+
+    complete_lets_go : LetsGo plan paths (Complete line dialled) (run words (complete_steps plan line dialled))
+    complete_lets_go = subst (LetsGo plan paths (Complete line dialled)) (sym steps_run) (by_path (path_of paths line) refl)
+
+  -- a release lets its line's call go, if it has one
+  call_gone : (leave : Leave) → path_of paths line ≡ Some leave.own → IsLeave plan paths leave → AreGone plan paths (Release line) leave
+  call_gone leave path is = record {
+    own = record { there = is.within; gone = λ within. (stays leave.own within).1 refl };
+    other = λ other goes.
+        let there = other_stays plan paths leave.own is.found laws shows.lawful is.within is.here other (sym is.other ∙ goes) in
+        record { there = (without-in paths leave.own other shows.lawful.orderly.set there).0; gone = λ within. (stays other within).2 goes };
+  } where
+    rest : (release plan paths line).paths ≡ without_other (without_path paths leave.own) leave.other
+    rest = ap (λ (own : Option Path). (release_from plan paths own).paths) path ∙ ap (without_other (without_path paths leave.own)) (sym is.other)
+
+    stays : (q : Path) → IsIn q (release plan paths line).paths → IsIn q paths × (q ≢ leave.own) × (leave.other ≢ Some q)
+    stays q within = (left_in paths leave.own leave.other shows.lawful.orderly.set q).0 (subst (λ (all : List Path). IsIn q all) rest within)
+
+  release_lets_go : LetsGo plan paths (Release line) (run words (release_steps plan line))
+  release_lets_go = by (release_comes plan words paths laws shows line in_range) where
+    by : ComesTo plan paths line (run words (release_steps plan line)) → LetsGo plan paths (Release line) (run words (release_steps plan line))
+    by (HasNone none comes) = Nothing (ap (λ (d : Decision). d.leave) comes)
+    by (CallGoes leave path is comes) = Paths leave (ap (λ (d : Decision). d.leave) comes) (call_gone leave path is)
+
+-- what a job's decision lets go, on words that show a set
+pub job_lets_go : (plan : Tables) (words : List ℕ) (paths : List Path) (job : Job) → IsLawful plan → ShowsOffice plan words paths → IsJob job → LetsGo plan paths job (run words (script plan job))
+unfolding script
+job_lets_go plan words paths (Dial line) laws shows in_range = Nothing (dial_stays plan words line)
+job_lets_go plan words paths (Complete line dialled) laws shows in_range = complete_lets_go plan words paths laws shows line in_range.0 dialled
+job_lets_go plan words paths (Release line) laws shows in_range = release_lets_go plan words paths laws shows line in_range

@@ -1,0 +1,108 @@
+-- how far loops over steps, and over markers, have come
+use Rattle.std.proofs.Common.{◌≡◌, ℕ, suc, ◌+◌, ◌-◌, ◌<◌, length, refl, sym, ◌∙◌, ap, arith}
+use Rattle.std.specs.Prelude.{Option, Some, None, slice_get, true}
+use Rattle.xbar_plan.specs.Tables.{Tables}
+use Rattle.xbar_core.specs.Exchange.{Exchange, Marker, OfPlan, is_idle}
+use Rattle.xbar_core.specs.Moves.{given_back, stepped, steps}
+use Rattle.xbar_core.specs.Settling.{ended, ended_past_turn, for_each, settled}
+use Rattle.xbar_core.proofs.Ending.{steps_idle}
+use Rattle.xbar_core.proofs.Markers.{none_within}
+use Rattle.xbar_core.proofs.Keeping.{for_each_keeps}
+use Rattle.xbar_core.proofs.Settles.{count_back, count_end, count_past}
+use Rattle.xbar_core.proofs.StepCases.{step_count}
+
+-- some of a marker's steps were made, and the others lead to what all lead to
+pub record AreMade (first now : OfPlan) (k count made : ℕ) : Type 0 where
+  pub plan : now.plan ≡ first.plan
+  pub size : length now.exchange.markers ≡ length first.exchange.markers
+  pub rest : steps first.plan k count first.exchange ≡ steps first.plan k (count - made) now.exchange
+
+pub none_made : (first : OfPlan) (k count : ℕ) → AreMade first first k count 0
+none_made first k count = record { plan = refl; size = refl; rest = ap (λ (n : ℕ). steps first.plan k n first.exchange) (omega arith) }
+
+pub one_made : (first now next : OfPlan) (k count made : ℕ) → made < count → AreMade first now k count made → next ≡ record now { exchange = stepped now.plan k now.exchange } → AreMade first next k count (made + 1)
+unfolding steps
+one_made first now next k count made below so_far is =
+    let rest : count - made ≡ suc (count - (made + 1)) = omega arith in
+    record {
+      plan = ap (λ (o : OfPlan). o.plan) is ∙ so_far.plan;
+      size = ap (λ (o : OfPlan). length o.exchange.markers) is ∙ step_count now.plan now.exchange k ∙ so_far.size;
+      rest =
+          so_far.rest ∙ ap (λ (n : ℕ). steps first.plan k n now.exchange) rest
+          ∙ ap (λ (p : Tables). steps first.plan k (count - (made + 1)) (stepped p k now.exchange)) (sym so_far.plan)
+          ∙ ap (λ (o : OfPlan). steps first.plan k (count - (made + 1)) o.exchange) (sym is);
+    }
+
+same_end : (first now : OfPlan) (after : Exchange) → now.plan ≡ first.plan → after ≡ now.exchange → now ≡ record first { exchange = after }
+same_end first now after plan same = λ i. record { plan = plan i; exchange = sym same i }
+
+pub all_made : (first now : OfPlan) (k count : ℕ) → AreMade first now k count count → now ≡ record first { exchange = steps first.plan k count first.exchange }
+unfolding steps
+all_made first now k count so_far =
+    let none : count - count ≡ 0 = omega arith in
+    same_end first now (steps first.plan k count first.exchange) so_far.plan (so_far.rest ∙ ap (λ (n : ℕ). steps first.plan k n now.exchange) none)
+
+-- the steps that are left change nothing once the marker is idle
+pub rest_idle : (first now : OfPlan) (k count made : ℕ) → k < length first.exchange.markers → AreMade first now k count made → ((m : Marker) → slice_get now.exchange.markers k ≡ Some m → true ≡ is_idle m.work) → now ≡ record first { exchange = steps first.plan k count first.exchange }
+rest_idle first now k count made within so_far idle =
+    same_end first now (steps first.plan k count first.exchange) so_far.plan (so_far.rest ∙ by (slice_get now.exchange.markers k) refl) where
+      by : (found : Option Marker) → slice_get now.exchange.markers k ≡ found → steps first.plan k (count - made) now.exchange ≡ now.exchange
+      by None none = let size = so_far.size in absurd (none_within now.exchange.markers k (omega arith) none)
+      by (Some m) there = steps_idle first.plan k (count - made) now.exchange m there (sym (idle m there))
+
+-- so many markers were changed
+pub record AreChanged (change : Tables → ℕ → Exchange → Exchange) (first now : OfPlan) (made : ℕ) : Type 0 where
+  pub plan : now.plan ≡ first.plan
+  pub size : length now.exchange.markers ≡ length first.exchange.markers
+  pub is : now.exchange ≡ for_each (change first.plan) made first.exchange
+
+pub none_changed : (change : Tables → ℕ → Exchange → Exchange) (first : OfPlan) → AreChanged change first first 0
+unfolding for_each
+none_changed change first = record { plan = refl; size = refl; is = refl }
+
+-- as many markers stay
+abbrev pub KeepsCount : (Tables → ℕ → Exchange → Exchange) → Type 0
+KeepsCount change = (plan : Tables) (k : ℕ) (e : Exchange) → length (change plan k e).markers ≡ length e.markers
+
+pub one_changed : (change : Tables → ℕ → Exchange → Exchange) → KeepsCount change → (first now next : OfPlan) (made : ℕ) → AreChanged change first now made → next ≡ record now { exchange = change now.plan made now.exchange } → AreChanged change first next (made + 1)
+unfolding for_each
+one_changed change keeps first now next made so_far is =
+    let more : suc made ≡ made + 1 = omega arith in
+    record {
+      plan = ap (λ (o : OfPlan). o.plan) is ∙ so_far.plan;
+      size = ap (λ (o : OfPlan). length o.exchange.markers) is ∙ keeps now.plan made now.exchange ∙ so_far.size;
+      is =
+          ap (λ (o : OfPlan). o.exchange) is ∙ ap (λ (p : Tables). change p made now.exchange) so_far.plan ∙ ap (change first.plan made) so_far.is
+          ∙ ap (λ (n : ℕ). for_each (change first.plan) n first.exchange) more;
+    }
+
+pub all_changed : (change : Tables → ℕ → Exchange → Exchange) (first now : OfPlan) (count made : ℕ) → made ≡ count → AreChanged change first now made → now ≡ record first { exchange = for_each (change first.plan) count first.exchange }
+all_changed change first now count made all so_far =
+    same_end first now (for_each (change first.plan) count first.exchange) so_far.plan (ap (λ (n : ℕ). for_each (change first.plan) n first.exchange) (sym all) ∙ sym so_far.is)
+
+-- steps to the end, ends past the turn and give backs do
+pub end_counts : KeepsCount ended
+end_counts plan k e = count_end plan k e
+
+pub past_counts : KeepsCount ended_past_turn
+past_counts plan k e = count_past plan k e
+
+pub back_counts : KeepsCount given_back
+back_counts plan k e = count_back plan k e
+
+each_counts : (change : Tables → ℕ → Exchange → Exchange) → KeepsCount change → (plan : Tables) (count : ℕ) (e : Exchange) → length (for_each (change plan) count e).markers ≡ length e.markers
+each_counts change keeps plan count e = for_each_keeps (λ (x : Exchange). length x.markers ≡ length e.markers) (change plan) (λ k x is. keeps plan k x ∙ is) count e refl
+
+-- the three together are a settling
+abbrev after_each : (Tables → ℕ → Exchange → Exchange) → OfPlan → OfPlan
+after_each change o = record o { exchange = for_each (change o.plan) (length o.exchange.markers) o.exchange }
+
+pub settled_is : (first past given last : OfPlan) → past ≡ after_each ended_past_turn first → given ≡ after_each given_back past → last ≡ after_each ended given → last ≡ record first { exchange = settled first.plan first.exchange }
+settled_is first past given last one two three =
+    let n : ℕ = length first.exchange.markers in
+    let e : Exchange = for_each (ended_past_turn first.plan) n first.exchange in
+    let many = each_counts ended_past_turn past_counts first.plan n first.exchange in
+    let back : given ≡ record first { exchange = for_each (given_back first.plan) n e } =
+    two ∙ ap (after_each given_back) one ∙ ap (λ (count : ℕ). record first { exchange = for_each (given_back first.plan) count e }) many in
+    let same = each_counts given_back back_counts first.plan n e ∙ many in
+    three ∙ ap (after_each ended) back ∙ ap (λ (count : ℕ). record first { exchange = for_each (ended first.plan) count (for_each (given_back first.plan) n e) }) same

@@ -1,0 +1,69 @@
+-- what a step of a marker comes to, part by part
+use Rattle.std.proofs.Common.{◌≡◌, ℕ, ◌<◌, Bool, true, false, List, ◌++◌, length, get_or, take, drop, refl, sym, ◌∙◌, ap, subst}
+use Rattle.std.specs.Prelude.{Option, Some, if◌then◌else◌, slice_get, slice_set}
+use Rattle.std.proofs.Math.Seq.{take-append_seam}
+use Rattle.std.proofs.lemmas.Option.{slice_get_read}
+use Rattle.turns.specs.Attempt.{act, change}
+use Rattle.turns.specs.Runs.{is_rest}
+use Rattle.turns.specs.World.{Idle, Does}
+use Rattle.xbar_plan.specs.Tables.{Tables}
+use Rattle.xbar_office.specs.declared.reply.Record.{Record}
+use Rattle.xbar_jobs.specs.Attempt.{counted, next_step, with_count}
+use Rattle.xbar_jobs.specs.Office.{office}
+use Rattle.xbar_jobs.specs.OnWords.{made}
+use Rattle.xbar_core.specs.AtWork.{told_of}
+use Rattle.xbar_core.specs.Exchange.{Exchange, Marker, Work as TheWork, is_idle}
+use Rattle.xbar_core.specs.Moves.{answered, event_at, event_at_step, event_by, recorded, stepped, stepped_at, stepped_by}
+use Rattle.xbar_core.specs.declared.kind.Kind.{Kind}
+use Rattle.xbar_core.specs.declared.work.Work.{Work}
+use Rattle.xbar_core.proofs.Markers.{marker_same}
+use Rattle.xbar_core.proofs.StepCases.{step_made}
+
+-- words that are written whole
+written : (words new : List ℕ) (len : ℕ) → len ≡ length words → length new ≡ length words → take len (new ++ drop (length new) words) ≡ new
+written words new len whole same = subst (λ (n : ℕ). take n (new ++ drop (length new) words) ≡ new) (sym (whole ∙ sym same)) (take-append_seam new (drop (length new) words))
+
+-- a step on all of the words
+pub step_whole : (plan : Tables) (e : Exchange) (k len : ℕ) (words new : List ℕ) (markers : List Marker) (records : List Record) → words ≡ e.words → len ≡ length e.words → length new ≡ length words
+    → record { words = new; markers = markers; records = records } ≡ stepped plan k (record e { words = words }) → record { words = take len (new ++ drop (length new) e.words); markers = markers; records = records } ≡ stepped plan k e
+step_whole plan e k len words new markers records same whole keeps is =
+    ap (λ (all : List ℕ). record { words = all; markers = markers; records = records }) (written e.words new len whole (keeps ∙ ap (length {A = ℕ}) same))
+    ∙ is ∙ ap (λ (all : List ℕ). stepped plan k (record e { words = all })) same
+
+-- the marker that is read at a place
+pub marker_read : (markers : List Marker) (k : ℕ) (read : Marker) → k < length markers → read ≡ get_or markers k read → slice_get markers k ≡ Some read
+marker_read markers k read within is = slice_get_read markers (length markers) k read refl within is
+
+module _ (plan : Tables) (e : Exchange) (k : ℕ) (m : Marker) (there : slice_get e.markers k ≡ Some m) where
+  -- an idle marker makes no step
+  pub step_idle : is_idle m.work ≡ true → stepped plan k e ≡ e
+  unfolding stepped
+  step_idle idle = ap (λ (found : Option Marker). stepped_at plan k found e) there ∙ by m.work idle where
+    by : (work : TheWork) → is_idle work ≡ true → stepped_by plan k m work e ≡ e
+    by Idle is = refl
+    by (Does n a) is = ap (λ (idle : Bool). if idle then e else answered plan k m n a (told_of k e.words a) e) is
+
+  pub step_rests : (after : Marker) → is_idle m.work ≡ true → after ≡ m → record { words = e.words; markers = slice_set e.markers k after; records = e.records } ≡ stepped plan k e
+  step_rests after idle is =
+      (λ i. record { words = e.words; markers = slice_set e.markers k (is i); records = e.records })
+      ∙ ap (λ (markers : List Marker). record { words = e.words; markers = markers; records = e.records }) (marker_same e.markers k m there)
+      ∙ sym (step_idle idle)
+
+  -- what comes of a step is told by the marker's work
+  pub event_there : event_by plan k e.words m.work ≡ event_at_step plan k e
+  event_there = ap (event_at plan k e.words) (sym there)
+
+  -- marker k is not idle: its word, its work and the records are as told
+  pub step_goes : (kind : Kind) (work after : Work) (words : List ℕ) (records : List Record)
+      → m ≡ record { kind = kind; work = Does work.job_no work.program.attempt }
+      → is_rest (act work.program.attempt) ≡ false
+      → after ≡ record work { program = with_count (counted work.program.count) (change (office plan) work.program.attempt (told_of k e.words work.program.attempt)) }
+      → words ≡ made k (next_step work.program.attempt) e.words
+      → records ≡ e.records ++ recorded k work.job_no work.program.attempt (told_of k e.words work.program.attempt)
+      → record { words = words; markers = slice_set e.markers k (record { kind = kind; work = Does after.job_no after.program.attempt }); records = records } ≡ stepped plan k e
+  step_goes kind work after words records at goes after_is words_is records_is =
+      let a = work.program.attempt in
+      let told = told_of k e.words a in
+      let was : Marker = record { kind = kind; work = Does work.job_no a } in
+      (λ i. record { words = words_is i; markers = slice_set e.markers k (record { kind = kind; work = Does (after_is i).job_no (after_is i).program.attempt }); records = records_is i })
+      ∙ sym (step_made plan e k work.job_no was a (there ∙ ap Some at) refl goes)

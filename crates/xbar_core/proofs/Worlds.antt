@@ -1,0 +1,183 @@
+-- the moves of an office are moves of its world, so each of them is lawful
+use Rattle.std.proofs.Common.{◌≡◌, ℕ, ◌≤◌, Bool, true, false, List, [], ◌∷◌, ◌++◌, length, map, replicate, slice_index, refl, sym, ◌∙◌, ap, subst}
+use Rattle.std.specs.Prelude.{Option, Some, None, ◌==◌, if◌then◌else◌, slice_get, slice_set}
+use mathlib.Core.Option.{some}
+use Rattle.turns.specs.Attempt as generic
+use Rattle.turns.specs.Attempt.{act, act_in, begin_with, change, closing_act, free_act, request_in, restarted, told as told_by}
+use Rattle.turns.specs.Law.{IsFree, Lawful}
+use Rattle.turns.specs.Runs.{is_rest}
+use Rattle.turns.specs.World as worlds
+use Rattle.turns.specs.World.{ActorOf, Idle, Does, World, added_in, becomes, moved, place}
+use Rattle.turns.specs.declared.answer.Answer.{Answer}
+use Rattle.turns.specs.declared.answer.Answer.TheVariants.{Asked, Seized, Again}
+use Rattle.turns.specs.declared.judgement.Judgement.{Judgement}
+use Rattle.turns.specs.declared.judgement.Judgement.TheVariants as judgement
+use Rattle.turns.specs.declared.phase.Phase.TheVariants.{Requests, Seizes, Tests, Turns, Withdraws, GivesBack, Operates}
+use Rattle.turns.proofs.Moving.{assigns, gives_back, keeps, opens}
+use Rattle.xbar_equip.specs.Word.{word_count}
+use Rattle.xbar_equip.specs.declared.conn.Conn.{Conn}
+use Rattle.xbar_plan.specs.Tables.{Tables}
+use Rattle.xbar_plan.specs.Lawful.{IsLawful}
+use Rattle.xbar_office.specs.Legal.{IsJob}
+use Rattle.xbar_office.specs.declared.job.Job.{Job}
+use Rattle.xbar_office.specs.declared.reply.Record.{Record}
+use Rattle.xbar_office.specs.declared.reply.Reply.{Reply}
+use Rattle.xbar_jobs.specs.Attempt.{Act, Attempt, Phase, next_step}
+use Rattle.xbar_jobs.specs.Jobs.{first_conn}
+use Rattle.xbar_jobs.specs.Office.{office}
+use Rattle.xbar_jobs.specs.OnWords as steps
+use Rattle.xbar_jobs.specs.OnWords.{answer_of, applied, made, operation}
+use Rattle.xbar_jobs.specs.declared.effect.Effect.{Effect}
+use Rattle.xbar_jobs.proofs.OfficeSystem.{office_is}
+use Rattle.xbar_jobs.proofs.StepActs.{act_answer, act_operation, act_word}
+use Rattle.xbar_core.specs.Exchange.{Exchange, IsLawfulExchange, Marker, Work, is_idle, opened, turned, world}
+use Rattle.xbar_core.specs.Kinds.{takes}
+use Rattle.xbar_core.specs.Moves.{answered, assigned, assigned_at, given_back, record_of, recorded, refusal, refusal_at, refusal_of, stepped, stepped_at, stepped_by}
+use Rattle.xbar_core.specs.Settling.{settled}
+use Rattle.xbar_core.specs.declared.assign_fault.AssignFault.TheVariants.{NotIdle, WrongKind}
+use Rattle.xbar_core.specs.declared.kind.Kind.{Kind}
+use Rattle.xbar_core.proofs.Markers.{actor_there, works, works_set}
+use Rattle.xbar_core.proofs.Keeping.{KeepsRestarts, back_keeps, settled_keeps}
+
+turned_more : (records more : List Record) → map turned (records ++ more) ≡ map turned records ++ map turned more
+turned_more [] more = refl
+turned_more (r ∷ records) more = ap (λ (all : List (worlds.Record Job Reply)). turned r ∷ all) (turned_more records more)
+
+-- a judged request or seizing adds no record
+adds_asked : (k n word : ℕ) (a : Attempt) (j : Judgement) → recorded k n a (told_by (Asked word) j) ≡ []
+adds_asked k n word a judgement.Free = refl
+adds_asked k n word a (judgement.Held holder) = refl
+adds_asked k n word a (judgement.Preferred other) = refl
+
+adds_seized : (k n word : ℕ) (a : Attempt) (b : Bool) (j : Judgement) → recorded k n a (if b then Seized else told_by (Again word) j) ≡ []
+adds_seized k n word a true j = refl
+adds_seized k n word a false judgement.Free = refl
+adds_seized k n word a false (judgement.Held holder) = refl
+adds_seized k n word a false (judgement.Preferred other) = refl
+
+module _ (plan : Tables) where
+  adds_freed : (k n found : ℕ) (a : Attempt) (held : List Conn) → recorded k n a (generic.answered (office plan) k (free_act held) found) ≡ []
+  adds_freed k n found a [] = refl
+  adds_freed k n found a (conn ∷ held) = refl
+
+  adds_closed : (k n found : ℕ) (a : Attempt) (effects : List Effect) (held : List Conn) → recorded k n a (generic.answered (office plan) k (closing_act effects held) found) ≡ []
+  adds_closed k n found a [] held = adds_freed k n found a held
+  adds_closed k n found a (effect ∷ effects) held = refl
+
+  of_reply : (k n found : ℕ) (job : Job) (reply : Option Reply) → map turned (record_of found k n job reply) ≡ worlds.recorded (office plan) k n job reply found
+  of_reply k n found job None = refl
+  of_reply k n found job (Some reply) = refl
+
+  -- a step adds the record that it adds in the world
+  pub added_at : (k n found : ℕ) (a : Attempt) (phase : Phase) → map turned (recorded k n a (generic.answered (office plan) k (act_in phase a) found)) ≡ added_in (office plan) k n a phase found
+  added_at k n found a (Requests conn) = ap (map turned) (adds_asked k n _ a _)
+  added_at k n found a (Seizes conn expected) = ap (map turned) (adds_seized k n found a (found == expected) _)
+  added_at k n found a (Tests word) = refl
+  added_at k n found a Turns = of_reply k n found a.job a.reply
+  added_at k n found a (Withdraws conn) = refl
+  added_at k n found a GivesBack = ap (map turned) (adds_freed k n found a a.held)
+  added_at k n found a (Operates turn) = ap (map turned) (adds_closed k n found a a.effects a.held)
+
+  -- what a step finds on its word
+  abbrev pub found_by : List ℕ → Attempt → ℕ
+  found_by words a = slice_index words (place (office plan) (act a))
+
+  pub answer_is : (k : ℕ) (words : List ℕ) (a : Attempt) → answer_of k (next_step a) words ≡ generic.answered (office plan) k (act a) (found_by words a)
+  answer_is k words a = ap (λ (n : ℕ). steps.answered k (next_step a) (slice_index words n)) (act_word plan (act a)) ∙ act_answer plan k (act a) (found_by words a)
+
+  words_are : (k : ℕ) (words : List ℕ) (a : Attempt) → made k (next_step a) words ≡ slice_set words (place (office plan) (act a)) (becomes (office plan) k (act a) (found_by words a))
+  words_are k words a =
+      ap (λ (n : ℕ). slice_set words n (applied (operation k (next_step a)) (slice_index words n))) (act_word plan (act a))
+      ∙ ap (slice_set words (place (office plan) (act a))) (act_operation plan k (act a) (found_by words a))
+
+  -- marker k's step is actor k's
+  pub moved_is : (e : Exchange) (k n : ℕ) (m : Marker) (a : Attempt) → moved (office plan) k n a (world plan e) ≡ world plan (answered plan k m n a (answer_of k (next_step a) e.words) e)
+  moved_is e k n m a =
+      let found : ℕ = found_by e.words a in
+      let told_now : Answer = generic.answered (office plan) k (act a) found in
+      let order = turned_more e.records (recorded k n a told_now) ∙ ap (λ (more : List (worlds.Record Job Reply)). map turned e.records ++ more) (added_at k n found a a.phase) in
+      ap (λ (words : List ℕ). record { words = words; actors = slice_set (works e.markers) k (Does n (change (office plan) a told_now)); order = map turned e.records ++ added_in (office plan) k n a a.phase found }) (sym (words_are k e.words a))
+      ∙ ap (λ (actors : List Work). record { words = made k (next_step a) e.words; actors = actors; order = map turned e.records ++ added_in (office plan) k n a a.phase found }) (sym (works_set e.markers k (record m { work = Does n (change (office plan) a told_now) })))
+      ∙ ap (λ (all : List (worlds.Record Job Reply)). record { words = made k (next_step a) e.words; actors = works (slice_set e.markers k (record m { work = Does n (change (office plan) a told_now) })); order = all }) (sym order)
+      ∙ ap (λ (answer : Answer). world plan (answered plan k m n a answer e)) (sym (answer_is k e.words a))
+
+-- all are idle in an office that opens
+works_opened : (kinds : List Kind) → works (opened kinds).markers ≡ replicate (length kinds) Idle
+works_opened [] = refl
+works_opened (kind ∷ kinds) = ap (λ (all : List Work). Idle ∷ all) (works_opened kinds)
+
+rests : (a : Attempt) → is_rest (act a) ≡ true → act a ≡ generic.Rest
+rests a e = by (act a) e where
+  by : (next : Act) → is_rest next ≡ true → next ≡ generic.Rest
+  by generic.Rest is = refl
+  by (generic.Ask conn) is = absurd cc
+  by (generic.Take conn expected) is = absurd cc
+  by (generic.Leave conn) is = absurd cc
+  by (generic.Free conn) is = absurd cc
+  by (generic.Look word) is = absurd cc
+  by generic.Turn is = absurd cc
+  by (generic.Make effect) is = absurd cc
+
+-- a marker that is idle is free for a job
+pub idle_free : (plan : Tables) (work : Work) → is_idle work ≡ true → IsFree (office plan) work
+idle_free plan Idle e = tt
+idle_free plan (Does number a) e = rests a e
+
+-- a job that is not refused goes to a marker that is there and idle
+pub refused_none : (m : Marker) (job : Job) → refusal_of m job ≡ None → is_idle m.work ≡ true
+refused_none m job e = by (is_idle m.work) refl e where
+  by : (idle : Bool) → is_idle m.work ≡ idle → (if idle then (if takes m.kind job then None else Some WrongKind) else Some NotIdle) ≡ None → is_idle m.work ≡ true
+  by true is none = is
+  by false is none = absurd cc
+
+module _ (plan : Tables) (laws : IsLawful plan) where
+  work_lawful : (e : Exchange) (k n : ℕ) (m : Marker) (a : Attempt) → IsLawfulExchange plan e → slice_get e.markers k ≡ Some m → m.work ≡ Does n a → IsLawfulExchange plan (answered plan k m n a (answer_of k (next_step a) e.words) e)
+  work_lawful e k n m a law there at = subst (Lawful (office plan)) (moved_is plan e k n m a) (keeps (office plan) (office_is plan laws) (world plan e) law k n a (actor_there e.markers k m there ∙ ap some at))
+
+  step_lawful : (e : Exchange) (k : ℕ) (m : Marker) (work : Work) → IsLawfulExchange plan e → slice_get e.markers k ≡ Some m → m.work ≡ work → IsLawfulExchange plan (stepped_by plan k m work e)
+  step_lawful e k m Idle law there at = law
+  step_lawful e k m (Does n a) law there at = by (is_rest (act a)) where
+    by : (idle : Bool) → IsLawfulExchange plan (if idle then e else answered plan k m n a (answer_of k (next_step a) e.words) e)
+    by true = law
+    by false = work_lawful e k n m a law there at
+
+  stepped_lawful : (e : Exchange) (k : ℕ) (found : Option Marker) → IsLawfulExchange plan e → slice_get e.markers k ≡ found → IsLawfulExchange plan (stepped_at plan k found e)
+  stepped_lawful e k None law there = law
+  stepped_lawful e k (Some m) law there = step_lawful e k m m.work law there refl
+
+  assigned_lawful : (e : Exchange) (k n : ℕ) (job : Job) (found : Option Marker) → IsLawfulExchange plan e → IsJob job → slice_get e.markers k ≡ found → refusal_at found job ≡ None → IsLawfulExchange plan (assigned_at k n job found e)
+  assigned_lawful e k n job None law in_range there free = law
+  assigned_lawful e k n job (Some m) law in_range there free =
+      subst (λ (actors : List Work). Lawful (office plan) (record { words = e.words; actors = actors; order = map turned e.records }))
+      (sym (works_set e.markers k (record m { work = Does n (begin_with (first_conn job) job) })))
+      (assigns (office plan) (office_is plan laws) (world plan e) law k n m.work job (actor_there e.markers k m there) (idle_free plan m.work (refused_none m job free)) in_range)
+
+  -- a marker that is to give back begins its job anew
+  pub restarted_lawful : (k : ℕ) → KeepsRestarts plan (IsLawfulExchange plan) k
+  restarted_lawful k e n m a law there at =
+      subst (λ (actors : List Work). Lawful (office plan) (record { words = e.words; actors = actors; order = map turned e.records }))
+      (sym (works_set e.markers k (record m { work = Does n (restarted (office plan) a) })))
+      (gives_back (office plan) (office_is plan laws) (world plan e) law k n a (actor_there e.markers k m there ∙ ap some at))
+
+-- an office opens lawfully
+pub lawful_opened : (plan : Tables) (kinds : List Kind) → IsLawful plan → length kinds ≤ 48 → IsLawfulExchange plan (opened kinds)
+lawful_opened plan kinds laws few =
+    subst (λ (actors : List Work). Lawful (office plan) (record { words = replicate word_count 0; actors = actors; order = [] })) (sym (works_opened kinds))
+    (opens (office plan) (office_is plan laws) (length kinds) few)
+
+-- a job that is not refused keeps the office lawful
+pub lawful_assigned : (plan : Tables) (e : Exchange) (k number : ℕ) (job : Job) → IsLawful plan → IsLawfulExchange plan e → IsJob job → refusal e k job ≡ None → IsLawfulExchange plan (assigned k number job e)
+lawful_assigned plan e k number job laws law in_range free = assigned_lawful plan laws e k number job (slice_get e.markers k) law in_range refl free
+
+-- so does a step of a marker
+pub lawful_stepped : (plan : Tables) (e : Exchange) (k : ℕ) → IsLawful plan → IsLawfulExchange plan e → IsLawfulExchange plan (stepped plan k e)
+unfolding stepped
+lawful_stepped plan e k laws law = stepped_lawful plan laws e k (slice_get e.markers k) law refl
+
+-- so does a marker that gives back
+pub lawful_given_back : (plan : Tables) (e : Exchange) (k : ℕ) → IsLawful plan → IsLawfulExchange plan e → IsLawfulExchange plan (given_back plan k e)
+lawful_given_back plan e k laws law = back_keeps plan (IsLawfulExchange plan) k (λ x is. lawful_stepped plan x k laws is) (restarted_lawful plan laws k) e law
+
+-- and so does an office that settles
+pub lawful_settled : (plan : Tables) (e : Exchange) → IsLawful plan → IsLawfulExchange plan e → IsLawfulExchange plan (settled plan e)
+lawful_settled plan e laws law = settled_keeps plan (IsLawfulExchange plan) (λ k x is. lawful_stepped plan x k laws is) (restarted_lawful plan laws) e law

@@ -1,0 +1,5 @@
+use Rattle.xbar_core.proofs.KeptConnectors.{keeps_held}
+use Rattle.xbar_core.proofs.laws.attempts_keep_their_order.Goals as goal
+
+pub returns-clause-keeps : goal.returns-clause-keeps
+returns-clause-keeps c = keeps_held

@@ -1,0 +1,54 @@
+use Rattle.std.specs.Prelude.{ℕ, Bool, true, List, [], map, replicate}
+use Rattle.turns.specs.Law.{Lawful}
+use Rattle.turns.specs.World as worlds
+use Rattle.turns.specs.Attempt.{act}
+use Rattle.turns.specs.Runs.{is_rest}
+use Rattle.xbar_equip.specs.Word.{word_count}
+use Rattle.xbar_equip.specs.declared.conn.Conn.{Conn}
+use Rattle.xbar_plan.specs.Tables.{Tables}
+use Rattle.xbar_office.specs.declared.job.Job.{Job}
+use Rattle.xbar_office.specs.declared.reply.Record.{Record}
+use Rattle.xbar_office.specs.declared.reply.Reply.{Reply}
+use Rattle.xbar_jobs.specs.Office.{office}
+use Rattle.xbar_jobs.specs.declared.effect.Effect.{Effect}
+use Rattle.xbar_core.specs.declared.kind.Kind.{Kind}
+
+-- what a marker is at: nothing, or an attempt at a job that was assigned to it under a number
+abbrev pub Work : Type 0
+Work = worlds.Actor Conn Job Reply Effect
+
+-- a marker is idle before its first job, and where nothing is left of its job
+abbrev pub is_idle : Work → Bool
+is_idle worlds.Idle = true
+is_idle (worlds.Does number a) = is_rest (act a)
+
+pub record Marker : Type 0 where
+  pub kind : Kind
+  pub work : Work
+
+-- an office of many markers: its words, its markers in the order of their numbers, and the records of the jobs that have turned, in turn order
+pub record Exchange : Type 0 where
+  pub words : List ℕ
+  pub markers : List Marker
+  pub records : List Record
+
+-- an office opens with all words 0 and all markers idle
+abbrev pub opened : List Kind → Exchange
+opened kinds = record { words = replicate word_count 0; markers = map (λ kind. record { kind = kind; work = worlds.Idle }) kinds; records = [] }
+
+-- the record of a turn, as any system of jobs has it
+abbrev pub turned : Record → worlds.Record Job Reply
+turned r = record { turn = r.turn; actor = r.marker; number = r.job_no; job = r.job; reply = r.reply }
+
+-- the office as a world of actors at the jobs of its plan
+abbrev pub world : (plan : Tables) → Exchange → worlds.World (office plan)
+world plan e = record { words = e.words; actors = map (λ m. m.work) e.markers; order = map turned e.records }
+
+-- an office that its plan's markers can come to
+abbrev pub IsLawfulExchange : Tables → Exchange → Type 0
+IsLawfulExchange plan e = Lawful (office plan) (world plan e)
+
+-- an office under its plan
+pub record OfPlan : Type 0 where
+  pub plan : Tables
+  pub exchange : Exchange

@@ -1,0 +1,42 @@
+use Rattle.std.specs.Prelude.{◌≡◌, ◌↔◌, ℕ, ◌+◌, ◌<◌, ◌≤◌, ◌%◌, ◌⊎◌, Some, List, slice_get}
+use Rattle.std.specs.Int.{bit_at}
+use Rattle.turns.specs.Among.{IsIn}
+use Rattle.turns.specs.Attempt.{request_in}
+use Rattle.turns.specs.World as worlds
+use Rattle.turns.specs.World.{Does}
+use Rattle.xbar_equip.specs.declared.conn.Conn.{Conn}
+use Rattle.xbar_plan.specs.Tables.{Tables}
+use Rattle.xbar_jobs.specs.Attempt.{Attempt}
+use Rattle.xbar_jobs.specs.Office.{office}
+use Rattle.xbar_core.specs.Exchange.{Exchange, Marker, world}
+
+-- marker k is at an attempt at the job of a number
+pub record IsAt (e : Exchange) (k number : ℕ) (a : Attempt) : Type 0 where
+  pub marker : Marker
+  pub there : slice_get e.markers k ≡ Some marker
+  pub work : marker.work ≡ Does number a
+
+-- marker k holds a connector
+pub record Holds (e : Exchange) (k : ℕ) (conn : Conn) : Type 0 where
+  pub number : ℕ
+  pub attempt : Attempt
+  pub at : IsAt e k number attempt
+  pub held : IsIn conn attempt.held
+
+-- marker k has requested a connector, and has neither seized it nor withdrawn its request
+pub record HasRequested (e : Exchange) (k : ℕ) (conn : Conn) : Type 0 where
+  pub number : ℕ
+  pub attempt : Attempt
+  pub at : IsAt e k number attempt
+  pub request : request_in attempt.phase ≡ Some conn
+
+-- a connector's word: in its lowest six bits one more than the number of the marker that holds it, and 0 where none does; bit 8 + k where marker k has requested it; no other bits
+pub record TellsTruth (e : Exchange) (conn : Conn) (word : ℕ) : Type 0 where
+  pub holder : (k : ℕ) → (word % 64 ≡ k + 1) ↔ Holds e k conn
+  pub free : ((k : ℕ) → ¬ Holds e k conn) → word % 64 ≡ 0
+  pub requests : (k : ℕ) → k < 48 → (bit_at word (8 + k) ≡ 1) ↔ HasRequested e k conn
+  pub others : (bit : ℕ) → ((6 ≤ bit) × (bit < 8)) ⊎ (56 ≤ bit) → bit_at word bit ≡ 0
+
+-- the words once all effects are made that markers past their turns have left
+abbrev pub completed : Tables → Exchange → List ℕ
+completed plan e = worlds.completed (office plan) (world plan e)

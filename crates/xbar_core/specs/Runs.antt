@@ -1,0 +1,48 @@
+use Rattle.std.specs.Prelude.{ℕ, List, [], ◌∷◌, ⊤}
+use Rattle.xbar_plan.specs.Tables.{Tables}
+use Rattle.xbar_office.specs.Legal.{IsJob}
+use Rattle.xbar_office.specs.declared.job.Job.{Job}
+use Rattle.xbar_core.specs.Exchange.{Exchange, opened}
+use Rattle.xbar_core.specs.Moves.{assigned, given_back, refusal, stepped}
+use Rattle.xbar_core.specs.Settling.{settled}
+use Rattle.xbar_core.specs.declared.kind.Kind.{Kind}
+use Rattle.std.specs.Prelude.{Option, None, Some}
+use Rattle.xbar_core.specs.declared.assign_fault.AssignFault.{AssignFault}
+
+-- what may happen in an office: a job is assigned to a marker under a number, a marker makes its next step or gives back, or the office settles
+pub data Move : Type 0 where
+  Assigns : ℕ → ℕ → Job → Move
+  Steps : ℕ → Move
+  GivesBack : ℕ → Move
+  Settles : Move
+
+abbrev pub unless_refused : Option AssignFault → Exchange → Exchange → Exchange
+unless_refused None now before = now
+unless_refused (Some fault) now before = before
+
+-- a move of a marker; where an assignment is refused, or no marker has the number, nothing changes
+abbrev pub made_by : Tables → Exchange → Move → Exchange
+made_by plan e (Assigns k number job) = unless_refused (refusal e k job) (assigned k number job e) e
+made_by plan e (Steps k) = stepped plan k e
+made_by plan e (GivesBack k) = given_back plan k e
+made_by plan e Settles = settled plan e
+
+-- moves one after another, of any markers in any order
+abbrev pub run_from : Tables → Exchange → List Move → Exchange
+run_from plan e [] = e
+run_from plan e (move ∷ moves) = run_from plan (made_by plan e move) moves
+
+-- a run of an office that opens with markers of these kinds
+abbrev pub run_of : Tables → List Kind → List Move → Exchange
+run_of plan kinds moves = run_from plan (opened kinds) moves
+
+-- the jobs that are assigned are of lines that there are
+abbrev pub IsMove : Move → Type 0
+IsMove (Assigns k number job) = IsJob job
+IsMove (Steps k) = ⊤
+IsMove (GivesBack k) = ⊤
+IsMove Settles = ⊤
+
+abbrev pub AreMoves : List Move → Type 0
+AreMoves [] = ⊤
+AreMoves (move ∷ moves) = IsMove move × AreMoves moves

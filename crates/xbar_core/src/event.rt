@@ -1,0 +1,21 @@
+use xbar_equip::Conn;
+use xbar_office::Record;
+
+/// What came of a marker's step.
+#[derive(Debug, Drop, PartialEq, Eq)]
+pub enum Event {
+    /// The marker is idle and made none.
+    Idle,
+    /// The marker went on, or back.
+    Moved,
+    /// The connector that it asked for is held.
+    Refused {
+        conn: Conn,
+        /// The number of the marker that holds it.
+        holder: u32,
+    },
+    /// The connector that it asked for is free, and was asked for by this marker too, which is preferred.
+    Preferred(u32),
+    /// The last connector of a job that has turned is free again; the marker is idle.
+    Finished(Record),
+}

@@ -1,0 +1,274 @@
+//! An office of many markers, as plain data.
+
+ghost use Rattle.std.specs.Prelude.{◌≡◌, ◌↔◌, ◌<◌, ◌≤◌, ◌⊎◌, ℕ, IfOk, IfErr, OnOk, OnErr, Ok, Err, Some, None, true, length, map, slice_get};
+ghost use Rattle.turns.specs.World.{Idle};
+ghost use Rattle.xbar_equip.specs.Word.{word_count};
+ghost use Rattle.xbar_office.specs.Legal.{IsJob};
+ghost use Rattle.xbar_core.specs.AtWork.{IsBackingAt, begun_anew, left_at};
+ghost use Rattle.xbar_core.specs.Exchange.{IsLawfulExchange, Marker as TheMarker, is_idle as is_idle_work, opened};
+ghost use Rattle.xbar_core.specs.Moves.{assigned, event_at_step, given_at, given_back, refusal, stepped, steps};
+ghost use Rattle.xbar_core.specs.Settling.{ended, ended_past_turn, for_each, settled};
+
+use crate::assign_fault::AssignFault;
+use crate::event::Event;
+use crate::given::Given;
+use crate::kind::Kind;
+use crate::marker::Marker;
+use crate::open_fault::OpenFault;
+use std::alloc::{AllocError, Global};
+use std::marker::Model;
+use xbar_equip::WORD_COUNT;
+use xbar_office::{Job, Record};
+use xbar_plan::Plan;
+
+/// The most markers that an office has.
+const MOST_MARKERS: usize = 48;
+
+/// A marker that no other is in the way of has no more steps to its end: two to withdraw and to try
+/// again, 19 frees, and the 114 of the job anew.
+const MOST_STEPS_ALONE: u32 = 135;
+
+/// An office of 1 to 48 markers, on words of its own.
+#[derive(Debug, Drop)]
+pub struct Exchange<'p> {
+    plan: &'p Plan,
+    words: Vec<u64>,
+    markers: Vec<Marker>,
+    records: Vec<Record>,
+}
+
+impl<'p> Model for Exchange<'p> {
+    ghost use Rattle.xbar_core.specs.Exchange.{OfPlan};
+    ghost use Rattle.xbar_core.specs.Standing.{HasRoom, IsExchange};
+
+    ghost Value = { OfPlan };
+
+    ghost view = { λ a. record { plan = a.plan.now; exchange = record { words = a.words.items; markers = a.markers.items; records = a.records.items } } };
+
+    ghost invariant = { λ a. IsExchange a.plan.now (record { words = a.words.items; markers = a.markers.items; records = a.records.items }) × HasRoom (record { words = a.words.items; markers = a.markers.items; records = a.records.items }) a.records.cap };
+}
+
+/// Idle markers of these kinds.
+fn markers_of(alloc: Global, kinds: &[Kind]) -> Result<Vec<Marker>, AllocError>
+    ensures { IfOk result (λ markers. markers.items ≡ map (λ kind. record { kind = kind; work = Idle }) kinds.now) }
+{
+    kinds.iter().map(|kind| Marker::new(*kind)).collect(alloc)
+}
+
+impl<'p> Exchange<'p> {
+    /// Opens an office with no path, whose markers are idle and of these kinds.
+    pub fn open(alloc: Global, plan: &'p Plan, kinds: &[Kind]) -> Result<Self, OpenFault>
+        ensures ok { IfOk result (λ exchange. exchange ≡ record { plan = plan.now; exchange = opened kinds.now }) }
+        ensures markers { (result ≡ Err OpenFault.Markers) ↔ ¬ ((0 < length kinds.now) × (length kinds.now ≤ 48)) }
+    {
+        if kinds.is_empty() || kinds.len() > MOST_MARKERS {
+            return Err(OpenFault::Markers);
+        }
+        xbar_plan::laws::every_plan_is_lawful(plan);
+        let markers = markers_of(alloc, kinds)?;
+        Ok(Exchange {
+            plan,
+            words: vec![in alloc; 0; WORD_COUNT]?,
+            markers,
+            records: Vec::new(alloc),
+        })
+    }
+
+    /// The plan that the office was opened with.
+    pub fn plan(&self) -> &'p Plan
+        ensures { result.now ≡ self.now.plan }
+    {
+        self.plan
+    }
+
+    /// The records of the jobs that have turned, in turn order.
+    pub fn records(&self) -> &[Record]
+        ensures records { result.now ≡ self.now.exchange.records }
+        ensures lawful { IsLawfulExchange self.now.plan self.now.exchange }
+    {
+        self.records.as_slice()
+    }
+
+    /// All of the office's words.
+    pub fn words(&self) -> &[u64]
+        ensures words { result.now ≡ self.now.exchange.words }
+        ensures count { length result.now ≡ word_count }
+        ensures lawful { IsLawfulExchange self.now.plan self.now.exchange }
+    {
+        self.words.as_slice()
+    }
+
+    /// The markers have the numbers below this one.
+    pub fn marker_count(&self) -> u32
+        ensures { result ≡ length self.now.exchange.markers }
+    {
+        self.markers.len() as u32
+    }
+
+    fn marker(&self, marker: u32) -> &Marker
+        requires { marker < length self.now.exchange.markers }
+        ensures { slice_get self.now.exchange.markers marker ≡ Some result.now }
+    {
+        &self.markers[marker as usize]
+    }
+
+    /// What jobs the marker takes.
+    pub fn kind(&self, marker: u32) -> Kind
+        requires { marker < length self.now.exchange.markers }
+        ensures { (m : TheMarker) → slice_get self.now.exchange.markers marker ≡ Some m → result ≡ m.kind }
+    {
+        self.marker(marker).kind()
+    }
+
+    /// Whether the marker can be assigned a job: it has none, or nothing is left of it.
+    pub fn is_idle(&self, marker: u32) -> bool
+        requires { marker < length self.now.exchange.markers }
+        ensures { (m : TheMarker) → slice_get self.now.exchange.markers marker ≡ Some m → result ≡ is_idle_work m.work }
+    {
+        self.marker(marker).is_idle()
+    }
+
+    /// Why the job can't be assigned to the marker.
+    fn refuses(&self, marker: u32, job: &Job) -> Option<AssignFault>
+        ensures { result ≡ refusal self.now.exchange marker job.now }
+    {
+        if marker < self.marker_count() {
+            self.marker(marker).refuses(job)
+        } else {
+            Some(AssignFault::NoMarker)
+        }
+    }
+
+    /// Assigns a job to a marker under a number. Where it is refused nothing changes.
+    pub fn assign(&mut self, marker: u32, job_no: u32, job: Job) -> Result<(), AssignFault>
+        requires { IsJob job }
+        ensures ok { OnOk result ((refusal self.old.exchange marker job ≡ None) × (self.new ≡ record self.old { exchange = assigned marker job_no job self.old.exchange })) }
+        ensures err { OnErr result (self.new ≡ self.old) }
+        ensures why { IfErr result (λ fault. (refusal self.old.exchange marker job ≡ Some fault) ⊎ ((fault ≡ AssignFault.Memory) × (refusal self.old.exchange marker job ≡ None))) }
+    {
+        if let Some(fault) = self.refuses(marker, &job) {
+            return Err(fault);
+        }
+        xbar_plan::laws::every_plan_is_lawful(self.plan);
+        // Each marker has one turn to come at most.
+        self.records.reserve(self.markers.len())?;
+        self.markers[marker as usize].begin(job_no, job);
+        Ok(())
+    }
+
+    /// Makes the marker's next step, and tells what came of it. An idle marker makes none.
+    pub fn step(&mut self, marker: u32) -> Event
+        requires { marker < length self.old.exchange.markers }
+        ensures step { self.new ≡ record self.old { exchange = stepped self.old.plan marker self.old.exchange } }
+        ensures event { result ≡ event_at_step self.old.plan marker self.old.exchange }
+    {
+        xbar_plan::laws::every_plan_is_lawful(self.plan);
+        self.markers[marker as usize].step(
+            self.plan,
+            marker,
+            self.words.as_mut_slice(),
+            &mut self.records,
+        )
+    }
+
+    /// The marker is to begin its job anew, unless it is past its turn.
+    fn restart(&mut self, marker: u32)
+        requires { marker < length self.old.exchange.markers }
+        ensures { self.new ≡ record self.old { exchange = begun_anew self.old.plan marker self.old.exchange } }
+    {
+        xbar_plan::laws::every_plan_is_lawful(self.plan);
+        self.markers[marker as usize].restart();
+    }
+
+    /// The marker withdraws its request, and frees all that it holds.
+    fn give_up(&mut self, marker: u32)
+        requires within { marker < length self.old.exchange.markers }
+        requires backs { IsBackingAt (slice_get self.old.exchange.markers marker) }
+        ensures { self.new ≡ record self.old { exchange = steps self.old.plan marker (left_at (slice_get self.old.exchange.markers marker)) self.old.exchange } }
+    {
+        while self.marker(marker).is_giving_up() {
+            let _moved = self.step(marker);
+        }
+    }
+
+    /// Has the marker give back what it holds, if it is not past its turn; it keeps its job.
+    pub fn give_back(&mut self, marker: u32) -> Given
+        requires { marker < length self.old.exchange.markers }
+        ensures back { self.new ≡ record self.old { exchange = given_back self.old.plan marker self.old.exchange } }
+        ensures given { result ≡ given_at (slice_get self.old.exchange.markers marker) }
+    {
+        let given = self.marker(marker).given();
+        if let Given::Given = given {
+            self.restart(marker);
+            self.give_up(marker);
+        }
+        given
+    }
+
+    /// Makes so many steps of the marker. They end at once where it is idle.
+    pub fn steps(&mut self, marker: u32, count: u32)
+        requires { marker < length self.old.exchange.markers }
+        ensures { self.new ≡ record self.old { exchange = steps self.old.plan marker count self.old.exchange } }
+    {
+        for _made in 0..count {
+            if self.is_idle(marker) {
+                return;
+            }
+            let _event = self.step(marker);
+        }
+    }
+
+    /// Brings the marker to the end of its job, if no other is in its way.
+    fn end(&mut self, marker: u32)
+        requires { marker < length self.old.exchange.markers }
+        ensures { self.new ≡ record self.old { exchange = ended self.old.plan marker self.old.exchange } }
+    {
+        self.steps(marker, MOST_STEPS_ALONE);
+    }
+
+    /// The marker, if it is past its turn, comes to the end of its job.
+    fn end_past_turn(&mut self, marker: u32)
+        requires { marker < length self.old.exchange.markers }
+        ensures { self.new ≡ record self.old { exchange = ended_past_turn self.old.plan marker self.old.exchange } }
+    {
+        if self.marker(marker).is_past_turn() {
+            self.end(marker);
+        }
+    }
+
+    fn end_all_past_turn(&mut self)
+        ensures { self.new ≡ record self.old { exchange = for_each (ended_past_turn self.old.plan) (length self.old.exchange.markers) self.old.exchange } }
+    {
+        for marker in 0..self.marker_count() {
+            self.end_past_turn(marker);
+        }
+    }
+
+    fn give_back_all(&mut self)
+        ensures { self.new ≡ record self.old { exchange = for_each (given_back self.old.plan) (length self.old.exchange.markers) self.old.exchange } }
+    {
+        for marker in 0..self.marker_count() {
+            let _given = self.give_back(marker);
+        }
+    }
+
+    fn end_all(&mut self)
+        ensures { self.new ≡ record self.old { exchange = for_each (ended self.old.plan) (length self.old.exchange.markers) self.old.exchange } }
+    {
+        for marker in 0..self.marker_count() {
+            self.end(marker);
+        }
+    }
+
+    /// Brings every job to its end: in the order of their numbers the markers past their turn come to
+    /// their end, then all others give back, and then each of them does its job alone.
+    pub fn settle(&mut self)
+        ensures settled { self.new ≡ record self.old { exchange = settled self.old.plan self.old.exchange } }
+        ensures idle { (k : ℕ) (m : TheMarker) → slice_get self.new.exchange.markers k ≡ Some m → is_idle_work m.work ≡ true }
+    {
+        xbar_plan::laws::every_plan_is_lawful(self.plan);
+        self.end_all_past_turn();
+        self.give_back_all();
+        self.end_all();
+    }
+}

@@ -1,0 +1,109 @@
+//! What holds of every office of many markers, whatever moves its markers make in whatever order. Each
+//! function does nothing: its contract is the law.
+
+ghost use Rattle.std.specs.Prelude.{◌≡◌, ◌↔◌, ◌+◌, ◌<◌, ◌≤◌, ◌^◌, ◌%◌, ◌++◌, ◌≢◌, ℕ, List, [], Option, Some, None, true, length, slice_get, slice_index};
+ghost use Rattle.turns.specs.Among.{IsIn};
+ghost use Rattle.turns.specs.Attempt.{Free, IsSeizing, Make, act, change, read_in};
+ghost use Rattle.turns.specs.declared.answer.Answer.{Answer};
+ghost use Rattle.turns.specs.declared.phase.Phase.{Phase};
+ghost use Rattle.turns.specs.declared.reading.Reading.{Reading};
+ghost use Rattle.xbar_equip.specs.Conn.{IsConn};
+ghost use Rattle.xbar_equip.specs.Word.{ConnWord, TurnWord, word_count, word_number};
+ghost use Rattle.xbar_equip.specs.declared.conn.Conn.{Conn};
+ghost use Rattle.xbar_equip.specs.Len.{Line};
+ghost use Rattle.xbar_equip.specs.Link.{Link};
+ghost use Rattle.xbar_equip.specs.declared.crosspoint.Crosspoint.{Crosspoint};
+ghost use Rattle.xbar_equip.specs.declared.path.Path.{Path};
+ghost use Rattle.xbar_plan.specs.Tables.{Tables};
+ghost use Rattle.xbar_plan.specs.Lawful.{IsLawful};
+ghost use Rattle.xbar_office.specs.Legal.{IsJob, IsLegal, AreJobs, HaveReplies, after, jobs_of};
+ghost use Rattle.xbar_office.specs.declared.job.Job.{Job};
+ghost use Rattle.xbar_office.specs.declared.job.Job.TheVariants.{Release};
+ghost use Rattle.xbar_office.specs.declared.reply.Card.{Card};
+ghost use Rattle.xbar_office.specs.declared.reply.End.TheVariants.{Released};
+ghost use Rattle.xbar_office.specs.declared.reply.Record.{Record};
+ghost use Rattle.xbar_jobs.specs.Attempt.{Attempt, next_step};
+ghost use Rattle.xbar_jobs.specs.Office.{Protects, ShowsOffice, office};
+ghost use Rattle.xbar_jobs.specs.OnWords.{answer_of, step_word};
+ghost use Rattle.xbar_jobs.specs.declared.effect.Effect.{Effect};
+ghost use Rattle.xbar_core.specs.Exchange.{Exchange, IsLawfulExchange, opened};
+ghost use Rattle.xbar_core.specs.Holding.{Holds, IsAt, TellsTruth, completed};
+ghost use Rattle.xbar_core.specs.Links.{BelongsTo, IsAtLink, IsClosed, OpensItsOwn};
+ghost use Rattle.xbar_core.specs.Moves.{assigned, event_at_step, given_back, recorded, refusal, stepped};
+ghost use Rattle.xbar_core.specs.Runs.{AreMoves, Move, run_of};
+ghost use Rattle.xbar_core.specs.Settling.{settled};
+ghost use Rattle.xbar_core.specs.declared.event.Event.{Event};
+ghost use Rattle.xbar_core.specs.declared.kind.Kind.{Kind};
+
+/// An office opens lawfully, and each assignment, each step of a marker, each give back and each settling
+/// keeps it so. A step adds the record of its turn, if it is one, at the end.
+pub fn every_move_keeps_the_law()
+    ensures opens { (plan : Tables) (kinds : List Kind) → IsLawful plan → length kinds ≤ 48 → IsLawfulExchange plan (opened kinds) }
+    ensures assigns { (plan : Tables) (e : Exchange) (k number : ℕ) (job : Job) → IsLawful plan → IsLawfulExchange plan e → IsJob job → refusal e k job ≡ None → IsLawfulExchange plan (assigned k number job e) }
+    ensures steps { (plan : Tables) (e : Exchange) (k : ℕ) → IsLawful plan → IsLawfulExchange plan e → IsLawfulExchange plan (stepped plan k e) }
+    ensures gives_back { (plan : Tables) (e : Exchange) (k : ℕ) → IsLawful plan → IsLawfulExchange plan e → IsLawfulExchange plan (given_back plan k e) }
+    ensures settles { (plan : Tables) (e : Exchange) → IsLawful plan → IsLawfulExchange plan e → IsLawfulExchange plan (settled plan e) }
+    ensures adds { (plan : Tables) (e : Exchange) (k number : ℕ) (a : Attempt) → IsAt e k number a → (stepped plan k e).records ≡ e.records ++ recorded k number a (answer_of k (next_step a) e.words) }
+{}
+
+/// Whatever moves any markers make, in whatever order, the office that they come to is lawful.
+pub fn every_run_is_lawful()
+    ensures { (plan : Tables) (kinds : List Kind) (moves : List Move) → IsLawful plan → length kinds ≤ 48 → AreMoves moves → IsLawfulExchange plan (run_of plan kinds moves) }
+{}
+
+/// Jobs act at one step: the records are those of the one-marker office, which does the jobs whole, one
+/// after another in turn order; the turn word counts them; and the words show the set after them, once all
+/// effects are made that markers past their turns have left. Where no connector is held they show it as
+/// they are. Turn numbers are counted modulo 2^64, so they are places only in shorter lists.
+pub fn jobs_act_at_their_turns()
+    ensures jobs { (plan : Tables) (e : Exchange) → IsLawfulExchange plan e → AreJobs (jobs_of e.records) }
+    ensures replies { (plan : Tables) (e : Exchange) → IsLawfulExchange plan e → HaveReplies plan [] e.records }
+    ensures legal { (plan : Tables) (e : Exchange) → IsLawfulExchange plan e → length e.records < 2 ^ 64 → IsLegal plan e.records }
+    ensures counted { (plan : Tables) (e : Exchange) → IsLawfulExchange plan e → slice_index e.words (word_number TurnWord) ≡ length e.records % 2 ^ 64 }
+    ensures shows { (plan : Tables) (e : Exchange) → IsLawfulExchange plan e → ShowsOffice plan (completed plan e) (after plan e.records) }
+    ensures free { (plan : Tables) (e : Exchange) → IsLawful plan → IsLawfulExchange plan e → ((k : ℕ) (conn : Conn) → ¬ Holds e k conn) → ShowsOffice plan e.words (after plan e.records) }
+{}
+
+/// A connector's word tells who holds it and whose request for it stands.
+pub fn connectors_tell_the_truth()
+    ensures { (plan : Tables) (e : Exchange) (conn : Conn) → IsLawfulExchange plan e → IsConn conn → TellsTruth e conn (slice_index e.words (word_number (ConnWord conn))) }
+{}
+
+/// A protected word is tested or changed by the holder of its connector alone. What a marker has read
+/// before its turn is still what the words have.
+pub fn words_are_their_holders()
+    ensures alone { (plan : Tables) (e : Exchange) (k number : ℕ) (a : Attempt) (conn : Conn) → IsLawful plan → IsLawfulExchange plan e → IsAt e k number a → Protects conn (step_word (next_step a)) → IsIn conn a.held }
+    ensures spared { (plan : Tables) (e : Exchange) (k n : ℕ) (conn : Conn) → IsLawful plan → IsLawfulExchange plan e → Protects conn n → ¬ Holds e k conn → slice_index (stepped plan k e).words n ≡ slice_index e.words n }
+    ensures read { (plan : Tables) (e : Exchange) (k number : ℕ) (a : Attempt) (r : Reading ℕ) → IsLawfulExchange plan e → IsAt e k number a → IsIn r (read_in a.phase a.readings) → slice_index e.words r.word ≡ r.value }
+{}
+
+/// No connector is requested or seized past the turn, and no effect comes before it. A marker keeps each
+/// connector that it has seized until it frees it, past its turn only once no effect is left.
+pub fn attempts_keep_their_order()
+    ensures seizes { (a : Attempt) (turn : ℕ) → a.phase ≡ Phase.Operates turn → ¬ IsSeizing (act a) }
+    ensures effects { (a : Attempt) (effect : Effect) → act a ≡ Make effect → (turn : ℕ) × (a.phase ≡ Phase.Operates turn) }
+    ensures keeps { (plan : Tables) (a : Attempt) (answer : Answer) (conn : Conn) → IsIn conn a.held → act a ≢ Free conn → IsIn conn (change (office plan) a answer).held }
+    ensures frees { (a : Attempt) (turn : ℕ) (conn : Conn) → a.phase ≡ Phase.Operates turn → act a ≡ Free conn → a.effects ≡ [] }
+{}
+
+/// A job that finishes has its record at the place of its turn, with the marker, the number and the job
+/// that were assigned.
+pub fn finished_jobs_are_recorded()
+    ensures place { (plan : Tables) (e : Exchange) (k : ℕ) (r : Record) → IsLawful plan → IsLawfulExchange plan e → length e.records < 2 ^ 64 → event_at_step plan k e ≡ Event.Finished r → slice_get (stepped plan k e).records r.turn ≡ Some r }
+    ensures job { (plan : Tables) (e : Exchange) (k number : ℕ) (a : Attempt) (r : Record) → IsAt e k number a → event_at_step plan k e ≡ Event.Finished r → (r.marker ≡ k) × (r.job_no ≡ number) × (r.job ≡ a.job) }
+{}
+
+/// No link ever carries two calls. At each moment, half-done jobs included, each closed crosspoint belongs
+/// to a path: one of the set after all records, or one that a marker past its turn takes out and has still
+/// to open there. All closed crosspoints at one link belong to one path.
+pub fn no_link_carries_two_calls()
+    ensures belongs { (plan : Tables) (e : Exchange) (c : Crosspoint) → IsLawful plan → IsLawfulExchange plan e → IsClosed e.words c → (path : Path) × BelongsTo plan e path c }
+    ensures one { (plan : Tables) (e : Exchange) (link : Link) (c : Crosspoint) → IsLawful plan → IsLawfulExchange plan e → IsClosed e.words c → IsAtLink link c → (path : Path) × ((d : Crosspoint) → IsClosed e.words d → IsAtLink link d → BelongsTo plan e path d) }
+{}
+
+/// A release opens exactly its own crosspoints: from its turn to its end, what a releasing marker has left
+/// is the end of the opening of the paths that its reply names, crosspoint by crosspoint, and of the
+/// clearing of their member's bit; each of these is closed when its turn comes.
+pub fn a_release_opens_its_own_crosspoints()
+    ensures { (plan : Tables) (e : Exchange) (k number turn : ℕ) (a : Attempt) (line : Line) (own : Path) (other : Option Path) (cards : List Card) → IsLawful plan → IsLawfulExchange plan e → IsAt e k number a → a.phase ≡ Phase.Operates turn → a.job ≡ Release line → a.reply ≡ Some (record { end = Released own other; cards = cards }) → OpensItsOwn plan own other e.words a.effects }
+{}

@@ -1,0 +1,21 @@
+//! Many markers at once, as plain data: the office's words, its markers, and the moves that they make.
+#![tactic(auto)]
+
+pub use assign_fault::AssignFault;
+pub use event::Event;
+pub use exchange::Exchange;
+pub use given::Given;
+pub use kind::Kind;
+pub use open_fault::OpenFault;
+
+mod assign_fault;
+mod event;
+mod exchange;
+mod given;
+mod kind;
+pub mod laws;
+mod marker;
+mod open_fault;
+#[cfg(test)]
+mod tests;
+mod work;

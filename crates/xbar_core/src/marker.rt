@@ -1,0 +1,149 @@
+ghost use Rattle.std.specs.Prelude.{◌≡◌, ◌+◌, ◌<◌, ◌≤◌, List, Some, length, slice_get, slice_set, vec_capacity};
+ghost use Rattle.turns.specs.Attempt.{begin_with};
+ghost use Rattle.turns.specs.World.{Idle, Does};
+ghost use Rattle.xbar_equip.specs.Word.{word_count};
+ghost use Rattle.xbar_office.specs.Legal.{IsJob};
+ghost use Rattle.xbar_plan.specs.Tables.{Tables};
+ghost use Rattle.xbar_jobs.specs.Jobs.{first_conn};
+ghost use Rattle.xbar_core.specs.AtWork.{gives_up_at, is_turned, work_anew};
+ghost use Rattle.xbar_core.specs.Exchange.{Marker as TheMarker, is_idle as is_idle_at};
+ghost use Rattle.xbar_core.specs.Moves.{event_by, given_by, refusal_of, stepped};
+ghost use Rattle.xbar_core.specs.Standing.{StandsAt, waits};
+
+use crate::assign_fault::AssignFault;
+use crate::event::Event;
+use crate::given::Given;
+use crate::kind::Kind;
+use crate::work::Work;
+use std::marker::Model;
+use xbar_office::{Job, Record};
+use xbar_plan::Plan;
+
+/// A marker: its kind, and the job that it has, or the last one that it had.
+#[derive(Debug, Drop)]
+pub struct Marker {
+    kind: Kind,
+    work: Option<Work>,
+}
+
+impl Model for Marker {
+    ghost use Rattle.xbar_core.specs.Exchange.{Marker as TheMarker};
+    ghost use Rattle.xbar_core.specs.AtWork.{work_of};
+
+    ghost Value = { TheMarker };
+
+    ghost view = { λ a. record { kind = a.kind; work = work_of a.work } };
+}
+
+impl Marker {
+    /// An idle marker of this kind.
+    pub fn new(kind: Kind) -> Self
+        ensures { result ≡ record { kind = kind; work = Idle } }
+    {
+        Marker { kind, work: None }
+    }
+
+    /// What jobs it takes.
+    pub fn kind(&self) -> Kind
+        ensures { result ≡ self.now.kind }
+    {
+        self.kind
+    }
+
+    /// Whether it has no job, or nothing is left of it.
+    pub fn is_idle(&self) -> bool
+        ensures { result ≡ is_idle_at self.now.work }
+    {
+        match &self.work {
+            None => true,
+            Some(work) => work.is_done(),
+        }
+    }
+
+    /// Whether its job has taken its turn.
+    pub fn is_past_turn(&self) -> bool
+        ensures { result ≡ is_turned self.now.work }
+    {
+        match &self.work {
+            None => false,
+            Some(work) => work.is_past_turn(),
+        }
+    }
+
+    /// Whether its next step withdraws a request, or frees a connector.
+    pub fn is_giving_up(&self) -> bool
+        ensures { result ≡ gives_up_at self.now.work }
+    {
+        match &self.work {
+            None => false,
+            Some(work) => work.is_giving_up(),
+        }
+    }
+
+    /// What comes of asking it to give back.
+    pub fn given(&self) -> Given
+        ensures { result ≡ given_by self.now.work }
+    {
+        if self.is_idle() {
+            Given::Idle
+        } else if self.is_past_turn() {
+            Given::PastTurn
+        } else {
+            Given::Given
+        }
+    }
+
+    /// Why it can't be assigned the job.
+    pub fn refuses(&self, job: &Job) -> Option<AssignFault>
+        ensures { result ≡ refusal_of self.now job.now }
+    {
+        if !self.is_idle() {
+            Some(AssignFault::NotIdle)
+        } else if self.kind.takes(job) {
+            None
+        } else {
+            Some(AssignFault::WrongKind)
+        }
+    }
+
+    /// It has this job from now on, under a number, and is at its beginning.
+    pub fn begin(&mut self, job_no: u32, job: Job)
+        requires { IsJob job }
+        ensures { self.new ≡ record self.old { work = Does job_no (begin_with (first_conn job) job) } }
+    {
+        self.work = Some(Work::begin(job_no, job));
+    }
+
+    /// Begins its job anew, once all that it holds is given back. Past the turn nothing changes.
+    pub fn restart(&mut self)
+        ensures { (plan : Tables) → self.new ≡ record self.old { work = work_anew plan self.old.work } }
+    {
+        if let Some(work) = &mut self.work {
+            work.restart();
+        }
+    }
+
+    /// Makes its next step, as the marker of this number, and tells what came of it. An idle marker
+    /// makes none. There is room for the record of its turn.
+    pub fn step(
+        &mut self,
+        plan: &Plan,
+        number: u32,
+        words: &mut [u64],
+        records: &mut Vec<Record>,
+    ) -> Event
+        requires plan { StandsAt plan.now self.old.work }
+        requires number { number < 48 }
+        requires words { length words.old ≡ word_count }
+        requires room { length records.old.items + waits self.old.work ≤ vec_capacity records.old }
+        ensures step { (markers : List TheMarker) → slice_get markers number ≡ Some self.old → record { words = words.new; markers = slice_set markers number self.new; records = records.new.items } ≡ stepped plan.now number (record { words = words.old; markers = markers; records = records.old.items }) }
+        ensures room { vec_capacity records.old ≤ vec_capacity records.new }
+        ensures event { result ≡ event_by plan.now number words.old self.old.work }
+    {
+        match &mut self.work {
+            None => Event::Idle,
+            Some(work) if work.is_done() => Event::Idle,
+            Some(work) => work.step(plan, number, words, records),
+        }
+    }
+}

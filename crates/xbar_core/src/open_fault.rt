@@ -1,0 +1,23 @@
+ghost use Rattle.std.specs.Prelude.{◌≡◌};
+ghost use Rattle.xbar_core.specs.declared.open_fault.OpenFault.TheVariants.{Memory};
+
+use std::alloc::AllocError;
+use thiserror::Error;
+
+/// Why an office can't be opened.
+#[derive(Debug, Drop, Clone, Copy, PartialEq, Eq, Error)]
+pub enum OpenFault {
+    /// An office has 1 to 48 markers.
+    #[error("an office has 1 to 48 markers")]
+    Markers,
+    #[error("memory ran out")]
+    Memory,
+}
+
+impl From<AllocError> for OpenFault {
+    ghost from_gives = { λ _ fault. fault ≡ Memory };
+
+    fn from(_why: AllocError) -> Self {
+        OpenFault::Memory
+    }
+}

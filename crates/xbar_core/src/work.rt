@@ -1,0 +1,172 @@
+ghost use Rattle.std.specs.Prelude.{◌≡◌, ◌+◌, ◌<◌, ◌≤◌, ◌++◌, false, is_some, length, option_to_list, vec_capacity};
+ghost use Rattle.turns.specs.Attempt.{act, change, restarted};
+ghost use Rattle.turns.specs.Runs.{is_rest};
+ghost use Rattle.xbar_equip.specs.Word.{word_count};
+ghost use Rattle.xbar_office.specs.Legal.{IsJob};
+ghost use Rattle.xbar_plan.specs.Tables.{Tables};
+ghost use Rattle.xbar_jobs.specs.Attempt.{Attempt, counted, fresh, next_step, turn_in, with_count};
+ghost use Rattle.xbar_jobs.specs.Office.{office};
+ghost use Rattle.xbar_jobs.specs.OnWords.{made};
+ghost use Rattle.xbar_jobs.specs.Standing.{Stands};
+ghost use Rattle.xbar_core.specs.AtWork.{conn_asked, entered, gives_up, told_of};
+ghost use Rattle.xbar_core.specs.Moves.{event_of, own_record, recorded, refused_by};
+ghost use Rattle.xbar_core.specs.Standing.{waits_in};
+
+use crate::event::Event;
+use xbar_jobs::{Answer, Program, Step};
+use xbar_office::{Job, Record};
+use xbar_plan::Plan;
+
+/// A job that was assigned to a marker, and how far the marker is with it.
+#[derive(Debug, Drop)]
+pub struct Work {
+    job_no: u32,
+    program: Program,
+}
+
+/// What came of a step that found its connector held.
+fn refused(step: Step, holder: u32) -> Event
+    ensures { result ≡ refused_by holder (conn_asked step) }
+{
+    match step {
+        Step::Request(conn) | Step::Seize(conn, _) | Step::Withdraw(conn) => Event::Refused {
+            conn,
+            holder,
+        },
+        Step::Test(_)
+        | Step::Turn
+        | Step::Close(_, _)
+        | Step::Open(_, _)
+        | Step::Free(_)
+        | Step::Finished => Event::Moved,
+    }
+}
+
+impl Work {
+    /// The job at its beginning.
+    pub fn begin(job_no: u32, job: Job) -> Self
+        requires { IsJob job }
+        ensures { result ≡ record { job_no = job_no; program = fresh job } }
+    {
+        Work {
+            job_no,
+            program: Program::new(job),
+        }
+    }
+
+    /// Whether nothing is left of the job.
+    pub fn is_done(&self) -> bool
+        ensures { result ≡ is_rest (act self.now.program.attempt) }
+    {
+        self.program.next() == Step::Finished
+    }
+
+    /// Whether the job has taken its turn.
+    pub fn is_past_turn(&self) -> bool
+        ensures { result ≡ is_some (turn_in self.now.program.attempt.phase) }
+    {
+        self.program.turn().is_some()
+    }
+
+    /// Whether its next step withdraws a request, or frees a connector.
+    pub fn is_giving_up(&self) -> bool
+        ensures { result ≡ gives_up (next_step self.now.program.attempt) }
+    {
+        match self.program.next() {
+            Step::Withdraw(_) | Step::Free(_) => true,
+            Step::Request(_)
+            | Step::Seize(_, _)
+            | Step::Test(_)
+            | Step::Turn
+            | Step::Close(_, _)
+            | Step::Open(_, _)
+            | Step::Finished => false,
+        }
+    }
+
+    /// Begins the job anew, once all that it holds is given back. Past the turn nothing changes.
+    pub fn restart(&mut self)
+        ensures { (plan : Tables) → self.new ≡ record self.old { program = with_count self.old.program.count (restarted (office plan) self.old.program.attempt) } }
+    {
+        self.program.restart();
+    }
+
+    /// The job's record, once it has turned.
+    fn record(&self, marker: u32) -> Option<Record>
+        ensures { option_to_list result ≡ own_record marker self.now.job_no self.now.program.attempt.phase self.now.program.attempt }
+    {
+        let turn = self.program.turn()?;
+        let reply = self.program.reply()?;
+        Some(Record {
+            turn,
+            marker,
+            job_no: self.job_no,
+            job: *self.program.job(),
+            reply: reply.copy(),
+        })
+    }
+
+    /// Adds the record of the turn, if that is what was made.
+    fn enter(&self, marker: u32, answer: Answer, records: &mut Vec<Record>)
+        requires { length records.old.items + length (entered answer (own_record marker self.now.job_no self.now.program.attempt.phase self.now.program.attempt)) ≤ vec_capacity records.old }
+        ensures records { records.new.items ≡ records.old.items ++ entered answer (own_record marker self.now.job_no self.now.program.attempt.phase self.now.program.attempt) }
+        ensures room { vec_capacity records.old ≤ vec_capacity records.new }
+    {
+        if let Answer::Turn(_) = answer {
+            if let Some(record) = self.record(marker) {
+                records.push(record).unwrap();
+            }
+        }
+    }
+
+    /// What came of a step that was answered so.
+    fn event(&self, marker: u32, step: Step, answer: Answer) -> Event
+        ensures { (a : Attempt) → step ≡ next_step a → result ≡ event_of marker self.now.job_no a self.now.program.attempt answer }
+    {
+        match answer {
+            Answer::Held(holder) => refused(step, holder),
+            Answer::Preferred(other) => Event::Preferred(other),
+            Answer::Done => {
+                if !self.is_done() {
+                    return Event::Moved;
+                }
+                match self.record(marker) {
+                    Some(record) => Event::Finished(record),
+                    None => Event::Moved,
+                }
+            }
+            Answer::Asked(_)
+            | Answer::Seized
+            | Answer::Again(_)
+            | Answer::Value(_)
+            | Answer::Turn(_) => Event::Moved,
+        }
+    }
+
+    /// Makes the job's next step on the words, and tells what came of it. A turn adds its record, for
+    /// which there is room.
+    pub fn step(
+        &mut self,
+        plan: &Plan,
+        marker: u32,
+        words: &mut [u64],
+        records: &mut Vec<Record>,
+    ) -> Event
+        requires plan { Stands plan.now self.old.program.attempt }
+        requires goes_on { is_rest (act self.old.program.attempt) ≡ false }
+        requires marker { marker < 48 }
+        requires words { length words.old ≡ word_count }
+        requires room { length records.old.items + waits_in self.old.program.attempt.phase ≤ vec_capacity records.old }
+        ensures work { self.new ≡ record self.old { program = with_count (counted self.old.program.count) (change (office plan.now) self.old.program.attempt (told_of marker words.old self.old.program.attempt)) } }
+        ensures words { words.new ≡ made marker (next_step self.old.program.attempt) words.old }
+        ensures records { records.new.items ≡ records.old.items ++ recorded marker self.old.job_no self.old.program.attempt (told_of marker words.old self.old.program.attempt) }
+        ensures room { vec_capacity records.old ≤ vec_capacity records.new }
+        ensures event { result ≡ event_of marker self.old.job_no self.old.program.attempt (change (office plan.now) self.old.program.attempt (told_of marker words.old self.old.program.attempt)) (told_of marker words.old self.old.program.attempt) }
+    {
+        let step = self.program.next();
+        let answer = step.make(marker, words);
+        self.program.take(plan, answer);
+        self.enter(marker, answer, records);
+        self.event(marker, step, answer)
+    }
+}
