@@ -1,5 +1,4 @@
-pub mod OneActor
-pub mod OneHistory
-pub mod Steps
 pub mod RunRows
 pub mod Replays
+pub mod SettledHistory
+pub mod KindLetters

@@ -1,30 +1,33 @@
 use Rattle.std.proofs.Common.{◌≡◌, ℕ, suc, ◌+◌, ◌<◌, ◌≤◌, List, ◌∷◌, length, drop, get_or, refl, sym, ◌∙◌, ap, subst, drop-cons, arith}
 use Rattle.std.proofs.lemmas.List.{drop_all}
-use Rattle.std.specs.Prelude.{Option, Some, None, Result, IfOk, option_map}
+use Rattle.std.specs.Prelude.{Option, Some, None, Result, Ok, Err, IfOk, option_map}
 use Rattle.xbar_plan.specs.Tables.{Tables}
 use Rattle.xbar_traffic.specs.declared.fault.MarkerFault.{MarkerFault}
 use Rattle.xbar_traffic.specs.declared.fault.RowFault.{RowFault}
 use Rattle.xbar_traffic.specs.declared.fault.RowFault.TheVariants.{Marker}
 use Rattle.xbar_traffic.specs.declared.fault.TrafficFault.{TrafficFault}
 use Rattle.xbar_traffic.specs.declared.row.Row.{Row}
-use Rattle.crossbar5.specs.declared.run.Written.{Written}
-use Rattle.crossbar5.specs.Replay.{Office, OfPlan, done, opened, row_fault, settled}
-use Rattle.crossbar5.specs.Run.{Outcome, IsWrittenOf, Left, Refused, at_end, judged, outcome, outcome_from}
+use Rattle.xbar_core.specs.Exchange.{Exchange, OfPlan, opened}
+use Rattle.xbar_core.specs.Settling.{settled}
+use Rattle.xbar_core.specs.declared.kind.Kind.{Kind}
+use Rattle.crossbar5.specs.Rows.{done, row_fault}
+use Rattle.crossbar5.specs.Run.{IsOneHistory, IsWrittenOf, Leaves, LeavesOneHistory, Outcome, RefusesTraffic, at_end, judged, outcome, outcome_from}
+use Rattle.crossbar5.specs.declared.written.Written.{Written}
 
 -- as far as a run has come with its rows: what is left comes to what all come to
-pub record HasRun (plan : Tables) (rows : List Row) (fault : Option RowFault) (now : OfPlan) (number index : ℕ) : Type 0 where
+pub record HasRun (plan : Tables) (kinds : List Kind) (rows : List Row) (fault : Option RowFault) (now : OfPlan) (number index : ℕ) : Type 0 where
   pub under : now.plan ≡ plan
-  pub left : outcome plan rows fault ≡ outcome_from plan now.office number (drop index rows) fault
+  pub left : outcome plan kinds rows fault ≡ outcome_from plan now.exchange number (drop index rows) fault
   pub count : number ≡ index + 1
 
-pub has_opened : (plan : Tables) (rows : List Row) (fault : Option RowFault) (now : OfPlan) → now ≡ record { plan = plan; office = opened } → HasRun plan rows fault now 1 0
-has_opened plan rows fault now is = record {
+pub has_opened : (plan : Tables) (kinds : List Kind) (rows : List Row) (fault : Option RowFault) (now : OfPlan) → now ≡ record { plan = plan; exchange = opened kinds } → HasRun plan kinds rows fault now 1 0
+has_opened plan kinds rows fault now is = record {
   under = ap (λ (o : OfPlan). o.plan) is;
-  left = ap (λ (o : OfPlan). outcome_from plan o.office 1 rows fault) (sym is);
+  left = ap (λ (o : OfPlan). outcome_from plan o.exchange 1 rows fault) (sym is);
   count = refl;
 }
 
-module _ (plan : Tables) (rows : List Row) (fault : Option RowFault) (now : OfPlan) (number index : ℕ) (has : HasRun plan rows fault now number index) where
+module _ (plan : Tables) (kinds : List Kind) (rows : List Row) (fault : Option RowFault) (now : OfPlan) (number index : ℕ) (has : HasRun plan kinds rows fault now number index) where
   first_left : (row : Row) → index < length rows → row ≡ get_or rows index row → drop index rows ≡ row ∷ drop (index + 1) rows
   first_left row within is =
       let next : suc index ≡ index + 1 = omega arith in
@@ -32,47 +35,62 @@ module _ (plan : Tables) (rows : List Row) (fault : Option RowFault) (now : OfPl
 
   -- what is left begins with the row at hand
   row_left : (row : Row) → index < length rows → row ≡ get_or rows index row
-      → outcome plan rows fault ≡ judged number (row_fault now.office row) (outcome_from plan (done plan now.office row) (number + 1) (drop (index + 1) rows) fault)
+      → outcome plan kinds rows fault ≡ judged number (row_fault now.exchange row) (outcome_from plan (done plan now.exchange row) (number + 1) (drop (index + 1) rows) fault)
   unfolding outcome_from
-  row_left row within is = has.left ∙ ap (λ (rest : List Row). outcome_from plan now.office number rest fault) (first_left row within is)
+  row_left row within is = has.left ∙ ap (λ (rest : List Row). outcome_from plan now.exchange number rest fault) (first_left row within is)
 
   -- a row that is refused refuses all
-  pub row_refused : (row : Row) (why : MarkerFault) → index < length rows → row ≡ get_or rows index row → row_fault now.office row ≡ Some why → outcome plan rows fault ≡ Refused (record { row = number; fault = Marker why })
+  pub row_refused : (row : Row) (why : MarkerFault) → index < length rows → row ≡ get_or rows index row → row_fault now.exchange row ≡ Some why → outcome plan kinds rows fault ≡ RefusesTraffic (record { row = number; fault = Marker why })
   row_refused row why within is refuses =
-      row_left row within is ∙ ap (λ (found : Option MarkerFault). judged number found (outcome_from plan (done plan now.office row) (number + 1) (drop (index + 1) rows) fault)) refuses
+      row_left row within is ∙ ap (λ (found : Option MarkerFault). judged number found (outcome_from plan (done plan now.exchange row) (number + 1) (drop (index + 1) rows) fault)) refuses
 
   -- a row that is done leaves the others
-  pub row_done : (next : OfPlan) (row : Row) → index < length rows → row ≡ get_or rows index row → row_fault now.office row ≡ None → next ≡ record now { office = done now.plan now.office row } → HasRun plan rows fault next (number + 1) (index + 1)
+  pub row_done : (next : OfPlan) (row : Row) → index < length rows → row ≡ get_or rows index row → row_fault now.exchange row ≡ None → next ≡ record now { exchange = done now.plan now.exchange row } → HasRun plan kinds rows fault next (number + 1) (index + 1)
   row_done next row within is goes made = record {
     under = ap (λ (o : OfPlan). o.plan) made ∙ has.under;
     left =
         row_left row within is
-        ∙ ap (λ (found : Option MarkerFault). judged number found (outcome_from plan (done plan now.office row) (number + 1) (drop (index + 1) rows) fault)) goes
-        ∙ ap (λ (p : Tables). outcome_from plan (done p now.office row) (number + 1) (drop (index + 1) rows) fault) (sym has.under)
-        ∙ ap (λ (o : OfPlan). outcome_from plan o.office (number + 1) (drop (index + 1) rows) fault) (sym made);
+        ∙ ap (λ (found : Option MarkerFault). judged number found (outcome_from plan (done plan now.exchange row) (number + 1) (drop (index + 1) rows) fault)) goes
+        ∙ ap (λ (p : Tables). outcome_from plan (done p now.exchange row) (number + 1) (drop (index + 1) rows) fault) (sym has.under)
+        ∙ ap (λ (o : OfPlan). outcome_from plan o.exchange (number + 1) (drop (index + 1) rows) fault) (sym made);
     count = omega (arith, has.count);
   }
 
   -- after the last row the end comes
-  pub rows_done : length rows ≤ index → outcome plan rows fault ≡ at_end plan now.office number fault
+  pub rows_done : length rows ≤ index → outcome plan kinds rows fault ≡ at_end plan now.exchange number fault
   unfolding outcome_from
-  rows_done past = has.left ∙ ap (λ (rest : List Row). outcome_from plan now.office number rest fault) (drop_all index rows past)
+  rows_done past = has.left ∙ ap (λ (rest : List Row). outcome_from plan now.exchange number rest fault) (drop_all index rows past)
 
 abbrev pub with_number : ℕ → RowFault → TrafficFault
 with_number count why = record { row = count + 1; fault = why }
 
 -- the fault behind the rows refuses all, with the number behind theirs
-pub end_refused : (plan : Tables) (office : Office) (number count : ℕ) (fault : Option RowFault) (told : TrafficFault) → number ≡ count + 1 → option_map (with_number count) fault ≡ Some told → at_end plan office number fault ≡ Refused told
+pub end_refused : (plan : Tables) (office : Exchange) (number count : ℕ) (fault : Option RowFault) (told : TrafficFault) → number ≡ count + 1 → option_map (with_number count) fault ≡ Some told → at_end plan office number fault ≡ RefusesTraffic told
 end_refused plan office number count None told is e = absurd cc
 end_refused plan office number count (Some why) told is e =
     let same : with_number count why ≡ told = cc in
-    ap (λ (n : ℕ). Refused (record { row = n; fault = why })) is ∙ ap Refused same
+    ap (λ (n : ℕ). RefusesTraffic (record { row = n; fault = why })) is ∙ ap RefusesTraffic same
 
 -- and where there is none the office settles
-pub end_settled : (plan : Tables) (office : Office) (number count : ℕ) (fault : Option RowFault) → option_map (with_number count) fault ≡ None → at_end plan office number fault ≡ Left (settled plan office)
+pub end_settled : (plan : Tables) (office : Exchange) (number count : ℕ) (fault : Option RowFault) → option_map (with_number count) fault ≡ None → at_end plan office number fault ≡ Leaves (settled plan office)
 end_settled plan office number count None e = refl
 end_settled plan office number count (Some why) e = absurd cc
 
 -- what is written of one outcome is written of another that it is
 pub written_as : {E : Type 0} (result : Result Written E) (came other : Outcome) → came ≡ other → IfOk result (λ written. IsWrittenOf other written.text.items written.status) → IfOk result (λ written. IsWrittenOf came written.text.items written.status)
 written_as result came other is written = subst (λ (o : Outcome). IfOk result (λ written. IsWrittenOf o written.text.items written.status)) (sym is) written
+
+-- where traffic is refused no office is left
+pub refused_history : (plan : Tables) (came : Outcome) (told : TrafficFault) → came ≡ RefusesTraffic told → LeavesOneHistory plan came
+refused_history plan came told is = subst (LeavesOneHistory plan) (sym is) tt
+
+pub left_history : (plan : Tables) (came : Outcome) (e : Exchange) → came ≡ Leaves e → IsOneHistory plan e → LeavesOneHistory plan came
+left_history plan came e is history = subst (LeavesOneHistory plan) (sym is) history
+
+pub history_if_ok : {E : Type 0} (result : Result Written E) {History : Type 0} → History → IfOk result (λ written. History)
+history_if_ok (Ok written) history = history
+history_if_ok (Err e) history = tt
+
+pub left_if_ok : {E : Type 0} (result : Result Written E) (plan : Tables) (came : Outcome) (e : Exchange) → came ≡ Leaves e → IfOk result (λ written. IsOneHistory plan e) → IfOk result (λ written. LeavesOneHistory plan came)
+left_if_ok (Ok written) plan came e is history = left_history plan came e is history
+left_if_ok (Err why) plan came e is history = tt

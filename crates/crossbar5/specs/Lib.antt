@@ -1,11 +1,12 @@
 pub use Rattle.xbar_plan.specs.Tables
 pub use Rattle.xbar_office.specs.Legal
 pub use Rattle.xbar_jobs.specs.Office
+pub use Rattle.xbar_core.specs.Exchange
 pub use Rattle.xbar_traffic.specs.Traffic
 pub use Rattle.xbar_traffic.specs.Fault
-pub mod Failures
-pub mod Counted
-pub mod EngineFault
+pub use Rattle.counted_io.specs.Counts
+pub mod Faults
+pub mod Kinds
 pub mod Report
-pub mod Replay
+pub mod Rows
 pub mod Run

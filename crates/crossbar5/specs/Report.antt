@@ -6,6 +6,8 @@ use Rattle.xbar_equip.specs.Len.{line_text}
 use Rattle.xbar_equip.specs.Link.{link_text}
 use Rattle.xbar_equip.specs.Path.{path_text}
 use Rattle.xbar_equip.specs.declared.path.Path.{Path}
+use Rattle.xbar_plan.specs.Fault.{fault_text}
+use Rattle.xbar_plan.specs.declared.fault.PlanFault.{PlanFault}
 use Rattle.xbar_office.specs.declared.job.Job.{Job}
 use Rattle.xbar_office.specs.declared.job.Job.TheVariants.{Dial, Complete, Release}
 use Rattle.xbar_office.specs.declared.reply.Card.{Card}
@@ -74,3 +76,7 @@ count_lines paths closed = line_with (codes "PATHS" ∷ decimal paths ∷ []) ++
 -- what is written of a run: the lines of all records, then those of all cards, then the counts
 abbrev pub report_text : List Record → ℕ → ℕ → List ℕ
 report_text records paths closed = flat_map record_line records ++ flat_map card_lines records ++ count_lines paths closed
+
+-- the line that tells why a plan is refused
+abbrev pub plan_fault_line : PlanFault → List ℕ
+plan_fault_line fault = line_with (codes "FAULT" ∷ fault_text fault ∷ [])

@@ -1,46 +1,93 @@
-//! The engine's main job: a replay from the bytes of its traffic to the bytes of its output.
+//! The engine's main job: a replay, from the bytes of its plan and its traffic to those of its output.
 
-ghost use Rattle.std.specs.Prelude.{◌≡◌, IfOk, IfSome, List, ℕ};
-ghost use Rattle.std.specs.Io.KnownBytes.{Appends};
-ghost use Rattle.xbar_plan.specs.Example.{example};
-ghost use Rattle.crossbar5.specs.Run.{IsReplay};
+ghost use Rattle.std.specs.Prelude.{◌≡◌, ◌≢◌, ◌↔◌, ◌⊎◌, Err, IfErr, IfOk, IfSome, List, ℕ, length};
+ghost use Rattle.std.specs.Io.KnownBytes.{Appends, Keeps};
+ghost use Rattle.counted_io.specs.Counts.{FailureCounted, NoneCounted, ReadsUsedUp};
+ghost use Rattle.crossbar5.specs.Faults.{ComesFirst, IsMarkerCount};
+ghost use Rattle.crossbar5.specs.Run.{IsReplay, IsReplayUnder, IsWrittenOf, RefusesPlan};
 
-use crate::device::{Sink, Source};
 use crate::engine_fault::EngineFault;
-use crate::input::read_all;
-use crate::output::write_all;
-use crate::run::{Written, run};
+use crate::kinds::MOST_MARKERS;
+use crate::run::run;
 use crate::status::Status;
+use crate::written::Written;
+use counted_io::{Sink, Source, read_all, write_all};
 use std::alloc::{AllocError, Global};
-use xbar_plan::Plan;
-use xbar_traffic::Traffic;
+use xbar_core::Kind;
+use xbar_plan::{Plan, PlanFault};
+use xbar_traffic::{Mode, Traffic};
 
-/// What is written for the bytes of a whole traffic.
-fn replay(alloc: Global, plan: &Plan, bytes: &[u8]) -> Result<Written, AllocError>
-    ensures { IfOk result (λ written. IsReplay plan.now bytes.now written.text.items written.status) }
+/// What is written for a plan that is refused, if it is not for want of memory.
+fn refuse_plan(alloc: Global, fault: PlanFault) -> Result<Written, EngineFault>
+    ensures written { IfOk result (λ written. (fault ≢ PlanFault.Memory) × IsWrittenOf (RefusesPlan fault) written.text.items written.status) }
+    ensures why { IfErr result (λ why. why ≡ EngineFault.Memory) }
 {
-    xbar_traffic::laws::rows_are_in_range();
-    xbar_plan::laws::every_plan_is_lawful(plan);
-    let traffic = Traffic::read(alloc, bytes)?;
-    run(alloc, plan, &traffic)
+    if fault == PlanFault::Memory {
+        return Err(EngineFault::Memory);
+    }
+    Ok(Written {
+        text: format!(in alloc; "FAULT,{fault}\n")?.into_bytes(),
+        status: Status::PlanRefused,
+    })
 }
 
-/// Replays the traffic that the source gives, in an office with the example plan and marker 0 alone,
-/// and writes what comes of it to the sink.
+/// What is written for the bytes of a whole traffic.
+fn replay(alloc: Global, plan: &Plan, kinds: &[Kind], bytes: &[u8]) -> Result<Written, AllocError>
+    requires { IsMarkerCount (length kinds.now) }
+    ensures { IfOk result (λ written. IsReplayUnder plan.now kinds.now bytes.now written.text.items written.status) }
+{
+    xbar_traffic::laws::rows_are_in_range();
+    xbar_traffic::laws::rows_are_of_their_mode();
+    let traffic = Traffic::read(alloc, Mode::Replay, bytes)?;
+    run(alloc, plan, kinds, &traffic)
+}
+
+/// What is written for a plan's text and the traffic that the source gives.
+fn comes_to<R: Source>(
+    alloc: Global,
+    plan: &[u8],
+    kinds: &[Kind],
+    source: &mut R,
+) -> Result<Written, EngineFault>
+    ensures replay { IfOk result (λ written. (traffic : List ℕ) × IfSome (R.remaining source.old) (λ all. traffic ≡ all) × IsReplay plan.now kinds.now traffic written.text.items written.status) }
+    ensures markers { (result ≡ Err EngineFault.Markers) ↔ ¬ IsMarkerCount (length kinds.now) }
+    ensures device { result ≡ Err EngineFault.Device → FailureCounted (R.failure_count source.old) (R.failure_count source.new) }
+    ensures no_failure { result ≢ Err EngineFault.Device → NoneCounted (R.failure_count source.old) (R.failure_count source.new) }
+    ensures long { result ≡ Err EngineFault.Long → ReadsUsedUp (R.read_count source.old) (R.read_count source.new) }
+{
+    if kinds.is_empty() || kinds.len() > MOST_MARKERS {
+        return Err(EngineFault::Markers);
+    }
+    match Plan::read(alloc, plan) {
+        Ok(plan) => {
+            let bytes = read_all(alloc, source)?;
+            Ok(replay(alloc, &plan, kinds, &bytes)?)
+        }
+        Err(fault) => refuse_plan(alloc, fault),
+    }
+}
+
+/// Replays the traffic that the source gives, in an office with the plan of this text and markers of
+/// these kinds, and writes what comes of it to the sink.
 ///
-/// The input is read to its end before a row is looked at, and the output is written in one go once
-/// all is known. On a fault nothing was written, but for `Device`, which says nothing of how much went
-/// out.
+/// The markers are judged first, then the plan, then the traffic. A plan that is refused leaves the
+/// source unread. The input is read to its end before a row is looked at, and the output is written in
+/// one go once all is known. Of how much went out before `Device` or `Stalled` nothing is said.
 pub fn run_replay<R: Source, W: Sink>(
     alloc: Global,
+    plan: &[u8],
+    kinds: &[Kind],
     source: &mut R,
     sink: &mut W,
 ) -> Result<Status, EngineFault>
-    ensures { IfOk result (λ status. IfSome (R.remaining source.old) (λ traffic. (text : List ℕ) × IsReplay example traffic text status × Appends (W.contents sink.old) (W.contents sink.new) text)) }
+    ensures replay { IfOk result (λ status. (traffic text : List ℕ) × IfSome (R.remaining source.old) (λ all. traffic ≡ all) × IsReplay plan.now kinds.now traffic text status × Appends (W.contents sink.old) (W.contents sink.new) text) }
+    ensures markers { (result ≡ Err EngineFault.Markers) ↔ ¬ IsMarkerCount (length kinds.now) }
+    ensures device { result ≡ Err EngineFault.Device → FailureCounted (R.failure_count source.old) (R.failure_count source.new) ⊎ FailureCounted (W.failure_count sink.old) (W.failure_count sink.new) }
+    ensures no_failure { result ≢ Err EngineFault.Device → NoneCounted (R.failure_count source.old) (R.failure_count source.new) × NoneCounted (W.failure_count sink.old) (W.failure_count sink.new) }
+    ensures long { result ≡ Err EngineFault.Long → ReadsUsedUp (R.read_count source.old) (R.read_count source.new) }
+    ensures unwritten { IfErr result (λ fault. ComesFirst fault → Keeps (W.contents sink.old) (W.contents sink.new)) }
 {
-    let bytes = read_all(alloc, source)?;
-    let plan = Plan::example(alloc)?;
-    let written = replay(alloc, &plan, &bytes)?;
+    let written = comes_to(alloc, plan, kinds, source)?;
     write_all(sink, &written.text)?;
     Ok(written.status)
 }

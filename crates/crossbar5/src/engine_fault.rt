@@ -1,33 +1,27 @@
-ghost use Rattle.std.specs.Prelude.{◌≡◌, Some};
-ghost use Rattle.crossbar5.specs.EngineFault.{fault_name};
+ghost use Rattle.std.specs.Prelude.{◌≡◌};
+ghost use Rattle.crossbar5.specs.Faults.{of_read, of_write};
 ghost use Rattle.crossbar5.specs.declared.engine_fault.EngineFault.TheVariants.{Memory};
 
-use std::alloc::AllocError;
-use std::fmt;
+use counted_io::{ReadFault, WriteFault};
+use std::alloc::{AllocError, AllocFailed};
 use thiserror::Error;
 
 /// Why a run came to no text.
 #[derive(Clone, Copy, Debug, PartialEq, Eq, Error)]
 pub enum EngineFault {
-    /// Memory was refused.
+    /// The markers aren't 1 to 48, or the text of their kinds names none.
+    #[error("an office has 1 to 48 markers of the kinds D, C and X")]
+    Markers,
+    #[error("memory ran out")]
     Memory,
-    /// A read, a write or a flush failed.
+    /// A read, a write or a flush failed, and was counted.
+    #[error("a device failed")]
     Device,
-    /// The traffic is too long.
+    /// There were too many reads that gave bytes.
+    #[error("the traffic is too long")]
     Long,
-}
-
-// Written by hand, so that it has a contract.
-impl fmt::Display for EngineFault {
-    ghost output = { λ fault. Some (fault_name fault) };
-
-    fn fmt<W: fmt::Write>(&self, f: &mut fmt::Formatter<W>) -> fmt::Result {
-        f.write_str(match self {
-            EngineFault::Memory => "Memory",
-            EngineFault::Device => "Device",
-            EngineFault::Long => "Long",
-        })
-    }
+    #[error("a device gave errors without end that it did not count")]
+    Stalled,
 }
 
 impl From<AllocError> for EngineFault {
@@ -35,5 +29,37 @@ impl From<AllocError> for EngineFault {
 
     fn from(_error: AllocError) -> Self {
         EngineFault::Memory
+    }
+}
+
+impl<T: Drop> From<AllocFailed<T>> for EngineFault {
+    ghost from_gives = { λ _ fault. fault ≡ Memory };
+
+    fn from(_failed: AllocFailed<T>) -> Self {
+        EngineFault::Memory
+    }
+}
+
+impl From<ReadFault> for EngineFault {
+    ghost from_gives = { λ why fault. fault ≡ of_read why };
+
+    fn from(why: ReadFault) -> Self {
+        match why {
+            ReadFault::Memory => EngineFault::Memory,
+            ReadFault::Device => EngineFault::Device,
+            ReadFault::Long => EngineFault::Long,
+            ReadFault::Stalled => EngineFault::Stalled,
+        }
+    }
+}
+
+impl From<WriteFault> for EngineFault {
+    ghost from_gives = { λ why fault. fault ≡ of_write why };
+
+    fn from(why: WriteFault) -> Self {
+        match why {
+            WriteFault::Device => EngineFault::Device,
+            WriteFault::Stalled => EngineFault::Stalled,
+        }
     }
 }

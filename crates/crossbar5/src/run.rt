@@ -1,27 +1,37 @@
-//! What traffic comes to, as text.
+//! What traffic comes to in an office, as text.
 
-ghost use Rattle.std.specs.Prelude.{◌^◌, ◌<◌, All, IfOk, length};
-ghost use Rattle.xbar_traffic.specs.Row.{IsRow};
-ghost use Rattle.crossbar5.specs.Replay.{settled as settled_office};
-ghost use Rattle.crossbar5.specs.Run.{Left, Refused, outcome, IsWrittenOf};
+ghost use Rattle.std.specs.Prelude.{◌≡◌, All, IfOk, length};
+ghost use Rattle.xbar_core.specs.Exchange.{opened};
+ghost use Rattle.xbar_core.specs.Settling.{settled as settled_office};
+ghost use Rattle.xbar_traffic.specs.Row.{IsRow, mode_of};
+ghost use Rattle.xbar_traffic.specs.declared.mode.Mode.{Mode};
+ghost use Rattle.crossbar5.specs.Faults.{IsMarkerCount};
+ghost use Rattle.crossbar5.specs.Run.{IsOneHistory, IsWrittenOf, Leaves, LeavesOneHistory, RefusesTraffic, outcome};
 
-use crate::replay::Replay;
 use crate::report_text::report;
+use crate::rows::do_row;
 use crate::status::Status;
+use crate::written::Written;
 use std::alloc::{AllocError, Global};
+use xbar_core::{Exchange, Kind, OpenFault};
 use xbar_match::{count_closed, count_paths};
 use xbar_plan::Plan;
 use xbar_traffic::{RowFault, Traffic, TrafficFault};
 
-/// What is written of a run, and the status that it ends with.
-#[derive(Debug, Drop)]
-pub struct Written {
-    pub text: Vec<u8>,
-    pub status: Status,
+/// An office with as many markers as one may have.
+fn open<'p>(alloc: Global, plan: &'p Plan, kinds: &[Kind]) -> Result<Exchange<'p>, AllocError>
+    requires { IsMarkerCount (length kinds.now) }
+    ensures { IfOk result (λ office. office ≡ record { plan = plan.now; exchange = opened kinds.now }) }
+{
+    match Exchange::open(alloc, plan, kinds) {
+        Ok(office) => Ok(office),
+        Err(OpenFault::Memory) => Err(AllocError),
+        Err(OpenFault::Markers) => unreachable!(),
+    }
 }
 
 fn refused(alloc: Global, fault: TrafficFault) -> Result<Written, AllocError>
-    ensures { IfOk result (λ written. IsWrittenOf (Refused fault) written.text.items written.status) }
+    ensures { IfOk result (λ written. IsWrittenOf (RefusesTraffic fault) written.text.items written.status) }
 {
     Ok(Written {
         text: fault.text(alloc)?.into_bytes(),
@@ -29,39 +39,45 @@ fn refused(alloc: Global, fault: TrafficFault) -> Result<Written, AllocError>
     })
 }
 
-fn settled(alloc: Global, replay: Replay<'_>) -> Result<Written, AllocError>
-    ensures { IfOk result (λ written. IsWrittenOf (Left (settled_office replay.entry.plan replay.entry.office)) written.text.items written.status) }
+fn settled(alloc: Global, mut office: Exchange<'_>) -> Result<Written, AllocError>
+    ensures written { IfOk result (λ written. IsWrittenOf (Leaves (settled_office office.entry.plan office.entry.exchange)) written.text.items written.status) }
+    ensures history { IfOk result (λ written. IsOneHistory office.entry.plan (settled_office office.entry.plan office.entry.exchange)) }
 {
-    let mut replay = replay;
-    replay.settle()?;
-    let paths = count_paths(replay.words());
-    let closed = count_closed(replay.words());
+    office.settle();
+    xbar_plan::laws::every_plan_is_lawful(office.plan());
+    xbar_core::laws::jobs_act_at_their_turns();
+    let paths = count_paths(office.words());
+    let closed = count_closed(office.words());
     Ok(Written {
-        text: report(alloc, replay.records(), paths, closed)?,
+        text: report(alloc, office.records(), paths, closed)?,
         status: Status::Fine,
     })
 }
 
-/// Does the rows of traffic one after another in an office with marker 0 alone.
-pub fn run(alloc: Global, plan: &Plan, traffic: &Traffic) -> Result<Written, AllocError>
-    requires { All IsRow traffic.now.rows.items }
-    ensures written { IfOk result (λ written. IsWrittenOf (outcome plan.now traffic.now.rows.items traffic.now.fault) written.text.items written.status) }
-    ensures few { length traffic.now.rows.items < 2 ^ 64 }
+/// Does the rows of traffic one after another in an office that opens.
+pub fn run(
+    alloc: Global,
+    plan: &Plan,
+    kinds: &[Kind],
+    traffic: &Traffic,
+) -> Result<Written, AllocError>
+    requires kinds { IsMarkerCount (length kinds.now) }
+    requires range { All IsRow traffic.now.rows.items }
+    requires mode { All (λ row. mode_of row ≡ Mode.Replay) traffic.now.rows.items }
+    ensures written { IfOk result (λ written. IsWrittenOf (outcome plan.now kinds.now traffic.now.rows.items traffic.now.fault) written.text.items written.status) }
+    ensures history { IfOk result (λ written. LeavesOneHistory plan.now (outcome plan.now kinds.now traffic.now.rows.items traffic.now.fault)) }
 {
-    let mut replay = Replay::open(alloc, plan)?;
+    let mut office = open(alloc, plan, kinds)?;
     let mut number = 1;
     for row in &traffic.rows {
-        match replay.refuses(row) {
-            None => replay.act(row)?,
-            Some(why) => {
-                let fault = RowFault::Marker(why);
-                return refused(alloc, TrafficFault { row: number, fault });
-            }
+        if let Some(why) = do_row(&mut office, row)? {
+            let fault = RowFault::Marker(why);
+            return refused(alloc, TrafficFault { row: number, fault });
         }
         number += 1;
     }
     match traffic.refusal() {
         Some(fault) => refused(alloc, fault),
-        None => settled(alloc, replay),
+        None => settled(alloc, office),
     }
 }

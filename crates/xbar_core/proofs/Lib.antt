@@ -16,6 +16,7 @@ pub mod Holders
 pub mod KeptConnectors
 pub mod FinishedJobs
 pub mod Runs
+pub mod IdleMarkers
 pub mod Among
 pub mod TurnedJobs
 pub mod OwnCrosspoints

@@ -1,6 +1,6 @@
 //! An office of many markers, as plain data.
 
-ghost use Rattle.std.specs.Prelude.{◌≡◌, ◌↔◌, ◌<◌, ◌≤◌, ◌⊎◌, ℕ, IfOk, IfErr, OnOk, OnErr, Ok, Err, Some, None, true, length, map, slice_get};
+ghost use Rattle.std.specs.Prelude.{◌≡◌, ◌↔◌, ◌<◌, ◌≤◌, ◌⊎◌, ◌^◌, ℕ, IfOk, IfErr, OnOk, OnErr, Ok, Err, Some, None, true, length, map, slice_get};
 ghost use Rattle.turns.specs.World.{Idle};
 ghost use Rattle.xbar_equip.specs.Word.{word_count};
 ghost use Rattle.xbar_office.specs.Legal.{IsJob};
@@ -84,6 +84,7 @@ impl<'p> Exchange<'p> {
     /// The records of the jobs that have turned, in turn order.
     pub fn records(&self) -> &[Record]
         ensures records { result.now ≡ self.now.exchange.records }
+        ensures few { length result.now < 2 ^ 64 }
         ensures lawful { IsLawfulExchange self.now.plan self.now.exchange }
     {
         self.records.as_slice()

@@ -26,7 +26,7 @@ ghost use Rattle.xbar_jobs.specs.Attempt.{Attempt, next_step};
 ghost use Rattle.xbar_jobs.specs.Office.{Protects, ShowsOffice, office};
 ghost use Rattle.xbar_jobs.specs.OnWords.{answer_of, step_word};
 ghost use Rattle.xbar_jobs.specs.declared.effect.Effect.{Effect};
-ghost use Rattle.xbar_core.specs.Exchange.{Exchange, IsLawfulExchange, opened};
+ghost use Rattle.xbar_core.specs.Exchange.{Exchange, IsLawfulExchange, Marker, is_idle, opened};
 ghost use Rattle.xbar_core.specs.Holding.{Holds, IsAt, TellsTruth, completed};
 ghost use Rattle.xbar_core.specs.Links.{BelongsTo, IsAtLink, IsClosed, OpensItsOwn};
 ghost use Rattle.xbar_core.specs.Moves.{assigned, event_at_step, given_back, recorded, refusal, stepped};
@@ -53,8 +53,8 @@ pub fn every_run_is_lawful()
 
 /// Jobs act at one step: the records are those of the one-marker office, which does the jobs whole, one
 /// after another in turn order; the turn word counts them; and the words show the set after them, once all
-/// effects are made that markers past their turns have left. Where no connector is held they show it as
-/// they are. Turn numbers are counted modulo 2^64, so they are places only in shorter lists.
+/// effects are made that markers past their turns have left. Where no connector is held, as where all
+/// markers are idle, they show it as they are. Turn numbers are counted modulo 2^64, so they are places only in shorter lists.
 pub fn jobs_act_at_their_turns()
     ensures jobs { (plan : Tables) (e : Exchange) → IsLawfulExchange plan e → AreJobs (jobs_of e.records) }
     ensures replies { (plan : Tables) (e : Exchange) → IsLawfulExchange plan e → HaveReplies plan [] e.records }
@@ -62,6 +62,7 @@ pub fn jobs_act_at_their_turns()
     ensures counted { (plan : Tables) (e : Exchange) → IsLawfulExchange plan e → slice_index e.words (word_number TurnWord) ≡ length e.records % 2 ^ 64 }
     ensures shows { (plan : Tables) (e : Exchange) → IsLawfulExchange plan e → ShowsOffice plan (completed plan e) (after plan e.records) }
     ensures free { (plan : Tables) (e : Exchange) → IsLawful plan → IsLawfulExchange plan e → ((k : ℕ) (conn : Conn) → ¬ Holds e k conn) → ShowsOffice plan e.words (after plan e.records) }
+    ensures idle { (plan : Tables) (e : Exchange) → IsLawful plan → IsLawfulExchange plan e → ((k : ℕ) (m : Marker) → slice_get e.markers k ≡ Some m → is_idle m.work ≡ true) → ShowsOffice plan e.words (after plan e.records) }
 {}
 
 /// A connector's word tells who holds it and whose request for it stands.

@@ -25,7 +25,7 @@ digit_same : (m n : ℕ) → digit m ≡ digit n → m ≡ n
 digit_same m n e = omega arith
 
 -- a line's text is no other's
-line_text_injective : (a b : Line) → line_text a ≡ line_text b → a ≡ b
+pub line_text_injective : (a b : Line) → line_text a ≡ line_text b → a ≡ b
 line_text_injective a b e =
     let frame = digit_same a.frame b.frame (first_same _ _ _ _ e) in
     let e1 = rest_same _ _ _ _ e in
@@ -49,7 +49,7 @@ digits_same (suc k) m n e =
     cc
 
 -- what is dialled has no other's text
-dialled_text_injective : (m n : ℕ) → IsDialled m → IsDialled n → dialled_text m ≡ dialled_text n → m ≡ n
+pub dialled_text_injective : (m n : ℕ) → IsDialled m → IsDialled n → dialled_text m ≡ dialled_text n → m ≡ n
 dialled_text_injective m n h h2 e = let same = digits_same 7 m n e in omega (arith, same, h, h2)
 
 -- a job's fields are no other's

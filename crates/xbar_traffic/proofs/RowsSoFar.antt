@@ -5,14 +5,15 @@ use Rattle.std.proofs.lemmas.List.Folds.{list_any-append}
 use Rattle.xbar_traffic.specs.Traffic.{AreReadAfter, IsJudgedAs, has_number, repeats, stands_in}
 use Rattle.xbar_traffic.specs.declared.fault.RowFault.{RowFault}
 use Rattle.xbar_traffic.specs.declared.fault.RowFault.TheVariants.{Unreadable, UnknownKind, Malformed, NumberTwice, Marker, OtherMode}
+use Rattle.xbar_traffic.specs.declared.mode.Mode.{Mode}
 use Rattle.xbar_traffic.specs.declared.row.Row.{Row}
-use Rattle.xbar_traffic.specs.declared.row.Row.TheVariants.{Assign, Steps}
+use Rattle.xbar_traffic.specs.declared.row.Row.TheVariants.{Assign, Steps, Call}
 
 or_false : (b : Bool) → (b || false) ≡ b
 or_false true = refl
 or_false false = refl
 
--- the job numbers of rows, and of one more
+-- the numbers of rows, and of one more
 pub stands_in-more : (rows : List Row) (row : Row) (number : ℕ) → stands_in (rows ++ row ∷ []) number ≡ (stands_in rows number || has_number number row)
 stands_in-more rows row number =
     list_any-append (has_number number) rows (row ∷ []) ∙ ap (λ (b : Bool). stands_in rows number || b) (or_false (has_number number row))
@@ -20,38 +21,39 @@ stands_in-more rows row number =
 repeats-same : (p q : ℕ → Bool) → ((n : ℕ) → p n ≡ q n) → (row : Row) → repeats p row ≡ repeats q row
 repeats-same p q same (Assign marker job_no job) = same job_no
 repeats-same p q same (Steps marker count) = refl
+repeats-same p q same (Call call_no line dialled release) = same call_no
 
 -- a judgement by another test with the same answers
-pub judged_by_same : (p q : ℕ → Bool) → ((n : ℕ) → p n ≡ q n) → (fields : List (List ℕ)) (judged : Result Row RowFault)
-    → IsJudgedAs p fields judged → IsJudgedAs q fields judged
-judged_by_same p q same fields (Ok row) h = (h.0, sym (repeats-same p q same row) ∙ h.1)
-judged_by_same p q same fields (Err NumberTwice) h = (h.0, h.1, sym (repeats-same p q same h.0) ∙ h.2)
-judged_by_same p q same fields (Err Unreadable) h = h
-judged_by_same p q same fields (Err UnknownKind) h = h
-judged_by_same p q same fields (Err Malformed) h = h
-judged_by_same p q same fields (Err (Marker why)) h = h
-judged_by_same p q same fields (Err OtherMode) h = h
+pub judged_by_same : (mode : Mode) (p q : ℕ → Bool) → ((n : ℕ) → p n ≡ q n) → (fields : List (List ℕ)) (judged : Result Row RowFault)
+    → IsJudgedAs mode p fields judged → IsJudgedAs mode q fields judged
+judged_by_same mode p q same fields (Ok row) h = (h.0, sym (repeats-same p q same row) ∙ h.1)
+judged_by_same mode p q same fields (Err NumberTwice) h = (h.0, h.1, sym (repeats-same p q same h.0) ∙ h.2)
+judged_by_same mode p q same fields (Err Unreadable) h = h
+judged_by_same mode p q same fields (Err UnknownKind) h = h
+judged_by_same mode p q same fields (Err Malformed) h = h
+judged_by_same mode p q same fields (Err (Marker why)) h = h
+judged_by_same mode p q same fields (Err OtherMode) h = h
 
 -- one more record that is a row
-pub read_more : (before : List Row) (records : List (List (List ℕ))) (rows : List Row) (fields : List (List ℕ)) (row : Row)
-    → AreReadAfter before records rows None → IsJudgedAs (stands_in (before ++ rows)) fields (Ok row)
-    → AreReadAfter before (records ++ fields ∷ []) (rows ++ row ∷ []) None
-read_more before [] [] fields row h j = (subst (λ (rows : List Row). IsJudgedAs (stands_in rows) fields (Ok row)) (append-nil before) j, tt)
-read_more before [] (r ∷ rows) fields row h j = absurd h
-read_more before (f ∷ records) [] fields row h j = absurd h
-read_more before (f ∷ records) (r ∷ rows) fields row h j =
-    let later : IsJudgedAs (stands_in ((before ++ r ∷ []) ++ rows)) fields (Ok row) =
-    subst (λ (all : List Row). IsJudgedAs (stands_in all) fields (Ok row)) (sym (append_assoc before (r ∷ []) rows)) j in
-    (h.0, read_more (before ++ r ∷ []) records rows fields row h.1 later)
+pub read_more : (mode : Mode) (before : List Row) (records : List (List (List ℕ))) (rows : List Row) (fields : List (List ℕ)) (row : Row)
+    → AreReadAfter mode before records rows None → IsJudgedAs mode (stands_in (before ++ rows)) fields (Ok row)
+    → AreReadAfter mode before (records ++ fields ∷ []) (rows ++ row ∷ []) None
+read_more mode before [] [] fields row h j = (subst (λ (rows : List Row). IsJudgedAs mode (stands_in rows) fields (Ok row)) (append-nil before) j, tt)
+read_more mode before [] (r ∷ rows) fields row h j = absurd h
+read_more mode before (f ∷ records) [] fields row h j = absurd h
+read_more mode before (f ∷ records) (r ∷ rows) fields row h j =
+    let later : IsJudgedAs mode (stands_in ((before ++ r ∷ []) ++ rows)) fields (Ok row) =
+    subst (λ (all : List Row). IsJudgedAs mode (stands_in all) fields (Ok row)) (sym (append_assoc before (r ∷ []) rows)) j in
+    (h.0, read_more mode (before ++ r ∷ []) records rows fields row h.1 later)
 
 -- one more record that is at fault, and whatever comes then
-pub read_stops : (before : List Row) (records rest : List (List (List ℕ))) (rows : List Row) (fields : List (List ℕ)) (fault : RowFault)
-    → AreReadAfter before records rows None → IsJudgedAs (stands_in (before ++ rows)) fields (Err fault)
-    → AreReadAfter before ((records ++ fields ∷ []) ++ rest) rows (Some fault)
-read_stops before [] rest [] fields fault h j = subst (λ (rows : List Row). IsJudgedAs (stands_in rows) fields (Err fault)) (append-nil before) j
-read_stops before [] rest (r ∷ rows) fields fault h j = absurd h
-read_stops before (f ∷ records) rest [] fields fault h j = absurd h
-read_stops before (f ∷ records) rest (r ∷ rows) fields fault h j =
-    let later : IsJudgedAs (stands_in ((before ++ r ∷ []) ++ rows)) fields (Err fault) =
-    subst (λ (all : List Row). IsJudgedAs (stands_in all) fields (Err fault)) (sym (append_assoc before (r ∷ []) rows)) j in
-    (h.0, read_stops (before ++ r ∷ []) records rest rows fields fault h.1 later)
+pub read_stops : (mode : Mode) (before : List Row) (records rest : List (List (List ℕ))) (rows : List Row) (fields : List (List ℕ)) (fault : RowFault)
+    → AreReadAfter mode before records rows None → IsJudgedAs mode (stands_in (before ++ rows)) fields (Err fault)
+    → AreReadAfter mode before ((records ++ fields ∷ []) ++ rest) rows (Some fault)
+read_stops mode before [] rest [] fields fault h j = subst (λ (rows : List Row). IsJudgedAs mode (stands_in rows) fields (Err fault)) (append-nil before) j
+read_stops mode before [] rest (r ∷ rows) fields fault h j = absurd h
+read_stops mode before (f ∷ records) rest [] fields fault h j = absurd h
+read_stops mode before (f ∷ records) rest (r ∷ rows) fields fault h j =
+    let later : IsJudgedAs mode (stands_in ((before ++ r ∷ []) ++ rows)) fields (Err fault) =
+    subst (λ (all : List Row). IsJudgedAs mode (stands_in all) fields (Err fault)) (sym (append_assoc before (r ∷ []) rows)) j in
+    (h.0, read_stops mode (before ++ r ∷ []) records rest rows fields fault h.1 later)

@@ -8,6 +8,7 @@ use Rattle.csv.specs.declared.reader.Trim.TheVariants as trim
 use Rattle.csv.proofs.ReadFacts.{rows-end, rows-more}
 use Rattle.xbar_traffic.specs.Traffic.{AreReadAfter, IsJudgedAs, IsTrafficOf, stands_in}
 use Rattle.xbar_traffic.specs.declared.fault.RowFault.{RowFault}
+use Rattle.xbar_traffic.specs.declared.mode.Mode.{Mode}
 use Rattle.xbar_traffic.specs.declared.row.Row.{Row}
 use Rattle.xbar_traffic.proofs.RecordCounts.{records_are, records_begin}
 use Rattle.xbar_traffic.proofs.RowsSoFar.{read_more, read_stops}
@@ -20,7 +21,7 @@ abbrev pub bytes_left : Bytes → Option (List ℕ)
 bytes_left bytes = Some bytes.now
 
 -- the records that a reader gave so far are these rows, and it can give more
-pub record IsUnderWay (text : List ℕ) (reader : Reader Bytes) (turns : ℕ) (rows : List Row) : Type 0 where
+pub record IsUnderWay (mode : Mode) (text : List ℕ) (reader : Reader Bytes) (turns : ℕ) (rows : List Row) : Type 0 where
   pub trim : reader_trim reader ≡ trim.None
   pub ready : Ready reader
   pub left : 0 < turns
@@ -30,13 +31,13 @@ pub record IsUnderWay (text : List ℕ) (reader : Reader Bytes) (turns : ℕ) (r
   pub source : source_of bytes_left reader ≡ Some rest
   pub given : List (List (List ℕ))
   pub reached : Reached default_config st.StartRecord text given (reader_state reader) rest
-  pub read : AreReadAfter [] given rows None
+  pub read : AreReadAfter mode [] given rows None
 
 -- the next record is a row
-pub goes_on : (text : List ℕ) (old new : Reader Bytes) (turns turns2 : ℕ) (rows : List Row) (found : Record) (row : Row)
-    → IsUnderWay text old turns rows → RowStep bytes_left old new turns2 (Some (Ok found)) → is_flexible new ≡ is_flexible old
-    → IsJudgedAs (stands_in rows) (fields_of found) (Ok row) → IsUnderWay text new turns2 (rows ++ row ∷ [])
-goes_on text old new turns turns2 rows found row u step flexible judged =
+pub goes_on : (mode : Mode) (text : List ℕ) (old new : Reader Bytes) (turns turns2 : ℕ) (rows : List Row) (found : Record) (row : Row)
+    → IsUnderWay mode text old turns rows → RowStep bytes_left old new turns2 (Some (Ok found)) → is_flexible new ≡ is_flexible old
+    → IsJudgedAs mode (stands_in rows) (fields_of found) (Ok row) → IsUnderWay mode text new turns2 (rows ++ row ∷ [])
+goes_on mode text old new turns turns2 rows found row u step flexible judged =
     let (rest, source, reached) = rows-more bytes_left old new (fields_of found) default_config st.StartRecord text u.rest u.given u.config u.source u.reached step.0 in
     record {
       trim = step.0.3 ∙ u.trim;
@@ -48,32 +49,32 @@ goes_on text old new turns turns2 rows found row u step flexible judged =
       source = source;
       given = u.given ++ fields_of found ∷ [];
       reached = reached;
-      read = read_more [] u.given rows (fields_of found) row u.read judged;
+      read = read_more mode [] u.given rows (fields_of found) row u.read judged;
     }
 
 -- the next record is at fault
-pub stops : (text : List ℕ) (old new : Reader Bytes) (turns turns2 : ℕ) (rows : List Row) (found : Record) (fault : RowFault)
-    → IsUnderWay text old turns rows → RowStep bytes_left old new turns2 (Some (Ok found))
-    → IsJudgedAs (stands_in rows) (fields_of found) (Err fault) → IsTrafficOf (records default_config text) rows (Some fault)
-stops text old new turns turns2 rows found fault u step judged =
+pub stops : (mode : Mode) (text : List ℕ) (old new : Reader Bytes) (turns turns2 : ℕ) (rows : List Row) (found : Record) (fault : RowFault)
+    → IsUnderWay mode text old turns rows → RowStep bytes_left old new turns2 (Some (Ok found))
+    → IsJudgedAs mode (stands_in rows) (fields_of found) (Err fault) → IsTrafficOf mode (records default_config text) rows (Some fault)
+stops mode text old new turns turns2 rows found fault u step judged =
     let (rest, source, reached) = rows-more bytes_left old new (fields_of found) default_config st.StartRecord text u.rest u.given u.config u.source u.reached step.0 in
-    subst (λ (all : List (List (List ℕ))). IsTrafficOf all rows (Some fault))
+    subst (λ (all : List (List (List ℕ))). IsTrafficOf mode all rows (Some fault))
     (sym (records_begin (u.given ++ fields_of found ∷ []) (reader_state new) text rest reached))
-    (read_stops [] u.given _ rows (fields_of found) fault u.read judged)
+    (read_stops mode [] u.given _ rows (fields_of found) fault u.read judged)
 
 -- there is no next record
-pub ends : (text : List ℕ) (old new : Reader Bytes) (turns turns2 : ℕ) (rows : List Row)
-    → IsUnderWay text old turns rows → RowStep bytes_left old new turns2 None → IsTrafficOf (records default_config text) rows None
-ends text old new turns turns2 rows u step =
+pub ends : (mode : Mode) (text : List ℕ) (old new : Reader Bytes) (turns turns2 : ℕ) (rows : List Row)
+    → IsUnderWay mode text old turns rows → RowStep bytes_left old new turns2 None → IsTrafficOf mode (records default_config text) rows None
+ends mode text old new turns turns2 rows u step =
     let none = rows-end bytes_left old new [] default_config u.rest u.config u.source step in
-    subst (λ (all : List (List (List ℕ))). IsTrafficOf all rows None) (sym (records_are u.given (reader_state old) text u.rest u.reached none)) u.read
+    subst (λ (all : List (List (List ℕ))). IsTrafficOf mode all rows None) (sym (records_are u.given (reader_state old) text u.rest u.reached none)) u.read
 
 -- a reader that was made and has given nothing
-pub begins : (text : List ℕ) (reader : Reader Bytes) (turns : ℕ) → reader_trim reader ≡ trim.None → Ready reader → 0 < turns
+pub begins : (mode : Mode) (text : List ℕ) (reader : Reader Bytes) (turns : ℕ) → reader_trim reader ≡ trim.None → Ready reader → 0 < turns
     → reader_config reader ≡ default_config → is_flexible reader ≡ true → source_of bytes_left reader ≡ Some text → reader_state reader ≡ st.StartRecord
-    → IsUnderWay text reader turns []
+    → IsUnderWay mode text reader turns []
 unfolding Reached
-begins text reader turns trim ready left config flexible source start =
+begins mode text reader turns trim ready left config flexible source start =
     record {
       trim = trim;
       ready = ready;

@@ -40,7 +40,7 @@ pub enum RowFault {
     UnknownKind,
     /// A field has another form than it must, or its number is out of range.
     Malformed,
-    /// The job's number stood in an earlier row.
+    /// The number of the job or the call stood in an earlier row.
     NumberTwice,
     /// The office's state doesn't allow it.
     Marker(MarkerFault),

@@ -1,14 +1,16 @@
-//! What the rows of traffic ask for: jobs for markers, and steps of markers. And what is wrong with
-//! a row, as far as the row and those before it tell.
+//! What the rows of traffic ask for: jobs for markers and steps of markers in a replay, calls in a live
+//! office. And what is wrong with a row, as far as the row and those before it tell.
 #![tactic(auto)]
 
 pub use fault::{MarkerFault, RowFault, TrafficFault};
+pub use mode::Mode;
 pub use row::Row;
 pub use traffic::Traffic;
 
 mod fault;
 mod fields;
 pub mod laws;
+mod mode;
 mod number;
 mod row;
 #[cfg(test)]

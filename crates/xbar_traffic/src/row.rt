@@ -1,13 +1,14 @@
-ghost use Rattle.std.specs.Prelude.{◌≡◌, ◌≢◌, ℕ, List, [], ◌∷◌, ◌++◌, MatchOption, MatchResult, codes, length};
+ghost use Rattle.std.specs.Prelude.{◌≡◌, ◌≢◌, ℕ, Bool, List, [], ◌∷◌, ◌++◌, MatchOption, MatchResult, codes, length};
 ghost use Rattle.csv.specs.Records.{fields_of};
 ghost use Rattle.xbar_equip.specs.Dialled.{IsDialled, dialled_text};
 ghost use Rattle.xbar_equip.specs.Len.{IsLine, Line, line_text};
-ghost use Rattle.xbar_traffic.specs.Row.{IsReadAs};
+ghost use Rattle.xbar_traffic.specs.Row.{IsReadAs, hold_letter};
 ghost use Rattle.xbar_traffic.specs.Fields.{five_fields};
 ghost use Rattle.xbar_traffic.specs.Job.{IsJobReadAs};
 
 use crate::fault::RowFault;
 use crate::fields::Fields;
+use crate::mode::Mode;
 use crate::number::read_number;
 use csv::ByteRecord;
 use xbar_equip::{Dialled, Len};
@@ -17,29 +18,53 @@ use xbar_office::Job;
 #[derive(Clone, Copy, Debug, PartialEq, Eq)]
 pub enum Row {
     /// A marker is assigned a job, and makes no step.
-    Assign { marker: u32, job_no: u32, job: Job },
+    Assign {
+        marker: u32,
+        job_no: u32,
+        job: Job,
+    },
     /// A marker makes so many steps.
-    Steps { marker: u32, count: u32 },
+    Steps {
+        marker: u32,
+        count: u32,
+    },
+    /// In a live office a line calls, is given dial tone, and dials.
+    Call {
+        call_no: u32,
+        line: Len,
+        dialled: Dialled,
+        /// The call is released once it is connected; else it is kept.
+        release: bool,
+    },
 }
 
 /// The highest number of a marker in a row.
 const MARKER_LIMIT: u32 = 99;
-/// The highest number of a job, and the most steps.
+/// The highest number of a job or a call, and the most steps.
 const NUMBER_LIMIT: u32 = 9999;
 
 impl Row {
     /// Reads a record as a row, whatever rows came before it.
-    pub(crate) fn read(row: &ByteRecord) -> Result<Row, RowFault>
-        ensures { IsReadAs (fields_of row.now) result }
+    pub(crate) fn read(mode: Mode, row: &ByteRecord) -> Result<Row, RowFault>
+        ensures { IsReadAs mode (fields_of row.now) result }
     {
         match Fields::of(row) {
-            Some(fields) => Row::of_fields(&fields),
+            Some(fields) => Row::of_fields(mode, &fields),
             None => Err(RowFault::Unreadable),
         }
     }
 
-    fn of_fields(fields: &Fields<'_>) -> Result<Row, RowFault>
-        ensures { IsReadAs (five_fields fields.now) result }
+    fn of_fields(mode: Mode, fields: &Fields<'_>) -> Result<Row, RowFault>
+        ensures { IsReadAs mode (five_fields fields.now) result }
+    {
+        match mode {
+            Mode::Replay => Row::of_replay(fields),
+            Mode::Live => Row::of_live(fields),
+        }
+    }
+
+    fn of_replay(fields: &Fields<'_>) -> Result<Row, RowFault>
+        ensures { IsReadAs Mode.Replay (five_fields fields.now) result }
     {
         match fields.first {
             b"J" => Row::assign(fields.second, fields.third, fields.fourth, fields.fifth),
@@ -49,8 +74,18 @@ impl Row {
         }
     }
 
+    fn of_live(fields: &Fields<'_>) -> Result<Row, RowFault>
+        ensures { IsReadAs Mode.Live (five_fields fields.now) result }
+    {
+        match fields.first {
+            b"J" | b"S" => Err(RowFault::OtherMode),
+            b"C" => Row::call(fields.second, fields.third, fields.fourth, fields.fifth),
+            _ => Err(RowFault::UnknownKind),
+        }
+    }
+
     fn assign(marker: &[u8], job_no: &[u8], kind: &[u8], args: &[u8]) -> Result<Row, RowFault>
-        ensures { IsReadAs (codes "J" ∷ marker.now ∷ job_no.now ∷ kind.now ∷ args.now ∷ []) result }
+        ensures { IsReadAs Mode.Replay (codes "J" ∷ marker.now ∷ job_no.now ∷ kind.now ∷ args.now ∷ []) result }
     {
         let job = read_job(kind, args)?;
         let marker = read_number(marker, MARKER_LIMIT).ok_or(RowFault::Malformed)?;
@@ -63,7 +98,7 @@ impl Row {
     }
 
     fn steps(marker: &[u8], count: &[u8], fourth: &[u8], fifth: &[u8]) -> Result<Row, RowFault>
-        ensures { IsReadAs (codes "S" ∷ marker.now ∷ count.now ∷ fourth.now ∷ fifth.now ∷ []) result }
+        ensures { IsReadAs Mode.Replay (codes "S" ∷ marker.now ∷ count.now ∷ fourth.now ∷ fifth.now ∷ []) result }
     {
         if !fourth.is_empty() || !fifth.is_empty() {
             return Err(RowFault::Malformed);
@@ -71,6 +106,21 @@ impl Row {
         let marker = read_number(marker, MARKER_LIMIT).ok_or(RowFault::Malformed)?;
         let count = read_number(count, NUMBER_LIMIT).ok_or(RowFault::Malformed)?;
         Ok(Row::Steps { marker, count })
+    }
+
+    fn call(call_no: &[u8], line: &[u8], dialled: &[u8], hold: &[u8]) -> Result<Row, RowFault>
+        ensures { IsReadAs Mode.Live (codes "C" ∷ call_no.now ∷ line.now ∷ dialled.now ∷ hold.now ∷ []) result }
+    {
+        let call_no = read_number(call_no, NUMBER_LIMIT).ok_or(RowFault::Malformed)?;
+        let line = read_line(line)?;
+        let dialled = read_dialled(dialled)?;
+        let release = read_hold(hold)?;
+        Ok(Row::Call {
+            call_no,
+            line,
+            dialled,
+            release,
+        })
     }
 }
 
@@ -115,4 +165,15 @@ fn read_dialled(text: &[u8]) -> Result<Dialled, RowFault>
     ensures { MatchResult result (λ dialled. IsDialled dialled × (text.now ≡ dialled_text dialled)) (λ fault. ((dialled : ℕ) → IsDialled dialled → text.now ≢ dialled_text dialled) × (fault ≡ RowFault.Malformed)) }
 {
     Dialled::parse(text).map_err(|_| RowFault::Malformed)
+}
+
+/// Whether the call is released once it is connected.
+fn read_hold(text: &[u8]) -> Result<bool, RowFault>
+    ensures { MatchResult result (λ release. text.now ≡ hold_letter release) (λ fault. ((release : Bool) → text.now ≢ hold_letter release) × (fault ≡ RowFault.Malformed)) }
+{
+    match text {
+        b"K" => Ok(false),
+        b"R" => Ok(true),
+        _ => Err(RowFault::Malformed),
+    }
 }

@@ -6,6 +6,7 @@ ghost use Rattle.csv.specs.Reading.{default_config, records, strip_bom, stops_re
 ghost use Rattle.xbar_traffic.specs.Traffic.{IsJudgedAs, IsTrafficOf, has_number};
 
 use crate::fault::{RowFault, TrafficFault};
+use crate::mode::Mode;
 use crate::row::Row;
 use csv::{ByteRecord, Error, ErrorKind, ReaderBuilder};
 use std::alloc::{AllocError, Global};
@@ -20,9 +21,9 @@ pub struct Traffic {
 }
 
 impl Traffic {
-    /// Reads the bytes of a whole traffic.
-    pub fn read(alloc: Global, bytes: &[u8]) -> Result<Traffic, AllocError>
-        ensures { IfOk result (λ traffic. IsTrafficOf (records default_config (strip_bom bytes.now)) traffic.rows.items traffic.fault) }
+    /// Reads the bytes of a whole traffic, whose rows are to be of this mode.
+    pub fn read(alloc: Global, mode: Mode, bytes: &[u8]) -> Result<Traffic, AllocError>
+        ensures { IfOk result (λ traffic. IsTrafficOf mode (records default_config (strip_bom bytes.now)) traffic.rows.items traffic.fault) }
     {
         let reader = ReaderBuilder::new()
             .has_headers(false)
@@ -35,7 +36,7 @@ impl Traffic {
                 Ok(row) => row,
                 Err(error) => return Err(want_of_memory(error)),
             };
-            match judge(&row, &mut numbers)? {
+            match judge(mode, &row, &mut numbers)? {
                 // `push` gets no proof where another crate's enum is in the item.
                 Ok(row) => rows.extend_from_slice(&[row])?,
                 Err(fault) => {
@@ -56,24 +57,28 @@ impl Traffic {
     }
 }
 
-/// Reads a row, where these job numbers stood before, and adds its own to them.
-fn judge(row: &ByteRecord, numbers: &mut BTreeSet<u32>) -> Result<Result<Row, RowFault>, AllocError>
-    ensures judged { IfOk result (λ judged. IsJudgedAs (contains nat_cmp numbers.old) (fields_of row.now) judged) }
+/// Reads a row, where these numbers of jobs or calls stood before, and adds its own to them.
+fn judge(
+    mode: Mode,
+    row: &ByteRecord,
+    numbers: &mut BTreeSet<u32>,
+) -> Result<Result<Row, RowFault>, AllocError>
+    ensures judged { IfOk result (λ judged. IsJudgedAs mode (contains nat_cmp numbers.old) (fields_of row.now) judged) }
     ensures numbers { IfOk result (λ judged. IfOk judged (λ row. (number : ℕ) → contains nat_cmp numbers.new number ≡ (contains nat_cmp numbers.old number || has_number number row))) }
 {
-    let row = match Row::read(row) {
+    let row = match Row::read(mode, row) {
         Ok(row) => row,
         Err(fault) => return Ok(Err(fault)),
     };
-    match row {
-        Row::Assign { job_no, .. } => {
-            if numbers.insert(job_no)? {
-                Ok(Ok(row))
-            } else {
-                Ok(Err(RowFault::NumberTwice))
-            }
-        }
-        Row::Steps { .. } => Ok(Ok(row)),
+    let number = match row {
+        Row::Assign { job_no, .. } => job_no,
+        Row::Steps { .. } => return Ok(Ok(row)),
+        Row::Call { call_no, .. } => call_no,
+    };
+    if numbers.insert(number)? {
+        Ok(Ok(row))
+    } else {
+        Ok(Err(RowFault::NumberTwice))
     }
 }
 

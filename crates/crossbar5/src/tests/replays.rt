@@ -1,25 +1,11 @@
-use super::fakes::FailAt;
-use crate::{Counted, EngineFault, Status, run_replay};
-use std::alloc::Global;
-use std::test::Fail;
+//! Traffic for one marker under the example plan.
+
+use super::*;
 
 /// The first row of a traffic, and 96 steps.
 const FIRST: &str = "J,0,1,D,3041\nS,0,96,,\n";
 
 const FIRST_TEXT: &str = "0,1,0,D,3041,-,DIALTONE,1,3041-0-417,-\nPATHS,1\nCLOSED,4\n";
-
-/// Whether traffic comes to this text, and ends with this status.
-fn comes_to(
-    alloc: Global,
-    traffic: &[u8],
-    text: &str,
-    status: Status,
-) -> Result<bool, EngineFault> {
-    let mut source = Counted::new(traffic);
-    let mut sink = Counted::new(Vec::new(alloc));
-    let ended = run_replay(alloc, &mut source, &mut sink)?;
-    Ok(ended == status && sink.get_ref().as_slice() == text.as_bytes())
-}
 
 /// A call inside the office: it is set up, the register serves another line, the called line releases, and
 /// the calling line has no call any more.
@@ -35,6 +21,7 @@ const CALL_TEXT: &str = "0,1,0,D,3041,-,DIALTONE,1,3041-0-417,-\n\
 
 #[test]
 fn traffic_that_is_done(rt: HostRuntime) -> Result<(), Fail> {
+    let plan = plan_with(rt.alloc(), "")?;
     for (traffic, text) in [
         (FIRST, FIRST_TEXT),
         ("", "PATHS,0\nCLOSED,0\n"),
@@ -53,7 +40,14 @@ fn traffic_that_is_done(rt: HostRuntime) -> Result<(), Fail> {
             "0,9,0,D,3041,-,DIALTONE,1,3041-0-417,-\n1,2,0,D,1000,-,DIALTONE,1,1000-1-418,-\nPATHS,2\nCLOSED,8\n",
         ),
     ] {
-        let comes = comes_to(rt.alloc(), traffic.as_bytes(), text, Status::Fine).unwrap_or(false);
+        let comes = comes_to(
+            rt.alloc(),
+            &plan,
+            &TWO,
+            traffic.as_bytes(),
+            text,
+            Status::Fine,
+        )?;
         assert!(rt; comes, "{traffic}");
     }
     Ok(())
@@ -61,6 +55,7 @@ fn traffic_that_is_done(rt: HostRuntime) -> Result<(), Fail> {
 
 #[test]
 fn traffic_that_is_refused(rt: HostRuntime) -> Result<(), Fail> {
+    let plan = plan_with(rt.alloc(), "")?;
     for (traffic, text) in [
         ("J,0,\"1,D,3041\n", "FAULT,T1,1\n"),
         ("Q,0,1,D,3041\n", "FAULT,T2,1\n"),
@@ -71,29 +66,32 @@ fn traffic_that_is_refused(rt: HostRuntime) -> Result<(), Fail> {
         ("S,0,10000,,\n", "FAULT,T3,1\n"),
         ("S,0,1,x,\n", "FAULT,T3,1\n"),
         ("J,0,1,D,3041\nS,0,96,,\nJ,0,1,D,1000\n", "FAULT,T4,3\n"),
-        ("J,1,1,D,3041\n", "FAULT,T5,1,C1\n"),
-        ("S,1,1,,\n", "FAULT,T5,1,C1\n"),
+        ("J,2,1,D,3041\n", "FAULT,T5,1,C1\n"),
+        ("S,2,1,,\n", "FAULT,T5,1,C1\n"),
         ("J,0,1,D,3041\nS,0,27,,\nJ,0,2,D,1000\n", "FAULT,T5,3,C2\n"),
         ("C,7,3041,5551234,R\n", "FAULT,T6,1\n"),
         // A record that is there already is not written where a later row is refused.
         ("J,0,1,D,3041\nS,0,96,,\nQ,0,2,D,3041\n", "FAULT,T2,3\n"),
     ] {
         let status = Status::TrafficRefused;
-        let comes = comes_to(rt.alloc(), traffic.as_bytes(), text, status).unwrap_or(false);
+        let comes = comes_to(rt.alloc(), &plan, &TWO, traffic.as_bytes(), text, status)?;
         assert!(rt; comes, "{traffic}");
     }
     let comes = comes_to(
         rt.alloc(),
+        &plan,
+        &TWO,
         b"\xff,0,1,D,3041\n",
         "FAULT,T2,1\n",
         Status::TrafficRefused,
     );
-    assert!(rt; comes.unwrap_or(false));
+    assert!(rt; comes?);
     Ok(())
 }
 
 #[test]
-fn traffic_cut_after_each_byte(rt: HostRuntime) {
+fn traffic_cut_after_each_byte(rt: HostRuntime) -> Result<(), Fail> {
+    let plan = plan_with(rt.alloc(), "")?;
     for cut in 0..=FIRST.len() {
         let (text, status) = match cut {
             0 => ("PATHS,0\nCLOSED,0\n", Status::Fine),
@@ -103,18 +101,8 @@ fn traffic_cut_after_each_byte(rt: HostRuntime) {
             _ => (FIRST_TEXT, Status::Fine),
         };
         let traffic = FIRST.as_bytes().get(..cut).unwrap_or(b"");
-        let comes = comes_to(rt.alloc(), traffic, text, status).unwrap_or(false);
+        let comes = comes_to(rt.alloc(), &plan, &TWO, traffic, text, status)?;
         assert!(rt; comes, "cut after {cut}");
     }
-}
-
-#[test]
-fn a_failed_read_leaves_nothing_written(rt: HostRuntime) {
-    for calls in 0..2 {
-        let mut source = Counted::new(FailAt::new(calls, FIRST.as_bytes()));
-        let mut sink = Counted::new(Vec::new(rt.alloc()));
-        let ended = run_replay(rt.alloc(), &mut source, &mut sink);
-        assert_eq!(rt; ended.err(), Some(EngineFault::Device));
-        assert!(rt; sink.get_ref().is_empty());
-    }
+    Ok(())
 }

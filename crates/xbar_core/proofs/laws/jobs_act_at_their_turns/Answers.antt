@@ -1,5 +1,6 @@
 use Rattle.std.proofs.Common.{[]}
 use Rattle.xbar_core.proofs.Holders.{words_show}
+use Rattle.xbar_core.proofs.IdleMarkers.{idle_show}
 use Rattle.xbar_core.proofs.Records.{completed_shows, counts, jobs_legal, records_legal, replies_legal}
 use Rattle.xbar_core.proofs.laws.jobs_act_at_their_turns.Goals as goal
 
@@ -20,3 +21,6 @@ returns-clause-shows c = completed_shows
 
 pub returns-clause-free : goal.returns-clause-free
 returns-clause-free c = words_show
+
+pub returns-clause-idle : goal.returns-clause-idle
+returns-clause-idle c = idle_show

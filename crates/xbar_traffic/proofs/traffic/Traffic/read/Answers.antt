@@ -17,7 +17,7 @@ loop-row-init c =
     let start = c.into_iter-row-iterator.ensures.into_iter_gives ∙ refl in
     let reader = c.into_byte_records-row-items.ensures.rdr in
     rw (start, reader, c.new-rows.ensures.items, c.new-numbers.ensures.empty) record {
-      reading = begins (strip_bom c.args.bytes.now) c.from_reader-reader.result _
+      reading = begins c.args.mode (strip_bom c.args.bytes.now) c.from_reader-reader.result _
           (rw (flexible, named) at from.trim ∙ c.new.ensures.trim)
           (inr (inr (rw (flexible, named) at from.has_headers, from.headers)))
           c.into_byte_records-row-items.ensures.left
@@ -32,8 +32,8 @@ returns-in-Err-2 c =
     let u = c.loop-row.invariant.reading in
     let step = rw (c.in-Some.is, c.in-Ok.is) at ((c.next.ensures.steps u.left u.trim).0 u.ready) in
     let judged = rw c.in-Err-2.is at c.in_ok-row.ensures.judged in
-    stops (strip_bom c.args.bytes.now) c.loop-row.row-iterator.rdr c.next.new.self.rdr c.loop-row.row-iterator.left c.next.new.self.left c.loop-row.rows.items c.in-Ok.row c.in-Err-2.fault u step
-    (judged_by_same (contains nat_cmp c.loop-row.numbers) (stands_in c.loop-row.rows.items) c.loop-row.invariant.numbers (fields_of c.in-Ok.row) (Err c.in-Err-2.fault) judged)
+    stops c.args.mode (strip_bom c.args.bytes.now) c.loop-row.row-iterator.rdr c.next.new.self.rdr c.loop-row.row-iterator.left c.next.new.self.left c.loop-row.rows.items c.in-Ok.row c.in-Err-2.fault u step
+    (judged_by_same c.args.mode (contains nat_cmp c.loop-row.numbers) (stands_in c.loop-row.rows.items) c.loop-row.invariant.numbers (fields_of c.in-Ok.row) (Err c.in-Err-2.fault) judged)
 
 pub loop-row-preserved : goal.loop-row-preserved
 loop-row-preserved c =
@@ -45,8 +45,8 @@ loop-row-preserved c =
     let good : is_ok c.extend_from_slice.result ≡ true = search rules in
     let items = rw good at c.extend_from_slice.ensures.items in
     rw items record {
-      reading = goes_on (strip_bom c.args.bytes.now) c.loop-row.row-iterator.rdr c.next.new.self.rdr c.loop-row.row-iterator.left c.next.new.self.left c.loop-row.rows.items c.in-Ok.row c.in-Ok-2.row u step flexible
-          (judged_by_same (contains nat_cmp c.loop-row.numbers) (stands_in c.loop-row.rows.items) c.loop-row.invariant.numbers (fields_of c.in-Ok.row) (Ok c.in-Ok-2.row) judged);
+      reading = goes_on c.args.mode (strip_bom c.args.bytes.now) c.loop-row.row-iterator.rdr c.next.new.self.rdr c.loop-row.row-iterator.left c.next.new.self.left c.loop-row.rows.items c.in-Ok.row c.in-Ok-2.row u step flexible
+          (judged_by_same c.args.mode (contains nat_cmp c.loop-row.numbers) (stands_in c.loop-row.rows.items) c.loop-row.invariant.numbers (fields_of c.in-Ok.row) (Ok c.in-Ok-2.row) judged);
       numbers = λ number. numbers number ∙ ap (λ (stood : Bool). stood || has_number number c.in-Ok-2.row) (c.loop-row.invariant.numbers number)
           ∙ sym (stands_in-more c.loop-row.rows.items c.in-Ok-2.row number);
     }
@@ -55,4 +55,4 @@ pub returns : goal.returns
 returns c =
     let u = c.loop-row.invariant.reading in
     let step = rw c.in-None.is at ((c.next.ensures.steps u.left u.trim).0 u.ready) in
-    ends (strip_bom c.args.bytes.now) c.loop-row.row-iterator.rdr c.next.new.self.rdr c.loop-row.row-iterator.left c.next.new.self.left c.loop-row.rows.items u step
+    ends c.args.mode (strip_bom c.args.bytes.now) c.loop-row.row-iterator.rdr c.next.new.self.rdr c.loop-row.row-iterator.left c.next.new.self.left c.loop-row.rows.items u step

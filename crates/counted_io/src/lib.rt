@@ -1,0 +1,18 @@
+//! Reads all of a source and writes all of some bytes, where readers and writers count their failures.
+#![tactic(auto)]
+
+pub use counted::Counted;
+pub use device::{Sink, Source};
+pub use input::read_all;
+pub use output::write_all;
+pub use read_fault::ReadFault;
+pub use write_fault::WriteFault;
+
+mod counted;
+mod device;
+mod input;
+mod output;
+mod read_fault;
+#[cfg(test)]
+mod tests;
+mod write_fault;

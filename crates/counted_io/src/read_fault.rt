@@ -1,0 +1,28 @@
+ghost use Rattle.std.specs.Prelude.{◌≡◌};
+ghost use Rattle.counted_io.specs.declared.read_fault.ReadFault.TheVariants.{Memory};
+
+use std::alloc::AllocError;
+use thiserror::Error;
+
+/// Why not all was read.
+#[derive(Clone, Copy, Debug, PartialEq, Eq, Error)]
+pub enum ReadFault {
+    #[error("memory ran out")]
+    Memory,
+    /// A failure was counted.
+    #[error("a read failed")]
+    Device,
+    /// There were too many reads that gave bytes.
+    #[error("the input is too long")]
+    Long,
+    #[error("the device gave errors without end that it did not count")]
+    Stalled,
+}
+
+impl From<AllocError> for ReadFault {
+    ghost from_gives = { λ _ fault. fault ≡ Memory };
+
+    fn from(_error: AllocError) -> Self {
+        ReadFault::Memory
+    }
+}

@@ -1,0 +1,17 @@
+use Rattle.std.proofs.Common.{ℕ, ◌<◌, ◌^◌, ◌∙◌, length, sym, ap, subst}
+use Rattle.xbar_plan.specs.Lawful.{IsLawful}
+use Rattle.xbar_core.specs.Exchange.{OfPlan}
+use Rattle.crossbar5.specs.Run.{IsOneHistory}
+use Rattle.crossbar5.proofs.SettledHistory.{settled_history}
+use Rattle.crossbar5.proofs.run.settled.Goals as goal
+
+pub returns-clause-history : goal.returns-clause-history
+returns-clause-history c =
+    let now = c.settle.new.self in
+    let lawful = c.words.ensures.lawful in
+    let laws = c.jobs_act_at_their_turns.ensures in
+    let few : length now.exchange.records < 2 ^ 64 = subst (λ (n : ℕ). n < 2 ^ 64) (ap length c.records.ensures.records) c.records.ensures.few in
+    subst (λ (o : OfPlan). IsOneHistory o.plan o.exchange) c.settle.ensures.settled
+    (settled_history now.plan now.exchange (ap length (sym c.words.ensures.words) ∙ c.words.ensures.count) few c.settle.ensures.idle
+    (laws.legal now.plan now.exchange lawful) (laws.counted now.plan now.exchange lawful)
+    (laws.idle now.plan now.exchange (subst IsLawful c.plan.ensures c.every_plan_is_lawful.ensures) lawful c.settle.ensures.idle))

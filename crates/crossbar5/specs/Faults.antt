@@ -1,0 +1,30 @@
+use Rattle.std.specs.Prelude.{ℕ, ◌<◌, ◌≤◌, ⊤}
+use Rattle.counted_io.specs.declared.read_fault.ReadFault.{ReadFault}
+use Rattle.counted_io.specs.declared.read_fault.ReadFault.TheVariants as read
+use Rattle.counted_io.specs.declared.write_fault.WriteFault.{WriteFault}
+use Rattle.counted_io.specs.declared.write_fault.WriteFault.TheVariants as write
+use Rattle.crossbar5.specs.declared.engine_fault.EngineFault.{EngineFault}
+use Rattle.crossbar5.specs.declared.engine_fault.EngineFault.TheVariants.{Markers, Memory, Device, Long, Stalled}
+
+-- an office has 1 to 48 markers
+abbrev pub IsMarkerCount : ℕ → Type 0
+IsMarkerCount count = (0 < count) × (count ≤ 48)
+
+-- what a fault of reading, or of writing, is to the engine
+abbrev pub of_read : ReadFault → EngineFault
+of_read read.Memory = Memory
+of_read read.Device = Device
+of_read read.Long = Long
+of_read read.Stalled = Stalled
+
+abbrev pub of_write : WriteFault → EngineFault
+of_write write.Device = Device
+of_write write.Stalled = Stalled
+
+-- a fault that comes before anything is written
+abbrev pub ComesFirst : EngineFault → Type 0
+ComesFirst Markers = ⊤
+ComesFirst Memory = ⊤
+ComesFirst Long = ⊤
+ComesFirst Device = ⊥
+ComesFirst Stalled = ⊥

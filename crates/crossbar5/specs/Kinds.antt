@@ -1,0 +1,15 @@
+use Rattle.std.specs.Prelude.{◌≡◌, ℕ, List, length, map}
+use Rattle.xbar_core.specs.declared.kind.Kind.{Kind}
+use Rattle.xbar_core.specs.declared.kind.Kind.TheVariants.{Dial, Completing, Combined}
+use Rattle.crossbar5.specs.Faults.{IsMarkerCount}
+
+-- the letter of a marker's kind: D, C or X
+abbrev pub letter_of : Kind → ℕ
+letter_of Dial = 68
+letter_of Completing = 67
+letter_of Combined = 88
+
+-- a text names the kinds of an office's markers, marker 0 first, a letter for each
+pub record Names (text : List ℕ) (kinds : List Kind) : Type 0 where
+  pub letters : text ≡ map letter_of kinds
+  pub count : IsMarkerCount (length kinds)

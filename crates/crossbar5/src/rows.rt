@@ -1,0 +1,63 @@
+//! Rows of traffic, done in an office.
+
+ghost use Rattle.std.specs.Prelude.{◌≡◌, IfOk, None, slice_get};
+ghost use Rattle.xbar_core.specs.Moves.{assigned, refusal, steps};
+ghost use Rattle.xbar_traffic.specs.Row.{IsRow, mode_of};
+ghost use Rattle.xbar_traffic.specs.declared.mode.Mode.{Mode};
+ghost use Rattle.xbar_office.specs.Legal.{IsJob};
+ghost use Rattle.crossbar5.specs.Rows.{done, missing, refused_as, row_fault};
+
+use std::alloc::AllocError;
+use xbar_core::{AssignFault, Exchange};
+use xbar_office::Job;
+use xbar_traffic::{MarkerFault, Row};
+
+/// Assigns a job to a marker, or tells why it can't be.
+fn assign(
+    office: &mut Exchange,
+    marker: u32,
+    job_no: u32,
+    job: Job,
+) -> Result<Option<MarkerFault>, AllocError>
+    requires { IsJob job }
+    ensures fault { IfOk result (λ fault. fault ≡ refused_as (refusal office.old.exchange marker job)) }
+    ensures done { IfOk result (λ fault. fault ≡ None → office.new ≡ record office.old { exchange = assigned marker job_no job office.old.exchange }) }
+{
+    match office.assign(marker, job_no, job) {
+        Ok(()) => Ok(None),
+        Err(AssignFault::NoMarker) => Ok(Some(MarkerFault::NoMarker)),
+        Err(AssignFault::NotIdle) => Ok(Some(MarkerFault::NotIdle)),
+        Err(AssignFault::WrongKind) => Ok(Some(MarkerFault::WrongKind)),
+        Err(AssignFault::Memory) => Err(AllocError),
+    }
+}
+
+/// Has a marker make so many steps, or tells that there is none.
+fn make_steps(office: &mut Exchange, marker: u32, count: u32) -> Option<MarkerFault>
+    ensures fault { result ≡ missing (slice_get office.old.exchange.markers marker) }
+    ensures done { result ≡ None → office.new ≡ record office.old { exchange = steps office.old.plan marker count office.old.exchange } }
+{
+    if marker >= office.marker_count() {
+        return Some(MarkerFault::NoMarker);
+    }
+    office.steps(marker, count);
+    None
+}
+
+/// Does what a row of a replay asks, or tells why it can't be done.
+pub fn do_row(office: &mut Exchange, row: &Row) -> Result<Option<MarkerFault>, AllocError>
+    requires range { IsRow row.now }
+    requires mode { mode_of row.now ≡ Mode.Replay }
+    ensures fault { IfOk result (λ fault. fault ≡ row_fault office.old.exchange row.now) }
+    ensures done { IfOk result (λ fault. fault ≡ None → office.new ≡ record office.old { exchange = done office.old.plan office.old.exchange row.now }) }
+{
+    match row {
+        Row::Assign {
+            marker,
+            job_no,
+            job,
+        } => assign(office, *marker, *job_no, *job),
+        Row::Steps { marker, count } => Ok(make_steps(office, *marker, *count)),
+        Row::Call { .. } => unreachable!(),
+    }
+}

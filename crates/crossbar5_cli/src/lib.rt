@@ -1,0 +1,116 @@
+//! All of the program `crossbar5`: it replays traffic from standard input in an office with the plan and the
+//! markers that its words ask for, and writes what comes of it to standard output.
+#![tactic(auto)]
+
+use counted_io::read_all;
+use crossbar5::{Counted, EngineFault, Status, kinds_of, run_replay};
+use crossbar5_command::{Ask, CommandFault, command};
+use std::alloc::{AllocError, Global};
+use std::fs::File;
+use std::io::ErrorKind;
+use std::process::ExitCode;
+use std::{env, io};
+use xbar_plan::Plan;
+
+#[cfg(test)]
+mod tests;
+
+const COMMAND_LINE: u8 = 2;
+
+const PLAN: u8 = 3;
+
+const TRAFFIC: u8 = 4;
+
+const MEMORY: u8 = 5;
+
+const DEVICE: u8 = 6;
+
+/// Runs the program, and tells the status that it ends with.
+pub fn run(rt: &HostRuntime) -> ExitCode {
+    match words(rt) {
+        Ok(words) => do_as_asked(rt, &words),
+        Err(error) if error.kind() == ErrorKind::OutOfMemory => fail(rt, EngineFault::Memory),
+        Err(_) => {
+            let _told = rt.eprintln("error: a word of the command line is no text");
+            ExitCode::from(COMMAND_LINE)
+        }
+    }
+}
+
+/// The words of the command line, the program's name first.
+fn words(rt: &HostRuntime) -> io::Result<Vec<String>> {
+    Ok(env::args(rt)?.collect(rt.alloc())?)
+}
+
+fn do_as_asked(rt: &HostRuntime, words: &[String]) -> ExitCode {
+    match asked(rt, words) {
+        Ok(Ask::Replay { plan, kinds }) => match replay(rt, &plan, &kinds) {
+            Ok(end) => ExitCode::from(status_of(end)),
+            Err(fault) => fail(rt, fault),
+        },
+        Err(CommandFault::Memory) => fail(rt, EngineFault::Memory),
+        Err(CommandFault::Refused(error)) => tell(rt, &error),
+    }
+}
+
+fn asked(rt: &HostRuntime, words: &[String]) -> Result<Ask, CommandFault> {
+    let words: Vec<&str> = words.iter().map(|word| word.as_str()).collect(rt.alloc())?;
+    command(rt.alloc(), &words)
+}
+
+fn replay(rt: &HostRuntime, plan: &Option<String>, kinds: &str) -> Result<Status, EngineFault> {
+    let kinds = kinds_of(rt.alloc(), kinds)?;
+    let plan = match plan {
+        Some(file) => read_plan(rt, file)?,
+        None => example_plan(rt.alloc())?,
+    };
+    let mut source = Counted::new(rt.stdin());
+    let mut sink = Counted::new(rt.stdout());
+    run_replay(rt.alloc(), &plan, &kinds, &mut source, &mut sink)
+}
+
+fn read_plan(rt: &HostRuntime, file: &str) -> Result<Vec<u8>, EngineFault> {
+    match File::open(rt, file) {
+        Ok(file) => Ok(read_all(rt.alloc(), &mut Counted::new(file))?),
+        Err(error) if error.kind() == ErrorKind::OutOfMemory => Err(EngineFault::Memory),
+        Err(_) => Err(EngineFault::Device),
+    }
+}
+
+fn example_plan(alloc: Global) -> Result<Vec<u8>, AllocError> {
+    Plan::example(alloc)?.version_2(alloc)
+}
+
+fn status_of(end: Status) -> u8 {
+    match end {
+        Status::Fine => 0,
+        Status::PlanRefused => PLAN,
+        Status::TrafficRefused => TRAFFIC,
+    }
+}
+
+/// Tells help or the version on standard output, and why the words are refused on standard error.
+fn tell(rt: &HostRuntime, error: &clap::Error) -> ExitCode {
+    match error.print(rt) {
+        Ok(()) if error.use_stderr() => ExitCode::from(COMMAND_LINE),
+        Ok(()) => ExitCode::SUCCESS,
+        Err(_) => fail(rt, EngineFault::Device),
+    }
+}
+
+/// The line that tells a fault, and the status.
+fn told(fault: EngineFault) -> (&'static str, u8) {
+    match fault {
+        EngineFault::Markers => ("FAULT,MARKERS", COMMAND_LINE),
+        EngineFault::Memory => ("FAULT,MEMORY", MEMORY),
+        EngineFault::Device | EngineFault::Stalled => ("FAULT,DEVICE", DEVICE),
+        EngineFault::Long => ("FAULT,LONG", TRAFFIC),
+    }
+}
+
+/// Tells a fault on standard error. That this can't be written changes nothing.
+fn fail(rt: &HostRuntime, fault: EngineFault) -> ExitCode {
+    let (line, status) = told(fault);
+    let _told = rt.eprintln(line);
+    ExitCode::from(status)
+}

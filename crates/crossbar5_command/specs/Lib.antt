@@ -1,0 +1,4 @@
+pub mod Program
+pub mod Ask
+pub mod Command
+pub mod Fault

@@ -1,0 +1,96 @@
+//! The program as clap sees it.
+
+ghost use Rattle.std.specs.Prelude.{◌≡◌, IfOk, false};
+ghost use Rattle.clap.specs.Words.{app_of, rule_of};
+ghost use Rattle.clap.specs.declared.builder.command.Command.TheViews.{out-Command};
+ghost use Rattle.crossbar5_command.specs.Program.{markers_option, plan_option, program, replay};
+
+use clap::{Arg, Command};
+use std::alloc::{AllocError, Global};
+
+/// The name of the subcommand.
+pub const REPLAY: &str = "replay";
+
+/// The id of the option for the plan, and its name.
+pub const PLAN: &str = "plan";
+
+/// The id of the option for the kinds of the markers, and its name.
+pub const MARKERS: &str = "markers";
+
+/// The kinds of the markers where none are given: two markers for all jobs.
+pub const DEFAULT_KINDS: &str = "XX";
+
+const ABOUT: &str = "\
+Replays traffic from standard input in a simulated No. 5 Crossbar telephone
+office, and writes what came of each call to standard output. Without a command
+it replays with the example plan and two markers for all jobs.";
+
+const ABOUT_REPLAY: &str = "\
+Replays traffic from standard input with a plan and markers of your choice";
+
+const ABOUT_PLAN: &str = "The file with the office's plan [default: the example plan]";
+
+const ABOUT_MARKERS: &str = "\
+The kind of each marker, marker 0 first, 1 to 48 letters:{n}\
+D for dial tone jobs{n}\
+C for completing jobs and releases{n}\
+X for all jobs";
+
+const EXAMPLE_AND_STATUSES: &str = "\
+Example:
+  printf 'J,0,1,D,3041\\nS,0,96,,\\n' | crossbar5 replay --markers XX
+
+  The first row of this traffic gives marker 0 the job number 1: line 3041
+  wants dial tone. The second row makes 96 steps of marker 0.
+
+Exit status:
+  0  All is fine
+  2  The command line is refused, or KINDS
+  3  The plan is refused
+  4  The traffic is refused, or too long
+  5  Memory ran out
+  6  A device failed, or FILE can't be read";
+
+/// The program, with its one subcommand.
+pub fn program<'a>(alloc: Global) -> Result<Command<'a>, AllocError>
+    ensures { IfOk result (λ made. app_of made ≡ program) }
+{
+    Command::new(alloc, "crossbar5")
+        .version("0.1.0")
+        .about(ABOUT)
+        .after_help(EXAMPLE_AND_STATUSES)
+        .disable_help_subcommand(true)
+        .subcommand(replay(alloc)?)
+}
+
+fn replay<'a>(alloc: Global) -> Result<Command<'a>, AllocError>
+    ensures app { IfOk result (λ made. app_of made ≡ replay) }
+    ensures local { IfOk result (λ made. (out-Command made).has_globals ≡ false) }
+{
+    Command::new(alloc, REPLAY)
+        .about(ABOUT_REPLAY)
+        .after_help(EXAMPLE_AND_STATUSES)
+        .arg(plan_option(alloc))?
+        .arg(markers_option(alloc))
+}
+
+fn plan_option<'a>(alloc: Global) -> Arg<'a>
+    ensures rule { rule_of result ≡ plan_option }
+    ensures local { result.global ≡ false }
+{
+    Arg::new(alloc, PLAN)
+        .long(PLAN)
+        .value_name("FILE")
+        .help(ABOUT_PLAN)
+}
+
+fn markers_option<'a>(alloc: Global) -> Arg<'a>
+    ensures rule { rule_of result ≡ markers_option }
+    ensures local { result.global ≡ false }
+{
+    Arg::new(alloc, MARKERS)
+        .long(MARKERS)
+        .value_name("KINDS")
+        .default_value(DEFAULT_KINDS)
+        .help(ABOUT_MARKERS)
+}

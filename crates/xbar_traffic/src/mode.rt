@@ -1,0 +1,8 @@
+/// What the rows of traffic are for.
+#[derive(Clone, Copy, Debug, PartialEq, Eq)]
+pub enum Mode {
+    /// A schedule that is replayed: jobs for markers, and steps of markers.
+    Replay,
+    /// Calls that markers on threads serve.
+    Live,
+}

@@ -1,0 +1,22 @@
+//! The lines of faults that no row has by itself.
+
+use super::*;
+
+#[test]
+fn marker_faults_are_told(rt: HostRuntime) -> Result<(), Fail> {
+    let table = [
+        (MarkerFault::NoMarker, 1, "FAULT,T5,1,C1\n"),
+        (MarkerFault::NotIdle, 3, "FAULT,T5,3,C2\n"),
+        (
+            MarkerFault::WrongKind,
+            u64::MAX,
+            "FAULT,T5,18446744073709551615,C3\n",
+        ),
+    ];
+    for (why, row, wanted) in table {
+        let fault = RowFault::Marker(why);
+        let text = TrafficFault { row, fault }.text(rt.alloc())?;
+        assert_eq!(rt; text.as_str(), wanted);
+    }
+    Ok(())
+}
