@@ -15,6 +15,8 @@ use xbar_plan::Plan;
 #[cfg(test)]
 mod tests;
 
+const FINE: u8 = 0;
+
 const COMMAND_LINE: u8 = 2;
 
 const PLAN: u8 = 3;
@@ -27,14 +29,14 @@ const DEVICE: u8 = 6;
 
 /// Runs the program, and tells the status that it ends with.
 pub fn run(rt: &HostRuntime) -> ExitCode {
-    match words(rt) {
-        Ok(words) => do_as_asked(rt, &words),
+    ExitCode::from(match words(rt) {
+        Ok(words) => run_words(rt, &words),
         Err(error) if error.kind() == ErrorKind::OutOfMemory => fail(rt, EngineFault::Memory),
         Err(_) => {
             let _told = rt.eprintln("error: a word of the command line is no text");
-            ExitCode::from(COMMAND_LINE)
+            COMMAND_LINE
         }
-    }
+    })
 }
 
 /// The words of the command line, the program's name first.
@@ -42,20 +44,26 @@ fn words(rt: &HostRuntime) -> io::Result<Vec<String>> {
     Ok(env::args(rt)?.collect(rt.alloc())?)
 }
 
-fn do_as_asked(rt: &HostRuntime, words: &[String]) -> ExitCode {
-    match asked(rt, words) {
+fn run_words(rt: &HostRuntime, words: &[String]) -> u8 {
+    let words: Result<Vec<&str>, AllocError> = words
+        .iter()
+        .map(|word| word.as_str())
+        .collect(rt.alloc());
+    match words {
+        Ok(words) => do_as_asked(rt, &words),
+        Err(_) => fail(rt, EngineFault::Memory),
+    }
+}
+
+fn do_as_asked(rt: &HostRuntime, words: &[&str]) -> u8 {
+    match command(rt.alloc(), words) {
         Ok(Ask::Replay { plan, kinds }) => match replay(rt, &plan, &kinds) {
-            Ok(end) => ExitCode::from(status_of(end)),
+            Ok(end) => status_of(end),
             Err(fault) => fail(rt, fault),
         },
         Err(CommandFault::Memory) => fail(rt, EngineFault::Memory),
         Err(CommandFault::Refused(error)) => tell(rt, &error),
     }
-}
-
-fn asked(rt: &HostRuntime, words: &[String]) -> Result<Ask, CommandFault> {
-    let words: Vec<&str> = words.iter().map(|word| word.as_str()).collect(rt.alloc())?;
-    command(rt.alloc(), &words)
 }
 
 fn replay(rt: &HostRuntime, plan: &Option<String>, kinds: &str) -> Result<Status, EngineFault> {
@@ -83,17 +91,17 @@ fn example_plan(alloc: Global) -> Result<Vec<u8>, AllocError> {
 
 fn status_of(end: Status) -> u8 {
     match end {
-        Status::Fine => 0,
+        Status::Fine => FINE,
         Status::PlanRefused => PLAN,
         Status::TrafficRefused => TRAFFIC,
     }
 }
 
 /// Tells help or the version on standard output, and why the words are refused on standard error.
-fn tell(rt: &HostRuntime, error: &clap::Error) -> ExitCode {
+fn tell(rt: &HostRuntime, error: &clap::Error) -> u8 {
     match error.print(rt) {
-        Ok(()) if error.use_stderr() => ExitCode::from(COMMAND_LINE),
-        Ok(()) => ExitCode::SUCCESS,
+        Ok(()) if error.use_stderr() => COMMAND_LINE,
+        Ok(()) => FINE,
         Err(_) => fail(rt, EngineFault::Device),
     }
 }
@@ -109,8 +117,8 @@ fn told(fault: EngineFault) -> (&'static str, u8) {
 }
 
 /// Tells a fault on standard error. That this can't be written changes nothing.
-fn fail(rt: &HostRuntime, fault: EngineFault) -> ExitCode {
+fn fail(rt: &HostRuntime, fault: EngineFault) -> u8 {
     let (line, status) = told(fault);
     let _told = rt.eprintln(line);
-    ExitCode::from(status)
+    status
 }

@@ -28,3 +28,29 @@ fn plans_are_found(rt: HostRuntime) {
     let missing = read_plan(&rt, "there_is_no_such_file.toml").err();
     assert_eq!(rt; missing, Some(EngineFault::Device));
 }
+
+#[test]
+fn words_end_with_their_status(rt: HostRuntime) {
+    for (words, status) in [
+        (&["crossbar5", "--help"][..], 0),
+        (&["crossbar5", "replay", "--help"], 0),
+        (&["crossbar5", "--version"], 0),
+        (&["crossbar5", "live"], 2),
+        (&["crossbar5", "--markers", "XX"], 2),
+        (&["crossbar5", "replay", "--markers", "DCY"], 2),
+        (
+            &[
+                "crossbar5",
+                "replay",
+                "--plan",
+                "missing.toml",
+                "--markers",
+                "DCY",
+            ],
+            2,
+        ),
+        (&["crossbar5", "replay", "--plan", "missing.toml"], 6),
+    ] {
+        assert_eq!(rt; do_as_asked(&rt, words), status);
+    }
+}

@@ -6,7 +6,7 @@ use Rattle.std.specs.Int.Bits.{or_zero_l, or_zero_r, and_lt}
 use Rattle.std.proofs.Math.Nat.{mul-mod_right}
 use Rattle.std.proofs.lemmas.Nat.{or_mod, and_mod, and_mask, or_lt}
 use Rattle.std.proofs.lemmas.Nat.Bits.{bit_at_or, bit_at_and, bit_at-pow_same, bit_at-pow_other, bit_at-lt, bit_at_not, bit_at_above}
-use Rattle.std.proofs.lemmas.Bool.{eqb-true, eqb-false}
+use Rattle.std.proofs.lemmas.Bool.{cases_lt, eqb-true, eqb-false}
 use Rattle.turns.specs.Sharing.{SetsRequest, ClearsRequest, KeepsRequests}
 use Rattle.turns.specs.Sharings.{IsLockWord, preferring, request_bit, taken_by}
 
@@ -20,11 +20,6 @@ unheld word = bit_and word (2 ^ 64 - 1 - 63)
 -- where a bit of a lock's word may be set
 abbrev IsOwn : ℕ → Type 0
 IsOwn i = (i < 6) ⊎ ((8 ≤ i) × (i < 56))
-
-pub below_or_from : (n k : ℕ) → (n < k) ⊎ (k ≤ n)
-below_or_from n zero = inr (omega arith)
-below_or_from zero (suc k) = inl (omega arith)
-below_or_from (suc n) (suc k) = elim (below_or_from n k) [ inl h ↦ inl (omega arith) | inr h ↦ inr (omega arith) ]
 
 -- a request bit stands above the lowest six bits
 request_high : (k : ℕ) → request_bit k ≡ 2 ^ 6 * 2 ^ (2 + k)
@@ -139,7 +134,7 @@ without_is k word few is = record {
 pub taken_is : (k word : ℕ) → k < 48 → IsLockWord word → word % 64 ≡ 0 → IsLockWord (taken_by k word)
 taken_is k word few is free = record {
   holder = omega (arith, taken_holder k word few free);
-  bits = λ i set. at i set (below_or_from i 6);
+  bits = λ i set. at i set (cases_lt i 6);
   below = or_lt 64 (without k word) (1 + k) (without_is k word few is).below (omega arith);
 } where
   at : (i : ℕ) → bit_at (taken_by k word) i ≡ 1 → (i < 6) ⊎ (6 ≤ i) → IsOwn i

@@ -9,7 +9,7 @@ use Rattle.turns.specs.Law.{IsFree, Lawful}
 use Rattle.turns.specs.Runs.{Move, Assigns, Steps, Backs, is_rest, is_free, assigned_at, stepped_at, backed_at, made_by, run_from, run_of, IsMove, AreMoves}
 use Rattle.turns.proofs.Moving.{opens, assigns, keeps, gives_back}
 
-rest_is : {Lock Effect : Type 0} (a : Act Lock Effect) → is_rest a ≡ true → a ≡ Rest
+pub rest_is : {Lock Effect : Type 0} (a : Act Lock Effect) → is_rest a ≡ true → a ≡ Rest
 rest_is Rest e = refl
 rest_is (Ask lock) e = cc
 rest_is (Take lock expected) e = cc

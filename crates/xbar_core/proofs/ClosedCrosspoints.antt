@@ -28,8 +28,9 @@ use Rattle.xbar_jobs.proofs.OfficeSystem.{office_is}
 use Rattle.xbar_core.specs.Exchange.{Exchange, IsLawfulExchange, Work, world}
 use Rattle.xbar_core.specs.Holding.{IsAt, completed}
 use Rattle.xbar_core.specs.Links.{IsClosed}
-use Rattle.xbar_core.proofs.Actors.{actor_at, marker_at, works}
+use Rattle.xbar_core.proofs.Actors.{actor_at, marker_at}
 use Rattle.xbar_core.proofs.LeftEffects.{opens_or_stays}
+use Rattle.xbar_core.proofs.Markers.{works}
 use Rattle.xbar_core.proofs.TurnedJobs.{decided}
 
 -- the connector that protects the word of a switch

@@ -38,6 +38,7 @@ use Rattle.xbar_jobs.specs.declared.leave.Leave.{Leave}
 use Rattle.xbar_jobs.specs.declared.party.CallParties.{CallParties}
 use Rattle.xbar_jobs.specs.declared.party.Party.{Party}
 use Rattle.xbar_jobs.specs.declared.trunks.IdleGroup.{IdleGroup}
+use Rattle.xbar_jobs.proofs.CompleteDecides.{complete_runs}
 use Rattle.xbar_jobs.proofs.FreedMembers.{other_stays}
 use Rattle.xbar_jobs.proofs.LeaveEffects.{IsLeave}
 use Rattle.xbar_jobs.proofs.ReleaseDecides.{ComesTo, HasNone, LetsGo as CallGoes, release_comes}
@@ -118,16 +119,8 @@ module _ (plan : Tables) (words : List ℕ) (paths : List Path) (laws : IsLawful
     by_path None is = Nothing refl
     by_path (Some own) is = by_member own is (member_place plan own.place) refl
 
-    steps_run : run words (complete_steps plan line dialled) ≡ run words (complete_from plan calling dialled (path_of paths line))
-    unfolding complete_steps
-    steps_run =
-        run_bind words (approach line) _
-        ∙ ap (λ (party : Party). run words (trace party >>= λ own. complete_from plan party dialled own)) (approach_runs words line)
-        ∙ run_bind words (trace calling) _
-        ∙ ap (λ (own : Option Path). run words (complete_from plan calling dialled own)) (trace_runs words line ∙ traced_shown plan words paths line shows in_range)
-
     complete_lets_go : LetsGo plan paths (Complete line dialled) (run words (complete_steps plan line dialled))
-    complete_lets_go = subst (LetsGo plan paths (Complete line dialled)) (sym steps_run) (by_path (path_of paths line) refl)
+    complete_lets_go = subst (LetsGo plan paths (Complete line dialled)) (sym (complete_runs plan words paths shows line in_range dialled)) (by_path (path_of paths line) refl)
 
   -- a release lets its line's call go, if it has one
   call_gone : (leave : Leave) → path_of paths line ≡ Some leave.own → IsLeave plan paths leave → AreGone plan paths (Release line) leave

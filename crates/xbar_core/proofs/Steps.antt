@@ -1,8 +1,9 @@
 -- what a marker's step makes of the words and the records
 use Rattle.std.proofs.Common.{◌≡◌, ℕ, Bool, true, false, List, [], ◌++◌, refl, sym, ◌∙◌, ap, append-nil}
 use Rattle.std.specs.Prelude.{if◌then◌else◌}
-use Rattle.turns.specs.Attempt.{Act, Rest, Ask, Take, Leave, Free, Look, Turn, Make, act}
+use Rattle.turns.specs.Attempt.{Rest, act}
 use Rattle.turns.specs.Runs.{is_rest}
+use Rattle.turns.proofs.Runs.{rest_is}
 use Rattle.xbar_plan.specs.Tables.{Tables}
 use Rattle.xbar_office.specs.declared.reply.Record.{Record}
 use Rattle.xbar_jobs.specs.Attempt.{Attempt, next_step, step_of}
@@ -10,17 +11,6 @@ use Rattle.xbar_jobs.specs.OnWords.{answer_of}
 use Rattle.xbar_core.specs.Exchange.{Exchange, Work}
 use Rattle.xbar_core.specs.Holding.{IsAt}
 use Rattle.xbar_core.specs.Moves.{answered, recorded, stepped, stepped_at, stepped_by}
-
--- what has no next step is at rest
-pub rests : {Lock Effect : Type 0} (next : Act Lock Effect) → is_rest next ≡ true → next ≡ Rest
-rests Rest e = refl
-rests (Ask lock) e = cc
-rests (Take lock expected) e = cc
-rests (Leave lock) e = cc
-rests (Free lock) e = cc
-rests (Look word) e = cc
-rests Turn e = cc
-rests (Make effect) e = cc
 
 module _ (plan : Tables) (e : Exchange) (k number : ℕ) (a : Attempt) (at : IsAt e k number a) where
   -- its step is answered, unless it is at rest
@@ -36,5 +26,5 @@ module _ (plan : Tables) (e : Exchange) (k number : ℕ) (a : Attempt) (at : IsA
   pub step_adds : (stepped plan k e).records ≡ e.records ++ recorded k number a (answer_of k (next_step a) e.words)
   step_adds = ap (λ (after : Exchange). after.records) steps_at ∙ by (is_rest (act a)) refl where
     by : (idle : Bool) → is_rest (act a) ≡ idle → (if idle then e else answered plan k at.marker number a (answer_of k (next_step a) e.words) e).records ≡ e.records ++ recorded k number a (answer_of k (next_step a) e.words)
-    by true idle = sym (ap (λ (more : List Record). e.records ++ more) (rest_adds (rests (act a) idle)) ∙ append-nil e.records)
+    by true idle = sym (ap (λ (more : List Record). e.records ++ more) (rest_adds (rest_is (act a) idle)) ∙ append-nil e.records)
     by false idle = refl

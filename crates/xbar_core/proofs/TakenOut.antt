@@ -16,7 +16,7 @@ use Rattle.xbar_jobs.specs.declared.effect.Effect.{Effect}
 use Rattle.xbar_jobs.specs.declared.effect.Effect.TheVariants.{Close, Open, SetBit, ClearBit}
 use Rattle.xbar_jobs.specs.declared.leave.Leave.{Leave}
 use Rattle.xbar_jobs.specs.declared.take.Take.{Take}
-use Rattle.xbar_jobs.proofs.CallCrosspoints.{of_call}
+use Rattle.xbar_jobs.proofs.CallCrosspoints.{call_opens, of_call}
 use Rattle.xbar_core.proofs.Among.{among_equip}
 use Rattle.xbar_core.proofs.LetGo.{AreGone, IsGone, LetsGo, Nothing, Paths}
 
@@ -64,10 +64,6 @@ record OpensFirst (effects : List Effect) (cs : List Crosspoint) : Type 0 where
   pub more : List Effect
   pub are : effects ≡ map Open cs ++ more
   pub none : OpenNothing more
-
-call_opens : (own : Path) (other : Option Path) → path_opens own ++ other_opens other ≡ map Open (call_crosspoints own other)
-call_opens own None = refl
-call_opens own (Some path) = refl
 
 -- what lets a call go opens its crosspoints first
 leave_opens : (leave : Leave) (taken : Option Take) → OpensFirst (leave_effects leave ++ option_map_or take_effects taken []) (call_crosspoints leave.own leave.other)

@@ -14,6 +14,7 @@ use Rattle.turns.specs.declared.judgement.Judgement.{Judgement}
 use Rattle.turns.specs.declared.judgement.Judgement.TheVariants as judgement
 use Rattle.turns.specs.declared.phase.Phase.TheVariants.{Requests, Seizes, Tests, Turns, Withdraws, GivesBack, Operates}
 use Rattle.turns.proofs.Moving.{assigns, gives_back, keeps, opens}
+use Rattle.turns.proofs.Runs.{rest_is}
 use Rattle.xbar_equip.specs.Word.{word_count}
 use Rattle.xbar_equip.specs.declared.conn.Conn.{Conn}
 use Rattle.xbar_plan.specs.Tables.{Tables}
@@ -106,22 +107,10 @@ works_opened : (kinds : List Kind) → works (opened kinds).markers ≡ replicat
 works_opened [] = refl
 works_opened (kind ∷ kinds) = ap (λ (all : List Work). Idle ∷ all) (works_opened kinds)
 
-rests : (a : Attempt) → is_rest (act a) ≡ true → act a ≡ generic.Rest
-rests a e = by (act a) e where
-  by : (next : Act) → is_rest next ≡ true → next ≡ generic.Rest
-  by generic.Rest is = refl
-  by (generic.Ask conn) is = absurd cc
-  by (generic.Take conn expected) is = absurd cc
-  by (generic.Leave conn) is = absurd cc
-  by (generic.Free conn) is = absurd cc
-  by (generic.Look word) is = absurd cc
-  by generic.Turn is = absurd cc
-  by (generic.Make effect) is = absurd cc
-
 -- a marker that is idle is free for a job
 pub idle_free : (plan : Tables) (work : Work) → is_idle work ≡ true → IsFree (office plan) work
 idle_free plan Idle e = tt
-idle_free plan (Does number a) e = rests a e
+idle_free plan (Does number a) e = rest_is (act a) e
 
 -- a job that is not refused goes to a marker that is there and idle
 pub refused_none : (m : Marker) (job : Job) → refusal_of m job ≡ None → is_idle m.work ≡ true

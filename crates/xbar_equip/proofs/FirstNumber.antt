@@ -1,8 +1,8 @@
 use Rattle.std.proofs.Common.{◌≡◌, ℕ, zero, suc, ◌+◌, ◌-◌, ◌<◌, ◌≤◌, ◌⊎◌, Bool, true, false, inl, inr, refl, sym, ◌∙◌, ap, arith}
 use Rattle.std.specs.Prelude.{Option, Some, None, MatchOption, unwrap_or, if◌then◌else◌}
 use Rattle.std.specs.Option.{option_map}
+use Rattle.std.proofs.lemmas.Bool.{cases_lt}
 use mathlib.Core.Bool.{true≢false}
-use Rattle.xbar_equip.proofs.WordNumbers.{below_or_from}
 use Rattle.xbar_equip.specs.First.{first_from, first_below, next_below, IsFirstBelow, IsNextBelow}
 
 -- the first number from k on, among `count`, that passes; or none of them passes
@@ -72,7 +72,7 @@ pub first_below-found : (test : ℕ → Bool) (count k : ℕ) → k < count → 
 first_below-found test count k below passes earlier = one_first (first_below test count) (first_below-law test count) where
   one_first : (found : Option ℕ) → IsFirstBelow test count found → found ≡ Some k
   one_first None none = absurd (true≢false (sym passes ∙ none k below))
-  one_first (Some r) is = elim (below_or_from r k) [
+  one_first (Some r) is = elim (cases_lt r k) [
     | inl before ↦ absurd (true≢false (sym is.1 ∙ earlier r before))
     | inr from ↦ elim (at_or_after k r from) [ inl same ↦ ap Some (sym same) | inr after ↦ absurd (true≢false (sym passes ∙ is.2 k after)) ]
   ]

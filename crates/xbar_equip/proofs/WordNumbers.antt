@@ -1,4 +1,5 @@
 use Rattle.std.proofs.Common.{◌≡◌, ℕ, zero, suc, ◌/◌, ◌%◌, ◌-◌, ◌<◌, ◌≤◌, ◌⊎◌, inl, inr, refl, ◌∙◌, ap, arith}
+use Rattle.std.proofs.lemmas.Bool.{cases_lt}
 use Rattle.xbar_equip.specs.Conn.{IsConn}
 use Rattle.xbar_equip.specs.Word.{Word, IsWord, word_count, word_number, LineSwitch, LineJunctor, TrunkSwitch, TrunkJunctor, GroupWord, ConnWord, TurnWord}
 use Rattle.xbar_equip.specs.declared.conn.Conn.{Conn}
@@ -32,12 +33,6 @@ distinct (ConnWord c) w a b e = absurd (omega (arith, conn_range c a))
 distinct v (ConnWord d) a b e = absurd (omega (arith, conn_range d b))
 distinct v w a b e = absurd (omega arith)
 
--- a number is below another, or not
-pub below_or_from : (n k : ℕ) → (n < k) ⊎ (k ≤ n)
-below_or_from n zero = inr (omega arith)
-below_or_from zero (suc k) = inl (omega arith)
-below_or_from (suc n) (suc k) = elim (below_or_from n k) [ inl h ↦ inl (omega arith) | inr h ↦ inr (omega arith) ]
-
 -- the word of a number
 pub record Named (n : ℕ) : Type 0 where
   pub word : Word
@@ -49,30 +44,30 @@ named w h e = record { word = w; is_word = h; number = e }
 
 -- each number of a word is a word's
 pub each_named : (n : ℕ) → n < word_count → Named n
-each_named n h = elim (below_or_from n 200) [ inl a ↦ line_side a | inr a ↦ elim (below_or_from n 400) [ inl b ↦ trunk_side a b | inr b ↦ others a b ] ] where
+each_named n h = elim (cases_lt n 200) [ inl a ↦ line_side a | inr a ↦ elim (cases_lt n 400) [ inl b ↦ trunk_side a b | inr b ↦ others a b ] ] where
   line_side : n < 200 → Named n
-  line_side a = elim (below_or_from (n % 20) 10) [
+  line_side a = elim (cases_lt (n % 20) 10) [
     | inl c ↦ named (LineSwitch (n / 20) (n % 20)) (omega arith, c) (omega arith)
     | inr c ↦ named (LineJunctor (n / 20) (n % 20 - 10)) (omega arith, omega arith) (omega arith)
   ]
 
   trunk_side : 200 ≤ n → n < 400 → Named n
-  trunk_side a b = elim (below_or_from ((n - 200) % 20) 10) [
+  trunk_side a b = elim (cases_lt ((n - 200) % 20) 10) [
     | inl c ↦ named (TrunkSwitch ((n - 200) / 20) ((n - 200) % 20)) (omega arith, c) (omega arith)
     | inr c ↦ named (TrunkJunctor ((n - 200) / 20) ((n - 200) % 20 - 10)) (omega arith, omega arith) (omega arith)
   ]
 
   conns : 416 ≤ n → n < 452 → Named n
-  conns a b = elim (below_or_from n 426) [
+  conns a b = elim (cases_lt n 426) [
     | inl c ↦ named (ConnWord (Llf (n - 416))) (omega arith) (omega arith)
-    | inr c ↦ elim (below_or_from n 436) [
+    | inr c ↦ elim (cases_lt n 436) [
       | inl d ↦ named (ConnWord (Tlf (n - 426))) (omega arith) (omega arith)
       | inr d ↦ named (ConnWord (Group (n - 436))) (omega arith) (omega arith)
     ]
   ]
 
   others : 200 ≤ n → 400 ≤ n → Named n
-  others a b = elim (below_or_from n 416) [
+  others a b = elim (cases_lt n 416) [
     | inl c ↦ named (GroupWord (n - 400)) (omega arith) (omega arith)
-    | inr c ↦ elim (below_or_from n 452) [ inl d ↦ conns c d | inr d ↦ named TurnWord tt (omega arith) ]
+    | inr c ↦ elim (cases_lt n 452) [ inl d ↦ conns c d | inr d ↦ named TurnWord tt (omega arith) ]
   ]

@@ -32,7 +32,7 @@ of_call own (Some path) c within = elim (in_either c (crosspoints own) (crosspoi
   | inr there ↦ record { path = path; goes = inr refl; there = there }
 ]
 
-call_opens : (own : Path) (other : Option Path) → path_opens own ++ other_opens other ≡ map Open (call_crosspoints own other)
+pub call_opens : (own : Path) (other : Option Path) → path_opens own ++ other_opens other ≡ map Open (call_crosspoints own other)
 call_opens own None = refl
 call_opens own (Some path) = refl
 

@@ -57,6 +57,16 @@ leaving_decides plan words leave decision done due takes =
       due = due-append plan words gone taken due (subst (AreDue (office plan) after) same takes.decides.due);
     }
 
+module _ (plan : Tables) (words : List ℕ) (paths : List Path) (shows : ShowsOffice plan words paths) (line : Line) (in_range : IsLine line) (dialled : ℕ) where
+  -- a completing job goes on by the path of its line
+  pub complete_runs : run words (complete_steps plan line dialled) ≡ run words (complete_from plan (party_of words line) dialled (path_of paths line))
+  unfolding complete_steps
+  complete_runs =
+      run_bind words (approach line) _
+      ∙ ap (λ (party : Party). run words (trace party >>= λ own. complete_from plan party dialled own)) (approach_runs words line)
+      ∙ run_bind words (trace (party_of words line)) _
+      ∙ ap (λ (own : Option Path). run words (complete_from plan (party_of words line) dialled own)) (trace_runs words line ∙ traced_shown plan words paths line shows in_range)
+
 module _ (plan : Tables) (words : List ℕ) (paths : List Path) (laws : IsLawful plan) (size : 453 ≤ length words) (shows : ShowsOffice plan words paths) (line : Line) (in_range : IsLine line) (dialled : ℕ) where
   abbrev calling : Party
   calling = party_of words line
@@ -124,14 +134,6 @@ module _ (plan : Tables) (words : List ℕ) (paths : List Path) (laws : IsLawful
       let passes = found_passes (has_line line) paths own is in
       from_decides own passes.0 ((line_eq-exact own.line line).0 passes.1) (member_place plan own.place) refl
 
-  steps_run : run words (complete_steps plan line dialled) ≡ run words (complete_from plan calling dialled (path_of paths line))
-  unfolding complete_steps
-  steps_run =
-      run_bind words (approach line) _
-      ∙ ap (λ (party : Party). run words (trace party >>= λ own. complete_from plan party dialled own)) (approach_runs words line)
-      ∙ run_bind words (trace calling) _
-      ∙ ap (λ (own : Option Path). run words (complete_from plan calling dialled own)) (trace_runs words line ∙ traced_shown plan words paths line shows in_range)
-
   -- a completing job decides as the one-marker office does
   pub complete_decides : DecidesOn plan words (run words (complete_steps plan line dialled)) (whole.complete plan paths line dialled)
-  complete_decides = subst (λ (decision : Decision). DecidesOn plan words decision (whole.complete plan paths line dialled)) (sym steps_run) (path_decides (path_of paths line) refl)
+  complete_decides = subst (λ (decision : Decision). DecidesOn plan words decision (whole.complete plan paths line dialled)) (sym (complete_runs plan words paths shows line in_range dialled)) (path_decides (path_of paths line) refl)

@@ -1,5 +1,6 @@
 use super::*;
 use std::alloc::{AllocError, Global};
+use std::process::Abort;
 use std::test::Fail;
 use xbar_equip::{DirNo, Len};
 
@@ -14,6 +15,17 @@ const PLAN_B: Lines = [
     r#"codes = ["234 INTRA", "555 OUTA OUTB"]"#,
     "faults = []",
 ];
+
+/// Where each line of it stands.
+const VERSION: usize = 0;
+
+const GROUPS: usize = 1;
+
+const NUMBERS: usize = 2;
+
+const CODES: usize = 3;
+
+const FAULTS: usize = 4;
 
 /// The fault of a document, if it has one.
 fn told(alloc: Global, lines: Lines) -> Result<Option<PlanFault>, AllocError> {
@@ -70,176 +82,188 @@ fn text_of_the_example_reads_as_it(rt: HostRuntime) -> Result<(), Fail> {
     Ok(())
 }
 
+/// Each of these lines in the place of one of the plan's makes it have this fault, or none.
+fn each_has(
+    rt: &impl Abort,
+    alloc: Global,
+    fault: Option<PlanFault>,
+    at: usize,
+    lines: &[&'static str],
+) -> Result<(), Fail> {
+    for line in lines {
+        assert_eq!(rt; told(alloc, changed(PLAN_B, at, *line))?, fault, "{line}");
+    }
+    Ok(())
+}
+
 #[test]
-fn one_line_changed_has_one_fault(rt: HostRuntime) -> Result<(), Fail> {
+fn lines_without_fault_are_taken(rt: HostRuntime) -> Result<(), Fail> {
+    let alloc = rt.alloc();
+    each_has(&rt, alloc, None, VERSION, &["version = 0x1", "version = 2"])?;
+    let four_groups = r#"codes = ["555 OUTA OUTA OUTB OUTB"]"#;
+    each_has(&rt, alloc, None, CODES, &[four_groups])?;
+    let fault_twice = r#"faults = ["JU340", "LL000", "JU340"]"#;
+    each_has(&rt, alloc, None, FAULTS, &[fault_twice])
+}
+
+#[test]
+fn faults_of_the_document_are_told(rt: HostRuntime) -> Result<(), Fail> {
+    let alloc = rt.alloc();
+    let not_toml = Some(PlanFault::NotToml);
+    each_has(&rt, alloc, not_toml, VERSION, &["version"])?;
+    each_has(&rt, alloc, not_toml, FAULTS, &["faults = ["])?;
+    let versions = [
+        "# none",
+        "version = 3",
+        "version = 1.0",
+        r#"version = "1""#,
+        "version = true",
+    ];
+    each_has(&rt, alloc, Some(PlanFault::Version), VERSION, &versions)?;
+    each_has(&rt, alloc, Some(PlanFault::KeyMissing), FAULTS, &[""])?;
+    let not_texts = Some(PlanFault::NotTexts);
+    each_has(&rt, alloc, not_texts, GROUPS, &["groups = 5"])?;
+    each_has(&rt, alloc, not_texts, FAULTS, &["faults = [1]"])
+}
+
+#[test]
+fn malformed_groups_are_told(rt: HostRuntime) -> Result<(), Fail> {
+    let lines = [
+        r#"groups = [""]"#,
+        r#"groups = ["REG"]"#,
+        r#"groups = ["OUTA outgoing 80"]"#,
+        r#"groups = ["OUTA outgoing 800 "]"#,
+        r#"groups = ["OUTA  outgoing 800"]"#,
+        r#"groups = ["INTRA intra 600"]"#,
+        r#"groups = ["OUTA outgoing 600-601"]"#,
+        r#"groups = ["INTRA intra 600-6010"]"#,
+        r#"groups = ["OUTA trunk 800"]"#,
+        r#"groups = ["NINECHARS outgoing 800"]"#,
+        r#"groups = ["Out outgoing 800"]"#,
+    ];
+    each_has(&rt, rt.alloc(), Some(PlanFault::Malformed), GROUPS, &lines)
+}
+
+#[test]
+fn malformed_numbers_and_codes_are_told(rt: HostRuntime) -> Result<(), Fail> {
+    let alloc = rt.alloc();
+    let malformed = Some(PlanFault::Malformed);
+    let numbers = [
+        r#"numbers = ["0001  3041"]"#,
+        r#"numbers = ["0001"]"#,
+        r#"numbers = ["0001 3041 3052"]"#,
+        r#"numbers = ["001 3041"]"#,
+        r#"numbers = ["0001 3061"]"#,
+    ];
+    each_has(&rt, alloc, malformed, NUMBERS, &numbers)?;
+    let codes = [r#"codes = ["34 INTRA"]"#, r#"codes = ["234 intra"]"#];
+    each_has(&rt, alloc, malformed, CODES, &codes)?;
+    each_has(&rt, alloc, malformed, FAULTS, &[r#"faults = ["XX340"]"#])
+}
+
+#[test]
+fn faults_of_tables_are_told(rt: HostRuntime) -> Result<(), Fail> {
     let alloc = rt.alloc();
     let rows = [
-        (None, 0, "version = 0x1"),
-        (None, 0, "version = 2"),
-        (None, 4, r#"faults = ["JU340", "LL000", "JU340"]"#),
-        (Some(PlanFault::NotToml), 0, "version"),
-        (Some(PlanFault::NotToml), 4, "faults = ["),
-        (Some(PlanFault::Version), 0, "# none"),
-        (Some(PlanFault::Version), 0, "version = 3"),
-        (Some(PlanFault::Version), 0, "version = 1.0"),
-        (Some(PlanFault::Version), 0, r#"version = "1""#),
-        (Some(PlanFault::Version), 0, "version = true"),
-        (Some(PlanFault::KeyMissing), 4, ""),
-        (Some(PlanFault::NotTexts), 1, "groups = 5"),
-        (Some(PlanFault::NotTexts), 4, "faults = [1]"),
-        (Some(PlanFault::Malformed), 1, r#"groups = [""]"#),
-        (Some(PlanFault::Malformed), 1, r#"groups = ["REG"]"#),
+        (PlanFault::Limit, GROUPS, r#"groups = ["OUTA outgoing"]"#),
+        (PlanFault::Limit, CODES, r#"codes = ["234"]"#),
         (
-            Some(PlanFault::Malformed),
-            1,
-            r#"groups = ["OUTA outgoing 80"]"#,
-        ),
-        (
-            Some(PlanFault::Malformed),
-            1,
-            r#"groups = ["OUTA outgoing 800 "]"#,
-        ),
-        (
-            Some(PlanFault::Malformed),
-            1,
-            r#"groups = ["OUTA  outgoing 800"]"#,
-        ),
-        (
-            Some(PlanFault::Malformed),
-            1,
-            r#"groups = ["INTRA intra 600"]"#,
-        ),
-        (
-            Some(PlanFault::Malformed),
-            1,
-            r#"groups = ["OUTA outgoing 600-601"]"#,
-        ),
-        (
-            Some(PlanFault::Malformed),
-            1,
-            r#"groups = ["INTRA intra 600-6010"]"#,
-        ),
-        (
-            Some(PlanFault::Malformed),
-            1,
-            r#"groups = ["OUTA trunk 800"]"#,
-        ),
-        (
-            Some(PlanFault::Malformed),
-            1,
-            r#"groups = ["NINECHARS outgoing 800"]"#,
-        ),
-        (
-            Some(PlanFault::Malformed),
-            1,
-            r#"groups = ["Out outgoing 800"]"#,
-        ),
-        (Some(PlanFault::Malformed), 2, r#"numbers = ["0001  3041"]"#),
-        (Some(PlanFault::Malformed), 2, r#"numbers = ["0001"]"#),
-        (
-            Some(PlanFault::Malformed),
-            2,
-            r#"numbers = ["0001 3041 3052"]"#,
-        ),
-        (Some(PlanFault::Malformed), 2, r#"numbers = ["001 3041"]"#),
-        (Some(PlanFault::Malformed), 2, r#"numbers = ["0001 3061"]"#),
-        (Some(PlanFault::Malformed), 3, r#"codes = ["34 INTRA"]"#),
-        (Some(PlanFault::Malformed), 3, r#"codes = ["234 intra"]"#),
-        (Some(PlanFault::Malformed), 4, r#"faults = ["XX340"]"#),
-        (Some(PlanFault::Limit), 1, r#"groups = ["OUTA outgoing"]"#),
-        (Some(PlanFault::Limit), 3, r#"codes = ["234"]"#),
-        (
-            Some(PlanFault::Limit),
-            3,
+            PlanFault::Limit,
+            CODES,
             r#"codes = ["555 OUTA OUTA OUTB OUTB OUTA"]"#,
         ),
-        (None, 3, r#"codes = ["555 OUTA OUTA OUTB OUTB"]"#),
-        (Some(PlanFault::RegisterGroups), 1, "groups = []"),
+        (PlanFault::RegisterGroups, GROUPS, "groups = []"),
         (
-            Some(PlanFault::NumberTwice),
-            2,
+            PlanFault::NumberTwice,
+            NUMBERS,
             r#"numbers = ["0001 3041", "0001 1000"]"#,
         ),
         (
-            Some(PlanFault::CodeTwice),
-            3,
+            PlanFault::CodeTwice,
+            CODES,
             r#"codes = ["234 INTRA", "234 OUTA"]"#,
         ),
-        (Some(PlanFault::UnknownGroup), 3, r#"codes = ["777 NONE"]"#),
-        (Some(PlanFault::MixedRoute), 3, r#"codes = ["777 REG"]"#),
+        (PlanFault::UnknownGroup, CODES, r#"codes = ["777 NONE"]"#),
+        (PlanFault::MixedRoute, CODES, r#"codes = ["777 REG"]"#),
         (
-            Some(PlanFault::MixedRoute),
-            3,
+            PlanFault::MixedRoute,
+            CODES,
             r#"codes = ["777 INTRA OUTA"]"#,
         ),
     ];
     for (fault, at, line) in rows {
-        assert_eq!(rt; told(alloc, changed(PLAN_B, at, line))?, fault, "{line}");
+        each_has(&rt, alloc, Some(fault), at, &[line])?;
+    }
+    Ok(())
+}
+
+/// A line at its place, to stand in the plan.
+type Change = (usize, &'static str);
+
+/// With both lines changed the plan has the lesser fault of the two.
+fn lesser_is_told(
+    rt: &impl Abort,
+    alloc: Global,
+    rows: &[(PlanFault, Change, Change)],
+) -> Result<(), Fail> {
+    for (fault, (at, line), (other, more)) in rows {
+        let lines = changed(changed(PLAN_B, *at, *line), *other, *more);
+        assert_eq!(rt; told(alloc, lines)?, Some(*fault), "{line}");
     }
     Ok(())
 }
 
 #[test]
 fn of_two_faults_the_lesser_is_told(rt: HostRuntime) -> Result<(), Fail> {
-    let alloc = rt.alloc();
-    let mixed = r#"codes = ["234 INTRA OUTA", "777 NONE"]"#;
-    let code_twice = r#"codes = ["234 NONE", "234 OUTA"]"#;
-    let number_twice = r#"numbers = ["0001 3041", "0001 1000"]"#;
-    let apart = r#"groups = ["REG register 417", "INTRA intra 600-700"]"#;
-    let place_twice = r#"groups = ["REG register 417", "INTRA intra 600-700 701-701"]"#;
-    let registers = r#"groups = ["OUTA outgoing 417 417"]"#;
-    let name_twice = r#"groups = ["OUTA outgoing 417", "OUTA outgoing 418"]"#;
-    let empty = r#"groups = ["OUTA outgoing", "OUTA outgoing 418"]"#;
     let malformed = r#"groups = ["OUTA outgoing", "OUTA outgoing 41"]"#;
+    let apart = r#"groups = ["REG register 417", "INTRA intra 600-700"]"#;
+    let number_twice = r#"numbers = ["0001 3041", "0001 1000"]"#;
+    let code_twice = r#"codes = ["234 NONE", "234 OUTA"]"#;
     let rows = [
-        (Some(PlanFault::NotToml), (0, "version = [3"), (4, "")),
-        (Some(PlanFault::Version), (0, "version = 3"), (4, "")),
-        (Some(PlanFault::KeyMissing), (4, ""), (1, "groups = 5")),
-        (Some(PlanFault::NotTexts), (4, "faults = 5"), (1, malformed)),
+        (PlanFault::NotToml, (VERSION, "version = [3"), (FAULTS, "")),
+        (PlanFault::Version, (VERSION, "version = 3"), (FAULTS, "")),
+        (PlanFault::KeyMissing, (FAULTS, ""), (GROUPS, "groups = 5")),
         (
-            Some(PlanFault::Malformed),
-            (1, malformed),
-            (4, "faults = []"),
-        ),
-        (Some(PlanFault::Limit), (1, empty), (4, "faults = []")),
-        (
-            Some(PlanFault::GroupTwice),
-            (1, name_twice),
-            (4, "faults = []"),
+            PlanFault::NotTexts,
+            (FAULTS, "faults = 5"),
+            (GROUPS, malformed),
         ),
         (
-            Some(PlanFault::RegisterGroups),
-            (1, registers),
-            (4, "faults = []"),
+            PlanFault::PairApart,
+            (GROUPS, apart),
+            (NUMBERS, number_twice),
         ),
         (
-            Some(PlanFault::PlaceTwice),
-            (1, place_twice),
-            (4, "faults = []"),
-        ),
-        (Some(PlanFault::PairApart), (1, apart), (2, number_twice)),
-        (
-            Some(PlanFault::NumberTwice),
-            (2, number_twice),
-            (3, code_twice),
-        ),
-        (
-            Some(PlanFault::CodeTwice),
-            (3, code_twice),
-            (4, "faults = []"),
-        ),
-        (
-            Some(PlanFault::UnknownGroup),
-            (3, mixed),
-            (4, "faults = []"),
+            PlanFault::NumberTwice,
+            (NUMBERS, number_twice),
+            (CODES, code_twice),
         ),
     ];
-    for (fault, (at, line), (other, more)) in rows {
-        assert_eq!(rt;
-            told(alloc, changed(changed(PLAN_B, at, line), other, more))?,
-            fault,
-            "{line}"
-        );
+    lesser_is_told(&rt, rt.alloc(), &rows)
+}
+
+/// Lines that have two faults each.
+#[test]
+fn of_two_faults_of_a_line_the_lesser_is_told(rt: HostRuntime) -> Result<(), Fail> {
+    let alloc = rt.alloc();
+    let malformed = r#"groups = ["OUTA outgoing", "OUTA outgoing 41"]"#;
+    let empty = r#"groups = ["OUTA outgoing", "OUTA outgoing 418"]"#;
+    let name_twice = r#"groups = ["OUTA outgoing 417", "OUTA outgoing 418"]"#;
+    let registers = r#"groups = ["OUTA outgoing 417 417"]"#;
+    let place_twice = r#"groups = ["REG register 417", "INTRA intra 600-700 701-701"]"#;
+    let code_twice = r#"codes = ["234 NONE", "234 OUTA"]"#;
+    let unknown = r#"codes = ["234 INTRA OUTA", "777 NONE"]"#;
+    let rows = [
+        (PlanFault::Malformed, GROUPS, malformed),
+        (PlanFault::Limit, GROUPS, empty),
+        (PlanFault::GroupTwice, GROUPS, name_twice),
+        (PlanFault::RegisterGroups, GROUPS, registers),
+        (PlanFault::PlaceTwice, GROUPS, place_twice),
+        (PlanFault::CodeTwice, CODES, code_twice),
+        (PlanFault::UnknownGroup, CODES, unknown),
+    ];
+    for (fault, at, line) in rows {
+        each_has(&rt, alloc, Some(fault), at, &[line])?;
     }
     Ok(())
 }

@@ -145,54 +145,48 @@ fn lawful_tables_make_a_plan(rt: HostRuntime) -> Result<(), Fail> {
     Ok(())
 }
 
+/// The fault of a plan that has just these groups, if it has one.
+fn told_of_groups(
+    alloc: Global,
+    kinds: [GroupKind; 3],
+    called: Ten,
+    outgoing: Ten,
+) -> Result<Option<PlanFault>, AllocError> {
+    let groups = groups(alloc, kinds, called, outgoing)?;
+    let none = (Vec::new(alloc), Vec::new(alloc), Vec::new(alloc));
+    Ok(Plan::try_new(alloc, groups, none.0, none.1, none.2).err())
+}
+
 #[test]
-fn faults_of_groups_are_told(rt: HostRuntime) -> Result<(), Fail> {
-    let alloc = rt.alloc();
+fn faults_of_kinds_are_told(rt: HostRuntime) -> Result<(), Fail> {
     let [register, intra, outgoing] = KINDS;
-    let changed = [
-        (
-            PlanFault::Malformed,
-            [outgoing, register, outgoing],
-            (6, 9),
-            (8, 0),
-        ),
-        (
-            PlanFault::Malformed,
-            [register, intra, intra],
-            (6, 9),
-            (8, 0),
-        ),
-        (
-            PlanFault::RegisterGroups,
-            [outgoing, intra, outgoing],
-            (6, 9),
-            (8, 0),
-        ),
-        (
-            PlanFault::RegisterGroups,
-            [register, intra, register],
-            (6, 9),
-            (8, 0),
-        ),
-        (PlanFault::PlaceTwice, KINDS, (6, 0), (8, 0)),
-        (PlanFault::PlaceTwice, KINDS, (6, 9), (6, 9)),
-        (PlanFault::PairApart, KINDS, (7, 9), (8, 0)),
+    let rows = [
+        (PlanFault::Malformed, [outgoing, register, outgoing]),
+        (PlanFault::Malformed, [register, intra, intra]),
+        (PlanFault::RegisterGroups, [outgoing, intra, outgoing]),
+        (PlanFault::RegisterGroups, [register, intra, register]),
     ];
-    for (fault, kinds, (called_frame, called_switch), (frame, switch)) in changed {
-        let groups = groups(
-            alloc,
-            kinds,
-            Ten::new(called_frame, called_switch, 0),
-            Ten::new(frame, switch, 0),
-        )?;
-        let plan = Plan::try_new(
-            alloc,
-            groups,
-            Vec::new(alloc),
-            Vec::new(alloc),
-            Vec::new(alloc),
+    for (fault, kinds) in rows {
+        let told = told_of_groups(rt.alloc(), kinds, Ten::new(6, 9, 0), Ten::new(8, 0, 0))?;
+        assert_eq!(rt; told, Some(fault));
+    }
+    Ok(())
+}
+
+#[test]
+fn faults_of_places_are_told(rt: HostRuntime) -> Result<(), Fail> {
+    let rows = [
+        (PlanFault::PlaceTwice, (6, 0), (8, 0)),
+        (PlanFault::PlaceTwice, (6, 9), (6, 9)),
+        (PlanFault::PairApart, (7, 9), (8, 0)),
+    ];
+    for (fault, called, outgoing) in rows {
+        let called = Ten::new(called.0, called.1, 0);
+        let outgoing = Ten::new(outgoing.0, outgoing.1, 0);
+        assert_eq!(rt;
+            told_of_groups(rt.alloc(), KINDS, called, outgoing)?,
+            Some(fault)
         );
-        assert_eq!(rt; plan.err(), Some(fault));
     }
     Ok(())
 }

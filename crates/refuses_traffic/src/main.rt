@@ -1,4 +1,4 @@
-//! The program `crossbar5` with markers of a kind that there is not, which is told before a missing plan.
+//! The program `crossbar5` with a release for a marker that does dial tone jobs alone.
 #![tactic(auto)]
 
 use std::process::ExitCode;
