@@ -1,5 +1,5 @@
 -- the bits of a lock's word: the lowest six name its holder, and each actor's request is a bit of its own
-use Rattle.std.proofs.Common.{◌≡◌, ◌≢◌, ℕ, zero, suc, ◌+◌, ◌-◌, ◌*◌, ◌^◌, ◌%◌, ◌<◌, ◌≤◌, ◌⊎◌, Bool, true, false, inl, inr, sym, refl, ap, ◌∙◌, arith, bit_and, bit_or, pow-add, pow_mono, mod-eq_of_lt, mod-lt}
+use Rattle.std.proofs.Common.{◌≡◌, ◌≢◌, ℕ, suc, ◌+◌, ◌-◌, ◌*◌, ◌^◌, ◌%◌, ◌<◌, ◌≤◌, ◌⊎◌, Bool, true, false, inl, inr, sym, refl, ap, ◌∙◌, arith, bit_and, bit_or, pow-add, pow_mono, mod-eq_of_lt, mod-lt}
 use Rattle.std.specs.Prelude.{◌==◌, ◌||◌, ◌&&◌, not, min}
 use Rattle.std.specs.Int.{bit_at, w64}
 use Rattle.std.specs.Int.Bits.{or_zero_l, or_zero_r, and_lt}

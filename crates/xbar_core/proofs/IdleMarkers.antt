@@ -12,7 +12,7 @@ use Rattle.xbar_office.specs.Legal.{after}
 use Rattle.xbar_jobs.specs.Attempt.{Attempt, Phase}
 use Rattle.xbar_jobs.specs.Office.{ShowsOffice}
 use Rattle.xbar_jobs.specs.declared.effect.Effect.{Effect}
-use Rattle.xbar_core.specs.Exchange.{Exchange, IsLawfulExchange, Marker, Work, is_idle}
+use Rattle.xbar_core.specs.Exchange.{Exchange, IsLawfulExchange, Marker, is_idle}
 use Rattle.xbar_core.specs.Holding.{Holds}
 use Rattle.xbar_core.proofs.Holders.{words_show}
 

@@ -30,7 +30,7 @@ use Rattle.xbar_jobs.specs.Office.{ShowsOffice}
 use Rattle.xbar_jobs.specs.Releasing.{release_steps}
 use Rattle.xbar_jobs.specs.Script.{as_if_made}
 use Rattle.xbar_jobs.specs.Sides.{party_after}
-use Rattle.xbar_jobs.specs.Tracing.{approach, trace}
+use Rattle.xbar_jobs.specs.Tracing.{approach}
 use Rattle.xbar_jobs.specs.Trials.{two_trials_steps}
 use Rattle.xbar_jobs.specs.Trunks.{find_trunk, trunks_of}
 use Rattle.xbar_jobs.specs.declared.decision.Decision.{Decision}
@@ -43,7 +43,6 @@ use Rattle.xbar_jobs.proofs.FreedMembers.{other_stays}
 use Rattle.xbar_jobs.proofs.LeaveEffects.{IsLeave}
 use Rattle.xbar_jobs.proofs.ReleaseDecides.{ComesTo, HasNone, LetsGo as CallGoes, release_comes}
 use Rattle.xbar_jobs.proofs.TestedParties.{party_of}
-use Rattle.xbar_jobs.proofs.TracedRuns.{approach_runs, trace_runs, traced_shown}
 use Rattle.xbar_core.proofs.TrunkPaths.{register_gone}
 
 -- a path of the set, which the job takes out

@@ -23,7 +23,7 @@ use Rattle.xbar_office.specs.Legal.{IsJob}
 use Rattle.xbar_office.specs.declared.job.Job.{Job}
 use Rattle.xbar_office.specs.declared.reply.Record.{Record}
 use Rattle.xbar_office.specs.declared.reply.Reply.{Reply}
-use Rattle.xbar_jobs.specs.Attempt.{Act, Attempt, Phase, next_step}
+use Rattle.xbar_jobs.specs.Attempt.{Attempt, Phase, next_step}
 use Rattle.xbar_jobs.specs.Jobs.{first_conn}
 use Rattle.xbar_jobs.specs.Office.{office}
 use Rattle.xbar_jobs.specs.OnWords as steps

@@ -35,7 +35,6 @@ module _ (effects : List Effect) (frame channel : ℕ) (junctors words : List �
 
   -- with all made
   pub all_made : AreMade effects frame channel junctors words → channel ≡ 10 → words ≡ junctors_after effects frame 0 junctors
-  unfolding junctors_after
   all_made are at_end =
       let whole : take channel words ≡ words = take_all channel words (omega (arith, are.size)) in
       let none = at_drop_all (junctors_after effects frame channel) words channel (omega (arith, are.size)) in
