@@ -8,7 +8,7 @@ use xbar_equip::{DirNo, Len};
 type Lines = [&'static str; 5];
 
 /// A small plan with a group of each kind, the same as `Plan::example`.
-const PLAN_B: Lines = [
+const EXAMPLE: Lines = [
     "version = 1",
     r#"groups = ["REG register 417 418 509", "INTRA intra 600-601 700-711", "OUTA outgoing 800", "OUTB outgoing 801 902"]"#,
     r#"numbers = ["0001 3041", "0002 3052", "0003 1000", "0004 3100"]"#,
@@ -50,7 +50,7 @@ fn changed(lines: Lines, at: usize, line: &'static str) -> Lines {
 #[test]
 fn text_of_the_example_reads_as_it(rt: HostRuntime) -> Result<(), Fail> {
     let alloc = rt.alloc();
-    let Ok(plan) = Plan::read(alloc, document(alloc, PLAN_B)?.as_bytes()) else {
+    let Ok(plan) = Plan::read(alloc, document(alloc, EXAMPLE)?.as_bytes()) else {
         return Err("it is lawful".into());
     };
     let example = Plan::example(alloc)?;
@@ -91,7 +91,7 @@ fn each_has(
     lines: &[&'static str],
 ) -> Result<(), Fail> {
     for line in lines {
-        assert_eq!(rt; told(alloc, changed(PLAN_B, at, *line))?, fault, "{line}");
+        assert_eq!(rt; told(alloc, changed(EXAMPLE, at, *line))?, fault, "{line}");
     }
     Ok(())
 }
@@ -207,7 +207,7 @@ fn lesser_is_told(
     rows: &[(PlanFault, Change, Change)],
 ) -> Result<(), Fail> {
     for (fault, (at, line), (other, more)) in rows {
-        let lines = changed(changed(PLAN_B, *at, *line), *other, *more);
+        let lines = changed(changed(EXAMPLE, *at, *line), *other, *more);
         assert_eq!(rt; told(alloc, lines)?, Some(*fault), "{line}");
     }
     Ok(())
@@ -271,7 +271,7 @@ fn of_two_faults_of_a_line_the_lesser_is_told(rt: HostRuntime) -> Result<(), Fai
 #[test]
 fn second_version_has_one_to_ten_lines_a_number(rt: HostRuntime) -> Result<(), Fail> {
     let alloc = rt.alloc();
-    let second = changed(PLAN_B, 0, "version = 2");
+    let second = changed(EXAMPLE, 0, "version = 2");
     let rows = [
         (None, r#"numbers = ["0002 3052 3100"]"#),
         (None, r#"numbers = ["0002 3052 3052"]"#),
