@@ -14,7 +14,7 @@ use xbar_equip::Conn;
 use xbar_office::{Job, Reply};
 use xbar_plan::Plan;
 
-/// The most connectors that an attempt holds.
+/// Room for the connectors of an attempt: a job seizes 18 at most, and the bound that is proved is 19.
 const MOST_HELD: usize = 19;
 
 /// What a marker knows of its job since it last began it.

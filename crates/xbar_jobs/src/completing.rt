@@ -156,6 +156,7 @@ fn complete_from(
 
 /// Goes through a completing job, to its decision or to what is wanted first.
 #[tactic(auto, using(turns::proofs::Walks::walk_bind), unfolding(crate::specs::Completing::complete_steps))]
+// Not inlined into every walk: a dial tone job would pay for its locals.
 #[inline(never)]
 pub fn complete(
     plan: &Plan,

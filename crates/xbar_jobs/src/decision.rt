@@ -81,13 +81,10 @@ impl Decision {
     fn take_of(group: u8, choice: &Option<Choice>) -> Option<Take>
         ensures { result ≡ option_map (take_by group) choice.now }
     {
-        match choice {
-            None => None,
-            Some(choice) => Some(Take {
-                group,
-                index: choice.index,
-                paths: choice.paths,
-            }),
-        }
+        choice.as_ref().map(|choice| Take {
+            group,
+            index: choice.index,
+            paths: choice.paths,
+        })
     }
 }

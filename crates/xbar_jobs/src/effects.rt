@@ -11,9 +11,12 @@ use arrayvec::ArrayVec;
 use xbar_equip::{Path, WordNo};
 use xbar_match::effects_of;
 
-/// The effects of a job. A call inside the office has the most: five opens for its register, and nine
+/// The most effects of a job, those of a call inside the office: five opens for its register, and nine
 /// closes for two paths and a member.
-pub type Effects = ArrayVec<Effect, 14>;
+pub const MOST_EFFECTS: usize = 14;
+
+/// The effects of a job, in their order.
+pub type Effects = ArrayVec<Effect, MOST_EFFECTS>;
 
 /// Adds the closing of a path.
 pub fn close_path(effects: &mut Effects, path: &Path)

@@ -8,7 +8,7 @@ use std::cell::Cell;
 use std::marker::Model;
 use xbar_equip::WordNo;
 
-/// The most words that an attempt reads.
+/// Room for what an attempt reads: 41 words at most, and the bound that is proved is 42.
 const MOST_READINGS: usize = 42;
 
 /// What an attempt has read, in the order of reading. No word is read twice.

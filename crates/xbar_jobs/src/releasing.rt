@@ -43,6 +43,7 @@ fn release_from(plan: &Plan, seen: &Seen, own: &Option<Path>) -> Result<Decision
 
 /// Goes through a release, to its decision or to what is wanted first.
 #[tactic(auto, using(turns::proofs::Walks::walk_bind), unfolding(crate::specs::Releasing::release_steps))]
+// Not inlined into every walk: a dial tone job would pay for its locals.
 #[inline(never)]
 pub fn release(plan: &Plan, seen: &Seen, line: Len) -> Result<Decision, Wanted>
     ensures { result ≡ walk seen.now (release_steps plan.now line) }

@@ -145,6 +145,7 @@ fn test_called(seen: &Seen, party: &Option<Party>) -> Result<Option<Side>, Wante
 }
 
 /// Joins the called side to the second place, as the words will be once the calling path is closed.
+// Not inlined into every walk: a dial tone job would pay for its locals.
 #[inline(never)]
 fn join_called(
     side: &Option<Side>,

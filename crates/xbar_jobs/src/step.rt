@@ -45,7 +45,7 @@ fn tell(answer: Answer, judgement: Judgement) -> Answer
 }
 
 impl Step {
-    /// The word that the step is made on.
+    /// The word that the step is made on; that of `Finished` is the turn word, which it leaves as it is.
     pub fn word(&self) -> WordNo
         requires { IsStep self.now }
         ensures word { result ≡ step_word self.now }
@@ -59,7 +59,7 @@ impl Step {
         }
     }
 
-    /// The operation that makes a marker's step on its word.
+    /// The operation that makes a marker's step on its word. A test is a load, and so is `Finished`.
     pub fn operation(&self, marker: u32) -> Operation
         requires { marker < 48 }
         ensures { result ≡ operation_of marker self.now }

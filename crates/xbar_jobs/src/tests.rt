@@ -161,16 +161,3 @@ fn done(
     steps(&mut program, plan, 0, words, 128);
     Ok((end_of(rt, alloc, &program)?, program.count()))
 }
-
-#[test]
-fn laws_can_be_called() {
-    laws::the_office_is_a_system();
-    laws::scripts_keep_to_what_they_hold();
-    laws::walks_want_what_is_not_there();
-    laws::steps_do_what_their_acts_do();
-    laws::frees_come_last();
-    laws::decisions_are_the_one_marker_offices();
-    laws::a_release_opens_just_its_call();
-    laws::jobs_are_bounded();
-    laws::steady_attempts_are_short();
-}

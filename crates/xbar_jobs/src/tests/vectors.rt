@@ -66,6 +66,15 @@ test 74, test 75, test 76, test 77, test 78, test 79, turn, clear 60 63, clear 7
 clear 290 61440, clear 281 15, clear 400 1, set 60 22, set 70 4294967296, set 370 4096, set 360 1, \
 set 402 1, free L3, free T4, free G0, free G2, free T8";
 
+/// It gives the register back, and calls line 3100 by 3041-0-600 and 3100-1-601.
+const COMPLETE_INSIDE: &str =
+    "ask L3, seize L3, test 60, test 70, ask T4, seize T4, test 290, test 281, \
+ask G0, seize G0, test 61, ask G1, seize G1, test 401, ask T6, seize T6, test 320, test 71, test 72, \
+test 73, test 74, test 75, test 76, test 77, test 78, test 79, turn, clear 60 63, clear 70 983040, \
+clear 290 61440, clear 281 15, clear 400 1, set 60 22, set 70 16777216, set 330 4096, set 320 1, \
+set 61 64, set 71 33554432, set 331 4096, set 320 32, set 401 1, free L3, free T4, free G0, free G1, \
+free T6";
+
 /// It gives the trunk back.
 const RELEASE: &str = "ask L3, seize L3, test 60, test 70, ask T8, seize T8, test 370, test 360, \
 ask G2, seize G2, turn, clear 60 63, clear 70 64424509440, clear 370 61440, clear 360 15, clear 402 1, \
@@ -98,6 +107,35 @@ fn a_call_to_another_office(rt: HostRuntime) -> Result<(), Fail> {
     check_words(&rt, &words, &with_trunk);
     makes(&rt, alloc, &plan, &mut words, "R 3041", RELEASE)?;
     check_words(&rt, &words, &[(452, 3)]);
+    Ok(())
+}
+
+#[test]
+fn a_call_inside_the_office(rt: HostRuntime) -> Result<(), Fail> {
+    let alloc = rt.alloc();
+    let plan = Plan::example(alloc)?;
+    let mut words = [0; WORD_COUNT];
+    makes(&rt, alloc, &plan, &mut words, "D 3041", DIAL)?;
+    makes(
+        &rt,
+        alloc,
+        &plan,
+        &mut words,
+        "C 3041 2340004",
+        COMPLETE_INSIDE,
+    )?;
+    let with_both = [
+        (60, 22),
+        (61, 64),
+        (70, 16777216),
+        (71, 33554432),
+        (320, 33),
+        (330, 4096),
+        (331, 4096),
+        (401, 1),
+        (452, 2),
+    ];
+    check_words(&rt, &words, &with_both);
     Ok(())
 }
 
