@@ -12,9 +12,9 @@ use Rattle.xbar_plan.specs.Tables.{Tables}
 use Rattle.xbar_jobs.specs.Attempt.{Act, Attempt, Phase, next_step, step_of}
 use Rattle.xbar_jobs.specs.Office.{office}
 use Rattle.xbar_jobs.specs.declared.effect.Effect.{Effect}
-use Rattle.xbar_core.specs.AtWork.{told_of, IsBackingAt, IsBackingBy, IsBackingIn, anew_at, begun_anew, gives_up, gives_up_at, left_at, left_by, work_anew}
+use Rattle.xbar_core.specs.AtWork.{told_of, IsBackingAt, IsBackingBy, IsBackingIn, gives_up, gives_up_at, left_at, left_by}
 use Rattle.xbar_core.specs.Exchange.{Exchange, Marker, OfPlan, Work}
-use Rattle.xbar_core.specs.Moves.{backed_as, backed_at, backed_by, given_back, given_by, given_in, request_count, stepped, steps, with_work}
+use Rattle.xbar_core.specs.Moves.{anew_at, backed_as, backed_at, backed_by, begun_anew, given_back, given_by, given_in, request_count, stepped, steps, with_work, work_anew}
 use Rattle.xbar_core.specs.declared.given.Given.{Given}
 use Rattle.xbar_core.specs.declared.given.Given.TheVariants as given
 use Rattle.xbar_core.proofs.Markers.{marker_set}

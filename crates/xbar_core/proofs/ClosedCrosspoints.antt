@@ -114,7 +114,7 @@ module _ (plan : Tables) (laws : IsLawful plan) (e : Exchange) (lawful : IsLawfu
       by_past turn past =
           let did = decided plan laws e lawful k number turn a (marker_at e k number a does) past in
           let size = lawful.size in
-          elim (opens_or_stays plan c closed.there e.words a.effects (omega (arith, size)) did.range did.due closed.held) [
+          elim (opens_or_stays plan c closed.word closed.field closed.closed e.words a.effects (omega (arith, size)) did.range did.due closed.held) [
             | inl left ↦ inl (record { k = k; number = number; turn = turn; attempt = a; at = marker_at e k number a does; past = past; left = left })
             | inr never ↦ inr (
               (λ has. never.0 (subst (λ (one : Attempt). IsIn (Open c) one.effects) (same_attempt has) has.left)),
@@ -139,5 +139,5 @@ module _ (plan : Tables) (laws : IsLawful plan) (e : Exchange) (lawful : IsLawfu
   -- a closed crosspoint is left to be opened, or nobody has it left and it is closed in the completed words
   pub left_or_stays : (c : Crosspoint) → IsClosed e.words c → HasLeft e c ⊎ (¬ HasLeft e c × (held_at (completed plan e) c.word c.field ≡ c.value))
   left_or_stays c closed =
-      let protected = switch_protected c.word closed.there.word in
+      let protected = switch_protected c.word closed.word in
       by_word c closed protected.0 protected.1 (law.holder_at (office plan) e.words protected.0) refl

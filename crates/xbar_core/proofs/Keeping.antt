@@ -1,6 +1,6 @@
 -- what steps and restarts of markers keep, give backs and settlings keep
-use Rattle.std.proofs.Common.{◌≡◌, ℕ, zero, suc, ◌+◌, length, refl}
-use Rattle.std.specs.Prelude.{Option, Some, None, slice_get}
+use Rattle.std.proofs.Common.{◌≡◌, ℕ, zero, suc, ◌+◌, List, length, refl, sym, ◌∙◌, ap, subst}
+use Rattle.std.specs.Prelude.{Option, Some, None, slice_get, slice_set}
 use Rattle.turns.specs.Attempt.{request_in, restarted}
 use Rattle.turns.specs.World.{Idle, Does}
 use Rattle.turns.specs.declared.phase.Phase.TheVariants.{Requests, Seizes, Tests, Turns, Withdraws, GivesBack, Operates}
@@ -8,10 +8,11 @@ use Rattle.xbar_plan.specs.Tables.{Tables}
 use Rattle.xbar_jobs.specs.Attempt.{Attempt, Phase}
 use Rattle.xbar_jobs.specs.Office.{office}
 use Rattle.xbar_core.specs.Exchange.{Exchange, Marker, Work}
-use Rattle.xbar_core.specs.Moves.{backed_as, backed_at, backed_by, given_back, given_by, request_count, stepped, steps, with_work}
+use Rattle.xbar_core.specs.Moves.{anew_at, backed_as, backed_at, backed_by, begun_anew, given_back, given_by, request_count, stepped, steps, with_work, work_anew}
 use Rattle.xbar_core.specs.Settling.{ended, ended_at, ended_by, ended_in, ended_past_turn, for_each, most_steps_alone, settled}
 use Rattle.xbar_core.specs.declared.given.Given.{Given}
 use Rattle.xbar_core.specs.declared.given.Given.TheVariants as given
+use Rattle.xbar_core.proofs.Markers.{marker_same}
 
 -- marker k is at an attempt at the job of a number, and begins it anew
 abbrev pub KeepsRestarts : Tables → (Exchange → Type 0) → ℕ → Type 0
@@ -25,6 +26,24 @@ pub for_each_keeps : (Has : Exchange → Type 0) (change : ℕ → Exchange → 
 unfolding for_each
 for_each_keeps Has change keeps zero e has = has
 for_each_keeps Has change keeps (suc k) e has = keeps k (for_each change k e) (for_each_keeps Has change keeps k e has)
+
+module _ (plan : Tables) (Has : Exchange → Type 0) (k : ℕ) (restart_keeps : KeepsRestarts plan Has k) where
+  -- a marker that is to begin its job anew: an idle one stays as it is
+  pub anew_keeps : (e : Exchange) (m : Marker) → Has e → slice_get e.markers k ≡ Some m → Has (with_work k m (work_anew plan m.work) e)
+  anew_keeps e m has there = by m.work refl where
+    by : (work : Work) → m.work ≡ work → Has (with_work k m (work_anew plan work) e)
+    by Idle at =
+        let same : record m { work = Idle } ≡ m = ap (λ (work : Work). record m { work = work }) (sym at) in
+        subst (λ (markers : List Marker). Has (record e { markers = markers })) (sym (ap (slice_set e.markers k) same ∙ marker_same e.markers k m there)) has
+    by (Does n a) at = restart_keeps e n m a has there at
+
+  begun_at_keeps : (e : Exchange) (found : Option Marker) → Has e → slice_get e.markers k ≡ found → Has (anew_at plan k found e)
+  begun_at_keeps e None has there = has
+  begun_at_keeps e (Some m) has there = anew_keeps e m has there
+
+  -- and so wherever there is one of its number, or none
+  pub begun_keeps : (e : Exchange) → Has e → Has (begun_anew plan k e)
+  begun_keeps e has = begun_at_keeps e (slice_get e.markers k) has refl
 
 module _ (plan : Tables) (Has : Exchange → Type 0) (k : ℕ) (step_keeps : KeepsSteps plan Has k) where
   -- so many steps

@@ -23,13 +23,13 @@ use Rattle.xbar_jobs.specs.Jobs.{first_conn}
 use Rattle.xbar_jobs.specs.Office.{office}
 use Rattle.xbar_jobs.specs.declared.effect.Effect.{Effect}
 use Rattle.xbar_jobs.proofs.AttemptStands.{stands_after, stands_again, stands_begun}
-use Rattle.xbar_core.specs.AtWork.{told_of, work_anew}
+use Rattle.xbar_core.specs.AtWork.{told_of}
 use Rattle.xbar_core.specs.Exchange.{Exchange, IsLawfulExchange, Marker, Work, opened, turned}
-use Rattle.xbar_core.specs.Moves.{assigned_at, recorded, refusal, refusal_at, stepped, with_work}
+use Rattle.xbar_core.specs.Moves.{assigned_at, recorded, refusal, refusal_at, stepped, with_work, work_anew}
 use Rattle.xbar_core.specs.Standing.{HasRoom, IsExchange, StandsAt, waiting, waits, waits_in}
 use Rattle.xbar_core.specs.declared.kind.Kind.{Kind}
-use Rattle.xbar_core.proofs.Markers.{actor_there, marker_else, marker_same, marker_set, waiting_most, waiting_set, waits_most}
-use Rattle.xbar_core.proofs.Keeping.{KeepsRestarts}
+use Rattle.xbar_core.proofs.Markers.{actor_there, marker_else, marker_set, waiting_most, waiting_set, waits_most}
+use Rattle.xbar_core.proofs.Keeping.{KeepsRestarts, anew_keeps}
 use Rattle.xbar_core.proofs.StepCases.{step_cases}
 use Rattle.xbar_core.proofs.Worlds.{added_at, answer_is, found_by, lawful_assigned, lawful_opened, lawful_stepped, restarted_lawful}
 
@@ -150,12 +150,7 @@ module _ (plan : Tables) where
       omega (arith, one, less)
 
   pub kept_anew : (e : Exchange) (k : ℕ) (m : Marker) → IsLawful plan → IsExchange plan e → slice_get e.markers k ≡ Some m → IsExchange plan (with_work k m (work_anew plan m.work) e)
-  kept_anew e k m laws was there = by m.work refl where
-    by : (work : Work) → m.work ≡ work → IsExchange plan (with_work k m (work_anew plan work) e)
-    by Idle at =
-        let same : record m { work = Idle } ≡ m = ap (λ (work : Work). record m { work = work }) (sym at) in
-        subst (λ (markers : List Marker). IsExchange plan (record e { markers = markers })) (sym (ap (slice_set e.markers k) same ∙ marker_same e.markers k m there)) was
-    by (Does n a) at = kept_restarted laws k e n m a was there at
+  kept_anew e k m laws was there = anew_keeps plan (IsExchange plan) k (kept_restarted laws k) e m was there
 
   -- an office opens so
   idle_opened : (kinds : List Kind) (k : ℕ) (m : Marker) → slice_get (opened kinds).markers k ≡ Some m → m.work ≡ Idle

@@ -25,7 +25,7 @@ one_field c d = elim (cases_eq c.word d.word) [
   | inr other ↦ inr (λ same. absurd (other same))
 ]
 
-module _ (plan : Tables) (c : Crosspoint) (is : IsCrosspoint c) where
+module _ (plan : Tables) (c : Crosspoint) (below : c.word < 400) (range : c.field < 10) (more : 0 < c.value) where
   -- a closed crosspoint is opened by the effects, or stays closed by them
   abbrev pub Opens : List ℕ → List Effect → Type 0
   Opens words effects = IsIn (Open c) effects ⊎ (¬ IsIn (Open c) effects × (held_at (perform_all (office plan) words effects) c.word c.field ≡ c.value))
@@ -37,24 +37,24 @@ module _ (plan : Tables) (c : Crosspoint) (is : IsCrosspoint c) where
   module _ (words : List ℕ) (long : 400 ≤ length words) (closed : held_at words c.word c.field ≡ c.value) where
     -- no effect closes its field
     by_close : (d : Crosspoint) → IsCrosspoint d → held_at words d.word d.field ≡ 0 → OpensBy words (Close d)
-    by_close d range due = elim (one_field c d) [
+    by_close d is due = elim (one_field c d) [
       | inl same ↦
           let here : held_at words c.word c.field ≡ held_at words d.word d.field = ap (λ n. held_at words n c.field) same.0 ∙ ap (held_at words d.word) same.1 in
           let nothing : c.value ≡ 0 = sym closed ∙ here ∙ due in
-          absurd (omega (arith, nothing, is.closed))
-      | inr other ↦ inr ((λ same. cc), held_at-close_other words d c.word c.field long range other ∙ closed)
+          absurd (omega (arith, nothing, more))
+      | inr other ↦ inr ((λ same. cc), held_at-close_other words d c.word c.field long is other ∙ closed)
     ]
 
     -- one that opens its field opens it
     by_open : (d : Crosspoint) → IsCrosspoint d → held_at words d.word d.field ≡ d.value → OpensBy words (Open d)
-    by_open d range due = elim (one_field c d) [
+    by_open d is due = elim (one_field c d) [
       | inl same ↦
           let here : held_at words c.word c.field ≡ held_at words d.word d.field = ap (λ n. held_at words n c.field) same.0 ∙ ap (held_at words d.word) same.1 in
           let value : c.value ≡ d.value = sym closed ∙ here ∙ due in
           inl (λ i. Open (record { word = same.0 i; field = same.1 i; value = value i }))
       | inr other ↦ inr (
         (λ same. let one : c ≡ d = cc in other (ap (λ (x : Crosspoint). x.word) one) (ap (λ (x : Crosspoint). x.field) one)),
-        held_at-open_other words d c.word c.field long range is.field other ∙ closed,
+        held_at-open_other words d c.word c.field long is range other ∙ closed,
       )
     ]
 
@@ -63,10 +63,10 @@ module _ (plan : Tables) (c : Crosspoint) (is : IsCrosspoint c) where
     by_bit effect other = ap (λ word. field_of (shape_at c.word) word c.field) (index_other words (effect_word effect) c.word _ other) ∙ closed
 
     by_one : (effect : Effect) → IsEffect effect → IsDue effect (slice_index words (effect_word effect)) → OpensBy words effect
-    by_one (Close d) range due = by_close d range due
-    by_one (Open d) range due = by_open d range due
-    by_one (SetBit number index) range due = inr ((λ same. cc), by_bit (SetBit number index) (λ same. omega (arith, same, is.word)))
-    by_one (ClearBit number index) range due = inr ((λ same. cc), by_bit (ClearBit number index) (λ same. omega (arith, same, is.word)))
+    by_one (Close d) is due = by_close d is due
+    by_one (Open d) is due = by_open d is due
+    by_one (SetBit number index) is due = inr ((λ same. cc), by_bit (SetBit number index) (λ same. omega (arith, same, below)))
+    by_one (ClearBit number index) is due = inr ((λ same. cc), by_bit (ClearBit number index) (λ same. omega (arith, same, below)))
 
   -- effects that are due open a closed crosspoint, or leave it closed
   pub opens_or_stays : (words : List ℕ) (effects : List Effect) → 400 ≤ length words → AreEffects effects → AreDue (office plan) words effects → held_at words c.word c.field ≡ c.value → Opens words effects

@@ -40,10 +40,10 @@ use Rattle.xbar_core.proofs.TakenOut.{AreOpens, IsOpened, in_opens, opened_by, o
 use Rattle.xbar_core.proofs.TurnedJobs.{Decided, before, decided}
 
 -- what words that show some paths have closed is of one of them
-shown_closed : (words : List ℕ) (paths : List Path) (c : Crosspoint) → ShowsPaths words paths → IsCrosspoint c → held_at words c.word c.field ≡ c.value → IsClosedIn paths c
-shown_closed words paths c shows is held = elim ((shows.switch c.word is.word).others c.field is.field) [
-  | inl zero ↦ let nothing : c.value ≡ 0 = sym held ∙ zero in absurd (omega (arith, nothing, is.closed))
-  | inr closed ↦ subst (λ (value : ℕ). IsClosedIn paths (record { word = c.word; field = c.field; value = value })) held closed
+shown_closed : (words : List ℕ) (paths : List Path) (c : Crosspoint) → ShowsPaths words paths → IsClosed words c → IsClosedIn paths c
+shown_closed words paths c shows is = elim ((shows.switch c.word is.word).others c.field is.field) [
+  | inl zero ↦ let nothing : c.value ≡ 0 = sym is.held ∙ zero in absurd (omega (arith, nothing, is.closed))
+  | inr closed ↦ subst (λ (value : ℕ). IsClosedIn paths (record { word = c.word; field = c.field; value = value })) is.held closed
 ]
 
 -- of paths that lie apart, those that have a crosspoint at one link are one
@@ -132,18 +132,18 @@ module _ (plan : Tables) (laws : IsLawful plan) (e : Exchange) (lawful : IsLawfu
 
       -- so it was closed at the turn, and none of the openings was on it
       record WasClosed : Type 0 where
-        pub held : held_at did.words d.word d.field ≡ d.value
+        pub then : IsClosed did.words d
         pub none : ¬ IsIn d opens.cs
 
       was_closed : WasClosed
-      was_closed = elim (spared plan d.word d.field closed.there.field opens.cs (slice_index did.words d.word) made_range) [
-        | inl opened ↦ let nothing : d.value ≡ 0 = sym field_now ∙ opened in absurd (omega (arith, nothing, closed.there.closed))
-        | inr kept ↦ record { held = sym kept.0 ∙ field_now; none = λ within. kept.1 d within refl refl }
+      was_closed = elim (spared plan d.word d.field closed.field opens.cs (slice_index did.words d.word) made_range) [
+        | inl opened ↦ let nothing : d.value ≡ 0 = sym field_now ∙ opened in absurd (omega (arith, nothing, closed.closed))
+        | inr kept ↦ record { then = record { word = closed.word; field = closed.field; closed = closed.closed; held = sym kept.0 ∙ field_now }; none = λ within. kept.1 d within refl refl }
       ]
 
       own : IsIn d (crosspoints opened.path)
       own =
-          let of_path = shown_closed did.words paths d did.shows.switches closed.there was_closed.held in
+          let of_path = shown_closed did.words paths d did.shows.switches was_closed.then in
           subst (λ (p : Path). IsIn d (crosspoints p)) (one_path plan paths link d of_path.0 opened.path did.shows.lawful.orderly of_path.1 opened.goes.there also of_path.2 linked) of_path.2
 
       left : IsIn (Open d) a.effects
@@ -160,7 +160,7 @@ module _ (plan : Tables) (laws : IsLawful plan) (e : Exchange) (lawful : IsLawfu
 
   -- a crosspoint that stays closed is of a path of the set after all records
   stays_in : (c : Crosspoint) → IsClosed e.words c → held_at (completed plan e) c.word c.field ≡ c.value → IsClosedIn (after plan e.records) c
-  stays_in c closed stays = shown_closed (completed plan e) (after plan e.records) c (completed_shows plan e lawful).switches closed.there stays
+  stays_in c closed stays = shown_closed (completed plan e) (after plan e.records) c (completed_shows plan e lawful).switches (record { word = closed.word; field = closed.field; closed = closed.closed; held = stays })
 
   stays_belongs : (c : Crosspoint) (path : Path) → equip.IsIn path (after plan e.records) → IsIn c (crosspoints path) → BelongsTo plan e path c
   stays_belongs c path within own = record { has = own; why = inl (among_turns path (after plan e.records) within) }

@@ -7,10 +7,10 @@ use Rattle.xbar_office.specs.Legal.{IsJob}
 use Rattle.xbar_office.specs.declared.job.Job.{Job}
 use Rattle.xbar_core.specs.Exchange.{Exchange, IsLawfulExchange, opened}
 use Rattle.xbar_core.specs.Moves.{assigned, refusal}
-use Rattle.xbar_core.specs.Runs.{AreMoves, Assigns, GivesBack, IsMove, Move, Settles, Steps, made_by, run_from, run_of, unless_refused}
+use Rattle.xbar_core.specs.Runs.{AreMoves, Assigns, BeginsAnew, GivesBack, IsMove, Move, Settles, Steps, made_by, run_from, run_of, unless_refused}
 use Rattle.xbar_core.specs.declared.assign_fault.AssignFault.{AssignFault}
 use Rattle.xbar_core.specs.declared.kind.Kind.{Kind}
-use Rattle.xbar_core.proofs.Worlds.{lawful_assigned, lawful_given_back, lawful_opened, lawful_settled, lawful_stepped}
+use Rattle.xbar_core.proofs.Worlds.{lawful_assigned, lawful_begun_anew, lawful_given_back, lawful_opened, lawful_settled, lawful_stepped}
 
 module _ (plan : Tables) (laws : IsLawful plan) where
   -- a job that is refused is not assigned
@@ -21,6 +21,7 @@ module _ (plan : Tables) (laws : IsLawful plan) where
   made_lawful : (e : Exchange) (move : Move) → IsLawfulExchange plan e → IsMove move → IsLawfulExchange plan (made_by plan e move)
   made_lawful e (Assigns k number job) lawful range = assigns_lawful e k number job (refusal e k job) lawful range refl
   made_lawful e (Steps k) lawful range = lawful_stepped plan e k laws lawful
+  made_lawful e (BeginsAnew k) lawful range = lawful_begun_anew plan e k laws lawful
   made_lawful e (GivesBack k) lawful range = lawful_given_back plan e k laws lawful
   made_lawful e Settles lawful range = lawful_settled plan e laws lawful
 

@@ -16,9 +16,9 @@ use Rattle.xbar_plan.specs.Tables.{Tables}
 use Rattle.xbar_plan.specs.Lawful.{IsLawful}
 use Rattle.xbar_jobs.specs.Attempt.{Attempt, Phase}
 use Rattle.xbar_jobs.specs.Office.{office}
-use Rattle.xbar_core.specs.AtWork.{IsBackingAt, IsBackingBy, IsBackingIn, begun_anew, gives_up_at, left_at, left_by}
+use Rattle.xbar_core.specs.AtWork.{IsBackingAt, IsBackingBy, IsBackingIn, gives_up_at, left_at, left_by}
 use Rattle.xbar_core.specs.Exchange.{Exchange, Marker, Work, is_idle, world}
-use Rattle.xbar_core.specs.Moves.{backed_at, given_back, given_by, given_in, request_count, stepped, steps}
+use Rattle.xbar_core.specs.Moves.{backed_at, begun_anew, given_back, given_by, given_in, request_count, stepped, steps}
 use Rattle.xbar_core.specs.Settling.{ended, ended_at, ended_by, ended_in, ended_past_turn, for_each, most_steps_alone, settled}
 use Rattle.xbar_core.specs.Standing.{IsExchange}
 use Rattle.xbar_core.specs.declared.given.Given.{Given}
@@ -108,7 +108,7 @@ module _ (plan : Tables) where
   there_by (Does n a) backs none = there_in n a a.phase refl backs none
 
   -- with something left, a step gives up one thing
-  gives_one : (k : ℕ) (e : Exchange) → IsBackingAt (slice_get e.markers k) → (count : ℕ) → left_at (slice_get e.markers k) ≡ suc count → GaveUp (slice_get (stepped plan k e).markers k) (left_at (slice_get e.markers k))
+  pub gives_one : (k : ℕ) (e : Exchange) → IsBackingAt (slice_get e.markers k) → (count : ℕ) → left_at (slice_get e.markers k) ≡ suc count → GaveUp (slice_get (stepped plan k e).markers k) (left_at (slice_get e.markers k))
   gives_one k e backs count left = by (slice_get e.markers k) refl backs left where
     goes_on : (work : Work) → IsBackingBy work → left_by work ≡ suc count → (goes : Bool) → gives_up_at work ≡ goes → gives_up_at work ≡ true
     goes_on work now more true is = is

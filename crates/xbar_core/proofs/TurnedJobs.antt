@@ -124,6 +124,9 @@ module _ (plan : Tables) (laws : IsLawful plan) (e : Exchange) (lawful : IsLawfu
       stands = found.there;
       turn_is = ap (λ (t : worlds.Record Job Reply). t.turn) found.turn ∙ known.turn_is;
       marker = ap (λ (t : worlds.Record Job Reply). t.actor) found.turn ∙ known.actor;
+      number_is = ap (λ (t : worlds.Record Job Reply). t.number) found.turn ∙ known.number_is;
+      job = job_is;
+      reply = known.reply ∙ ap (λ (t : worlds.Record Job Reply). Some t.reply) (sym found.turn);
     };
     job = sound.job;
     words = fits.decided.words;

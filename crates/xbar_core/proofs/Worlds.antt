@@ -33,12 +33,12 @@ use Rattle.xbar_jobs.proofs.OfficeSystem.{office_is}
 use Rattle.xbar_jobs.proofs.StepActs.{act_answer, act_operation, act_word}
 use Rattle.xbar_core.specs.Exchange.{Exchange, IsLawfulExchange, Marker, Work, is_idle, opened, turned, world}
 use Rattle.xbar_core.specs.Kinds.{takes}
-use Rattle.xbar_core.specs.Moves.{answered, assigned, assigned_at, given_back, record_of, recorded, refusal, refusal_at, refusal_of, stepped, stepped_at, stepped_by}
+use Rattle.xbar_core.specs.Moves.{answered, assigned, assigned_at, begun_anew, given_back, record_of, recorded, refusal, refusal_at, refusal_of, stepped, stepped_at, stepped_by}
 use Rattle.xbar_core.specs.Settling.{settled}
 use Rattle.xbar_core.specs.declared.assign_fault.AssignFault.TheVariants.{NotIdle, WrongKind}
 use Rattle.xbar_core.specs.declared.kind.Kind.{Kind}
 use Rattle.xbar_core.proofs.Markers.{actor_there, works, works_set}
-use Rattle.xbar_core.proofs.Keeping.{KeepsRestarts, back_keeps, settled_keeps}
+use Rattle.xbar_core.proofs.Keeping.{KeepsRestarts, back_keeps, begun_keeps, settled_keeps}
 
 turned_more : (records more : List Record) → map turned (records ++ more) ≡ map turned records ++ map turned more
 turned_more [] more = refl
@@ -86,7 +86,7 @@ module _ (plan : Tables) where
   pub answer_is : (k : ℕ) (words : List ℕ) (a : Attempt) → answer_of k (next_step a) words ≡ generic.answered (office plan) k (act a) (found_by words a)
   answer_is k words a = ap (λ (n : ℕ). steps.answered k (next_step a) (slice_index words n)) (act_word plan (act a)) ∙ act_answer plan k (act a) (found_by words a)
 
-  words_are : (k : ℕ) (words : List ℕ) (a : Attempt) → made k (next_step a) words ≡ slice_set words (place (office plan) (act a)) (becomes (office plan) k (act a) (found_by words a))
+  pub words_are : (k : ℕ) (words : List ℕ) (a : Attempt) → made k (next_step a) words ≡ slice_set words (place (office plan) (act a)) (becomes (office plan) k (act a) (found_by words a))
   words_are k words a =
       ap (λ (n : ℕ). slice_set words n (applied (operation k (next_step a)) (slice_index words n))) (act_word plan (act a))
       ∙ ap (slice_set words (place (office plan) (act a))) (act_operation plan k (act a) (found_by words a))
@@ -162,6 +162,10 @@ lawful_assigned plan e k number job laws law in_range free = assigned_lawful pla
 pub lawful_stepped : (plan : Tables) (e : Exchange) (k : ℕ) → IsLawful plan → IsLawfulExchange plan e → IsLawfulExchange plan (stepped plan k e)
 unfolding stepped
 lawful_stepped plan e k laws law = stepped_lawful plan laws e k (slice_get e.markers k) law refl
+
+-- so does a marker that is to begin its job anew
+pub lawful_begun_anew : (plan : Tables) (e : Exchange) (k : ℕ) → IsLawful plan → IsLawfulExchange plan e → IsLawfulExchange plan (begun_anew plan k e)
+lawful_begun_anew plan e k laws law = begun_keeps plan (IsLawfulExchange plan) k (restarted_lawful plan laws k) e law
 
 -- so does a marker that gives back
 pub lawful_given_back : (plan : Tables) (e : Exchange) (k : ℕ) → IsLawful plan → IsLawfulExchange plan e → IsLawfulExchange plan (given_back plan k e)

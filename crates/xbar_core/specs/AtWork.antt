@@ -1,19 +1,17 @@
-use Rattle.std.specs.Prelude.{◌≡◌, ℕ, ◌+◌, Bool, true, false, Option, Some, None, is_some, List, [], length, slice_get, ⊤}
-use Rattle.turns.specs.Attempt.{request_in, restarted}
+use Rattle.std.specs.Prelude.{◌≡◌, ℕ, ◌+◌, Bool, true, false, Option, Some, None, is_some, List, [], length, ⊤}
+use Rattle.turns.specs.Attempt.{request_in}
 use Rattle.turns.specs.World.{Idle, Does}
 use Rattle.turns.specs.declared.answer.Answer.{Answer}
 use Rattle.turns.specs.declared.answer.Answer.TheVariants as answer
 use Rattle.turns.specs.declared.phase.Phase.TheVariants.{Requests, Seizes, Tests, Turns, Withdraws, GivesBack, Operates}
 use Rattle.xbar_equip.specs.declared.conn.Conn.{Conn}
-use Rattle.xbar_plan.specs.Tables.{Tables}
 use Rattle.xbar_office.specs.declared.reply.Record.{Record}
 use Rattle.xbar_jobs.specs.Attempt.{Attempt, Phase, next_step, turn_in}
-use Rattle.xbar_jobs.specs.Office.{office}
 use Rattle.xbar_jobs.specs.OnWords.{answer_of}
 use Rattle.xbar_jobs.specs.declared.step.Step.{Step}
 use Rattle.xbar_jobs.specs.declared.step.Step.TheVariants as step
-use Rattle.xbar_core.specs.Exchange.{Exchange, Marker, Work as TheWork}
-use Rattle.xbar_core.specs.Moves.{request_count, with_work}
+use Rattle.xbar_core.specs.Exchange.{Marker, Work as TheWork}
+use Rattle.xbar_core.specs.Moves.{request_count}
 use Rattle.xbar_core.specs.declared.work.Work.{Work}
 
 -- what a marker is at that has this work, or none
@@ -62,18 +60,6 @@ is_turned (Does number a) = is_some (turn_in a.phase)
 abbrev pub gives_up_at : TheWork → Bool
 gives_up_at Idle = false
 gives_up_at (Does number a) = gives_up (next_step a)
-
--- a marker begins its job anew, once all that it holds is given back; past its turn nothing changes
-abbrev pub work_anew : Tables → TheWork → TheWork
-work_anew plan Idle = Idle
-work_anew plan (Does number a) = Does number (restarted (office plan) a)
-
-abbrev pub anew_at : Tables → ℕ → Option Marker → Exchange → Exchange
-anew_at plan k None e = e
-anew_at plan k (Some m) e = with_work k m (work_anew plan m.work) e
-
-abbrev pub begun_anew : Tables → ℕ → Exchange → Exchange
-begun_anew plan k e = anew_at plan k (slice_get e.markers k) e
 
 -- a marker that is to begin its job anew gives up its request, or a connector, or is there already
 abbrev pub IsBackingIn : Attempt → Phase → Type 0

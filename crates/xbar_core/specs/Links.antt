@@ -1,4 +1,4 @@
-use Rattle.std.specs.Prelude.{◌≡◌, ℕ, suc, ◌⊎◌, Option, Some, List, [], ◌∷◌, ◌++◌, slice_get, take}
+use Rattle.std.specs.Prelude.{◌≡◌, ℕ, suc, ◌<◌, ◌⊎◌, Option, Some, List, [], ◌∷◌, ◌++◌, slice_get, take}
 use Rattle.turns.specs.Among.{IsIn}
 use Rattle.turns.specs.System.{AreDue}
 use Rattle.turns.specs.declared.phase.Phase.TheVariants.{Operates}
@@ -8,7 +8,6 @@ use Rattle.xbar_equip.specs.Path.{IsPath, line_link, junctor, trunk_link}
 use Rattle.xbar_equip.specs.Word.{LineSwitch, LineJunctor, TrunkJunctor, TrunkSwitch}
 use Rattle.xbar_equip.specs.declared.crosspoint.Crosspoint.{Crosspoint}
 use Rattle.xbar_equip.specs.declared.path.Path.{Path}
-use Rattle.xbar_match.specs.Effects.{IsCrosspoint}
 use Rattle.xbar_match.specs.Switches.{held_at}
 use Rattle.xbar_plan.specs.Tables.{Tables, member_place}
 use Rattle.xbar_plan.specs.declared.group.MemberPlace.{MemberPlace}
@@ -47,12 +46,14 @@ pub record IsAtLink (link : Link) (c : Crosspoint) : Type 0 where
   pub range : IsPath path
   pub joins : IsIn (record { crosspoint = c; link = link }) (joints path)
 
--- a crosspoint of the office is closed
+-- a crosspoint is closed: its field, one of a switch's ten, isn't 0
 pub record IsClosed (words : List ℕ) (c : Crosspoint) : Type 0 where
-  pub there : IsCrosspoint c
+  pub word : c.word < 400
+  pub field : c.field < 10
+  pub closed : 0 < c.value
   pub held : held_at words c.word c.field ≡ c.value
 
--- marker k is past its turn, whose record stands at this place
+-- marker k is past its turn; the record of its job stands at this place, with its turn, marker, number, job and reply
 pub record IsPastTurn (e : Exchange) (k place : ℕ) (a : Attempt) : Type 0 where
   pub number : ℕ
   pub at : IsAt e k number a
@@ -62,6 +63,9 @@ pub record IsPastTurn (e : Exchange) (k place : ℕ) (a : Attempt) : Type 0 wher
   pub stands : slice_get e.records place ≡ Some recorded
   pub turn_is : recorded.turn ≡ turn
   pub marker : recorded.marker ≡ k
+  pub number_is : recorded.job_no ≡ number
+  pub job : recorded.job ≡ a.job
+  pub reply : a.reply ≡ Some recorded.reply
 
 -- a marker past its turn takes a path out, which was in the set before its record and is not after it, and still has this crosspoint of the path to open
 pub record HasToOpen (plan : Tables) (e : Exchange) (path : Path) (c : Crosspoint) : Type 0 where

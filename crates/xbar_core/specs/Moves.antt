@@ -138,6 +138,19 @@ event_at plan k words (Some m) = event_by plan k words m.work
 abbrev pub event_at_step : Tables → ℕ → Exchange → Event
 event_at_step plan k e = event_at plan k e.words (slice_get e.markers k)
 
+-- a marker's work, once it is to begin its job anew: past its turn it stays as it is
+abbrev pub work_anew : Tables → Work → Work
+work_anew plan Idle = Idle
+work_anew plan (Does number a) = Does number (restarted (office plan) a)
+
+abbrev pub anew_at : Tables → ℕ → Option Marker → Exchange → Exchange
+anew_at plan k None e = e
+anew_at plan k (Some m) e = with_work k m (work_anew plan m.work) e
+
+-- marker k is to begin its job anew, unless it is past its turn: its next steps give back what it holds. No word changes
+abbrev pub begun_anew : Tables → ℕ → Exchange → Exchange
+begun_anew plan k e = anew_at plan k (slice_get e.markers k) e
+
 -- whether a marker gives back: not past its turn, and not if it is idle
 abbrev pub given_in : Phase → Given
 given_in (Operates turn) = given.PastTurn

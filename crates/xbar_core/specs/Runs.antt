@@ -3,16 +3,17 @@ use Rattle.xbar_plan.specs.Tables.{Tables}
 use Rattle.xbar_office.specs.Legal.{IsJob}
 use Rattle.xbar_office.specs.declared.job.Job.{Job}
 use Rattle.xbar_core.specs.Exchange.{Exchange, opened}
-use Rattle.xbar_core.specs.Moves.{assigned, given_back, refusal, stepped}
+use Rattle.xbar_core.specs.Moves.{assigned, begun_anew, given_back, refusal, stepped}
 use Rattle.xbar_core.specs.Settling.{settled}
 use Rattle.xbar_core.specs.declared.kind.Kind.{Kind}
 use Rattle.std.specs.Prelude.{Option, None, Some}
 use Rattle.xbar_core.specs.declared.assign_fault.AssignFault.{AssignFault}
 
--- what may happen in an office: a job is assigned to a marker under a number, a marker makes its next step or gives back, or the office settles
+-- what may happen in an office: a job is assigned to a marker under a number, a marker makes its next step, is to begin its job anew, or gives back all that it holds at once, or the office settles
 pub data Move : Type 0 where
   Assigns : ℕ → ℕ → Job → Move
   Steps : ℕ → Move
+  BeginsAnew : ℕ → Move
   GivesBack : ℕ → Move
   Settles : Move
 
@@ -24,6 +25,7 @@ unless_refused (Some fault) now before = before
 abbrev pub made_by : Tables → Exchange → Move → Exchange
 made_by plan e (Assigns k number job) = unless_refused (refusal e k job) (assigned k number job e) e
 made_by plan e (Steps k) = stepped plan k e
+made_by plan e (BeginsAnew k) = begun_anew plan k e
 made_by plan e (GivesBack k) = given_back plan k e
 made_by plan e Settles = settled plan e
 
@@ -40,6 +42,7 @@ run_of plan kinds moves = run_from plan (opened kinds) moves
 abbrev pub IsMove : Move → Type 0
 IsMove (Assigns k number job) = IsJob job
 IsMove (Steps k) = ⊤
+IsMove (BeginsAnew k) = ⊤
 IsMove (GivesBack k) = ⊤
 IsMove Settles = ⊤
 

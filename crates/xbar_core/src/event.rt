@@ -6,7 +6,7 @@ use xbar_office::Record;
 pub enum Event {
     /// The marker is idle and made none.
     Idle,
-    /// The marker went on, or back.
+    /// Any other step was made, as one that requested, seized, tested, took the turn, withdrew or freed.
     Moved,
     /// The connector that it asked for is held.
     Refused {

@@ -4,9 +4,9 @@ ghost use Rattle.std.specs.Prelude.{◌≡◌, ◌↔◌, ◌<◌, ◌≤◌, �
 ghost use Rattle.turns.specs.World.{Idle};
 ghost use Rattle.xbar_equip.specs.Word.{word_count};
 ghost use Rattle.xbar_office.specs.Legal.{IsJob};
-ghost use Rattle.xbar_core.specs.AtWork.{IsBackingAt, begun_anew, left_at};
+ghost use Rattle.xbar_core.specs.AtWork.{IsBackingAt, left_at};
 ghost use Rattle.xbar_core.specs.Exchange.{IsLawfulExchange, Marker as TheMarker, is_idle as is_idle_work, opened};
-ghost use Rattle.xbar_core.specs.Moves.{assigned, event_at_step, given_at, given_back, refusal, stepped, steps};
+ghost use Rattle.xbar_core.specs.Moves.{assigned, begun_anew, event_at_step, given_at, given_back, refusal, stepped, steps};
 ghost use Rattle.xbar_core.specs.Settling.{ended, ended_past_turn, for_each, settled};
 
 use crate::assign_fault::AssignFault;
@@ -22,7 +22,7 @@ use xbar_office::{Job, Record};
 use xbar_plan::Plan;
 
 /// The most markers that an office has.
-const MOST_MARKERS: usize = 48;
+pub const MOST_MARKERS: usize = 48;
 
 /// A marker that no other is in the way of has no more steps to its end: two to withdraw and to try
 /// again, 19 frees, and the 114 of the job anew.
@@ -90,7 +90,7 @@ impl<'p> Exchange<'p> {
         self.records.as_slice()
     }
 
-    /// All of the office's words.
+    /// All 453 words, each at the place of its number.
     pub fn words(&self) -> &[u64]
         ensures words { result.now ≡ self.now.exchange.words }
         ensures count { length result.now ≡ word_count }
@@ -140,7 +140,8 @@ impl<'p> Exchange<'p> {
         }
     }
 
-    /// Assigns a job to a marker under a number. Where it is refused nothing changes.
+    /// Assigns a job to a marker under a number, and takes the memory for the records of all turns that are to
+    /// come. Where it is refused nothing changes.
     pub fn assign(&mut self, marker: u32, job_no: u32, job: Job) -> Result<(), AssignFault>
         requires { IsJob job }
         ensures ok { OnOk result ((refusal self.old.exchange marker job ≡ None) × (self.new ≡ record self.old { exchange = assigned marker job_no job self.old.exchange })) }

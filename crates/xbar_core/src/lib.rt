@@ -3,7 +3,7 @@
 
 pub use assign_fault::AssignFault;
 pub use event::Event;
-pub use exchange::Exchange;
+pub use exchange::{Exchange, MOST_MARKERS};
 pub use given::Given;
 pub use kind::Kind;
 pub use open_fault::OpenFault;

@@ -5,9 +5,9 @@ ghost use Rattle.xbar_equip.specs.Word.{word_count};
 ghost use Rattle.xbar_office.specs.Legal.{IsJob};
 ghost use Rattle.xbar_plan.specs.Tables.{Tables};
 ghost use Rattle.xbar_jobs.specs.Jobs.{first_conn};
-ghost use Rattle.xbar_core.specs.AtWork.{gives_up_at, is_turned, work_anew};
+ghost use Rattle.xbar_core.specs.AtWork.{gives_up_at, is_turned};
 ghost use Rattle.xbar_core.specs.Exchange.{Marker as TheMarker, is_idle as is_idle_at};
-ghost use Rattle.xbar_core.specs.Moves.{event_by, given_by, refusal_of, stepped};
+ghost use Rattle.xbar_core.specs.Moves.{event_by, given_by, refusal_of, stepped, work_anew};
 ghost use Rattle.xbar_core.specs.Standing.{StandsAt, waits};
 
 use crate::assign_fault::AssignFault;

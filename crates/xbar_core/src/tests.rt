@@ -24,7 +24,7 @@ const FRAME_3: usize = 419;
 
 const REGISTERS: usize = 436;
 
-/// The words of the first and of the last connector, and behind it the one that counts turns.
+/// The word of the first connector; the others follow, up to the word that counts turns.
 const CONNECTORS: usize = 416;
 
 const TURNS: usize = 452;
@@ -142,17 +142,4 @@ fn check_history(
         assert_eq!(rt; word(rt, office, conn), 0, "word {conn}");
     }
     Ok(())
-}
-
-#[test]
-fn laws_can_be_called() {
-    laws::every_move_keeps_the_law();
-    laws::every_run_is_lawful();
-    laws::jobs_act_at_their_turns();
-    laws::connectors_tell_the_truth();
-    laws::words_are_their_holders();
-    laws::attempts_keep_their_order();
-    laws::finished_jobs_are_recorded();
-    laws::no_link_carries_two_calls();
-    laws::a_release_opens_its_own_crosspoints();
 }

@@ -71,11 +71,15 @@ fn refused_memory_changes_nothing(rt: HostRuntime) -> Result<(), Fail> {
             return Ok(());
         }
     };
+    let mut done: usize = 0;
     for job_no in 0..40 {
         let text = if job_no % 2 == 0 { "D 3041" } else { "R 3041" };
         let records = office.records().len();
         match office.assign(0, job_no, job(&rt, text)) {
-            Ok(()) => steps(&rt, &mut office, 0, 128),
+            Ok(()) => {
+                steps(&rt, &mut office, 0, 128);
+                done = done.saturating_add(1);
+            }
             Err(fault) => {
                 assert_eq!(&rt; fault, AssignFault::Memory);
                 assert!(&rt; is_idle(&rt, &office, 0));
@@ -83,5 +87,6 @@ fn refused_memory_changes_nothing(rt: HostRuntime) -> Result<(), Fail> {
             }
         }
     }
+    assert_eq!(&rt; office.records().len(), done);
     Ok(())
 }

@@ -1,6 +1,7 @@
 use Rattle.std.proofs.Common.{[]}
 use Rattle.xbar_core.proofs.Holders.{words_show}
 use Rattle.xbar_core.proofs.IdleMarkers.{idle_show}
+use Rattle.xbar_core.proofs.MadeEffects.{made_show}
 use Rattle.xbar_core.proofs.Records.{completed_shows, counts, jobs_legal, records_legal, replies_legal}
 use Rattle.xbar_core.proofs.laws.jobs_act_at_their_turns.Goals as goal
 
@@ -19,8 +20,11 @@ returns-clause-counted c = counts
 pub returns-clause-shows : goal.returns-clause-shows
 returns-clause-shows c = completed_shows
 
+pub returns-clause-made : goal.returns-clause-made
+returns-clause-made c = λ plan e lawful none. made_show plan e lawful none
+
 pub returns-clause-free : goal.returns-clause-free
 returns-clause-free c = words_show
 
 pub returns-clause-idle : goal.returns-clause-idle
-returns-clause-idle c = idle_show
+returns-clause-idle c = λ plan e laws lawful idle. idle_show plan e lawful idle

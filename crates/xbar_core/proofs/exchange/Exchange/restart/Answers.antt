@@ -1,6 +1,6 @@
 use Rattle.std.proofs.Common.{◌<◌, length, slice_set, sym, ◌∙◌, ap, subst, arith}
-use Rattle.xbar_core.specs.AtWork.{begun_anew}
 use Rattle.xbar_core.specs.Exchange.{Exchange, OfPlan}
+use Rattle.xbar_core.specs.Moves.{begun_anew}
 use Rattle.xbar_core.specs.Standing.{HasRoom, IsExchange}
 use Rattle.xbar_core.proofs.Backing.{begun_is}
 use Rattle.xbar_core.proofs.Kept.{kept_anew, room_anew}

@@ -1,0 +1,245 @@
+-- what a marker is told of a connector that it asks for is true
+use Rattle.std.proofs.Common.{◌≡◌, ℕ, ◌+◌, ◌<◌, ◌%◌, Bool, true, false, List, [], ◌∷◌, bit_or, slice_index, refl, sym, ◌∙◌, ap, subst, arith}
+use Rattle.std.specs.Int.{bit_at}
+use Rattle.std.specs.Prelude.{◌==◌, ◌||◌, Option, Some, None, if◌then◌else◌, slice_get}
+use Rattle.std.proofs.lemmas.Bool.{eqb-true}
+use Rattle.std.proofs.lemmas.Option.{same_Some}
+use Rattle.turns.specs.Attempt as generic
+use Rattle.turns.specs.Attempt.{act_in, change, closing_act, free_act, told as told_by}
+use Rattle.turns.specs.Law.{FitsIn}
+use Rattle.turns.specs.Sharing.{IsTrueOf}
+use Rattle.turns.specs.Sharings.{judged, preferring, request_bit}
+use Rattle.turns.specs.World.{Idle, Does, place}
+use Rattle.turns.specs.declared.answer.Answer.{Answer}
+use Rattle.turns.specs.declared.answer.Answer.TheVariants.{Asked, Seized, Held, Preferred, Again, Value, Turn, Done}
+use Rattle.turns.specs.declared.judgement.Judgement.{Judgement}
+use Rattle.turns.specs.declared.judgement.Judgement.TheVariants as judgement
+use Rattle.turns.specs.declared.phase.Phase.TheVariants.{Requests, Seizes, Tests, Turns, Withdraws, GivesBack, Operates}
+use Rattle.turns.proofs.FirstRequests.{judged_true}
+use Rattle.turns.proofs.Lists.{there_below}
+use Rattle.turns.proofs.LockWords.{asked_holder, asked_requests}
+use Rattle.xbar_equip.specs.Conn.{IsConn}
+use Rattle.xbar_equip.specs.declared.conn.Conn.{Conn}
+use Rattle.xbar_plan.specs.Tables.{Tables}
+use Rattle.xbar_office.specs.declared.reply.Record.{Record}
+use Rattle.xbar_jobs.specs.Attempt.{Attempt, Phase, next_step}
+use Rattle.xbar_jobs.specs.Office.{office}
+use Rattle.xbar_jobs.specs.OnWords.{answer_of}
+use Rattle.xbar_jobs.specs.declared.effect.Effect.{Effect}
+use Rattle.xbar_core.specs.Exchange.{Exchange, IsLawfulExchange, Marker, Work, is_idle, world}
+use Rattle.xbar_core.specs.Holding.{AsksFor, HasRequested, Holds, IsAt, asked_in}
+use Rattle.xbar_core.specs.Moves.{conn_in, event_at, event_at_step, event_by, event_of, finished, moved_on, refused_by}
+use Rattle.xbar_core.specs.declared.event.Event.{Event}
+use Rattle.xbar_core.specs.declared.event.Event.TheVariants as event
+use Rattle.xbar_core.proofs.Actors.{actor_at}
+use Rattle.xbar_core.proofs.Connectors.{conn_word, tells_truth}
+use Rattle.xbar_core.proofs.Worlds.{answer_is}
+
+-- the judgement by which an answer stops a marker, if it does
+abbrev stop : Answer → Option Judgement
+stop (Held holder) = Some (judgement.Held holder)
+stop (Preferred other) = Some (judgement.Preferred other)
+stop (Asked word) = None
+stop Seized = None
+stop (Again word) = None
+stop (Value value) = None
+stop (Turn turn) = None
+stop Done = None
+
+-- an answer that stops a marker is the judgement that it was told by
+told_judged : (answer : Answer) (was j : Judgement) → stop answer ≡ None → stop (told_by answer was) ≡ Some j → was ≡ j
+told_judged answer judgement.Free j goes told = let none : ◌≡◌ {A = Option Judgement} None (Some j) = sym goes ∙ told in absurd cc
+told_judged answer (judgement.Held holder) j goes told = same_Some _ _ told
+told_judged answer (judgement.Preferred other) j goes told = same_Some _ _ told
+
+-- a request of a lower marker stands in a word with a request of its own only where it stood before
+lower_stood : (k word j : ℕ) → k < 48 → j < k → (bit_at (bit_or word (request_bit k)) (8 + j) == 1) ≡ true → bit_at word (8 + j) ≡ 1
+lower_stood k word j few lower set = by (j == k) refl (sym (asked_requests k word j (omega arith)) ∙ set) where
+  by : (own : Bool) → (j == k) ≡ own → (own || bit_at word (8 + j) == 1) ≡ true → bit_at word (8 + j) ≡ 1
+  by true same stands = let one = eqb-true j k same in absurd (omega (arith, one, lower))
+  by false other stands = eqb-true (bit_at word (8 + j)) 1 stands
+
+-- what a phase asks for is what it is about
+conn_asked : (phase : Phase) (conn : Conn) → asked_in phase ≡ Some conn → conn_in phase ≡ Some conn
+conn_asked (Requests _) conn is = is
+conn_asked (Seizes _ expected) conn is = is
+conn_asked (Tests word) conn is = absurd cc
+conn_asked Turns conn is = absurd cc
+conn_asked (Withdraws _) conn is = absurd cc
+conn_asked GivesBack conn is = absurd cc
+conn_asked (Operates turn) conn is = absurd cc
+
+-- a marker at this attempt asks for a connector, and is told this of a word that has the connector's holder, and of the requests of lower markers no others
+record IsJudged (e : Exchange) (k : ℕ) (a : Attempt) (j : Judgement) : Type 0 where
+  pub conn : Conn
+  pub asked : asked_in a.phase ≡ Some conn
+  pub range : IsConn conn
+  pub word : ℕ
+  pub judges : judged k word ≡ j
+  pub holder : word % 64 ≡ conn_word e conn % 64
+  pub lower : (other : ℕ) → other < k → (bit_at word (8 + other) == 1) ≡ true → bit_at (conn_word e conn) (8 + other) ≡ 1
+
+module _ (plan : Tables) (e : Exchange) (lawful : IsLawfulExchange plan e) (k number : ℕ) (a : Attempt) (at : IsAt e k number a) where
+  -- there are 48 markers at most
+  few : k < 48
+  few = let below = there_below (world plan e).actors k (Does number a) (actor_at e k number a at) in let most = lawful.few in omega (arith, below, most)
+
+  abbrev told_in : Phase → Answer
+  told_in phase = generic.answered (office plan) k (act_in phase a) (slice_index e.words (place (office plan) (act_in phase a)))
+
+  fits_in : (phase : Phase) → a.phase ≡ phase → FitsIn (office plan) (world plan e) k number a phase
+  fits_in phase is = subst (FitsIn (office plan) (world plan e) k number a) is (lawful.sound k number a (actor_at e k number a at)).fits
+
+  -- nothing stops a marker that frees what it holds, or makes its effects
+  free_goes : (found : ℕ) (held : List Conn) (j : Judgement) → stop (generic.answered (office plan) k (free_act held) found) ≡ Some j → ⊥
+  free_goes found [] j told = cc
+  free_goes found (conn ∷ held) j told = cc
+
+  close_goes : (found : ℕ) (effects : List Effect) (held : List Conn) (j : Judgement) → stop (generic.answered (office plan) k (closing_act effects held) found) ≡ Some j → ⊥
+  close_goes found [] held j told = free_goes found held j told
+  close_goes found (effect ∷ effects) held j told = cc
+
+  -- a request is judged by the word with it, a seizing by the word
+  judged_request : (conn : Conn) (j : Judgement) → a.phase ≡ Requests conn → stop (told_in (Requests conn)) ≡ Some j → IsJudged e k a j
+  judged_request conn j is told = record {
+    conn = conn;
+    asked = ap asked_in is;
+    range = fits_in (Requests conn) is;
+    word = bit_or (conn_word e conn) (request_bit k);
+    judges = told_judged (Asked _) _ j refl told;
+    holder = asked_holder k (conn_word e conn);
+    lower = λ other less set. lower_stood k (conn_word e conn) other few less set;
+  }
+
+  judged_seizing : (conn : Conn) (expected : ℕ) (j : Judgement) → a.phase ≡ Seizes conn expected → stop (told_in (Seizes conn expected)) ≡ Some j → IsJudged e k a j
+  judged_seizing conn expected j is told = record {
+    conn = conn;
+    asked = ap asked_in is;
+    range = (fits_in (Seizes conn expected) is).0;
+    word = conn_word e conn;
+    judges = by (conn_word e conn == expected) told;
+    holder = refl;
+    lower = λ other less set. eqb-true (bit_at (conn_word e conn) (8 + other)) 1 set;
+  } where
+    by : (same : Bool) → stop (if same then Seized else told_by (Again (conn_word e conn)) (judged k (conn_word e conn))) ≡ Some j → judged k (conn_word e conn) ≡ j
+    by true stops = absurd cc
+    by false stops = told_judged (Again _) _ j refl stops
+
+  judged_in : (phase : Phase) (j : Judgement) → a.phase ≡ phase → stop (told_in phase) ≡ Some j → IsJudged e k a j
+  judged_in (Requests conn) j is told = judged_request conn j is told
+  judged_in (Seizes conn expected) j is told = judged_seizing conn expected j is told
+  judged_in (Tests word) j is told = absurd cc
+  judged_in Turns j is told = absurd cc
+  judged_in (Withdraws conn) j is told = absurd cc
+  judged_in GivesBack j is told = absurd (free_goes _ a.held j told)
+  judged_in (Operates turn) j is told = absurd (close_goes _ a.effects a.held j told)
+
+  -- a marker that is stopped asked for a connector
+  judged_at : (answer : Answer) (j : Judgement) → answer_of k (next_step a) e.words ≡ answer → stop answer ≡ Some j → IsJudged e k a j
+  judged_at answer j is stops = judged_in a.phase j refl (ap stop (sym (answer_is plan k e.words a) ∙ is) ∙ stops)
+
+  module _ (j : Judgement) (seen : IsJudged e k a j) where
+    -- and what it is told is true of the word that was judged
+    true_of : IsTrueOf preferring k seen.word j
+    true_of = subst (IsTrueOf preferring k seen.word) seen.judges (judged_true k seen.word)
+
+    asks : AsksFor e k seen.conn
+    asks = record { number = number; attempt = a; at = at; asked = seen.asked }
+
+  -- a marker that is refused a connector asks for it, and the one that is named holds it
+  pub is_refused : (holder : ℕ) (conn : Conn) → answer_of k (next_step a) e.words ≡ Held holder → conn_in a.phase ≡ Some conn → AsksFor e k conn × Holds e holder conn
+  is_refused holder conn is asked =
+      let seen = judged_at (Held holder) (judgement.Held holder) is refl in
+      let one : seen.conn ≡ conn = same_Some _ _ (sym (conn_asked a.phase seen.conn seen.asked) ∙ asked) in
+      let names = true_of (judgement.Held holder) seen in
+      let kept = seen.holder in
+      subst (λ (c : Conn). AsksFor e k c × Holds e holder c) one
+      (asks (judgement.Held holder) seen, ((tells_truth plan e lawful seen.conn seen.range).holder holder).0 (omega (arith, names, kept)))
+
+  -- where another is preferred it has a lower number and has requested the connector, and nobody holds it
+  pub is_preferred : (other : ℕ) → answer_of k (next_step a) e.words ≡ Preferred other → (conn : Conn) × AsksFor e k conn × (other < k) × HasRequested e other conn × ((j : ℕ) → ¬ Holds e j conn)
+  is_preferred other is =
+      let seen = judged_at (Preferred other) (judgement.Preferred other) is refl in
+      let truth = true_of (judgement.Preferred other) seen in
+      let tells = tells_truth plan e lawful seen.conn seen.range in
+      let kept = seen.holder in (
+        seen.conn,
+        asks (judgement.Preferred other) seen,
+        truth.0,
+        (tells.requests other (omega (arith, truth.0, few))).0 (seen.lower other truth.0 truth.2),
+        λ j holds. let names = (tells.holder j).1 holds in let free = truth.1 in omega (arith, names, free, kept),
+      )
+
+-- the end of a job stops nobody
+finished_goes : (records : List Record) (what : Event) → ((r : Record) → what ≡ event.Finished r → ⊥) → (what ≡ event.Moved → ⊥) → finished records ≡ what → ⊥
+finished_goes [] what not_finished not_moved ends = not_moved (sym ends)
+finished_goes (r ∷ records) what not_finished not_moved ends = not_finished r (sym ends)
+
+module _ (k number : ℕ) (a after : Attempt) where
+  done_goes : (idle : Bool) (what : Event) → ((r : Record) → what ≡ event.Finished r → ⊥) → (what ≡ event.Moved → ⊥) → moved_on k number after idle ≡ what → ⊥
+  done_goes true what not_finished not_moved ends = finished_goes _ what not_finished not_moved ends
+  done_goes false what not_finished not_moved ends = not_moved (sym ends)
+
+  -- a refusal is an answer by which the connector that was asked for is held
+  by_refusal : (told holder : ℕ) (asked : Option Conn) (conn : Conn) → refused_by told asked ≡ event.Refused conn holder → (told ≡ holder) × (asked ≡ Some conn)
+  by_refusal told holder None conn ends = absurd cc
+  by_refusal told holder (Some asked) conn ends = (cc, cc)
+
+  refused_answer : (answer : Answer) (holder : ℕ) (conn : Conn) → event_of k number a after answer ≡ event.Refused conn holder → (answer ≡ Held holder) × (conn_in a.phase ≡ Some conn)
+  refused_answer (Held told) holder conn ends = let same = by_refusal told holder (conn_in a.phase) conn ends in (ap Held same.0, same.1)
+  refused_answer (Preferred other) holder conn ends = absurd cc
+  refused_answer (Asked word) holder conn ends = absurd cc
+  refused_answer Seized holder conn ends = absurd cc
+  refused_answer (Again word) holder conn ends = absurd cc
+  refused_answer (Value value) holder conn ends = absurd cc
+  refused_answer (Turn turn) holder conn ends = absurd cc
+  refused_answer Done holder conn ends = absurd (done_goes (is_idle (Does number after)) (event.Refused conn holder) (λ r same. cc) (λ same. cc) ends)
+
+  not_preferred : (told other : ℕ) (asked : Option Conn) → refused_by told asked ≡ event.Preferred other → ⊥
+  not_preferred told other None ends = cc
+  not_preferred told other (Some asked) ends = cc
+
+  preferred_answer : (answer : Answer) (other : ℕ) → event_of k number a after answer ≡ event.Preferred other → answer ≡ Preferred other
+  preferred_answer (Held told) other ends = absurd (not_preferred told other (conn_in a.phase) ends)
+  preferred_answer (Preferred told) other ends = cc
+  preferred_answer (Asked word) other ends = absurd cc
+  preferred_answer Seized other ends = absurd cc
+  preferred_answer (Again word) other ends = absurd cc
+  preferred_answer (Value value) other ends = absurd cc
+  preferred_answer (Turn turn) other ends = absurd cc
+  preferred_answer Done other ends = absurd (done_goes (is_idle (Does number after)) (event.Preferred other) (λ r same. cc) (λ same. cc) ends)
+
+-- what comes of a step that is one comes of its answer
+record HasCome (plan : Tables) (e : Exchange) (k : ℕ) (what : Event) : Type 0 where
+  pub number : ℕ
+  pub attempt : Attempt
+  pub at : IsAt e k number attempt
+  pub comes : event_of k number attempt (change (office plan) attempt (answer_of k (next_step attempt) e.words)) (answer_of k (next_step attempt) e.words) ≡ what
+
+module _ (plan : Tables) (e : Exchange) (k : ℕ) (what : Event) (busy : what ≡ event.Idle → ⊥) where
+  come_by : (m : Marker) (work : Work) → slice_get e.markers k ≡ Some m → m.work ≡ work → event_by plan k e.words work ≡ what → HasCome plan e k what
+  come_by m Idle there is ends = absurd (busy (sym ends))
+  come_by m (Does n a) there is ends = by (is_idle (Does n a)) ends where
+    by : (idle : Bool) → (if idle then event.Idle else event_of k n a (change (office plan) a (answer_of k (next_step a) e.words)) (answer_of k (next_step a) e.words)) ≡ what → HasCome plan e k what
+    by true comes = absurd (busy (sym comes))
+    by false comes = record { number = n; attempt = a; at = record { marker = m; there = there; work = is }; comes = comes }
+
+  come_at : (found : Option Marker) → slice_get e.markers k ≡ found → event_at plan k e.words found ≡ what → HasCome plan e k what
+  come_at None there ends = absurd (busy (sym ends))
+  come_at (Some m) there ends = come_by m m.work there refl ends
+
+  has_come : event_at_step plan k e ≡ what → HasCome plan e k what
+  has_come ends = come_at (slice_get e.markers k) refl ends
+
+-- a refusal tells the truth
+pub refusal_true : (plan : Tables) (e : Exchange) (k holder : ℕ) (conn : Conn) → IsLawfulExchange plan e → event_at_step plan k e ≡ event.Refused conn holder → AsksFor e k conn × Holds e holder conn
+refusal_true plan e k holder conn lawful ends =
+    let come = has_come plan e k (event.Refused conn holder) (λ same. cc) ends in
+    let answer = refused_answer k come.number come.attempt _ _ holder conn come.comes in
+    is_refused plan e lawful k come.number come.attempt come.at holder conn answer.0 answer.1
+
+-- and so does a preference
+pub preference_true : (plan : Tables) (e : Exchange) (k other : ℕ) → IsLawfulExchange plan e → event_at_step plan k e ≡ event.Preferred other → (conn : Conn) × AsksFor e k conn × (other < k) × HasRequested e other conn × ((j : ℕ) → ¬ Holds e j conn)
+preference_true plan e k other lawful ends =
+    let come = has_come plan e k (event.Preferred other) (λ same. cc) ends in
+    is_preferred plan e lawful k come.number come.attempt come.at other (preferred_answer k come.number come.attempt _ _ other come.comes)

@@ -1,0 +1,58 @@
+-- where markers past their turns have no effect left, the words show the set after the records as they are
+use Rattle.std.proofs.Common.{◌≡◌, ℕ, suc, List, [], ◌∷◌, ◌∙◌, ap, refl, subst}
+use mathlib.Core.Option.{some}
+use lib.ListN.{get_elem?}
+use Rattle.turns.specs.Attempt.{left_in}
+use Rattle.turns.specs.World.{Idle, Does, completed_from, completed_word, left_of, made}
+use Rattle.turns.specs.declared.phase.Phase.TheVariants.{Requests, Seizes, Tests, Turns, Withdraws, GivesBack, Operates}
+use Rattle.turns.proofs.Completed.{all_spare}
+use Rattle.xbar_plan.specs.Tables.{Tables}
+use Rattle.xbar_office.specs.Legal.{after}
+use Rattle.xbar_jobs.specs.Attempt.{Attempt, Phase}
+use Rattle.xbar_jobs.specs.Office.{ShowsOffice, office}
+use Rattle.xbar_jobs.specs.declared.effect.Effect.{Effect}
+use Rattle.xbar_core.specs.Exchange.{Exchange, IsLawfulExchange, Work}
+use Rattle.xbar_core.specs.Holding.{IsAt, completed}
+use Rattle.xbar_core.proofs.Actors.{marker_at}
+use Rattle.xbar_core.proofs.Markers.{works}
+use Rattle.xbar_core.proofs.Records.{completed_shows}
+
+-- no marker past its turn has an effect left
+abbrev pub AreMade : Exchange → Type 0
+AreMade e = (k number turn : ℕ) (a : Attempt) → IsAt e k number a → a.phase ≡ Operates turn → a.effects ≡ []
+
+-- before the turn none is left in any case
+none_in : (phase : Phase) (effects : List Effect) → ((turn : ℕ) → phase ≡ Operates turn → effects ≡ []) → left_in phase effects ≡ []
+none_in (Operates turn) effects none = none turn refl
+none_in (Requests conn) effects none = refl
+none_in (Seizes conn expected) effects none = refl
+none_in (Tests word) effects none = refl
+none_in Turns effects none = refl
+none_in (Withdraws conn) effects none = refl
+none_in GivesBack effects none = refl
+
+module _ (plan : Tables) where
+  abbrev NoneLeft : List Work → Type 0
+  NoneLeft actors = (j : ℕ) (work : Work) → get_elem? actors j ≡ some work → left_of (office plan) work ≡ []
+
+  -- so nothing is to be completed
+  word_made : (actors : List Work) (word value : ℕ) → NoneLeft actors → completed_word (office plan) actors word value ≡ value
+  word_made actors word value none = all_spare (office plan) actors word value (λ j work there v. ap (λ (effects : List Effect). made (office plan) effects word v) (none j work there))
+
+  words_made : (actors : List Work) (word : ℕ) (words : List ℕ) → NoneLeft actors → completed_from (office plan) actors word words ≡ words
+  words_made actors word [] none = refl
+  words_made actors word (value ∷ words) none =
+      ap (λ (v : ℕ). v ∷ completed_from (office plan) actors (suc word) words) (word_made actors word value none)
+      ∙ ap (λ (rest : List ℕ). value ∷ rest) (words_made actors (suc word) words none)
+
+  module _ (e : Exchange) (lawful : IsLawfulExchange plan e) (none : AreMade e) where
+    none_left : NoneLeft (works e.markers)
+    none_left k Idle there = refl
+    none_left k (Does number a) there = none_in a.phase a.effects (λ turn past. none k number turn a (marker_at e k number a there) past)
+
+    completed_is : completed plan e ≡ e.words
+    completed_is = words_made (works e.markers) 0 e.words none_left
+
+    -- the words show the set as they are
+    pub made_show : ShowsOffice plan e.words (after plan e.records)
+    made_show = subst (λ (words : List ℕ). ShowsOffice plan words (after plan e.records)) completed_is (completed_shows plan e lawful)

@@ -1,0 +1,8 @@
+use Rattle.xbar_core.proofs.AskedConnectors.{preference_true, refusal_true}
+use Rattle.xbar_core.proofs.laws.events_tell_the_truth.Goals as goal
+
+pub returns-clause-refused : goal.returns-clause-refused
+returns-clause-refused c = refusal_true
+
+pub returns-clause-preferred : goal.returns-clause-preferred
+returns-clause-preferred c = preference_true
