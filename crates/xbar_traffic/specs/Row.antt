@@ -1,8 +1,8 @@
-use Rattle.std.specs.Prelude.{◌≡◌, ◌≢◌, ◌<◌, ℕ, Bool, true, false, ◌||◌, List, [], ◌∷◌, Result, Ok, Err, codes, decimal, bytes_eq}
+use Rattle.std.specs.Prelude.{◌≡◌, ◌≢◌, ◌<◌, ℕ, Bool, true, false, not, ◌&&◌, ◌||◌, if◌then◌else◌, List, [], ◌∷◌, Result, Ok, Err, codes, decimal, bytes_eq}
 use Rattle.xbar_equip.specs.Dialled.{IsDialled, dialled_text}
 use Rattle.xbar_equip.specs.Len.{IsLine, line_text}
 use Rattle.xbar_office.specs.Legal.{IsJob}
-use Rattle.xbar_traffic.specs.Job.{job_fields, job_fault, is_job_kind}
+use Rattle.xbar_traffic.specs.Job.{job_fields, is_job_kind}
 use Rattle.xbar_traffic.specs.declared.fault.RowFault.{RowFault}
 use Rattle.xbar_traffic.specs.declared.fault.RowFault.TheVariants.{Unreadable, UnknownKind, Malformed, OtherMode}
 use Rattle.xbar_traffic.specs.declared.row.Row.{Row}
@@ -33,23 +33,21 @@ row_fields (Assign marker job_no job) = codes "J" ∷ decimal marker ∷ decimal
 row_fields (Steps marker count) = codes "S" ∷ decimal marker ∷ decimal count ∷ [] ∷ [] ∷ []
 row_fields (Call call_no line dialled release) = codes "C" ∷ decimal call_no ∷ line_text line ∷ dialled_text dialled ∷ hold_letter release ∷ []
 
--- what is wrong with five fields that are no row of a replay, by whether the first is J, S or C, and whether the kind of job is one that there is
-abbrev pub replay_fault : Bool → Bool → Bool → Bool → RowFault
-replay_fault true is_s is_c knows_kind = job_fault knows_kind
-replay_fault false true is_c knows_kind = Malformed
-replay_fault false false true knows_kind = OtherMode
-replay_fault false false false knows_kind = UnknownKind
+-- whether a first field is the letter of a row; whether it is that of a row of this mode
+abbrev pub is_row_letter : List ℕ → Bool
+is_row_letter letter = bytes_eq letter (codes "J") || bytes_eq letter (codes "S") || bytes_eq letter (codes "C")
 
--- what is wrong with five fields that are no row of a live office, by whether the first is J or S, or C
-abbrev pub live_fault : Bool → Bool → RowFault
-live_fault true is_c = OtherMode
-live_fault false true = Malformed
-live_fault false false = UnknownKind
+abbrev pub is_letter_of : Mode → List ℕ → Bool
+is_letter_of Replay letter = bytes_eq letter (codes "J") || bytes_eq letter (codes "S")
+is_letter_of Live letter = bytes_eq letter (codes "C")
 
--- what is wrong with five fields that are no row of a mode, in the order in which it is looked for
+-- what is wrong with five fields that are no row of a mode: the first of these that applies
 abbrev pub five_fault : Mode → List ℕ → List ℕ → RowFault
-five_fault Replay letter kind = replay_fault (bytes_eq letter (codes "J")) (bytes_eq letter (codes "S")) (bytes_eq letter (codes "C")) (is_job_kind kind)
-five_fault Live letter kind = live_fault (bytes_eq letter (codes "J") || bytes_eq letter (codes "S")) (bytes_eq letter (codes "C"))
+five_fault mode letter kind =
+    if not (is_row_letter letter) then UnknownKind else
+    if not (is_letter_of mode letter) then OtherMode else
+    if bytes_eq letter (codes "J") && not (is_job_kind kind) then UnknownKind else
+    Malformed
 
 -- what is wrong with fields that are no row of a mode: there aren't five, or what is wrong with the five
 abbrev pub fields_fault : Mode → List (List ℕ) → RowFault

@@ -19,17 +19,22 @@ use xbar_office::Job;
 pub enum Row {
     /// A marker is assigned a job, and makes no step.
     Assign {
+        /// 0 to 99.
         marker: u32,
+        /// 0 to 9999.
         job_no: u32,
         job: Job,
     },
     /// A marker makes so many steps.
     Steps {
+        /// 0 to 99.
         marker: u32,
+        /// 0 to 9999.
         count: u32,
     },
     /// In a live office a line calls, is given dial tone, and dials.
     Call {
+        /// 0 to 9999.
         call_no: u32,
         line: Len,
         dialled: Dialled,
@@ -114,7 +119,7 @@ impl Row {
         let call_no = read_number(call_no, NUMBER_LIMIT).ok_or(RowFault::Malformed)?;
         let line = read_line(line)?;
         let dialled = read_dialled(dialled)?;
-        let release = read_hold(hold)?;
+        let release = read_release(hold)?;
         Ok(Row::Call {
             call_no,
             line,
@@ -168,7 +173,7 @@ fn read_dialled(text: &[u8]) -> Result<Dialled, RowFault>
 }
 
 /// Whether the call is released once it is connected.
-fn read_hold(text: &[u8]) -> Result<bool, RowFault>
+fn read_release(text: &[u8]) -> Result<bool, RowFault>
     ensures { MatchResult result (λ release. text.now ≡ hold_letter release) (λ fault. ((release : Bool) → text.now ≢ hold_letter release) × (fault ≡ RowFault.Malformed)) }
 {
     match text {
