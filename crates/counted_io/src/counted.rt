@@ -19,6 +19,7 @@ pub struct Counted<T> {
 impl<T> Counted<T> {
     ghost use Rattle.counted_io.specs.Counted.{counted_inner, counted_failures, counted_reads};
 
+    /// Counts from 0.
     pub fn new(inner: T) -> Self
         ensures inner { counted_inner result ≡ inner }
         ensures failures { counted_failures result ≡ 0 }
@@ -31,12 +32,14 @@ impl<T> Counted<T> {
         }
     }
 
+    /// The reader or writer inside.
     pub fn get_ref(&self) -> &T
         ensures { result.now ≡ counted_inner self.now }
     {
         &self.inner
     }
 
+    /// Gives the reader or writer back. The counts are lost.
     pub fn into_inner(self) -> T
         ensures { result ≡ counted_inner self }
     {

@@ -17,7 +17,8 @@ const CHUNK: usize = 512;
 ///
 /// The fault is `Long` if each of so many reads gave bytes, or if the count stands at `u64::MAX`;
 /// `Memory` if memory was refused; and `Stalled` after 2^64 - 1 errors in a row that the source didn't
-/// count. What it doesn't count is no read and no failure: reading goes on.
+/// count. What it doesn't count is no read and no failure: reading goes on. After a fault what was read is
+/// lost, and nothing is said of where the source stands.
 pub fn read_all<R: Source>(alloc: Global, source: &mut R) -> Result<Vec<u8>, ReadFault>
     ensures bytes { IfOk result (λ bytes. IfSome (R.remaining source.old) (λ all. bytes.items ≡ all)) }
     ensures end { OnOk result (IsAtEnd (R.remaining source.new)) }

@@ -8,7 +8,7 @@ use crate::write_fault::WriteFault;
 /// Writes all of the bytes and flushes.
 ///
 /// What the sink doesn't count is no failure, and the write or flush is tried again. The fault is
-/// `Stalled` after 2^64 - 1 of these in a row.
+/// `Stalled` after 2^64 - 1 of these in a row. How much went out before a fault is left open.
 pub fn write_all<W: Sink>(sink: &mut W, bytes: &[u8]) -> Result<(), WriteFault>
     ensures bytes { OnOk result (Appends (W.contents sink.old) (W.contents sink.new) bytes.now) }
     ensures device { result ≡ Err WriteFault.Device → FailureCounted (W.failure_count sink.old) (W.failure_count sink.new) }
