@@ -1,4 +1,4 @@
-use Rattle.std.specs.Prelude.{◌≡◌, ℕ, List, length, map}
+use Rattle.std.specs.Prelude.{◌≡◌, ℕ, ◌==◌, ◌||◌, Bool, List, length, map}
 use Rattle.xbar_core.specs.declared.kind.Kind.{Kind}
 use Rattle.xbar_core.specs.declared.kind.Kind.TheVariants.{Dial, Completing, Combined}
 use Rattle.crossbar5.specs.Faults.{IsMarkerCount}
@@ -8,6 +8,10 @@ abbrev pub letter_of : Kind → ℕ
 letter_of Dial = 68
 letter_of Completing = 67
 letter_of Combined = 88
+
+-- whether a letter names a kind
+abbrev pub is_letter : ℕ → Bool
+is_letter letter = letter == letter_of Dial || letter == letter_of Completing || letter == letter_of Combined
 
 -- a text names the kinds of an office's markers, marker 0 first, a letter for each
 pub record Names (text : List ℕ) (kinds : List Kind) : Type 0 where

@@ -1,4 +1,4 @@
-use Rattle.std.specs.Prelude.{◌≡◌, ℕ, ◌+◌, ◌*◌, true, length, Option, Some, None, Result, Ok, Err, List, [], ◌∷◌, slice_get, ⊤}
+use Rattle.std.specs.Prelude.{◌≡◌, ◌⊎◌, ℕ, ◌+◌, ◌*◌, true, length, Option, Some, None, Result, Ok, Err, List, [], ◌∷◌, slice_get, ⊤}
 use Rattle.csv.specs.Reading.{default_config, records as csv_records, strip_bom}
 use Rattle.xbar_equip.specs.Word.{TurnWord}
 use Rattle.xbar_plan.specs.Document.{plan_of}
@@ -19,6 +19,7 @@ use Rattle.xbar_traffic.specs.declared.fault.RowFault.TheVariants.{Marker as AtM
 use Rattle.xbar_traffic.specs.declared.fault.TrafficFault.{TrafficFault}
 use Rattle.xbar_traffic.specs.declared.mode.Mode.TheVariants.{Replay}
 use Rattle.xbar_traffic.specs.declared.row.Row.{Row}
+use Rattle.crossbar5.specs.Faults.{IsMarkerCount}
 use Rattle.crossbar5.specs.Report.{plan_fault_line, report_text}
 use Rattle.crossbar5.specs.Rows.{done, row_fault}
 use Rattle.crossbar5.specs.declared.status.Status.{Status}
@@ -97,3 +98,7 @@ IsReplayOf (Ok plan) kinds traffic text status = IsReplayUnder plan kinds traffi
 -- the text and the status are those of a replay of traffic with a plan's text and markers of these kinds
 abbrev pub IsReplay : List ℕ → List Kind → List ℕ → List ℕ → Status → Type 0
 IsReplay plan kinds traffic text status = IsReplayOf (plan_of plan) kinds traffic text status
+
+-- markers that are no office's, or a plan's text that is refused, refuse a replay before any traffic is read
+abbrev pub IsRefusedUnread : List ℕ → List Kind → Type 0
+IsRefusedUnread plan kinds = ¬ IsMarkerCount (length kinds) ⊎ ((fault : PlanFault) × (plan_of plan ≡ Err fault))

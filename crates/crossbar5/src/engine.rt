@@ -4,16 +4,15 @@ ghost use Rattle.std.specs.Prelude.{◌≡◌, ◌≢◌, ◌↔◌, ◌⊎◌, 
 ghost use Rattle.std.specs.Io.KnownBytes.{Appends, Keeps};
 ghost use Rattle.counted_io.specs.Counts.{FailureCounted, NoneCounted, ReadsUsedUp};
 ghost use Rattle.crossbar5.specs.Faults.{ComesFirst, IsMarkerCount};
-ghost use Rattle.crossbar5.specs.Run.{IsReplay, IsReplayUnder, IsWrittenOf, RefusesPlan};
+ghost use Rattle.crossbar5.specs.Run.{IsRefusedUnread, IsReplay, IsReplayUnder, IsWrittenOf, RefusesPlan};
 
 use crate::engine_fault::EngineFault;
-use crate::kinds::MOST_MARKERS;
 use crate::run::run;
 use crate::status::Status;
 use crate::written::Written;
 use counted_io::{Sink, Source, read_all, write_all};
 use std::alloc::{AllocError, Global};
-use xbar_core::Kind;
+use xbar_core::{Kind, MOST_MARKERS};
 use xbar_plan::{Plan, PlanFault};
 use xbar_traffic::{Mode, Traffic};
 
@@ -54,6 +53,7 @@ fn comes_to<R: Source>(
     ensures device { result ≡ Err EngineFault.Device → FailureCounted (R.failure_count source.old) (R.failure_count source.new) }
     ensures no_failure { result ≢ Err EngineFault.Device → NoneCounted (R.failure_count source.old) (R.failure_count source.new) }
     ensures long { result ≡ Err EngineFault.Long → ReadsUsedUp (R.read_count source.old) (R.read_count source.new) }
+    ensures unread { IsRefusedUnread plan.now kinds.now → source.new ≡ source.old }
 {
     if kinds.is_empty() || kinds.len() > MOST_MARKERS {
         return Err(EngineFault::Markers);
@@ -70,8 +70,8 @@ fn comes_to<R: Source>(
 /// Replays the traffic that the source gives, in an office with the plan of this text and markers of
 /// these kinds, and writes what comes of it to the sink.
 ///
-/// The markers are judged first, then the plan, then the traffic. A plan that is refused leaves the
-/// source unread. The input is read to its end before a row is looked at, and the output is written in
+/// The markers are judged first, then the plan, then the traffic. Markers or a plan that are refused
+/// leave the source unread. The input is read to its end before a row is looked at, and the output is written in
 /// one go once all is known. Of how much went out before `Device` or `Stalled` nothing is said.
 pub fn run_replay<R: Source, W: Sink>(
     alloc: Global,
@@ -85,6 +85,7 @@ pub fn run_replay<R: Source, W: Sink>(
     ensures device { result ≡ Err EngineFault.Device → FailureCounted (R.failure_count source.old) (R.failure_count source.new) ⊎ FailureCounted (W.failure_count sink.old) (W.failure_count sink.new) }
     ensures no_failure { result ≢ Err EngineFault.Device → NoneCounted (R.failure_count source.old) (R.failure_count source.new) × NoneCounted (W.failure_count sink.old) (W.failure_count sink.new) }
     ensures long { result ≡ Err EngineFault.Long → ReadsUsedUp (R.read_count source.old) (R.read_count source.new) }
+    ensures unread { IsRefusedUnread plan.now kinds.now → source.new ≡ source.old }
     ensures unwritten { IfErr result (λ fault. ComesFirst fault → Keeps (W.contents sink.old) (W.contents sink.new)) }
 {
     let written = comes_to(alloc, plan, kinds, source)?;

@@ -6,21 +6,22 @@ use counted_io::{ReadFault, WriteFault};
 use std::alloc::{AllocError, AllocFailed};
 use thiserror::Error;
 
-/// Why a run came to no text.
+/// Why a run wrote no whole text, or why the kinds of the markers are refused. A fault's text is its name.
 #[derive(Clone, Copy, Debug, PartialEq, Eq, Error)]
 pub enum EngineFault {
     /// The markers aren't 1 to 48, or the text of their kinds names none.
-    #[error("an office has 1 to 48 markers of the kinds D, C and X")]
+    #[error("Markers")]
     Markers,
-    #[error("memory ran out")]
+    #[error("Memory")]
     Memory,
     /// A read, a write or a flush failed, and was counted.
-    #[error("a device failed")]
+    #[error("Device")]
     Device,
     /// There were too many reads that gave bytes.
-    #[error("the traffic is too long")]
+    #[error("Long")]
     Long,
-    #[error("a device gave errors without end that it did not count")]
+    /// A device gave 2^64 - 1 errors in a row that it did not count.
+    #[error("Stalled")]
     Stalled,
 }
 

@@ -1,17 +1,15 @@
-ghost use Rattle.std.specs.Prelude.{◌≡◌, ◌⊎◌, List, Err, IfErr, IfOk, MatchOption};
-ghost use Rattle.crossbar5.specs.Kinds.{Names, letter_of};
+ghost use Rattle.std.specs.Prelude.{◌≡◌, ◌⊎◌, ◌↔◌, List, EachIndex, Err, IfErr, IfOk, IfSome, IsTrue, is_some, slice_index};
+ghost use Rattle.crossbar5.specs.Kinds.{Names, is_letter, letter_of};
 ghost use Rattle.xbar_core.specs.declared.kind.Kind.{Kind as TheKind};
 
 use crate::engine_fault::EngineFault;
 use std::alloc::Global;
-use xbar_core::Kind;
-
-/// The most markers that an office has.
-pub const MOST_MARKERS: usize = 48;
+use xbar_core::{Kind, MOST_MARKERS};
 
 /// The kind that a letter names.
 fn kind_of(letter: u8) -> Option<Kind>
-    ensures { MatchOption result ((kind : TheKind) → ¬ (letter ≡ letter_of kind)) (λ kind. letter ≡ letter_of kind) }
+    ensures named { IfSome result (λ kind. letter ≡ letter_of kind) }
+    ensures known { is_some result ≡ is_letter letter }
 {
     match letter {
         b'D' => Some(Kind::Dial),
@@ -21,22 +19,28 @@ fn kind_of(letter: u8) -> Option<Kind>
     }
 }
 
+/// Whether each letter names a kind.
+fn are_letters(letters: &[u8]) -> bool
+    ensures { IsTrue result ↔ EachIndex letters.now (λ at. IsTrue (is_letter (slice_index letters.now at))) }
+{
+    letters.iter().all(|letter| kind_of(*letter).is_some())
+}
+
 /// The kinds that a text names, as `XX` or `DC`: a letter for each marker, marker 0 first. `D` is for
-/// dial tone jobs, `C` for completing jobs and releases, `X` for all.
+/// dial tone jobs, `C` for completing jobs and releases, `X` for all. `Markers` is answered where it names none.
 pub fn kinds_of(alloc: Global, text: &str) -> Result<Vec<Kind>, EngineFault>
     ensures named { IfOk result (λ kinds. Names text.now kinds.items) }
-    ensures refused { (result ≡ Err EngineFault.Markers) → (kinds : List TheKind) → ¬ Names text.now kinds }
+    ensures refused { (result ≡ Err EngineFault.Markers) ↔ ((kinds : List TheKind) → ¬ Names text.now kinds) }
     ensures why { IfErr result (λ fault. (fault ≡ EngineFault.Markers) ⊎ (fault ≡ EngineFault.Memory)) }
 {
-    if text.is_empty() || text.len() > MOST_MARKERS {
+    if text.is_empty() || text.len() > MOST_MARKERS || !are_letters(text.as_bytes()) {
         return Err(EngineFault::Markers);
     }
     let mut kinds = Vec::new(alloc);
     for letter in text.as_bytes() {
-        let Some(kind) = kind_of(*letter) else {
-            return Err(EngineFault::Markers);
-        };
-        kinds.push(kind)?;
+        if let Some(kind) = kind_of(*letter) {
+            kinds.push(kind)?;
+        }
     }
     Ok(kinds)
 }

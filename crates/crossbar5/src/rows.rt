@@ -32,7 +32,7 @@ fn assign(
     }
 }
 
-/// Has a marker make so many steps, or tells that there is none.
+/// Has a marker make so many steps, or tells that the office has no such marker.
 fn make_steps(office: &mut Exchange, marker: u32, count: u32) -> Option<MarkerFault>
     ensures fault { result ≡ missing (slice_get office.old.exchange.markers marker) }
     ensures done { result ≡ None → office.new ≡ record office.old { exchange = steps office.old.plan marker count office.old.exchange } }

@@ -18,7 +18,7 @@ use xbar_match::{count_closed, count_paths};
 use xbar_plan::Plan;
 use xbar_traffic::{RowFault, Traffic, TrafficFault};
 
-/// An office with as many markers as one may have.
+/// Opens an office; how many markers it has is known to be in range.
 fn open<'p>(alloc: Global, plan: &'p Plan, kinds: &[Kind]) -> Result<Exchange<'p>, AllocError>
     requires { IsMarkerCount (length kinds.now) }
     ensures { IfOk result (λ office. office ≡ record { plan = plan.now; exchange = opened kinds.now }) }
@@ -54,7 +54,7 @@ fn settled(alloc: Global, mut office: Exchange<'_>) -> Result<Written, AllocErro
     })
 }
 
-/// Does the rows of traffic one after another in an office that opens.
+/// Opens an office, does the rows one after another and settles it: what came of it, or of the first fault.
 pub fn run(
     alloc: Global,
     plan: &Plan,

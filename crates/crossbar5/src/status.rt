@@ -1,4 +1,4 @@
-/// How a run of the program ended, where no fault stopped it.
+/// How a run ended whose text was written whole.
 #[derive(Clone, Copy, Debug, PartialEq, Eq)]
 pub enum Status {
     /// The traffic was done, and what came of it was written.

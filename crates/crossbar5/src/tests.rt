@@ -25,6 +25,11 @@ faults = [{faults}]\n"
     )
 }
 
+/// A dial tone job that is done alone, and what it comes to under the example plan.
+const FIRST: &str = "J,0,1,D,3041\nS,0,96,,\n";
+
+const FIRST_TEXT: &str = "0,1,0,D,3041,-,DIALTONE,1,3041-0-417,-\nPATHS,1\nCLOSED,4\n";
+
 const TWO: [Kind; 2] = [Kind::Combined; 2];
 
 /// What is written for a plan and traffic, and the status.
@@ -40,15 +45,17 @@ fn replayed(
     Ok((sink.into_inner(), status))
 }
 
-/// Whether traffic comes to this text, and ends with this status.
-fn comes_to(
+/// A replay of this traffic writes this text, and ends with this status.
+fn check_replay(
+    rt: &impl Abort,
     alloc: Global,
     plan: &str,
     kinds: &[Kind],
     traffic: &[u8],
-    text: &str,
-    status: Status,
-) -> Result<bool, Fail> {
-    let (written, ended) = replayed(alloc, plan, kinds, traffic)?;
-    Ok(ended == status && written.as_slice() == text.as_bytes())
+    wanted: (&str, Status),
+) -> Result<(), Fail> {
+    let (written, status) = replayed(alloc, plan, kinds, traffic)?;
+    let text = str::from_utf8(&written).unwrap_or("this is no text");
+    assert_eq!(rt; (text, status), wanted);
+    Ok(())
 }

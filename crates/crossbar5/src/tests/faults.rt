@@ -4,8 +4,6 @@ use super::*;
 use std::io;
 use std::io::{ErrorKind, Read, Write};
 
-const FIRST: &str = "J,0,1,D,3041\nS,0,96,,\n";
-
 /// Passes some calls, and fails the one that follows.
 #[derive(Drop)]
 struct FailAt<T> {
@@ -108,13 +106,10 @@ fn traffic_without_end_is_too_long(rt: HostRuntime) -> Result<(), Fail> {
 #[test]
 fn texts_of_faults(rt: HostRuntime) -> Result<(), Fail> {
     for (fault, text) in [
-        (
-            EngineFault::Markers,
-            "an office has 1 to 48 markers of the kinds D, C and X",
-        ),
-        (EngineFault::Memory, "memory ran out"),
-        (EngineFault::Device, "a device failed"),
-        (EngineFault::Long, "the traffic is too long"),
+        (EngineFault::Markers, "Markers"),
+        (EngineFault::Memory, "Memory"),
+        (EngineFault::Device, "Device"),
+        (EngineFault::Long, "Long"),
     ] {
         assert_eq!(rt; fault.to_string(rt.alloc())?.as_str(), text);
     }

@@ -9,16 +9,14 @@ fn two_markers_meet_at_a_connector(rt: HostRuntime) -> Result<(), Fail> {
     // Records stand in the order of their turns, and not of their job numbers.
     let text = "0,9,0,D,3041,-,DIALTONE,1,3041-0-417,-\n\
 1,1,1,D,3052,-,DIALTONE,1,3052-1-418,-\nPATHS,2\nCLOSED,8\n";
-    assert!(rt;
-        comes_to(
-            rt.alloc(),
-            &plan,
-            &TWO,
-            traffic.as_bytes(),
-            text,
-            Status::Fine
-        )?
-    );
+    check_replay(
+        &rt,
+        rt.alloc(),
+        &plan,
+        &TWO,
+        traffic.as_bytes(),
+        (text, Status::Fine),
+    )?;
     Ok(())
 }
 
@@ -36,8 +34,14 @@ fn rows_are_for_markers_that_take_them(rt: HostRuntime) -> Result<(), Fail> {
         ("S,2,0,,\n", "FAULT,T5,1,C1\n"),
     ] {
         let status = Status::TrafficRefused;
-        let comes = comes_to(rt.alloc(), &plan, &kinds, traffic.as_bytes(), text, status)?;
-        assert!(rt; comes, "{traffic}");
+        check_replay(
+            &rt,
+            rt.alloc(),
+            &plan,
+            &kinds,
+            traffic.as_bytes(),
+            (text, status),
+        )?;
     }
     Ok(())
 }
@@ -51,16 +55,14 @@ fn markers_of_two_kinds_serve_a_call(rt: HostRuntime) -> Result<(), Fail> {
     let text = "0,21,0,D,3041,-,DIALTONE,1,3041-0-417,-\n\
 1,22,1,C,3041,5551234,CONNECTED,1,3041-0-800,-\n\
 2,23,1,R,3041,-,RELEASED,-,3041-0-800,-\nPATHS,0\nCLOSED,0\n";
-    assert!(rt;
-        comes_to(
-            rt.alloc(),
-            &plan,
-            &kinds,
-            traffic.as_bytes(),
-            text,
-            Status::Fine
-        )?
-    );
+    check_replay(
+        &rt,
+        rt.alloc(),
+        &plan,
+        &kinds,
+        traffic.as_bytes(),
+        (text, Status::Fine),
+    )?;
     Ok(())
 }
 
@@ -70,15 +72,13 @@ fn idle_markers_make_no_steps(rt: HostRuntime) -> Result<(), Fail> {
     let plan = plan_with(rt.alloc(), "")?;
     let traffic = "S,0,9999,,\nJ,1,1,D,3041\nS,0,9999,,\nS,1,9999,,\nS,0,1,,\n";
     let text = "0,1,1,D,3041,-,DIALTONE,1,3041-0-417,-\nPATHS,1\nCLOSED,4\n";
-    assert!(rt;
-        comes_to(
-            rt.alloc(),
-            &plan,
-            &TWO,
-            traffic.as_bytes(),
-            text,
-            Status::Fine
-        )?
-    );
+    check_replay(
+        &rt,
+        rt.alloc(),
+        &plan,
+        &TWO,
+        traffic.as_bytes(),
+        (text, Status::Fine),
+    )?;
     Ok(())
 }

@@ -36,17 +36,12 @@ fn refused_memory_leaves_nothing_written(rt: HostRuntime) -> Result<(), Fail> {
     let Ok(refused) = plan_with(alloc, "\"JU34\"") else {
         return Ok(());
     };
-    let dial = "J,0,1,D,3041\nS,0,96,,\n";
     let call = "J,0,1,D,3041\nS,0,96,,\nJ,0,2,C,3041 2340004\nS,0,96,,\n";
     let table = [
-        (
-            plan.as_str(),
-            dial,
-            "0,1,0,D,3041,-,DIALTONE,1,3041-0-417,-\nPATHS,1\nCLOSED,4\n",
-        ),
+        (plan.as_str(), FIRST, FIRST_TEXT),
         (
             faulty.as_str(),
-            dial,
+            FIRST,
             "0,1,0,D,3041,-,DIALTONE,2,3041-5-418,-\nTROUBLE,0,1,1,JU340\nPATHS,1\nCLOSED,4\n",
         ),
         (
@@ -55,7 +50,7 @@ fn refused_memory_leaves_nothing_written(rt: HostRuntime) -> Result<(), Fail> {
             "0,1,0,D,3041,-,DIALTONE,1,3041-0-417,-\n\
 1,2,0,C,3041,2340004,CONNECTED,1,3041-0-600,3100-1-601\nPATHS,2\nCLOSED,8\n",
         ),
-        (refused.as_str(), dial, "FAULT,P5\n"),
+        (refused.as_str(), FIRST, "FAULT,P5\n"),
     ];
     for (plan, traffic, text) in table {
         comes_to_it_or_memory(&rt, alloc, plan, traffic.as_bytes(), text)?;

@@ -2,8 +2,6 @@
 
 use super::*;
 
-const FIRST: &str = "J,0,1,D,3041\nS,0,96,,\n";
-
 #[test]
 fn faulty_links_are_met(rt: HostRuntime) -> Result<(), Fail> {
     for (faults, text) in [
@@ -17,17 +15,42 @@ fn faulty_links_are_met(rt: HostRuntime) -> Result<(), Fail> {
         ),
     ] {
         let plan = plan_with(rt.alloc(), faults)?;
-        let comes = comes_to(
+        check_replay(
+            &rt,
             rt.alloc(),
             &plan,
             &TWO,
             FIRST.as_bytes(),
-            text,
-            Status::Fine,
+            (text, Status::Fine),
         )?;
-        assert!(rt; comes, "{faults}");
     }
     Ok(())
+}
+
+/// A number of two lines, so a plan in version 2.
+const HUNTING: &str = r#"version = 2
+groups = ["REG register 417 418 509", "INTRA intra 600-601 700-711", "OUTA outgoing 800", "OUTB outgoing 801 902"]
+numbers = ["0001 3041", "0002 3052 3100", "0003 1000"]
+codes = ["234 INTRA", "555 OUTA OUTB"]
+faults = []
+"#;
+
+/// The first line of the number is busy, so the second is called.
+#[test]
+fn the_next_idle_line_is_called(rt: HostRuntime) -> Result<(), Fail> {
+    let traffic =
+        "J,0,1,D,3052\nS,0,128,,\nJ,0,2,D,3041\nS,0,128,,\nJ,0,3,C,3041 2340002\nS,0,128,,\n";
+    let text = "0,1,0,D,3052,-,DIALTONE,1,3052-0-417,-\n\
+1,2,0,D,3041,-,DIALTONE,1,3041-1-418,-\n\
+2,3,0,C,3041,2340002,CONNECTED,1,3041-1-600,3100-0-601\nPATHS,3\nCLOSED,12\n";
+    check_replay(
+        &rt,
+        rt.alloc(),
+        HUNTING,
+        &TWO,
+        traffic.as_bytes(),
+        (text, Status::Fine),
+    )
 }
 
 #[test]
@@ -56,8 +79,14 @@ fn plans_are_refused(rt: HostRuntime) -> Result<(), Fail> {
         // The plan is judged before the traffic.
         for traffic in [FIRST, "Q"] {
             let status = Status::PlanRefused;
-            let comes = comes_to(rt.alloc(), &plan, &TWO, traffic.as_bytes(), text, status)?;
-            assert!(rt; comes, "{rest}");
+            check_replay(
+                &rt,
+                rt.alloc(),
+                &plan,
+                &TWO,
+                traffic.as_bytes(),
+                (text, status),
+            )?;
         }
     }
     Ok(())

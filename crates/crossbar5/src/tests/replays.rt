@@ -2,11 +2,6 @@
 
 use super::*;
 
-/// The first row of a traffic, and 96 steps.
-const FIRST: &str = "J,0,1,D,3041\nS,0,96,,\n";
-
-const FIRST_TEXT: &str = "0,1,0,D,3041,-,DIALTONE,1,3041-0-417,-\nPATHS,1\nCLOSED,4\n";
-
 /// A call inside the office: it is set up, the register serves another line, the called line releases, and
 /// the calling line has no call any more.
 const CALL: &str =
@@ -40,15 +35,14 @@ fn traffic_that_is_done(rt: HostRuntime) -> Result<(), Fail> {
             "0,9,0,D,3041,-,DIALTONE,1,3041-0-417,-\n1,2,0,D,1000,-,DIALTONE,1,1000-1-418,-\nPATHS,2\nCLOSED,8\n",
         ),
     ] {
-        let comes = comes_to(
+        check_replay(
+            &rt,
             rt.alloc(),
             &plan,
             &TWO,
             traffic.as_bytes(),
-            text,
-            Status::Fine,
+            (text, Status::Fine),
         )?;
-        assert!(rt; comes, "{traffic}");
     }
     Ok(())
 }
@@ -74,18 +68,23 @@ fn traffic_that_is_refused(rt: HostRuntime) -> Result<(), Fail> {
         ("J,0,1,D,3041\nS,0,96,,\nQ,0,2,D,3041\n", "FAULT,T2,3\n"),
     ] {
         let status = Status::TrafficRefused;
-        let comes = comes_to(rt.alloc(), &plan, &TWO, traffic.as_bytes(), text, status)?;
-        assert!(rt; comes, "{traffic}");
+        check_replay(
+            &rt,
+            rt.alloc(),
+            &plan,
+            &TWO,
+            traffic.as_bytes(),
+            (text, status),
+        )?;
     }
-    let comes = comes_to(
+    check_replay(
+        &rt,
         rt.alloc(),
         &plan,
         &TWO,
         b"\xff,0,1,D,3041\n",
-        "FAULT,T2,1\n",
-        Status::TrafficRefused,
-    );
-    assert!(rt; comes?);
+        ("FAULT,T2,1\n", Status::TrafficRefused),
+    )?;
     Ok(())
 }
 
@@ -101,8 +100,7 @@ fn traffic_cut_after_each_byte(rt: HostRuntime) -> Result<(), Fail> {
             _ => (FIRST_TEXT, Status::Fine),
         };
         let traffic = FIRST.as_bytes().get(..cut).unwrap_or(b"");
-        let comes = comes_to(rt.alloc(), &plan, &TWO, traffic, text, status)?;
-        assert!(rt; comes, "cut after {cut}");
+        check_replay(&rt, rt.alloc(), &plan, &TWO, traffic, (text, status))?;
     }
     Ok(())
 }
