@@ -2,6 +2,7 @@
 //! markers that its words ask for, and writes what comes of it to standard output.
 #![tactic(auto)]
 
+use crate::exit::Exit;
 use counted_io::read_all;
 use crossbar5::{Counted, EngineFault, Status, kinds_of, run_replay};
 use crossbar5_command::{Ask, CommandFault, command};
@@ -12,31 +13,21 @@ use std::process::ExitCode;
 use std::{env, io};
 use xbar_plan::Plan;
 
+mod exit;
 #[cfg(test)]
 mod tests;
 
-const FINE: u8 = 0;
-
-const COMMAND_LINE: u8 = 2;
-
-const PLAN: u8 = 3;
-
-const TRAFFIC: u8 = 4;
-
-const MEMORY: u8 = 5;
-
-const DEVICE: u8 = 6;
-
 /// Runs the program, and tells the status that it ends with.
 pub fn run(rt: &HostRuntime) -> ExitCode {
-    ExitCode::from(match words(rt) {
+    let exit = match words(rt) {
         Ok(words) => run_words(rt, &words),
         Err(error) if error.kind() == ErrorKind::OutOfMemory => fail(rt, EngineFault::Memory),
         Err(_) => {
-            let _told = rt.eprintln("error: a word of the command line is no text");
-            COMMAND_LINE
+            let _told = rt.eprintln("error: a word of the command line is not UTF-8 text");
+            Exit::CommandLine
         }
-    })
+    };
+    exit.into()
 }
 
 /// The words of the command line, the program's name first.
@@ -44,7 +35,7 @@ fn words(rt: &HostRuntime) -> io::Result<Vec<String>> {
     Ok(env::args(rt)?.collect(rt.alloc())?)
 }
 
-fn run_words(rt: &HostRuntime, words: &[String]) -> u8 {
+fn run_words(rt: &HostRuntime, words: &[String]) -> Exit {
     let words: Result<Vec<&str>, AllocError> = words
         .iter()
         .map(|word| word.as_str())
@@ -55,10 +46,10 @@ fn run_words(rt: &HostRuntime, words: &[String]) -> u8 {
     }
 }
 
-fn do_as_asked(rt: &HostRuntime, words: &[&str]) -> u8 {
+fn do_as_asked(rt: &HostRuntime, words: &[&str]) -> Exit {
     match command(rt.alloc(), words) {
         Ok(Ask::Replay { plan, kinds }) => match replay(rt, &plan, &kinds) {
-            Ok(end) => status_of(end),
+            Ok(status) => status.into(),
             Err(fault) => fail(rt, fault),
         },
         Err(CommandFault::Memory) => fail(rt, EngineFault::Memory),
@@ -89,36 +80,30 @@ fn example_plan(alloc: Global) -> Result<Vec<u8>, AllocError> {
     Plan::example(alloc)?.version_2(alloc)
 }
 
-fn status_of(end: Status) -> u8 {
-    match end {
-        Status::Fine => FINE,
-        Status::PlanRefused => PLAN,
-        Status::TrafficRefused => TRAFFIC,
-    }
-}
-
 /// Tells help or the version on standard output, and why the words are refused on standard error.
-fn tell(rt: &HostRuntime, error: &clap::Error) -> u8 {
-    match error.print(rt) {
-        Ok(()) if error.use_stderr() => COMMAND_LINE,
-        Ok(()) => FINE,
+/// That standard error can't be written changes nothing.
+fn tell(rt: &HostRuntime, error: &clap::Error) -> Exit {
+    let told = error.print(rt);
+    if error.use_stderr() {
+        return Exit::CommandLine;
+    }
+    match told {
+        Ok(()) => Exit::Fine,
         Err(_) => fail(rt, EngineFault::Device),
     }
 }
 
-/// The line that tells a fault, and the status.
-fn told(fault: EngineFault) -> (&'static str, u8) {
-    match fault {
-        EngineFault::Markers => ("FAULT,MARKERS", COMMAND_LINE),
-        EngineFault::Memory => ("FAULT,MEMORY", MEMORY),
-        EngineFault::Device | EngineFault::Stalled => ("FAULT,DEVICE", DEVICE),
-        EngineFault::Long => ("FAULT,LONG", TRAFFIC),
-    }
+/// Tells a fault on standard error. That this can't be written changes nothing.
+fn fail(rt: &HostRuntime, fault: EngineFault) -> Exit {
+    let _told = rt.eprintln(fault_line(fault));
+    fault.into()
 }
 
-/// Tells a fault on standard error. That this can't be written changes nothing.
-fn fail(rt: &HostRuntime, fault: EngineFault) -> u8 {
-    let (line, status) = told(fault);
-    let _told = rt.eprintln(line);
-    status
+fn fault_line(fault: EngineFault) -> &'static str {
+    match fault {
+        EngineFault::Markers => "FAULT,MARKERS",
+        EngineFault::Memory => "FAULT,MEMORY",
+        EngineFault::Device | EngineFault::Stalled => "FAULT,DEVICE",
+        EngineFault::Long => "FAULT,LONG",
+    }
 }

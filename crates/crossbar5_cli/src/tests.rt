@@ -1,22 +1,26 @@
 use super::*;
+use std::test::Fail;
 
 #[test]
 fn each_end_has_its_status(rt: HostRuntime) {
-    for (end, status) in [
+    for (status, number) in [
         (Status::Fine, 0),
         (Status::PlanRefused, 3),
         (Status::TrafficRefused, 4),
     ] {
-        assert_eq!(rt; status_of(end), status);
+        assert_eq!(rt; Exit::from(status) as u8, number);
     }
-    for (fault, line, status) in [
+    for (fault, line, number) in [
         (EngineFault::Markers, "FAULT,MARKERS", 2),
         (EngineFault::Long, "FAULT,LONG", 4),
         (EngineFault::Memory, "FAULT,MEMORY", 5),
         (EngineFault::Device, "FAULT,DEVICE", 6),
         (EngineFault::Stalled, "FAULT,DEVICE", 6),
     ] {
-        assert_eq!(rt; told(fault), (line, status));
+        assert_eq!(rt;
+            (fault_line(fault), Exit::from(fault) as u8),
+            (line, number)
+        );
     }
 }
 
@@ -29,28 +33,25 @@ fn plans_are_found(rt: HostRuntime) {
     assert_eq!(rt; missing, Some(EngineFault::Device));
 }
 
+/// The words behind the program's name, parted by spaces.
+fn exit_of(rt: &HostRuntime, line: &str) -> Result<u8, Fail> {
+    let words: Vec<&str> = line.split(' ').collect(rt.alloc())?;
+    Ok(do_as_asked(rt, &words) as u8)
+}
+
 #[test]
-fn words_end_with_their_status(rt: HostRuntime) {
-    for (words, status) in [
-        (&["crossbar5", "--help"][..], 0),
-        (&["crossbar5", "replay", "--help"], 0),
-        (&["crossbar5", "--version"], 0),
-        (&["crossbar5", "live"], 2),
-        (&["crossbar5", "--markers", "XX"], 2),
-        (&["crossbar5", "replay", "--markers", "DCY"], 2),
-        (
-            &[
-                "crossbar5",
-                "replay",
-                "--plan",
-                "missing.toml",
-                "--markers",
-                "DCY",
-            ],
-            2,
-        ),
-        (&["crossbar5", "replay", "--plan", "missing.toml"], 6),
+fn words_end_with_their_status(rt: HostRuntime) -> Result<(), Fail> {
+    for (line, number) in [
+        ("crossbar5 --help", 0),
+        ("crossbar5 replay --help", 0),
+        ("crossbar5 --version", 0),
+        ("crossbar5 live", 2),
+        ("crossbar5 --markers XX", 2),
+        ("crossbar5 replay --markers DCY", 2),
+        ("crossbar5 replay --plan missing.toml --markers DCY", 2),
+        ("crossbar5 replay --plan missing.toml", 6),
     ] {
-        assert_eq!(rt; do_as_asked(&rt, words), status);
+        assert_eq!(rt; exit_of(&rt, line)?, number, "{line}");
     }
+    Ok(())
 }

@@ -22,8 +22,9 @@ pub const DEFAULT_KINDS: &str = "XX";
 
 const ABOUT: &str = "\
 Replays traffic from standard input in a simulated No. 5 Crossbar telephone
-office, and writes what came of each call to standard output. Without a command
-it replays with the example plan and two markers for all jobs.";
+office, and writes what came of each job to standard output. Without a command
+it replays with the example plan and two markers for all jobs. The options of
+replay, --plan FILE and --markers KINDS, are told by 'crossbar5 replay --help'.";
 
 const ABOUT_REPLAY: &str = "\
 Replays traffic from standard input with a plan and markers of your choice";
@@ -38,16 +39,20 @@ X for all jobs";
 
 const EXAMPLE_AND_STATUSES: &str = "\
 Example:
-  printf 'J,0,1,D,3041\\nS,0,96,,\\n' | crossbar5 replay --markers XX
+  printf 'J,0,1,D,3041\\nS,0,128,,\\n' | crossbar5 replay --markers XX
 
   The first row of this traffic gives marker 0 the job number 1: line 3041
-  wants dial tone. The second row makes 96 steps of marker 0.
+  wants dial tone. The second row has marker 0 make its steps: no job that
+  is alone in the office needs more than 128.
+
+  All rows, plans, output and fault lines are defined in docs/FORMATS.md;
+  plans and traffic to begin from are in examples.
 
 Exit status:
   0  All is fine
-  2  The command line is refused, or KINDS
+  2  The command line is refused, or the KINDS of the markers
   3  The plan is refused
-  4  The traffic is refused, or too long
+  4  The traffic is refused; or it is too long, or the plan's FILE is
   5  Memory ran out
   6  A device failed, or FILE can't be read";
 

@@ -160,11 +160,11 @@ fn help_tells_how_to_start(rt: HostRuntime) -> Result<(), Fail> {
     ] {
         let text = text_of(rt.alloc(), line)?;
         for part in [
-            "  printf 'J,0,1,D,3041\\nS,0,96,,\\n' | crossbar5 replay --markers XX\n",
+            "  printf 'J,0,1,D,3041\\nS,0,128,,\\n' | crossbar5 replay --markers XX\n",
             "  0  All is fine\n",
-            "  2  The command line is refused, or KINDS\n",
+            "  2  The command line is refused, or the KINDS of the markers\n",
             "  3  The plan is refused\n",
-            "  4  The traffic is refused, or too long\n",
+            "  4  The traffic is refused; or it is too long, or the plan's FILE is\n",
             "  5  Memory ran out\n",
             "  6  A device failed, or FILE can't be read\n",
         ] {
