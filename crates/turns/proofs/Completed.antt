@@ -4,7 +4,7 @@ use Rattle.std.proofs.lemmas.Bool.{eqb-true}
 use mathlib.Core.Option.{some, some-injective, some-ne-none}
 use lib.ListN.{get_elem?}
 use Rattle.turns.specs.Among.{IsIn}
-use Rattle.turns.specs.System.{System, IsSystem, IsUnder, AreUnder, AreDue, perform, perform_all}
+use Rattle.turns.specs.System.{System, effect_on, IsSystem, IsUnder, AreUnder, AreDue, perform, perform_all}
 use Rattle.turns.specs.World.{World, ActorOf, left_of, made, completed, completed_word, completed_from}
 use Rattle.turns.proofs.Lists.{one_or_two, index_same, index_other}
 
@@ -17,19 +17,19 @@ if_false true x y e = absurd (e refl)
 if_false false x y e = refl
 
 module _ (O : System) where
-  open O use {Lock, Effect, effect_word, effect_on}
+  open O use {Lock, Effect, effect_word}
 
   -- an effect on this word, and one on another word
-  pub made_here : (effect : Effect) (effects : List Effect) (n v : ℕ) → effect_word effect ≡ n → made O (effect ∷ effects) n v ≡ made O effects n (effect_on effect v)
-  made_here effect effects n v e = ap (made O effects n) (if_true (effect_word effect == n) (effect_on effect v) v (eq-eqb (effect_word effect) n e))
+  pub made_here : (effect : Effect) (effects : List Effect) (n v : ℕ) → effect_word effect ≡ n → made O (effect ∷ effects) n v ≡ made O effects n (effect_on O effect v)
+  made_here effect effects n v e = ap (made O effects n) (if_true (effect_word effect == n) (effect_on O effect v) v (eq-eqb (effect_word effect) n e))
 
   pub made_else : (effect : Effect) (effects : List Effect) (n v : ℕ) → effect_word effect ≢ n → made O (effect ∷ effects) n v ≡ made O effects n v
-  made_else effect effects n v e = ap (made O effects n) (if_false (effect_word effect == n) (effect_on effect v) v (λ yes. e (eqb-true (effect_word effect) n yes)))
+  made_else effect effects n v e = ap (made O effects n) (if_false (effect_word effect == n) (effect_on O effect v) v (λ yes. e (eqb-true (effect_word effect) n yes)))
 
   -- effects and then others
   pub made_append : (effects more : List Effect) (n v : ℕ) → made O (effects ++ more) n v ≡ made O more n (made O effects n v)
   made_append [] more n v = refl
-  made_append (effect ∷ effects) more n v = made_append effects more n (if effect_word effect == n then effect_on effect v else v)
+  made_append (effect ∷ effects) more n v = made_append effects more n (if effect_word effect == n then effect_on O effect v else v)
 
   -- effects that leave a word as it is
   abbrev pub Spares : List Effect → ℕ → Type 0
@@ -52,19 +52,19 @@ module _ (O : System) where
   pub perform_length : (words : List ℕ) (effects : List Effect) → length (perform_all O words effects) ≡ length words
   unfolding perform_all
   perform_length words [] = refl
-  perform_length words (effect ∷ effects) = perform_length (perform O words effect) effects ∙ length-set words (effect_word effect) (effect_on effect (slice_index words (effect_word effect)))
+  perform_length words (effect ∷ effects) = perform_length (perform O words effect) effects ∙ length-set words (effect_word effect) (effect_on O effect (slice_index words (effect_word effect)))
 
   pub perform_index : (words : List ℕ) (effects : List Effect) (n : ℕ) → ((effect : Effect) → IsIn effect effects → effect_word effect < length words) → slice_index (perform_all O words effects) n ≡ made O effects n (slice_index words n)
   unfolding perform_all
   perform_index words [] n there = refl
-  perform_index words (effect ∷ effects) n there = perform_index (perform O words effect) effects n (λ e within. subst (λ (l : ℕ). effect_word e < l) (sym (length-set words (effect_word effect) (effect_on effect (slice_index words (effect_word effect))))) (there e (inr within))) ∙ ap (made O effects n) (at (one_or_two (effect_word effect) n)) where
-    at : (effect_word effect ≡ n) ⊎ (effect_word effect ≢ n) → slice_index (perform O words effect) n ≡ (if effect_word effect == n then effect_on effect (slice_index words n) else slice_index words n)
+  perform_index words (effect ∷ effects) n there = perform_index (perform O words effect) effects n (λ e within. subst (λ (l : ℕ). effect_word e < l) (sym (length-set words (effect_word effect) (effect_on O effect (slice_index words (effect_word effect))))) (there e (inr within))) ∙ ap (made O effects n) (at (one_or_two (effect_word effect) n)) where
+    at : (effect_word effect ≡ n) ⊎ (effect_word effect ≢ n) → slice_index (perform O words effect) n ≡ (if effect_word effect == n then effect_on O effect (slice_index words n) else slice_index words n)
     at (inl e) =
-        subst (λ (m : ℕ). slice_index (perform O words effect) m ≡ effect_on effect (slice_index words m)) e (index_same words (effect_word effect) (effect_on effect (slice_index words (effect_word effect))) (there effect (inl refl))) ∙
-        sym (if_true (effect_word effect == n) (effect_on effect (slice_index words n)) (slice_index words n) (eq-eqb (effect_word effect) n e))
+        subst (λ (m : ℕ). slice_index (perform O words effect) m ≡ effect_on O effect (slice_index words m)) e (index_same words (effect_word effect) (effect_on O effect (slice_index words (effect_word effect))) (there effect (inl refl))) ∙
+        sym (if_true (effect_word effect == n) (effect_on O effect (slice_index words n)) (slice_index words n) (eq-eqb (effect_word effect) n e))
     at (inr other) =
-        index_other words (effect_word effect) n (effect_on effect (slice_index words (effect_word effect))) (λ e. other (sym e)) ∙
-        sym (if_false (effect_word effect == n) (effect_on effect (slice_index words n)) (slice_index words n) (λ yes. other (eqb-true (effect_word effect) n yes)))
+        index_other words (effect_word effect) n (effect_on O effect (slice_index words (effect_word effect))) (λ e. other (sym e)) ∙
+        sym (if_false (effect_word effect == n) (effect_on O effect (slice_index words n)) (slice_index words n) (λ yes. other (eqb-true (effect_word effect) n yes)))
 
   -- an effect does the same to a word that is the same
   perform_same : (words other : List ℕ) (effect : Effect) (n : ℕ) → effect_word effect < length words → effect_word effect < length other → slice_index other (effect_word effect) ≡ slice_index words (effect_word effect) → slice_index other n ≡ slice_index words n → slice_index (perform O other effect) n ≡ slice_index (perform O words effect) n
@@ -72,9 +72,9 @@ module _ (O : System) where
     by : (n ≡ effect_word effect) ⊎ (n ≢ effect_word effect) → slice_index (perform O other effect) n ≡ slice_index (perform O words effect) n
     by (inl e) =
         subst (λ (m : ℕ). slice_index (perform O other effect) m ≡ slice_index (perform O words effect) m) (sym e)
-        (index_same other (effect_word effect) (effect_on effect (slice_index other (effect_word effect))) that ∙ ap (effect_on effect) at ∙ sym (index_same words (effect_word effect) (effect_on effect (slice_index words (effect_word effect))) this))
+        (index_same other (effect_word effect) (effect_on O effect (slice_index other (effect_word effect))) that ∙ ap (effect_on O effect) at ∙ sym (index_same words (effect_word effect) (effect_on O effect (slice_index words (effect_word effect))) this))
     by (inr apart) =
-        index_other other (effect_word effect) n (effect_on effect (slice_index other (effect_word effect))) apart ∙ same ∙ sym (index_other words (effect_word effect) n (effect_on effect (slice_index words (effect_word effect))) apart)
+        index_other other (effect_word effect) n (effect_on O effect (slice_index other (effect_word effect))) apart ∙ same ∙ sym (index_other words (effect_word effect) n (effect_on O effect (slice_index words (effect_word effect))) apart)
 
   -- effects are due on other words that have the same under what is held
   pub due_along : (system : IsSystem O) (held : List Lock) (words other : List ℕ) (effects : List Effect) → length words ≡ O.size → length other ≡ O.size → AreUnder O held effects → ((n : ℕ) → IsUnder O held n → slice_index other n ≡ slice_index words n) → AreDue O words effects → AreDue O other effects
@@ -84,8 +84,8 @@ module _ (O : System) where
       let below = system.words.word_there (effect_word effect) u.lock u.protects in (
         subst (O.Due effect) (sym (same (effect_word effect) u)) due.0,
         due_along system held (perform O words effect) (perform O other effect) effects
-            (length-set words (effect_word effect) (effect_on effect (slice_index words (effect_word effect))) ∙ this)
-            (length-set other (effect_word effect) (effect_on effect (slice_index other (effect_word effect))) ∙ that)
+            (length-set words (effect_word effect) (effect_on O effect (slice_index words (effect_word effect))) ∙ this)
+            (length-set other (effect_word effect) (effect_on O effect (slice_index other (effect_word effect))) ∙ that)
             (λ e within. under e (inr within))
             (λ n over. perform_same words other effect n (subst (λ (l : ℕ). effect_word effect < l) (sym this) below) (subst (λ (l : ℕ). effect_word effect < l) (sym that) below) (same (effect_word effect) u) (same n over))
             due.1,

@@ -2,7 +2,7 @@ use Rattle.std.proofs.Common.{◌≡◌, ◌≢◌, ℕ, ◌<◌, ◌≤◌, ◌
 use Rattle.std.specs.Prelude.{Option}
 use mathlib.Core.Option.{some}
 use lib.ListN.{get_elem?}
-use Rattle.turns.specs.System.{System, IsSystem, IsUnder, AreUnder}
+use Rattle.turns.specs.System.{System, effect_on, IsSystem, IsUnder, AreUnder}
 use Rattle.turns.specs.Attempt.{AttemptOf, Stands}
 use Rattle.turns.specs.World.{World, ActorOf, Idle, Does, left_of, made, completed, completed_word}
 use Rattle.turns.specs.Law.{IsOperating, IsSound, Lawful, holder_at, word_at}
@@ -16,7 +16,7 @@ use Rattle.turns.proofs.Quiet.{alike, few_actors}
 use Rattle.turns.proofs.Locking.{no_lock_word, no_turn}
 
 module _ (O : System) (system : IsSystem O) (w : World O) (law : Lawful O w) (k number : ℕ) where
-  open O use {Lock, Job, Reply, Effect, IsLock, lock_word, effect_word, effect_on}
+  open O use {Lock, Job, Reply, Effect, IsLock, lock_word, effect_word}
 
   -- a word under a lock of actor k is spared by all other actors
   pub others_spare : (a : AttemptOf O) → get_elem? w.actors k ≡ some (Does number a) → (n : ℕ) → IsUnder O a.held n → (j : ℕ) (other : ActorOf O) → j ≢ k → get_elem? w.actors j ≡ some other → Spares O (left_of O other) n
@@ -44,7 +44,7 @@ module _ (O : System) (system : IsSystem O) (w : World O) (law : Lawful O w) (k 
     p = effect_word effect
 
     abbrev other : List ℕ
-    other = slice_set w.words p (effect_on effect (slice_index w.words p))
+    other = slice_set w.words p (effect_on O effect (slice_index w.words p))
 
     abbrev then : World O
     then = renewed O w other w.order k number new
@@ -59,7 +59,7 @@ module _ (O : System) (system : IsSystem O) (w : World O) (law : Lawful O w) (k 
     p_there = subst (λ (l : ℕ). p < l) (sym law.size) (system.words.word_there p under.lock under.protects)
 
     else_same : (n : ℕ) → n ≢ p → slice_index other n ≡ slice_index w.words n
-    else_same n apart = index_other w.words p n (effect_on effect (slice_index w.words p)) apart
+    else_same n apart = index_other w.words p n (effect_on O effect (slice_index w.words p)) apart
 
     lock_words : (lock : Lock) → IsLock lock → word_at O other lock ≡ word_at O w.words lock
     lock_words lock is = else_same (lock_word lock) (λ e. no_lock_word O system p under.lock lock is under.protects (sym e))
@@ -68,7 +68,7 @@ module _ (O : System) (system : IsSystem O) (w : World O) (law : Lawful O w) (k 
     holders lock is = ap O.sharing.holder (lock_words lock is)
 
     long : length other ≡ O.size
-    long = length-set w.words p (effect_on effect (slice_index w.words p)) ∙ law.size
+    long = length-set w.words p (effect_on O effect (slice_index w.words p)) ∙ law.size
 
     -- what is under what is held is what the effects made so far, and this one, make of the words at the turn
     since : (n : ℕ) → IsUnder O held n → slice_index other n ≡ made O (fits.decided.made ++ effect ∷ []) n (slice_index fits.decided.words n)
@@ -78,8 +78,8 @@ module _ (O : System) (system : IsSystem O) (w : World O) (law : Lawful O w) (k 
 
       by : (p ≡ n) ⊎ (p ≢ n) → slice_index other n ≡ made O (effect ∷ []) n v
       by (inl e) =
-          subst (λ (m : ℕ). slice_index other m ≡ effect_on effect (slice_index w.words m)) e (index_same w.words p (effect_on effect (slice_index w.words p)) p_there)
-          ∙ ap (effect_on effect) (fits.decided.since n over)
+          subst (λ (m : ℕ). slice_index other m ≡ effect_on O effect (slice_index w.words m)) e (index_same w.words p (effect_on O effect (slice_index w.words p)) p_there)
+          ∙ ap (effect_on O effect) (fits.decided.since n over)
           ∙ sym (made_here O effect [] n v e)
       by (inr apart) = else_same n (λ e. apart (sym e)) ∙ fits.decided.since n over ∙ sym (made_else O effect [] n v apart)
 
@@ -125,7 +125,7 @@ module _ (O : System) (system : IsSystem O) (w : World O) (law : Lawful O w) (k 
         let v = slice_index w.words n in
         let before = only_one O w.actors k n v (Does number old) there (others_spare old there n within) in
         let later = only_one O (set w.actors k (Does number new)) k n (slice_index other n) (Does number new) (set_here w.actors k (Does number new) (Does number old) there) (others_spare_then old new there n within) in
-        let now : slice_index other n ≡ effect_on effect v = subst (λ (m : ℕ). slice_index other m ≡ effect_on effect (slice_index w.words m)) e (index_same w.words p (effect_on effect (slice_index w.words p)) p_there) in
+        let now : slice_index other n ≡ effect_on O effect v = subst (λ (m : ℕ). slice_index other m ≡ effect_on O effect (slice_index w.words m)) e (index_same w.words p (effect_on O effect (slice_index w.words p)) p_there) in
         before ∙ made_here O effect effects n v e ∙ sym (later ∙ ap (made O effects n) now)
     word_same n (inr apart) =
         let v = slice_index w.words n in

@@ -4,6 +4,7 @@ use Rattle.std.specs.Prelude.{◌==◌, ◌||◌, Option, Some, None, Result, Ok
 use Rattle.turns.specs.Among.{IsIn}
 use Rattle.turns.specs.Seen.{Seen}
 use Rattle.turns.specs.Script.{Script, Ends, Tests, Seizes, is_held, value_read, left, left_of_test, left_of_seizing, first_wanted, walk}
+use Rattle.turns.specs.Sharing.{asked}
 use Rattle.turns.specs.System.{System}
 use Rattle.turns.specs.Attempt.{Act, Rest, Ask, Take, Leave, Free as FreeAct, Look, Turn, Make, AttemptOf, IsAnswerTo, StandsIn, act_in, answered, changed, closing_act, come_to, free_act, freed, goes_on, operated, rest_of, told}
 use Rattle.turns.specs.World.{becomes, place}
@@ -69,7 +70,7 @@ module _ (O : System) where
 
   pub answers_fit : (k : ℕ) (step : Act Lock Effect) (found : ℕ) → step ≢ Rest → IsAnswerTo step (answered O k step found)
   answers_fit k Rest found acts = absurd (acts refl)
-  answers_fit k (Ask lock) found acts = told_asked lock (sharing.asked k found) (sharing.judged k (sharing.asked k found))
+  answers_fit k (Ask lock) found acts = told_asked lock (asked sharing k found) (sharing.judged k (asked sharing k found))
   answers_fit k (Take lock expected) found acts = told_taken lock expected found (found == expected) (sharing.judged k found)
   answers_fit k (Leave lock) found acts = tt
   answers_fit k (FreeAct lock) found acts = tt
@@ -134,11 +135,11 @@ module _ (O : System) where
     pub exact_after : (phase : Phase Lock ℕ) → a.phase ≡ phase → StandsIn O a phase → ((lock : Lock) → come_to O a ≡ Err (Seize lock) → O.lock_word lock < length words) →
         IsExact (words_after (act_in phase a)) (changed O a phase (answered O k (act_in phase a) (found_by (act_in phase a)))).phase
     exact_after (Requests lock) at stands there =
-        let v = sharing.asked k (word_at O words lock) in
+        let v = asked sharing k (word_at O words lock) in
         exact_asked lock v (sharing.judged k v) (slice_set words (O.lock_word lock) v) (index_same words (O.lock_word lock) v (there lock stands))
     exact_after (SeizesNext lock expected) at stands there =
         let found = word_at O words lock in
-        exact_taken lock expected found (sharing.taken k found) (found == expected) (sharing.judged k found) (there lock stands)
+        exact_taken lock expected found (sharing.taken k expected) (found == expected) (sharing.judged k found) (there lock stands)
     exact_after (TestsNext word) at stands there = let b : AttemptOf O = record a { readings = a.readings ++ record { word = word; value = slice_index words word } ∷ [] } in exact_on (words_after (Look word)) b (come_to O b)
     exact_after Turns at stands there = tt
     exact_after (Withdraws lock) at stands there = exact_freed (words_after (Leave lock)) a a.held

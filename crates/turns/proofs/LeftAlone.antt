@@ -6,6 +6,7 @@ use mathlib.Core.Bool.{true≢false}
 use mathlib.Core.Option.{some, some-injective}
 use lib.ListN.{get_elem?}
 use Rattle.turns.specs.Among.{IsIn}
+use Rattle.turns.specs.Sharing.{asked}
 use Rattle.turns.specs.System.{System, IsSystem}
 use Rattle.turns.specs.Attempt.{AttemptOf, StandsIn, act, act_in, answered, closing_act, come_to, free_act, next, request_in, seen_of, told}
 use Rattle.turns.specs.World.{World, ActorOf, Does, moved, place}
@@ -74,11 +75,11 @@ module _ (O : System) (is : IsSystem O) where
         at (suc j) e = absurd (true≢false (sym (held_of O.same a.held lock (λ l. (is.same l l).1 refl) (named_mine lock j right e)) ∙ wanted_bare O.same (seen_of a) lock (O.script a.job) wants))
 
       -- so it may go on, with its request, or once that stands
-      free_asked : sharing.judged k (sharing.asked k (word_at O w.words lock)) ≡ judgement.Free
+      free_asked : sharing.judged k (asked sharing k (word_at O w.words lock)) ≡ judgement.Free
       free_asked =
           let shared = law.shared lock right in
           let word = word_at O w.words lock in
-          is.sharing.alone_free k (sharing.asked k word) few (is.sharing.asked_is k word few shared.is_word) (is.sharing.asked_holder k word few shared.is_word ∙ nobody)
+          is.sharing.alone_free k (asked sharing k word) few (is.sharing.asked_is k word few shared.is_word) (is.sharing.asked_holder k word few shared.is_word ∙ nobody)
           (λ j below e. alone j below (j == k) refl (sym (is.sharing.asked_requests k word few shared.is_word j below) ∙ e)) where
             alone : (j : ℕ) → j < sharing.most → (b : Bool) → (j == k) ≡ b → (b || sharing.requests j (word_at O w.words lock)) ≡ true → j ≡ k
             alone j below true same e = eqb-true j k same
@@ -92,7 +93,7 @@ module _ (O : System) (is : IsSystem O) where
     answer_in phase = answered O k (act_in phase a) (slice_index w.words (place O (act_in phase a)))
 
     steady_in : (phase : Phase Lock ℕ) → StandsIn O a phase → IsExact O w.words phase → IsSteady (answer_in phase)
-    steady_in (Requests lock) stands exact = subst (λ (j : Judgement). IsSteady (told (Asked (sharing.asked k (word_at O w.words lock))) j)) (sym (free_asked lock stands)) tt
+    steady_in (Requests lock) stands exact = subst (λ (j : Judgement). IsSteady (told (Asked (asked sharing k (word_at O w.words lock))) j)) (sym (free_asked lock stands)) tt
     steady_in (SeizesNext lock expected) stands exact =
         subst (λ (b : Bool). IsSteady (if b then Seized else told (Again (word_at O w.words lock)) (sharing.judged k (word_at O w.words lock)))) (sym (eq-eqb (word_at O w.words lock) expected exact)) tt
     steady_in (TestsNext word) stands exact = tt

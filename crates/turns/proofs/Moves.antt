@@ -4,7 +4,7 @@ use Rattle.std.proofs.lemmas.Bool.{eqb-true}
 use mathlib.Core.Option.{some}
 use lib.ListN.{get_elem?}
 use Rattle.turns.specs.Among.{IsIn}
-use Rattle.turns.specs.Sharing.{IsTrueOf}
+use Rattle.turns.specs.Sharing.{IsTrueOf, asked, freed as freed_word, withdrawn}
 use Rattle.turns.specs.System.{System, IsSystem}
 use Rattle.turns.specs.Attempt.{AttemptOf, Stands, change, changed, freed, forgotten, left_in, put_off, request_in, restarted, told, walks_on}
 use Rattle.turns.specs.World.{World, ActorOf, RecordOf, Does, left_of, moved}
@@ -68,12 +68,12 @@ module _ (O : System) (system : IsSystem O) (w : World O) (law : Lawful O w) (k 
 
     -- it frees the first lock that it holds
     frees_first : (c : Lock) (rest : List Lock) → a.held ≡ c ∷ rest → (new : AttemptOf O) → left_of O (Does number new) ≡ left_of O (Does number a) → request_in a.phase ≡ None → request_in new.phase ≡ None → new.held ≡ rest →
-        (Has O (slice_set w.words (lock_word c) (sharing.freed (word_at O w.words c))) k a.job rest → IsSound O (renewed O w (slice_set w.words (lock_word c) (sharing.freed (word_at O w.words c))) w.order k number new) k number new) →
-        Lawful O (renewed O w (slice_set w.words (lock_word c) (sharing.freed (word_at O w.words c))) w.order k number new)
+        (Has O (slice_set w.words (lock_word c) (freed_word sharing (word_at O w.words c))) k a.job rest → IsSound O (renewed O w (slice_set w.words (lock_word c) (freed_word sharing (word_at O w.words c))) w.order k number new) k number new) →
+        Lawful O (renewed O w (slice_set w.words (lock_word c) (freed_word sharing (word_at O w.words c))) w.order k number new)
     frees_first c rest first new left before next held s =
         let is = (sound.held c (subst (λ (l : List Lock). IsIn c l) (sym first) (inl refl))).there in
         let found = word_at O w.words c in
-        let v = sharing.freed found in
+        let v = freed_word sharing found in
         let word = (law.shared c is).is_word in
         frees O system w law k number a there c is v new rest first (system.sharing.freed_is found word) (system.sharing.freed_holder found word) (system.sharing.freed_requests found word) before next left held (s (rest_has O system w law k number a there c is v new rest first))
 
@@ -86,7 +86,7 @@ module _ (O : System) (system : IsSystem O) (w : World O) (law : Lawful O w) (k 
         let found = word_at O w.words lock in
         let few = few_actors O w law k (Does number a) there in
         let word = (law.shared lock s.fits).is_word in
-        let v = sharing.asked k found in
+        let v = asked sharing k found in
         let j = sharing.judged k v in
         let is_word = system.sharing.asked_is k found few word in
         let set = system.sharing.asked_requests k found few word in
@@ -106,7 +106,7 @@ module _ (O : System) (system : IsSystem O) (w : World O) (law : Lawful O w) (k 
         let found = word_at O w.words lock in
         let few = few_actors O w law k (Does number a) there in
         let word = (law.shared lock s.stands).is_word in
-        let v = sharing.withdrawn k found in
+        let v = withdrawn sharing k found in
         let cleared = system.sharing.withdrawn_requests k found few word in
         same_order _ _ (stays O system w law k number a there lock s.stands v (freed O a held)
         (system.sharing.withdrawn_holder k found few word) (freed_held O a held) (freed_left O a held)
@@ -118,7 +118,7 @@ module _ (O : System) (system : IsSystem O) (w : World O) (law : Lawful O w) (k 
 
     -- it seizes a lock whose word is as expected, or finds another word
     seizes_in : (lock : Lock) (expected : ℕ) → get_elem? w.actors k ≡ some (Does number (attempt O (Seizes lock expected) job readings held reply effects)) → (t : Bool) → (word_at O w.words lock == expected) ≡ t →
-        Lawful O (renewed O w (slice_set w.words (lock_word lock) (if t then sharing.taken k (word_at O w.words lock) else word_at O w.words lock)) w.order k number (change O (attempt O (Seizes lock expected) job readings held reply effects) (if t then Seized else told (Again (word_at O w.words lock)) (sharing.judged k (word_at O w.words lock)))))
+        Lawful O (renewed O w (slice_set w.words (lock_word lock) (if t then sharing.taken k expected else word_at O w.words lock)) w.order k number (change O (attempt O (Seizes lock expected) job readings held reply effects) (if t then Seized else told (Again (word_at O w.words lock)) (sharing.judged k (word_at O w.words lock)))))
     seizes_in lock expected there true e =
         let a = attempt O (Seizes lock expected) job readings held reply effects in
         let s = law.sound k number a there in
@@ -127,7 +127,9 @@ module _ (O : System) (system : IsSystem O) (w : World O) (law : Lawful O w) (k 
         let word = (law.shared lock s.fits.0).is_word in
         let judged : sharing.judged k found ≡ Free = ap (sharing.judged k) (eqb-true found expected e) ∙ s.fits.1.free in
         let free : sharing.holder found ≡ 0 = subst (IsTrueOf sharing k found) judged (system.sharing.judged_true k found few word) in
-        takes O system w law k number a there lock s.fits.0 (sharing.taken k found) free (system.sharing.taken_is k found few word free) (system.sharing.taken_holder k found few word free) (system.sharing.taken_requests k found few word free) s.read refl (λ other same. cc)
+        let is : found ≡ expected = eqb-true found expected e in
+        subst (λ (x : ℕ). Lawful O (renewed O w (slice_set w.words (lock_word lock) (sharing.taken k x)) w.order k number (walks_on O (record a { held = held ++ lock ∷ [] })))) is
+        (takes O system w law k number a there lock s.fits.0 (sharing.taken k found) free (system.sharing.taken_is k found few word free) (system.sharing.taken_holder k found few word free) (system.sharing.taken_requests k found few word free) s.read refl (λ other same. cc))
     seizes_in lock expected there false e =
         let a = attempt O (Seizes lock expected) job readings held reply effects in
         let s = law.sound k number a there in

@@ -1,6 +1,7 @@
 use Rattle.std.specs.Prelude.{◌≡◌, ℕ, ◌==◌, Option, Some, None, List, [], ◌∷◌, ◌++◌, Result, Ok, Err, ⊤, if◌then◌else◌}
 use Rattle.turns.specs.Seen.{Seen}
 use Rattle.turns.specs.Script.{walk}
+use Rattle.turns.specs.Sharing.{asked}
 use Rattle.turns.specs.System.{System}
 use Rattle.turns.specs.declared.answer.Answer.{Answer}
 use Rattle.turns.specs.declared.answer.Answer.TheVariants.{Asked, Seized, Held, Preferred, Again, Value, Turn as TurnNumber, Done}
@@ -208,7 +209,7 @@ module _ (O : System) where
   -- what actor k is told of its step that found this number
   abbrev pub answered : ℕ → Act Lock Effect → ℕ → Answer
   answered k Rest found = Done
-  answered k (Ask lock) found = told (Asked (sharing.asked k found)) (sharing.judged k (sharing.asked k found))
+  answered k (Ask lock) found = told (Asked (asked sharing k found)) (sharing.judged k (asked sharing k found))
   answered k (Take lock expected) found = if found == expected then Seized else told (Again found) (sharing.judged k found)
   answered k (Leave lock) found = Done
   answered k (Free lock) found = Done

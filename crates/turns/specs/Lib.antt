@@ -1,6 +1,7 @@
 pub mod Among
 pub mod Seen
 pub mod Script
+pub mod Operations
 pub mod Sharing
 pub mod System
 pub mod Attempt

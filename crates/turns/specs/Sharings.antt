@@ -1,6 +1,7 @@
 use Rattle.std.specs.Prelude.{◌≡◌, ℕ, zero, suc, ◌+◌, ◌-◌, ◌<◌, ◌≤◌, ◌^◌, ◌%◌, ◌==◌, ◌⊎◌, Option, Some, None, if◌then◌else◌, bit_and, bit_or}
 use Rattle.std.specs.Int.{bit_at}
 use Rattle.turns.specs.Sharing.{Sharing}
+use Rattle.turns.specs.declared.operation.Operation.TheVariants.{Or, And}
 use Rattle.turns.specs.declared.judgement.Judgement.{Judgement}
 use Rattle.turns.specs.declared.judgement.Judgement.TheVariants.{Free, Held, Preferred}
 
@@ -48,9 +49,9 @@ preferring = record {
   IsWord = IsLockWord;
   holder = λ word. word % 64;
   requests = λ k word. bit_at word (8 + k) == 1;
-  asked = λ k word. bit_or word (request_bit k);
-  withdrawn = λ k word. bit_and word (2 ^ 64 - 1 - request_bit k);
+  request = λ k. Or (request_bit k);
+  withdrawal = λ k. And (2 ^ 64 - 1 - request_bit k);
   taken = taken_by;
-  freed = λ word. bit_and word (2 ^ 64 - 1 - 63);
+  freeing = And (2 ^ 64 - 1 - 63);
   judged = judged;
 }

@@ -1,7 +1,9 @@
 use Rattle.std.specs.Prelude.{◌≡◌, ◌↔◌, ℕ, ◌<◌, ◌==◌, if◌then◌else◌, Bool, true, List, [], ◌∷◌, ◌++◌, length, fold, replicate, slice_index, slice_set, ⊤, Err}
 use Rattle.turns.specs.Among.{IsIn}
+use Rattle.turns.specs.Operations.{applied}
 use Rattle.turns.specs.Script.{Script, Ends, Tests, Seizes, run, first_wanted}
 use Rattle.turns.specs.Sharing.{Sharing, IsSharing}
+use Rattle.turns.specs.declared.operation.Operation.{Operation}
 use Rattle.turns.specs.declared.wanted.Wanted.TheVariants.{Seize}
 
 -- the state that a job leaves, and its reply
@@ -29,9 +31,9 @@ pub record System : Type 1 where
   pub Effect : Type 0
   pub reply_of : Decision → Reply
   pub effects_of : Decision → List Effect
-  -- an effect's word, what it makes of the number found there, and the number that it must find
+  -- an effect's word, the operation that makes it there, and the number that it must find
   pub effect_word : Effect → ℕ
-  pub effect_on : Effect → ℕ → ℕ
+  pub operation_of : Effect → Operation
   pub Due : Effect → ℕ → Type 0
   -- the words: how many there are, which lock protects a word, where each lock's own word stands and how it is shared, the turn word
   pub size : ℕ
@@ -48,7 +50,11 @@ made_by word_of on [] word value = value
 made_by word_of on (effect ∷ effects) word value = made_by word_of on effects word (if word_of effect == word then on effect value else value)
 
 module _ (O : System) where
-  open O use {Lock, Job, State, Reply, Effect, Decision, IsLock, Protects, effect_word, effect_on, Due, effects_of, reply_of, size}
+  open O use {Lock, Job, State, Reply, Effect, Decision, IsLock, Protects, effect_word, Due, effects_of, reply_of, size}
+
+  -- what an effect makes of the number that it finds in its word
+  abbrev pub effect_on : Effect → ℕ → ℕ
+  effect_on effect value = applied (O.operation_of effect) value
 
   -- the word is one that some of these locks protects
   pub record IsUnder (locks : List Lock) (number : ℕ) : Type 0 where

@@ -1,6 +1,9 @@
-use Rattle.std.specs.Prelude.{ℕ, ◌==◌, ◌+◌, ◌^◌, ◌%◌, suc, Option, Some, None, List, [], ◌∷◌, ◌++◌, set, replicate, slice_index, slice_set, if◌then◌else◌}
-use Rattle.turns.specs.System.{made_by, System}
+use Rattle.std.specs.Prelude.{ℕ, suc, Option, Some, None, List, [], ◌∷◌, ◌++◌, set, replicate, slice_index, slice_set}
+use Rattle.turns.specs.Operations.{applied}
+use Rattle.turns.specs.System.{made_by, System, effect_on}
 use Rattle.turns.specs.Attempt.{Attempt, Act, Rest, Ask, Take, Leave, Free, Look, Turn, Make, AttemptOf, act, next, left_in, begin, restarted}
+use Rattle.turns.specs.declared.operation.Operation.{Operation}
+use Rattle.turns.specs.declared.operation.Operation.TheVariants.{Load, Add, CompareExchange}
 use Rattle.turns.specs.declared.phase.Phase.{Phase}
 use Rattle.turns.specs.declared.phase.Phase.TheVariants.{Requests, Seizes, Tests, Turns, Withdraws, GivesBack, Operates}
 
@@ -18,7 +21,7 @@ pub record Record (Job Reply : Type 0) : Type 0 where
   pub reply : Reply
 
 module _ (O : System) where
-  open O use {Lock, Job, Reply, State, Effect, lock_word, turn_word, sharing, effect_word, effect_on}
+  open O use {Lock, Job, Reply, State, Effect, lock_word, turn_word, sharing, effect_word}
 
   abbrev pub ActorOf : Type 0
   ActorOf = Actor Lock Job Reply Effect
@@ -43,16 +46,20 @@ module _ (O : System) where
   place Turn = turn_word
   place (Make effect) = effect_word effect
 
+  -- the one atomic operation by which actor k makes the step there; at rest it changes nothing
+  abbrev pub operation : ℕ → Act Lock Effect → Operation
+  operation k Rest = Load
+  operation k (Ask lock) = sharing.request k
+  operation k (Take lock expected) = CompareExchange expected (sharing.taken k expected)
+  operation k (Leave lock) = sharing.withdrawal k
+  operation k (Free lock) = sharing.freeing
+  operation k (Look word) = Load
+  operation k Turn = Add 1
+  operation k (Make effect) = O.operation_of effect
+
   -- what actor k's step makes of the number found
   abbrev pub becomes : ℕ → Act Lock Effect → ℕ → ℕ
-  becomes k Rest found = found
-  becomes k (Ask lock) found = sharing.asked k found
-  becomes k (Take lock expected) found = if found == expected then sharing.taken k found else found
-  becomes k (Leave lock) found = sharing.withdrawn k found
-  becomes k (Free lock) found = sharing.freed found
-  becomes k (Look word) found = found
-  becomes k Turn found = (found + 1) % 2 ^ 64
-  becomes k (Make effect) found = effect_on effect found
+  becomes k act found = applied (operation k act) found
 
   -- the record of a turn, else none
   abbrev pub recorded : ℕ → ℕ → Job → Option Reply → ℕ → List RecordOf
@@ -105,7 +112,7 @@ module _ (O : System) where
 
   -- what effects make of the number in a word
   abbrev pub made : List Effect → ℕ → ℕ → ℕ
-  made = made_by effect_word effect_on
+  made = made_by effect_word (effect_on O)
 
   abbrev pub completed_word : List ActorOf → ℕ → ℕ → ℕ
   completed_word [] word value = value

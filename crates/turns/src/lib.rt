@@ -10,6 +10,7 @@
 
 pub use answer::Answer;
 pub use judgement::Judgement;
+pub use operation::Operation;
 pub use phase::Phase;
 pub use reading::Reading;
 pub use wanted::Wanted;
@@ -18,6 +19,7 @@ mod answer;
 mod judgement;
 pub mod laws;
 pub mod lock_word;
+mod operation;
 mod phase;
 mod reading;
 mod wanted;

@@ -2,6 +2,7 @@
 //! one more than the number of the actor that holds the lock, and bit 8 + `actor` is the actor's request.
 
 ghost use Rattle.std.specs.Prelude.{◌≡◌, ◌<◌};
+ghost use Rattle.turns.specs.Sharing.{asked, freed as freed_word, withdrawn};
 ghost use Rattle.turns.specs.Sharings.{preferring, request_bit as request_bit_of, taken_by as taken_by_of};
 
 /// The bit of an actor's request.
@@ -15,7 +16,7 @@ pub fn request_bit(actor: u32) -> u64
 /// The word with the actor's request.
 pub fn asked_by(actor: u32, word: u64) -> u64
     requires { actor < 48 }
-    ensures { result ≡ preferring.asked actor word }
+    ensures { result ≡ asked preferring actor word }
 {
     word | request_bit(actor)
 }
@@ -23,7 +24,7 @@ pub fn asked_by(actor: u32, word: u64) -> u64
 /// The word without the actor's request.
 pub fn withdrawn_by(actor: u32, word: u64) -> u64
     requires { actor < 48 }
-    ensures { result ≡ preferring.withdrawn actor word }
+    ensures { result ≡ withdrawn preferring actor word }
 {
     word & !request_bit(actor)
 }
@@ -38,7 +39,7 @@ pub fn taken_by(actor: u32, word: u64) -> u64
 
 /// The word once its holder has freed the lock.
 pub fn freed(word: u64) -> u64
-    ensures { result ≡ preferring.freed word }
+    ensures { result ≡ freed_word preferring word }
 {
     word & !63
 }

@@ -1,0 +1,19 @@
+use Rattle.std.specs.Prelude.{ℕ, ◌+◌, ◌%◌, ◌^◌, ◌<◌, ◌==◌, bit_and, bit_or, if◌then◌else◌, ⊤}
+use Rattle.turns.specs.declared.operation.Operation.{Operation}
+use Rattle.turns.specs.declared.operation.Operation.TheVariants.{Load, Or, And, Add, CompareExchange}
+
+-- what an operation makes of the number that it finds in a word of 64 bits
+abbrev pub applied : Operation → ℕ → ℕ
+applied Load found = found
+applied (Or bits) found = bit_or found bits
+applied (And mask) found = bit_and found mask
+applied (Add more) found = (found + more) % 2 ^ 64
+applied (CompareExchange expected new) found = if found == expected then new else found
+
+-- what an operation may put into a word has 64 bits
+abbrev pub FitsWord : Operation → Type 0
+FitsWord Load = ⊤
+FitsWord (Or bits) = bits < 2 ^ 64
+FitsWord (And mask) = ⊤
+FitsWord (Add more) = ⊤
+FitsWord (CompareExchange expected new) = new < 2 ^ 64

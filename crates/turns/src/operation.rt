@@ -1,0 +1,34 @@
+ghost use Rattle.std.specs.Prelude.{◌≡◌};
+ghost use Rattle.turns.specs.Operations.{applied};
+
+/// An atomic operation on a shared word.
+#[derive(Clone, Copy, Debug, PartialEq, Eq)]
+pub enum Operation {
+    /// The word stays as it is.
+    Load,
+    /// Sets these bits.
+    Or(u64),
+    /// Keeps only these bits.
+    And(u64),
+    /// Adds this much, and wraps beyond 64 bits.
+    Add(u64),
+    /// Puts `new` in place of `expected`, and leaves any other number.
+    CompareExchange { expected: u64, new: u64 },
+}
+
+impl Operation {
+    /// What it makes of the number that it finds.
+    pub fn apply(self, found: u64) -> u64
+        ensures { result ≡ applied self found }
+    {
+        match self {
+            Operation::Load => found,
+            Operation::Or(bits) => found | bits,
+            Operation::And(mask) => found & mask,
+            Operation::Add(more) => found.wrapping_add(more),
+            Operation::CompareExchange { expected, new } => {
+                if found == expected { new } else { found }
+            }
+        }
+    }
+}
