@@ -27,7 +27,9 @@ use Rattle.xbar_jobs.specs.Attempt.{Attempt, Phase, next_step}
 use Rattle.xbar_jobs.specs.Jobs.{first_conn}
 use Rattle.xbar_jobs.specs.Office.{office}
 use Rattle.xbar_jobs.specs.OnWords as steps
-use Rattle.xbar_jobs.specs.OnWords.{answer_of, applied, made, operation}
+use Rattle.turns.specs.Operations.{applied}
+use Rattle.turns.specs.declared.operation.Operation.{Operation}
+use Rattle.xbar_jobs.specs.OnWords.{answer_of, made, operation}
 use Rattle.xbar_jobs.specs.declared.effect.Effect.{Effect}
 use Rattle.xbar_jobs.proofs.OfficeSystem.{office_is}
 use Rattle.xbar_jobs.proofs.StepActs.{act_answer, act_operation, act_word}
@@ -89,7 +91,7 @@ module _ (plan : Tables) where
   pub words_are : (k : ℕ) (words : List ℕ) (a : Attempt) → made k (next_step a) words ≡ slice_set words (place (office plan) (act a)) (becomes (office plan) k (act a) (found_by words a))
   words_are k words a =
       ap (λ (n : ℕ). slice_set words n (applied (operation k (next_step a)) (slice_index words n))) (act_word plan (act a))
-      ∙ ap (slice_set words (place (office plan) (act a))) (act_operation plan k (act a) (found_by words a))
+      ∙ ap (λ (op : Operation). slice_set words (place (office plan) (act a)) (applied op (found_by words a))) (act_operation plan k (act a))
 
   -- marker k's step is actor k's
   pub moved_is : (e : Exchange) (k n : ℕ) (m : Marker) (a : Attempt) → moved (office plan) k n a (world plan e) ≡ world plan (answered plan k m n a (answer_of k (next_step a) e.words) e)

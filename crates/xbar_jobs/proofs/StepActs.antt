@@ -1,15 +1,13 @@
 -- a step's word, operation and answer are those of the act that it makes
-use Rattle.std.proofs.Common.{◌≡◌, ℕ, Bool, true, false, refl, sym, ap}
-use Rattle.std.specs.Prelude.{◌==◌, if◌then◌else◌}
-use Rattle.std.proofs.lemmas.Bool.{eqb-true}
+use Rattle.std.proofs.Common.{◌≡◌, ℕ, refl}
 use Rattle.turns.specs.Attempt as generic
 use Rattle.turns.specs.Attempt.{Rest, Ask, Take, Leave, Free, Look, Turn, Make}
-use Rattle.turns.specs.Sharings.{taken_by}
-use Rattle.turns.specs.World.{becomes, place}
+use Rattle.turns.specs.World as worlds
+use Rattle.turns.specs.World.{place}
 use Rattle.xbar_plan.specs.Tables.{Tables}
 use Rattle.xbar_jobs.specs.Attempt.{Act, step_of}
 use Rattle.xbar_jobs.specs.Office.{office}
-use Rattle.xbar_jobs.specs.OnWords.{answered, applied, operation, step_word}
+use Rattle.xbar_jobs.specs.OnWords.{answered, operation, step_word}
 use Rattle.xbar_jobs.specs.declared.effect.Effect.TheVariants.{Close, Open, SetBit, ClearBit}
 use Rattle.xbar_jobs.specs.declared.step.Step.TheVariants as step
 
@@ -26,21 +24,18 @@ act_word plan (Make (Open c)) = refl
 act_word plan (Make (SetBit number index)) = refl
 act_word plan (Make (ClearBit number index)) = refl
 
-pub act_operation : (plan : Tables) (marker : ℕ) (act : Act) (found : ℕ) → applied (operation marker (step_of act)) found ≡ becomes (office plan) marker act found
-act_operation plan marker Rest found = refl
-act_operation plan marker (Ask conn) found = refl
-act_operation plan marker (Take conn expected) found = at (found == expected) refl where
-  at : (b : Bool) → (found == expected) ≡ b → (if b then taken_by marker expected else found) ≡ (if b then taken_by marker found else found)
-  at true e = ap (taken_by marker) (sym (eqb-true found expected e))
-  at false e = refl
-act_operation plan marker (Leave conn) found = refl
-act_operation plan marker (Free conn) found = refl
-act_operation plan marker (Look word) found = refl
-act_operation plan marker Turn found = refl
-act_operation plan marker (Make (Close c)) found = refl
-act_operation plan marker (Make (Open c)) found = refl
-act_operation plan marker (Make (SetBit number index)) found = refl
-act_operation plan marker (Make (ClearBit number index)) found = refl
+pub act_operation : (plan : Tables) (marker : ℕ) (act : Act) → operation marker (step_of act) ≡ worlds.operation (office plan) marker act
+act_operation plan marker Rest = refl
+act_operation plan marker (Ask conn) = refl
+act_operation plan marker (Take conn expected) = refl
+act_operation plan marker (Leave conn) = refl
+act_operation plan marker (Free conn) = refl
+act_operation plan marker (Look word) = refl
+act_operation plan marker Turn = refl
+act_operation plan marker (Make (Close c)) = refl
+act_operation plan marker (Make (Open c)) = refl
+act_operation plan marker (Make (SetBit number index)) = refl
+act_operation plan marker (Make (ClearBit number index)) = refl
 
 pub act_answer : (plan : Tables) (marker : ℕ) (act : Act) (found : ℕ) → answered marker (step_of act) found ≡ generic.answered (office plan) marker act found
 act_answer plan marker Rest found = refl

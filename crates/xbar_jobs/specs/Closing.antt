@@ -1,11 +1,10 @@
-use Rattle.std.specs.Prelude.{◌≡◌, ℕ, ◌-◌, ◌^◌, Option, Some, None, List, [], ◌∷◌, ◌++◌, map, option_map, bit_and, bit_or}
+use Rattle.std.specs.Prelude.{◌≡◌, ℕ, ◌-◌, ◌^◌, Option, Some, None, List, [], ◌∷◌, ◌++◌, map, option_map}
 use Rattle.std.specs.Option.{option_map_or}
 use Rattle.std.specs.Int.{bit_at}
 use Rattle.xbar_equip.specs.Crosspoint.{crosspoints}
 use Rattle.xbar_equip.specs.Word.{GroupWord, word_number}
 use Rattle.xbar_equip.specs.declared.path.Path.{Path}
-use Rattle.xbar_switch.specs.Field.{field_of}
-use Rattle.xbar_match.specs.Effects.{closed_word, opened_word}
+use Rattle.xbar_switch.specs.Field.{close_bits_of, field_of, open_mask_of}
 use Rattle.xbar_match.specs.Switches.{shape_at}
 use Rattle.xbar_plan.specs.declared.group.MemberPlace.{MemberPlace}
 use Rattle.xbar_office.specs.Replies.{plain_reply, trials_reply}
@@ -14,7 +13,10 @@ use Rattle.xbar_office.specs.declared.reply.End.{End}
 use Rattle.xbar_office.specs.declared.reply.End.TheVariants.{Released}
 use Rattle.xbar_office.specs.declared.two_trials.Choice.{Choice}
 use Rattle.xbar_office.specs.declared.two_trials.Trials.{Trials}
+use Rattle.turns.specs.Operations.{applied}
 use Rattle.turns.specs.System.{made_by}
+use Rattle.turns.specs.declared.operation.Operation.{Operation}
+use Rattle.turns.specs.declared.operation.Operation.TheVariants.{Or, And}
 use Rattle.xbar_jobs.specs.declared.decision.Decision.{Decision}
 use Rattle.xbar_jobs.specs.declared.leave.Leave.{Leave}
 use Rattle.xbar_jobs.specs.declared.take.Take.{Take}
@@ -82,12 +84,16 @@ effect_word (Open c) = c.word
 effect_word (SetBit number index) = word_number (GroupWord number)
 effect_word (ClearBit number index) = word_number (GroupWord number)
 
--- what an effect makes of its word
+-- the operation that makes it there
+abbrev pub operation_of : Effect → Operation
+operation_of (Close c) = Or (close_bits_of (shape_at c.word) c.field (c.value - 1))
+operation_of (Open c) = And (open_mask_of (shape_at c.word) c.field)
+operation_of (SetBit number index) = Or (2 ^ index)
+operation_of (ClearBit number index) = And (2 ^ 64 - 1 - 2 ^ index)
+
+-- what an effect makes of the number that it finds in its word
 abbrev pub effect_on : Effect → ℕ → ℕ
-effect_on (Close c) word = closed_word c word
-effect_on (Open c) word = opened_word c word
-effect_on (SetBit number index) word = bit_or word (2 ^ index)
-effect_on (ClearBit number index) word = bit_and word (2 ^ 64 - 1 - 2 ^ index)
+effect_on effect word = applied (operation_of effect) word
 
 -- what effects, one after another, make of the number in a word
 abbrev pub made : List Effect → ℕ → ℕ → ℕ

@@ -16,7 +16,7 @@ use Rattle.xbar_office.specs.declared.job.Job.{Job}
 use Rattle.xbar_office.specs.declared.reply.Reply.{Reply}
 use Rattle.turns.specs.Sharings.{preferring}
 use Rattle.turns.specs.System.{System}
-use Rattle.xbar_jobs.specs.Closing.{IsDue, effects as effects_of, effect_on, effect_word}
+use Rattle.xbar_jobs.specs.Closing.{IsDue, effects as effects_of, effect_word, operation_of}
 use Rattle.xbar_jobs.specs.Jobs.{first_conn, script}
 use Rattle.xbar_jobs.specs.declared.decision.Decision.{Decision}
 use Rattle.xbar_jobs.specs.declared.effect.Effect.{Effect}
@@ -61,7 +61,7 @@ office plan = record {
   reply_of = λ decision. decision.reply;
   effects_of = effects_of;
   effect_word = effect_word;
-  effect_on = effect_on;
+  operation_of = operation_of;
   Due = IsDue;
   size = word_count;
   Protects = Protects;

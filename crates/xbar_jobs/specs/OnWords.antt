@@ -1,11 +1,12 @@
-use Rattle.std.specs.Prelude.{ℕ, ◌+◌, ◌-◌, ◌%◌, ◌^◌, ◌==◌, List, bit_and, bit_or, slice_index, slice_set, if◌then◌else◌}
+use Rattle.std.specs.Prelude.{ℕ, ◌-◌, ◌^◌, ◌==◌, List, bit_or, slice_index, slice_set, if◌then◌else◌}
 use Rattle.turns.specs.Attempt.{told}
+use Rattle.turns.specs.Operations.{applied}
 use Rattle.turns.specs.Sharings.{judged, request_bit, taken_by}
 use Rattle.turns.specs.declared.answer.Answer.{Answer}
 use Rattle.turns.specs.declared.answer.Answer.TheVariants.{Asked, Seized, Again, Value, Turn as TurnNumber, Done}
 use Rattle.xbar_equip.specs.Word.{ConnWord, TurnWord, word_number}
-use Rattle.xbar_jobs.specs.declared.operation.Operation.{Operation}
-use Rattle.xbar_jobs.specs.declared.operation.Operation.TheVariants.{Load, Or, And, Add, CompareExchange}
+use Rattle.turns.specs.declared.operation.Operation.{Operation}
+use Rattle.turns.specs.declared.operation.Operation.TheVariants.{Load, Or, And, Add, CompareExchange}
 use Rattle.xbar_jobs.specs.declared.step.Step.{Step}
 use Rattle.xbar_jobs.specs.declared.step.Step.TheVariants.{Request, Seize, Withdraw, Test, Turn, Close, Open, Free, Finished}
 
@@ -32,14 +33,6 @@ operation marker (Close word bits) = Or bits
 operation marker (Open word mask) = And mask
 operation marker (Free conn) = And (2 ^ 64 - 1 - 63)
 operation marker Finished = Load
-
--- what an operation makes of the number that it finds in a word of 64 bits
-abbrev pub applied : Operation → ℕ → ℕ
-applied Load found = found
-applied (Or bits) found = bit_or found bits
-applied (And mask) found = bit_and found mask
-applied (Add more) found = (found + more) % 2 ^ 64
-applied (CompareExchange expected new) found = if found == expected then new else found
 
 -- what the marker is told of a step that found this number
 abbrev pub answered : ℕ → Step → ℕ → Answer

@@ -5,6 +5,7 @@ ghost use Rattle.xbar_switch.specs.Field.{close_bits_of as close_bits_by, open_m
 ghost use Rattle.xbar_jobs.specs.Attempt.{effect_step};
 
 use crate::step::Step;
+use turns::Operation;
 use xbar_equip::{Crosspoint, WordNo, group_word};
 use xbar_match::shape_at;
 use xbar_switch::{close_bits, open_mask};
@@ -45,7 +46,7 @@ fn open_mask_of(crosspoint: &Crosspoint) -> u64
 }
 
 impl Effect {
-    ghost use Rattle.xbar_jobs.specs.Closing.{effect_on, effect_word};
+    ghost use Rattle.xbar_jobs.specs.Closing.{effect_word, operation_of};
     ghost use Rattle.xbar_jobs.specs.Keeping.{IsEffect};
 
     /// The step that makes it.
@@ -73,16 +74,16 @@ impl Effect {
         }
     }
 
-    /// What it makes of the number in its word.
-    pub fn on(&self, value: u64) -> u64
+    /// The operation that makes it there.
+    pub fn operation(&self) -> Operation
         requires { IsEffect self.now }
-        ensures { result ≡ effect_on self.now value }
+        ensures { result ≡ operation_of self.now }
     {
         match self {
-            Effect::Close(crosspoint) => value | close_bits_of(crosspoint),
-            Effect::Open(crosspoint) => value & open_mask_of(crosspoint),
-            Effect::SetBit { index, .. } => value | 1 << *index,
-            Effect::ClearBit { index, .. } => value & !(1 << *index),
+            Effect::Close(crosspoint) => Operation::Or(close_bits_of(crosspoint)),
+            Effect::Open(crosspoint) => Operation::And(open_mask_of(crosspoint)),
+            Effect::SetBit { index, .. } => Operation::Or(1 << *index),
+            Effect::ClearBit { index, .. } => Operation::And(!(1 << *index)),
         }
     }
 }

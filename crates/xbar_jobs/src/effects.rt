@@ -54,7 +54,7 @@ pub fn made(effects: &[Effect], word: WordNo, value: u64) -> u64
     let mut value = value;
     for effect in effects {
         if effect.word() == word {
-            value = effect.on(value);
+            value = effect.operation().apply(value);
         }
     }
     value

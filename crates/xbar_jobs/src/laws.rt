@@ -12,7 +12,7 @@ ghost use Rattle.turns.specs.Script.{value_read};
 ghost use Rattle.turns.specs.Seen.{AreReadFrom};
 ghost use Rattle.turns.specs.System.{IsSystem, KeepsTo};
 ghost use Rattle.turns.specs.Law.{Lawful};
-ghost use Rattle.turns.specs.World.{World, Does, becomes, place};
+ghost use Rattle.turns.specs.World.{World, Does, operation as act_operation, place};
 ghost use Rattle.turns.specs.declared.answer.Answer.{Answer};
 ghost use Rattle.xbar_equip.specs.Len.{Line, IsLine};
 ghost use Rattle.xbar_equip.specs.declared.path.Path.{Path};
@@ -27,7 +27,7 @@ ghost use Rattle.xbar_jobs.specs.Attempt.{Act, Attempt, step_of};
 ghost use Rattle.xbar_jobs.specs.Jobs.{script};
 ghost use Rattle.xbar_jobs.specs.Keeping.{IsCovered};
 ghost use Rattle.xbar_jobs.specs.Office.{ShowsOffice, office};
-ghost use Rattle.xbar_jobs.specs.OnWords.{answered, applied, operation, step_word};
+ghost use Rattle.xbar_jobs.specs.OnWords.{answered, operation, step_word};
 ghost use Rattle.xbar_jobs.specs.Opening.{ReleasesJust};
 ghost use Rattle.xbar_jobs.specs.Script.{Script, Seen, walk};
 ghost use Rattle.xbar_jobs.specs.declared.decision.Decision.{Decision};
@@ -55,11 +55,11 @@ pub fn walks_want_what_is_not_there()
     ensures word { (seen : Seen) (script : Script Decision) (word : ℕ) → walk seen script ≡ Err (Wanted.Test word) → value_read seen.readings word ≡ None }
 {}
 
-/// A step's operation on its word makes of the number found what the marker's act makes of it, and its
-/// answer is what the marker is told.
+/// A step's word, its operation there and its answer are those of the marker's act.
 pub fn steps_do_what_their_acts_do()
     ensures word { (plan : Tables) (act : Act) → step_word (step_of act) ≡ place (office plan) act }
-    ensures operation { (plan : Tables) (marker : ℕ) (act : Act) (found : ℕ) → applied (operation marker (step_of act)) found ≡ becomes (office plan) marker act found }
+    ensures operation { (plan : Tables) (marker : ℕ) (act : Act) →
+        operation marker (step_of act) ≡ act_operation (office plan) marker act }
     ensures answer { (plan : Tables) (marker : ℕ) (act : Act) (found : ℕ) → answered marker (step_of act) found ≡ told_of (office plan) marker act found }
 {}
 

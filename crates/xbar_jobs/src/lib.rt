@@ -3,10 +3,9 @@
 #![tactic(auto)]
 
 pub use offices::Offices;
-pub use operation::Operation;
 pub use program::Program;
 pub use step::Step;
-pub use turns::{Answer, Judgement};
+pub use turns::{Answer, Judgement, Operation};
 
 mod attempt;
 mod completing;
@@ -20,7 +19,6 @@ mod kinds;
 pub mod laws;
 mod leave;
 mod offices;
-mod operation;
 mod party;
 mod program;
 mod readings;

@@ -5,9 +5,8 @@ ghost use Rattle.xbar_jobs.specs.OnWords.{step_word, operation as operation_of, 
 ghost use Rattle.xbar_jobs.specs.Attempt.{Act, step_of};
 ghost use Rattle.xbar_jobs.specs.Turning.{IsStep};
 
-use crate::operation::Operation;
 use turns::lock_word::{asked_by, request_bit, taken_by};
-use turns::{Answer, Judgement};
+use turns::{Answer, Judgement, Operation};
 use xbar_equip::{Conn, WordNo, conn_word, turn_word};
 
 /// An atomic step: one operation on one word.

@@ -1,5 +1,7 @@
-use Rattle.std.proofs.Common.{◌∙◌, sym, arith, List}
+use Rattle.std.proofs.Common.{◌∙◌, ap, sym, arith, List}
 use Rattle.std.proofs.lemmas.List.{at_drop_all}
+use Rattle.turns.specs.Operations.{applied}
+use Rattle.turns.specs.declared.operation.Operation.{Operation}
 use Rattle.xbar_jobs.specs.Closing.{made}
 use Rattle.xbar_jobs.specs.declared.effect.Effect.{Effect}
 use Rattle.xbar_jobs.proofs.Items.{item_within}
@@ -10,12 +12,12 @@ use Rattle.xbar_jobs.proofs.effects.made.Goals.{then-eq, else-eq}
 pub word-requires : goal.word-requires
 word-requires c = c.requires _ (item_within c.args.effects.now c.loop-effect.effect-index _ c.effect-item.is c.loop-effect-test.true)
 
-pub on-value-requires : goal.on-value-requires
-on-value-requires c = c.requires _ (item_within c.args.effects.now c.loop-effect.effect-index _ c.effect-item.is c.loop-effect-test.true)
+pub operation-requires : goal.operation-requires
+operation-requires c = c.requires _ (item_within c.args.effects.now c.loop-effect.effect-index _ c.effect-item.is c.loop-effect-test.true)
 
 pub loop-effect-preserved : goal.loop-effect-preserved
 loop-effect-preserved c = elim c.if-eq.branch [
-  | then-eq w ↦ next_made c.args.effects.now c.loop-effect.effect-index _ c.args.word _ _ _ _ c.effect-item.is c.loop-effect-test.true c.word.ensures (sym w.if-eq.true ∙ c.eq.ensures) (w.value-is ∙ w.on-value.ensures) ∙ c.loop-effect.invariant
+  | then-eq w ↦ next_made c.args.effects.now c.loop-effect.effect-index _ c.args.word _ _ _ _ c.effect-item.is c.loop-effect-test.true c.word.ensures (sym w.if-eq.true ∙ c.eq.ensures) (w.value-is ∙ w.apply-value.ensures ∙ ap (λ (op : Operation). applied op c.loop-effect.value) w.operation.ensures) ∙ c.loop-effect.invariant
   | else-eq w ↦ next_made c.args.effects.now c.loop-effect.effect-index _ c.args.word _ _ _ _ c.effect-item.is c.loop-effect-test.true c.word.ensures (sym w.if-eq.false ∙ c.eq.ensures) w.value-is ∙ c.loop-effect.invariant
 ]
 
