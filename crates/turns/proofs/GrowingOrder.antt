@@ -23,12 +23,14 @@ module _ (O : System) where
     by true = grows_by_none w
     by false = grows_by_none w
 
-  stepped_grows : (w : World O) (k : ℕ) (found : Option (ActorOf O)) → Grows w (stepped_at O k found w)
+  stepped_grows : (w : World O) (k : ℕ) (found : Option (ActorOf O))
+      → Grows w (stepped_at O k found w)
   stepped_grows w k none = grows_by_none w
   stepped_grows w k (some Idle) = grows_by_none w
   stepped_grows w k (some (Does number a)) = (added O k number a w, refl)
 
-  backed_grows : (w : World O) (k : ℕ) (found : Option (ActorOf O)) → Grows w (backed_at O k found w)
+  backed_grows : (w : World O) (k : ℕ) (found : Option (ActorOf O))
+      → Grows w (backed_at O k found w)
   backed_grows w k none = grows_by_none w
   backed_grows w k (some Idle) = grows_by_none w
   backed_grows w k (some (Does number a)) = grows_by_none w
@@ -43,4 +45,5 @@ module _ (O : System) where
   run_grows w (move ∷ moves) =
       let first = move_grows w move in
       let rest = run_grows (made_by O w move) moves in
-      (first.0 ++ rest.0, rest.1 ∙ ap (λ (order : List (RecordOf O)). order ++ rest.0) first.1 ∙ append_assoc w.order first.0 rest.0)
+      let more = ap (λ (order : List (RecordOf O)). order ++ rest.0) first.1 in
+      (first.0 ++ rest.0, rest.1 ∙ more ∙ append_assoc w.order first.0 rest.0)

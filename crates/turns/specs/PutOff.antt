@@ -7,7 +7,7 @@ use Rattle.turns.specs.declared.judgement.Judgement.{Judgement}
 module _ (O : System) where
   open O use {Lock, Effect, sharing}
 
-  -- actor k's step, which found this number, is put off by this judgement of the word of the lock that it asks for, as the step left it
+  -- actor k's step asks for a lock, whose own word, as the step left it, says this to actor k
   pub record IsPutOffBy (k : ℕ) (step : Act Lock Effect) (found : ℕ) (judgement : Judgement)
       : Type 0 where
     pub lock : Lock
