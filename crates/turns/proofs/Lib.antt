@@ -24,3 +24,8 @@ pub mod Preferring
 pub mod SteadyAttempts
 pub mod LeftAlone
 pub mod AloneEnds
+pub mod GrowingOrder
+pub mod CompleteWords
+pub mod KeptLocks
+pub mod PutOff
+pub mod PastTurn

@@ -10,3 +10,5 @@ pub mod Law
 pub mod Runs
 pub mod Sharings
 pub mod Bounds
+pub mod Ending
+pub mod PutOff
