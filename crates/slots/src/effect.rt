@@ -1,5 +1,6 @@
 ghost use Rattle.std.specs.Prelude.{◌≡◌};
-ghost use Rattle.slots.specs.System.{effect_on};
+ghost use Rattle.turns.specs.Operations.{applied};
+ghost use Rattle.slots.specs.System.{operation_of};
 
 /// A change of a bank's word.
 #[derive(Clone, Copy, Debug, PartialEq, Eq)]
@@ -13,7 +14,7 @@ pub enum Effect {
 impl Effect {
     /// What the effect makes of the word that it finds, one of 0 or 1 by its slot's bank.
     pub fn apply(&self, found: u64) -> u64
-        ensures { result ≡ effect_on self.now found }
+        ensures { result ≡ applied (operation_of self.now) found }
     {
         match self {
             Effect::Mark(slot) => found | 1 << (slot % 4),
