@@ -1,14 +1,16 @@
 -- the slots are a system of jobs
-use Rattle.std.proofs.Common.{◌≡◌, ℕ, zero, suc, ◌*◌, ◌/◌, ◌%◌, ◌<◌, List, [], ◌∷◌, length, slice_index, inl, inr, refl, sym, ◌∙◌, ap, subst, arith}
+use Rattle.std.proofs.Common.{◌≡◌, ℕ, zero, suc, ◌+◌, ◌*◌, ◌/◌, ◌%◌, ◌<◌, List, [], ◌∷◌, length, slice_index, inl, inr, refl, sym, ◌∙◌, ap, subst, arith}
 use Rattle.std.specs.Prelude.{◌==◌, Option, Some, None, Err, map, option_to_list, replicate}
 use Rattle.std.specs.Int.{bit_at}
 use Rattle.std.proofs.lemmas.Bool.{eqb-true, eq-eqb}
 use Rattle.std.proofs.lemmas.Nat.Bits.{bit_at-zero}
 use Rattle.turns.specs.Among.{IsIn}
 use Rattle.turns.specs.Script.{Script, Ends, Tests, Seizes, run, first_wanted}
+use Rattle.turns.specs.Sharing.{IsUnused}
+use Rattle.turns.specs.Sharings.{preferring}
 use Rattle.turns.specs.System.{IsSystem, IsUnder, AreUnder, AreAlike, KeepsTo, DecidesAs, DecidesUnder, perform_all}
 use Rattle.turns.specs.declared.wanted.Wanted.TheVariants.{Seize}
-use Rattle.turns.proofs.Preferring.{preferring_is}
+use Rattle.turns.proofs.Preferring.{preferring_is, zero_unused}
 use Rattle.slots.specs.Slots.{Busy, none_busy, lowest_free, both_of, took, whole}
 use Rattle.slots.specs.System.{Shows, Decision, Takes, Gives, slot_of, free_in, taken_or, both_or_none, and_upper, script, first_lock, IsJob, slots}
 use Rattle.slots.specs.declared.effect.Effect.{Effect}
@@ -155,12 +157,18 @@ module _ (words : List ℕ) where
 looks : (words other : List ℕ) (busy : Busy) → AreAlike slots words other → Shows words busy → Shows other busy
 looks words other busy alike shows = record { bits = λ s below. shows.bits s below ∙ ap (λ (n : ℕ). bit_at n (s % 4) == 1) (alike.under (s / 4) (s / 4) (refl, omega arith)) }
 
-opens : Shows (replicate 5 0) none_busy
-opens = record { bits = λ s below. at s below (s / 4) refl } where
+opens_shown : Shows (replicate 5 0) none_busy
+opens_shown = record { bits = λ s below. at s below (s / 4) refl } where
   at : (s : ℕ) → s < 8 → (bank : ℕ) → s / 4 ≡ bank → none_busy s ≡ (bit_at (slice_index (replicate 5 0) (s / 4)) (s % 4) == 1)
   at s below zero e = sym (ap (λ (b : ℕ). bit_at (slice_index (replicate 5 0) b) (s % 4) == 1) e ∙ ap (λ (n : ℕ). n == 1) (bit_at-zero (s % 4)))
   at s below (suc zero) e = sym (ap (λ (b : ℕ). bit_at (slice_index (replicate 5 0) b) (s % 4) == 1) e ∙ ap (λ (n : ℕ). n == 1) (bit_at-zero (s % 4)))
   at s below (suc (suc more)) e = absurd (omega arith)
+
+-- both locks are unused
+opens_unused : (bank : ℕ) → bank < 2 → IsUnused preferring (slice_index (replicate 5 0) (2 + bank))
+opens_unused zero below = zero_unused
+opens_unused (suc zero) below = zero_unused
+opens_unused (suc (suc more)) below = absurd (omega arith)
 
 pub slots_system : IsSystem slots
 slots_system = record {
@@ -181,5 +189,5 @@ slots_system = record {
   keeps = keeps;
   decides = λ job words busy right long shows. decides words busy long shows job right;
   looks = looks;
-  opens = opens;
+  opens = record { initial_length = refl; shows = opens_shown; unused = opens_unused; no_turn = refl };
 }

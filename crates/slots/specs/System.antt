@@ -1,4 +1,4 @@
-use Rattle.std.specs.Prelude.{◌≡◌, ℕ, ◌+◌, ◌-◌, ◌*◌, ◌/◌, ◌%◌, ◌^◌, ◌<◌, ◌==◌, Option, Some, None, List, [], ◌∷◌, map, slice_index, ⊤}
+use Rattle.std.specs.Prelude.{◌≡◌, ℕ, ◌+◌, ◌-◌, ◌*◌, ◌/◌, ◌%◌, ◌^◌, ◌<◌, ◌==◌, Option, Some, None, List, [], ◌∷◌, map, replicate, slice_index, ⊤}
 use Rattle.std.specs.Int.{bit_at}
 use Rattle.turns.specs.Script.{Script, Ends, Tests, Seizes}
 use Rattle.turns.specs.Sharings.{preferring}
@@ -87,8 +87,9 @@ slots = record {
   IsJob = IsJob;
   State = Busy;
   Reply = List ℕ;
-  opening = none_busy;
   whole = whole;
+  opening = none_busy;
+  initial = replicate 5 0;
   Lock = ℕ;
   IsLock = λ bank. bank < 2;
   same = λ a b. a == b;

@@ -1,7 +1,7 @@
 -- an actor that is left alone: each of its steps is steady, and it ends its job
-use Rattle.std.proofs.Common.{◌≡◌, ◌≢◌, ℕ, zero, suc, ◌<◌, ◌⊎◌, Bool, true, false, List, slice_index, inl, inr, refl, sym, ◌∙◌, ap, subst, arith}
-use Rattle.std.specs.Prelude.{◌==◌, ◌||◌, Some, None, Err, if◌then◌else◌}
-use Rattle.std.proofs.lemmas.Bool.{eqb-true, eq-eqb}
+use Rattle.std.proofs.Common.{◌≡◌, ◌≢◌, ℕ, zero, suc, ◌<◌, ◌⊎◌, Bool, true, List, slice_index, inl, inr, refl, sym, ◌∙◌, ap, subst, arith}
+use Rattle.std.specs.Prelude.{Some, None, Err, if◌then◌else◌}
+use Rattle.std.proofs.lemmas.Bool.{eq-eqb}
 use mathlib.Core.Bool.{true≢false}
 use mathlib.Core.Option.{some, some-injective}
 use lib.ListN.{get_elem?}
@@ -54,7 +54,7 @@ module _ (O : System) (is : IsSystem O) where
     asked_mine : (lock : Lock) (j : ℕ) → IsLock lock → j < sharing.most → sharing.requests j (word_at O w.words lock) ≡ true → j ≡ k
     asked_mine lock j right below e = at (one_or_two j k) where
       requested : HasRequested O w.actors j lock
-      requested = ((law.shared lock right).requested j below).0 e
+      requested = ((law.shared lock right).requested j below).made e
 
       at : (j ≡ k) ⊎ (j ≢ k) → j ≡ k
       at (inl one) = one
@@ -80,10 +80,7 @@ module _ (O : System) (is : IsSystem O) where
           let shared = law.shared lock right in
           let word = word_at O w.words lock in
           is.sharing.alone_free k (asked sharing k word) few (is.sharing.asked_is k word few shared.is_word) (is.sharing.asked_holder k word few shared.is_word ∙ nobody)
-          (λ j below e. alone j below (j == k) refl (sym (is.sharing.asked_requests k word few shared.is_word j below) ∙ e)) where
-            alone : (j : ℕ) → j < sharing.most → (b : Bool) → (j == k) ≡ b → (b || sharing.requests j (word_at O w.words lock)) ≡ true → j ≡ k
-            alone j below true same e = eqb-true j k same
-            alone j below false same e = asked_mine lock j right below e
+          (λ j below e. elim (is.sharing.asked_requests k word few shared.is_word j below e) [ inl one ↦ one | inr stood ↦ asked_mine lock j right below stood ])
 
       pub free_again : sharing.judged k (word_at O w.words lock) ≡ judgement.Free
       free_again = is.sharing.alone_free k (word_at O w.words lock) few (law.shared lock right).is_word nobody (λ j below e. asked_mine lock j right below e)

@@ -21,6 +21,7 @@ pub mod FirstRequests
 pub mod LockWords
 pub mod ExactWords
 pub mod Preferring
+pub mod Plain
 pub mod SteadyAttempts
 pub mod LeftAlone
 pub mod AloneEnds

@@ -1,10 +1,9 @@
-use Rattle.std.proofs.Common.{◌≡◌, ◌≢◌, ◌↔◌, ℕ, suc, ◌<◌, Bool, false, List, [], ◌∷◌, ◌++◌, slice_set, sym, refl, ap, inl, inr, ◌∙◌, subst, eq-eqb}
-use Rattle.std.specs.Prelude.{Option, Some, None, true, ◌==◌, ◌||◌, ◌&&◌, not}
-use Rattle.std.proofs.lemmas.Bool.{eqb-true}
+use Rattle.std.proofs.Common.{◌≡◌, ℕ, suc, ◌<◌, List, [], ◌∷◌, ◌++◌, slice_set, sym, refl, ap, inl, inr, ◌∙◌, subst}
+use Rattle.std.specs.Prelude.{Option, Some, None}
 use mathlib.Core.Option.{some}
 use lib.ListN.{get_elem?}
 use Rattle.turns.specs.Among.{IsIn}
-use Rattle.turns.specs.Sharing.{SetsRequest, ClearsRequest}
+use Rattle.turns.specs.Sharing.{AddsNone, AddsOnly, Clears, KeepsOthers, ShowsRequests}
 use Rattle.turns.specs.System.{System, IsSystem}
 use Rattle.turns.specs.Attempt.{AttemptOf, request_in, walks_on}
 use Rattle.turns.specs.World.{World, Does, left_of}
@@ -12,35 +11,32 @@ use Rattle.turns.specs.Law.{IsHeld, IsRead, IsSound, Lawful, holder_at, word_at}
 use Rattle.turns.specs.declared.reading.Reading.{Reading}
 use Rattle.turns.proofs.Lists.{in_front, in_more, in_last, distinct_more}
 use Rattle.turns.proofs.Sound.{Has, has_sound, sound_along, walks_held, walks_left, walks_request, walks_sound}
-use Rattle.turns.proofs.Settings.{holds_here, holds_on, is_requested_by, renewed}
+use Rattle.turns.proofs.Settings.{TellsOthers, TellsOwn, holds_here, holds_on, is_requested_by, renewed}
 use Rattle.turns.proofs.Quiet.{few_actors}
 use Rattle.turns.proofs.Locking.{free_apart, holders_stay, lock_quiet, locks, mine_apart, word_else, word_here}
-
-differs : (j k : ℕ) → j ≢ k → (j == k) ≡ false
-differs j k apart = at (j == k) refl where
-  at : (b : Bool) → (j == k) ≡ b → b ≡ false
-  at true e = absurd (apart (eqb-true j k e))
-  at false e = refl
 
 pub none_some : {A : Type 0} (o : Option A) (x : A) → o ≡ None → o ≡ Some x → ⊥
 none_some o x empty full = cc
 
 module _ (O : System) where
-  open O use {sharing}
+  open O use {Lock, sharing}
 
-  -- of a word with its request set, an actor's own request stands, and each other one as before
-  pub set_own : (k word value : ℕ) → k < sharing.most → SetsRequest sharing k word value → sharing.requests k value ≡ true
-  set_own k word value few sets = sets k few ∙ ap (λ b. b || sharing.requests k word) (eq-eqb k k refl)
+  -- a word in which none but actor k's request is new, or one in which that is gone, tells of the others what the word before told
+  pub added_others : (k word value : ℕ) → AddsOnly sharing k word value → (ShowsRequests sharing → KeepsOthers sharing k word value) → TellsOthers O k word value
+  added_others k word value adds keeps = record {
+    made = λ j few apart stands. elim (adds j few stands) [ inl one ↦ absurd (apart one) | inr stood ↦ stood ];
+    shown = keeps;
+  }
 
-  pub set_others : (k word value : ℕ) → SetsRequest sharing k word value → (j : ℕ) → j < sharing.most → j ≢ k → sharing.requests j value ≡ sharing.requests j word
-  set_others k word value sets j few apart = sets j few ∙ ap (λ b. b || sharing.requests j word) (differs j k apart)
+  pub cleared_others : (k word value : ℕ) → Clears sharing k word value → (ShowsRequests sharing → KeepsOthers sharing k word value) → TellsOthers O k word value
+  cleared_others k word value clears keeps = record { made = λ j few apart stands. (clears j few stands).1; shown = keeps }
 
-  -- and of a word with it cleared
-  pub cleared_own : (k word value : ℕ) → k < sharing.most → ClearsRequest sharing k word value → sharing.requests k value ≡ false
-  cleared_own k word value few clears = clears k few ∙ ap (λ b. not b && sharing.requests k word) (eq-eqb k k refl)
-
-  pub cleared_others : (k word value : ℕ) → ClearsRequest sharing k word value → (j : ℕ) → j < sharing.most → j ≢ k → sharing.requests j value ≡ sharing.requests j word
-  cleared_others k word value clears j few apart = clears j few ∙ ap (λ b. not b && sharing.requests j word) (differs j k apart)
+  -- an actor whose request is gone from the word requests nothing
+  pub cleared_own : (k word value : ℕ) (lock : Lock) (request : Option Lock) → k < sharing.most → Clears sharing k word value → request ≡ None → TellsOwn O k lock value request
+  cleared_own k word value lock request few clears none = record {
+    made = λ stands. absurd ((clears k few stands).0 refl);
+    shown = λ shows asks. absurd (none_some request lock none asks);
+  }
 
 module _ (O : System) (system : IsSystem O) (w : World O) (law : Lawful O w) (k number : ℕ) (a : AttemptOf O) (there : get_elem? w.actors k ≡ some (Does number a)) where
   open O use {Lock, IsLock, lock_word, sharing}
@@ -56,7 +52,7 @@ module _ (O : System) (system : IsSystem O) (w : World O) (law : Lawful O w) (k 
     then = renewed O w other w.order k number new
 
     -- it requests the lock, or withdraws its request: the holder stays
-    pub stays : sharing.holder v ≡ holder_at O w.words c → new.held ≡ a.held → left_of O (Does number new) ≡ left_of O (Does number a) → (IsSound O then k number a → IsSound O then k number new) → sharing.IsWord v → (sharing.requests k v ≡ true) ↔ (request_in new.phase ≡ Some c) → ((j : ℕ) → j < sharing.most → j ≢ k → sharing.requests j v ≡ sharing.requests j (word_at O w.words c)) → ((lock : Lock) → request_in a.phase ≡ Some lock → lock ≡ c) → ((lock : Lock) → request_in new.phase ≡ Some lock → lock ≡ c) → Lawful O then
+    pub stays : sharing.holder v ≡ holder_at O w.words c → new.held ≡ a.held → left_of O (Does number new) ≡ left_of O (Does number a) → (IsSound O then k number a → IsSound O then k number new) → sharing.IsWord v → TellsOwn O k c v (request_in new.phase) → TellsOthers O k (word_at O w.words c) v → ((lock : Lock) → request_in a.phase ≡ Some lock → lock ≡ c) → ((lock : Lock) → request_in new.phase ≡ Some lock → lock ≡ c) → Lawful O then
     stays same held left sound is_word own others before next = locks O system w law k number a there c is v new (record {
       left = left;
       sound = sound (sound_along O system w then k number a (record {
@@ -101,19 +97,19 @@ module _ (O : System) (system : IsSystem O) (w : World O) (law : Lawful O w) (k 
       later lock apart (inl one) = absurd (apart one)
       later lock apart (inr more) = more
 
-      pub frees : sharing.IsWord v → sharing.holder v ≡ 0 → ((j : ℕ) → j < sharing.most → sharing.requests j v ≡ sharing.requests j (word_at O w.words c)) → request_in a.phase ≡ None → request_in new.phase ≡ None → left_of O (Does number new) ≡ left_of O (Does number a) → new.held ≡ rest → IsSound O then k number new → Lawful O then
-      frees is_word free same before next left held sound = locks O system w law k number a there c is v new (record {
+      pub frees : sharing.IsWord v → sharing.holder v ≡ 0 → AddsNone sharing (word_at O w.words c) v → (ShowsRequests sharing → AddsNone sharing v (word_at O w.words c)) → request_in a.phase ≡ None → request_in new.phase ≡ None → left_of O (Does number new) ≡ left_of O (Does number a) → new.held ≡ rest → IsSound O then k number new → Lawful O then
+      frees is_word free adds stay before next left held sound = locks O system w law k number a there c is v new (record {
         left = left;
         sound = sound;
         is_word = is_word;
         named = λ j e. absurd (let x : 0 ≡ suc j = sym free ∙ e in cc);
         spares = λ j i b apart at lock isl within. ap sharing.holder (word_else O system w.words law.size c is v lock isl (mine_apart O system w law k number a there c own_lock j i b apart at lock within));
         keeps = λ lock apart within. subst (λ (l : List Lock). IsIn lock l) (sym held) (later lock apart (subst (λ (l : List Lock). IsIn lock l) first within));
-        own = (
-          (λ stands. absurd (none_some (request_in a.phase) c before (is_requested_by O w.actors k (Does number a) c there (((law.shared c is).requested k few).0 (sym (same k few) ∙ stands))))),
-          (λ asks. absurd (none_some (request_in new.phase) c next asks)),
-        );
-        others = λ j low apart. same j low;
+        own = record {
+          made = λ stands. absurd (none_some (request_in a.phase) c before (is_requested_by O w.actors k (Does number a) c there (((law.shared c is).requested k few).made (adds k few stands))));
+          shown = λ shows asks. absurd (none_some (request_in new.phase) c next asks);
+        };
+        others = record { made = λ j low apart. adds j low; shown = λ shows j low apart. stay shows j low };
         before = λ lock e. absurd (none_some (request_in a.phase) lock before e);
         then = λ lock e. absurd (none_some (request_in new.phase) lock next e);
       })
@@ -149,19 +145,16 @@ module _ (O : System) (system : IsSystem O) (w : World O) (law : Lawful O w) (k 
     taker_holds : (lock : Lock) → IsIn lock (a.held ++ c ∷ []) → IsIn lock (walks_on O taker).held
     taker_holds lock within = subst (λ (l : List Lock). IsIn lock l) (sym (walks_held O taker)) within
 
-    pub takes : holder_at O w.words c ≡ 0 → sharing.IsWord v → sharing.holder v ≡ suc k → ClearsRequest sharing k (word_at O w.words c) v → ((r : Reading ℕ) → IsIn r a.readings → IsRead O w.words a.held r) → left_of O (Does number a) ≡ [] → ((lock : Lock) → request_in a.phase ≡ Some lock → lock ≡ c) → Lawful O taken
-    takes free is_word named clears read left before = locks O system w law k number a there c is v (walks_on O taker) (record {
+    pub takes : holder_at O w.words c ≡ 0 → sharing.IsWord v → sharing.holder v ≡ suc k → Clears sharing k (word_at O w.words c) v → (ShowsRequests sharing → KeepsOthers sharing k (word_at O w.words c) v) → ((r : Reading ℕ) → IsIn r a.readings → IsRead O w.words a.held r) → left_of O (Does number a) ≡ [] → ((lock : Lock) → request_in a.phase ≡ Some lock → lock ≡ c) → Lawful O taken
+    takes free is_word named clears keeps read left before = locks O system w law k number a there c is v (walks_on O taker) (record {
       left = walks_left O taker ∙ sym left;
       sound = walks_sound O system taken k number taker (taker_has free named) (taker_read read);
       is_word = is_word;
       named = λ j e. holds_here O w.actors k number (walks_on O taker) (Does number a) there j c (let x : suc k ≡ suc j = sym named ∙ e in cc) (taker_holds c (in_last c a.held));
       spares = λ j i b apart at lock isl within. ap sharing.holder (word_else O system w.words law.size c is v lock isl (free_apart O system w law k number a there c free j i b at lock within));
       keeps = λ lock apart within. taker_holds lock (in_front lock a.held (c ∷ []) within);
-      own = (
-        (λ stands. absurd (let x : ◌≡◌ {A = Bool} false true = sym (cleared_own O k (word_at O w.words c) v few clears) ∙ stands in cc)),
-        (λ asks. absurd (none_some (request_in (walks_on O taker).phase) c (walks_request O taker) asks)),
-      );
-      others = cleared_others O k (word_at O w.words c) v clears;
+      own = cleared_own O k (word_at O w.words c) v c (request_in (walks_on O taker).phase) few clears (walks_request O taker);
+      others = cleared_others O k (word_at O w.words c) v clears keeps;
       before = before;
       then = λ lock e. absurd (none_some (request_in (walks_on O taker).phase) lock (walks_request O taker) e);
     })

@@ -1,14 +1,15 @@
 -- the bits of a lock's word: the lowest six name its holder, and each actor's request is a bit of its own
 use Rattle.std.proofs.Common.{◌≡◌, ◌≢◌, ℕ, suc, ◌+◌, ◌-◌, ◌*◌, ◌^◌, ◌%◌, ◌<◌, ◌≤◌, ◌⊎◌, Bool, true, false, inl, inr, sym, refl, ap, ◌∙◌, arith, bit_and, bit_or, pow-add, pow_mono, mod-eq_of_lt, mod-lt}
-use Rattle.std.specs.Prelude.{◌==◌, ◌||◌, ◌&&◌, not, min}
+use Rattle.std.specs.Prelude.{◌==◌, min}
 use Rattle.std.specs.Int.{bit_at, w64}
 use Rattle.std.specs.Int.Bits.{or_zero_l, or_zero_r, and_lt}
 use Rattle.std.proofs.Math.Nat.{mul-mod_right}
 use Rattle.std.proofs.lemmas.Nat.{or_mod, and_mod, and_mask, or_lt}
 use Rattle.std.proofs.lemmas.Nat.Bits.{bit_at_or, bit_at_and, bit_at-pow_same, bit_at-pow_other, bit_at-lt, bit_at_not, bit_at_above}
 use Rattle.std.proofs.lemmas.Bool.{cases_lt, eqb-true, eqb-false}
-use Rattle.turns.specs.Sharing.{SetsRequest, ClearsRequest, KeepsRequests}
+use Rattle.turns.specs.Sharing.{AddsNone, AddsOnly, Clears, KeepsOthers}
 use Rattle.turns.specs.Sharings.{IsLockWord, preferring, request_bit, taken_by}
+use Rattle.turns.proofs.Lists.{one_or_two}
 
 -- a word without actor k's request, and one without its holder
 abbrev without : ℕ → ℕ → ℕ
@@ -79,37 +80,59 @@ unheld_bit word i above within =
 unheld_set : (word i : ℕ) → bit_at (unheld word) i ≡ 1 → bit_at word i ≡ 1
 unheld_set word i set = omega (arith, bit_at_and word (2 ^ 64 - 1 - 63) i, bit_at-lt word i)
 
--- a request made, and one withdrawn, taken, or untouched
-pub asked_requests : (k word : ℕ) → SetsRequest preferring k word (bit_or word (request_bit k))
-asked_requests k word j few = at (j == k) refl where
-  at : (b : Bool) → (j == k) ≡ b → (bit_at (bit_or word (request_bit k)) (8 + j) == 1) ≡ (b || bit_at word (8 + j) == 1)
-  at true e =
-      let one : j ≡ k = eqb-true j k e in
-      let own : bit_at (request_bit k) (8 + j) ≡ 1 = ap (λ n. bit_at (request_bit k) (8 + n)) one ∙ bit_at-pow_same (8 + k) in
-      let set : bit_at (bit_or word (request_bit k)) (8 + j) ≡ 1 = omega (arith, bit_at_or word (request_bit k) (8 + j), own, bit_at-lt word (8 + j)) in
-      ap (λ n. n == 1) set
-  at false e =
-      let apart : j ≢ k = eqb-false j k e in
-      let none : bit_at (request_bit k) (8 + j) ≡ 0 = bit_at-pow_other (8 + k) (8 + j) (λ same. apart (omega arith)) in
-      let same : bit_at (bit_or word (request_bit k)) (8 + j) ≡ bit_at word (8 + j) = omega (arith, bit_at_or word (request_bit k) (8 + j), none) in
-      ap (λ n. n == 1) same
+-- the requests of others, once one is made, withdrawn, or taken, and all of them once the lock is freed
+asked_other : (k word j : ℕ) → j ≢ k → bit_at (bit_or word (request_bit k)) (8 + j) ≡ bit_at word (8 + j)
+asked_other k word j apart =
+    let none : bit_at (request_bit k) (8 + j) ≡ 0 = bit_at-pow_other (8 + k) (8 + j) (λ same. apart (omega arith)) in
+    omega (arith, bit_at_or word (request_bit k) (8 + j), none)
 
-pub without_requests : (k word : ℕ) → k < 48 → ClearsRequest preferring k word (without k word)
-without_requests k word few j below = at (j == k) refl where
-  at : (b : Bool) → (j == k) ≡ b → (bit_at (without k word) (8 + j) == 1) ≡ (not b && bit_at word (8 + j) == 1)
-  at true e =
-      let one : j ≡ k = eqb-true j k e in
+without_request : (k word j : ℕ) → k < 48 → j < 48 → j ≢ k → bit_at (without k word) (8 + j) ≡ bit_at word (8 + j)
+without_request k word j few below apart = without_other k word (8 + j) few (omega arith) (λ same. apart (omega arith))
+
+taken_request : (k word j : ℕ) → k < 48 → bit_at (taken_by k word) (8 + j) ≡ bit_at (without k word) (8 + j)
+taken_request k word j few = taken_bit k word (8 + j) few (omega arith)
+
+unheld_request : (word j : ℕ) → j < 48 → bit_at (unheld word) (8 + j) ≡ bit_at word (8 + j)
+unheld_request word j below = unheld_bit word (8 + j) (omega arith) (omega arith)
+
+-- no other request is new, nor is one that was withdrawn or taken still there
+pub asked_requests : (k word : ℕ) → AddsOnly preferring k word (bit_or word (request_bit k))
+asked_requests k word j below stands = elim (one_or_two j k) [
+  | inl one ↦ inl one
+  | inr apart ↦ inr (sym (ap (λ n. n == 1) (asked_other k word j apart)) ∙ stands)
+]
+
+pub without_requests : (k word : ℕ) → k < 48 → Clears preferring k word (without k word)
+without_requests k word few j below stands = (apart, sym (ap (λ n. n == 1) (without_request k word j few below apart)) ∙ stands) where
+  apart : j ≢ k
+  apart one =
       let clear : bit_at (without k word) (8 + j) ≡ 0 = ap (λ n. bit_at (without k word) (8 + n)) one ∙ without_same k word few in
-      ap (λ n. n == 1) clear
-  at false e =
-      let apart : j ≢ k = eqb-false j k e in
-      ap (λ n. n == 1) (without_other k word (8 + j) few (omega arith) (λ same. apart (omega arith)))
+      let set : bit_at (without k word) (8 + j) ≡ 1 = eqb-true (bit_at (without k word) (8 + j)) 1 stands in
+      absurd (omega (arith, clear, set))
 
-pub taken_requests : (k word : ℕ) → k < 48 → ClearsRequest preferring k word (taken_by k word)
-taken_requests k word few j below = ap (λ n. n == 1) (taken_bit k word (8 + j) few (omega arith)) ∙ without_requests k word few j below
+pub taken_requests : (k word : ℕ) → k < 48 → Clears preferring k word (taken_by k word)
+taken_requests k word few j below stands = without_requests k word few j below (sym (ap (λ n. n == 1) (taken_request k word j few)) ∙ stands)
 
-pub unheld_requests : (word : ℕ) → KeepsRequests preferring word (unheld word)
-unheld_requests word j below = ap (λ n. n == 1) (unheld_bit word (8 + j) (omega arith) (omega arith))
+pub unheld_requests : (word : ℕ) → AddsNone preferring word (unheld word)
+unheld_requests word j below stands = sym (ap (λ n. n == 1) (unheld_request word j below)) ∙ stands
+
+-- a request that was made stands, and so do those of others
+pub asked_own : (k word : ℕ) → preferring.requests k (bit_or word (request_bit k)) ≡ true
+asked_own k word =
+    let set : bit_at (bit_or word (request_bit k)) (8 + k) ≡ 1 = omega (arith, bit_at_or word (request_bit k) (8 + k), bit_at-pow_same (8 + k), bit_at-lt word (8 + k)) in
+    ap (λ n. n == 1) set
+
+pub asked_others : (k word : ℕ) → KeepsOthers preferring k word (bit_or word (request_bit k))
+asked_others k word j below apart stood = ap (λ n. n == 1) (asked_other k word j apart) ∙ stood
+
+pub without_others : (k word : ℕ) → k < 48 → KeepsOthers preferring k word (without k word)
+without_others k word few j below apart stood = ap (λ n. n == 1) (without_request k word j few below apart) ∙ stood
+
+pub taken_others : (k word : ℕ) → k < 48 → KeepsOthers preferring k word (taken_by k word)
+taken_others k word few j below apart stood = ap (λ n. n == 1) (taken_request k word j few) ∙ without_others k word few j below apart stood
+
+pub unheld_others : (word : ℕ) → AddsNone preferring (unheld word) word
+unheld_others word j below stood = ap (λ n. n == 1) (unheld_request word j below) ∙ stood
 
 -- each of them is a lock's word
 pub asked_is : (k word : ℕ) → k < 48 → IsLockWord word → IsLockWord (bit_or word (request_bit k))

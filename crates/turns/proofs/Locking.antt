@@ -1,5 +1,5 @@
-use Rattle.std.proofs.Common.{◌≡◌, ◌≢◌, ◌↔◌, ℕ, suc, ◌<◌, ◌⊎◌, List, length, set, slice_set, sym, ap, inl, inr, ◌∙◌, subst, length-set}
-use Rattle.std.specs.Prelude.{Some, true}
+use Rattle.std.proofs.Common.{◌≡◌, ◌≢◌, ℕ, suc, ◌<◌, ◌⊎◌, List, length, set, slice_set, sym, ap, inl, inr, ◌∙◌, subst, length-set}
+use Rattle.std.specs.Prelude.{Some}
 use mathlib.Core.Option.{some}
 use lib.ListN.{get_elem?}
 use Rattle.turns.specs.Among.{IsIn}
@@ -8,7 +8,7 @@ use Rattle.turns.specs.Attempt.{AttemptOf, request_in}
 use Rattle.turns.specs.World.{World, Does, left_of}
 use Rattle.turns.specs.Law.{Holds, IsShared, IsSound, Lawful, holder_at, word_at}
 use Rattle.turns.proofs.Lists.{one_or_two, index_same, index_other}
-use Rattle.turns.proofs.Settings.{renewed, shared_here, shared_on}
+use Rattle.turns.proofs.Settings.{TellsOthers, TellsOwn, renewed, shared_here, shared_on}
 use Rattle.turns.proofs.Quiet.{Quiet, few_actors, kept, other_sound}
 
 module _ (O : System) (system : IsSystem O) where
@@ -77,8 +77,8 @@ module _ (O : System) (system : IsSystem O) where
       pub spares : (j i : ℕ) (b : AttemptOf O) → j ≢ k → get_elem? w.actors j ≡ some (Does i b) → (lock : Lock) → IsLock lock → IsIn lock b.held → holder_at O (slice_set w.words (lock_word c) v) lock ≡ holder_at O w.words lock
       pub keeps : (lock : Lock) → ¬ (lock ≡ c) → IsIn lock a.held → IsIn lock new.held
       -- its request stands in the word exactly where it stands, and it stood and stands for no other lock
-      pub own : (sharing.requests k v ≡ true) ↔ (request_in new.phase ≡ Some c)
-      pub others : (j : ℕ) → j < sharing.most → j ≢ k → sharing.requests j v ≡ sharing.requests j (word_at O w.words c)
+      pub own : TellsOwn O k c v (request_in new.phase)
+      pub others : TellsOthers O k (word_at O w.words c) v
       pub before : (lock : Lock) → request_in a.phase ≡ Some lock → lock ≡ c
       pub then : (lock : Lock) → request_in new.phase ≡ Some lock → lock ≡ c
 

@@ -4,7 +4,7 @@ use Rattle.std.proofs.lemmas.Bool.{eqb-true}
 use mathlib.Core.Option.{some}
 use lib.ListN.{get_elem?}
 use Rattle.turns.specs.Among.{IsIn}
-use Rattle.turns.specs.Sharing.{IsTrueOf, asked, freed as freed_word, withdrawn}
+use Rattle.turns.specs.Sharing.{IsTrueOf, ShowsRequests, asked, freed as freed_word, withdrawn}
 use Rattle.turns.specs.System.{System, IsSystem}
 use Rattle.turns.specs.Attempt.{AttemptOf, Stands, change, changed, freed, forgotten, left_in, put_off, request_in, restarted, told, walks_on}
 use Rattle.turns.specs.World.{World, ActorOf, RecordOf, Does, left_of, moved}
@@ -22,7 +22,7 @@ use Rattle.turns.proofs.Standing.{stands_change}
 use Rattle.turns.proofs.Sound.{Has, freed_held, freed_left, freed_request, freed_sound, has_sound, judged_held, judged_left, judged_request, judged_sound, on_judgement, put_off_sound, walks_held, walks_left, walks_request, walks_sound}
 use Rattle.turns.proofs.Settings.{renewed}
 use Rattle.turns.proofs.Quiet.{few_actors, still}
-use Rattle.turns.proofs.LockMoves.{cleared_others, cleared_own, frees, none_some, rest_has, set_others, set_own, stays, takes}
+use Rattle.turns.proofs.LockMoves.{added_others, cleared_others, cleared_own, frees, none_some, rest_has, stays, takes}
 use Rattle.turns.proofs.Effects.{makes}
 use Rattle.turns.proofs.Turning.{turns}
 
@@ -75,7 +75,7 @@ module _ (O : System) (system : IsSystem O) (w : World O) (law : Lawful O w) (k 
         let found = word_at O w.words c in
         let v = freed_word sharing found in
         let word = (law.shared c is).is_word in
-        frees O system w law k number a there c is v new rest first (system.sharing.freed_is found word) (system.sharing.freed_holder found word) (system.sharing.freed_requests found word) before next left held (s (rest_has O system w law k number a there c is v new rest first))
+        frees O system w law k number a there c is v new rest first (system.sharing.freed_is found word) (system.sharing.freed_holder found word) (system.sharing.freed_requests found word) (λ shows. shows.freed_others found word) before next left held (s (rest_has O system w law k number a there c is v new rest first))
 
   module _ (job : Job) (readings : List (Reading ℕ)) (held : List Lock) (reply : Option Reply) (effects : List Effect) where
     -- it requests a lock
@@ -89,13 +89,13 @@ module _ (O : System) (system : IsSystem O) (w : World O) (law : Lawful O w) (k 
         let v = asked sharing k found in
         let j = sharing.judged k v in
         let is_word = system.sharing.asked_is k found few word in
-        let set = system.sharing.asked_requests k found few word in
-        let stands : sharing.requests k v ≡ true = set_own O k found v few set in
+        let stands : ShowsRequests sharing → sharing.requests k v ≡ true = λ shows. shows.asked_own k found few word in
         same_order _ _ (subst (λ (new : AttemptOf O). Lawful O (renewed O w (slice_set w.words (lock_word lock) v) w.order k number new)) (asked_on O a lock v j)
         (stays O system w law k number a there lock s.fits v (on_judgement O a lock v j)
         (system.sharing.asked_holder k found few word) (judged_held O a lock v j) (judged_left O a lock v j)
         (λ now. judged_sound O _ k number a lock v j (has_sound O _ k number a now) now.read s.stands s.fits is_word stands refl)
-        is_word ((λ e. judged_request O a lock v j), (λ e. stands)) (set_others O k found v set)
+        is_word (record { made = λ e. judged_request O a lock v j; shown = λ shows e. stands shows })
+        (added_others O k found v (system.sharing.asked_requests k found few word) (λ shows. shows.asked_others k found few word))
         (λ other e. absurd cc) (λ other e. let x : Some lock ≡ Some other = sym (judged_request O a lock v j) ∙ e in cc)))
 
     -- it withdraws its request
@@ -112,8 +112,8 @@ module _ (O : System) (system : IsSystem O) (w : World O) (law : Lawful O w) (k 
         (system.sharing.withdrawn_holder k found few word) (freed_held O a held) (freed_left O a held)
         (λ now. freed_sound O system _ k number a held (has_sound O _ k number a now))
         (system.sharing.withdrawn_is k found few word)
-        ((λ e. absurd (let x : ◌≡◌ {A = Bool} false true = sym (cleared_own O k found v few cleared) ∙ e in cc)), (λ e. absurd (none_some (request_in (freed O a held).phase) lock (freed_request O a held) e)))
-        (cleared_others O k found v cleared)
+        (cleared_own O k found v lock (request_in (freed O a held).phase) few cleared (freed_request O a held))
+        (cleared_others O k found v cleared (λ shows. shows.withdrawn_others k found few word))
         (λ other e. cc) (λ other e. absurd (none_some (request_in (freed O a held).phase) other (freed_request O a held) e)))
 
     -- it seizes a lock whose word is as expected, or finds another word
@@ -129,7 +129,7 @@ module _ (O : System) (system : IsSystem O) (w : World O) (law : Lawful O w) (k 
         let free : sharing.holder found ≡ 0 = subst (IsTrueOf sharing k found) judged (system.sharing.judged_true k found few word) in
         let is : found ≡ expected = eqb-true found expected e in
         subst (λ (x : ℕ). Lawful O (renewed O w (slice_set w.words (lock_word lock) (sharing.taken k x)) w.order k number (walks_on O (record a { held = held ++ lock ∷ [] })))) is
-        (takes O system w law k number a there lock s.fits.0 (sharing.taken k found) free (system.sharing.taken_is k found few word free) (system.sharing.taken_holder k found few word free) (system.sharing.taken_requests k found few word free) s.read refl (λ other same. cc))
+        (takes O system w law k number a there lock s.fits.0 (sharing.taken k found) free (system.sharing.taken_is k found few word free) (system.sharing.taken_holder k found few word free) (system.sharing.taken_requests k found few word free) (λ shows. shows.taken_others k found few word free) s.read refl (λ other same. cc))
     seizes_in lock expected there false e =
         let a = attempt O (Seizes lock expected) job readings held reply effects in
         let s = law.sound k number a there in
@@ -140,7 +140,7 @@ module _ (O : System) (system : IsSystem O) (w : World O) (law : Lawful O w) (k 
         let asks : HasRequested O w.actors k lock = record { number = number; attempt = a; does = there; requests = refl } in
         idle_word (lock_word lock) (change O a (told (Again found) j)) (subst (λ (new : AttemptOf O). Lawful O (renewed O w w.words w.order k number new)) (again_on O a lock expected found j)
         (rests a there (on_judgement O a lock found j) (judged_left O a lock found j) (judged_held O a lock found j) (judged_request O a lock found j)
-        (judged_sound O w k number a lock found j (has a there) s.read s.stands s.fits.0 shared.is_word ((shared.requested k few).1 asks) refl)))
+        (judged_sound O w k number a lock found j (has a there) s.read s.stands s.fits.0 shared.is_word (λ shows. (shared.requested k few).shown shows asks) refl)))
 
     -- it tests a word
     tests_in : (word : ℕ) → get_elem? w.actors k ≡ some (Does number (attempt O (Tests word) job readings held reply effects)) → Lawful O (moved O k number (attempt O (Tests word) job readings held reply effects) w)

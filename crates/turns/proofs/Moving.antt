@@ -1,12 +1,12 @@
 use Rattle.std.proofs.Common.{◌≡◌, ℕ, zero, suc, ◌<◌, ◌≤◌, List, [], ◌∷◌, replicate, slice_index, sym, refl, ap, ◌∙◌, subst}
 use Rattle.std.specs.Prelude.{Bool, true, false, Option, None}
 use mathlib.Core.Option.{some, some-injective, some-ne-none}
-use lib.ListN.{get_elem?, length-replicate, get_or-replicate}
+use lib.ListN.{get_elem?, length-replicate}
 use Rattle.turns.specs.Among.{IsIn}
 use Rattle.turns.specs.System.{System, IsSystem}
 use Rattle.turns.specs.Attempt.{AttemptOf, Rest, act, left_in, begin, request_in}
 use Rattle.turns.specs.World.{World, ActorOf, Idle, Does, left_of, moved, assigned, given_back, opened, made, completed}
-use Rattle.turns.specs.Law.{IsFree, IsShared, Lawful, word_at}
+use Rattle.turns.specs.Law.{IsFree, IsShared, Lawful}
 use Rattle.turns.specs.declared.phase.Phase.{Phase}
 use Rattle.turns.specs.declared.phase.Phase.TheVariants.{Requests, Seizes, Tests, Turns, Withdraws, GivesBack, Operates}
 use Rattle.turns.specs.declared.reading.Reading.{Reading}
@@ -17,7 +17,7 @@ use Rattle.turns.proofs.Quiet.{still}
 use Rattle.turns.proofs.Moves.{attempt, keeps_in, gives_back_in}
 
 module _ (O : System) where
-  open O use {Lock, Job, Reply, Effect, IsLock, IsJob, lock_word, sharing}
+  open O use {Lock, Job, Reply, Effect, IsLock, IsJob, sharing}
 
   -- an actor with no next step has no effects left, holds nothing and requests nothing
   pub rest_bare : (phase : Phase Lock ℕ) (job : Job) (readings : List (Reading ℕ)) (held : List Lock) (reply : Option Reply) (effects : List Effect) → act (attempt O phase job readings held reply effects) ≡ Rest → (left_in phase effects ≡ []) × (held ≡ []) × (request_in phase ≡ None)
@@ -50,36 +50,33 @@ module _ (O : System) where
   idle_left count k (Does number a) e = absurd (idle_none count k number a e)
 
   module _ (system : IsSystem O) where
-    word_zero : (n : ℕ) → n < O.size → slice_index (replicate O.size 0) n ≡ 0
-    word_zero n below = get_or-replicate O.size n 0 0 below
-
     -- nobody holds or requests a lock
     opens_shared : (count : ℕ) (lock : Lock) → IsLock lock → IsShared O (opened O count) lock
     opens_shared count lock is =
-        let bare : word_at O (replicate O.size 0) lock ≡ 0 = word_zero (lock_word lock) (system.words.lock_word_there lock is) in
+        let unused = system.opens.unused lock is in
         record {
-          is_word = subst sharing.IsWord (sym bare) system.sharing.zero_is;
-          named = λ k e. absurd (let x : suc k ≡ 0 = sym e ∙ ap sharing.holder bare ∙ system.sharing.zero_free in cc);
-          requested = λ k few. (
-            (λ e. absurd (let x : ◌≡◌ {A = Bool} true false = sym e ∙ ap (sharing.requests k) bare ∙ system.sharing.zero_unasked k few in cc)),
-            (λ asks. absurd (idle_none count k asks.number asks.attempt asks.does)),
-          );
+          is_word = unused.is_word;
+          named = λ k e. absurd (let x : suc k ≡ 0 = sym e ∙ unused.free in cc);
+          requested = λ k few. record {
+            made = λ stands. absurd (let x : ◌≡◌ {A = Bool} true false = sym stands ∙ unused.unasked k few in cc);
+            shown = λ shows asks. absurd (idle_none count k asks.number asks.attempt asks.does);
+          };
         }
 
     -- a system opens lawfully
     pub opens : (count : ℕ) → count ≤ sharing.most → Lawful O (opened O count)
     opens count few = record {
       few = subst (λ (l : ℕ). l ≤ sharing.most) (sym (length-replicate count Idle)) few;
-      size = length-replicate O.size 0;
-      turn = word_zero O.turn_word system.words.turn_there;
+      size = system.opens.initial_length;
+      turn = system.opens.no_turn;
       legal = tt;
-      shows = system.looks (replicate O.size 0) (completed O (opened O count)) O.opening (record {
-        this_length = length-replicate O.size 0;
-        that_length = completed_length O (replicate count Idle) 0 (replicate O.size 0) ∙ length-replicate O.size 0;
+      shows = system.looks O.initial (completed O (opened O count)) O.opening (record {
+        this_length = system.opens.initial_length;
+        that_length = completed_length O (replicate count Idle) 0 O.initial ∙ system.opens.initial_length;
         under = λ n lock e.
-            sym (completed_index O (opened O count) n (subst (λ (l : ℕ). n < l) (sym (length-replicate O.size 0)) (system.words.word_there n lock e)) ∙
-            all_spare O (replicate count Idle) n (slice_index (replicate O.size 0) n) (λ j m at v. ap (λ (effects : List Effect). made O effects n v) (idle_left count j m at)));
-      }) system.opens;
+            sym (completed_index O (opened O count) n (subst (λ (l : ℕ). n < l) (sym system.opens.initial_length) (system.words.word_there n lock e)) ∙
+            all_spare O (replicate count Idle) n (slice_index O.initial n) (λ j m at v. ap (λ (effects : List Effect). made O effects n v) (idle_left count j m at)));
+      }) system.opens.shows;
       sound = λ k number a at. absurd (idle_none count k number a at);
       shared = λ lock is. opens_shared count lock is;
     }

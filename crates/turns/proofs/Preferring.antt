@@ -1,16 +1,13 @@
--- sharing by requests and preference is one
-use Rattle.turns.specs.Sharing.{IsSharing}
+-- sharing by requests and preference is a sharing, and one that shows requests
+use Rattle.turns.specs.Sharing.{IsSharing, IsUnused, ShowsRequests}
 use Rattle.turns.specs.Sharings.{preferring}
 use Rattle.std.proofs.Common.{◌+◌, ◌==◌, refl, ap, arith}
 use Rattle.std.proofs.lemmas.Nat.Bits.{bit_at-zero}
-use Rattle.turns.proofs.LockWords.{asked_holder, without_holder, taken_holder, unheld_holder, asked_requests, without_requests, taken_requests, unheld_requests, asked_is, without_is, taken_is, unheld_is}
+use Rattle.turns.proofs.LockWords.{asked_holder, without_holder, taken_holder, unheld_holder, asked_requests, without_requests, taken_requests, unheld_requests, asked_own, asked_others, without_others, taken_others, unheld_others, asked_is, without_is, taken_is, unheld_is}
 use Rattle.turns.proofs.FirstRequests.{judged_true, alone_free}
 
 pub preferring_is : IsSharing preferring
 preferring_is = record {
-  zero_is = record { holder = omega arith; bits = λ i set. absurd (omega (arith, bit_at-zero i)); below = omega arith };
-  zero_free = refl;
-  zero_unasked = λ j few. ap (λ n. n == 1) (bit_at-zero (8 + j));
   asked_is = λ k word few is. asked_is k word few is;
   asked_holder = λ k word few is. asked_holder k word;
   asked_requests = λ k word few is. asked_requests k word;
@@ -25,4 +22,21 @@ preferring_is = record {
   freed_requests = λ word is. unheld_requests word;
   judged_true = λ k word few is. judged_true k word;
   alone_free = λ k word few is free alone. alone_free k word few free alone;
+}
+
+pub preferring_shows : ShowsRequests preferring
+preferring_shows = record {
+  asked_own = λ k word few is. asked_own k word;
+  asked_others = λ k word few is. asked_others k word;
+  withdrawn_others = λ k word few is. without_others k word few;
+  taken_others = λ k word few is free. taken_others k word few;
+  freed_others = λ word is. unheld_others word;
+}
+
+-- a word of 0 is that of a lock that nobody holds or requests
+pub zero_unused : IsUnused preferring 0
+zero_unused = record {
+  is_word = record { holder = omega arith; bits = λ i set. absurd (omega (arith, bit_at-zero i)); below = omega arith };
+  free = refl;
+  unasked = λ j few. ap (λ n. n == 1) (bit_at-zero (8 + j));
 }

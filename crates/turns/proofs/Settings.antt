@@ -3,10 +3,11 @@ use Rattle.std.specs.Prelude.{Option, Some, None, true}
 use mathlib.Core.Option.{some, some-injective}
 use lib.ListN.{get_elem?}
 use Rattle.turns.specs.Among.{IsIn}
+use Rattle.turns.specs.Sharing.{KeepsOthers, ShowsRequests}
 use Rattle.turns.specs.System.{System}
 use Rattle.turns.specs.Attempt.{Attempt, AttemptOf, request_in}
 use Rattle.turns.specs.World.{World, Actor, ActorOf, RecordOf, Idle, Does}
-use Rattle.turns.specs.Law.{HasRequested, Holds, IsShared, IsSound, word_at}
+use Rattle.turns.specs.Law.{HasRequested, Holds, IsShared, IsSound, TellsRequest, word_at}
 use Rattle.turns.proofs.Lists.{one_or_two, at_set, set_here, set_else}
 
 pub does_one : {Lock Job Reply Effect : Type 0} (m n : ℕ) (a b : Attempt Lock Job Reply Effect) → ◌≡◌ {A = Actor Lock Job Reply Effect} (Does m a) (Does n b) → a ≡ b
@@ -41,6 +42,16 @@ module _ (O : System) where
   pub is_requested_by : (actors : List (ActorOf O)) (j : ℕ) (m : ActorOf O) (lock : Lock) → get_elem? actors j ≡ some m → HasRequested O actors j lock → request_of m ≡ Some lock
   is_requested_by actors j m lock there asks = ap request_of (some-injective m (Does asks.number asks.attempt) (sym there ∙ asks.does)) ∙ asks.requests
 
+  -- a lock's word tells an actor's request by the lock that this one requests
+  pub record TellsOwn (k : ℕ) (lock : Lock) (word : ℕ) (request : Option Lock) : Type 0 where
+    pub made : sharing.requests k word ≡ true → request ≡ Some lock
+    pub shown : ShowsRequests sharing → request ≡ Some lock → sharing.requests k word ≡ true
+
+  -- a word tells of the others what the word before told
+  pub record TellsOthers (k word after : ℕ) : Type 0 where
+    pub made : (j : ℕ) → j < sharing.most → j ≢ k → sharing.requests j after ≡ true → sharing.requests j word ≡ true
+    pub shown : ShowsRequests sharing → KeepsOthers sharing k word after
+
   -- actor k does this now: what others hold and request stays
   module _ (actors : List (ActorOf O)) (k number : ℕ) (new : AttemptOf O) where
     pub holds_else : (j : ℕ) (lock : Lock) → j ≢ k → Holds O actors j lock → Holds O (set actors k (Does number new)) j lock
@@ -68,16 +79,16 @@ module _ (O : System) where
       ]
 
       -- requests that stand in a word as they were made before, but for actor k's, which is told by its word
-      pub requests_here : (lock : Lock) (word value : ℕ) → ((j : ℕ) → j < sharing.most → (sharing.requests j word ≡ true) ↔ HasRequested O actors j lock) → ((sharing.requests k value ≡ true) ↔ (request_in new.phase ≡ Some lock)) → ((j : ℕ) → j < sharing.most → j ≢ k → sharing.requests j value ≡ sharing.requests j word) → (j : ℕ) → j < sharing.most → (sharing.requests j value ≡ true) ↔ HasRequested O (set actors k (Does number new)) j lock
+      pub requests_here : (lock : Lock) (word value : ℕ) → ((j : ℕ) → j < sharing.most → TellsRequest O actors j lock word) → TellsOwn k lock value (request_in new.phase) → TellsOthers k word value → (j : ℕ) → j < sharing.most → TellsRequest O (set actors k (Does number new)) j lock value
       requests_here lock word value before own others j few = elim (one_or_two j k) [
-        | inl e ↦ subst (λ (i : ℕ). (sharing.requests i value ≡ true) ↔ HasRequested O (set actors k (Does number new)) i lock) (sym e) (
-          (λ stands. requested_is (set actors k (Does number new)) k (Does number new) lock here (own.0 stands)),
-          (λ asks. own.1 (is_requested_by (set actors k (Does number new)) k (Does number new) lock here asks)),
-        )
-        | inr apart ↦ (
-          (λ stands. requested_else j lock apart ((before j few).0 (sym (others j few apart) ∙ stands))),
-          (λ asks. others j few apart ∙ (before j few).1 (requested_before j lock apart asks)),
-        )
+        | inl e ↦ subst (λ (i : ℕ). TellsRequest O (set actors k (Does number new)) i lock value) (sym e) (record {
+          made = λ stands. requested_is (set actors k (Does number new)) k (Does number new) lock here (own.made stands);
+          shown = λ shows asks. own.shown shows (is_requested_by (set actors k (Does number new)) k (Does number new) lock here asks);
+        })
+        | inr apart ↦ record {
+          made = λ stands. requested_else j lock apart ((before j few).made (others.made j few apart stands));
+          shown = λ shows asks. others.shown shows j few apart ((before j few).shown shows (requested_before j lock apart asks));
+        }
       ]
 
   -- the world with other words and another order, and a new attempt of actor k
@@ -97,19 +108,21 @@ module _ (O : System) where
     shared_on lock shared same more asks few = record {
       is_word = subst sharing.IsWord (sym same) shared.is_word;
       named = λ j e. holds_on w.actors k number new m there j lock more (shared.named j (sym (ap sharing.holder same) ∙ e));
-      requested = requests_here w.actors k number new m there lock (word_at O w.words lock) (word_at O other lock) shared.requested (
-        (λ stands. asks.0 (is_requested_by w.actors k m lock there ((shared.requested k few).0 (sym (ap (sharing.requests k) same) ∙ stands)))),
-        (λ e. ap (sharing.requests k) same ∙ (shared.requested k few).1 (requested_is w.actors k m lock there (asks.1 e))),
-      )
-          (λ j low apart. ap (sharing.requests j) same);
+      requested = requests_here w.actors k number new m there lock (word_at O w.words lock) (word_at O other lock) shared.requested (record {
+        made = λ stands. asks.0 (is_requested_by w.actors k m lock there ((shared.requested k few).made (sym (ap (sharing.requests k) same) ∙ stands)));
+        shown = λ shows e. ap (sharing.requests k) same ∙ (shared.requested k few).shown shows (requested_is w.actors k m lock there (asks.1 e));
+      }) (record {
+        made = λ j low apart stands. sym (ap (sharing.requests j) same) ∙ stands;
+        shown = λ shows j low apart stood. ap (sharing.requests j) same ∙ stood;
+      });
     }
 
     -- or if it is a new word that tells the truth of what actor k has of it now
-    pub shared_here : (lock : Lock) (value : ℕ) → IsShared O w lock → word_at O other lock ≡ value → sharing.IsWord value → ((j : ℕ) → sharing.holder value ≡ suc j → Holds O (set w.actors k (Does number new)) j lock) → ((sharing.requests k value ≡ true) ↔ (request_in new.phase ≡ Some lock)) → ((j : ℕ) → j < sharing.most → j ≢ k → sharing.requests j value ≡ sharing.requests j (word_at O w.words lock)) → IsShared O (renewed w other order k number new) lock
+    pub shared_here : (lock : Lock) (value : ℕ) → IsShared O w lock → word_at O other lock ≡ value → sharing.IsWord value → ((j : ℕ) → sharing.holder value ≡ suc j → Holds O (set w.actors k (Does number new)) j lock) → TellsOwn k lock value (request_in new.phase) → TellsOthers k (word_at O w.words lock) value → IsShared O (renewed w other order k number new) lock
     shared_here lock value shared is word_is named own others =
         let requested = requests_here w.actors k number new m there lock (word_at O w.words lock) value shared.requested own others in
         record {
           is_word = subst sharing.IsWord (sym is) word_is;
           named = λ j e. named j (sym (ap sharing.holder is) ∙ e);
-          requested = λ j few. ((λ stands. (requested j few).0 (sym (ap (sharing.requests j) is) ∙ stands)), (λ asks. ap (sharing.requests j) is ∙ (requested j few).1 asks));
+          requested = λ j few. subst (λ (x : ℕ). TellsRequest O (set w.actors k (Does number new)) j lock x) (sym is) (requested j few);
         }

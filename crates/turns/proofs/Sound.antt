@@ -1,6 +1,7 @@
 use Rattle.std.proofs.Common.{◌≡◌, ℕ, List, [], ◌∷◌, slice_index, length, refl, sym, ap, ◌∙◌, subst}
 use Rattle.std.specs.Prelude.{Result, Ok, Err, Some, None, true, slice_get}
 use Rattle.turns.specs.Among.{IsIn, AreDistinct}
+use Rattle.turns.specs.Sharing.{ShowsRequests}
 use Rattle.turns.specs.System.{System, IsSystem, IsUnder, AreUnder, DecidesUnder}
 use Rattle.turns.specs.Attempt.{AttemptOf, Stands, left_in, request_in, come_to, goes_on, walks_on, begin, freed, put_off}
 use Rattle.turns.specs.World.{World, RecordOf, after}
@@ -166,7 +167,7 @@ module _ (O : System) where
   pub put_off_sound : (w : World O) (k number : ℕ) (a : AttemptOf O) (lock : Lock) → Has w.words k a.job a.held → IsLock lock → IsSound O w k number (put_off a lock)
   put_off_sound w k number a lock has is = record { job = has.job; held = has.held; distinct = has.distinct; read = λ r none. absurd none; stands = is; fits = tt }
 
-  pub judged_sound : (w : World O) (k number : ℕ) (a : AttemptOf O) (lock : Lock) (word : ℕ) (j : Judgement) → Has w.words k a.job a.held → AreRead w.words a → come_to O a ≡ Err (Seize lock) → IsLock lock → sharing.IsWord word → sharing.requests k word ≡ true → sharing.judged k word ≡ j → IsSound O w k number (on_judgement a lock word j)
+  pub judged_sound : (w : World O) (k number : ℕ) (a : AttemptOf O) (lock : Lock) (word : ℕ) (j : Judgement) → Has w.words k a.job a.held → AreRead w.words a → come_to O a ≡ Err (Seize lock) → IsLock lock → sharing.IsWord word → (ShowsRequests sharing → sharing.requests k word ≡ true) → sharing.judged k word ≡ j → IsSound O w k number (on_judgement a lock word j)
   judged_sound w k number a lock word Free has read wants is word_is asked e = record { job = has.job; held = has.held; distinct = has.distinct; read = read; stands = wants; fits = (is, record { is_word = word_is; requested = asked; free = e }) }
   judged_sound w k number a lock word (Held other) has read wants is word_is asked e = put_off_sound w k number a lock has is
   judged_sound w k number a lock word (Preferred other) has read wants is word_is asked e = put_off_sound w k number a lock has is

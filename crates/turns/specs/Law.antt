@@ -1,8 +1,9 @@
-use Rattle.std.specs.Prelude.{◌≡◌, ◌↔◌, ℕ, suc, ◌<◌, ◌≤◌, ◌^◌, ◌%◌, true, Some, List, [], ◌∷◌, ◌++◌, length, take, slice_index, slice_get, ⊤}
+use Rattle.std.specs.Prelude.{◌≡◌, ℕ, suc, ◌<◌, ◌≤◌, ◌^◌, ◌%◌, true, Some, List, [], ◌∷◌, ◌++◌, length, take, slice_index, slice_get, ⊤}
 use mathlib.Core.Option.{some}
 use lib.ListN.{get_elem?}
 use Rattle.turns.specs.Among.{IsIn, AreDistinct}
 use Rattle.turns.specs.Script.{run}
+use Rattle.turns.specs.Sharing.{ShowsRequests}
 use Rattle.turns.specs.System.{System, IsUnder, AreUnder, AreDue, effect_on, made_by}
 use Rattle.turns.specs.Attempt.{AttemptOf, Rest, Stands, act, read_in, request_in}
 use Rattle.turns.specs.World.{World, ActorOf, Idle, Does, RecordOf, completed, after}
@@ -55,10 +56,11 @@ module _ (O : System) where
     pub recorded : IsRecorded order k number turn a
     pub decided : WasDecided words order recorded.place a
 
-  -- what is expected of a lock's word is a word by which actor k, whose request stands there, may seize it
+  -- what is expected of a lock's word is a word by which actor k may seize it; its request stands there, if
+  -- requests are shown
   pub record MaySeize (k expected : ℕ) : Type 0 where
     pub is_word : sharing.IsWord expected
-    pub requested : sharing.requests k expected ≡ true
+    pub requested : ShowsRequests sharing → sharing.requests k expected ≡ true
     pub free : sharing.judged k expected ≡ Free
 
   -- what a phase adds to it
@@ -104,11 +106,17 @@ module _ (O : System) where
     pub does : get_elem? actors k ≡ some (Does number attempt)
     pub requests : request_in attempt.phase ≡ Some lock
 
-  -- a lock's word is that of a lock, a holder it names holds it, and a request stands in it exactly where it was made
+  -- actor k's request stands in a lock's word only where it was made, and wherever it was if requests are
+  -- shown
+  pub record TellsRequest (actors : List (ActorOf O)) (k : ℕ) (lock : Lock) (word : ℕ) : Type 0 where
+    pub made : sharing.requests k word ≡ true → HasRequested actors k lock
+    pub shown : ShowsRequests sharing → HasRequested actors k lock → sharing.requests k word ≡ true
+
+  -- a lock's word is that of a lock, a holder it names holds it, and it tells each actor's request
   pub record IsShared (w : World O) (lock : Lock) : Type 0 where
     pub is_word : sharing.IsWord (word_at w.words lock)
     pub named : (k : ℕ) → holder_at w.words lock ≡ suc k → Holds w.actors k lock
-    pub requested : (k : ℕ) → k < sharing.most → (sharing.requests k (word_at w.words lock) ≡ true) ↔ HasRequested w.actors k lock
+    pub requested : (k : ℕ) → k < sharing.most → TellsRequest w.actors k lock (word_at w.words lock)
 
   -- a world that the system can come to
   pub record Lawful (w : World O) : Type 0 where

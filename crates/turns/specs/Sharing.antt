@@ -1,4 +1,4 @@
-use Rattle.std.specs.Prelude.{◌≡◌, ℕ, suc, ◌<◌, ◌==◌, ◌&&◌, ◌||◌, not, Bool, true, false}
+use Rattle.std.specs.Prelude.{◌≡◌, ◌≢◌, ℕ, suc, ◌<◌, ◌⊎◌, Bool, true, false}
 use Rattle.turns.specs.Operations.{applied}
 use Rattle.turns.specs.declared.operation.Operation.{Operation}
 use Rattle.turns.specs.declared.judgement.Judgement.{Judgement}
@@ -40,38 +40,64 @@ IsTrueOf S k word Free = S.holder word ≡ 0
 IsTrueOf S k word (Held other) = S.holder word ≡ suc other
 IsTrueOf S k word (Preferred other) = (other < k) × (S.holder word ≡ 0) × (S.requests other word ≡ true)
 
--- of the requests in a word, actor k's alone is set, or cleared
-abbrev pub SetsRequest : Sharing → ℕ → ℕ → ℕ → Type 0
-SetsRequest S k word after = (j : ℕ) → j < S.most → S.requests j after ≡ (j == k || S.requests j word)
+-- the word of a lock that nobody holds or requests
+pub record IsUnused (S : Sharing) (word : ℕ) : Type 0 where
+  pub is_word : S.IsWord word
+  pub free : S.holder word ≡ 0
+  pub unasked : (j : ℕ) → j < S.most → S.requests j word ≡ false
 
-abbrev pub ClearsRequest : Sharing → ℕ → ℕ → ℕ → Type 0
-ClearsRequest S k word after = (j : ℕ) → j < S.most → S.requests j after ≡ (not (j == k) && S.requests j word)
+-- of the requests in the word after a step, none but actor k's is new
+abbrev pub AddsOnly : Sharing → ℕ → ℕ → ℕ → Type 0
+AddsOnly S k word after =
+    (j : ℕ) → j < S.most → S.requests j after ≡ true → (j ≡ k) ⊎ (S.requests j word ≡ true)
 
-abbrev pub KeepsRequests : Sharing → ℕ → ℕ → Type 0
-KeepsRequests S word after = (j : ℕ) → j < S.most → S.requests j after ≡ S.requests j word
+-- actor k's request is gone, and none is new
+abbrev pub Clears : Sharing → ℕ → ℕ → ℕ → Type 0
+Clears S k word after =
+    (j : ℕ) → j < S.most → S.requests j after ≡ true → (j ≢ k) × (S.requests j word ≡ true)
+
+-- no request is new
+abbrev pub AddsNone : Sharing → ℕ → ℕ → Type 0
+AddsNone S word after =
+    (j : ℕ) → j < S.most → S.requests j after ≡ true → S.requests j word ≡ true
+
+-- each request but actor k's stays
+abbrev pub KeepsOthers : Sharing → ℕ → ℕ → ℕ → Type 0
+KeepsOthers S k word after =
+    (j : ℕ) → j < S.most → j ≢ k → S.requests j word ≡ true → S.requests j after ≡ true
 
 -- what must hold of them
 pub record IsSharing (S : Sharing) : Type 0 where
-  -- a word of 0 is that of a lock that nobody holds or requests
-  pub zero_is : S.IsWord 0
-  pub zero_free : S.holder 0 ≡ 0
-  pub zero_unasked : (j : ℕ) → j < S.most → S.requests j 0 ≡ false
   -- a request keeps the holder
   pub asked_is : (k word : ℕ) → k < S.most → S.IsWord word → S.IsWord (asked S k word)
   pub asked_holder : (k word : ℕ) → k < S.most → S.IsWord word → S.holder (asked S k word) ≡ S.holder word
-  pub asked_requests : (k word : ℕ) → k < S.most → S.IsWord word → SetsRequest S k word (asked S k word)
+  pub asked_requests : (k word : ℕ) → k < S.most → S.IsWord word → AddsOnly S k word (asked S k word)
   -- so does its withdrawal
   pub withdrawn_is : (k word : ℕ) → k < S.most → S.IsWord word → S.IsWord (withdrawn S k word)
   pub withdrawn_holder : (k word : ℕ) → k < S.most → S.IsWord word → S.holder (withdrawn S k word) ≡ S.holder word
-  pub withdrawn_requests : (k word : ℕ) → k < S.most → S.IsWord word → ClearsRequest S k word (withdrawn S k word)
+  pub withdrawn_requests : (k word : ℕ) → k < S.most → S.IsWord word → Clears S k word (withdrawn S k word)
   -- a lock that nobody holds, once seized, names its holder, whose request is gone
   pub taken_is : (k word : ℕ) → k < S.most → S.IsWord word → S.holder word ≡ 0 → S.IsWord (S.taken k word)
   pub taken_holder : (k word : ℕ) → k < S.most → S.IsWord word → S.holder word ≡ 0 → S.holder (S.taken k word) ≡ suc k
-  pub taken_requests : (k word : ℕ) → k < S.most → S.IsWord word → S.holder word ≡ 0 → ClearsRequest S k word (S.taken k word)
+  pub taken_requests : (k word : ℕ) → k < S.most → S.IsWord word → S.holder word ≡ 0 → Clears S k word (S.taken k word)
   -- a lock that was freed has no holder
   pub freed_is : (word : ℕ) → S.IsWord word → S.IsWord (freed S word)
   pub freed_holder : (word : ℕ) → S.IsWord word → S.holder (freed S word) ≡ 0
-  pub freed_requests : (word : ℕ) → S.IsWord word → KeepsRequests S word (freed S word)
+  pub freed_requests : (word : ℕ) → S.IsWord word → AddsNone S word (freed S word)
   -- judgements are true, and an actor that requests alone what nobody holds may go on
   pub judged_true : (k word : ℕ) → k < S.most → S.IsWord word → IsTrueOf S k word (S.judged k word)
   pub alone_free : (k word : ℕ) → k < S.most → S.IsWord word → S.holder word ≡ 0 → ((j : ℕ) → j < S.most → S.requests j word ≡ true → j ≡ k) → S.judged k word ≡ Free
+
+-- what must hold too where each request is to be seen in the word, from the step that makes it to that which
+-- withdraws it or seizes the lock
+pub record ShowsRequests (S : Sharing) : Type 0 where
+  pub asked_own : (k word : ℕ) → k < S.most → S.IsWord word → S.requests k (asked S k word) ≡ true
+  pub asked_others : (k word : ℕ) → k < S.most → S.IsWord word →
+      KeepsOthers S k word (asked S k word)
+  pub withdrawn_others : (k word : ℕ) → k < S.most → S.IsWord word →
+      KeepsOthers S k word (withdrawn S k word)
+  pub taken_others : (k word : ℕ) → k < S.most → S.IsWord word → S.holder word ≡ 0 →
+      KeepsOthers S k word (S.taken k word)
+  -- no request goes when the lock is freed
+  pub freed_others : (word : ℕ) → S.IsWord word → (j : ℕ) → j < S.most →
+      S.requests j word ≡ true → S.requests j (freed S word) ≡ true

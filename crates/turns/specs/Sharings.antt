@@ -1,7 +1,7 @@
-use Rattle.std.specs.Prelude.{◌≡◌, ℕ, zero, suc, ◌+◌, ◌-◌, ◌<◌, ◌≤◌, ◌^◌, ◌%◌, ◌==◌, ◌⊎◌, Option, Some, None, if◌then◌else◌, bit_and, bit_or}
+use Rattle.std.specs.Prelude.{◌≡◌, ℕ, false, zero, suc, ◌+◌, ◌-◌, ◌<◌, ◌≤◌, ◌^◌, ◌%◌, ◌==◌, ◌⊎◌, Option, Some, None, if◌then◌else◌, bit_and, bit_or}
 use Rattle.std.specs.Int.{bit_at}
 use Rattle.turns.specs.Sharing.{Sharing}
-use Rattle.turns.specs.declared.operation.Operation.TheVariants.{Or, And}
+use Rattle.turns.specs.declared.operation.Operation.TheVariants.{Load, Or, And}
 use Rattle.turns.specs.declared.judgement.Judgement.{Judgement}
 use Rattle.turns.specs.declared.judgement.Judgement.TheVariants.{Free, Held, Preferred}
 
@@ -23,12 +23,12 @@ abbrev pub by_request : Option ℕ → Judgement
 by_request None = Free
 by_request (Some other) = Preferred other
 
--- the lowest six bits are 0, or one more than the number of the actor that holds the lock
+-- by 0, or one more than the number of the actor that holds the lock
 abbrev pub by_holder : ℕ → Option ℕ → Judgement
 by_holder zero lower = by_request lower
 by_holder (suc holder) lower = Held holder
 
--- what a lock's word says to an actor that requests it
+-- what a lock's word, whose lowest six bits are its holder, says to an actor that requests it
 unfoldable pub judged : ℕ → ℕ → Judgement
 judged k word = by_holder (word % 64) (lower_request k word)
 
@@ -54,4 +54,19 @@ preferring = record {
   taken = taken_by;
   freeing = And (2 ^ 64 - 1 - 63);
   judged = judged;
+}
+
+-- any number of actors, none of whose requests is seen: a lock's word is 0, or one more than the number of the
+-- actor that holds it, and to request is to look
+abbrev pub plain : ℕ → Sharing
+plain most = record {
+  most = most;
+  IsWord = λ word. word ≤ most;
+  holder = λ word. word;
+  requests = λ k word. false;
+  request = λ k. Load;
+  withdrawal = λ k. Load;
+  taken = λ k word. 1 + k;
+  freeing = And 0;
+  judged = λ k word. by_holder word None;
 }

@@ -1,8 +1,8 @@
-use Rattle.std.specs.Prelude.{◌≡◌, ◌↔◌, ℕ, ◌<◌, ◌==◌, if◌then◌else◌, Bool, true, List, [], ◌∷◌, ◌++◌, length, fold, replicate, slice_index, slice_set, ⊤, Err}
+use Rattle.std.specs.Prelude.{◌≡◌, ◌↔◌, ℕ, ◌<◌, ◌==◌, if◌then◌else◌, Bool, true, List, [], ◌∷◌, ◌++◌, length, fold, slice_index, slice_set, ⊤, Err}
 use Rattle.turns.specs.Among.{IsIn}
 use Rattle.turns.specs.Operations.{applied}
 use Rattle.turns.specs.Script.{Script, Ends, Tests, Seizes, run, first_wanted}
-use Rattle.turns.specs.Sharing.{Sharing, IsSharing}
+use Rattle.turns.specs.Sharing.{Sharing, IsSharing, IsUnused}
 use Rattle.turns.specs.declared.operation.Operation.{Operation}
 use Rattle.turns.specs.declared.wanted.Wanted.TheVariants.{Seize}
 
@@ -18,8 +18,10 @@ pub record System : Type 1 where
   pub IsJob : Job → Type 0
   pub State : Type 0
   pub Reply : Type 0
-  pub opening : State
   pub whole : State → Job → Whole State Reply
+  pub opening : State
+  -- the words that it opens on
+  pub initial : List ℕ
   -- the jobs step by step: the lock that a job seizes first, and what it does until it decides
   pub Lock : Type 0
   pub IsLock : Lock → Type 0
@@ -112,6 +114,15 @@ module _ (O : System) where
     pub lock_there : (number : ℕ) (lock : Lock) → Protects lock number → IsLock lock
     pub one_protector : (number : ℕ) (a b : Lock) → Protects a number → Protects b number → a ≡ b
 
+  -- what must hold of the words that a system opens on: they show its opening state, nobody holds or requests
+  -- a lock, and no turn was taken
+  pub record IsInitial : Type 0 where
+    pub initial_length : length O.initial ≡ size
+    pub shows : O.Shows O.initial O.opening
+    pub unused : (lock : Lock) → IsLock lock →
+        IsUnused O.sharing (slice_index O.initial (O.lock_word lock))
+    pub no_turn : slice_index O.initial O.turn_word ≡ 0
+
   -- what must hold of a system
   pub record IsSystem : Type 0 where
     pub sharing : IsSharing O.sharing
@@ -122,6 +133,6 @@ module _ (O : System) where
     pub keeps : (job : Job) → O.IsJob job → KeepsTo DecidesUnder [] (O.script job)
     -- run alone on words that show a state, a job decides as it does whole
     pub decides : (job : Job) (words : List ℕ) (state : State) → O.IsJob job → length words ≡ size → O.Shows words state → DecidesAs words (O.whole state job) (run words (O.script job))
-    -- what words show is told by the words under locks; words of 0 show the opening state
+    -- what words show is told by the words under locks
     pub looks : (words other : List ℕ) (state : State) → AreAlike words other → O.Shows words state → O.Shows other state
-    pub opens : O.Shows (replicate size 0) O.opening
+    pub opens : IsInitial

@@ -101,9 +101,9 @@ module _ (O : System) where
   abbrev pub given_back : ℕ → ℕ → AttemptOf O → World → World
   given_back k number a w = with_actor k (Does number (restarted O a)) w
 
-  -- so many actors, all idle, on words of 0
+  -- so many actors, all idle, on the words that the system opens on
   abbrev pub opened : ℕ → World
-  opened count = record { words = replicate O.size 0; actors = replicate count Idle; order = [] }
+  opened count = record { words = O.initial; actors = replicate count Idle; order = [] }
 
   -- the effects that an actor has left to make
   abbrev pub left_of : ActorOf → List Effect

@@ -1,5 +1,5 @@
-ghost use Rattle.std.specs.Prelude.{◌≡◌, ◌<◌};
-ghost use Rattle.turns.specs.Sharings.{judged, preferring, lower_request as lower_request_of};
+ghost use Rattle.std.specs.Prelude.{◌≡◌, ◌<◌, ◌≤◌, ◌^◌, None};
+ghost use Rattle.turns.specs.Sharings.{by_holder, judged, preferring, lower_request as lower_request_of};
 
 /// What a lock's word says to an actor that requests the lock.
 #[derive(Clone, Copy, Debug, PartialEq, Eq)]
@@ -47,6 +47,18 @@ impl Judgement {
             Some(other) => Judgement::Preferred(other),
         }
     }
+
+    /// Judges the word of a lock that is shared without requests, for any actor.
+    pub fn plain(word: u64) -> Self
+        requires { word ≤ 2 ^ 32 }
+        ensures { result ≡ by_holder word None }
+    {
+        if word > 0 {
+            Judgement::Held((word - 1) as u32)
+        } else {
+            Judgement::Free
+        }
+    }
 }
 
 #[cfg(test)]
@@ -68,6 +80,18 @@ mod tests {
                 want,
                 "actor {actor}, word {word}"
             );
+        }
+    }
+
+    #[test]
+    fn judges_a_plain_word(rt: HostRuntime) {
+        for (word, want) in [
+            (0, Judgement::Free),
+            (1, Judgement::Held(0)),
+            (64, Judgement::Held(63)),
+            (1 << 32, Judgement::Held(u32::MAX)),
+        ] {
+            assert_eq!(rt; Judgement::plain(word), want, "word {word}");
         }
     }
 }

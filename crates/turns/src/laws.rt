@@ -19,8 +19,8 @@ ghost use Rattle.turns.specs.Runs.{Move, AreMoves, made_by, run_from, run_of};
 ghost use Rattle.turns.specs.Bounds.{AreBounded, AreSteady, IsAside, stepped};
 ghost use Rattle.turns.specs.Ending.{ComesToEnd, own_steps};
 ghost use Rattle.turns.specs.PutOff.{IsPutOffBy};
-ghost use Rattle.turns.specs.Sharing.{IsSharing};
-ghost use Rattle.turns.specs.Sharings.{preferring};
+ghost use Rattle.turns.specs.Sharing.{IsSharing, ShowsRequests};
+ghost use Rattle.turns.specs.Sharings.{plain, preferring};
 
 use crate::answer::Answer;
 use crate::judgement::Judgement;
@@ -107,8 +107,8 @@ pub fn jobs_act_at_their_turns<F: Family>()
 {}
 
 /// A lock's word tells the truth: it names an actor exactly where that one holds the lock, and an
-/// actor's request stands in it exactly where that one requested it and has neither seized it nor
-/// withdrawn.
+/// actor's request stands in it only where that one requested it and has neither seized it nor
+/// withdrawn; where the sharing shows requests, it stands there exactly then.
 pub fn lock_words_tell_the_truth<F: Family>()
     ensures word { (setting : F.Setting) → let O = F.system setting in
         (w : World O) (lock : O.Lock) → Lawful O w → O.IsLock lock
@@ -116,8 +116,12 @@ pub fn lock_words_tell_the_truth<F: Family>()
     ensures names { (setting : F.Setting) → let O = F.system setting in
         (w : World O) (k : ℕ) (lock : O.Lock) → Lawful O w → O.IsLock lock
         → (holder_at O w.words lock ≡ suc k) ↔ Holds O w.actors k lock }
-    ensures requests { (setting : F.Setting) → let O = F.system setting in
+    ensures made { (setting : F.Setting) → let O = F.system setting in
         (w : World O) (k : ℕ) (lock : O.Lock) → Lawful O w → O.IsLock lock → k < O.sharing.most
+        → O.sharing.requests k (word_at O w.words lock) ≡ true → HasRequested O w.actors k lock }
+    ensures requests { (setting : F.Setting) → let O = F.system setting in
+        (w : World O) (k : ℕ) (lock : O.Lock)
+        → ShowsRequests O.sharing → Lawful O w → O.IsLock lock → k < O.sharing.most
         → (O.sharing.requests k (word_at O w.words lock) ≡ true) ↔ HasRequested O w.actors k lock }
 {}
 
@@ -270,7 +274,13 @@ pub fn actors_left_alone_end<F: Family>()
 }
 
 /// To share a lock's word by requests, of which that of the lowest actor is preferred, is a way to
-/// share it.
+/// share it, and one that shows requests.
 pub fn preferring_is_a_sharing()
-    ensures { IsSharing preferring }
+    ensures sharing { IsSharing preferring }
+    ensures requests { ShowsRequests preferring }
+{}
+
+/// To share a lock's word by compare and exchange alone, without requests, is a way to share it.
+pub fn plain_is_a_sharing()
+    ensures { (most : ℕ) → most < 2 ^ 64 → IsSharing (plain most) }
 {}
