@@ -1,7 +1,7 @@
 -- what a marker is told of a connector that it asks for is true
-use Rattle.std.proofs.Common.{◌≡◌, ℕ, ◌+◌, ◌<◌, ◌%◌, Bool, true, false, List, [], ◌∷◌, bit_or, slice_index, refl, sym, ◌∙◌, ap, subst, arith}
+use Rattle.std.proofs.Common.{◌≡◌, ℕ, ◌+◌, ◌<◌, ◌%◌, Bool, true, false, List, [], ◌∷◌, bit_or, slice_index, refl, sym, ◌∙◌, ap, subst, arith, inl, inr}
 use Rattle.std.specs.Int.{bit_at}
-use Rattle.std.specs.Prelude.{◌==◌, ◌||◌, Option, Some, None, if◌then◌else◌, slice_get}
+use Rattle.std.specs.Prelude.{◌==◌, Option, Some, None, if◌then◌else◌, slice_get}
 use Rattle.std.proofs.lemmas.Bool.{eqb-true}
 use Rattle.std.proofs.lemmas.Option.{same_Some}
 use Rattle.turns.specs.Attempt as generic
@@ -54,10 +54,10 @@ told_judged answer (judgement.Preferred other) j goes told = same_Some _ _ told
 
 -- a request of a lower marker stands in a word with a request of its own only where it stood before
 lower_stood : (k word j : ℕ) → k < 48 → j < k → (bit_at (bit_or word (request_bit k)) (8 + j) == 1) ≡ true → bit_at word (8 + j) ≡ 1
-lower_stood k word j few lower set = by (j == k) refl (sym (asked_requests k word j (omega arith)) ∙ set) where
-  by : (own : Bool) → (j == k) ≡ own → (own || bit_at word (8 + j) == 1) ≡ true → bit_at word (8 + j) ≡ 1
-  by true same stands = let one = eqb-true j k same in absurd (omega (arith, one, lower))
-  by false other stands = eqb-true (bit_at word (8 + j)) 1 stands
+lower_stood k word j few lower set = elim (asked_requests k word j (omega arith) set) [
+  | inl one ↦ absurd (omega (arith, one, lower))
+  | inr stands ↦ eqb-true (bit_at word (8 + j)) 1 stands
+]
 
 -- what a phase asks for is what it is about
 conn_asked : (phase : Phase) (conn : Conn) → asked_in phase ≡ Some conn → conn_in phase ≡ Some conn

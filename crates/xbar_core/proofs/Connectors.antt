@@ -4,6 +4,7 @@ use Rattle.std.specs.Int.{bit_at}
 use Rattle.std.proofs.lemmas.Bool.{eqb-true}
 use Rattle.std.proofs.lemmas.Nat.Bits.{bit_at-lt}
 use Rattle.turns.specs.Law as law
+use Rattle.turns.proofs.Preferring.{preferring_shows}
 use Rattle.xbar_equip.specs.Conn.{IsConn}
 use Rattle.xbar_equip.specs.Word.{ConnWord, word_number}
 use Rattle.xbar_equip.specs.declared.conn.Conn.{Conn}
@@ -41,13 +42,13 @@ module _ (plan : Tables) (e : Exchange) (lawful : IsLawfulExchange plan e) (conn
     -- a request stands where it was made
     asks_set : (k : ℕ) → k < 48 → bit_at (conn_word e conn) (8 + k) ≡ 1 → HasRequested e k conn
     asks_set k few set =
-        let asks = (shared.requested k few).0 (eq-eqb (bit_at (conn_word e conn) (8 + k)) 1 set) in
+        let asks = (shared.requested k few).made (eq-eqb (bit_at (conn_word e conn) (8 + k)) 1 set) in
         record { number = asks.number; attempt = asks.attempt; at = marker_at e k asks.number asks.attempt asks.does; request = asks.requests }
 
     set_asked : (k : ℕ) → k < 48 → HasRequested e k conn → bit_at (conn_word e conn) (8 + k) ≡ 1
     set_asked k few asks =
         let does = actor_at e k asks.number asks.attempt asks.at in
-        eqb-true (bit_at (conn_word e conn) (8 + k)) 1 ((shared.requested k few).1 (record { number = asks.number; attempt = asks.attempt; does = does; requests = asks.request }))
+        eqb-true (bit_at (conn_word e conn) (8 + k)) 1 ((shared.requested k few).shown preferring_shows (record { number = asks.number; attempt = asks.attempt; does = does; requests = asks.request }))
 
     -- no other bit is set
     other_bits : (bit : ℕ) → ((6 ≤ bit) × (bit < 8)) ⊎ (56 ≤ bit) → bit_at (conn_word e conn) bit ≡ 0

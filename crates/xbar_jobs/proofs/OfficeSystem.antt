@@ -1,11 +1,14 @@
 -- the office under a lawful plan is a system of jobs over shared words
 use Rattle.std.proofs.Common.{◌≡◌, ℕ, ◌+◌, ◌<◌, ◌≤◌, List, [], length, slice_index, refl, sym, ap, ◌∙◌, subst, arith}
 use Rattle.std.specs.Prelude.{Some, Err}
+use Rattle.std.proofs.lemmas.List.{get_or-replicate, length-replicate}
 use Rattle.turns.specs.Script.{◌>>=◌, first_wanted, run}
-use Rattle.turns.specs.System.{AreAlike, AreApart, DecidesUnder, IsSystem, KeepsTo}
+use Rattle.turns.specs.System.{AreAlike, AreApart, DecidesUnder, IsInitial, IsSystem, KeepsTo}
 use Rattle.turns.specs.declared.wanted.Wanted.TheVariants.{Seize}
 use Rattle.turns.proofs.Keeping.{keeps_map}
-use Rattle.turns.proofs.Preferring.{preferring_is}
+use Rattle.turns.specs.Sharing.{IsUnused}
+use Rattle.turns.specs.Sharings.{preferring}
+use Rattle.turns.proofs.Preferring.{preferring_is, zero_unused}
 use Rattle.xbar_equip.specs.Conn.{IsConn}
 use Rattle.xbar_equip.specs.Word.{Word, IsWord, word_number, protector, LineSwitch, LineJunctor, TrunkSwitch, TrunkJunctor, GroupWord, ConnWord, TurnWord}
 use Rattle.xbar_equip.specs.declared.conn.Conn.{Conn}
@@ -107,6 +110,16 @@ keeps_under : (plan : Tables) (job : Job) → IsLawful plan → IsJob job → Ke
 keeps_under plan job laws in_range =
     keeps_map (office plan) (IsCovered plan) (DecidesUnder (office plan)) [] (script plan job) (λ conns decision covered. covered.under) (script_keeps plan job laws in_range)
 
+-- the words that the office opens on are all 0
+opens_on : (plan : Tables) → IsInitial (office plan)
+opens_on plan = record {
+  initial_length = length-replicate {A = ℕ} 453 0;
+  shows = shows_opened plan;
+  unused = λ conn is. let range = conn_range conn is in
+      subst (IsUnused preferring) (sym (get_or-replicate 453 (word_number (ConnWord conn)) 0 0 (omega arith))) zero_unused;
+  no_turn = get_or-replicate 453 452 0 0 (omega arith);
+}
+
 pub office_is : (plan : Tables) → IsLawful plan → IsSystem (office plan)
 office_is plan laws = record {
   sharing = preferring_is;
@@ -116,5 +129,5 @@ office_is plan laws = record {
   keeps = λ job in_range. keeps_under plan job laws in_range;
   decides = λ job words paths in_range size shows. script_decides plan words paths job laws (omega arith) shows in_range;
   looks = looks plan;
-  opens = shows_opened plan;
+  opens = opens_on plan;
 }

@@ -1,4 +1,4 @@
-use Rattle.std.specs.Prelude.{◌≡◌, ℕ, ◌<◌, not, Bool, false, Some, List, [], if◌then◌else◌}
+use Rattle.std.specs.Prelude.{◌≡◌, ℕ, ◌<◌, not, Bool, false, Some, List, [], replicate, if◌then◌else◌}
 use Rattle.std.specs.Int.{bit_at}
 use Rattle.std.specs.Option.{option_map_or}
 use Rattle.xbar_equip.specs.Conn.{IsConn, conn_eq}
@@ -49,8 +49,9 @@ office plan = record {
   IsJob = IsJob;
   State = List Path;
   Reply = Reply;
-  opening = [];
   whole = λ paths job. record { state = (whole plan paths job).paths; reply = (whole plan paths job).reply };
+  opening = [];
+  initial = replicate word_count 0;
   Lock = Conn;
   IsLock = IsConn;
   same = conn_eq;
