@@ -1,8 +1,10 @@
-use Rattle.std.specs.Prelude.{◌≡◌, ℕ, ◌+◌, ◌-◌, ◌*◌, ◌/◌, ◌%◌, ◌^◌, ◌<◌, ◌==◌, Option, Some, None, List, [], ◌∷◌, map, slice_index, bit_and, bit_or, ⊤}
+use Rattle.std.specs.Prelude.{◌≡◌, ℕ, ◌+◌, ◌-◌, ◌*◌, ◌/◌, ◌%◌, ◌^◌, ◌<◌, ◌==◌, Option, Some, None, List, [], ◌∷◌, map, slice_index, ⊤}
 use Rattle.std.specs.Int.{bit_at}
 use Rattle.turns.specs.Script.{Script, Ends, Tests, Seizes}
 use Rattle.turns.specs.Sharings.{preferring}
 use Rattle.turns.specs.System.{System}
+use Rattle.turns.specs.declared.operation.Operation.{Operation}
+use Rattle.turns.specs.declared.operation.Operation.TheVariants.{Or, And}
 use Rattle.slots.specs.Slots.{Busy, none_busy, lowest_free, whole}
 use Rattle.slots.specs.declared.effect.Effect.{Effect}
 use Rattle.slots.specs.declared.effect.Effect.TheVariants.{Mark, Clear}
@@ -17,10 +19,10 @@ pub record Shows (words : List ℕ) (busy : Busy) : Type 0 where
 abbrev pub Protects : ℕ → ℕ → Type 0
 Protects bank word = (word ≡ bank) × (word < 2)
 
--- a bank's word with a slot marked, or cleared
-abbrev pub effect_on : Effect → ℕ → ℕ
-effect_on (Mark slot) word = bit_or word (2 ^ (slot % 4))
-effect_on (Clear slot) word = bit_and word (2 ^ 64 - 1 - 2 ^ (slot % 4))
+-- a slot is marked in its bank's word, or cleared
+abbrev pub operation_of : Effect → Operation
+operation_of (Mark slot) = Or (2 ^ (slot % 4))
+operation_of (Clear slot) = And (2 ^ 64 - 1 - 2 ^ (slot % 4))
 
 abbrev pub slot_of : Effect → ℕ
 slot_of (Mark slot) = slot
@@ -97,7 +99,7 @@ slots = record {
   reply_of = reply_of;
   effects_of = effects_of;
   effect_word = λ effect. slot_of effect / 4;
-  effect_on = effect_on;
+  operation_of = operation_of;
   Due = Due;
   size = 5;
   Protects = Protects;

@@ -1,5 +1,7 @@
 ghost use Rattle.std.specs.Prelude.{◌≡◌};
-ghost use Rattle.slots.specs.System.{effect_on};
+ghost use Rattle.slots.specs.System.{operation_of};
+
+use turns::Operation;
 
 /// A change of a bank's word.
 #[derive(Clone, Copy, Debug, PartialEq, Eq)]
@@ -11,13 +13,13 @@ pub enum Effect {
 }
 
 impl Effect {
-    /// What the effect makes of the word that it finds, one of 0 or 1 by its slot's bank.
-    pub fn apply(&self, found: u64) -> u64
-        ensures { result ≡ effect_on self.now found }
+    /// The operation by which the effect is made, on word 0 or 1 by its slot's bank.
+    pub fn operation(&self) -> Operation
+        ensures { result ≡ operation_of self.now }
     {
         match self {
-            Effect::Mark(slot) => found | 1 << (slot % 4),
-            Effect::Clear(slot) => found & !(1 << (slot % 4)),
+            Effect::Mark(slot) => Operation::Or(1 << (slot % 4)),
+            Effect::Clear(slot) => Operation::And(!(1 << (slot % 4))),
         }
     }
 }
@@ -34,7 +36,7 @@ mod tests {
             (Effect::Clear(5), 0b0011, 0b0001),
             (Effect::Clear(7), 0b0111, 0b0111),
         ] {
-            assert_eq!(rt; effect.apply(found), want, "word {found}");
+            assert_eq!(rt; effect.operation().apply(found), want, "word {found}");
         }
     }
 }

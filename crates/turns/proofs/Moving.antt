@@ -11,6 +11,7 @@ use Rattle.turns.specs.declared.phase.Phase.{Phase}
 use Rattle.turns.specs.declared.phase.Phase.TheVariants.{Requests, Seizes, Tests, Turns, Withdraws, GivesBack, Operates}
 use Rattle.turns.specs.declared.reading.Reading.{Reading}
 use Rattle.turns.proofs.Completed.{all_spare, completed_index, completed_length}
+use Rattle.turns.proofs.Words.{zeros_below}
 use Rattle.turns.proofs.Sound.{begin_sound}
 use Rattle.turns.proofs.Settings.{held_of, request_of}
 use Rattle.turns.proofs.Quiet.{still}
@@ -71,6 +72,7 @@ module _ (O : System) where
     opens count few = record {
       few = subst (λ (l : ℕ). l ≤ sharing.most) (sym (length-replicate count Idle)) few;
       size = length-replicate O.size 0;
+      are_words = zeros_below O.size;
       turn = word_zero O.turn_word system.words.turn_there;
       legal = tt;
       shows = system.looks (replicate O.size 0) (completed O (opened O count)) O.opening (record {
