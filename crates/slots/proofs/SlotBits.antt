@@ -22,16 +22,17 @@ marked word place few = record {
   others = λ p low other. omega (arith, bit_at_or word (2 ^ place) p, bit_at-pow_other place p other);
 }
 
+-- such a bit is one of a word's
+pub place_below : (place : ℕ) → place < 4 → 2 ^ place < 2 ^ 64
+place_below place few = let x : 2 ^ place ≤ 2 ^ 3 = pow_mono {i = place} {j = 3} (omega arith) in omega arith
+
 cleared : (word place : ℕ) → place < 4 → IsOneBit word place 0 (bit_and word (2 ^ 64 - 1 - 2 ^ place))
 cleared word place few = record {
   here = omega (arith, bit place few, bit_at-pow_same place);
   others = λ p low other. omega (arith, bit p low, bit_at-pow_other place p other, bit_at-lt word p);
 } where
-  below : 2 ^ place < 2 ^ 64
-  below = let x : 2 ^ place ≤ 2 ^ 3 = pow_mono {i = place} {j = 3} (omega arith) in omega arith
-
   bit : (p : ℕ) → p < 4 → bit_at (bit_and word (2 ^ 64 - 1 - 2 ^ place)) p ≡ min (bit_at word p) (1 - bit_at (2 ^ place) p)
-  bit p low = bit_at_and word (2 ^ 64 - 1 - 2 ^ place) p ∙ ap (min (bit_at word p)) (bit_at_not w64 (2 ^ place) p below (omega arith))
+  bit p low = bit_at_and word (2 ^ 64 - 1 - 2 ^ place) p ∙ ap (min (bit_at word p)) (bit_at_not w64 (2 ^ place) p (place_below place few) (omega arith))
 
 module _ (words : List ℕ) (long : length words ≡ 5) (slot : ℕ) (below : slot < 8) (value after : ℕ) (one : IsOneBit (slice_index words (slot / 4)) (slot % 4) value after) where
   -- the slot's bit, and that of another slot, once the word is set

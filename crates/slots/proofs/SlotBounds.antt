@@ -23,12 +23,12 @@ asks_both lower (Some upper) = tt
 asks_upper : (o : Option ℕ) → AsksAtMost 1 1 (and_upper o)
 unfolding AsksAtMost
 asks_upper None = tt
-asks_upper (Some lower) = λ word. asks_both lower (free_in 1 word)
+asks_upper (Some lower) = λ word below. asks_both lower (free_in 1 word)
 
 asks : (job : Job) → AsksAtMost 2 2 (script job)
 unfolding AsksAtMost
-asks Take = λ lower. asks_or 1 1 (free_in 0 lower) (Seizes 1 (Tests 1 (λ upper. taken_or (free_in 1 upper) (Ends (Takes []))))) (λ upper. asks_or 0 0 (free_in 1 upper) (Ends (Takes [])) tt)
-asks TakeBoth = λ lower. asks_upper (free_in 0 lower)
+asks Take = λ lower below. asks_or 1 1 (free_in 0 lower) (Seizes 1 (Tests 1 (λ upper. taken_or (free_in 1 upper) (Ends (Takes []))))) (λ upper below. asks_or 0 0 (free_in 1 upper) (Ends (Takes [])) tt)
+asks TakeBoth = λ lower below. asks_upper (free_in 0 lower)
 asks (Give slot) = tt
 
 ends_or : (o : Option ℕ) (rest : Script ℕ Decision) → EndsIn HasFew rest → EndsIn HasFew (taken_or o rest)
@@ -44,12 +44,12 @@ ends_both lower (Some upper) = omega arith
 ends_upper : (o : Option ℕ) → EndsIn HasFew (and_upper o)
 unfolding EndsIn
 ends_upper None = omega arith
-ends_upper (Some lower) = λ word. ends_both lower (free_in 1 word)
+ends_upper (Some lower) = λ word below. ends_both lower (free_in 1 word)
 
 ends : (job : Job) → EndsIn HasFew (script job)
 unfolding EndsIn
-ends Take = λ lower. ends_or (free_in 0 lower) (Seizes 1 (Tests 1 (λ upper. taken_or (free_in 1 upper) (Ends (Takes []))))) (λ upper. ends_or (free_in 1 upper) (Ends (Takes [])) (omega arith))
-ends TakeBoth = λ lower. ends_upper (free_in 0 lower)
+ends Take = λ lower below. ends_or (free_in 0 lower) (Seizes 1 (Tests 1 (λ upper. taken_or (free_in 1 upper) (Ends (Takes []))))) (λ upper below. ends_or (free_in 1 upper) (Ends (Takes [])) (omega arith))
+ends TakeBoth = λ lower below. ends_upper (free_in 0 lower)
 ends (Give slot) = omega arith
 
 pub slots_bounded : AreBounded slots 2 2 2

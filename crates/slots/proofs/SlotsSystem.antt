@@ -5,20 +5,22 @@ use Rattle.std.specs.Int.{bit_at}
 use Rattle.std.proofs.lemmas.Bool.{eqb-true, eq-eqb}
 use Rattle.std.proofs.lemmas.Nat.Bits.{bit_at-zero}
 use Rattle.turns.specs.Among.{IsIn}
+use Rattle.turns.specs.Operations.{FitsWord}
 use Rattle.turns.specs.Script.{Script, Ends, Tests, Seizes, run, first_wanted}
 use Rattle.turns.specs.Sharing.{IsUnused}
 use Rattle.turns.specs.Sharings.{preferring}
-use Rattle.turns.specs.System.{IsSystem, IsUnder, AreUnder, AreAlike, KeepsTo, DecidesAs, DecidesUnder, perform_all}
+use Rattle.turns.specs.System.{IsSystem, IsUnder, AreUnder, AreAlike, KeepsTo, DecidesAs, DecidesUnder, perform_all, FitWords, MayMake}
 use Rattle.turns.specs.declared.wanted.Wanted.TheVariants.{Seize}
+use Rattle.turns.proofs.Words.{zeros_below}
 use Rattle.turns.proofs.Preferring.{preferring_is, zero_unused}
 use Rattle.slots.specs.Slots.{Busy, none_busy, lowest_free, both_of, took, whole}
-use Rattle.slots.specs.System.{Shows, Decision, Takes, Gives, slot_of, free_in, taken_or, both_or_none, and_upper, script, first_lock, IsJob, slots}
+use Rattle.slots.specs.System.{Shows, Decision, Takes, Gives, slot_of, operation_of, free_in, taken_or, both_or_none, and_upper, script, first_lock, IsJob, slots}
 use Rattle.slots.specs.declared.effect.Effect.{Effect}
 use Rattle.slots.specs.declared.effect.Effect.TheVariants.{Mark, Clear}
 use Rattle.slots.specs.declared.job.Job.{Job}
 use Rattle.slots.specs.declared.job.Job.TheVariants.{Take, TakeBoth, Give}
 use Rattle.slots.proofs.FreeSlots.{AreFree, or_first, lowest_split, lowest_same, lowest_found, one_free, both_free}
-use Rattle.slots.proofs.SlotBits.{shows_clear, shows_marks, due_marks}
+use Rattle.slots.proofs.SlotBits.{place_below, shows_clear, shows_marks, due_marks}
 
 -- each slot is of a bank whose lock is held
 abbrev AreHeld : List ℕ → List ℕ → Type 0
@@ -30,6 +32,15 @@ marks_under held (slot ∷ taken) all effect (inl e) =
     let own = all slot (inl refl) in
     subst (λ (x : Effect). IsUnder slots held (slot_of x / 4)) (sym e) (record { lock = slot / 4; protects = (refl, omega (arith, own.0)); held = own.1 })
 marks_under held (slot ∷ taken) all effect (inr later) = marks_under held taken (λ s within. all s (inr within)) effect later
+
+-- a mark is one bit of its bank's word
+marks_fit : (taken : List ℕ) → FitWords slots (map Mark taken)
+marks_fit [] effect within = absurd within
+marks_fit (slot ∷ taken) effect (inl e) = subst (λ (x : Effect). FitsWord (operation_of x)) (sym e) (place_below (slot % 4) (omega arith))
+marks_fit (slot ∷ taken) effect (inr later) = marks_fit taken effect later
+
+may_mark : (held taken : List ℕ) → AreHeld held taken → MayMake slots held (map Mark taken)
+may_mark held taken all = record { under = marks_under held taken all; fit = marks_fit taken }
 
 word_under : (held : List ℕ) (bank : ℕ) → bank < 2 → IsIn bank held → IsUnder slots held bank
 word_under held bank below own = record { lock = bank; protects = (refl, below); held = own }
@@ -52,22 +63,26 @@ none_held held s none = absurd none
 taken_keeps : (held : List ℕ) (bank word : ℕ) (rest : Script ℕ Decision) (o : Option ℕ) → free_in bank word ≡ o → bank < 2 → IsIn bank held → KeepsTo slots (DecidesUnder slots) held rest → KeepsTo slots (DecidesUnder slots) held (taken_or o rest)
 unfolding KeepsTo
 taken_keeps held bank word rest None found below own keeps = keeps
-taken_keeps held bank word rest (Some slot) found below own keeps = marks_under held (slot ∷ []) (one_held held bank word slot below own found)
+taken_keeps held bank word rest (Some slot) found below own keeps = may_mark held (slot ∷ []) (one_held held bank word slot below own found)
 
 both_keeps : (held : List ℕ) (low word lower : ℕ) (o : Option ℕ) → free_in 0 low ≡ Some lower → free_in 1 word ≡ o → IsIn 0 held → IsIn 1 held → KeepsTo slots (DecidesUnder slots) held (both_or_none (Some lower) o)
 unfolding KeepsTo
-both_keeps held low word lower None found none own other = marks_under held [] (none_held held)
+both_keeps held low word lower None found none own other = may_mark held [] (none_held held)
 both_keeps held low word lower (Some upper) found also own other =
-    marks_under held (lower ∷ upper ∷ []) (both_held held lower upper (one_held held 0 low lower (omega arith) own found) (one_held held 1 word upper (omega arith) other also))
+    may_mark held (lower ∷ upper ∷ []) (both_held held lower upper (one_held held 0 low lower (omega arith) own found) (one_held held 1 word upper (omega arith) other also))
 
 upper_keeps : (low : ℕ) (o : Option ℕ) → free_in 0 low ≡ o → KeepsTo slots (DecidesUnder slots) (0 ∷ []) (and_upper o)
 unfolding KeepsTo
-upper_keeps low None found = marks_under (0 ∷ []) [] (none_held (0 ∷ []))
-upper_keeps low (Some lower) found = (omega arith, (word_under (0 ∷ 1 ∷ []) 1 (omega arith) (inr (inl refl)), λ word. both_keeps (0 ∷ 1 ∷ []) low word lower (free_in 1 word) found refl (inl refl) (inr (inl refl))))
+upper_keeps low None found = may_mark (0 ∷ []) [] (none_held (0 ∷ []))
+upper_keeps low (Some lower) found = (omega arith, (word_under (0 ∷ 1 ∷ []) 1 (omega arith) (inr (inl refl)), λ word below. both_keeps (0 ∷ 1 ∷ []) low word lower (free_in 1 word) found refl (inl refl) (inr (inl refl))))
 
 gives_under : (slot : ℕ) → slot < 8 → AreUnder slots (slot / 4 ∷ []) (Clear slot ∷ [])
 gives_under slot below effect (inl e) = subst (λ (x : Effect). IsUnder slots (slot / 4 ∷ []) (slot_of x / 4)) (sym e) (word_under (slot / 4 ∷ []) (slot / 4) (omega arith) (inl refl))
 gives_under slot below effect (inr none) = absurd none
+
+gives_fit : (slot : ℕ) → FitWords slots (Clear slot ∷ [])
+gives_fit slot effect (inl e) = subst (λ (x : Effect). FitsWord (operation_of x)) (sym e) tt
+gives_fit slot effect (inr none) = absurd none
 
 keeps : (job : Job) → IsJob job → KeepsTo slots (DecidesUnder slots) [] (script job)
 unfolding KeepsTo
@@ -75,12 +90,12 @@ keeps Take right = (
   omega arith,
   (
     word_under (0 ∷ []) 0 (omega arith) (inl refl),
-    λ low. taken_keeps (0 ∷ []) 0 low (Seizes 1 (Tests 1 (λ upper. taken_or (free_in 1 upper) (Ends (Takes []))))) (free_in 0 low) refl (omega arith) (inl refl)
-        (omega arith, (word_under (0 ∷ 1 ∷ []) 1 (omega arith) (inr (inl refl)), λ high. taken_keeps (0 ∷ 1 ∷ []) 1 high (Ends (Takes [])) (free_in 1 high) refl (omega arith) (inr (inl refl)) (marks_under (0 ∷ 1 ∷ []) [] (none_held (0 ∷ 1 ∷ []))))),
+    λ low below. taken_keeps (0 ∷ []) 0 low (Seizes 1 (Tests 1 (λ upper. taken_or (free_in 1 upper) (Ends (Takes []))))) (free_in 0 low) refl (omega arith) (inl refl)
+        (omega arith, (word_under (0 ∷ 1 ∷ []) 1 (omega arith) (inr (inl refl)), λ high below. taken_keeps (0 ∷ 1 ∷ []) 1 high (Ends (Takes [])) (free_in 1 high) refl (omega arith) (inr (inl refl)) (may_mark (0 ∷ 1 ∷ []) [] (none_held (0 ∷ 1 ∷ []))))),
   ),
 )
-keeps TakeBoth right = (omega arith, (word_under (0 ∷ []) 0 (omega arith) (inl refl), λ low. upper_keeps low (free_in 0 low) refl))
-keeps (Give slot) right = (omega arith, gives_under slot right)
+keeps TakeBoth right = (omega arith, (word_under (0 ∷ []) 0 (omega arith) (inl refl), λ low below. upper_keeps low (free_in 0 low) refl))
+keeps (Give slot) right = (omega arith, record { under = gives_under slot right; fit = gives_fit slot })
 
 -- a job seizes its first lock first
 firsts : (job : Job) → first_wanted (script job) ≡ Err (Seize (first_lock job))
@@ -187,7 +202,7 @@ slots_system = record {
   };
   first = λ job right. firsts job;
   keeps = keeps;
-  decides = λ job words busy right long shows. decides words busy long shows job right;
+  decides = λ job words busy right long are shows. decides words busy long shows job right;
   looks = looks;
-  opens = record { initial_length = refl; shows = opens_shown; unused = opens_unused; no_turn = refl };
+  opens = record { initial_length = refl; are_words = zeros_below 5; shows = opens_shown; unused = opens_unused; no_turn = refl };
 }

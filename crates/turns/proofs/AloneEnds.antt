@@ -33,7 +33,7 @@ module _ (O : System) (is : IsSystem O) (tests seizings effects : ℕ) (bounded 
       let after = room_seized O is tests seizings effects bounded 0 a lock stands (room_more O is tests seizings effects bounded 1 2 a (omega arith) room) in
       absurd (omega (arith, after.fits))
   rests_in a (TestsNext word) stands room = absurd (omega (arith, room.fits))
-  rests_in a Turns stands within = absurd (omega arith)
+  rests_in a Turns stands within = absurd (omega (arith, within.1))
   rests_in a (Withdraws lock) stands within = absurd (omega arith)
   rests_in a GivesBack stands within = absurd (omega arith)
   rests_in a (Operates turn) stands within = closed a.effects a.held within
@@ -81,7 +81,7 @@ module _ (O : System) (is : IsSystem O) (tests seizings effects : ℕ) (bounded 
         at (inl rest) = later 0 (rested_in k found a a.phase refl (law.sound k number a there).stands rest) (omega arith)
         at (inr acts) =
             let sound = law.sound k number a there in
-            let one = made_one O is tests seizings effects bounded enough a (answered O k (act a) found) sound.job sound.stands within (answers_fit O k (act a) found acts) (steady O is w law k number a there aside exact) in
+            let one = made_one O is tests seizings effects bounded enough a (answered O k (act a) found) sound.job sound.stands within (answers_fit O k (act a) found acts (law.are_words (place O (act a)))) (steady O is w law k number a there aside exact) in
             later one.less one.within (omega (arith, one.one))
 
     ends_exact : (count enough : ℕ) (w : World O) (a : AttemptOf O) → Lawful O w → get_elem? w.actors k ≡ some (Does number a) → AreAside O is k w.actors → IsWithin O is tests seizings effects bounded enough a → IsExact O w.words a.phase → enough ≤ count → HasEnded (stepped O k count w)
@@ -102,7 +102,7 @@ module _ (O : System) (is : IsSystem O) (tests seizings effects : ℕ) (bounded 
         again other true e = absurd (other (eqb-true (word_at O w.words lock) expected e))
         again other false e =
             subst (λ (j : Judgement). IsWithin O is tests seizings effects bounded enough (changed O a (SeizesNext lock expected) (told (Again (word_at O w.words lock)) j)))
-            (sym (free_again O is w law k number a there aside lock stands)) (room_more O is tests seizings effects bounded (suc enough) (suc enough) (record a { phase = SeizesNext lock (word_at O w.words lock) }) (omega arith) (record { more_tests = room.more_tests; more_seizings = room.more_seizings; asks = room.asks; fits = room.fits }))
+            (sym (free_again O is w law k number a there aside room.read lock stands)) (room_more O is tests seizings effects bounded (suc enough) (suc enough) (record a { phase = SeizesNext lock (word_at O w.words lock) }) (omega arith) (record { more_tests = room.more_tests; more_seizings = room.more_seizings; read = room.read; asks = room.asks; fits = room.fits }))
 
         at : (word_at O w.words lock ≡ expected) ⊎ (word_at O w.words lock ≢ expected) → IsExact O w.words (SeizesNext lock expected) ⊎ IsWithin O is tests seizings effects bounded enough (changed O a (SeizesNext lock expected) (answered O k (act_in (SeizesNext lock expected) a) (word_at O w.words lock)))
         at (inl exact) = inl exact
@@ -126,7 +126,7 @@ module _ (O : System) (is : IsSystem O) (tests seizings effects : ℕ) (bounded 
     alone_ends w a count law there aside fits =
         let sound = law.sound k number a there in
         let enough = 1 + length a.held + whole_job O is tests seizings effects bounded in
-        let within = within_anywhere O is tests seizings effects bounded a sound.job sound.stands in
+        let within = within_anywhere O is tests seizings effects bounded w k number a law.are_words sound in
         elim (exact_or_again w a law there aside count enough (omega arith) a.phase sound.stands within) [
           | inl exact ↦ ends_exact count enough w a law there aside within exact (omega arith)
           | inr again ↦ stepped_more count w a enough law there aside (omega arith) again

@@ -2,7 +2,7 @@ use Rattle.std.proofs.Common.{◌≡◌, ◌≢◌, ℕ, ◌<◌, ◌≤◌, ◌
 use Rattle.std.specs.Prelude.{Option}
 use mathlib.Core.Option.{some}
 use lib.ListN.{get_elem?}
-use Rattle.turns.specs.System.{System, effect_on, IsSystem, IsUnder, AreUnder}
+use Rattle.turns.specs.System.{System, effect_on, IsSystem, AreWords, IsUnder, AreUnder}
 use Rattle.turns.specs.Attempt.{AttemptOf, Stands}
 use Rattle.turns.specs.World.{World, ActorOf, Idle, Does, left_of, made, completed, completed_word}
 use Rattle.turns.specs.Law.{IsOperating, IsSound, Lawful, holder_at, word_at}
@@ -10,6 +10,7 @@ use Rattle.turns.specs.declared.phase.Phase.TheVariants.{Operates}
 use Rattle.turns.specs.declared.reading.Reading.{Reading}
 use Rattle.turns.proofs.Lists.{in_more, one_or_two, set_here, set_else, index_same, index_other}
 use Rattle.turns.proofs.Completed.{Spares, made_append, made_here, made_else, under_spares, only_one, same_done}
+use Rattle.turns.proofs.Words.{applied_below, set_below}
 use Rattle.turns.proofs.Sound.{sound_along, left_under, one_actor}
 use Rattle.turns.proofs.Settings.{all_sound, renewed, shared_on}
 use Rattle.turns.proofs.Quiet.{alike, few_actors}
@@ -70,6 +71,9 @@ module _ (O : System) (system : IsSystem O) (w : World O) (law : Lawful O w) (k 
     long : length other ≡ O.size
     long = length-set w.words p (effect_on O effect (slice_index w.words p)) ∙ law.size
 
+    are_words : AreWords other
+    are_words = set_below w.words p (effect_on O effect (slice_index w.words p)) law.are_words (applied_below (O.operation_of effect) (slice_index w.words p) (fits.fit effect (inl refl)) (law.are_words p))
+
     -- what is under what is held is what the effects made so far, and this one, make of the words at the turn
     since : (n : ℕ) → IsUnder O held n → slice_index other n ≡ made O (fits.decided.made ++ effect ∷ []) n (slice_index fits.decided.words n)
     since n over = by (one_or_two p n) ∙ sym (made_append O fits.decided.made (effect ∷ []) n (slice_index fits.decided.words n)) where
@@ -103,9 +107,10 @@ module _ (O : System) (system : IsSystem O) (w : World O) (law : Lawful O w) (k 
           stands = stands;
           fits = record {
             under = λ e within. fits.under e (inr within);
+            fit = λ e within. fits.fit e (inr within);
             due = fits.due.1;
             recorded = record { place = known.place; recorded = known.recorded; stands = known.stands; turn_is = known.turn_is; actor = known.actor; number_is = known.number_is; job = known.job; reply = known.reply };
-            decided = record { words = decided.words; size = decided.size; shows = decided.shows; made = decided.made ++ effect ∷ []; effects = decided.effects ∙ sym (append_assoc decided.made (effect ∷ []) effects); under = λ e left. made_under; since = since };
+            decided = record { words = decided.words; size = decided.size; are_words = decided.are_words; shows = decided.shows; made = decided.made ++ effect ∷ []; effects = decided.effects ∙ sym (append_assoc decided.made (effect ∷ []) effects); under = λ e left. made_under; since = since };
           };
         }
 
@@ -136,6 +141,7 @@ module _ (O : System) (system : IsSystem O) (w : World O) (law : Lawful O w) (k 
     makes = record {
       few = subst (λ (l : ℕ). l ≤ O.sharing.most) (sym (length-set w.actors k (Does number new))) law.few;
       size = long;
+      are_words = are_words;
       turn = else_same O.turn_word (λ e. no_turn O system p under.lock under.protects (sym e)) ∙ law.turn;
       legal = law.legal;
       shows = system.looks (completed O w) (completed O then) _ (alike O system w then law.size long (λ n lock e. word_same n (one_or_two p n))) law.shows;

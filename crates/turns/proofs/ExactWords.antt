@@ -1,12 +1,12 @@
 -- an answer is of its step's kind, and after a step what is expected of a lock's word is what the word has
-use Rattle.std.proofs.Common.{◌≡◌, ◌≢◌, ℕ, ◌<◌, ◌⊎◌, Bool, true, false, List, [], ◌∷◌, ◌++◌, length, slice_set, slice_index, inl, inr, refl, sym, ◌∙◌, ap, subst}
+use Rattle.std.proofs.Common.{◌≡◌, ◌≢◌, ℕ, ◌<◌, ◌^◌, ◌⊎◌, Bool, true, false, List, [], ◌∷◌, ◌++◌, length, slice_set, slice_index, inl, inr, refl, sym, ◌∙◌, ap, subst}
 use Rattle.std.specs.Prelude.{◌==◌, ◌||◌, Option, Some, None, Result, Ok, Err, if◌then◌else◌}
 use Rattle.turns.specs.Among.{IsIn}
-use Rattle.turns.specs.Seen.{Seen}
+use Rattle.turns.specs.Seen.{Seen, AreReadWords}
 use Rattle.turns.specs.Script.{Script, Ends, Tests, Seizes, is_held, value_read, left, left_of_test, left_of_seizing, first_wanted, walk}
 use Rattle.turns.specs.Sharing.{asked}
 use Rattle.turns.specs.System.{System}
-use Rattle.turns.specs.Attempt.{Act, Rest, Ask, Take, Leave, Free as FreeAct, Look, Turn, Make, AttemptOf, IsAnswerTo, StandsIn, act_in, answered, changed, closing_act, come_to, free_act, freed, goes_on, operated, rest_of, told}
+use Rattle.turns.specs.Attempt.{Act, Rest, Ask, Take, Leave, Free as FreeAct, Look, Turn, Make, AttemptOf, IsAnswerTo, StandsIn, act_in, answered, changed, closing_act, come_to, free_act, freed, goes_on, operated, read_in, rest_of, told}
 use Rattle.turns.specs.World.{becomes, place}
 use Rattle.turns.specs.Law.{word_at}
 use Rattle.turns.specs.declared.answer.Answer.{Answer}
@@ -56,7 +56,7 @@ rest_or_not (Make effect) = inr (λ e. absurd cc)
 module _ (O : System) where
   open O use {Lock, Effect, Decision, IsLock, sharing}
 
-  -- an answer is of the step's kind
+  -- an answer is of the step's kind, and a value that was tested fits a word
   told_asked : (lock : Lock) (word : ℕ) (j : Judgement) → IsAnswerTo {Effect = Effect} (Ask lock) (told (Asked word) j)
   told_asked lock word judgement.Free = tt
   told_asked lock word (judgement.Held holder) = tt
@@ -68,15 +68,15 @@ module _ (O : System) where
   told_taken lock expected word false (judgement.Held holder) = tt
   told_taken lock expected word false (judgement.Preferred other) = tt
 
-  pub answers_fit : (k : ℕ) (step : Act Lock Effect) (found : ℕ) → step ≢ Rest → IsAnswerTo step (answered O k step found)
-  answers_fit k Rest found acts = absurd (acts refl)
-  answers_fit k (Ask lock) found acts = told_asked lock (asked sharing k found) (sharing.judged k (asked sharing k found))
-  answers_fit k (Take lock expected) found acts = told_taken lock expected found (found == expected) (sharing.judged k found)
-  answers_fit k (Leave lock) found acts = tt
-  answers_fit k (FreeAct lock) found acts = tt
-  answers_fit k (Look word) found acts = tt
-  answers_fit k Turn found acts = tt
-  answers_fit k (Make effect) found acts = tt
+  pub answers_fit : (k : ℕ) (step : Act Lock Effect) (found : ℕ) → step ≢ Rest → found < 2 ^ 64 → IsAnswerTo step (answered O k step found)
+  answers_fit k Rest found acts below = absurd (acts refl)
+  answers_fit k (Ask lock) found acts below = told_asked lock (asked sharing k found) (sharing.judged k (asked sharing k found))
+  answers_fit k (Take lock expected) found acts below = told_taken lock expected found (found == expected) (sharing.judged k found)
+  answers_fit k (Leave lock) found acts below = tt
+  answers_fit k (FreeAct lock) found acts below = tt
+  answers_fit k (Look word) found acts below = below
+  answers_fit k Turn found acts below = tt
+  answers_fit k (Make effect) found acts below = tt
 
   -- what is expected of a lock's word is what it has
   abbrev pub IsExact : List ℕ → Phase Lock ℕ → Type 0
@@ -132,19 +132,19 @@ module _ (O : System) where
     exact_taken lock expected word taken false j there = exact_again lock expected word j (slice_set words (O.lock_word lock) word) (index_same words (O.lock_word lock) word there)
 
     -- after any step, what is expected of a lock's word is what it has
-    pub exact_after : (phase : Phase Lock ℕ) → a.phase ≡ phase → StandsIn O a phase → ((lock : Lock) → come_to O a ≡ Err (Seize lock) → O.lock_word lock < length words) →
+    pub exact_after : (phase : Phase Lock ℕ) → a.phase ≡ phase → StandsIn O a phase → AreReadWords (read_in phase a.readings) → ((lock : Lock) → AreReadWords a.readings → come_to O a ≡ Err (Seize lock) → O.lock_word lock < length words) →
         IsExact (words_after (act_in phase a)) (changed O a phase (answered O k (act_in phase a) (found_by (act_in phase a)))).phase
-    exact_after (Requests lock) at stands there =
+    exact_after (Requests lock) at stands read there =
         let v = asked sharing k (word_at O words lock) in
-        exact_asked lock v (sharing.judged k v) (slice_set words (O.lock_word lock) v) (index_same words (O.lock_word lock) v (there lock stands))
-    exact_after (SeizesNext lock expected) at stands there =
+        exact_asked lock v (sharing.judged k v) (slice_set words (O.lock_word lock) v) (index_same words (O.lock_word lock) v (there lock read stands))
+    exact_after (SeizesNext lock expected) at stands read there =
         let found = word_at O words lock in
-        exact_taken lock expected found (sharing.taken k expected) (found == expected) (sharing.judged k found) (there lock stands)
-    exact_after (TestsNext word) at stands there = let b : AttemptOf O = record a { readings = a.readings ++ record { word = word; value = slice_index words word } ∷ [] } in exact_on (words_after (Look word)) b (come_to O b)
-    exact_after Turns at stands there = tt
-    exact_after (Withdraws lock) at stands there = exact_freed (words_after (Leave lock)) a a.held
-    exact_after GivesBack at stands there =
+        exact_taken lock expected found (sharing.taken k expected) (found == expected) (sharing.judged k found) (there lock read stands)
+    exact_after (TestsNext word) at stands read there = let b : AttemptOf O = record a { readings = a.readings ++ record { word = word; value = slice_index words word } ∷ [] } in exact_on (words_after (Look word)) b (come_to O b)
+    exact_after Turns at stands read there = tt
+    exact_after (Withdraws lock) at stands read there = exact_freed (words_after (Leave lock)) a a.held
+    exact_after GivesBack at stands read there =
         subst (λ (x : Answer). IsExact (words_after (free_act a.held)) (changed O a GivesBack x).phase) (sym (free_done k (found_by (free_act a.held)) a.held)) (exact_freed (words_after (free_act a.held)) a (rest_of a.held))
-    exact_after (Operates turn) at stands there =
+    exact_after (Operates turn) at stands read there =
         let step : Act Lock Effect = closing_act a.effects a.held in
         subst (λ (x : Answer). IsExact (words_after step) (changed O a (Operates turn) x).phase) (sym (closing_done k (found_by step) a.effects a.held)) (exact_operated (words_after step) a turn a.effects at)

@@ -1,12 +1,13 @@
-use Rattle.std.proofs.Common.{◌≡◌, ℕ, Bool, true, false, List, [], ◌∷◌, ◌++◌, inl, inr, refl, sym, subst}
+use Rattle.std.proofs.Common.{◌≡◌, ℕ, ◌<◌, ◌^◌, Bool, true, false, List, [], ◌∷◌, ◌++◌, inl, inr, refl, sym, subst}
 use Rattle.std.specs.Prelude.{Option, Some, None, ◌||◌, Result, Ok, Err}
 use Rattle.turns.specs.Among.{IsIn}
-use Rattle.turns.specs.Seen.{Seen}
+use Rattle.turns.specs.Seen.{Seen, AreReadWords}
 use Rattle.turns.specs.Script.{Script, Ends, Tests, Seizes, ◌>>=◌, is_held, value_read, left, left_of_test, left_of_seizing, first_wanted, walk}
 use Rattle.turns.specs.System.{System, IsUnder, KeepsTo}
 use Rattle.turns.specs.declared.wanted.Wanted.{Wanted}
 use Rattle.turns.specs.declared.wanted.Wanted.TheVariants.{Seize, Test}
 use Rattle.turns.proofs.Lists.{in_either}
+use Rattle.turns.proofs.Words.{value_read-below}
 
 -- all of these are among those
 abbrev pub AreAmong : {A : Type 0} → List A → List A → Type 0
@@ -32,14 +33,14 @@ module _ (O : System) where
   pub keeps_bind : {A B : Type 0} (Fits : List Lock → B → Type 0) (held : List Lock) (script : Script Lock A) (next : A → Script Lock B) → KeepsTo O (λ locks found. KeepsTo O Fits locks (next found)) held script → KeepsTo O Fits held (script >>= next)
   unfolding KeepsTo ◌>>=◌
   keeps_bind Fits held (Ends found) next keeps = keeps
-  keeps_bind Fits held (Tests word script) next keeps = (keeps.0, λ value. keeps_bind Fits held (script value) next (keeps.1 value))
+  keeps_bind Fits held (Tests word script) next keeps = (keeps.0, λ value below. keeps_bind Fits held (script value) next (keeps.1 value below))
   keeps_bind Fits held (Seizes lock script) next keeps = (keeps.0, keeps_bind Fits (held ++ lock ∷ []) script next keeps.1)
 
   -- a script keeps to what follows from what it keeps to
   pub keeps_map : {A : Type 0} (Fits More : List Lock → A → Type 0) (held : List Lock) (script : Script Lock A) → ((locks : List Lock) (found : A) → Fits locks found → More locks found) → KeepsTo O Fits held script → KeepsTo O More held script
   unfolding KeepsTo
   keeps_map Fits More held (Ends found) more keeps = more held found keeps
-  keeps_map Fits More held (Tests word script) more keeps = (keeps.0, λ value. keeps_map Fits More held (script value) more (keeps.1 value))
+  keeps_map Fits More held (Tests word script) more keeps = (keeps.0, λ value below. keeps_map Fits More held (script value) more (keeps.1 value below))
   keeps_map Fits More held (Seizes lock script) more keeps = (keeps.0, keeps_map Fits More (held ++ lock ∷ []) script more keeps.1)
 
   -- the end of a walk fits locks that are held
@@ -54,11 +55,11 @@ module _ (O : System) where
   WalkFits Fits held (Err (Test word)) = IsUnder O held word
   WalkFits Fits held (Err (Seize lock)) = IsLock lock
 
-  module _ (one_lock : (a b : Lock) → O.same a b ≡ true → a ≡ b) {A : Type 0} (Fits : List Lock → A → Type 0) (seen : Seen Lock) where
-    keeps_test : (word : ℕ) (script : ℕ → Script Lock A) (o : Option ℕ) → IsUnder O seen.held word → ((value : ℕ) → WalkFits Fits seen.held (walk O.same seen (script value))) → WalkFits Fits seen.held (first_wanted (left_of_test script (λ value. left O.same seen (script value)) word o))
+  module _ (one_lock : (a b : Lock) → O.same a b ≡ true → a ≡ b) {A : Type 0} (Fits : List Lock → A → Type 0) (seen : Seen Lock) (read : AreReadWords seen.readings) where
+    keeps_test : (word : ℕ) (script : ℕ → Script Lock A) (o : Option ℕ) → value_read seen.readings word ≡ o → IsUnder O seen.held word → ((value : ℕ) → value < 2 ^ 64 → WalkFits Fits seen.held (walk O.same seen (script value))) → WalkFits Fits seen.held (first_wanted (left_of_test script (λ value. left O.same seen (script value)) word o))
     unfolding walk left_of_test first_wanted
-    keeps_test word script None under later = under
-    keeps_test word script (Some value) under later = later value
+    keeps_test word script None is under later = under
+    keeps_test word script (Some value) is under later = later value (value_read-below seen.readings word value read is)
 
     keeps_seizing : (lock : Lock) (script : Script Lock A) (b : Bool) → IsLock lock → (b ≡ true → WalkFits Fits seen.held (walk O.same seen script)) → WalkFits Fits seen.held (first_wanted (left_of_seizing script (left O.same seen script) lock b))
     unfolding walk left_of_seizing first_wanted
@@ -73,7 +74,7 @@ module _ (O : System) where
     unfolding walk left first_wanted KeepsTo
     walk_keeps held (Ends found) among keeps = record { some = held; among = among; fits = keeps }
     walk_keeps held (Tests word script) among keeps =
-        keeps_test word script (value_read seen.readings word) (under_more held seen.held word among keeps.0) (λ value. walk_keeps held (script value) among (keeps.1 value))
+        keeps_test word script (value_read seen.readings word) refl (under_more held seen.held word among keeps.0) (λ value below. walk_keeps held (script value) among (keeps.1 value below))
     walk_keeps held (Seizes lock script) among keeps =
         keeps_seizing lock script (is_held O.same seen.held lock) keeps.0
         (λ own. walk_keeps (held ++ lock ∷ []) script (with_lock held lock among (held_in O.same one_lock seen.held lock own)) keeps.1)

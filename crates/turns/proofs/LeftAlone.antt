@@ -6,9 +6,10 @@ use mathlib.Core.Bool.{true≢false}
 use mathlib.Core.Option.{some, some-injective}
 use lib.ListN.{get_elem?}
 use Rattle.turns.specs.Among.{IsIn}
+use Rattle.turns.specs.Seen.{AreReadWords}
 use Rattle.turns.specs.Sharing.{asked}
 use Rattle.turns.specs.System.{System, IsSystem}
-use Rattle.turns.specs.Attempt.{AttemptOf, StandsIn, act, act_in, answered, closing_act, come_to, free_act, next, request_in, seen_of, told}
+use Rattle.turns.specs.Attempt.{AttemptOf, StandsIn, act, act_in, answered, closing_act, come_to, free_act, next, read_in, request_in, seen_of, told}
 use Rattle.turns.specs.World.{World, ActorOf, Does, moved, place}
 use Rattle.turns.specs.Law.{Holds, HasRequested, Lawful, holder_at, word_at}
 use Rattle.turns.specs.Runs.{made_by, stepped_at, Steps}
@@ -22,6 +23,7 @@ use Rattle.turns.specs.declared.phase.Phase.TheVariants.{Requests, Seizes as Sei
 use Rattle.turns.specs.declared.wanted.Wanted.TheVariants.{Seize}
 use Rattle.turns.proofs.Lists.{one_or_two, set_here, set_else, there_below}
 use Rattle.turns.proofs.Standing.{wanted_lock}
+use Rattle.turns.proofs.Sound.{are_read}
 use Rattle.turns.proofs.ExactWords.{held_of, wanted_bare, IsExact, free_done, closing_done, exact_after}
 
 module _ (O : System) (is : IsSystem O) where
@@ -63,9 +65,9 @@ module _ (O : System) (is : IsSystem O) where
           let some_lock : request_in requested.attempt.phase ≡ Some lock = requested.requests in
           absurd cc
 
-    module _ (lock : Lock) (wants : come_to O a ≡ Err (Seize lock)) where
+    module _ (read : AreReadWords a.readings) (lock : Lock) (wants : come_to O a ≡ Err (Seize lock)) where
       right : IsLock lock
-      right = wanted_lock O is a lock (law.sound k number a there).job wants
+      right = wanted_lock O is a lock (law.sound k number a there).job read wants
 
       -- what it wants nobody holds
       nobody : sharing.holder (word_at O w.words lock) ≡ 0
@@ -85,28 +87,32 @@ module _ (O : System) (is : IsSystem O) where
       pub free_again : sharing.judged k (word_at O w.words lock) ≡ judgement.Free
       free_again = is.sharing.alone_free k (word_at O w.words lock) few (law.shared lock right).is_word nobody (λ j below e. asked_mine lock j right below e)
 
+    -- what it has read fits its words
+    still_read : AreReadWords (read_in a.phase a.readings)
+    still_read = are_read O w.words a.held (read_in a.phase a.readings) law.are_words (law.sound k number a there).read
+
     -- its step's answer is steady where what it expects is what there is
     abbrev answer_in : Phase Lock ℕ → Answer
     answer_in phase = answered O k (act_in phase a) (slice_index w.words (place O (act_in phase a)))
 
-    steady_in : (phase : Phase Lock ℕ) → StandsIn O a phase → IsExact O w.words phase → IsSteady (answer_in phase)
-    steady_in (Requests lock) stands exact = subst (λ (j : Judgement). IsSteady (told (Asked (asked sharing k (word_at O w.words lock))) j)) (sym (free_asked lock stands)) tt
-    steady_in (SeizesNext lock expected) stands exact =
+    steady_in : (phase : Phase Lock ℕ) → StandsIn O a phase → AreReadWords (read_in phase a.readings) → IsExact O w.words phase → IsSteady (answer_in phase)
+    steady_in (Requests lock) stands read exact = subst (λ (j : Judgement). IsSteady (told (Asked (asked sharing k (word_at O w.words lock))) j)) (sym (free_asked read lock stands)) tt
+    steady_in (SeizesNext lock expected) stands read exact =
         subst (λ (b : Bool). IsSteady (if b then Seized else told (Again (word_at O w.words lock)) (sharing.judged k (word_at O w.words lock)))) (sym (eq-eqb (word_at O w.words lock) expected exact)) tt
-    steady_in (TestsNext word) stands exact = tt
-    steady_in Turns stands exact = tt
-    steady_in (Withdraws lock) stands exact = tt
-    steady_in GivesBack stands exact = subst IsSteady (sym (free_done O k (slice_index w.words (place O (free_act a.held))) a.held)) tt
-    steady_in (Operates turn) stands exact = subst IsSteady (sym (closing_done O k (slice_index w.words (place O (closing_act a.effects a.held))) a.effects a.held)) tt
+    steady_in (TestsNext word) stands read exact = tt
+    steady_in Turns stands read exact = tt
+    steady_in (Withdraws lock) stands read exact = tt
+    steady_in GivesBack stands read exact = subst IsSteady (sym (free_done O k (slice_index w.words (place O (free_act a.held))) a.held)) tt
+    steady_in (Operates turn) stands read exact = subst IsSteady (sym (closing_done O k (slice_index w.words (place O (closing_act a.effects a.held))) a.effects a.held)) tt
 
     pub steady : IsExact O w.words a.phase → IsSteady (answered O k (act a) (slice_index w.words (place O (act a))))
-    steady exact = steady_in a.phase (law.sound k number a there).stands exact
+    steady exact = steady_in a.phase (law.sound k number a there).stands still_read exact
 
     -- after its step what it expects is what there is, and the others are still out of the way
     pub exact_next : IsExact O (moved O k number a w).words (next O k a (slice_index w.words (place O (act a)))).phase
     exact_next =
-        exact_after O k w.words a a.phase refl (law.sound k number a there).stands
-        (λ lock wants. let below = is.words.lock_word_there lock (wanted_lock O is a lock (law.sound k number a there).job wants) in omega (arith, law.size))
+        exact_after O k w.words a a.phase refl (law.sound k number a there).stands still_read
+        (λ lock read wants. let below = is.words.lock_word_there lock (wanted_lock O is a lock (law.sound k number a there).job read wants) in omega (arith, law.size))
 
     pub there_next : get_elem? (moved O k number a w).actors k ≡ some (Does number (next O k a (slice_index w.words (place O (act a)))))
     there_next = set_here w.actors k (Does number (next O k a (slice_index w.words (place O (act a))))) (Does number a) there

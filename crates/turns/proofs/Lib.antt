@@ -1,4 +1,5 @@
 pub mod Lists
+pub mod Words
 pub mod Walks
 pub mod ReadWith
 pub mod Room

@@ -10,6 +10,7 @@ use Rattle.turns.specs.World.{World, Does, left_of}
 use Rattle.turns.specs.Law.{IsHeld, IsRead, IsSound, Lawful, holder_at, word_at}
 use Rattle.turns.specs.declared.reading.Reading.{Reading}
 use Rattle.turns.proofs.Lists.{in_front, in_more, in_last, distinct_more}
+use Rattle.turns.proofs.Words.{set_below}
 use Rattle.turns.proofs.Sound.{Has, has_sound, sound_along, walks_held, walks_left, walks_request, walks_sound}
 use Rattle.turns.proofs.Settings.{TellsOthers, TellsOwn, holds_here, holds_on, is_requested_by, renewed}
 use Rattle.turns.proofs.Quiet.{few_actors}
@@ -148,7 +149,7 @@ module _ (O : System) (system : IsSystem O) (w : World O) (law : Lawful O w) (k 
     pub takes : holder_at O w.words c ≡ 0 → sharing.IsWord v → sharing.holder v ≡ suc k → Clears sharing k (word_at O w.words c) v → (ShowsRequests sharing → KeepsOthers sharing k (word_at O w.words c) v) → ((r : Reading ℕ) → IsIn r a.readings → IsRead O w.words a.held r) → left_of O (Does number a) ≡ [] → ((lock : Lock) → request_in a.phase ≡ Some lock → lock ≡ c) → Lawful O taken
     takes free is_word named clears keeps read left before = locks O system w law k number a there c is v (walks_on O taker) (record {
       left = walks_left O taker ∙ sym left;
-      sound = walks_sound O system taken k number taker (taker_has free named) (taker_read read);
+      sound = walks_sound O system taken k number taker (set_below w.words (lock_word c) v law.are_words (system.sharing.word_below v is_word)) (taker_has free named) (taker_read read);
       is_word = is_word;
       named = λ j e. holds_here O w.actors k number (walks_on O taker) (Does number a) there j c (let x : suc k ≡ suc j = sym named ∙ e in cc) (taker_holds c (in_last c a.held));
       spares = λ j i b apart at lock isl within. ap sharing.holder (word_else O system w.words law.size c is v lock isl (free_apart O system w law k number a there c free j i b at lock within));

@@ -9,6 +9,7 @@ use Rattle.turns.specs.World.{World, Does, left_of}
 use Rattle.turns.specs.Law.{Holds, IsShared, IsSound, Lawful, holder_at, word_at}
 use Rattle.turns.proofs.Lists.{one_or_two, index_same, index_other}
 use Rattle.turns.proofs.Settings.{TellsOthers, TellsOwn, renewed, shared_here, shared_on}
+use Rattle.turns.proofs.Words.{set_below}
 use Rattle.turns.proofs.Quiet.{Quiet, few_actors, kept, other_sound}
 
 module _ (O : System) (system : IsSystem O) where
@@ -97,6 +98,6 @@ module _ (O : System) (system : IsSystem O) where
 
       -- a move on a lock's own word keeps the law
       pub locks : Lawful O (renewed O w other w.order k number new)
-      locks = kept O system w law k (Does number a) there number new other quiet h.left h.sound
+      locks = kept O system w law k (Does number a) there number new other quiet (set_below w.words (lock_word c) v law.are_words (system.sharing.word_below v h.is_word)) h.left h.sound
           (λ j i b apart at. other_sound O system w law k (Does number a) there number new other quiet j i b at (h.spares j i b apart at))
           (λ lock at. shared_at lock at (here_or_else w.words law.size c is v lock at))

@@ -151,7 +151,7 @@ module _ (O : System) (system : IsSystem O) (w : World O) (law : Lawful O w) (k 
         let r : Reading ℕ = record { word = word; value = found } in
         let new = record a { readings = readings ++ r ∷ [] } in
         let read : (x : Reading ℕ) → IsIn x (readings ++ r ∷ []) → IsRead O w.words held x = λ x within. elim (in_more x r readings within) [ inl front ↦ s.read x front | inr e ↦ subst (λ (y : Reading ℕ). IsRead O w.words held y) (sym e) (record { value = refl; under = s.fits }) ] in
-        same_order _ _ (idle_word word (walks_on O new) (rests a there (walks_on O new) (walks_left O new) (walks_held O new) (walks_request O new) (walks_sound O system w k number new (has a there) read)))
+        same_order _ _ (idle_word word (walks_on O new) (rests a there (walks_on O new) (walks_left O new) (walks_held O new) (walks_request O new) (walks_sound O system w k number new law.are_words (has a there) read)))
 
     -- it has nothing left to do
     ends_in : (turn : ℕ) → get_elem? w.actors k ≡ some (Does number (attempt O (Operates turn) job readings [] reply [])) → Lawful O (moved O k number (attempt O (Operates turn) job readings [] reply []) w)
@@ -166,7 +166,7 @@ module _ (O : System) (system : IsSystem O) (w : World O) (law : Lawful O w) (k 
         let s = law.sound k number a there in
         let known = s.fits.recorded in
         let decided = s.fits.decided in
-        let stands : Stands O (record a { held = rest }) = stands_change O system a Done s.job s.stands in
+        let stands : Stands O (record a { held = rest }) = stands_change O system a Done s.job (λ r none. absurd none) s.stands in
         same_order _ _ (frees_first a there c rest refl (record a { held = rest }) refl refl refl refl (λ h. record {
           job = h.job;
           held = h.held;
@@ -175,9 +175,10 @@ module _ (O : System) (system : IsSystem O) (w : World O) (law : Lawful O w) (k 
           stands = stands;
           fits = record {
             under = λ effect none. absurd none;
+            fit = λ effect none. absurd none;
             due = tt;
             recorded = record { place = known.place; recorded = known.recorded; stands = known.stands; turn_is = known.turn_is; actor = known.actor; number_is = known.number_is; job = known.job; reply = known.reply };
-            decided = record { words = decided.words; size = decided.size; shows = decided.shows; made = decided.made; effects = decided.effects; under = λ effect none. absurd none; since = λ n over. index_other w.words (lock_word c) n _ (no_lock_word O system n over.lock c (s.held c (inl refl)).there over.protects) ∙ decided.since n (under_more O rest (c ∷ rest) n (λ lock within. inr within) over) };
+            decided = record { words = decided.words; size = decided.size; are_words = decided.are_words; shows = decided.shows; made = decided.made; effects = decided.effects; under = λ effect none. absurd none; since = λ n over. index_other w.words (lock_word c) n _ (no_lock_word O system n over.lock c (s.held c (inl refl)).there over.protects) ∙ decided.since n (under_more O rest (c ∷ rest) n (λ lock within. inr within) over) };
           };
         }))
 
@@ -201,7 +202,7 @@ module _ (O : System) (system : IsSystem O) (w : World O) (law : Lawful O w) (k 
   keeps_in (Operates turn) job readings held reply (effect ∷ effects) there =
       let a = attempt O (Operates turn) job readings held reply (effect ∷ effects) in
       let s = law.sound k number a there in
-      same_order _ _ (makes O system w law k number job readings held turn reply effect effects there (stands_change O system a Done s.job s.stands))
+      same_order _ _ (makes O system w law k number job readings held turn reply effect effects there (stands_change O system a Done s.job (λ r none. absurd none) s.stands))
   keeps_in (Operates turn) job readings [] reply [] there = ends_in job readings [] reply [] turn there
   keeps_in (Operates turn) job readings (c ∷ rest) reply [] there = closes_in job readings [] reply [] turn c rest there
 

@@ -11,6 +11,7 @@ use Rattle.turns.specs.declared.phase.Phase.{Phase}
 use Rattle.turns.specs.declared.phase.Phase.TheVariants.{Requests, Seizes, Tests, Turns, Withdraws, GivesBack, Operates}
 use Rattle.turns.specs.declared.reading.Reading.{Reading}
 use Rattle.turns.proofs.Completed.{all_spare, completed_index, completed_length}
+use Rattle.turns.proofs.Words.{zeros_below}
 use Rattle.turns.proofs.Sound.{begin_sound}
 use Rattle.turns.proofs.Settings.{held_of, request_of}
 use Rattle.turns.proofs.Quiet.{still}
@@ -68,6 +69,7 @@ module _ (O : System) where
     opens count few = record {
       few = subst (λ (l : ℕ). l ≤ sharing.most) (sym (length-replicate count Idle)) few;
       size = system.opens.initial_length;
+      are_words = system.opens.are_words;
       turn = system.opens.no_turn;
       legal = tt;
       shows = system.looks O.initial (completed O (opened O count)) O.opening (record {

@@ -22,6 +22,7 @@ preferring_is = record {
   freed_requests = λ word is. unheld_requests word;
   judged_true = λ k word few is. judged_true k word;
   alone_free = λ k word few is free alone. alone_free k word few free alone;
+  word_below = λ word is. is.below;
 }
 
 pub preferring_shows : ShowsRequests preferring

@@ -3,7 +3,7 @@ use Rattle.std.specs.Prelude.{Some}
 use mathlib.Core.Option.{some}
 use lib.ListN.{get_elem?}
 use Rattle.turns.specs.Among.{IsIn}
-use Rattle.turns.specs.System.{System, IsSystem, AreAlike}
+use Rattle.turns.specs.System.{System, IsSystem, AreAlike, AreWords}
 use Rattle.turns.specs.Attempt.{AttemptOf, request_in}
 use Rattle.turns.specs.World.{World, ActorOf, Does, left_of, made, completed, completed_word}
 use Rattle.turns.specs.Law.{IsShared, IsSound, Lawful, holder_at}
@@ -40,10 +40,11 @@ module _ (O : System) where
 
   module _ (system : IsSystem O) (w : World O) (law : Lawful O w) (k : ℕ) (m : ActorOf O) (there : get_elem? w.actors k ≡ some m) (number : ℕ) (new : AttemptOf O) where
     -- a move that leaves what is under locks, and the effects that are left, as they were
-    pub kept : (other : List ℕ) → Quiet w.words other → left_of O (Does number new) ≡ left_of O m → IsSound O (renewed O w other w.order k number new) k number new → ((j i : ℕ) (b : AttemptOf O) → j ≢ k → get_elem? w.actors j ≡ some (Does i b) → IsSound O (renewed O w other w.order k number new) j i b) → ((lock : Lock) → IsLock lock → IsShared O (renewed O w other w.order k number new) lock) → Lawful O (renewed O w other w.order k number new)
-    kept other quiet left own others shared = record {
+    pub kept : (other : List ℕ) → Quiet w.words other → AreWords other → left_of O (Does number new) ≡ left_of O m → IsSound O (renewed O w other w.order k number new) k number new → ((j i : ℕ) (b : AttemptOf O) → j ≢ k → get_elem? w.actors j ≡ some (Does i b) → IsSound O (renewed O w other w.order k number new) j i b) → ((lock : Lock) → IsLock lock → IsShared O (renewed O w other w.order k number new) lock) → Lawful O (renewed O w other w.order k number new)
+    kept other quiet are left own others shared = record {
       few = subst (λ (l : ℕ). l ≤ sharing.most) (sym (length-set w.actors k (Does number new))) law.few;
       size = quiet.long ∙ law.size;
+      are_words = are;
       turn = quiet.turns ∙ law.turn;
       legal = law.legal;
       shows = system.looks (completed O w) (completed O (renewed O w other w.order k number new)) _ (alike system w (renewed O w other w.order k number new) law.size (quiet.long ∙ law.size) (λ n lock e.
@@ -65,7 +66,7 @@ module _ (O : System) where
 
     -- a move that changes no word, nothing that is held, and no request
     pub still : left_of O (Does number new) ≡ left_of O m → IsSound O w k number new → ((lock : Lock) → IsIn lock (held_of O m) → IsIn lock new.held) → ((lock : Lock) → (request_of O m ≡ Some lock) ↔ (request_in new.phase ≡ Some lock)) → Lawful O (renewed O w w.words w.order k number new)
-    still left own more asks = kept w.words (quiet_same w.words) left
+    still left own more asks = kept w.words (quiet_same w.words) law.are_words left
         (sound_along O system w (renewed O w w.words w.order k number new) k number new (record { this = law.size; that = law.size; holders = λ lock is within. refl; under = λ n u. refl; order = λ place r e. e }) own)
         (λ j i b apart at. other_sound w.words (quiet_same w.words) j i b at (λ lock is within. refl))
         (λ lock is. shared_on O w k m there w.words w.order number new lock (law.shared lock is) refl (more lock) (asks lock) (few_actors w law k m there))

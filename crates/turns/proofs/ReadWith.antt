@@ -6,6 +6,7 @@ use Rattle.turns.specs.Seen.{Seen, changed_readings}
 use Rattle.turns.specs.Script.{Script, Ends, Tests, Seizes, AsksAtMost, run, read_with, is_held, value_read, left, left_of_test, left_of_seizing, first_wanted, walk}
 use Rattle.turns.specs.System.{System, KeepsTo}
 use Rattle.turns.specs.declared.reading.Reading.{Reading}
+use Rattle.turns.proofs.Words.{MakesWords}
 
 -- such a script ends as the plain one does on words that are made so
 pub run_read_with : {Lock A : Type 0} (words other : List ℕ) (change : ℕ → ℕ → ℕ) (script : Script Lock A) → ((word : ℕ) → slice_index other word ≡ change word (slice_index words word)) → run words (read_with change script) ≡ run other script
@@ -49,21 +50,21 @@ module _ {Lock : Type 0} (same : Lock → Lock → Bool) where
     at false later = refl
     at true later = later
 
--- it asks for no more
-pub asks_read_with : {Lock A : Type 0} (change : ℕ → ℕ → ℕ) (tests seizings : ℕ) (script : Script Lock A) → AsksAtMost tests seizings script → AsksAtMost tests seizings (read_with change script)
+-- it asks for no more, if words are made of words
+pub asks_read_with : {Lock A : Type 0} (change : ℕ → ℕ → ℕ) (tests seizings : ℕ) (script : Script Lock A) → MakesWords change → AsksAtMost tests seizings script → AsksAtMost tests seizings (read_with change script)
 unfolding AsksAtMost read_with
-asks_read_with change tests seizings (Ends found) asks = tt
-asks_read_with change zero seizings (Tests word script) asks = asks
-asks_read_with change (suc tests) seizings (Tests word script) asks = λ value. asks_read_with change tests seizings (script (change word value)) (asks (change word value))
-asks_read_with change tests zero (Seizes lock script) asks = asks
-asks_read_with change tests (suc seizings) (Seizes lock script) asks = asks_read_with change tests seizings script asks
+asks_read_with change tests seizings (Ends found) words asks = tt
+asks_read_with change zero seizings (Tests word script) words asks = asks
+asks_read_with change (suc tests) seizings (Tests word script) words asks = λ value below. asks_read_with change tests seizings (script (change word value)) words (asks (change word value) (words word value below))
+asks_read_with change tests zero (Seizes lock script) words asks = asks
+asks_read_with change tests (suc seizings) (Seizes lock script) words asks = asks_read_with change tests seizings script words asks
 
 module _ (O : System) where
   open O use {Lock}
 
   -- and it keeps to what the plain one keeps to
-  pub keeps_read_with : {A : Type 0} (Fits : List Lock → A → Type 0) (held : List Lock) (change : ℕ → ℕ → ℕ) (script : Script Lock A) → KeepsTo O Fits held script → KeepsTo O Fits held (read_with change script)
+  pub keeps_read_with : {A : Type 0} (Fits : List Lock → A → Type 0) (held : List Lock) (change : ℕ → ℕ → ℕ) (script : Script Lock A) → MakesWords change → KeepsTo O Fits held script → KeepsTo O Fits held (read_with change script)
   unfolding KeepsTo read_with
-  keeps_read_with Fits held change (Ends found) keeps = keeps
-  keeps_read_with Fits held change (Tests word script) keeps = (keeps.0, λ value. keeps_read_with Fits held change (script (change word value)) (keeps.1 (change word value)))
-  keeps_read_with Fits held change (Seizes lock script) keeps = (keeps.0, keeps_read_with Fits (held ++ lock ∷ []) change script keeps.1)
+  keeps_read_with Fits held change (Ends found) words keeps = keeps
+  keeps_read_with Fits held change (Tests word script) words keeps = (keeps.0, λ value below. keeps_read_with Fits held change (script (change word value)) words (keeps.1 (change word value) (words word value below)))
+  keeps_read_with Fits held change (Seizes lock script) words keeps = (keeps.0, keeps_read_with Fits (held ++ lock ∷ []) change script words keeps.1)

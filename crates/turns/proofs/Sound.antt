@@ -1,8 +1,9 @@
-use Rattle.std.proofs.Common.{◌≡◌, ℕ, List, [], ◌∷◌, slice_index, length, refl, sym, ap, ◌∙◌, subst}
+use Rattle.std.proofs.Common.{◌≡◌, ℕ, ◌<◌, ◌^◌, List, [], ◌∷◌, slice_index, length, refl, sym, ap, ◌∙◌, subst}
 use Rattle.std.specs.Prelude.{Result, Ok, Err, Some, None, true, slice_get}
 use Rattle.turns.specs.Among.{IsIn, AreDistinct}
 use Rattle.turns.specs.Sharing.{ShowsRequests}
-use Rattle.turns.specs.System.{System, IsSystem, IsUnder, AreUnder, DecidesUnder}
+use Rattle.turns.specs.System.{System, IsSystem, IsUnder, AreUnder, DecidesUnder, AreWords, FitWords}
+use Rattle.turns.specs.Seen.{AreReadWords}
 use Rattle.turns.specs.Attempt.{AttemptOf, Stands, left_in, request_in, come_to, goes_on, walks_on, begin, freed, put_off}
 use Rattle.turns.specs.World.{World, RecordOf, after}
 use Rattle.turns.specs.Law.{holder_at, FitsIn, IsHeld, IsRead, IsRecorded, IsSound, WasDecided}
@@ -47,6 +48,7 @@ module _ (O : System) where
   decided_along now then order other place r a same on stands decided = record {
     words = decided.words;
     size = decided.size;
+    are_words = decided.are_words;
     shows = subst (λ (before : List (RecordOf O)). O.Shows decided.words (after O O.opening before)) (sym (take_before order other place r on stands)) decided.shows;
     made = decided.made;
     effects = decided.effects;
@@ -63,6 +65,7 @@ module _ (O : System) where
   fits_along system w v k number a along GivesBack fits = fits
   fits_along system w v k number a along (Operates turn) fits = record {
     under = fits.under;
+    fit = fits.fit;
     due = due_along O system a.held w.words v.words a.effects along.this along.that fits.under along.under fits.due;
     recorded = recorded_along w.order v.order k number turn a along.order fits.recorded;
     decided = decided_along w.words v.words w.order v.order fits.recorded.place fits.recorded.recorded a along.under along.order fits.recorded.stands fits.decided;
@@ -91,6 +94,23 @@ module _ (O : System) where
 
   pub left_under : (w : World O) (k number : ℕ) (a : AttemptOf O) → IsSound O w k number a → AreUnder O a.held (left_in a.phase a.effects)
   left_under w k number a sound = fits_under w k number a a.phase sound.fits
+
+  -- and they fit their words
+  fits_fit : (w : World O) (k number : ℕ) (a : AttemptOf O) (p : Phase Lock ℕ) → FitsIn O w k number a p → FitWords O (left_in p a.effects)
+  fits_fit w k number a (Requests lock) fits = λ effect none. absurd none
+  fits_fit w k number a (Seizes lock expected) fits = λ effect none. absurd none
+  fits_fit w k number a (Tests word) fits = λ effect none. absurd none
+  fits_fit w k number a Turns fits = λ effect none. absurd none
+  fits_fit w k number a (Withdraws lock) fits = λ effect none. absurd none
+  fits_fit w k number a GivesBack fits = λ effect none. absurd none
+  fits_fit w k number a (Operates turn) fits = fits.fit
+
+  pub left_fit : (w : World O) (k number : ℕ) (a : AttemptOf O) → IsSound O w k number a → FitWords O (left_in a.phase a.effects)
+  left_fit w k number a sound = fits_fit w k number a a.phase sound.fits
+
+  -- what was read in words fits them
+  pub are_read : (words : List ℕ) (held : List Lock) (readings : List (Reading ℕ)) → AreWords words → ((r : Reading ℕ) → IsIn r readings → IsRead O words held r) → AreReadWords readings
+  are_read words held readings are read r within = subst (λ (v : ℕ). v < 2 ^ 64) (read r within).value (are r.word)
 
   -- a word is under the locks of one actor only
   pub one_actor : (system : IsSystem O) (w : World O) (j k n i l : ℕ) (a b : AttemptOf O) → IsSound O w j i a → IsSound O w k l b → IsUnder O a.held n → IsUnder O b.held n → j ≡ k
@@ -180,14 +200,14 @@ module _ (O : System) where
       distinct = has.distinct;
       read = read;
       stands = record { decision = decision; come = e; reply = refl; effects = refl };
-      fits = λ effect within. under_more O fits.some a.held (O.effect_word effect) fits.among (fits.fits effect within);
+      fits = record { under = λ effect within. under_more O fits.some a.held (O.effect_word effect) fits.among (fits.fits.under effect within); fit = fits.fits.fit };
     }
     goes_sound w k number a (Err (Seize lock)) has read e fits = record { job = has.job; held = has.held; distinct = has.distinct; read = read; stands = e; fits = fits }
     goes_sound w k number a (Err (Test word)) has read e fits = record { job = has.job; held = has.held; distinct = has.distinct; read = read; stands = e; fits = fits }
 
     -- a walk brings an attempt to where it is sound
-    pub walks_sound : (w : World O) (k number : ℕ) (a : AttemptOf O) → Has w.words k a.job a.held → AreRead w.words a → IsSound O w k number (walks_on O a)
-    walks_sound w k number a has read = goes_sound w k number a (come_to O a) has read refl (come_fits O system a has.job)
+    pub walks_sound : (w : World O) (k number : ℕ) (a : AttemptOf O) → AreWords w.words → Has w.words k a.job a.held → AreRead w.words a → IsSound O w k number (walks_on O a)
+    walks_sound w k number a are has read = goes_sound w k number a (come_to O a) has read refl (come_fits O system a has.job (are_read w.words a.held a.readings are read))
 
     pub begin_sound : (w : World O) (k number : ℕ) (job : Job) → IsJob job → IsSound O w k number (begin O job)
     begin_sound w k number job given =
@@ -198,7 +218,7 @@ module _ (O : System) where
           distinct = tt;
           read = λ r none. absurd none;
           stands = stands;
-          fits = subst (WalkFits O (DecidesUnder O) []) stands (come_fits O system (begin O job) given);
+          fits = subst (WalkFits O (DecidesUnder O) []) stands (come_fits O system (begin O job) given (λ r none. absurd none));
         }
 
     pub freed_sound : (w : World O) (k number : ℕ) (a : AttemptOf O) (locks : List Lock) → Has w.words k a.job locks → IsSound O w k number (freed O a locks)

@@ -1,8 +1,9 @@
 use Rattle.std.proofs.Common.{◌≡◌, List, [], ◌∷◌, ◌++◌, refl, ◌∙◌, ap, append_assoc, subst, sym}
 use Rattle.std.specs.Prelude.{ℕ, Bool, Result, Ok, Err}
+use Rattle.turns.specs.Seen.{AreReadWords}
 use Rattle.turns.specs.Script.{Script, Ends, Tests, Seizes, is_held, value_read, left, left_of_test, left_of_seizing, first_wanted, walk}
 use Rattle.turns.specs.System.{System, IsSystem, DecidesUnder}
-use Rattle.turns.specs.Attempt.{AttemptOf, Stands, StandsIn, HasTurned, begin, change, changed, come_to, freed, goes_on, operated, restarted, restarted_in, rest_of, seen_of, forgotten}
+use Rattle.turns.specs.Attempt.{AttemptOf, Stands, StandsIn, HasTurned, begin, change, changed, come_to, freed, goes_on, operated, restarted, restarted_in, read_in, rest_of, seen_of, forgotten}
 use Rattle.turns.specs.declared.answer.Answer.{Answer}
 use Rattle.turns.specs.declared.answer.Answer.TheVariants.{Asked, Seized, Held, Preferred, Again, Value, Turn as TurnNumber, Done}
 use Rattle.turns.specs.declared.phase.Phase.{Phase}
@@ -26,12 +27,12 @@ module _ (O : System) (is : IsSystem O) where
   stands_begin job right = ap first_wanted (left_fresh O.same (O.script job)) ∙ is.first job right
 
   -- what an attempt has come to fits what it holds
-  pub come_fits : (a : AttemptOf O) → O.IsJob a.job → WalkFits O (DecidesUnder O) a.held (come_to O a)
-  come_fits a right = walk_keeps O (λ x y e. (is.same x y).0 e) (DecidesUnder O) (seen_of a) [] (O.script a.job) (λ lock none. absurd none) (is.keeps a.job right)
+  pub come_fits : (a : AttemptOf O) → O.IsJob a.job → AreReadWords a.readings → WalkFits O (DecidesUnder O) a.held (come_to O a)
+  come_fits a right read = walk_keeps O (λ x y e. (is.same x y).0 e) (DecidesUnder O) (seen_of a) read [] (O.script a.job) (λ lock none. absurd none) (is.keeps a.job right)
 
   -- a lock that it has come to want is one of the system's
-  pub wanted_lock : (a : AttemptOf O) (lock : Lock) → O.IsJob a.job → come_to O a ≡ Err (Seize lock) → IsLock lock
-  wanted_lock a lock right come = subst (WalkFits O (DecidesUnder O) a.held) come (come_fits a right)
+  pub wanted_lock : (a : AttemptOf O) (lock : Lock) → O.IsJob a.job → AreReadWords a.readings → come_to O a ≡ Err (Seize lock) → IsLock lock
+  wanted_lock a lock right read come = subst (WalkFits O (DecidesUnder O) a.held) come (come_fits a right read)
 
   pub stands_on : (a : AttemptOf O) (to : Result Decision (Wanted Lock ℕ)) → come_to O a ≡ to → Stands O (goes_on O a to)
   stands_on a (Ok decision) come = record { decision = decision; come = come; reply = refl; effects = refl }
@@ -53,34 +54,34 @@ module _ (O : System) (is : IsSystem O) where
     effects = turned.effects ∙ ap (λ (l : List Effect). turned.made ++ l) left ∙ sym (append_assoc turned.made (effect ∷ []) effects);
   })
 
-  changes_in : (a : AttemptOf O) (phase : Phase Lock ℕ) (answer : Answer) → O.IsJob a.job → a.phase ≡ phase → Stands O a → StandsIn O a phase → Stands O (changed O a phase answer)
-  changes_in a (Requests lock) (Asked word) right at all stands = stands
-  changes_in a (Requests lock) (Held holder) right at all stands = wanted_lock a lock right stands
-  changes_in a (Requests lock) (Preferred other) right at all stands = wanted_lock a lock right stands
-  changes_in a (SeizesNext lock expected) Seized right at all stands = stands_on (record a { held = a.held ++ lock ∷ [] }) (come_to O (record a { held = a.held ++ lock ∷ [] })) refl
-  changes_in a (SeizesNext lock expected) (Held holder) right at all stands = wanted_lock a lock right stands
-  changes_in a (SeizesNext lock expected) (Preferred other) right at all stands = wanted_lock a lock right stands
-  changes_in a (SeizesNext lock expected) (Again word) right at all stands = stands
-  changes_in a (TestsNext word) (Value value) right at all stands =
+  changes_in : (a : AttemptOf O) (phase : Phase Lock ℕ) (answer : Answer) → O.IsJob a.job → AreReadWords (read_in phase a.readings) → a.phase ≡ phase → Stands O a → StandsIn O a phase → Stands O (changed O a phase answer)
+  changes_in a (Requests lock) (Asked word) right read at all stands = stands
+  changes_in a (Requests lock) (Held holder) right read at all stands = wanted_lock a lock right read stands
+  changes_in a (Requests lock) (Preferred other) right read at all stands = wanted_lock a lock right read stands
+  changes_in a (SeizesNext lock expected) Seized right read at all stands = stands_on (record a { held = a.held ++ lock ∷ [] }) (come_to O (record a { held = a.held ++ lock ∷ [] })) refl
+  changes_in a (SeizesNext lock expected) (Held holder) right read at all stands = wanted_lock a lock right read stands
+  changes_in a (SeizesNext lock expected) (Preferred other) right read at all stands = wanted_lock a lock right read stands
+  changes_in a (SeizesNext lock expected) (Again word) right read at all stands = stands
+  changes_in a (TestsNext word) (Value value) right read at all stands =
       let more : AttemptOf O = record a { readings = a.readings ++ record { word = word; value = value } ∷ [] } in
       stands_on more (come_to O more) refl
-  changes_in a Turns (TurnNumber number) right at all stands = record { seen = seen_of a; decision = stands.decision; come = stands.come; made = []; reply = stands.reply; effects = sym stands.effects }
-  changes_in a (Withdraws lock) Done right at all stands = stands_freed a a.held right
-  changes_in a GivesBack Done right at all stands = stands_freed a (rest_of a.held) right
-  changes_in a (Operates turn) Done right at all stands = stands_operated a turn a.effects at refl stands
-  changes_in a _ _ right at all stands = all
+  changes_in a Turns (TurnNumber number) right read at all stands = record { seen = seen_of a; decision = stands.decision; come = stands.come; made = []; reply = stands.reply; effects = sym stands.effects }
+  changes_in a (Withdraws lock) Done right read at all stands = stands_freed a a.held right
+  changes_in a GivesBack Done right read at all stands = stands_freed a (rest_of a.held) right
+  changes_in a (Operates turn) Done right read at all stands = stands_operated a turn a.effects at refl stands
+  changes_in a _ _ right read at all stands = all
 
-  pub stands_change : (a : AttemptOf O) (answer : Answer) → O.IsJob a.job → Stands O a → Stands O (change O a answer)
-  stands_change a answer right stands = changes_in a a.phase answer right refl stands stands
+  pub stands_change : (a : AttemptOf O) (answer : Answer) → O.IsJob a.job → AreReadWords (read_in a.phase a.readings) → Stands O a → Stands O (change O a answer)
+  stands_change a answer right read stands = changes_in a a.phase answer right read refl stands stands
 
-  restarts_in : (a : AttemptOf O) (phase : Phase Lock ℕ) → O.IsJob a.job → Stands O a → StandsIn O a phase → Stands O (restarted_in O phase a)
-  restarts_in a (Requests lock) right all stands = stands_freed (forgotten a) a.held right
-  restarts_in a (SeizesNext lock expected) right all stands = wanted_lock a lock right stands
-  restarts_in a (TestsNext word) right all stands = stands_freed (forgotten a) a.held right
-  restarts_in a Turns right all stands = stands_freed (forgotten a) a.held right
-  restarts_in a (Withdraws lock) right all stands = all
-  restarts_in a GivesBack right all stands = all
-  restarts_in a (Operates turn) right all stands = all
+  restarts_in : (a : AttemptOf O) (phase : Phase Lock ℕ) → O.IsJob a.job → AreReadWords (read_in phase a.readings) → Stands O a → StandsIn O a phase → Stands O (restarted_in O phase a)
+  restarts_in a (Requests lock) right read all stands = stands_freed (forgotten a) a.held right
+  restarts_in a (SeizesNext lock expected) right read all stands = wanted_lock a lock right read stands
+  restarts_in a (TestsNext word) right read all stands = stands_freed (forgotten a) a.held right
+  restarts_in a Turns right read all stands = stands_freed (forgotten a) a.held right
+  restarts_in a (Withdraws lock) right read all stands = all
+  restarts_in a GivesBack right read all stands = all
+  restarts_in a (Operates turn) right read all stands = all
 
-  pub stands_restarted : (a : AttemptOf O) → O.IsJob a.job → Stands O a → Stands O (restarted O a)
-  stands_restarted a right stands = restarts_in a a.phase right stands stands
+  pub stands_restarted : (a : AttemptOf O) → O.IsJob a.job → AreReadWords (read_in a.phase a.readings) → Stands O a → Stands O (restarted O a)
+  stands_restarted a right read stands = restarts_in a a.phase right read stands stands

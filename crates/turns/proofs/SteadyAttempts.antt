@@ -1,10 +1,12 @@
 -- how many steps an attempt takes that is never put off
-use Rattle.std.proofs.Common.{◌≡◌, ℕ, suc, ◌+◌, ◌-◌, ◌*◌, ◌≤◌, Bool, true, false, List, [], ◌∷◌, ◌++◌, length, length-append, refl, sym, ap, subst, arith}
+use Rattle.std.proofs.Common.{◌≡◌, ℕ, suc, ◌+◌, ◌-◌, ◌*◌, ◌<◌, ◌≤◌, ◌^◌, Bool, true, false, List, [], ◌∷◌, ◌++◌, length, length-append, refl, sym, ap, subst, arith}
 use Rattle.std.specs.Prelude.{Option, Some, None, Result, Ok, Err}
-use Rattle.turns.specs.Seen.{Seen}
+use Rattle.turns.specs.Seen.{Seen, AreReadWords}
 use Rattle.turns.specs.Script.{Script, Ends, Tests, Seizes, AsksAtMost, is_held, value_read, left, left_of_test, left_of_seizing, first_wanted, walk}
-use Rattle.turns.specs.System.{System, IsSystem}
-use Rattle.turns.specs.Attempt.{AttemptOf, IsAnswerTo, Stands, StandsIn, act, act_in, begin, change, changed, closing_act, come_to, free_act, freed, goes_on, operated, rest_of, seen_of}
+use Rattle.turns.specs.System.{System, IsSystem, AreWords}
+use Rattle.turns.specs.Attempt.{AttemptOf, IsAnswerTo, Stands, StandsIn, act, act_in, begin, change, changed, closing_act, come_to, free_act, freed, goes_on, left_in, operated, read_in, rest_of, seen_of}
+use Rattle.turns.specs.World.{World}
+use Rattle.turns.specs.Law.{FitsIn, IsSound}
 use Rattle.turns.specs.Bounds.{AreBounded, AreSteady, EndsIn, IsSteady}
 use Rattle.turns.specs.declared.answer.Answer.{Answer}
 use Rattle.turns.specs.declared.answer.Answer.TheVariants.{Asked, Seized, Held, Preferred, Again, Value, Turn as TurnNumber, Done}
@@ -14,17 +16,19 @@ use Rattle.turns.specs.declared.reading.Reading.{Reading}
 use Rattle.turns.specs.declared.wanted.Wanted.{Wanted}
 use Rattle.turns.specs.declared.wanted.Wanted.TheVariants.{Seize, Test}
 use Rattle.turns.proofs.Room.{Grows, held_last, held_before, read_last, read_before, left_asks, seized_at, read_at}
+use Rattle.turns.proofs.Sound.{are_read}
 use Rattle.turns.proofs.Standing.{stands_change}
+use Rattle.turns.proofs.Words.{read_more, run_ends, value_read-below}
 
-module _ {Lock A : Type 0} (same : Lock → Lock → Bool) (Has : A → Type 0) (seen : Seen Lock) where
+module _ {Lock A : Type 0} (same : Lock → Lock → Bool) (Has : A → Type 0) (seen : Seen Lock) (read : AreReadWords seen.readings) where
   -- what is left of a script ends as the script does
   left_ends : (script : Script Lock A) → EndsIn Has script → EndsIn Has (left same seen script)
   unfolding EndsIn left left_of_test left_of_seizing
   left_ends (Ends found) has = has
-  left_ends (Tests word script) has = at (value_read seen.readings word) (λ value. left_ends (script value) (has value)) where
-    at : (o : Option ℕ) → ((value : ℕ) → EndsIn Has (left same seen (script value))) → EndsIn Has (left_of_test script (λ value. left same seen (script value)) word o)
-    at None later = has
-    at (Some value) later = later value
+  left_ends (Tests word script) has = at (value_read seen.readings word) refl (λ value below. left_ends (script value) (has value below)) where
+    at : (o : Option ℕ) → value_read seen.readings word ≡ o → ((value : ℕ) → value < 2 ^ 64 → EndsIn Has (left same seen (script value))) → EndsIn Has (left_of_test script (λ value. left same seen (script value)) word o)
+    at None is later = has
+    at (Some value) is later = later value (value_read-below seen.readings word value read is)
   left_ends (Seizes lock script) has = at (is_held same seen.held lock) (left_ends script has) where
     at : (b : Bool) → EndsIn Has (left same seen script) → EndsIn Has (left_of_seizing script (left same seen script) lock b)
     at false later = has
@@ -96,6 +100,7 @@ module _ (O : System) (is : IsSystem O) (tests seizings effects : ℕ) (bounded 
   pub record HasRoom (enough : ℕ) (a : AttemptOf O) : Type 0 where
     pub more_tests : ℕ
     pub more_seizings : ℕ
+    pub read : AreReadWords a.readings
     pub asks : AsksAtMost more_tests more_seizings (left O.same (seen_of a) (O.script a.job))
     pub fits : 3 * more_seizings + more_tests + effects + 1 + length a.held ≤ enough
 
@@ -104,7 +109,7 @@ module _ (O : System) (is : IsSystem O) (tests seizings effects : ℕ) (bounded 
   WithinIn enough a (Requests lock) = HasRoom enough a
   WithinIn enough a (SeizesNext lock expected) = HasRoom (suc enough) a
   WithinIn enough a (TestsNext word) = HasRoom enough a
-  WithinIn enough a Turns = length a.effects + 1 + length a.held ≤ enough
+  WithinIn enough a Turns = AreReadWords a.readings × (length a.effects + 1 + length a.held ≤ enough)
   WithinIn enough a (Withdraws lock) = 1 + length a.held + whole_job ≤ enough
   WithinIn enough a GivesBack = length a.held + whole_job ≤ enough
   WithinIn enough a (Operates turn) = length a.effects + length a.held ≤ enough
@@ -113,22 +118,22 @@ module _ (O : System) (is : IsSystem O) (tests seizings effects : ℕ) (bounded 
   IsWithin enough a = WithinIn enough a a.phase
 
   -- a decision has few effects
-  few_effects : (job : Job) (seen : Seen Lock) (decision : Decision) → O.IsJob job → walk O.same seen (O.script job) ≡ Ok decision → length (O.effects_of decision) ≤ effects
-  few_effects job seen decision right come = walk_ends O.same (λ d. length (O.effects_of d) ≤ effects) seen (O.script job) decision (bounded.effects job right) come
+  few_effects : (job : Job) (seen : Seen Lock) (decision : Decision) → O.IsJob job → AreReadWords seen.readings → walk O.same seen (O.script job) ≡ Ok decision → length (O.effects_of decision) ≤ effects
+  few_effects job seen decision right read come = walk_ends O.same (λ d. length (O.effects_of d) ≤ effects) seen read (O.script job) decision (bounded.effects job right) come
 
   within_on : (enough : ℕ) (a : AttemptOf O) (to : Result Decision (Wanted Lock ℕ)) → O.IsJob a.job → come_to O a ≡ to → HasRoom enough a → IsWithin enough (goes_on O a to)
-  within_on enough a (Ok decision) right come room = omega (arith, few_effects a.job (seen_of a) decision right come, room.fits)
-  within_on enough a (Err (Seize lock)) right come room = record { more_tests = room.more_tests; more_seizings = room.more_seizings; asks = room.asks; fits = room.fits }
-  within_on enough a (Err (Test word)) right come room = record { more_tests = room.more_tests; more_seizings = room.more_seizings; asks = room.asks; fits = room.fits }
+  within_on enough a (Ok decision) right come room = (room.read, omega (arith, few_effects a.job (seen_of a) decision right room.read come, room.fits))
+  within_on enough a (Err (Seize lock)) right come room = record { more_tests = room.more_tests; more_seizings = room.more_seizings; read = room.read; asks = room.asks; fits = room.fits }
+  within_on enough a (Err (Test word)) right come room = record { more_tests = room.more_tests; more_seizings = room.more_seizings; read = room.read; asks = room.asks; fits = room.fits }
 
   -- an attempt has room for a whole job besides what it holds
-  pub room_anywhere : (a : AttemptOf O) → O.IsJob a.job → HasRoom (whole_job + length a.held) a
-  room_anywhere a right = record { more_tests = tests; more_seizings = seizings; asks = left_asks O.same (λ lock. (is.same lock lock).1 refl) (seen_of a) tests seizings (O.script a.job) (bounded.asks a.job right); fits = omega arith }
+  pub room_anywhere : (a : AttemptOf O) → O.IsJob a.job → AreReadWords a.readings → HasRoom (whole_job + length a.held) a
+  room_anywhere a right read = record { more_tests = tests; more_seizings = seizings; read = read; asks = left_asks O.same (λ lock. (is.same lock lock).1 refl) (seen_of a) tests seizings (O.script a.job) read (bounded.asks a.job right); fits = omega arith }
 
   pub within_begin : (enough : ℕ) (job : Job) → O.IsJob job → whole_job ≤ enough → IsWithin enough (begin O job)
   within_begin enough job right fits =
-      let room = room_anywhere (begin O job) right in
-      record { more_tests = room.more_tests; more_seizings = room.more_seizings; asks = room.asks; fits = omega (arith, room.fits) }
+      let room = room_anywhere (begin O job) right (λ r none. absurd none) in
+      record { more_tests = room.more_tests; more_seizings = room.more_seizings; read = room.read; asks = room.asks; fits = omega (arith, room.fits) }
 
   within_freed : (enough : ℕ) (a : AttemptOf O) (held : List Lock) → O.IsJob a.job → length held + whole_job ≤ enough → IsWithin enough (freed O a held)
   within_freed enough a [] right fits = within_begin enough a.job right (omega arith)
@@ -141,32 +146,35 @@ module _ (O : System) (is : IsSystem O) (tests seizings effects : ℕ) (bounded 
       let more : Seen Lock = record { held = a.held ++ lock ∷ []; readings = a.readings } in
       let self : (l : Lock) → O.same l l ≡ true = λ l. (is.same l l).1 refl in
       let grows : Grows O.same self (seen_of a) more = record { held = λ l e. held_before O.same self a.held lock l e; readings = λ word value e. e } in
-      let one = seized_at O.same self (seen_of a) more lock room.more_tests room.more_seizings (O.script a.job) (left O.same (seen_of a) (O.script a.job)) grows (held_last O.same self a.held lock) refl come room.asks in
+      let one = seized_at O.same self (seen_of a) more lock room.more_tests room.more_seizings (O.script a.job) (left O.same (seen_of a) (O.script a.job)) grows room.read (held_last O.same self a.held lock) refl come room.asks in
       record {
         more_tests = room.more_tests;
         more_seizings = one.rest;
+        read = room.read;
         asks = one.asks;
         fits = omega (arith, room.fits, one.one, length-append a.held (lock ∷ []));
       }
 
   -- a word that was wanted is read: one test less
-  room_read : (enough : ℕ) (a : AttemptOf O) (reading : Reading ℕ) → come_to O a ≡ Err (Test reading.word) → HasRoom (suc enough) a → HasRoom enough (record a { readings = a.readings ++ reading ∷ [] })
+  room_read : (enough : ℕ) (a : AttemptOf O) (reading : Reading ℕ) → reading.value < 2 ^ 64 → come_to O a ≡ Err (Test reading.word) → HasRoom (suc enough) a → HasRoom enough (record a { readings = a.readings ++ reading ∷ [] })
   unfolding walk
-  room_read enough a reading come room =
+  room_read enough a reading below come room =
       let more : Seen Lock = record { held = a.held; readings = a.readings ++ reading ∷ [] } in
       let self : (l : Lock) → O.same l l ≡ true = λ l. (is.same l l).1 refl in
       let grows : Grows O.same self (seen_of a) more = record { held = λ l e. e; readings = λ word value e. read_before O.same self a.readings reading word value e } in
-      let one = read_at O.same self (seen_of a) more reading.word room.more_tests room.more_seizings (O.script a.job) (left O.same (seen_of a) (O.script a.job)) grows (read_last O.same self a.readings reading) refl come room.asks in
+      let read = read_more a.readings reading room.read below in
+      let one = read_at O.same self (seen_of a) more reading.word room.more_tests room.more_seizings (O.script a.job) (left O.same (seen_of a) (O.script a.job)) grows read (read_last O.same self a.readings reading) refl come room.asks in
       record {
         more_tests = one.rest;
         more_seizings = room.more_seizings;
+        read = read;
         asks = one.asks;
         fits = omega (arith, room.fits, one.one);
       }
 
   -- the same room, counted from more
   pub room_more : (enough more : ℕ) (a : AttemptOf O) → enough ≤ more → HasRoom enough a → HasRoom more a
-  room_more enough more a fits room = record { more_tests = room.more_tests; more_seizings = room.more_seizings; asks = room.asks; fits = omega (arith, room.fits) }
+  room_more enough more a fits room = record { more_tests = room.more_tests; more_seizings = room.more_seizings; read = room.read; asks = room.asks; fits = omega (arith, room.fits) }
 
   -- a step was made, so there is one less to make
   pub record HasMadeOne (enough : ℕ) (a : AttemptOf O) : Type 0 where
@@ -193,7 +201,7 @@ module _ (O : System) (is : IsSystem O) (tests seizings effects : ℕ) (bounded 
   made_in enough a (Requests lock) (Asked word) right at stands room fits steady = record {
     less = enough - 1;
     one = omega (arith, room.fits);
-    within = record { more_tests = room.more_tests; more_seizings = room.more_seizings; asks = room.asks; fits = omega (arith, room.fits) };
+    within = record { more_tests = room.more_tests; more_seizings = room.more_seizings; read = room.read; asks = room.asks; fits = omega (arith, room.fits) };
   }
   made_in enough a (Requests lock) (Held holder) right at stands room fits steady = absurd steady
   made_in enough a (Requests lock) (Preferred other) right at stands room fits steady = absurd steady
@@ -209,10 +217,10 @@ module _ (O : System) (is : IsSystem O) (tests seizings effects : ℕ) (bounded 
   made_in enough a (TestsNext word) (Value value) right at stands room fits steady =
       let reading : Reading ℕ = record { word = word; value = value } in
       let b : AttemptOf O = record a { readings = a.readings ++ reading ∷ [] } in
-      let after = room_read (enough - 1) a reading stands (room_more enough (suc (enough - 1)) a (omega arith) room) in
+      let after = room_read (enough - 1) a reading fits stands (room_more enough (suc (enough - 1)) a (omega arith) room) in
       record { less = enough - 1; one = omega (arith, room.fits); within = within_on (enough - 1) b (come_to O b) right refl after }
   made_in enough a (TestsNext word) answer right at stands room fits steady = absurd fits
-  made_in enough a Turns (TurnNumber number) right at stands room fits steady = record { less = enough - 1; one = omega arith; within = omega arith }
+  made_in enough a Turns (TurnNumber number) right at stands room fits steady = record { less = enough - 1; one = omega (arith, room.1); within = omega (arith, room.1) }
   made_in enough a Turns answer right at stands room fits steady = absurd fits
   made_in enough a (Withdraws lock) Done right at stands room fits steady = record { less = enough - 1; one = omega arith; within = within_freed (enough - 1) a a.held right (omega arith) }
   made_in enough a (Withdraws lock) answer right at stands room fits steady = absurd fits
@@ -224,24 +232,46 @@ module _ (O : System) (is : IsSystem O) (tests seizings effects : ℕ) (bounded 
   pub made_one : (enough : ℕ) (a : AttemptOf O) (answer : Answer) → O.IsJob a.job → Stands O a → IsWithin enough a → IsAnswerTo (act a) answer → IsSteady answer → HasMadeOne enough (change O a answer)
   made_one enough a answer right stands within fits steady = made_in enough a a.phase answer right refl stands within fits steady
 
+  -- what it has read fits its words
+  within_read : (enough : ℕ) (a : AttemptOf O) (phase : Phase Lock ℕ) → WithinIn enough a phase → AreReadWords (read_in phase a.readings)
+  within_read enough a (Requests lock) room = room.read
+  within_read enough a (SeizesNext lock expected) room = room.read
+  within_read enough a (TestsNext word) room = room.read
+  within_read enough a Turns within = within.0
+  within_read enough a (Withdraws lock) within = λ r none. absurd none
+  within_read enough a GivesBack within = λ r none. absurd none
+  within_read enough a (Operates turn) within = λ r none. absurd none
+
   -- steady answers, one after another, are no more than are enough
   pub steady_within : (enough : ℕ) (a : AttemptOf O) (answers : List Answer) → O.IsJob a.job → Stands O a → IsWithin enough a → AreSteady O a answers → length answers ≤ enough
   steady_within enough a [] right stands within steady = omega arith
   steady_within enough a (answer ∷ answers) right stands within (fits, steady, later) =
       let one = made_one enough a answer right stands within fits steady in
-      let rest = steady_within one.less (change O a answer) answers (job_stays O a answer right) (stands_change O is a answer right stands) one.within later in
+      let rest = steady_within one.less (change O a answer) answers (job_stays O a answer right) (stands_change O is a answer right (within_read enough a a.phase within) stands) one.within later in
       omega (arith, one.one, rest)
 
   -- wherever it is, an attempt ends in a whole job's steps once what it holds is freed
-  within_in : (a : AttemptOf O) (phase : Phase Lock ℕ) → O.IsJob a.job → StandsIn O a phase → WithinIn (1 + length a.held + whole_job) a phase
-  within_in a (Requests lock) right stands = room_more (whole_job + length a.held) (1 + length a.held + whole_job) a (omega arith) (room_anywhere a right)
-  within_in a (SeizesNext lock expected) right stands = room_more (whole_job + length a.held) (suc (1 + length a.held + whole_job)) a (omega arith) (room_anywhere a right)
-  within_in a (TestsNext word) right stands = room_more (whole_job + length a.held) (1 + length a.held + whole_job) a (omega arith) (room_anywhere a right)
-  within_in a Turns right stands = omega (arith, ap (length {A = Effect}) stands.effects, few_effects a.job (seen_of a) stands.decision right stands.come)
-  within_in a (Withdraws lock) right stands = omega arith
-  within_in a GivesBack right stands = omega arith
-  within_in a (Operates turn) right stands =
-      omega (arith, ap (length {A = Effect}) stands.effects, length-append stands.made a.effects, few_effects a.job stands.seen stands.decision right stands.come)
+  within_in : (a : AttemptOf O) (phase : Phase Lock ℕ) → O.IsJob a.job → StandsIn O a phase → AreReadWords (read_in phase a.readings) → length (left_in phase a.effects) ≤ effects → WithinIn (1 + length a.held + whole_job) a phase
+  within_in a (Requests lock) right stands read few = room_more (whole_job + length a.held) (1 + length a.held + whole_job) a (omega arith) (room_anywhere a right read)
+  within_in a (SeizesNext lock expected) right stands read few = room_more (whole_job + length a.held) (suc (1 + length a.held + whole_job)) a (omega arith) (room_anywhere a right read)
+  within_in a (TestsNext word) right stands read few = room_more (whole_job + length a.held) (1 + length a.held + whole_job) a (omega arith) (room_anywhere a right read)
+  within_in a Turns right stands read few = (read, omega (arith, ap (length {A = Effect}) stands.effects, few_effects a.job (seen_of a) stands.decision right read stands.come))
+  within_in a (Withdraws lock) right stands read few = omega arith
+  within_in a GivesBack right stands read few = omega arith
+  within_in a (Operates turn) right stands read few = omega (arith, few)
 
-  pub within_anywhere : (a : AttemptOf O) → O.IsJob a.job → Stands O a → IsWithin (1 + length a.held + whole_job) a
-  within_anywhere a right stands = within_in a a.phase right stands
+  -- of few effects few are left
+  left_few : (w : World O) (k number : ℕ) (a : AttemptOf O) (phase : Phase Lock ℕ) → O.IsJob a.job → FitsIn O w k number a phase → length (left_in phase a.effects) ≤ effects
+  left_few w k number a (Requests lock) right fits = omega arith
+  left_few w k number a (SeizesNext lock expected) right fits = omega arith
+  left_few w k number a (TestsNext word) right fits = omega arith
+  left_few w k number a Turns right fits = omega arith
+  left_few w k number a (Withdraws lock) right fits = omega arith
+  left_few w k number a GivesBack right fits = omega arith
+  left_few w k number a (Operates turn) right fits =
+      let decided = fits.decided in
+      omega (arith, ap (length {A = Effect}) decided.effects, length-append decided.made a.effects, run_ends (λ d. length (O.effects_of d) ≤ effects) decided.words (O.script a.job) decided.are_words (bounded.effects a.job right))
+
+  pub within_anywhere : (w : World O) (k number : ℕ) (a : AttemptOf O) → AreWords w.words → IsSound O w k number a → IsWithin (1 + length a.held + whole_job) a
+  within_anywhere w k number a are sound =
+      within_in a a.phase sound.job sound.stands (are_read O w.words a.held (read_in a.phase a.readings) are sound.read) (left_few w k number a a.phase sound.job sound.fits)

@@ -1,4 +1,5 @@
-use Rattle.std.proofs.Common.{◌≡◌, ◌≢◌, ℕ, ◌+◌, ◌%◌, ◌^◌, ◌<◌, ◌≤◌, ◌⊎◌, List, [], ◌∷◌, ◌++◌, length, set, slice_index, slice_set, sym, refl, ap, inl, inr, ◌∙◌, subst, length-set, zero-add}
+use Rattle.std.proofs.Common.{◌≡◌, ◌≢◌, ℕ, ◌+◌, ◌%◌, ◌^◌, ◌<◌, ◌≤◌, ◌⊎◌, List, [], ◌∷◌, ◌++◌, length, set, slice_index, slice_set, sym, refl, ap, inl, inr, ◌∙◌, subst, length-set, zero-add, arith}
+use Rattle.std.proofs.Math.Nat.{mod-lt}
 use Rattle.std.proofs.Math.Seq.{take-append_seam}
 use Rattle.std.specs.Prelude.{Option, Some, None}
 use mathlib.Core.Option.{some}
@@ -6,9 +7,9 @@ use lib.ListN.{get_elem?}
 use Rattle.turns.specs.Among.{IsIn}
 use Rattle.turns.specs.Script.{run}
 use Rattle.turns.specs.Seen.{AreReadFrom}
-use Rattle.turns.specs.System.{System, IsSystem, IsUnder, AreUnder, AreAlike, DecidesAs, perform_all, AreDue}
+use Rattle.turns.specs.System.{System, IsSystem, AreWords, IsUnder, AreUnder, MayMake, AreAlike, DecidesAs, perform_all, AreDue}
 use Rattle.turns.specs.Attempt.{AttemptOf, HasDecided, seen_of}
-use Rattle.turns.specs.World.{World, RecordOf, Does, made, completed, completed_word, after, recorded}
+use Rattle.turns.specs.World.{World, RecordOf, Idle, Does, made, completed, completed_word, after, recorded}
 use Rattle.turns.specs.Law.{IsRecorded, IsSound, Lawful, WasDecided, holder_at, word_at}
 use Rattle.turns.specs.declared.answer.Answer.TheVariants.{Turn as TurnNumber}
 use Rattle.turns.specs.declared.phase.Phase.TheVariants.{Turns}
@@ -18,7 +19,8 @@ use Rattle.turns.proofs.Walks.{walk_run}
 use Rattle.turns.proofs.Completed.{Spares, touch_or_spare, perform_length, perform_index, completed_length, completed_index, due_along, only_one, same_done}
 use Rattle.turns.proofs.Orders.{turn_more, length_more, get_last, get_before, after_more, legal_more}
 use Rattle.turns.proofs.Standing.{stands_change}
-use Rattle.turns.proofs.Sound.{sound_along}
+use Rattle.turns.proofs.Words.{AllFit, completed_below, set_below}
+use Rattle.turns.proofs.Sound.{are_read, left_fit, sound_along}
 use Rattle.turns.proofs.Settings.{all_sound, renewed, shared_on}
 use Rattle.turns.proofs.Quiet.{few_actors}
 use Rattle.turns.proofs.Locking.{no_turn}
@@ -53,11 +55,21 @@ module _ (O : System) (system : IsSystem O) (w : World O) (law : Lawful O w) (k 
     decided : HasDecided O old
     decided = sound.stands
 
+    may : MayMake O held effects
+    may = sound.fits
+
     under : AreUnder O held effects
-    under = sound.fits
+    under = may.under
 
     words_long : length words ≡ O.size
     words_long = completed_length O w.actors 0 w.words ∙ law.size
+
+    all_fit : AllFit O w.actors
+    all_fit j Idle at = λ effect none. absurd none
+    all_fit j (Does i b) at = left_fit O w j i b (law.sound j i b at)
+
+    words_are : AreWords words
+    words_are = completed_below O w.actors 0 w.words all_fit law.are_words
 
     -- what it has read is what the completed words have
     read : AreReadFrom words readings
@@ -71,7 +83,7 @@ module _ (O : System) (system : IsSystem O) (w : World O) (law : Lawful O w) (k 
     run_is = walk_run O.same words (seen_of old) (O.script job) decided.decision read decided.come
 
     decides : DecidesAs O words (whole state job) decided.decision
-    decides = subst (DecidesAs O words (whole state job)) run_is (system.decides job words state sound.job words_long law.shows)
+    decides = subst (DecidesAs O words (whole state job)) run_is (system.decides job words state sound.job words_long words_are law.shows)
 
     abbrev other : List ℕ
     other = slice_set w.words O.turn_word ((found + 1) % 2 ^ 64)
@@ -124,6 +136,7 @@ module _ (O : System) (system : IsSystem O) (w : World O) (law : Lawful O w) (k 
     was_decided r = record {
       words = words;
       size = words_long;
+      are_words = words_are;
       shows = subst (λ (before : List (RecordOf O)). Shows words (after O O.opening before)) (sym (take-append_seam w.order (r ∷ []))) law.shows;
       made = [];
       effects = ap effects_of run_is ∙ sym decided.effects;
@@ -137,9 +150,10 @@ module _ (O : System) (system : IsSystem O) (w : World O) (law : Lawful O w) (k 
       held = λ lock within. let h = sound.held lock within in record { there = h.there; names = holders lock h.there ∙ h.names };
       distinct = sound.distinct;
       read = λ r none. absurd none;
-      stands = stands_change O system old (TurnNumber found) sound.job sound.stands;
+      stands = stands_change O system old (TurnNumber found) sound.job (are_read O w.words held readings law.are_words sound.read) sound.stands;
       fits = record {
         under = under;
+        fit = may.fit;
         due = due_along O system held words other effects words_long other_long under held_same (subst (λ (l : List Effect). AreDue O words l) (sym decided.effects) decides.due);
         recorded = known;
         decided = was;
@@ -157,6 +171,7 @@ module _ (O : System) (system : IsSystem O) (w : World O) (law : Lawful O w) (k 
         record {
           few = subst (λ (l : ℕ). l ≤ O.sharing.most) (sym (length-set w.actors k (Does number new))) law.few;
           size = other_long;
+          are_words = set_below w.words O.turn_word ((found + 1) % 2 ^ 64) law.are_words (mod-lt (found + 1) {m = 2 ^ 64} (omega arith));
           turn =
               index_same w.words O.turn_word ((found + 1) % 2 ^ 64) (subst (λ (l : ℕ). O.turn_word < l) (sym law.size) system.words.turn_there) ∙
               ap (λ (m : ℕ). (m + 1) % 2 ^ 64) law.turn ∙ turn_more (length w.order) ∙ ap (λ (m : ℕ). m % 2 ^ 64) (sym (length_more w.order r));

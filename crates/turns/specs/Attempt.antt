@@ -1,4 +1,4 @@
-use Rattle.std.specs.Prelude.{◌≡◌, ℕ, ◌==◌, Option, Some, None, List, [], ◌∷◌, ◌++◌, Result, Ok, Err, ⊤, if◌then◌else◌}
+use Rattle.std.specs.Prelude.{◌≡◌, ℕ, ◌<◌, ◌^◌, ◌==◌, Option, Some, None, List, [], ◌∷◌, ◌++◌, Result, Ok, Err, ⊤, if◌then◌else◌}
 use Rattle.turns.specs.Seen.{Seen}
 use Rattle.turns.specs.Script.{walk}
 use Rattle.turns.specs.Sharing.{asked}
@@ -143,7 +143,7 @@ told answer judgement.Free = answer
 told answer (judgement.Held holder) = Held holder
 told answer (judgement.Preferred other) = Preferred other
 
--- an answer is of the step's kind
+-- an answer is of the step's kind, and a value that was tested fits a word
 abbrev pub IsAnswerTo : {Lock Effect : Type 0} → Act Lock Effect → Answer → Type 0
 IsAnswerTo (Ask lock) (Asked word) = ⊤
 IsAnswerTo (Ask lock) (Held holder) = ⊤
@@ -152,7 +152,7 @@ IsAnswerTo (Take lock expected) Seized = ⊤
 IsAnswerTo (Take lock expected) (Held holder) = ⊤
 IsAnswerTo (Take lock expected) (Preferred other) = ⊤
 IsAnswerTo (Take lock expected) (Again word) = ⊤
-IsAnswerTo (Look word) (Value value) = ⊤
+IsAnswerTo (Look word) (Value value) = value < 2 ^ 64
 IsAnswerTo Turn (TurnNumber number) = ⊤
 IsAnswerTo (Leave lock) Done = ⊤
 IsAnswerTo (Make effect) Done = ⊤

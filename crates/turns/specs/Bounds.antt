@@ -1,4 +1,4 @@
-use Rattle.std.specs.Prelude.{◌≡◌, ℕ, None, zero, suc, ◌≤◌, List, [], ◌∷◌, length, ⊤}
+use Rattle.std.specs.Prelude.{◌≡◌, ℕ, None, zero, suc, ◌<◌, ◌≤◌, ◌^◌, List, [], ◌∷◌, length, ⊤}
 use Rattle.turns.specs.Script.{Script, Ends, Tests, Seizes, AsksAtMost}
 use Rattle.turns.specs.System.{System}
 use Rattle.turns.specs.Attempt.{AttemptOf, IsAnswerTo, act, change, request_in}
@@ -7,10 +7,10 @@ use Rattle.turns.specs.Runs.{made_by, Steps}
 use Rattle.turns.specs.declared.answer.Answer.{Answer}
 use Rattle.turns.specs.declared.answer.Answer.TheVariants.{Asked, Seized, Held, Preferred, Again, Value, Turn, Done}
 
--- whatever is read, what a script ends with has a property
+-- whatever is read in words of 64 bits, what a script ends with has a property
 unfoldable pub EndsIn : {Lock A : Type 0} → (A → Type 0) → Script Lock A → Type 0
 EndsIn Has (Ends found) = Has found
-EndsIn Has (Tests word script) = (value : ℕ) → EndsIn Has (script value)
+EndsIn Has (Tests word script) = (value : ℕ) → value < 2 ^ 64 → EndsIn Has (script value)
 EndsIn Has (Seizes lock script) = EndsIn Has script
 
 -- an answer that neither puts an attempt off nor has it try again

@@ -4,7 +4,7 @@ use lib.ListN.{get_elem?}
 use Rattle.turns.specs.Among.{IsIn, AreDistinct}
 use Rattle.turns.specs.Script.{run}
 use Rattle.turns.specs.Sharing.{ShowsRequests}
-use Rattle.turns.specs.System.{System, IsUnder, AreUnder, AreDue, effect_on, made_by}
+use Rattle.turns.specs.System.{System, IsUnder, AreUnder, AreDue, effect_on, made_by, AreWords, FitWords, MayMake}
 use Rattle.turns.specs.Attempt.{AttemptOf, Rest, Stands, act, read_in, request_in}
 use Rattle.turns.specs.World.{World, ActorOf, Idle, Does, RecordOf, completed, after}
 use Rattle.turns.specs.declared.judgement.Judgement.TheVariants.{Free}
@@ -42,6 +42,7 @@ module _ (O : System) where
   pub record WasDecided (now : List ℕ) (order : List (RecordOf O)) (place : ℕ) (a : AttemptOf O) : Type 0 where
     pub words : List ℕ
     pub size : length words ≡ O.size
+    pub are_words : AreWords words
     pub shows : Shows words (after O O.opening (take place order))
     pub made : List Effect
     pub effects : effects_of (run words (O.script a.job)) ≡ made ++ a.effects
@@ -49,9 +50,10 @@ module _ (O : System) where
     pub under : (effect : Effect) → IsIn effect a.effects → AreUnder O a.held made
     pub since : (number : ℕ) → IsUnder O a.held number → slice_index now number ≡ made_by effect_word (effect_on O) made number (slice_index words number)
 
-  -- past its turn: the effects that are left are under what is held, each is due, the turn is recorded, and it was decided on the state before it
+  -- past its turn: the effects that are left are under what is held and fit their words, each is due, the turn is recorded, and it was decided on the state before it
   pub record IsOperating (words : List ℕ) (order : List (RecordOf O)) (k number turn : ℕ) (a : AttemptOf O) : Type 0 where
     pub under : AreUnder O a.held a.effects
+    pub fit : FitWords O a.effects
     pub due : AreDue O words a.effects
     pub recorded : IsRecorded order k number turn a
     pub decided : WasDecided words order recorded.place a
@@ -68,7 +70,7 @@ module _ (O : System) where
   FitsIn w k number a (Requests lock) = IsLock lock
   FitsIn w k number a (Seizes lock expected) = IsLock lock × MaySeize k expected
   FitsIn w k number a (Tests word) = IsUnder O a.held word
-  FitsIn w k number a Turns = AreUnder O a.held a.effects
+  FitsIn w k number a Turns = MayMake O a.held a.effects
   FitsIn w k number a (Withdraws lock) = ⊤
   FitsIn w k number a GivesBack = ⊤
   FitsIn w k number a (Operates turn) = IsOperating w.words w.order k number turn a
@@ -122,6 +124,8 @@ module _ (O : System) where
   pub record Lawful (w : World O) : Type 0 where
     pub few : length w.actors ≤ sharing.most
     pub size : length w.words ≡ O.size
+    -- each word has 64 bits
+    pub are_words : AreWords w.words
     pub turn : slice_index w.words O.turn_word ≡ length w.order % 2 ^ 64
     -- the order is legal, and the words, completed, show the state after it
     pub legal : IsLegal 0 O.opening w.order

@@ -1,4 +1,4 @@
-use Rattle.std.specs.Prelude.{ℕ, zero, suc, ◌==◌, Bool, true, false, Option, Some, None, List, Result, Ok, Err, ⊤, find, option_map, slice_index}
+use Rattle.std.specs.Prelude.{ℕ, zero, suc, ◌<◌, ◌^◌, ◌==◌, Bool, true, false, Option, Some, None, List, Result, Ok, Err, ⊤, find, option_map, slice_index}
 use Rattle.std.specs.List.{list_any}
 use Rattle.turns.specs.Seen.{Seen}
 use Rattle.turns.specs.declared.reading.Reading.{Reading}
@@ -77,10 +77,11 @@ first_wanted (Seizes lock script) = Err (Seize lock)
 unfoldable pub walk : {Lock A : Type 0} → (Lock → Lock → Bool) → Seen Lock → Script Lock A → Result A (Wanted Lock ℕ)
 walk same seen script = first_wanted (left same seen script)
 
--- whatever is read, a script has no more tests and no more seizings than these
+-- whatever is read in words of 64 bits, a script has no more tests and no more seizings than these
 unfoldable pub AsksAtMost : {Lock A : Type 0} → ℕ → ℕ → Script Lock A → Type 0
 AsksAtMost tests seizings (Ends found) = ⊤
 AsksAtMost zero seizings (Tests word script) = ⊥
-AsksAtMost (suc tests) seizings (Tests word script) = (value : ℕ) → AsksAtMost tests seizings (script value)
+AsksAtMost (suc tests) seizings (Tests word script) =
+    (value : ℕ) → value < 2 ^ 64 → AsksAtMost tests seizings (script value)
 AsksAtMost tests zero (Seizes lock script) = ⊥
 AsksAtMost tests (suc seizings) (Seizes lock script) = AsksAtMost tests seizings script

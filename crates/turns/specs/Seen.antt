@@ -1,4 +1,4 @@
-use Rattle.std.specs.Prelude.{◌≡◌, ℕ, List, map, slice_index}
+use Rattle.std.specs.Prelude.{◌≡◌, ℕ, ◌<◌, ◌^◌, List, map, slice_index}
 use Rattle.turns.specs.Among.{IsIn}
 use Rattle.turns.specs.declared.reading.Reading.{Reading}
 
@@ -10,6 +10,10 @@ pub record Seen (Lock : Type 0) : Type 0 where
 -- each reading is what its word has
 abbrev pub AreReadFrom : List ℕ → List (Reading ℕ) → Type 0
 AreReadFrom words readings = (r : Reading ℕ) → IsIn r readings → slice_index words r.word ≡ r.value
+
+-- each number that was read fits a word
+abbrev pub AreReadWords : List (Reading ℕ) → Type 0
+AreReadWords readings = (r : Reading ℕ) → IsIn r readings → r.value < 2 ^ 64
 
 -- readings with each word's value as this makes it
 abbrev pub changed_readings : (ℕ → ℕ → ℕ) → List (Reading ℕ) → List (Reading ℕ)

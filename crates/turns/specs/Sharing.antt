@@ -1,4 +1,4 @@
-use Rattle.std.specs.Prelude.{◌≡◌, ◌≢◌, ℕ, suc, ◌<◌, ◌⊎◌, Bool, true, false}
+use Rattle.std.specs.Prelude.{◌≡◌, ◌≢◌, ℕ, suc, ◌<◌, ◌⊎◌, Bool, true, false, ◌^◌, ◌==◌, ◌&&◌, ◌||◌, not}
 use Rattle.turns.specs.Operations.{applied}
 use Rattle.turns.specs.declared.operation.Operation.{Operation}
 use Rattle.turns.specs.declared.judgement.Judgement.{Judgement}
@@ -87,6 +87,8 @@ pub record IsSharing (S : Sharing) : Type 0 where
   -- judgements are true, and an actor that requests alone what nobody holds may go on
   pub judged_true : (k word : ℕ) → k < S.most → S.IsWord word → IsTrueOf S k word (S.judged k word)
   pub alone_free : (k word : ℕ) → k < S.most → S.IsWord word → S.holder word ≡ 0 → ((j : ℕ) → j < S.most → S.requests j word ≡ true → j ≡ k) → S.judged k word ≡ Free
+  -- a lock's word has 64 bits
+  pub word_below : (word : ℕ) → S.IsWord word → word < 2 ^ 64
 
 -- what must hold too where each request is to be seen in the word, from the step that makes it to that which
 -- withdraws it or seizes the lock

@@ -1,6 +1,6 @@
-use Rattle.std.specs.Prelude.{◌≡◌, ◌↔◌, ℕ, ◌<◌, ◌==◌, if◌then◌else◌, Bool, true, List, [], ◌∷◌, ◌++◌, length, fold, slice_index, slice_set, ⊤, Err}
+use Rattle.std.specs.Prelude.{◌≡◌, ◌↔◌, ℕ, ◌<◌, ◌==◌, if◌then◌else◌, Bool, true, List, [], ◌∷◌, ◌++◌, length, fold, slice_index, slice_set, ⊤, Err, ◌^◌, replicate}
 use Rattle.turns.specs.Among.{IsIn}
-use Rattle.turns.specs.Operations.{applied}
+use Rattle.turns.specs.Operations.{applied, FitsWord}
 use Rattle.turns.specs.Script.{Script, Ends, Tests, Seizes, run, first_wanted}
 use Rattle.turns.specs.Sharing.{Sharing, IsSharing, IsUnused}
 use Rattle.turns.specs.declared.operation.Operation.{Operation}
@@ -46,6 +46,10 @@ pub record System : Type 1 where
   -- these words show this state
   pub Shows : List ℕ → State → Type 0
 
+-- each of these numbers fits a word
+abbrev pub AreWords : List ℕ → Type 0
+AreWords words = (n : ℕ) → slice_index words n < 2 ^ 64
+
 -- what effects, one after another, make of the number in a word
 abbrev pub made_by : {Effect : Type 0} → (Effect → ℕ) → (Effect → ℕ → ℕ) → List Effect → ℕ → ℕ → ℕ
 made_by word_of on [] word value = value
@@ -68,15 +72,25 @@ module _ (O : System) where
   abbrev pub AreUnder : List Lock → List Effect → Type 0
   AreUnder held effects = (effect : Effect) → IsIn effect effects → IsUnder held (effect_word effect)
 
-  -- with these locks held, a script tests only words that what is seized by then protects, and its ends fit what is held then
+  -- each effect's operation puts no more than 64 bits into its word
+  abbrev pub FitWords : List Effect → Type 0
+  FitWords effects = (effect : Effect) → IsIn effect effects → FitsWord (O.operation_of effect)
+
+  -- effects that may be made with these locks held: each on a word that some of them protects, in which it leaves 64 bits
+  pub record MayMake (held : List Lock) (effects : List Effect) : Type 0 where
+    pub under : AreUnder held effects
+    pub fit : FitWords effects
+
+  -- with these locks held, a script tests only words that what is seized by then protects, and, whatever is read in words of 64 bits, its ends fit what is held then
   unfoldable pub KeepsTo : {A : Type 0} → (List Lock → A → Type 0) → List Lock → Script Lock A → Type 0
   KeepsTo Fits held (Ends found) = Fits held found
-  KeepsTo Fits held (Tests word script) = IsUnder held word × ((value : ℕ) → KeepsTo Fits held (script value))
+  KeepsTo Fits held (Tests word script) =
+      IsUnder held word × ((value : ℕ) → value < 2 ^ 64 → KeepsTo Fits held (script value))
   KeepsTo Fits held (Seizes lock script) = IsLock lock × KeepsTo Fits (held ++ lock ∷ []) script
 
-  -- a decision has effects on words that some of these locks protects
+  -- a decision has effects that may be made with these locks held
   abbrev pub DecidesUnder : List Lock → Decision → Type 0
-  DecidesUnder held decision = AreUnder held (effects_of decision)
+  DecidesUnder held decision = MayMake held (effects_of decision)
 
   -- the words after an effect, and after effects one after another
   abbrev pub perform : List ℕ → Effect → List ℕ
@@ -114,10 +128,11 @@ module _ (O : System) where
     pub lock_there : (number : ℕ) (lock : Lock) → Protects lock number → IsLock lock
     pub one_protector : (number : ℕ) (a b : Lock) → Protects a number → Protects b number → a ≡ b
 
-  -- what must hold of the words that a system opens on: they show its opening state, nobody holds or requests
-  -- a lock, and no turn was taken
+  -- what must hold of the words that a system opens on: they have 64 bits and show its opening state, nobody
+  -- holds or requests a lock, and no turn was taken
   pub record IsInitial : Type 0 where
     pub initial_length : length O.initial ≡ size
+    pub are_words : AreWords O.initial
     pub shows : O.Shows O.initial O.opening
     pub unused : (lock : Lock) → IsLock lock →
         IsUnused O.sharing (slice_index O.initial (O.lock_word lock))
@@ -131,8 +146,10 @@ module _ (O : System) where
     -- a job seizes its first lock first, and keeps to what it holds
     pub first : (job : Job) → O.IsJob job → first_wanted (O.script job) ≡ Err (Seize (O.first job))
     pub keeps : (job : Job) → O.IsJob job → KeepsTo DecidesUnder [] (O.script job)
-    -- run alone on words that show a state, a job decides as it does whole
-    pub decides : (job : Job) (words : List ℕ) (state : State) → O.IsJob job → length words ≡ size → O.Shows words state → DecidesAs words (O.whole state job) (run words (O.script job))
+    -- run alone on words of 64 bits that show a state, a job decides as it does whole
+    pub decides : (job : Job) (words : List ℕ) (state : State) → O.IsJob job →
+        length words ≡ size → AreWords words → O.Shows words state →
+        DecidesAs words (O.whole state job) (run words (O.script job))
     -- what words show is told by the words under locks
     pub looks : (words other : List ℕ) (state : State) → AreAlike words other → O.Shows words state → O.Shows other state
     pub opens : IsInitial

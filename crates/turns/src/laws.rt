@@ -6,7 +6,7 @@ ghost use Rattle.std.specs.Prelude.{length, slice_get, slice_index};
 ghost use mathlib.Core.Option.{some};
 ghost use lib.ListN.{get_elem?};
 ghost use Rattle.turns.specs.Among.{IsIn};
-ghost use Rattle.turns.specs.Seen.{Seen, AreReadFrom};
+ghost use Rattle.turns.specs.Seen.{Seen, AreReadFrom, AreReadWords};
 ghost use Rattle.turns.specs.Script.{run, walk};
 ghost use Rattle.turns.specs.System.{System, IsSystem, IsUnder};
 ghost use Rattle.turns.specs.Attempt.{AttemptOf, Free, Make, Rest, act, answered, begin, change};
@@ -77,12 +77,15 @@ pub fn the_order_only_grows<F: Family>()
 /// Jobs act at one step: the order of turns is legal, each reply being that of the job done whole
 /// on the state after the jobs before it; the words, once all effects that turned jobs have left
 /// are made, show the state after all of them, and so do the words themselves where no lock is
-/// held, where no actor past its turn has an effect left to make, or where every actor is free.
+/// held, where no actor past its turn has an effect left to make, or where every actor is free. Each
+/// word has 64 bits.
 pub fn jobs_act_at_their_turns<F: Family>()
     ensures legal { (setting : F.Setting) → let O = F.system setting in
         (w : World O) → Lawful O w → IsLegal O 0 O.opening w.order }
     ensures counted { (setting : F.Setting) → let O = F.system setting in
         (w : World O) → Lawful O w → slice_index w.words O.turn_word ≡ length w.order % 2 ^ 64 }
+    ensures words { (setting : F.Setting) → let O = F.system setting in
+        (w : World O) (n : ℕ) → Lawful O w → slice_index w.words n < 2 ^ 64 }
     ensures shows { (setting : F.Setting) → let O = F.system setting in
         (w : World O) → Lawful O w → O.Shows (completed O w) (after O O.opening w.order) }
     ensures free { (setting : F.Setting) → let O = F.system setting in
@@ -182,7 +185,7 @@ pub fn attempts_keep_their_order<F: Family>()
         → a.phase ≡ Phase.Seizes lock expected
         → MaySeize O k expected }
     ensures answers { (setting : F.Setting) → let O = F.system setting in
-        (k : ℕ) (a : AttemptOf O) (found : ℕ) → act a ≢ Rest
+        (k : ℕ) (a : AttemptOf O) (found : ℕ) → act a ≢ Rest → found < 2 ^ 64
         → IsAnswerTo (act a) (answered O k (act a) found) }
     ensures frees { (setting : F.Setting) → let O = F.system setting in
         (a : AttemptOf O) (lock : O.Lock) → act a ≡ Free lock
@@ -206,15 +209,19 @@ pub fn put_off_actors_are_told_by_whom<F: Family>()
         → IsPutOffBy O k (act a) found (Judgement.Preferred other) }
 {}
 
-/// An attempt stands where its job brings it, whatever comes of its steps.
+/// An attempt stands where its job brings it, whatever comes of its steps, as long as each number that it
+/// has read fits a word.
 pub fn attempts_stand_where_their_jobs_bring_them<F: Family>()
     ensures begins { (setting : F.Setting) → let O = F.system setting in
         (job : O.Job) → IsSystem O → O.IsJob job → Stands O (begin O job) }
     ensures changes { (setting : F.Setting) → let O = F.system setting in
-        (a : AttemptOf O) (answer : Answer) → IsSystem O → O.IsJob a.job → Stands O a
+        (a : AttemptOf O) (answer : Answer)
+        → IsSystem O → O.IsJob a.job → AreReadWords (read_in a.phase a.readings) → Stands O a
         → Stands O (change O a answer) }
     ensures restarts { (setting : F.Setting) → let O = F.system setting in
-        (a : AttemptOf O) → IsSystem O → O.IsJob a.job → Stands O a → Stands O (restarted O a) }
+        (a : AttemptOf O)
+        → IsSystem O → O.IsJob a.job → AreReadWords (read_in a.phase a.readings) → Stands O a
+        → Stands O (restarted O a) }
     ensures sound { (setting : F.Setting) → let O = F.system setting in
         (w : World O) (k number : ℕ) (a : AttemptOf O)
         → Lawful O w → get_elem? w.actors k ≡ some (Does number a)

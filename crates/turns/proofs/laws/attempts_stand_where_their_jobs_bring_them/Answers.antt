@@ -5,7 +5,7 @@ pub returns-clause-begins : goal.returns-clause-begins
 returns-clause-begins g c = λ setting job is right. stands_begin (g.F.Family.system setting) is job right
 
 pub returns-clause-changes : goal.returns-clause-changes
-returns-clause-changes g c = λ setting a answer is right stands. stands_change (g.F.Family.system setting) is a answer right stands
+returns-clause-changes g c = λ setting a answer is right read stands. stands_change (g.F.Family.system setting) is a answer right read stands
 
 pub returns-clause-restarts : goal.returns-clause-restarts
-returns-clause-restarts g c = λ setting a is right stands. stands_restarted (g.F.Family.system setting) is a right stands
+returns-clause-restarts g c = λ setting a is right read stands. stands_restarted (g.F.Family.system setting) is a right read stands
