@@ -4,9 +4,9 @@ ghost use Rattle.std.specs.Prelude.{◌≡◌, ◌↔◌, ◌<◌, ◌≤◌, �
 ghost use Rattle.turns.specs.World.{Idle};
 ghost use Rattle.xbar_equip.specs.Word.{word_count};
 ghost use Rattle.xbar_office.specs.Legal.{IsJob};
-ghost use Rattle.xbar_core.specs.AtWork.{IsBackingAt, left_at};
+ghost use Rattle.xbar_core.specs.AtWork.{IsBackingAt};
 ghost use Rattle.xbar_core.specs.Exchange.{IsLawfulExchange, Marker as TheMarker, is_idle as is_idle_work, opened};
-ghost use Rattle.xbar_core.specs.Moves.{assigned, begun_anew, event_at_step, given_at, given_back, refusal, stepped, steps};
+ghost use Rattle.xbar_core.specs.Moves.{assigned, begun_anew, event_at_step, frees_left, given_at, given_back, refusal, stepped, steps};
 ghost use Rattle.xbar_core.specs.Settling.{ended, ended_past_turn, for_each, settled};
 
 use crate::assign_fault::AssignFault;
@@ -186,7 +186,7 @@ impl<'p> Exchange<'p> {
     fn give_up(&mut self, marker: u32)
         requires within { marker < length self.old.exchange.markers }
         requires backs { IsBackingAt (slice_get self.old.exchange.markers marker) }
-        ensures { self.new ≡ record self.old { exchange = steps self.old.plan marker (left_at (slice_get self.old.exchange.markers marker)) self.old.exchange } }
+        ensures { self.new ≡ record self.old { exchange = steps self.old.plan marker (frees_left self.old.exchange marker) self.old.exchange } }
     {
         while self.marker(marker).is_giving_up() {
             let _moved = self.step(marker);
@@ -197,7 +197,7 @@ impl<'p> Exchange<'p> {
     pub fn give_back(&mut self, marker: u32) -> Given
         requires { marker < length self.old.exchange.markers }
         ensures back { self.new ≡ record self.old { exchange = given_back self.old.plan marker self.old.exchange } }
-        ensures given { result ≡ given_at (slice_get self.old.exchange.markers marker) }
+        ensures given { result ≡ given_at self.old.exchange marker }
     {
         let given = self.marker(marker).given();
         if let Given::Given = given {

@@ -105,7 +105,7 @@ pub fn turned_jobs_are_recorded()
 /// standing. Whether it does or not, it still has its job, under its number, and no record, no other marker
 /// and no protected word changes.
 pub fn giving_back_frees_all()
-    ensures free { (plan : Tables) (e : Exchange) (k : ℕ) (conn : Conn) → given_at (slice_get e.markers k) ≡ Given.Given → (¬ Holds (given_back plan k e) k conn) × (¬ HasRequested (given_back plan k e) k conn) }
+    ensures free { (plan : Tables) (e : Exchange) (k : ℕ) (conn : Conn) → given_at e k ≡ Given.Given → (¬ Holds (given_back plan k e) k conn) × (¬ HasRequested (given_back plan k e) k conn) }
     ensures job { (plan : Tables) (e : Exchange) (k number : ℕ) (a : Attempt) → IsAt e k number a → (b : Attempt) × IsAt (given_back plan k e) k number b × (b.job ≡ a.job) }
     ensures records { (plan : Tables) (e : Exchange) (k : ℕ) → (given_back plan k e).records ≡ e.records }
     ensures others { (plan : Tables) (e : Exchange) (k j : ℕ) → j ≢ k → slice_get (given_back plan k e).markers j ≡ slice_get e.markers j }

@@ -1,14 +1,15 @@
-ghost use Rattle.std.specs.Prelude.{◌≡◌, ◌+◌, ◌<◌, ◌≤◌, ◌++◌, false, is_some, length, option_to_list, vec_capacity};
-ghost use Rattle.turns.specs.Attempt.{act, change, restarted};
+ghost use Rattle.std.specs.Prelude.{◌≡◌, ◌+◌, ◌<◌, ◌≤◌, ◌++◌, ℕ, false, is_some, length, option_to_list, vec_capacity};
+ghost use Rattle.turns.specs.Attempt.{act, change, restarted, turn_in};
 ghost use Rattle.turns.specs.Runs.{is_rest};
+ghost use Rattle.turns.specs.declared.phase.Phase.{Phase};
 ghost use Rattle.xbar_equip.specs.Word.{word_count};
 ghost use Rattle.xbar_office.specs.Legal.{IsJob};
 ghost use Rattle.xbar_plan.specs.Tables.{Tables};
-ghost use Rattle.xbar_jobs.specs.Attempt.{Attempt, counted, fresh, next_step, turn_in, with_count};
+ghost use Rattle.xbar_jobs.specs.Attempt.{Attempt, counted, fresh, next_step, with_count};
 ghost use Rattle.xbar_jobs.specs.Office.{office};
 ghost use Rattle.xbar_jobs.specs.OnWords.{made};
 ghost use Rattle.xbar_jobs.specs.Standing.{Stands};
-ghost use Rattle.xbar_core.specs.AtWork.{conn_asked, entered, gives_up, told_of};
+ghost use Rattle.xbar_core.specs.AtWork.{conn_asked, gives_up, told_of};
 ghost use Rattle.xbar_core.specs.Moves.{event_of, own_record, recorded, refused_by};
 ghost use Rattle.xbar_core.specs.Standing.{waits_in};
 
@@ -29,11 +30,9 @@ fn refused(step: Step, holder: u32) -> Event
     ensures { result ≡ refused_by holder (conn_asked step) }
 {
     match step {
-        Step::Request(conn) | Step::Seize(conn, _) | Step::Withdraw(conn) => Event::Refused {
-            conn,
-            holder,
-        },
-        Step::Test(_)
+        Step::Request(conn) | Step::Seize(conn, _) => Event::Refused { conn, holder },
+        Step::Withdraw(_)
+        | Step::Test(_)
         | Step::Turn
         | Step::Close(_, _)
         | Step::Open(_, _)
@@ -93,7 +92,7 @@ impl Work {
 
     /// The job's record, once it has turned.
     fn record(&self, marker: u32) -> Option<Record>
-        ensures { option_to_list result ≡ own_record marker self.now.job_no self.now.program.attempt.phase self.now.program.attempt }
+        ensures { option_to_list result ≡ own_record marker self.now.job_no self.now.program.attempt }
     {
         let turn = self.program.turn()?;
         let reply = self.program.reply()?;
@@ -106,10 +105,15 @@ impl Work {
         })
     }
 
-    /// Adds the record of the turn, if that is what was made.
+    /// Adds the record of the turn, if that is what was made. A turn that was taken has this number.
     fn enter(&self, marker: u32, answer: Answer, records: &mut Vec<Record>)
-        requires { length records.old.items + length (entered answer (own_record marker self.now.job_no self.now.program.attempt.phase self.now.program.attempt)) ≤ vec_capacity records.old }
-        ensures records { records.new.items ≡ records.old.items ++ entered answer (own_record marker self.now.job_no self.now.program.attempt.phase self.now.program.attempt) }
+        requires turned { (turn : ℕ) → answer ≡ Answer.Turn turn
+            → self.now.program.attempt.phase ≡ Phase.Operates turn }
+        requires room { length records.old.items
+            + length (recorded marker self.now.job_no self.now.program.attempt answer)
+            ≤ vec_capacity records.old }
+        ensures records { records.new.items
+            ≡ records.old.items ++ recorded marker self.now.job_no self.now.program.attempt answer }
         ensures room { vec_capacity records.old ≤ vec_capacity records.new }
     {
         if let Answer::Turn(_) = answer {
