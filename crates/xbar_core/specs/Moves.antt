@@ -43,15 +43,16 @@ assigned k number job e =
 abbrev pub record_of : ℕ → ℕ → ℕ → Attempt → List Record
 record_of turn k number a =
     option_to_list (option_map
-    (λ reply. record { turn = turn; marker = k; job_no = number; job = a.job; reply = reply }) a.reply)
+    (λ reply. record { turn = turn; marker = k; job_no = number; job = a.job; reply = reply })
+    a.reply)
 
 -- the record that an answer adds: none but by a turn
 abbrev pub recorded : ℕ → ℕ → Attempt → Answer → List Record
 recorded k number a (answer.Turn turn) = record_of turn k number a
 recorded k number a _ = []
 
--- marker k made the next step of its attempt, which was answered so: its word is what the step makes
--- of it, the attempt goes on by the answer, and a turn adds its record
+-- marker k made the next step of its attempt, which was answered so: its word is what the step
+-- makes of it, the attempt goes on by the answer, and a turn adds its record
 abbrev pub answered : Tables → ℕ → Marker → ℕ → Attempt → Answer → Exchange → Exchange
 answered plan k m number a told e = record {
   words = made k (next_step a) e.words;
@@ -63,7 +64,8 @@ answered plan k m number a told e = record {
 unfoldable pub stepped : Tables → ℕ → Exchange → Exchange
 stepped plan k e =
     at_marker e (λ m. on_job e (λ number a.
-    if is_rest (act a) then e else answered plan k m number a (answer_of k (next_step a) e.words) e) m.work)
+    if is_rest (act a) then e
+    else answered plan k m number a (answer_of k (next_step a) e.words) e) m.work)
     (slice_get e.markers k)
 
 -- so many steps of it
@@ -117,8 +119,8 @@ event_at_step plan k e =
 abbrev pub work_anew : Tables → Work → Work
 work_anew plan work = on_job Idle (λ number a. Does number (restarted (office plan) a)) work
 
--- marker k is to begin its job anew, unless it is past its turn: its next steps give back what it
--- holds. No word changes
+-- marker k is to begin its job anew, unless it is past its turn: its next steps give back what
+-- it holds. No word changes
 abbrev pub begun_anew : Tables → ℕ → Exchange → Exchange
 begun_anew plan k e =
     at_marker e (λ m. with_work k m (work_anew plan m.work) e) (slice_get e.markers k)
@@ -139,14 +141,15 @@ abbrev pub request_count : Option Conn → ℕ
 request_count None = 0
 request_count (Some conn) = 1
 
--- how many steps marker k has to make until it holds nothing: one to withdraw a request that stands,
--- one for each connector that it holds
+-- how many steps marker k has to make until it holds nothing: one to withdraw a request that
+-- stands, one for each connector that it holds
 abbrev pub frees_left : Exchange → ℕ → ℕ
 frees_left e k =
-    at_marker 0 (λ m. on_job 0 (λ number a. request_count (request_in a.phase) + length a.held) m.work)
+    at_marker 0 (λ m. on_job 0
+    (λ number a. request_count (request_in a.phase) + length a.held) m.work)
     (slice_get e.markers k)
 
--- a marker that gives back begins its job anew
+-- the office after a give back, or as it was before where the marker doesn't give back
 abbrev pub backed_as : Given → Exchange → Exchange → Exchange
 backed_as given.Given after before = after
 backed_as given.PastTurn after before = before
