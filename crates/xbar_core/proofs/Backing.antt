@@ -12,10 +12,10 @@ use Rattle.xbar_plan.specs.Tables.{Tables}
 use Rattle.xbar_jobs.specs.Attempt.{Act, Attempt, Phase, next_step, step_of}
 use Rattle.xbar_jobs.specs.Office.{office}
 use Rattle.xbar_jobs.specs.declared.effect.Effect.{Effect}
-use Rattle.xbar_core.specs.AtWork.{told_of, IsBackingAt, IsBackingBy, IsBackingIn, gives_up, gives_up_at}
-use Rattle.xbar_core.specs.Exchange.{Exchange, Marker, OfPlan, Work, at_marker}
+use Rattle.xbar_core.specs.AtWork.{told_of, IsBackingAt, IsBackingBy, IsBackingIn, gives_up, gives_up_at, is_turned}
+use Rattle.xbar_core.specs.Exchange.{Exchange, Marker, OfPlan, Work, at_marker, is_idle}
 use Rattle.xbar_core.specs.Holding.{IsAt}
-use Rattle.xbar_core.specs.Moves.{backed_as, begun_anew, frees_left, given_at, given_back, request_count, stepped, steps, with_work, work_anew}
+use Rattle.xbar_core.specs.Moves.{backed_as, begun_anew, frees_left, given_at, given_back, given_by, request_count, stepped, steps, with_work, work_anew}
 use Rattle.xbar_core.specs.declared.given.Given.{Given}
 use Rattle.xbar_core.specs.declared.given.Given.TheVariants as given
 use Rattle.xbar_core.proofs.Jobs.{at_job_has, at_job_is, set_at, work_at}
@@ -30,6 +30,16 @@ left_in a = request_count (request_in a.phase) + length a.held
 abbrev IsOneLess : Attempt → ℕ → Type 0
 IsOneLess b before = IsBackingIn b b.phase × (suc (left_in b) ≡ before)
 
+-- an attempt on its way back is in one of three phases
+pub by_backing : (Has : Phase → Type 0) (a : Attempt) → ((conn : Conn) → Has (Withdraws conn)) → (¬ (a.held ≡ []) → Has GivesBack) → ((conn : Conn) → a.held ≡ [] → Has (Requests conn)) → (phase : Phase) → IsBackingIn a phase → Has phase
+by_backing Has a withdraws gives requests (Withdraws conn) backs = withdraws conn
+by_backing Has a withdraws gives requests GivesBack backs = gives backs
+by_backing Has a withdraws gives requests (Requests conn) backs = requests conn backs
+by_backing Has a withdraws gives requests (Seizes conn expected) backs = absurd backs
+by_backing Has a withdraws gives requests (Tests word) backs = absurd backs
+by_backing Has a withdraws gives requests Turns backs = absurd backs
+by_backing Has a withdraws gives requests (Operates turn) backs = absurd backs
+
 module _ (plan : Tables) where
   freed_less : (a : Attempt) (held : List Conn) → IsOneLess (freed (office plan) a held) (suc (length held))
   freed_less a [] = (refl, refl)
@@ -39,14 +49,14 @@ module _ (plan : Tables) where
   given_less k found a [] at not = absurd (not refl)
   given_less k found a (conn ∷ held) at not = subst (λ (all : List Conn). IsOneLess (freed (office plan) a (rest_of all)) (suc (length held))) (sym at) (freed_less a held)
 
-  less_in : (k found : ℕ) (a : Attempt) (phase : Phase) → IsBackingIn a phase → gives_up (step_of (act_in phase a)) ≡ true → IsOneLess (changed (office plan) a phase (generic.answered (office plan) k (act_in phase a) found)) (request_count (request_in phase) + length a.held)
-  less_in k found a (Withdraws conn) backs goes = let less = freed_less a a.held in (less.0, omega (arith, less.1))
-  less_in k found a GivesBack backs goes = let less = given_less k found a a.held refl backs in (less.0, omega (arith, less.1))
-  less_in k found a (Requests conn) backs goes = absurd cc
-  less_in k found a (Seizes conn expected) backs goes = absurd backs
-  less_in k found a (Tests word) backs goes = absurd backs
-  less_in k found a Turns backs goes = absurd backs
-  less_in k found a (Operates turn) backs goes = absurd backs
+  abbrev Lessens : ℕ → ℕ → Attempt → Phase → Type 0
+  Lessens k found a phase = gives_up (step_of (act_in phase a)) ≡ true → IsOneLess (changed (office plan) a phase (generic.answered (office plan) k (act_in phase a) found)) (request_count (request_in phase) + length a.held)
+
+  less_in : (k found : ℕ) (a : Attempt) (phase : Phase) → IsBackingIn a phase → Lessens k found a phase
+  less_in k found a = by_backing (Lessens k found a) a
+      (λ conn goes. let less = freed_less a a.held in (less.0, omega (arith, less.1)))
+      (λ more goes. let less = given_less k found a a.held refl more in (less.0, omega (arith, less.1)))
+      (λ conn none goes. absurd cc)
 
   -- with each step there is one thing less to give up
   pub one_less : (k : ℕ) (words : List ℕ) (a : Attempt) → IsBackingIn a a.phase → gives_up (next_step a) ≡ true → IsOneLess (change (office plan) a (told_of k words a)) (left_in a)
@@ -69,13 +79,10 @@ none_freed [] not e = not refl
 none_freed (conn ∷ held) not e = cc
 
 none_left_in : (a : Attempt) (phase : Phase) → IsBackingIn a phase → gives_up (step_of (act_in phase a)) ≡ false → request_count (request_in phase) + length a.held ≡ 0
-none_left_in a (Withdraws conn) backs rests = absurd cc
-none_left_in a GivesBack backs rests = absurd (none_freed a.held backs rests)
-none_left_in a (Requests conn) backs rests = let none = ap (length {A = Conn}) backs in omega (arith, none)
-none_left_in a (Seizes conn expected) backs rests = absurd backs
-none_left_in a (Tests word) backs rests = absurd backs
-none_left_in a Turns backs rests = absurd backs
-none_left_in a (Operates turn) backs rests = absurd backs
+none_left_in a = by_backing (λ phase. gives_up (step_of (act_in phase a)) ≡ false → request_count (request_in phase) + length a.held ≡ 0) a
+    (λ conn rests. absurd cc)
+    (λ more rests. absurd (none_freed a.held more rests))
+    (λ conn none rests. let size = ap (length {A = Conn}) none in omega (arith, size))
 
 -- marker k is at an attempt on its way back
 pub record IsBacking (e : Exchange) (k : ℕ) : Type 0 where
@@ -187,27 +194,31 @@ module _ (plan : Tables) where
   anew_in a GivesBack at goes is = (subst (IsBackingIn a) (sym at) (stays_back a.held goes), ap (λ (phase : Phase). request_count (request_in phase) + length a.held) at)
   anew_in a (Operates turn) at goes is = absurd cc
 
+-- what a marker answers that is asked to give back
+abbrev pub Answers : Work → Given → Type 0
+Answers work given.Given = (is_idle work ≡ false) × (is_turned work ≡ false)
+Answers work given.PastTurn = (is_idle work ≡ false) × (is_turned work ≡ true)
+Answers work given.Idle = is_idle work ≡ true
+
+pub answers : (work : Work) → Answers work (given_by work)
+answers Idle = refl
+answers (Does n a) = by (is_rest (act a)) (is_some (turn_in a.phase)) refl refl where
+  by : (idle past : Bool) → is_rest (act a) ≡ idle → is_some (turn_in a.phase) ≡ past → Answers (Does n a) (if idle then given.Idle else (if past then given.PastTurn else given.Given))
+  by true past rests is = rests
+  by false true goes is = (goes, is)
+  by false false goes is = (goes, is)
+
 -- marker k gives back: something is left of its job, whose turn is still to come
 record Gives (e : Exchange) (k : ℕ) : Type 0 where
   pub number : ℕ
   pub attempt : Attempt
   pub at : IsAt e k number attempt
-  pub goes : is_rest (act attempt) ≡ false
-  pub waits : is_some (turn_in attempt.phase) ≡ false
+  pub told : Answers (Does number attempt) given.Given
 
 module _ (plan : Tables) (e : Exchange) (k : ℕ) where
   gives : given_at e k ≡ given.Given → Gives e k
-  gives = at_job_has Has given.Idle (λ m n a. given_if (is_rest (act a)) (is_some (turn_in a.phase))) e k (λ is. absurd cc) (λ n a at. by n a at (is_rest (act a)) (is_some (turn_in a.phase)) refl refl) where
-    Has : Given → Type 0
-    Has what = what ≡ given.Given → Gives e k
-
-    given_if : Bool → Bool → Given
-    given_if idle past = if idle then given.Idle else (if past then given.PastTurn else given.Given)
-
-    by : (n : ℕ) (a : Attempt) → IsAt e k n a → (idle past : Bool) → is_rest (act a) ≡ idle → is_some (turn_in a.phase) ≡ past → Has (given_if idle past)
-    by n a at true past rests is gives = absurd cc
-    by n a at false true goes is gives = absurd cc
-    by n a at false false goes is gives = record { number = n; attempt = a; at = at; goes = goes; waits = is }
+  gives = at_job_has (λ what. what ≡ given.Given → Gives e k) given.Idle (λ m n a. given_by (Does n a)) e k (λ is. absurd cc)
+      (λ n a at is. record { number = n; attempt = a; at = at; told = subst (Answers (Does n a)) is (answers (Does n a)) })
 
   pub begun_is : (m : Marker) → slice_get e.markers k ≡ Some m → begun_anew plan k e ≡ with_work k m (work_anew plan m.work) e
   begun_is m there = ap (at_marker e (λ o. with_work k o (work_anew plan o.work) e)) there
@@ -220,7 +231,7 @@ module _ (plan : Tables) (e : Exchange) (k : ℕ) where
       let b = restarted (office plan) has.attempt in
       let begun = begun_is m has.at.there ∙ ap (λ (work : Work). with_work k m (work_anew plan work) e) has.at.work in
       let now = subst (λ (x : Exchange). IsAt x k has.number b) (sym begun) (set_at e k has.number m b has.at.there) in
-      let back = anew_in plan has.attempt has.attempt.phase refl has.goes has.waits in
+      let back = anew_in plan has.attempt has.attempt.phase refl has.told.0 has.told.1 in
       (backing_at _ k has.number b now back.0, left_is _ k has.number b now ∙ back.1 ∙ sym (left_is e k has.number has.attempt has.at))
 
   pub back_goes : given_at e k ≡ given.Given → given_back plan k e ≡ steps plan k (frees_left e k) (begun_anew plan k e)

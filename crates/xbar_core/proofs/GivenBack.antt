@@ -23,7 +23,7 @@ use Rattle.xbar_core.specs.Holding.{Holds, HasRequested, IsAt}
 use Rattle.xbar_core.specs.Moves.{answered, backed_as, begun_anew, frees_left, given_at, given_back, recorded, request_count, stepped, steps}
 use Rattle.xbar_core.specs.declared.given.Given.{Given}
 use Rattle.xbar_core.specs.declared.given.Given.TheVariants as given
-use Rattle.xbar_core.proofs.Backing.{anew, back_goes, backing, left_is}
+use Rattle.xbar_core.proofs.Backing.{anew, back_goes, backing, by_backing, left_is}
 use Rattle.xbar_core.proofs.Keeping.{KeepsRestarts, back_keeps, begun_keeps}
 use Rattle.xbar_core.proofs.Jobs.{one_job, set_at}
 use Rattle.xbar_core.proofs.Markers.{marker_else}
@@ -135,13 +135,7 @@ module _ (plan : Tables) where
 
   -- it adds no record
   adds_none : (k n found : ℕ) (a : Attempt) (phase : Phase) → IsBackingIn a phase → added_in (office plan) k n a phase found ≡ []
-  adds_none k n found a (Requests conn) backs = refl
-  adds_none k n found a (Withdraws conn) backs = refl
-  adds_none k n found a GivesBack backs = refl
-  adds_none k n found a (Seizes conn expected) backs = absurd backs
-  adds_none k n found a (Tests word) backs = absurd backs
-  adds_none k n found a Turns backs = absurd backs
-  adds_none k n found a (Operates turn) backs = absurd backs
+  adds_none k n found a = by_backing (λ phase. added_in (office plan) k n a phase found ≡ []) a (λ conn. refl) (λ more. refl) (λ conn none. refl)
 
   no_records : (records : List Record) → map turned records ≡ [] → records ≡ []
   no_records [] none = refl
@@ -164,13 +158,7 @@ module _ (plan : Tables) where
   free_behind (conn ∷ held) = conn_behind conn
 
   back_behind : (a : Attempt) (phase : Phase) → IsBackingIn a phase → 416 ≤ place (office plan) (act_in phase a)
-  back_behind a (Requests conn) backs = conn_behind conn
-  back_behind a (Withdraws conn) backs = conn_behind conn
-  back_behind a GivesBack backs = free_behind a.held
-  back_behind a (Seizes conn expected) backs = absurd backs
-  back_behind a (Tests word) backs = absurd backs
-  back_behind a Turns backs = absurd backs
-  back_behind a (Operates turn) backs = absurd backs
+  back_behind a = by_backing (λ phase. 416 ≤ place (office plan) (act_in phase a)) a conn_behind (λ more. free_behind a.held) (λ conn none. conn_behind conn)
 
   module _ (e : Exchange) (k : ℕ) where
     -- so a marker that gives back adds no record

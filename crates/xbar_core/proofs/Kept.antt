@@ -1,10 +1,10 @@
 -- what every office keeps that markers drive: it is lawful, its attempts stand where their jobs bring them, and there is room for the records to come
 use Rattle.std.proofs.Common.{◌≡◌, ◌≢◌, ℕ, zero, suc, ◌+◌, ◌<◌, ◌≤◌, ◌⊎◌, List, [], ◌∷◌, length, length-append, length-set, inl, inr, refl, sym, ◌∙◌, ap, subst, arith}
-use Rattle.std.specs.Prelude.{Option, Some, None, slice_get, slice_set}
+use Rattle.std.specs.Prelude.{Option, Some, None, is_some, if◌then◌else◌, slice_get, slice_set}
 use Rattle.std.proofs.lemmas.List.{length-map}
 use Rattle.std.proofs.lemmas.Option.{none-some, same_Some, slice_get_within}
 use Rattle.turns.specs.Attempt as generic
-use Rattle.turns.specs.Attempt.{Ask, Take, act, act_in, begin_with, change, changed, closing_act, forgotten, free_act, freed, operated, restarted_in}
+use Rattle.turns.specs.Attempt.{Ask, Take, act, act_in, begin_with, change, changed, closing_act, free_act, operated, restarted, restarted_in, turn_in}
 use Rattle.turns.specs.World as worlds
 use Rattle.turns.specs.World.{Idle, Does, added_in}
 use Rattle.turns.specs.declared.answer.Answer.{Answer}
@@ -30,6 +30,7 @@ use Rattle.xbar_core.specs.Moves.{recorded, refusal, stepped, with_work, work_an
 use Rattle.xbar_core.specs.Standing.{HasRoom, IsExchange, StandsAt, waiting, waits, waits_in}
 use Rattle.xbar_core.specs.declared.kind.Kind.{Kind}
 use Rattle.xbar_core.proofs.Actors.{actor_at}
+use Rattle.xbar_core.proofs.Jobs.{past_turn}
 use Rattle.xbar_core.proofs.Markers.{marker_else, marker_set, waiting_most, waiting_set, waits_most}
 use Rattle.xbar_core.proofs.Keeping.{KeepsRestarts, anew_keeps}
 use Rattle.xbar_core.proofs.StepCases.{step_cases}
@@ -129,21 +130,16 @@ module _ (plan : Tables) where
   ]
 
   -- and so does a marker that begins its job anew
-  freed_waits : (a : Attempt) (held : List Conn) → waits_in (freed (office plan) a held).phase ≤ 1
-  freed_waits a held = waits_most (freed (office plan) a held).phase
-
-  anew_waits_in : (a : Attempt) (phase : Phase) → a.phase ≡ phase → waits_in (restarted_in (office plan) phase a).phase ≤ waits_in phase
-  anew_waits_in a (Requests conn) at = freed_waits (forgotten a) a.held
-  anew_waits_in a (Seizes conn expected) at = omega arith
-  anew_waits_in a (Tests word) at = freed_waits (forgotten a) a.held
-  anew_waits_in a Turns at = freed_waits (forgotten a) a.held
-  anew_waits_in a (Withdraws conn) at = waits_most a.phase
-  anew_waits_in a GivesBack at = waits_most a.phase
-  anew_waits_in a (Operates turn) at = let same = ap waits_in at in omega (arith, same)
+  anew_at : (a : Attempt) (turned : Option ℕ) → turn_in a.phase ≡ turned → waits_in (restarted (office plan) a).phase ≤ waits_in a.phase
+  anew_at a None is =
+      let most = waits_most (restarted (office plan) a).phase in
+      let one : waits_in a.phase ≡ 1 = ap (λ (turned : Option ℕ). if is_some turned then 0 else 1) is in
+      omega (arith, most, one)
+  anew_at a (Some turn) is = let same = ap (λ (phase : Phase). waits_in (restarted_in (office plan) phase a).phase) (past_turn a.phase turn is) in omega (arith, same)
 
   anew_waits : (work : Work) → waits (work_anew plan work) ≤ waits work
   anew_waits Idle = omega arith
-  anew_waits (Does n a) = anew_waits_in a a.phase refl
+  anew_waits (Does n a) = anew_at a (turn_in a.phase) refl
 
   pub room_anew : (e : Exchange) (k room : ℕ) (m : Marker) → slice_get e.markers k ≡ Some m → HasRoom e room → HasRoom (with_work k m (work_anew plan m.work) e) room
   room_anew e k room m there fits =

@@ -4,11 +4,9 @@ use Rattle.std.specs.Prelude.{Option, Some, None, is_some, ⊤, if◌then◌else
 use Rattle.std.proofs.lemmas.Option.{none-some, same_Some, slice_get_within}
 use mathlib.Core.Option.{some}
 use lib.ListN.{get_elem?}
-use Rattle.turns.specs.Attempt.{act, request_in, turn_in}
+use Rattle.turns.specs.Attempt.{request_in, turn_in}
 use Rattle.turns.specs.Bounds.{IsAside}
-use Rattle.turns.specs.Runs.{is_rest}
 use Rattle.turns.specs.World.{ActorOf, Idle, Does}
-use Rattle.turns.specs.declared.phase.Phase.TheVariants.{Requests, Seizes, Tests, Turns, Withdraws, GivesBack, Operates}
 use Rattle.turns.proofs.Lists.{one_or_two}
 use Rattle.turns.proofs.Moving.{rest_bare}
 use Rattle.xbar_equip.specs.declared.conn.Conn.{Conn}
@@ -26,7 +24,7 @@ use Rattle.xbar_core.specs.declared.given.Given.{Given}
 use Rattle.xbar_core.specs.declared.given.Given.TheVariants as given
 use Rattle.xbar_core.proofs.Jobs.{past_turn, work_at}
 use Rattle.xbar_core.proofs.Markers.{marker_else, marker_there, none_within}
-use Rattle.xbar_core.proofs.Backing.{GaveUp, IsBacking, anew, backing, gave_up, left_is, none_left}
+use Rattle.xbar_core.proofs.Backing.{Answers, GaveUp, IsBacking, anew, answers, backing, by_backing, gave_up, left_is, none_left}
 use Rattle.xbar_core.proofs.Ending.{IsIdleAt, alone_idle, past_ends, past_few, stays_idle}
 use Rattle.xbar_core.proofs.Keeping.{KeepsRestarts, KeepsSteps, back_keeps, for_each_keeps, past_turn_keeps, steps_keep}
 use Rattle.xbar_core.proofs.Kept.{kept_restarted, kept_stepped}
@@ -62,20 +60,6 @@ idle_not_past work idle past = idle
 not_turned : (work : Work) → is_turned work ≡ false → NotPast work
 not_turned work waits past = let both = sym waits ∙ past in absurd cc
 
--- what a marker answers when it is asked to give back
-abbrev Answers : Work → Given → Type 0
-Answers work given.Given = ⊤
-Answers work given.PastTurn = ¬ NotPast work
-Answers work given.Idle = is_idle work ≡ true
-
-answers : (work : Work) → Answers work (given_by work)
-answers Idle = refl
-answers (Does n a) = by (is_rest (act a)) (is_some (turn_in a.phase)) refl refl where
-  by : (idle past : Bool) → is_rest (act a) ≡ idle → is_some (turn_in a.phase) ≡ past → Answers (Does n a) (if idle then given.Idle else (if past then given.PastTurn else given.Given))
-  by true past rests is = rests
-  by false true goes is = λ not_past. let both = sym goes ∙ not_past is in cc
-  by false false goes is = tt
-
 module _ (plan : Tables) where
   -- an idle marker is out of the way of the others
   idle_aside : (work : Work) → is_idle work ≡ true → IsAside (office plan) work
@@ -83,17 +67,14 @@ module _ (plan : Tables) where
   idle_aside (Does n a) idle = let bare = rest_bare (office plan) a.phase a.job a.readings a.held a.reply a.effects (idle_free plan (Does n a) idle) in (bare.1, bare.2)
 
   -- a marker that was to begin its job anew, and has given up everything, is there
-  there_in : (n : ℕ) (a : Attempt) (phase : Phase) → a.phase ≡ phase → IsBackingIn a phase → request_count (request_in phase) + length a.held ≡ 0 → IsAside (office plan) (Does n a) × NotPast (Does n a)
-  there_in n a (Requests conn) at backs none = ((backs, ap request_in at), not_turned (Does n a) (ap (λ (phase : Phase). is_some (turn_in phase)) at))
-  there_in n a (Withdraws conn) at backs none = absurd (omega (arith, none))
-  there_in n a GivesBack at backs none = absurd (backs (no_more a.held (omega (arith, none)))) where
-    no_more : (held : List Conn) → length held ≡ 0 → held ≡ []
-    no_more [] e = refl
-    no_more (conn ∷ held) e = absurd (omega arith)
-  there_in n a (Seizes conn expected) at backs none = absurd backs
-  there_in n a (Tests word) at backs none = absurd backs
-  there_in n a Turns at backs none = absurd backs
-  there_in n a (Operates turn) at backs none = absurd backs
+  there_in : (n : ℕ) (a : Attempt) (phase : Phase) → IsBackingIn a phase → a.phase ≡ phase → request_count (request_in phase) + length a.held ≡ 0 → IsAside (office plan) (Does n a) × NotPast (Does n a)
+  there_in n a = by_backing (λ phase. a.phase ≡ phase → request_count (request_in phase) + length a.held ≡ 0 → IsAside (office plan) (Does n a) × NotPast (Does n a)) a
+      (λ conn at none. absurd (omega (arith, none)))
+      (λ more at none. absurd (more (no_more a.held (omega (arith, none)))))
+      (λ conn bare at none. ((bare, ap request_in at), not_turned (Does n a) (ap (λ (phase : Phase). is_some (turn_in phase)) at))) where
+        no_more : (held : List Conn) → length held ≡ 0 → held ≡ []
+        no_more [] e = refl
+        no_more (conn ∷ held) e = absurd (omega arith)
 
   -- with something left, a step gives up one thing
   pub gives_one : (k : ℕ) (e : Exchange) → IsBackingAt (slice_get e.markers k) → (count : ℕ) → frees_left e k ≡ suc count → GaveUp (stepped plan k e) k (frees_left e k)
@@ -112,7 +93,7 @@ module _ (plan : Tables) where
       let back = backing e k backs in
       let a = back.attempt in
       subst (λ (work : Work). IsAside (office plan) work × NotPast work) (sym (work_at e k back.number a m back.at there))
-      (there_in back.number a a.phase refl back.backs (sym (left_is e k back.number a back.at) ∙ left))
+      (there_in back.number a a.phase back.backs refl (sym (left_is e k back.number a back.at) ∙ left))
   gives_all (suc count) k e m backs left there =
       let less = gives_one k e backs count left in
       gives_all count k (stepped plan k e) m less.backs (omega (arith, less.one, left)) there
@@ -126,7 +107,7 @@ module _ (plan : Tables) where
 
     by : (what : Given) → given_at e k ≡ what → slice_get (backed_as what (steps plan k (frees_left e k) (begun_anew plan k e)) e).markers k ≡ Some m → IsAside (office plan) m.work × NotPast m.work
     by given.Given is after = let now = anew plan e k is in gives_all (frees_left e k) k (begun_anew plan k e) m now.0 now.1 after
-    by given.PastTurn is there = absurd (answered given.PastTurn is there (none k m there))
+    by given.PastTurn is there = let past = answered given.PastTurn is there in absurd (let both = sym past.0 ∙ none k m there past.1 in cc)
     by given.Idle is there = let idle = answered given.Idle is there in (idle_aside m.work idle, idle_not_past m.work idle)
 
   -- a marker that is past its turn comes to its end
