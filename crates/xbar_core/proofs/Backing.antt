@@ -13,12 +13,12 @@ use Rattle.xbar_jobs.specs.Attempt.{Act, Attempt, Phase, next_step, step_of}
 use Rattle.xbar_jobs.specs.Office.{office}
 use Rattle.xbar_jobs.specs.declared.effect.Effect.{Effect}
 use Rattle.xbar_core.specs.AtWork.{told_of, IsBackingAt, IsBackingBy, IsBackingIn, gives_up, gives_up_at, is_turned}
-use Rattle.xbar_core.specs.Exchange.{Exchange, Marker, OfPlan, Work, at_marker, is_idle}
+use Rattle.xbar_core.specs.Exchange.{Exchange, Marker, OfPlan, Work, is_idle}
 use Rattle.xbar_core.specs.Holding.{IsAt}
 use Rattle.xbar_core.specs.Moves.{backed_as, begun_anew, frees_left, given_at, given_back, given_by, request_count, stepped, steps, with_work, work_anew}
 use Rattle.xbar_core.specs.declared.given.Given.{Given}
 use Rattle.xbar_core.specs.declared.given.Given.TheVariants as given
-use Rattle.xbar_core.proofs.Jobs.{at_job_has, at_job_is, set_at, work_at}
+use Rattle.xbar_core.proofs.Jobs.{at_job_has, at_job_is, begun_is, set_at, work_at}
 use Rattle.xbar_core.proofs.StepCases.{now_at, step_count, step_made}
 use Rattle.xbar_core.proofs.Worlds.{answer_is, found_by}
 
@@ -220,16 +220,13 @@ module _ (plan : Tables) (e : Exchange) (k : ℕ) where
   gives = at_job_has (λ what. what ≡ given.Given → Gives e k) given.Idle (λ m n a. given_by (Does n a)) e k (λ is. absurd cc)
       (λ n a at is. record { number = n; attempt = a; at = at; told = subst (Answers (Does n a)) is (answers (Does n a)) })
 
-  pub begun_is : (m : Marker) → slice_get e.markers k ≡ Some m → begun_anew plan k e ≡ with_work k m (work_anew plan m.work) e
-  begun_is m there = ap (at_marker e (λ o. with_work k o (work_anew plan o.work) e)) there
-
   -- where it gives back, it begins anew once all is given up
   pub anew : given_at e k ≡ given.Given → IsBackingAt (slice_get (begun_anew plan k e).markers k) × (frees_left (begun_anew plan k e) k ≡ frees_left e k)
   anew is =
       let has = gives is in
       let m = has.at.marker in
       let b = restarted (office plan) has.attempt in
-      let begun = begun_is m has.at.there ∙ ap (λ (work : Work). with_work k m (work_anew plan work) e) has.at.work in
+      let begun = begun_is e k m has.at.there plan ∙ ap (λ (work : Work). with_work k m (work_anew plan work) e) has.at.work in
       let now = subst (λ (x : Exchange). IsAt x k has.number b) (sym begun) (set_at e k has.number m b has.at.there) in
       let back = anew_in plan has.attempt has.attempt.phase refl has.told.0 has.told.1 in
       (backing_at _ k has.number b now back.0, left_is _ k has.number b now ∙ back.1 ∙ sym (left_is e k has.number has.attempt has.at))

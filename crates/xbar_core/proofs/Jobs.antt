@@ -2,13 +2,17 @@
 use Rattle.std.proofs.Common.{◌≡◌, ℕ, refl, sym, ◌∙◌, ap}
 use Rattle.std.specs.Prelude.{Option, Some, None, slice_get}
 use Rattle.std.proofs.lemmas.Option.{same_Some}
-use Rattle.turns.specs.Attempt.{turn_in}
+use Rattle.turns.specs.Attempt.{begin_with, turn_in}
 use Rattle.turns.specs.World.{Idle, Does}
 use Rattle.turns.specs.declared.phase.Phase.TheVariants.{Requests, Seizes, Tests, Turns, Withdraws, GivesBack, Operates}
+use Rattle.xbar_plan.specs.Tables.{Tables}
+use Rattle.xbar_office.specs.declared.job.Job.{Job}
 use Rattle.xbar_jobs.specs.Attempt.{Attempt, Phase}
+use Rattle.xbar_jobs.specs.Jobs.{first_conn}
 use Rattle.xbar_core.specs.Exchange.{Exchange, Marker, Work, at_marker, on_job}
 use Rattle.xbar_core.specs.Holding.{IsAt}
-use Rattle.xbar_core.specs.Moves.{with_work}
+use Rattle.xbar_core.specs.Moves.{assigned, begun_anew, given_at, given_by, with_work, work_anew}
+use Rattle.xbar_core.specs.declared.given.Given.TheVariants as given
 use Rattle.xbar_core.proofs.Markers.{marker_set}
 
 pub at_marker_has : {A : Type 0} (Has : A → Type 0) (otherwise : A) (of_marker : Marker → A) (found : Option Marker)
@@ -33,6 +37,18 @@ pub at_job_is : {A : Type 0} (otherwise : A) (of_job : Marker → ℕ → Attemp
     → at_marker otherwise (λ m. on_job otherwise (of_job m) m.work) (slice_get e.markers k) ≡ of_job at.marker n a
 at_job_is otherwise of_job e k n a at =
     ap (at_marker otherwise (λ m. on_job otherwise (of_job m) m.work)) at.there ∙ ap (on_job otherwise (of_job at.marker)) at.work
+
+module _ (e : Exchange) (k : ℕ) (m : Marker) (there : slice_get e.markers k ≡ Some m) where
+  -- a job goes to the marker that is there
+  pub assigned_is : (n : ℕ) (job : Job) → assigned k n job e ≡ with_work k m (Does n (begin_with (first_conn job) job)) e
+  assigned_is n job = ap (at_marker e (λ o. with_work k o (Does n (begin_with (first_conn job) job)) e)) there
+
+  -- it begins anew, and it is asked whether it gives back
+  pub begun_is : (plan : Tables) → begun_anew plan k e ≡ with_work k m (work_anew plan m.work) e
+  begun_is plan = ap (at_marker e (λ o. with_work k o (work_anew plan o.work) e)) there
+
+  pub given_is : given_at e k ≡ given_by m.work
+  given_is = ap (at_marker given.Idle (λ o. given_by o.work)) there
 
 -- a marker is at one attempt
 pub work_at : (e : Exchange) (k n : ℕ) (a : Attempt) (m : Marker) → IsAt e k n a → slice_get e.markers k ≡ Some m → m.work ≡ Does n a

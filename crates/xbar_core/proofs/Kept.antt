@@ -24,13 +24,13 @@ use Rattle.xbar_jobs.specs.Standing.{Stands}
 use Rattle.xbar_jobs.specs.declared.effect.Effect.{Effect}
 use Rattle.xbar_jobs.proofs.AttemptStands.{stands_after, stands_again, stands_begun}
 use Rattle.xbar_core.specs.AtWork.{told_of}
-use Rattle.xbar_core.specs.Exchange.{Exchange, IsLawfulExchange, Marker, Work, at_marker, opened, turned}
+use Rattle.xbar_core.specs.Exchange.{Exchange, IsLawfulExchange, Marker, Work, opened, turned}
 use Rattle.xbar_core.specs.Holding.{IsAt}
 use Rattle.xbar_core.specs.Moves.{recorded, refusal, stepped, with_work, work_anew}
 use Rattle.xbar_core.specs.Standing.{HasRoom, IsExchange, StandsAt, waiting, waits, waits_in}
 use Rattle.xbar_core.specs.declared.kind.Kind.{Kind}
 use Rattle.xbar_core.proofs.Actors.{actor_at}
-use Rattle.xbar_core.proofs.Jobs.{past_turn}
+use Rattle.xbar_core.proofs.Jobs.{assigned_is, past_turn}
 use Rattle.xbar_core.proofs.Markers.{marker_else, marker_set, waiting_most, waiting_set, waits_most}
 use Rattle.xbar_core.proofs.Keeping.{KeepsRestarts, anew_keeps}
 use Rattle.xbar_core.proofs.StepCases.{step_cases}
@@ -111,7 +111,7 @@ module _ (plan : Tables) where
     -- and a job that is assigned
     pub kept_assigned : (e : Exchange) (k n : ℕ) (m : Marker) (job : Job) → IsExchange plan e → IsJob job → slice_get e.markers k ≡ Some m → refusal e k job ≡ None → IsExchange plan (with_work k m (Does n (begin_with (first_conn job) job)) e)
     kept_assigned e k n m job was in_range there free = record {
-      lawful = subst (λ (found : Option Marker). IsLawfulExchange plan (at_marker e (λ o. with_work k o (Does n (begin_with (first_conn job) job)) e) found)) there (lawful_assigned plan e k n job laws was.lawful in_range free);
+      lawful = subst (IsLawfulExchange plan) (assigned_is e k m there n job) (lawful_assigned plan e k n job laws was.lawful in_range free);
       stands = stands_set e.markers k _ m there (stands_begun plan job laws in_range) was.stands;
     }
 

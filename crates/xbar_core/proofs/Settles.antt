@@ -17,12 +17,12 @@ use Rattle.xbar_jobs.specs.Office.{office}
 use Rattle.xbar_core.specs.AtWork.{IsBackingAt, IsBackingIn, gives_up, is_turned}
 use Rattle.xbar_core.specs.Exchange.{Exchange, Marker, Work, at_marker, is_idle, on_job, world}
 use Rattle.xbar_core.specs.Holding.{IsAt}
-use Rattle.xbar_core.specs.Moves.{backed_as, begun_anew, frees_left, given_at, given_back, given_by, request_count, stepped, steps}
+use Rattle.xbar_core.specs.Moves.{backed_as, begun_anew, frees_left, given_at, given_back, request_count, stepped, steps}
 use Rattle.xbar_core.specs.Settling.{ended, ended_past_turn, for_each, most_steps_alone, settled}
 use Rattle.xbar_core.specs.Standing.{IsExchange}
 use Rattle.xbar_core.specs.declared.given.Given.{Given}
 use Rattle.xbar_core.specs.declared.given.Given.TheVariants as given
-use Rattle.xbar_core.proofs.Jobs.{past_turn, work_at}
+use Rattle.xbar_core.proofs.Jobs.{given_is, past_turn, work_at}
 use Rattle.xbar_core.proofs.Markers.{marker_else, marker_there, none_within}
 use Rattle.xbar_core.proofs.Backing.{Answers, GaveUp, IsBacking, anew, answers, backing, by_backing, gave_up, left_is, none_left}
 use Rattle.xbar_core.proofs.Ending.{IsIdleAt, alone_idle, past_ends, past_few, stays_idle}
@@ -53,9 +53,6 @@ AllAre Done e = (j : ℕ) (m : Marker) → slice_get e.markers j ≡ Some m → 
 -- a marker that is past its turn is idle
 abbrev NotPast : Work → Type 0
 NotPast work = is_turned work ≡ true → is_idle work ≡ true
-
-idle_not_past : (work : Work) → is_idle work ≡ true → NotPast work
-idle_not_past work idle past = idle
 
 not_turned : (work : Work) → is_turned work ≡ false → NotPast work
 not_turned work waits past = let both = sym waits ∙ past in absurd cc
@@ -103,12 +100,12 @@ module _ (plan : Tables) where
   unfolding given_back
   back_done k e m none at = by (given_at e k) refl at where
     answered : (what : Given) → given_at e k ≡ what → slice_get e.markers k ≡ Some m → Answers m.work what
-    answered what is there = subst (Answers m.work) (sym (ap (at_marker given.Idle (λ o. given_by o.work)) there) ∙ is) (answers m.work)
+    answered what is there = subst (Answers m.work) (sym (given_is e k m there) ∙ is) (answers m.work)
 
     by : (what : Given) → given_at e k ≡ what → slice_get (backed_as what (steps plan k (frees_left e k) (begun_anew plan k e)) e).markers k ≡ Some m → IsAside (office plan) m.work × NotPast m.work
     by given.Given is after = let now = anew plan e k is in gives_all (frees_left e k) k (begun_anew plan k e) m now.0 now.1 after
     by given.PastTurn is there = let past = answered given.PastTurn is there in absurd (let both = sym past.0 ∙ none k m there past.1 in cc)
-    by given.Idle is there = let idle = answered given.Idle is there in (idle_aside m.work idle, idle_not_past m.work idle)
+    by given.Idle is there = let idle = answered given.Idle is there in (idle_aside m.work idle, λ past. idle)
 
   -- a marker that is past its turn comes to its end
   past_done : (laws : IsLawful plan) (k : ℕ) (e : Exchange) (m : Marker) → IsExchange plan e → slice_get (ended_past_turn plan k e).markers k ≡ Some m → NotPast m.work
@@ -121,10 +118,10 @@ module _ (plan : Tables) where
     by_turn n a (Some turn) there is after =
         let phase = past_turn a.phase turn is in
         let end = past_ends plan k turn n most_steps_alone e a there phase (past_few plan laws e was k n a there turn phase) in
-        idle_not_past m.work (ap (λ (o : Marker). is_idle o.work) (same_Some m end.marker (sym after ∙ end.there)) ∙ end.idle)
+        λ past. ap (λ (o : Marker). is_idle o.work) (same_Some m end.marker (sym after ∙ end.there)) ∙ end.idle
 
     by_work : (now : Marker) (work : Work) → slice_get e.markers k ≡ Some now → now.work ≡ work → slice_get (on_job e (λ n a. ended_if (is_some (turn_in a.phase))) work).markers k ≡ Some m → NotPast m.work
-    by_work now Idle there is after = idle_not_past m.work (ap (λ (o : Marker). is_idle o.work) (same_Some m now (sym after ∙ there)) ∙ ap is_idle is)
+    by_work now Idle there is after = λ past. ap (λ (o : Marker). is_idle o.work) (same_Some m now (sym after ∙ there)) ∙ ap is_idle is
     by_work now (Does n a) there is after = by_turn n a (turn_in a.phase) (record { marker = now; there = there; work = is }) refl after
 
     by : (found : Option Marker) → slice_get e.markers k ≡ found → slice_get (at_marker e (λ o. on_job e (λ n a. ended_if (is_some (turn_in a.phase))) o.work) found).markers k ≡ Some m → NotPast m.work

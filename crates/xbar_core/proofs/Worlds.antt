@@ -22,14 +22,13 @@ use Rattle.xbar_office.specs.declared.job.Job.{Job}
 use Rattle.xbar_office.specs.declared.reply.Record.{Record}
 use Rattle.xbar_office.specs.declared.reply.Reply.{Reply}
 use Rattle.xbar_jobs.specs.Attempt.{Attempt, Phase, next_step}
-use Rattle.xbar_jobs.specs.Jobs.{first_conn}
 use Rattle.xbar_jobs.specs.Office.{office}
 use Rattle.xbar_jobs.specs.OnWords as steps
 use Rattle.xbar_jobs.specs.OnWords.{answer_of, applied, made, operation}
 use Rattle.xbar_jobs.specs.declared.effect.Effect.{Effect}
 use Rattle.xbar_jobs.proofs.OfficeSystem.{office_is}
 use Rattle.xbar_jobs.proofs.StepActs.{act_answer, act_operation, act_word}
-use Rattle.xbar_core.specs.Exchange.{Exchange, IsLawfulExchange, Marker, Work, at_marker, is_idle, opened, turned, world}
+use Rattle.xbar_core.specs.Exchange.{Exchange, IsLawfulExchange, Marker, Work, is_idle, opened, turned, world}
 use Rattle.xbar_core.specs.Kinds.{takes}
 use Rattle.xbar_core.specs.Moves.{answered, assigned, begun_anew, given_back, record_of, recorded, refusal, refusal_of, stepped, with_work}
 use Rattle.xbar_core.specs.Settling.{settled}
@@ -37,7 +36,7 @@ use Rattle.xbar_core.specs.declared.assign_fault.AssignFault.{AssignFault}
 use Rattle.xbar_core.specs.declared.assign_fault.AssignFault.TheVariants.{NoMarker, NotIdle, WrongKind}
 use Rattle.xbar_core.specs.declared.kind.Kind.{Kind}
 use Rattle.xbar_core.proofs.Actors.{actor_at}
-use Rattle.xbar_core.proofs.Jobs.{at_marker_has}
+use Rattle.xbar_core.proofs.Jobs.{assigned_is, at_marker_has}
 use Rattle.xbar_core.proofs.Markers.{actor_there, works, works_set}
 use Rattle.xbar_core.proofs.StepCases.{step_cases}
 use Rattle.xbar_core.proofs.Keeping.{KeepsRestarts, back_keeps, begun_keeps, settled_keeps}
@@ -149,7 +148,7 @@ pub lawful_assigned : (plan : Tables) (e : Exchange) (k number : ℕ) (job : Job
 lawful_assigned plan e k number job laws law in_range free =
     let to = taken e k job free in
     let goes = assigns (office plan) (office_is plan laws) (world plan e) law k number to.marker.work job (actor_there e.markers k to.marker to.there) (idle_free plan to.marker.work to.idle) in_range in
-    subst (IsLawfulExchange plan) (sym (ap (at_marker e (λ m. with_work k m (Does number (begin_with (first_conn job) job)) e)) to.there)) (set_lawful plan e k to.marker _ goes)
+    subst (IsLawfulExchange plan) (sym (assigned_is e k to.marker to.there number job)) (set_lawful plan e k to.marker _ goes)
 
 -- so does a step of a marker
 pub lawful_stepped : (plan : Tables) (e : Exchange) (k : ℕ) → IsLawful plan → IsLawfulExchange plan e → IsLawfulExchange plan (stepped plan k e)

@@ -1,8 +1,8 @@
 use Rattle.std.proofs.Common.{◌≡◌, ℕ, sym, ◌∙◌, ap}
-use Rattle.xbar_core.specs.Exchange.{Exchange, OfPlan, at_marker}
-use Rattle.xbar_core.specs.Moves.{begun_anew, frees_left, given_at, given_by, steps}
-use Rattle.xbar_core.specs.declared.given.Given.TheVariants as given
+use Rattle.xbar_core.specs.Exchange.{Exchange, OfPlan}
+use Rattle.xbar_core.specs.Moves.{begun_anew, frees_left, given_at, steps}
 use Rattle.xbar_core.proofs.Backing.{anew, back_goes, back_rests}
+use Rattle.xbar_core.proofs.Jobs.{given_is}
 use Rattle.xbar_core.proofs.exchange.Exchange.give_back.Goals as goal
 
 pub returns-in-Given-clause-back : goal.returns-in-Given-clause-back
@@ -10,7 +10,7 @@ returns-in-Given-clause-back c =
     let plan = c.args.self.now.plan in
     let e = c.args.self.now.exchange in
     let k = c.args.marker in
-    let gives = ap (at_marker given.Idle (λ m. given_by m.work)) c.marker.ensures ∙ sym c.in-Given.ensures in
+    let gives = given_is e k c.marker.result.now c.marker.ensures ∙ sym c.in-Given.ensures in
     c.give_up.ensures
     ∙ ap (λ (o : OfPlan). record { plan = o.plan; exchange = steps o.plan k (frees_left o.exchange k) o.exchange }) c.restart.ensures
     ∙ ap (λ (count : ℕ). record { plan = plan; exchange = steps plan k count (begun_anew plan k e) }) (anew plan e k gives).1
@@ -21,7 +21,7 @@ returns-in_default c =
     let plan = c.args.self.now.plan in
     let e = c.args.self.now.exchange in
     let k = c.args.marker in
-    let is : c.given-given.result ≡ given_at e k = c.given-given.ensures ∙ sym (ap (at_marker given.Idle (λ m. given_by m.work)) c.marker.ensures) in
+    let is : c.given-given.result ≡ given_at e k = c.given-given.ensures ∙ sym (given_is e k c.marker.result.now c.marker.ensures) in
     record {
       back = ap (λ (x : Exchange). record { plan = plan; exchange = x }) (sym (back_rests plan e k (λ gives. c.in_default.not-Given (is ∙ gives))));
       given = is;
