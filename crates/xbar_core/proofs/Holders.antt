@@ -1,9 +1,8 @@
 -- a protected word is tested or changed by the holder of its connector alone
-use Rattle.std.proofs.Common.{◌≡◌, ℕ, Bool, true, false, List, [], refl, subst}
-use Rattle.std.specs.Prelude.{Option, Some, None, if◌then◌else◌, slice_get, slice_index}
+use Rattle.std.proofs.Common.{◌≡◌, ℕ, List, [], inl, inr, ap, ◌∙◌, subst}
+use Rattle.std.specs.Prelude.{slice_index}
 use Rattle.turns.specs.Among.{IsIn}
 use Rattle.turns.specs.Attempt.{act}
-use Rattle.turns.specs.World.{Idle, Does}
 use Rattle.turns.proofs.Consequences.{alone, free_shows}
 use Rattle.turns.proofs.Lists.{index_other}
 use Rattle.xbar_equip.specs.declared.conn.Conn.{Conn}
@@ -13,15 +12,16 @@ use Rattle.xbar_plan.specs.Lawful.{IsLawful}
 use Rattle.xbar_office.specs.Legal.{after}
 use Rattle.xbar_jobs.specs.Attempt.{Attempt, next_step}
 use Rattle.xbar_jobs.specs.Office.{Protects, ShowsOffice, office}
-use Rattle.xbar_jobs.specs.OnWords.{answer_of, step_word}
+use Rattle.xbar_jobs.specs.OnWords.{step_word}
 use Rattle.xbar_jobs.proofs.OfficeSystem.{office_is}
 use Rattle.xbar_jobs.proofs.StepActs.{act_word}
-use Rattle.xbar_core.specs.Exchange.{Exchange, IsLawfulExchange, Marker, Work, is_idle, world}
+use Rattle.xbar_core.specs.Exchange.{Exchange, IsLawfulExchange, world}
 use Rattle.xbar_core.specs.Holding.{Holds, IsAt}
-use Rattle.xbar_core.specs.Moves.{answered, stepped, stepped_at, stepped_by}
+use Rattle.xbar_core.specs.Moves.{stepped}
 use Rattle.xbar_core.proofs.Actors.{actor_at}
 use Rattle.xbar_core.proofs.Connectors.{free_word}
 use Rattle.xbar_core.proofs.Records.{after_same}
+use Rattle.xbar_core.proofs.StepCases.{step_cases}
 
 module _ (plan : Tables) (e : Exchange) (laws : IsLawful plan) (lawful : IsLawfulExchange plan e) where
   -- where no connector is held the words show the paths after the records
@@ -35,22 +35,11 @@ module _ (plan : Tables) (e : Exchange) (laws : IsLawful plan) (lawful : IsLawfu
   step_alone k number a conn at protects =
       alone (office plan) (office_is plan laws) (world plan e) lawful k number a conn (actor_at e k number a at) (subst (Protects conn) (act_word plan (act a)) protects)
 
-  module _ (k n : ℕ) (conn : Conn) (protects : Protects conn n) (free : ¬ Holds e k conn) where
-    -- any other word is not the one that its step is on
-    else_spared : (m : Marker) (number : ℕ) (a : Attempt) → IsAt e k number a → (idle : Bool) → slice_index (if idle then e else answered plan k m number a (answer_of k (next_step a) e.words) e).words n ≡ slice_index e.words n
-    else_spared m number a at true = refl
-    else_spared m number a at false =
-        index_other e.words _ n _ (λ same. free (record { number = number; attempt = a; at = at; held = step_alone k number a conn at (subst (Protects conn) same protects) }))
-
-    work_spared : (m : Marker) (work : Work) → slice_get e.markers k ≡ Some m → m.work ≡ work → slice_index (stepped_by plan k m work e).words n ≡ slice_index e.words n
-    work_spared m Idle there is = refl
-    work_spared m (Does number a) there is = else_spared m number a (record { marker = m; there = there; work = is }) (is_idle (Does number a))
-
-    marker_spared : (found : Option Marker) → slice_get e.markers k ≡ found → slice_index (stepped_at plan k found e).words n ≡ slice_index e.words n
-    marker_spared None there = refl
-    marker_spared (Some m) there = work_spared m m.work there refl
-
-    -- the step of a marker that does not hold a word's connector spares the word
-    pub step_spares : slice_index (stepped plan k e).words n ≡ slice_index e.words n
-    unfolding stepped
-    step_spares = marker_spared (slice_get e.markers k) refl
+  -- the step of a marker that does not hold a word's connector spares the word
+  pub step_spares : (k n : ℕ) (conn : Conn) → Protects conn n → ¬ Holds e k conn → slice_index (stepped plan k e).words n ≡ slice_index e.words n
+  step_spares k n conn protects free = elim (step_cases plan e k) [
+    | inl same ↦ ap (λ (x : Exchange). slice_index x.words n) same
+    | inr made ↦
+        ap (λ (x : Exchange). slice_index x.words n) made.is
+        ∙ index_other e.words _ n _ (λ same. free (record { number = made.number; attempt = made.attempt; at = made.at; held = step_alone k made.number made.attempt conn made.at (subst (Protects conn) same protects) }))
+  ]

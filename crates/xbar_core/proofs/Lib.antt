@@ -1,4 +1,5 @@
 pub mod Markers
+pub mod Jobs
 pub mod Keeping
 pub mod StepCases
 pub mod Worlds

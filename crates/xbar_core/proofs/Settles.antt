@@ -1,30 +1,30 @@
 -- in an office that settles every marker comes to the end of its job
 use Rattle.std.proofs.Common.{◌≡◌, ◌≢◌, ℕ, zero, suc, ◌+◌, ◌<◌, ◌⊎◌, Bool, true, false, List, [], ◌∷◌, length, length-set, inl, inr, refl, sym, ◌∙◌, ap, subst, arith}
-use Rattle.std.specs.Prelude.{Option, Some, None, ⊤, if◌then◌else◌, slice_get}
+use Rattle.std.specs.Prelude.{Option, Some, None, is_some, ⊤, if◌then◌else◌, slice_get}
 use Rattle.std.proofs.lemmas.Option.{none-some, same_Some, slice_get_within}
 use mathlib.Core.Option.{some}
 use lib.ListN.{get_elem?}
-use Rattle.turns.specs.Attempt.{act, request_in, restarted}
+use Rattle.turns.specs.Attempt.{request_in, turn_in}
 use Rattle.turns.specs.Bounds.{IsAside}
-use Rattle.turns.specs.Runs.{is_rest}
 use Rattle.turns.specs.World.{ActorOf, Idle, Does}
-use Rattle.turns.specs.declared.phase.Phase.TheVariants.{Requests, Seizes, Tests, Turns, Withdraws, GivesBack, Operates}
 use Rattle.turns.proofs.Lists.{one_or_two}
 use Rattle.turns.proofs.Moving.{rest_bare}
 use Rattle.xbar_equip.specs.declared.conn.Conn.{Conn}
 use Rattle.xbar_plan.specs.Tables.{Tables}
 use Rattle.xbar_plan.specs.Lawful.{IsLawful}
-use Rattle.xbar_jobs.specs.Attempt.{Attempt, Phase}
+use Rattle.xbar_jobs.specs.Attempt.{Attempt, Phase, next_step}
 use Rattle.xbar_jobs.specs.Office.{office}
-use Rattle.xbar_core.specs.AtWork.{IsBackingAt, IsBackingBy, IsBackingIn, gives_up_at, left_at, left_by}
-use Rattle.xbar_core.specs.Exchange.{Exchange, Marker, Work, is_idle, world}
-use Rattle.xbar_core.specs.Moves.{backed_at, begun_anew, given_back, given_by, given_in, request_count, stepped, steps}
-use Rattle.xbar_core.specs.Settling.{ended, ended_at, ended_by, ended_in, ended_past_turn, for_each, most_steps_alone, settled}
+use Rattle.xbar_core.specs.AtWork.{IsBackingAt, IsBackingIn, gives_up, is_turned}
+use Rattle.xbar_core.specs.Exchange.{Exchange, Marker, Work, at_marker, is_idle, on_job, world}
+use Rattle.xbar_core.specs.Holding.{IsAt}
+use Rattle.xbar_core.specs.Moves.{backed_as, begun_anew, frees_left, given_at, given_back, request_count, stepped, steps}
+use Rattle.xbar_core.specs.Settling.{ended, ended_past_turn, for_each, most_steps_alone, settled}
 use Rattle.xbar_core.specs.Standing.{IsExchange}
 use Rattle.xbar_core.specs.declared.given.Given.{Given}
 use Rattle.xbar_core.specs.declared.given.Given.TheVariants as given
+use Rattle.xbar_core.proofs.Jobs.{given_is, past_turn, work_at}
 use Rattle.xbar_core.proofs.Markers.{marker_else, marker_there, none_within}
-use Rattle.xbar_core.proofs.Backing.{GaveUp, back_goes, back_rests, backs_anew, gave_up, none_left}
+use Rattle.xbar_core.proofs.Backing.{Answers, GaveUp, IsBacking, anew, answers, backing, by_backing, gave_up, left_is, none_left}
 use Rattle.xbar_core.proofs.Ending.{IsIdleAt, alone_idle, past_ends, past_few, stays_idle}
 use Rattle.xbar_core.proofs.Keeping.{KeepsRestarts, KeepsSteps, back_keeps, for_each_keeps, past_turn_keeps, steps_keep}
 use Rattle.xbar_core.proofs.Kept.{kept_restarted, kept_stepped}
@@ -50,39 +50,12 @@ all_changed change Has Done is (suc k) e has j m below there = by (one_or_two j 
 abbrev AllAre : (Work → Type 0) → Exchange → Type 0
 AllAre Done e = (j : ℕ) (m : Marker) → slice_get e.markers j ≡ Some m → Done m.work
 
--- a marker gives back, or is idle
+-- a marker that is past its turn is idle
 abbrev NotPast : Work → Type 0
-NotPast work = given_by work ≡ given.PastTurn → ⊥
+NotPast work = is_turned work ≡ true → is_idle work ≡ true
 
-idle_not_past : (work : Work) → is_idle work ≡ true → NotPast work
-idle_not_past Idle idle past = absurd cc
-idle_not_past (Does n a) idle past = by (is_rest (act a)) idle past where
-  by : (idle : Bool) → idle ≡ true → (if idle then given.Idle else given_in a.phase) ≡ given.PastTurn → ⊥
-  by true is at = cc
-  by false is at = cc
-
-given_not_past : (n : ℕ) (a : Attempt) → given_in a.phase ≡ given.Given → NotPast (Does n a)
-given_not_past n a gives past = by (is_rest (act a)) past where
-  by : (idle : Bool) → (if idle then given.Idle else given_in a.phase) ≡ given.PastTurn → ⊥
-  by true at = cc
-  by false at = let none : ◌≡◌ {A = Given} given.Given given.PastTurn = sym gives ∙ at in cc
-
--- a marker is idle where it has nothing to give back
-idle_given : (work : Work) → given_by work ≡ given.Idle → is_idle work ≡ true
-idle_given Idle is = refl
-idle_given (Does n a) is = by (is_rest (act a)) refl is where
-  in_phase : (phase : Phase) → given_in phase ≡ given.Idle → ⊥
-  in_phase (Requests conn) at = cc
-  in_phase (Seizes conn expected) at = cc
-  in_phase (Tests word) at = cc
-  in_phase Turns at = cc
-  in_phase (Withdraws conn) at = cc
-  in_phase GivesBack at = cc
-  in_phase (Operates turn) at = cc
-
-  by : (idle : Bool) → is_rest (act a) ≡ idle → (if idle then given.Idle else given_in a.phase) ≡ given.Idle → is_rest (act a) ≡ true
-  by true rest at = rest
-  by false rest at = absurd (in_phase a.phase at)
+not_turned : (work : Work) → is_turned work ≡ false → NotPast work
+not_turned work waits past = let both = sym waits ∙ past in absurd cc
 
 module _ (plan : Tables) where
   -- an idle marker is out of the way of the others
@@ -91,88 +64,67 @@ module _ (plan : Tables) where
   idle_aside (Does n a) idle = let bare = rest_bare (office plan) a.phase a.job a.readings a.held a.reply a.effects (idle_free plan (Does n a) idle) in (bare.1, bare.2)
 
   -- a marker that was to begin its job anew, and has given up everything, is there
-  there_in : (n : ℕ) (a : Attempt) (phase : Phase) → a.phase ≡ phase → IsBackingIn a phase → request_count (request_in phase) + length a.held ≡ 0 → IsAside (office plan) (Does n a) × NotPast (Does n a)
-  there_in n a (Requests conn) at backs none = ((backs, ap request_in at), given_not_past n a (ap given_in at))
-  there_in n a (Withdraws conn) at backs none = absurd (omega (arith, none))
-  there_in n a GivesBack at backs none = absurd (backs (no_more a.held (omega (arith, none)))) where
-    no_more : (held : List Conn) → length held ≡ 0 → held ≡ []
-    no_more [] e = refl
-    no_more (conn ∷ held) e = absurd (omega arith)
-  there_in n a (Seizes conn expected) at backs none = absurd backs
-  there_in n a (Tests word) at backs none = absurd backs
-  there_in n a Turns at backs none = absurd backs
-  there_in n a (Operates turn) at backs none = absurd backs
-
-  there_by : (work : Work) → IsBackingBy work → left_by work ≡ 0 → IsAside (office plan) work × NotPast work
-  there_by Idle backs none = absurd backs
-  there_by (Does n a) backs none = there_in n a a.phase refl backs none
+  there_in : (n : ℕ) (a : Attempt) (phase : Phase) → IsBackingIn a phase → a.phase ≡ phase → request_count (request_in phase) + length a.held ≡ 0 → IsAside (office plan) (Does n a) × NotPast (Does n a)
+  there_in n a = by_backing (λ phase. a.phase ≡ phase → request_count (request_in phase) + length a.held ≡ 0 → IsAside (office plan) (Does n a) × NotPast (Does n a)) a
+      (λ conn at none. absurd (omega (arith, none)))
+      (λ more at none. absurd (more (no_more a.held (omega (arith, none)))))
+      (λ conn bare at none. ((bare, ap request_in at), not_turned (Does n a) (ap (λ (phase : Phase). is_some (turn_in phase)) at))) where
+        no_more : (held : List Conn) → length held ≡ 0 → held ≡ []
+        no_more [] e = refl
+        no_more (conn ∷ held) e = absurd (omega arith)
 
   -- with something left, a step gives up one thing
-  pub gives_one : (k : ℕ) (e : Exchange) → IsBackingAt (slice_get e.markers k) → (count : ℕ) → left_at (slice_get e.markers k) ≡ suc count → GaveUp (slice_get (stepped plan k e).markers k) (left_at (slice_get e.markers k))
-  gives_one k e backs count left = by (slice_get e.markers k) refl backs left where
-    goes_on : (work : Work) → IsBackingBy work → left_by work ≡ suc count → (goes : Bool) → gives_up_at work ≡ goes → gives_up_at work ≡ true
-    goes_on work now more true is = is
-    goes_on work now more false is = let none = none_left work now is in absurd (omega (arith, none, more))
+  pub gives_one : (k : ℕ) (e : Exchange) → IsBackingAt (slice_get e.markers k) → (count : ℕ) → frees_left e k ≡ suc count → GaveUp (stepped plan k e) k (frees_left e k)
+  gives_one k e backs count left = by (gives_up (next_step back.attempt)) refl where
+    back : IsBacking e k
+    back = backing e k backs
 
-    by : (found : Option Marker) → slice_get e.markers k ≡ found → IsBackingAt found → left_at found ≡ suc count → GaveUp (slice_get (stepped plan k e).markers k) (left_at found)
-    by None at now more = absurd now
-    by (Some m) at now more = gave_up plan e k m at now (goes_on m.work now more (gives_up_at m.work) refl)
+    by : (goes : Bool) → gives_up (next_step back.attempt) ≡ goes → GaveUp (stepped plan k e) k (frees_left e k)
+    by true goes = gave_up plan e k back goes
+    by false rests = let none = none_left plan e k back rests in absurd (omega (arith, none, left))
 
   -- after as many steps as there are things to give up, it has given up everything
-  gives_all : (count k : ℕ) (e : Exchange) (m : Marker) → IsBackingAt (slice_get e.markers k) → left_at (slice_get e.markers k) ≡ count → slice_get (steps plan k count e).markers k ≡ Some m → IsAside (office plan) m.work × NotPast m.work
+  gives_all : (count k : ℕ) (e : Exchange) (m : Marker) → IsBackingAt (slice_get e.markers k) → frees_left e k ≡ count → slice_get (steps plan k count e).markers k ≡ Some m → IsAside (office plan) m.work × NotPast m.work
   unfolding steps
-  gives_all zero k e m backs left there = there_by m.work (subst IsBackingAt there backs) (sym (ap left_at there) ∙ left)
+  gives_all zero k e m backs left there =
+      let back = backing e k backs in
+      let a = back.attempt in
+      subst (λ (work : Work). IsAside (office plan) work × NotPast work) (sym (work_at e k back.number a m back.at there))
+      (there_in back.number a a.phase back.backs refl (sym (left_is e k back.number a back.at) ∙ left))
   gives_all (suc count) k e m backs left there =
-      let less = gives_one k e backs (count) left in
+      let less = gives_one k e backs count left in
       gives_all count k (stepped plan k e) m less.backs (omega (arith, less.one, left)) there
 
   -- a marker that was asked to give back is out of the way, and not past its turn
   back_done : (k : ℕ) (e : Exchange) (m : Marker) → AllAre NotPast e → slice_get (given_back plan k e).markers k ≡ Some m → IsAside (office plan) m.work × NotPast m.work
   unfolding given_back
-  back_done k e m none at = by (slice_get e.markers k) refl where
-    same : (x : Exchange) (was : Marker) → slice_get e.markers k ≡ Some was → given_back plan k e ≡ x → slice_get x.markers k ≡ Some m
-    same x was there is = ap (λ (y : Exchange). slice_get y.markers k) (sym is) ∙ at
+  back_done k e m none at = by (given_at e k) refl at where
+    answered : (what : Given) → given_at e k ≡ what → slice_get e.markers k ≡ Some m → Answers m.work what
+    answered what is there = subst (Answers m.work) (sym (given_is e k m there) ∙ is) (answers m.work)
 
-    asked : (was : Marker) → slice_get e.markers k ≡ Some was → (what : Given) → given_by was.work ≡ what → IsAside (office plan) m.work × NotPast m.work
-    asked was there given.Given is =
-        let back = back_goes plan e k was there is in
-        gives_all (left_at (slice_get (begun_anew plan k e).markers k)) k (begun_anew plan k e) m (backs_anew plan e k was there is) refl (same _ was there back)
-    asked was there given.PastTurn is = absurd (none k was there is)
-    asked was there given.Idle is =
-        let rests = back_rests plan e k was there (λ gives. let two : ◌≡◌ {A = Given} given.Given given.Idle = sym gives ∙ is in cc) in
-        let one : was ≡ m = same_Some was m (sym there ∙ same e was there rests) in
-        let idle : is_idle m.work ≡ true = ap (λ (o : Marker). is_idle o.work) (sym one) ∙ idle_given was.work is in
-        (idle_aside m.work idle, idle_not_past m.work idle)
-
-    by : (found : Option Marker) → slice_get e.markers k ≡ found → IsAside (office plan) m.work × NotPast m.work
-    by None there = absurd (none-some m (sym there ∙ ap (λ (x : Exchange). slice_get x.markers k) (sym (ap (λ (found : Option Marker). backed_at plan k found e) there)) ∙ at))
-    by (Some was) there = asked was there (given_by was.work) refl
+    by : (what : Given) → given_at e k ≡ what → slice_get (backed_as what (steps plan k (frees_left e k) (begun_anew plan k e)) e).markers k ≡ Some m → IsAside (office plan) m.work × NotPast m.work
+    by given.Given is after = let now = anew plan e k is in gives_all (frees_left e k) k (begun_anew plan k e) m now.0 now.1 after
+    by given.PastTurn is there = let past = answered given.PastTurn is there in absurd (let both = sym past.0 ∙ none k m there past.1 in cc)
+    by given.Idle is there = let idle = answered given.Idle is there in (idle_aside m.work idle, λ past. idle)
 
   -- a marker that is past its turn comes to its end
   past_done : (laws : IsLawful plan) (k : ℕ) (e : Exchange) (m : Marker) → IsExchange plan e → slice_get (ended_past_turn plan k e).markers k ≡ Some m → NotPast m.work
   past_done laws k e m was at = by (slice_get e.markers k) refl at where
-    kept : (n : ℕ) (now : Marker) (a : Attempt) → slice_get e.markers k ≡ Some now → now.work ≡ Does n a → given_in a.phase ≡ given.Given → slice_get e.markers k ≡ Some m → NotPast m.work
-    kept n now a there is gives same = subst NotPast (sym is ∙ ap (λ (o : Marker). o.work) (same_Some now m (sym there ∙ same))) (given_not_past n a gives)
+    ended_if : Bool → Exchange
+    ended_if past = if past then ended plan k e else e
 
-    ends : (n turn : ℕ) (now : Marker) (a : Attempt) → slice_get e.markers k ≡ Some now → now.work ≡ Does n a → a.phase ≡ Operates turn → slice_get (ended plan k e).markers k ≡ Some m → NotPast m.work
-    ends n turn now a there is phase after =
-        let end = past_ends plan k turn n most_steps_alone e now a there is phase (past_few plan laws e was k n now a there is turn phase) in
-        idle_not_past m.work (ap (λ (o : Marker). is_idle o.work) (same_Some m end.marker (sym after ∙ end.there)) ∙ end.idle)
+    by_turn : (n : ℕ) (a : Attempt) (turned : Option ℕ) → IsAt e k n a → turn_in a.phase ≡ turned → slice_get (ended_if (is_some turned)).markers k ≡ Some m → NotPast m.work
+    by_turn n a None there waits after = not_turned m.work (ap is_turned (work_at e k n a m there after) ∙ ap (is_some {T = ℕ}) waits)
+    by_turn n a (Some turn) there is after =
+        let phase = past_turn a.phase turn is in
+        let end = past_ends plan k turn n most_steps_alone e a there phase (past_few plan laws e was k n a there turn phase) in
+        λ past. ap (λ (o : Marker). is_idle o.work) (same_Some m end.marker (sym after ∙ end.there)) ∙ end.idle
 
-    by_phase : (n : ℕ) (now : Marker) (a : Attempt) (phase : Phase) → slice_get e.markers k ≡ Some now → now.work ≡ Does n a → a.phase ≡ phase → slice_get (ended_in plan k phase e).markers k ≡ Some m → NotPast m.work
-    by_phase n now a (Operates turn) there is phase after = ends n turn now a there is phase after
-    by_phase n now a (Requests conn) there is phase after = kept n now a there is (ap given_in phase) after
-    by_phase n now a (Seizes conn expected) there is phase after = kept n now a there is (ap given_in phase) after
-    by_phase n now a (Tests word) there is phase after = kept n now a there is (ap given_in phase) after
-    by_phase n now a Turns there is phase after = kept n now a there is (ap given_in phase) after
-    by_phase n now a (Withdraws conn) there is phase after = kept n now a there is (ap given_in phase) after
-    by_phase n now a GivesBack there is phase after = kept n now a there is (ap given_in phase) after
+    by_work : (now : Marker) (work : Work) → slice_get e.markers k ≡ Some now → now.work ≡ work → slice_get (on_job e (λ n a. ended_if (is_some (turn_in a.phase))) work).markers k ≡ Some m → NotPast m.work
+    by_work now Idle there is after = λ past. ap (λ (o : Marker). is_idle o.work) (same_Some m now (sym after ∙ there)) ∙ ap is_idle is
+    by_work now (Does n a) there is after = by_turn n a (turn_in a.phase) (record { marker = now; there = there; work = is }) refl after
 
-    by_work : (now : Marker) (work : Work) → slice_get e.markers k ≡ Some now → now.work ≡ work → slice_get (ended_by plan k work e).markers k ≡ Some m → NotPast m.work
-    by_work now Idle there is after = subst NotPast (sym is ∙ ap (λ (o : Marker). o.work) (same_Some now m (sym there ∙ after))) (idle_not_past Idle refl)
-    by_work now (Does n a) there is after = by_phase n now a a.phase there is refl after
-
-    by : (found : Option Marker) → slice_get e.markers k ≡ found → slice_get (ended_at plan k found e).markers k ≡ Some m → NotPast m.work
+    by : (found : Option Marker) → slice_get e.markers k ≡ found → slice_get (at_marker e (λ o. on_job e (λ n a. ended_if (is_some (turn_in a.phase))) o.work) found).markers k ≡ Some m → NotPast m.work
     by None there after = absurd (none-some m (sym there ∙ after))
     by (Some now) there after = by_work now now.work there refl after
 
@@ -181,7 +133,7 @@ module _ (plan : Tables) where
   count_steps n k e is = step_count plan e k ∙ is
 
   count_restarts : (n k : ℕ) → KeepsRestarts plan (λ e. length e.markers ≡ n) k
-  count_restarts n k e number m a is there at = length-set e.markers k (record m { work = Does number (restarted (office plan) a) }) ∙ is
+  count_restarts n k e number a is at = length-set e.markers k _ ∙ is
 
   pub count_end : (k : ℕ) (e : Exchange) → length (ended plan k e).markers ≡ length e.markers
   count_end k e = steps_keep plan (λ x. length x.markers ≡ length e.markers) k (count_steps (length e.markers) k) most_steps_alone e refl
@@ -203,7 +155,7 @@ module _ (plan : Tables) where
 
     by_work : (now : Marker) (work : Work) → slice_get e.markers k ≡ Some now → now.work ≡ work → is_idle m.work ≡ true
     by_work now Idle there is = idle_end (stays_idle plan k most_steps_alone e now there (ap is_idle is))
-    by_work now (Does n a) there is = idle_end (alone_idle plan laws e was k n now a there is others)
+    by_work now (Does n a) there is = idle_end (alone_idle plan laws e was k n a (record { marker = now; there = there; work = is }) others)
 
     by : (found : Option Marker) → slice_get e.markers k ≡ found → is_idle m.work ≡ true
     by None there =
@@ -241,7 +193,7 @@ module _ (plan : Tables) where
 
     back_else : (k j : ℕ) (e : Exchange) → j ≢ k → slice_get (given_back plan k e).markers j ≡ slice_get e.markers j
     back_else k j e two =
-        back_keeps plan (λ x. slice_get x.markers j ≡ slice_get e.markers j) k (λ x is. step_else plan x k j two ∙ is) (λ x number m a is there at. marker_else x.markers k j (record m { work = Does number (restarted (office plan) a) }) two ∙ is) e refl
+        back_keeps plan (λ x. slice_get x.markers j ≡ slice_get e.markers j) k (λ x is. step_else plan x k j two ∙ is) (λ x number a is at. marker_else x.markers k j _ two ∙ is) e refl
 
     end_else : (k j : ℕ) (e : Exchange) → j ≢ k → slice_get (ended plan k e).markers j ≡ slice_get e.markers j
     end_else k j e two = steps_keep plan (λ x. slice_get x.markers j ≡ slice_get e.markers j) k (λ x is. step_else plan x k j two ∙ is) most_steps_alone e refl

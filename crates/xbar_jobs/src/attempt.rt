@@ -41,13 +41,13 @@ impl Model for Attempt {
 
 impl Attempt {
     ghost use Rattle.std.specs.Prelude.{ℕ, None, Err, is_some, if◌then◌else◌};
-    ghost use Rattle.turns.specs.Attempt.{act, begin_with, change, closing_act, free_act, changed, forgotten, freed, goes_on, operated, put_off as put_off_by, reply_in, rest_of, restarted, walks_on, IsAnswerTo};
+    ghost use Rattle.turns.specs.Attempt.{act, begin_with, change, closing_act, free_act, changed, forgotten, freed, goes_on, operated, put_off as put_off_by, reply_in, rest_of, restarted, turn_in, walks_on, IsAnswerTo};
     ghost use Rattle.xbar_plan.specs.Lawful.{IsLawful};
     ghost use Rattle.xbar_plan.specs.Tables.{Tables};
     ghost use Rattle.xbar_equip.specs.Conn.{IsConn};
     ghost use Rattle.xbar_equip.specs.Word.{word_count};
     ghost use Rattle.xbar_office.specs.Legal.{IsJob};
-    ghost use Rattle.xbar_jobs.specs.Attempt.{count_in, decided, next_step, step_of, turn_in};
+    ghost use Rattle.xbar_jobs.specs.Attempt.{count_in, decided, next_step, step_of};
     ghost use Rattle.xbar_jobs.specs.Closing.{effects as effects_of};
     ghost use Rattle.xbar_jobs.specs.Jobs.{first_conn as first_conn_of};
     ghost use Rattle.xbar_jobs.specs.Keeping.{AreEffects, IsWanted};

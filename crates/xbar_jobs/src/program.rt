@@ -25,12 +25,12 @@ impl Model for Program {
 
 impl Program {
     ghost use Rattle.std.specs.Prelude.{ℕ};
-    ghost use Rattle.turns.specs.Attempt.{act, change, reply_in, restarted, IsAnswerTo};
+    ghost use Rattle.turns.specs.Attempt.{act, change, reply_in, restarted, turn_in, IsAnswerTo};
     ghost use Rattle.xbar_equip.specs.Word.{word_count};
     ghost use Rattle.xbar_office.specs.Legal.{IsJob};
     ghost use Rattle.xbar_plan.specs.Lawful.{IsLawful};
     ghost use Rattle.xbar_plan.specs.Tables.{Tables};
-    ghost use Rattle.xbar_jobs.specs.Attempt.{counted, fresh, next_step, turn_in, with_count};
+    ghost use Rattle.xbar_jobs.specs.Attempt.{counted, fresh, next_step, with_count};
     ghost use Rattle.xbar_jobs.specs.Office.{office};
     ghost use Rattle.xbar_jobs.specs.OnWords.{step_word};
     ghost use Rattle.xbar_jobs.specs.Standing.{Stands};
