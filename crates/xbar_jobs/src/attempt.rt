@@ -14,8 +14,8 @@ use xbar_equip::Conn;
 use xbar_office::{Job, Reply};
 use xbar_plan::Plan;
 
-/// Room for the connectors of an attempt: a job seizes 18 at most, and the bound that is proved is 19.
-const MOST_HELD: usize = 19;
+/// Room for the connectors of an attempt: the ten line link frames, and eight others.
+const MOST_HELD: usize = 18;
 
 /// What a marker knows of its job since it last began it.
 #[derive(Debug, Drop)]

@@ -23,15 +23,17 @@ ghost use Rattle.xbar_office.specs.declared.job.Job.{Job};
 ghost use Rattle.xbar_office.specs.declared.job.Job.TheVariants.{Release};
 ghost use Rattle.xbar_office.specs.declared.reply.Card.{Card};
 ghost use Rattle.xbar_office.specs.declared.reply.End.TheVariants.{Released};
-ghost use Rattle.xbar_jobs.specs.Attempt.{Act, Attempt, step_of};
+ghost use Rattle.xbar_jobs.specs.Attempt.{Act, Attempt, fresh, step_of};
+ghost use Rattle.xbar_jobs.specs.Counting.{after_answers};
 ghost use Rattle.xbar_jobs.specs.Jobs.{script};
 ghost use Rattle.xbar_jobs.specs.Keeping.{IsCovered};
 ghost use Rattle.xbar_jobs.specs.Office.{ShowsOffice, office};
 ghost use Rattle.xbar_jobs.specs.OnWords.{answered, applied, operation, step_word};
 ghost use Rattle.xbar_jobs.specs.Opening.{ReleasesJust};
+ghost use Rattle.xbar_jobs.specs.Others.{SeizesOthers};
 ghost use Rattle.xbar_jobs.specs.Script.{Script, Seen, walk};
 ghost use Rattle.xbar_jobs.specs.declared.decision.Decision.{Decision};
-ghost use Rattle.xbar_jobs.specs.Standing.{most_effects, most_held, most_readings, most_steps};
+ghost use Rattle.xbar_jobs.specs.Standing.{Stands, most_effects, most_held, most_others, most_readings, most_seizings, most_steps};
 ghost use Rattle.xbar_jobs.specs.Turning.{DoesAsOffice};
 ghost use Rattle.xbar_equip.specs.declared.conn.Conn.{Conn};
 
@@ -96,5 +98,27 @@ pub fn steady_attempts_are_short()
 
 /// How much each job asks for at most: so many tests, seizings and effects.
 pub fn jobs_are_bounded()
-    ensures { (plan : Tables) → IsLawful plan → AreBounded (office plan) most_readings most_held most_effects }
+    ensures { (plan : Tables) → IsLawful plan → AreBounded (office plan) most_readings most_seizings most_effects }
 {}
+
+/// Whatever an attempt is told, it holds no more than 18 connectors: each of the ten line link frames
+/// once, and eight others, since no script seizes more others.
+pub fn jobs_hold_few_connectors()
+    ensures others { (plan : Tables) (job : Job) → IsLawful plan → SeizesOthers most_others (script plan job) }
+    ensures stands { (plan : Tables) (a : Attempt) → Stands plan a → length a.held ≤ most_held }
+    ensures told { (plan : Tables) (job : Job) (answers : List Answer) → IsLawful plan → IsJob job
+        → length (after_answers plan (fresh job) answers).attempt.held ≤ most_held }
+{}
+
+/// An attempt that is never put off and never tries a seizing again counts the steps that it took, and
+/// so to 128 at most.
+pub fn counts_are_steps()
+    ensures count { (plan : Tables) (job : Job) (answers : List Answer) → IsLawful plan → IsJob job
+        → AreSteady (office plan) (begin (office plan) job) answers
+        → (after_answers plan (fresh job) answers).count ≡ length answers }
+    ensures bound { (plan : Tables) (job : Job) (answers : List Answer) → IsLawful plan → IsJob job
+        → AreSteady (office plan) (begin (office plan) job) answers
+        → (after_answers plan (fresh job) answers).count ≤ most_steps }
+{
+    steady_attempts_are_short();
+}

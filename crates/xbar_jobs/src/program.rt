@@ -25,12 +25,13 @@ impl Model for Program {
 
 impl Program {
     ghost use Rattle.std.specs.Prelude.{ℕ};
-    ghost use Rattle.turns.specs.Attempt.{act, change, reply_in, restarted, IsAnswerTo};
+    ghost use Rattle.turns.specs.Attempt.{act, reply_in, restarted, IsAnswerTo};
     ghost use Rattle.xbar_equip.specs.Word.{word_count};
     ghost use Rattle.xbar_office.specs.Legal.{IsJob};
     ghost use Rattle.xbar_plan.specs.Lawful.{IsLawful};
     ghost use Rattle.xbar_plan.specs.Tables.{Tables};
-    ghost use Rattle.xbar_jobs.specs.Attempt.{counted, fresh, next_step, turn_in, with_count};
+    ghost use Rattle.xbar_jobs.specs.Attempt.{fresh, next_step, turn_in, with_count};
+    ghost use Rattle.xbar_jobs.specs.Counting.{after_answer};
     ghost use Rattle.xbar_jobs.specs.Office.{office};
     ghost use Rattle.xbar_jobs.specs.OnWords.{step_word};
     ghost use Rattle.xbar_jobs.specs.Standing.{Stands};
@@ -91,7 +92,7 @@ impl Program {
     pub fn take(&mut self, plan: &Plan, answer: Answer)
         requires answer { IsAnswerTo (act self.old.attempt) answer }
         requires plan { Stands plan.now self.old.attempt }
-        ensures change { self.new ≡ with_count (counted self.old.count) (change (office plan.now) self.old.attempt answer) }
+        ensures change { self.new ≡ after_answer plan.now self.old answer }
         ensures plan { Stands plan.now self.new.attempt }
         ensures turn { (number : ℕ) → answer ≡ Answer.Turn number → DoesAsOffice plan.now self.new.attempt }
     {
