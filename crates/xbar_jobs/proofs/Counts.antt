@@ -26,7 +26,7 @@ use Rattle.xbar_jobs.specs.declared.effect.Effect.{Effect}
 use Rattle.xbar_jobs.proofs.HoldsFew.{few_change, holds_begin, holds_change}
 use Rattle.xbar_jobs.proofs.OfficeSystem.{office_is}
 
--- while steady answers come, an attempt that has made a step holds something before its turn, or seizes
+-- while steady answers come, an attempt that has made a step seizes, holds something or has decided
 abbrev HasBegun : Phase → List Conn → Type 0
 HasBegun (Requests conn) held = ¬ (held ≡ [])
 HasBegun (Seizes conn expected) held = ⊤
@@ -37,7 +37,8 @@ HasBegun GivesBack held = ⊥
 HasBegun (Operates turn) held = ⊤
 
 -- so its count isn't begun anew
-counts_on : (phase : Phase) (held : List Conn) (count : ℕ) → HasBegun phase held → count_in phase held count ≡ count
+counts_on : (phase : Phase) (held : List Conn) (count : ℕ) → HasBegun phase held
+    → count_in phase held count ≡ count
 counts_on (Requests conn) [] count begun = absurd (begun refl)
 counts_on (Requests conn) (own ∷ held) count begun = refl
 counts_on (Seizes conn expected) held count begun = refl
@@ -59,16 +60,20 @@ not_empty [] last e = absurd cc
 not_empty (own ∷ held) last e = absurd cc
 
 module _ (plan : Tables) where
-  begun_on : (a : Attempt) (found : Result Decision Wanted) → ¬ (a.held ≡ []) → HasBegun (goes_on (office plan) a found).phase (goes_on (office plan) a found).held
+  begun_on : (a : Attempt) (found : Result Decision Wanted) → ¬ (a.held ≡ [])
+      → HasBegun (goes_on (office plan) a found).phase (goes_on (office plan) a found).held
   begun_on a (Ok decision) some = tt
   begun_on a (Err (Seize conn)) some = some
   begun_on a (Err (Test word)) some = some
 
-  begun_operated : (a : Attempt) (turn : ℕ) (effects : List Effect) → a.phase ≡ Operates turn → HasBegun (operated a effects).phase (operated a effects).held
+  begun_operated : (a : Attempt) (turn : ℕ) (effects : List Effect) → a.phase ≡ Operates turn
+      → HasBegun (operated a effects).phase (operated a effects).held
   begun_operated a turn [] at = subst (λ (phase : Phase). HasBegun phase (operated a []).held) (sym at) tt
   begun_operated a turn (effect ∷ effects) at = subst (λ (phase : Phase). HasBegun phase a.held) (sym at) tt
 
-  begun_in : (a : Attempt) (phase : Phase) (answer : Answer) → a.phase ≡ phase → HasBegun phase a.held → IsAnswerTo (act_in phase a) answer → IsSteady answer → HasBegun (changed (office plan) a phase answer).phase (changed (office plan) a phase answer).held
+  begun_in : (a : Attempt) (phase : Phase) (answer : Answer) → a.phase ≡ phase
+      → HasBegun phase a.held → IsAnswerTo (act_in phase a) answer → IsSteady answer
+      → HasBegun (changed (office plan) a phase answer).phase (changed (office plan) a phase answer).held
   begun_in a (Requests conn) (Asked word) at begun fits steady = tt
   begun_in a (Requests conn) (Held holder) at begun fits steady = absurd steady
   begun_in a (Requests conn) (Preferred other) at begun fits steady = absurd steady
@@ -92,7 +97,9 @@ module _ (plan : Tables) where
   begun_in a (Operates turn) answer at begun fits steady = subst (λ (phase : Phase). HasBegun phase a.held) (sym at) tt
 
   -- each steady answer counts one more
-  count_along : (p : Counted) (answers : List Answer) → HasBegun p.attempt.phase p.attempt.held → AreSteady (office plan) p.attempt answers → p.count + length answers < 2 ^ 32 → (after_answers plan p answers).count ≡ p.count + length answers
+  count_along : (p : Counted) (answers : List Answer) → HasBegun p.attempt.phase p.attempt.held
+      → AreSteady (office plan) p.attempt answers → p.count + length answers < 2 ^ 32
+      → (after_answers plan p answers).count ≡ p.count + length answers
   count_along p [] begun steady below = omega arith
   count_along p (answer ∷ answers) begun (fits, steady, later) below =
       let after : Attempt = change (office plan) p.attempt answer in
@@ -101,7 +108,9 @@ module _ (plan : Tables) where
       let rest = count_along (after_answer plan p answer) answers still later (omega (arith, below, one)) in
       omega (arith, rest, one)
 
-  pub count_is : (job : Job) (answers : List Answer) → AreSteady (office plan) (begin (office plan) job) answers → length answers < 2 ^ 32 → (after_answers plan (fresh job) answers).count ≡ length answers
+  pub count_is : (job : Job) (answers : List Answer)
+      → AreSteady (office plan) (begin (office plan) job) answers → length answers < 2 ^ 32
+      → (after_answers plan (fresh job) answers).count ≡ length answers
   count_is job [] steady below = refl
   count_is job (Asked word ∷ answers) (fits, steady, later) below =
       let rest = count_along (after_answer plan (fresh job) (Asked word)) answers tt later (omega (arith, below)) in
@@ -118,7 +127,8 @@ module _ (plan : Tables) where
     pub holds : HoldsFewIn plan a a.phase
 
   module _ (laws : IsLawful plan) where
-    held_along : (p : Counted) (answers : List Answer) → HoldsFewAlong p.attempt → length (after_answers plan p answers).attempt.held ≤ most_held
+    held_along : (p : Counted) (answers : List Answer) → HoldsFewAlong p.attempt
+        → length (after_answers plan p answers).attempt.held ≤ most_held
     held_along p [] along = along.few
     held_along p (answer ∷ answers) along = held_along (after_answer plan p answer) answers (record {
       job = job_stays (office plan) p.attempt answer along.job;
@@ -128,7 +138,8 @@ module _ (plan : Tables) where
     })
 
     -- whatever it is told, an attempt never holds more than the most
-    pub held_is_few : (job : Job) (answers : List Answer) → IsJob job → length (after_answers plan (fresh job) answers).attempt.held ≤ most_held
+    pub held_is_few : (job : Job) (answers : List Answer) → IsJob job
+        → length (after_answers plan (fresh job) answers).attempt.held ≤ most_held
     held_is_few job answers in_range = held_along (fresh job) answers (record {
       job = in_range;
       comes = stands_begin (office plan) (office_is plan laws) job in_range;

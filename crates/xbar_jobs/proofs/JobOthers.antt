@@ -37,12 +37,14 @@ unfolding SeizesOthers approach ◌>>=◌
 approach_seizes line = (omega arith, λ word. tt)
 
 -- to trace a line's path seizes one trunk link frame
-trace_at_seizes : (line : Line) (channel frame : ℕ) (switch : Option ℕ) → SeizesOthers 0 (trace_at line channel frame switch)
+trace_at_seizes : (line : Line) (channel frame : ℕ) (switch : Option ℕ)
+    → SeizesOthers 0 (trace_at line channel frame switch)
 unfolding SeizesOthers trace_at ◌>>=◌
 trace_at_seizes line channel frame None = tt
 trace_at_seizes line channel frame (Some switch) = λ word. tt
 
-trace_to_seizes : (line : Line) (channel : ℕ) (frame : Option ℕ) → SeizesOthers 1 (trace_to line channel frame)
+trace_to_seizes : (line : Line) (channel : ℕ) (frame : Option ℕ)
+    → SeizesOthers 1 (trace_to line channel frame)
 unfolding SeizesOthers trace_to ◌>>=◌
 trace_to_seizes line channel None = tt
 trace_to_seizes line channel (Some frame) = (omega arith, λ word. trace_at_seizes line channel frame (place_at_field Other word line.frame))
@@ -57,17 +59,20 @@ unfolding trace
 trace_seizes party = trace_by_seizes party.line (channel_of party)
 
 -- and to trace one back, a line link frame
-trace_back_at_seizes : (place : TrunkPlace) (channel frame : ℕ) (switch : Option ℕ) → SeizesOthers 0 (trace_back_at place channel frame switch)
+trace_back_at_seizes : (place : TrunkPlace) (channel frame : ℕ) (switch : Option ℕ)
+    → SeizesOthers 0 (trace_back_at place channel frame switch)
 unfolding SeizesOthers trace_back_at ◌>>=◌
 trace_back_at_seizes place channel frame None = tt
 trace_back_at_seizes place channel frame (Some switch) = λ word. tt
 
-trace_back_to_seizes : (place : TrunkPlace) (channel : ℕ) (frame : Option ℕ) → SeizesOthers 0 (trace_back_to place channel frame)
+trace_back_to_seizes : (place : TrunkPlace) (channel : ℕ) (frame : Option ℕ)
+    → SeizesOthers 0 (trace_back_to place channel frame)
 unfolding SeizesOthers trace_back_to ◌>>=◌
 trace_back_to_seizes place channel None = tt
 trace_back_to_seizes place channel (Some frame) = (omega arith, λ word. trace_back_at_seizes place channel frame (place_at_field Other word place.frame))
 
-trace_back_by_seizes : (place : TrunkPlace) (channel : Option ℕ) → SeizesOthers 0 (trace_back_by place channel)
+trace_back_by_seizes : (place : TrunkPlace) (channel : Option ℕ)
+    → SeizesOthers 0 (trace_back_by place channel)
 unfolding SeizesOthers trace_back_by ◌>>=◌
 trace_back_by_seizes place None = tt
 trace_back_by_seizes place (Some channel) = λ word. trace_back_to_seizes place channel (field_at_place Other word place.switch)
@@ -77,12 +82,14 @@ unfolding SeizesOthers trace_back ◌>>=◌
 trace_back_seizes place = λ word. trace_back_by_seizes place (field_at_place Other word place.appearance)
 
 -- so does each line that is hunted
-unless_busy_seizes : (party : Party) (next : Script (Option Party)) (channel : Option ℕ) → SeizesOthers 0 next → SeizesOthers 0 (unless_busy party next channel)
+unless_busy_seizes : (party : Party) (next : Script (Option Party)) (channel : Option ℕ)
+    → SeizesOthers 0 next → SeizesOthers 0 (unless_busy party next channel)
 unfolding SeizesOthers unless_busy
 unless_busy_seizes party next None seizes = tt
 unless_busy_seizes party next (Some channel) seizes = seizes
 
-unless_calling_seizes : (line : Line) (next : Script (Option Party)) (same : Bool) → SeizesOthers 0 next → SeizesOthers 0 (unless_calling line next same)
+unless_calling_seizes : (line : Line) (next : Script (Option Party)) (same : Bool)
+    → SeizesOthers 0 next → SeizesOthers 0 (unless_calling line next same)
 unfolding unless_calling
 unless_calling_seizes line next true seizes = seizes
 unless_calling_seizes line next false seizes =
@@ -100,24 +107,29 @@ module _ (plan : Tables) (calling : Party) (groups : List ℕ) (few : length gro
   call_line_seizes None = tt
   call_line_seizes (Some called) = connect_seizes plan Connected _ groups 4 6 few refl
 
-  call_number_seizes : (lines : Option (List Line)) → SeizesOthers 6 (call_number plan calling groups lines)
+  call_number_seizes : (lines : Option (List Line))
+      → SeizesOthers 6 (call_number plan calling groups lines)
   unfolding SeizesOthers call_number
   call_number_seizes None = tt
   call_number_seizes (Some lines) = others_bind 0 6 6 (hunt calling.line lines) _ refl (hunt_seizes calling.line lines) (λ called. call_line_seizes called)
 
-  call_by_seizes : (dialled : ℕ) (inside : Bool) → SeizesOthers 6 (call_by plan calling dialled groups inside)
+  call_by_seizes : (dialled : ℕ) (inside : Bool)
+      → SeizesOthers 6 (call_by plan calling dialled groups inside)
   unfolding call_by
   call_by_seizes dialled true = call_number_seizes (lines_of plan (number_of dialled))
   call_by_seizes dialled false = connect_seizes plan Connected (alone calling) groups 4 6 few refl
 
 module _ (plan : Tables) (laws : IsLawful plan) where
-  call_seizes : (calling : Party) (dialled : ℕ) (groups : Option (List ℕ)) → IfSome groups (λ groups. length groups ≤ 4) → SeizesOthers 6 (call plan calling dialled groups)
+  call_seizes : (calling : Party) (dialled : ℕ) (groups : Option (List ℕ))
+      → IfSome groups (λ groups. length groups ≤ 4)
+      → SeizesOthers 6 (call plan calling dialled groups)
   unfolding SeizesOthers call
   call_seizes calling dialled None few = tt
   call_seizes calling dialled (Some groups) few = call_by_seizes plan calling groups few dialled (leads_inside plan groups)
 
   -- the register's group is seized besides
-  without_seizes : (calling : Party) (dialled : ℕ) (leave : Leave) → SeizesOthers 7 (call_without plan calling dialled leave)
+  without_seizes : (calling : Party) (dialled : ℕ) (leave : Leave)
+      → SeizesOthers 7 (call_without plan calling dialled leave)
   unfolding SeizesOthers call_without ◌>>=◌
   without_seizes calling dialled leave =
       let after : Party = party_after (leave_effects leave) calling in
@@ -128,12 +140,14 @@ module _ (plan : Tables) (laws : IsLawful plan) where
             (others_read_with (made (leave_effects leave)) 6 _ (call_seizes after dialled groups (route_few plan laws (code_of dialled)))) (λ decision. tt),
       )
 
-  from_seizes : (calling : Party) (dialled : ℕ) (own : Path) (found : Option MemberPlace) → SeizesOthers 7 (call_from plan calling dialled own found)
+  from_seizes : (calling : Party) (dialled : ℕ) (own : Path) (found : Option MemberPlace)
+      → SeizesOthers 7 (call_from plan calling dialled own found)
   unfolding SeizesOthers call_from
   from_seizes calling dialled own None = tt
   from_seizes calling dialled own (Some found) = without_seizes calling dialled (leave_of own None found)
 
-  complete_from_seizes : (calling : Party) (dialled : ℕ) (own : Option Path) → SeizesOthers 7 (complete_from plan calling dialled own)
+  complete_from_seizes : (calling : Party) (dialled : ℕ) (own : Option Path)
+      → SeizesOthers 7 (complete_from plan calling dialled own)
   unfolding SeizesOthers complete_from
   complete_from_seizes calling dialled None = tt
   complete_from_seizes calling dialled (Some own) = from_seizes calling dialled own (register_at plan own)
@@ -146,7 +160,8 @@ module _ (plan : Tables) (laws : IsLawful plan) where
       (λ calling. others_bind 1 7 8 (trace calling) _ refl (trace_seizes calling) (λ own. complete_from_seizes calling dialled own))
 
 module _ (plan : Tables) where
-  serve_seizes : (calling : Party) (channel : Option ℕ) → SeizesOthers 3 (serve_idle_line plan calling channel)
+  serve_seizes : (calling : Party) (channel : Option ℕ)
+      → SeizesOthers 3 (serve_idle_line plan calling channel)
   unfolding SeizesOthers serve_idle_line
   serve_seizes calling (Some channel) = tt
   serve_seizes calling None = connect_seizes plan DialTone (alone calling) (register_group plan ∷ []) 1 3 (omega arith) refl
@@ -161,7 +176,8 @@ module _ (plan : Tables) where
   trace_other_seizes None = tt
   trace_other_seizes (Some place) = trace_back_seizes place
 
-  release_member_seizes : (own : Path) (found : Option MemberPlace) → SeizesOthers 1 (release_member own found)
+  release_member_seizes : (own : Path) (found : Option MemberPlace)
+      → SeizesOthers 1 (release_member own found)
   unfolding SeizesOthers release_member ◌>>=◌
   release_member_seizes own None = tt
   release_member_seizes own (Some found) =
@@ -180,7 +196,8 @@ module _ (plan : Tables) where
       (λ party. others_bind 1 1 2 (trace party) _ refl (trace_seizes party) (λ own. release_from_seizes own))
 
 -- and no job more than eight
-pub job_seizes : (plan : Tables) (job : Job) → IsLawful plan → SeizesOthers most_others (script plan job)
+pub job_seizes : (plan : Tables) (job : Job) → IsLawful plan
+    → SeizesOthers most_others (script plan job)
 unfolding script
 job_seizes plan (Dial line) laws = others_more 3 8 (dial_steps plan line) (omega arith) (dial_seizes plan line)
 job_seizes plan (Complete line dialled) laws = complete_seizes plan laws line dialled

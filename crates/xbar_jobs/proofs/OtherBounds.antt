@@ -22,7 +22,8 @@ use Rattle.xbar_jobs.specs.declared.party.Party.{Party}
 use Rattle.xbar_jobs.specs.declared.trunks.IdleGroup.{IdleGroup}
 
 -- a script that seizes no more than so many seizes no more than what is not less
-pub others_more : {A : Type 0} (few most : ℕ) (script : Script A) → few ≤ most → SeizesOthers few script → SeizesOthers most script
+pub others_more : {A : Type 0} (few most : ℕ) (script : Script A) → few ≤ most
+    → SeizesOthers few script → SeizesOthers most script
 unfolding SeizesOthers
 others_more few most (Ends found) fewer seizes = tt
 others_more few most (Tests word script) fewer seizes = λ value. others_more few most (script value) fewer (seizes value)
@@ -30,8 +31,9 @@ others_more few most (Seizes conn script) fewer (one, seizes) =
     (omega (arith, one), others_more (few - others conn) (most - others conn) script (omega (arith, one)) seizes)
 
 -- one after another seizes no more than both together
-pub others_bind : {A B : Type 0} (few more all : ℕ) (script : Script A) (next : A → Script B) → all ≡ few + more
-    → SeizesOthers few script → ((found : A) → SeizesOthers more (next found)) → SeizesOthers all (script >>= next)
+pub others_bind : {A B : Type 0} (few more all : ℕ) (script : Script A) (next : A → Script B)
+    → all ≡ few + more → SeizesOthers few script → ((found : A) → SeizesOthers more (next found))
+    → SeizesOthers all (script >>= next)
 unfolding SeizesOthers ◌>>=◌
 others_bind few more all (Ends found) next sum seizes later = others_more more all (next found) (omega arith) (later found)
 others_bind few more all (Tests word script) next sum seizes later = λ value. others_bind few more all (script value) next sum (seizes value) later
@@ -39,7 +41,8 @@ others_bind few more all (Seizes conn script) next sum (one, seizes) later =
     (omega (arith, one), others_bind (few - others conn) more (all - others conn) script next (omega (arith, one)) seizes later)
 
 -- words that are read as something makes them change nothing of it
-pub others_read_with : {A : Type 0} (change : ℕ → ℕ → ℕ) (most : ℕ) (script : Script A) → SeizesOthers most script → SeizesOthers most (read_with change script)
+pub others_read_with : {A : Type 0} (change : ℕ → ℕ → ℕ) (most : ℕ) (script : Script A)
+    → SeizesOthers most script → SeizesOthers most (read_with change script)
 unfolding SeizesOthers read_with
 others_read_with change most (Ends found) seizes = tt
 others_read_with change most (Tests word script) seizes = λ value. others_read_with change most (script (change word value)) (seizes (change word value))
@@ -77,44 +80,53 @@ reach_seizes : (member : Member) → SeizesOthers 1 (reach member)
 unfolding SeizesOthers reach test_place ◌>>=◌
 reach_seizes member = (omega arith, λ word. others_bind 0 0 0 (test_second member.second) _ refl (second_seizes member.second) (λ second. tt))
 
-second_trial_seizes : (plan : Tables) (sides : Sides) (cards : List Card) (index : ℕ) (member : Member) → SeizesOthers 1 (second_trial_steps plan sides cards index member)
+second_trial_seizes : (plan : Tables) (sides : Sides) (cards : List Card) (index : ℕ) (member : Member)
+    → SeizesOthers 1 (second_trial_steps plan sides cards index member)
 unfolding SeizesOthers second_trial_steps
 second_trial_seizes plan sides cards index member = others_bind 1 0 1 (reach member) _ refl (reach_seizes member) (λ trunk. tt)
 
-second_trial_at_seizes : (plan : Tables) (sides : Sides) (trunks : Trunks) (cards : List Card) (index : ℕ) → SeizesOthers 1 (second_trial_at plan sides trunks cards index)
+second_trial_at_seizes : (plan : Tables) (sides : Sides) (trunks : Trunks) (cards : List Card) (index : ℕ)
+    → SeizesOthers 1 (second_trial_at plan sides trunks cards index)
 unfolding SeizesOthers second_trial_at
 second_trial_at_seizes plan sides trunks cards index = at (slice_get trunks.members index) where
-  at : (o : Option Member) → SeizesOthers 1 (option_map_or (second_trial_steps plan sides cards index) o (Ends (second_decides cards index NoChannel)))
+  at : (o : Option Member)
+      → SeizesOthers 1 (option_map_or (second_trial_steps plan sides cards index) o (Ends (second_decides cards index NoChannel)))
   at None = tt
   at (Some member) = second_trial_seizes plan sides cards index member
 
-after_trial_seizes : (plan : Tables) (sides : Sides) (trunks : Trunks) (first : ℕ) (end : TrialEnd) → SeizesOthers 1 (after_first_trial plan sides trunks first end)
+after_trial_seizes : (plan : Tables) (sides : Sides) (trunks : Trunks) (first : ℕ) (end : TrialEnd)
+    → SeizesOthers 1 (after_first_trial plan sides trunks first end)
 unfolding SeizesOthers after_first_trial
 after_trial_seizes plan sides trunks first (Chosen call) = tt
 after_trial_seizes plan sides trunks first (Faulty link) = second_trial_at_seizes plan sides trunks (cards_of 1 (Faulty link)) (next_clear trunks first)
 after_trial_seizes plan sides trunks first NoChannel = second_trial_at_seizes plan sides trunks [] (next_clear trunks first)
 
-first_trial_seizes : (plan : Tables) (parties : CallParties) (trunks : Trunks) (first : ℕ) (member : Member) → SeizesOthers 2 (first_trial_steps plan parties trunks first member)
+first_trial_seizes : (plan : Tables) (parties : CallParties) (trunks : Trunks) (first : ℕ) (member : Member)
+    → SeizesOthers 2 (first_trial_steps plan parties trunks first member)
 unfolding first_trial_steps
 first_trial_seizes plan parties trunks first member =
     others_bind 1 1 2 (reach member) _ refl (reach_seizes member)
     (λ trunk. others_bind 0 1 1 (test_sides parties) _ refl (sides_seize parties) (λ sides. after_trial_seizes plan sides trunks first (trial_end plan sides 0 trunk)))
 
 -- so two trials seize two
-two_trials_seize : (plan : Tables) (parties : CallParties) (trunks : Trunks) (first : ℕ) → SeizesOthers 2 (two_trials_steps plan parties trunks first)
+two_trials_seize : (plan : Tables) (parties : CallParties) (trunks : Trunks) (first : ℕ)
+    → SeizesOthers 2 (two_trials_steps plan parties trunks first)
 unfolding SeizesOthers two_trials_steps
 two_trials_seize plan parties trunks first = at (slice_get trunks.members first) where
-  at : (o : Option Member) → SeizesOthers 2 (option_map_or (first_trial_steps plan parties trunks first) o (Ends (second_decides [] first NoChannel)))
+  at : (o : Option Member)
+      → SeizesOthers 2 (option_map_or (first_trial_steps plan parties trunks first) o (Ends (second_decides [] first NoChannel)))
   at None = tt
   at (Some member) = first_trial_seizes plan parties trunks first member
 
 -- each group that is looked at is seized
-idle_seizes : (group word count : ℕ) (next : Script (Option IdleGroup)) (found : Option ℕ) → SeizesOthers count next → SeizesOthers count (idle_or group word next found)
+idle_seizes : (group word count : ℕ) (next : Script (Option IdleGroup)) (found : Option ℕ)
+    → SeizesOthers count next → SeizesOthers count (idle_or group word next found)
 unfolding SeizesOthers idle_or
 idle_seizes group word count next None seizes = seizes
 idle_seizes group word count next (Some first) seizes = tt
 
-find_seizes : (plan : Tables) (groups : List ℕ) → SeizesOthers (length groups) (find_trunk plan groups)
+find_seizes : (plan : Tables) (groups : List ℕ)
+    → SeizesOthers (length groups) (find_trunk plan groups)
 unfolding SeizesOthers find_trunk ◌>>=◌
 find_seizes plan [] = tt
 find_seizes plan (group ∷ groups) =
@@ -122,7 +134,8 @@ find_seizes plan (group ∷ groups) =
     let later = others_more (length groups) left (find_trunk plan groups) (omega arith) (find_seizes plan groups) in
     (omega arith, λ word. idle_seizes group word left (find_trunk plan groups) (first_clear (trunks_of plan group word)) later)
 
-try_seizes : (plan : Tables) (aim : Aim) (parties : CallParties) (idle : Option IdleGroup) → SeizesOthers 2 (try_trunk plan aim parties idle)
+try_seizes : (plan : Tables) (aim : Aim) (parties : CallParties) (idle : Option IdleGroup)
+    → SeizesOthers 2 (try_trunk plan aim parties idle)
 unfolding SeizesOthers try_trunk
 try_seizes plan aim parties None = tt
 try_seizes plan aim parties (Some idle) =
@@ -130,7 +143,8 @@ try_seizes plan aim parties (Some idle) =
     others_bind 2 0 2 (two_trials_steps plan parties trunks idle.first) _ refl (two_trials_seize plan parties trunks idle.first) (λ trials. tt)
 
 -- to connect parties seizes one for each of the groups, and two
-pub connect_seizes : (plan : Tables) (aim : Aim) (parties : CallParties) (groups : List ℕ) (count all : ℕ) → length groups ≤ count → all ≡ count + 2 → SeizesOthers all (connect plan aim parties groups)
+pub connect_seizes : (plan : Tables) (aim : Aim) (parties : CallParties) (groups : List ℕ) (count all : ℕ)
+    → length groups ≤ count → all ≡ count + 2 → SeizesOthers all (connect plan aim parties groups)
 unfolding connect
 connect_seizes plan aim parties groups count all few sum =
     others_bind count 2 all (find_trunk plan groups) _ sum

@@ -10,13 +10,14 @@ others (Llf frame) = 0
 others (Tlf frame) = 1
 others (Group group) = 1
 
--- how many of some connectors are other ones than line link frames
+-- how many connectors there are in a list besides line link frames
 abbrev pub others_in : List Conn → ℕ
 others_in [] = 0
 others_in (conn ∷ conns) = others conn + others_in conns
 
--- whatever is read, a script has no more seizings than these of other connectors than line link frames
+-- whatever is read, a script has no more seizings than these of connectors besides line link frames
 unfoldable pub SeizesOthers : {A : Type 0} → ℕ → Script A → Type 0
 SeizesOthers most (Ends found) = ⊤
 SeizesOthers most (Tests word script) = (value : ℕ) → SeizesOthers most (script value)
-SeizesOthers most (Seizes conn script) = (others conn ≤ most) × SeizesOthers (most - others conn) script
+SeizesOthers most (Seizes conn script) =
+    (others conn ≤ most) × SeizesOthers (most - others conn) script

@@ -23,11 +23,11 @@ most_readings = 42
 abbrev pub most_held : ℕ
 most_held = 18
 
--- of which no more than these are other ones than line link frames
+-- nor more of them besides line link frames, of which there are ten
 abbrev pub most_others : ℕ
 most_others = 8
 
--- nor does a script have more seizings, where each seizing of one connector counts
+-- nor does a script have more seizings, where one of a connector that is held already counts too
 abbrev pub most_seizings : ℕ
 most_seizings = 19
 
@@ -76,7 +76,9 @@ pub record IsAttempt (a : Attempt) : Type 0 where
 
 -- the attempt has room for what is left of its script
 abbrev pub HasRoom : Tables → Attempt → Type 0
-HasRoom plan a = AsksAtMost (most_readings - length a.readings) (most_seizings - length a.held) (left conn_eq (generic.seen_of a) (script plan a.job))
+HasRoom plan a =
+    AsksAtMost (most_readings - length a.readings) (most_seizings - length a.held)
+    (left conn_eq (generic.seen_of a) (script plan a.job))
 
 -- it needs room only as long as it goes through its script
 abbrev pub HasRoomIn : Tables → Attempt → Phase → Type 0
@@ -88,8 +90,8 @@ HasRoomIn plan a (Withdraws conn) = ⊤
 HasRoomIn plan a GivesBack = ⊤
 HasRoomIn plan a (Operates turn) = ⊤
 
--- what the attempt holds are connectors of the office, none of them twice; so many more other ones than
--- line link frames as its script still seizes don't make them too many
+-- the attempt holds connectors of the office, none of them twice; and besides line link frames no more than
+-- leave room for those that its script may still seize
 pub record HoldsFew (plan : Tables) (a : Attempt) : Type 0 where
   pub conns : AreConns a.held
   pub distinct : AreDistinct a.held

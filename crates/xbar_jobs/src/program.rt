@@ -75,7 +75,8 @@ impl Program {
 
     /// How the job ended; known from its turn on.
     pub fn reply(&self) -> Option<&Reply>
-        ensures reply { option_copied result ≡ reply_in self.now.attempt.phase self.now.attempt.reply }
+        ensures reply { option_copied result
+            ≡ reply_in self.now.attempt.phase self.now.attempt.reply }
         ensures known { is_some result ≡ is_some (turn_in self.now.attempt.phase) }
     {
         self.attempt.reply()
@@ -94,7 +95,8 @@ impl Program {
         requires plan { Stands plan.now self.old.attempt }
         ensures change { self.new ≡ after_answer plan.now self.old answer }
         ensures plan { Stands plan.now self.new.attempt }
-        ensures turn { (number : ℕ) → answer ≡ Answer.Turn number → DoesAsOffice plan.now self.new.attempt }
+        ensures turn { (number : ℕ) → answer ≡ Answer.Turn number
+            → DoesAsOffice plan.now self.new.attempt }
     {
         xbar_plan::laws::every_plan_is_lawful(plan);
         let _job = self.attempt.job();
@@ -108,8 +110,10 @@ impl Program {
 
     /// Begins anew, once all that is held is given back. Past the turn nothing changes.
     pub fn restart(&mut self)
-        ensures change { (plan : Tables) → self.new ≡ with_count self.old.count (restarted (office plan) self.old.attempt) }
-        ensures plan { (plan : Tables) → IsLawful plan → Stands plan self.old.attempt → Stands plan self.new.attempt }
+        ensures change { (plan : Tables)
+            → self.new ≡ with_count self.old.count (restarted (office plan) self.old.attempt) }
+        ensures plan { (plan : Tables) → IsLawful plan → Stands plan self.old.attempt
+            → Stands plan self.new.attempt }
     {
         let _job = self.attempt.job();
         self.attempt.restart();
