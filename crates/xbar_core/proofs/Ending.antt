@@ -20,7 +20,7 @@ use Rattle.xbar_plan.specs.Tables.{Tables}
 use Rattle.xbar_plan.specs.Lawful.{IsLawful}
 use Rattle.xbar_jobs.specs.Attempt.{Attempt, Phase}
 use Rattle.xbar_jobs.specs.Office.{office}
-use Rattle.xbar_jobs.specs.Standing.{most_effects, most_held, most_readings}
+use Rattle.xbar_jobs.specs.Standing.{most_effects, most_readings, most_seizings}
 use Rattle.xbar_jobs.specs.declared.effect.Effect.{Effect}
 use Rattle.xbar_jobs.proofs.JobBounds.{jobs_bounded}
 use Rattle.xbar_jobs.proofs.OfficeSystem.{office_is}
@@ -122,9 +122,9 @@ module _ (plan : Tables) where
     past_few turn phase =
         let few = (stands_there plan e k n a was at).few in
         let sound = was.lawful.sound k n a (actor_at e k n a at) in
-        let within = within_anywhere (office plan) (office_is plan laws) most_readings most_held most_effects (jobs_bounded plan laws) a sound.job sound.stands in
-        let left : length a.effects + length a.held ≤ 1 + length a.held + (3 * most_held + most_readings + most_effects + 1) =
-        subst (WithinIn (office plan) (office_is plan laws) most_readings most_held most_effects (jobs_bounded plan laws) (1 + length a.held + (3 * most_held + most_readings + most_effects + 1)) a) phase within in
+        let within = within_anywhere (office plan) (office_is plan laws) most_readings most_seizings most_effects (jobs_bounded plan laws) a sound.job sound.stands in
+        let left : length a.effects + length a.held ≤ 1 + length a.held + (3 * most_seizings + most_readings + most_effects + 1) =
+        subst (WithinIn (office plan) (office_is plan laws) most_readings most_seizings most_effects (jobs_bounded plan laws) (1 + length a.held + (3 * most_seizings + most_readings + most_effects + 1)) a) phase within in
         omega (arith, few, left)
 
     -- a marker that no other is in the way of ends
@@ -132,5 +132,5 @@ module _ (plan : Tables) where
     alone_idle aside =
         let few = (stands_there plan e k n a was at).few in
         ends_with k most_steps_alone e at.marker at.marker.work (is_idle at.marker.work) at.there refl refl
-        (alone_ends (office plan) (office_is plan laws) most_readings most_held most_effects (jobs_bounded plan laws)
+        (alone_ends (office plan) (office_is plan laws) most_readings most_seizings most_effects (jobs_bounded plan laws)
         (λ w j number b now stands. keeps (office plan) (office_is plan laws) w now j number b stands) k n (world plan e) a most_steps_alone was.lawful (actor_at e k n a at) aside (omega (arith, few)))

@@ -26,7 +26,7 @@ pub const MOST_MARKERS: usize = 48;
 
 /// A marker that no other is in the way of has no more steps to its end: two to withdraw and to try
 /// again, 19 frees, and the 114 of the job anew.
-const MOST_STEPS_ALONE: u32 = 135;
+const MOST_STEPS_ALONE: u32 = 134;
 
 /// An office of 1 to 48 markers, on words of its own.
 #[derive(Debug, Drop)]

@@ -75,7 +75,7 @@ module _ (plan : Tables) (laws : IsLawful plan) where
   call_asks calling dialled None few = tt
   call_asks calling dialled (Some groups) few = call_by_asks plan calling groups few laws dialled (leads_inside plan groups)
 
-  route_few : (code : ℕ) → IfSome (route_of plan code) (λ groups. length groups ≤ 4)
+  pub route_few : (code : ℕ) → IfSome (route_of plan code) (λ groups. length groups ≤ 4)
   route_few code = of (route_of plan code) refl where
     of : (found : Option (List ℕ)) → route_of plan code ≡ found → IfSome found (λ groups. length groups ≤ 4)
     of None is = tt

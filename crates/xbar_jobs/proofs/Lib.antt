@@ -19,9 +19,13 @@ pub mod TracingBounds
 pub mod TrialBounds
 pub mod CompleteBounds
 pub mod JobBounds
+pub mod OtherBounds
+pub mod JobOthers
 pub mod Covered
 pub mod ReadOnce
 pub mod AttemptRoom
+pub mod FewConns
+pub mod HoldsFew
 pub mod JunctorRows
 pub mod BusyMembers
 pub mod TakenMembers
@@ -47,4 +51,5 @@ pub mod OpenedWords
 pub mod OfficeSystem
 pub mod JobTurns
 pub mod AttemptStands
+pub mod Counts
 pub mod StepActs

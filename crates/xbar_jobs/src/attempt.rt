@@ -14,8 +14,8 @@ use xbar_equip::Conn;
 use xbar_office::{Job, Reply};
 use xbar_plan::Plan;
 
-/// Room for the connectors of an attempt: a job seizes 18 at most, and the bound that is proved is 19.
-const MOST_HELD: usize = 19;
+/// Room for the connectors of an attempt: the ten line link frames, and eight others.
+const MOST_HELD: usize = 18;
 
 /// What a marker knows of its job since it last began it.
 #[derive(Debug, Drop)]
@@ -34,9 +34,23 @@ impl Model for Attempt {
 
     ghost Value = { Attempt };
 
-    ghost view = { λ a. record { job = a.job; readings = a.readings; held = a.held.items; phase = a.phase; reply = a.reply; effects = a.effects.items } };
+    ghost view = { λ a. record {
+      job = a.job;
+      readings = a.readings;
+      held = a.held.items;
+      phase = a.phase;
+      reply = a.reply;
+      effects = a.effects.items;
+    } };
 
-    ghost invariant = { λ a. IsAttempt (record { job = a.job; readings = a.readings; held = a.held.items; phase = a.phase; reply = a.reply; effects = a.effects.items }) };
+    ghost invariant = { λ a. IsAttempt (record {
+      job = a.job;
+      readings = a.readings;
+      held = a.held.items;
+      phase = a.phase;
+      reply = a.reply;
+      effects = a.effects.items;
+    }) };
 }
 
 impl Attempt {
@@ -143,7 +157,8 @@ impl Attempt {
 
     /// Whether nothing was done yet.
     pub fn is_fresh(&self) -> bool
-        ensures { (count : ℕ) → count_in self.now.phase self.now.held count ≡ (if result then 0 else count) }
+        ensures { (count : ℕ)
+            → count_in self.now.phase self.now.held count ≡ (if result then 0 else count) }
     {
         matches!(self.phase, Phase::Requests(_)) && self.held.is_empty()
     }
@@ -188,7 +203,8 @@ impl Attempt {
 
     /// Gives up before the turn.
     fn give_up(&mut self)
-        ensures { (plan : Tables) → self.new ≡ freed (office plan) (forgotten self.old) self.old.held }
+        ensures { (plan : Tables)
+            → self.new ≡ freed (office plan) (forgotten self.old) self.old.held }
     {
         if self.held.is_empty() {
             self.begin_anew();
@@ -252,7 +268,8 @@ impl Attempt {
     }
 
     fn asked(&mut self, word: u64)
-        ensures { (plan : Tables) → self.new ≡ changed (office plan) self.old self.old.phase (Answer.Asked word) }
+        ensures { (plan : Tables)
+            → self.new ≡ changed (office plan) self.old self.old.phase (Answer.Asked word) }
     {
         let phase = self.phase;
         if let Phase::Requests(conn) = phase {
@@ -261,7 +278,8 @@ impl Attempt {
     }
 
     fn told_again(&mut self, word: u64)
-        ensures { (plan : Tables) → self.new ≡ changed (office plan) self.old self.old.phase (Answer.Again word) }
+        ensures { (plan : Tables)
+            → self.new ≡ changed (office plan) self.old self.old.phase (Answer.Again word) }
     {
         let phase = self.phase;
         if let Phase::Seizes(conn, _) = phase {
@@ -270,8 +288,10 @@ impl Attempt {
     }
 
     fn refused(&mut self)
-        ensures held { (plan : Tables) (holder : ℕ) → self.new ≡ changed (office plan) self.old self.old.phase (Answer.Held holder) }
-        ensures preferred { (plan : Tables) (other : ℕ) → self.new ≡ changed (office plan) self.old self.old.phase (Answer.Preferred other) }
+        ensures held { (plan : Tables) (holder : ℕ)
+            → self.new ≡ changed (office plan) self.old self.old.phase (Answer.Held holder) }
+        ensures preferred { (plan : Tables) (other : ℕ)
+            → self.new ≡ changed (office plan) self.old self.old.phase (Answer.Preferred other) }
     {
         let phase = self.phase;
         match phase {
@@ -298,7 +318,8 @@ impl Attempt {
 
     fn read(&mut self, plan: &Plan, value: u64)
         requires { Stands plan.now self.old }
-        ensures { self.new ≡ changed (office plan.now) self.old self.old.phase (Answer.Value value) }
+        ensures { self.new
+            ≡ changed (office plan.now) self.old self.old.phase (Answer.Value value) }
     {
         let phase = self.phase;
         if let Phase::Tests(word) = phase {
@@ -311,7 +332,8 @@ impl Attempt {
     }
 
     fn turned(&mut self, number: u64)
-        ensures { (plan : Tables) → self.new ≡ changed (office plan) self.old self.old.phase (Answer.Turn number) }
+        ensures { (plan : Tables)
+            → self.new ≡ changed (office plan) self.old self.old.phase (Answer.Turn number) }
     {
         let phase = self.phase;
         if phase == Phase::Turns {
@@ -320,7 +342,8 @@ impl Attempt {
     }
 
     fn done(&mut self)
-        ensures { (plan : Tables) → self.new ≡ changed (office plan) self.old self.old.phase Answer.Done }
+        ensures { (plan : Tables)
+            → self.new ≡ changed (office plan) self.old self.old.phase Answer.Done }
     {
         let phase = self.phase;
         match phase {

@@ -70,7 +70,8 @@ fn call_number(
     number: DirNo,
 ) -> Result<Decision, Wanted>
     requires { AreGroups plan.now groups.now }
-    ensures { result ≡ walk seen.now (call_number_script plan.now calling.now groups.now (lines_of plan.now number)) }
+    ensures { result ≡ walk seen.now
+        (call_number_script plan.now calling.now groups.now (lines_of plan.now number)) }
 {
     let Some(lines) = plan.stations(number) else {
         return Ok(Decision::refused(End::VacantNumber));
@@ -82,7 +83,8 @@ fn call_number(
 /// A call by the groups that the dialled code leads to: inside the office its number counts too.
 #[tactic(auto, using(turns::proofs::Walks::walk_end), unfolding(crate::specs::Completing::call, crate::specs::Completing::call_by))]
 fn call(plan: &Plan, seen: &Seen, calling: &Party, dialled: Dialled) -> Result<Decision, Wanted>
-    ensures { result ≡ walk seen.now (call_script plan.now calling.now dialled (route_of plan.now (code_of dialled))) }
+    ensures { result ≡ walk seen.now
+        (call_script plan.now calling.now dialled (route_of plan.now (code_of dialled))) }
 {
     xbar_plan::laws::codes_lead_to_trunks();
     let Some(groups) = plan.route(dialled.code()) else {
@@ -142,7 +144,8 @@ fn complete_from(
     dialled: Dialled,
     own: &Option<Path>,
 ) -> Result<Decision, Wanted>
-    ensures { result ≡ walk gathered.now (complete_from_script plan.now calling.now dialled own.now) }
+    ensures { result ≡ walk gathered.now
+        (complete_from_script plan.now calling.now dialled own.now) }
 {
     let Some(own) = own else {
         return Ok(Decision::refused(End::NoRegister));

@@ -34,7 +34,10 @@ impl<'a, 'm> Model for Seen<'a, 'm> {
 
     ghost Value = { Seen };
 
-    ghost view = { λ a. record { held = a.held.now; readings = changed_readings (made_by a.made.now) a.readings.now } };
+    ghost view = { λ a. record {
+      held = a.held.now;
+      readings = changed_readings (made_by a.made.now) a.readings.now;
+    } };
 
     ghost invariant = { λ a. AreEffects a.made.now };
 }
@@ -71,7 +74,10 @@ impl<'a, 'm> Seen<'a, 'm> {
     /// Each word is read as these effects will leave it.
     pub fn as_if_made(gathered: &Gathered<'a>, made: &'m [Effect]) -> Self
         requires { AreEffects made.now }
-        ensures { result ≡ record { held = gathered.now.held; readings = changed_readings (made_by made.now) gathered.now.readings } }
+        ensures { result ≡ record {
+          held = gathered.now.held;
+          readings = changed_readings (made_by made.now) gathered.now.readings;
+        } }
     {
         Seen {
             held: gathered.held,

@@ -69,7 +69,9 @@ pub fn next_in_row(job: &Job, readings: &Readings, word: WordNo) -> Option<WordN
 pub fn walk(plan: &Plan, gathered: &Gathered, job: &Job) -> Result<Decision, Wanted>
     requires { IsJob job.now }
     ensures walk { result ≡ walk_of gathered.now (script plan.now job.now) }
-    ensures range { MatchResult result (λ decision. AreEffects (effects decision) × (length (effects decision) ≤ most_effects)) (λ wanted. IsWanted wanted) }
+    ensures range { MatchResult result
+        (λ decision. AreEffects (effects decision) × (length (effects decision) ≤ most_effects))
+        (λ wanted. IsWanted wanted) }
 {
     xbar_plan::laws::every_plan_is_lawful(plan);
     follow(plan, gathered, job)
