@@ -31,3 +31,7 @@ pub mod LinkSides
 pub mod LeftEffects
 pub mod ClosedCrosspoints
 pub mod OneCall
+pub mod GrownRecords
+pub mod ToldEvents
+pub mod PastTurns
+pub mod WorldMoves
