@@ -35,3 +35,7 @@ pub mod GrownRecords
 pub mod ToldEvents
 pub mod PastTurns
 pub mod WorldMoves
+pub mod FreedConnectors
+pub mod BegunJobs
+pub mod LeastRequests
+pub mod HeldWords
