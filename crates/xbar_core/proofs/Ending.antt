@@ -95,7 +95,7 @@ module _ (plan : Tables) where
         by false goes later = subst (λ (x : Exchange). IsIdleAt (steps plan k less x) k) (sym (step_made plan e k n m a there at goes)) (later goes)
 
   -- a marker that is free for a job is idle
-  free_idle : (work : Work) → IsFree (office plan) work → is_idle work ≡ true
+  pub free_idle : (work : Work) → IsFree (office plan) work → is_idle work ≡ true
   free_idle Idle free = refl
   free_idle (Does n a) free = ap is_rest free
 

@@ -39,3 +39,6 @@ pub mod FreedConnectors
 pub mod BegunJobs
 pub mod LeastRequests
 pub mod HeldWords
+pub mod Stages
+pub mod LawfulEnds
+pub mod SettledOffices

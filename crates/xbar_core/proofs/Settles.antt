@@ -47,14 +47,14 @@ all_changed change Has Done is (suc k) e has j m below there = by (one_or_two j 
   by (inr two) earlier = earlier (omega (arith, two)) (sym (is.others k j (for_each change k e) two) ∙ there)
 
 -- all markers have this
-abbrev AllAre : (Work → Type 0) → Exchange → Type 0
+abbrev pub AllAre : (Work → Type 0) → Exchange → Type 0
 AllAre Done e = (j : ℕ) (m : Marker) → slice_get e.markers j ≡ Some m → Done m.work
 
 -- a marker gives back, or is idle
-abbrev NotPast : Work → Type 0
+abbrev pub NotPast : Work → Type 0
 NotPast work = given_by work ≡ given.PastTurn → ⊥
 
-idle_not_past : (work : Work) → is_idle work ≡ true → NotPast work
+pub idle_not_past : (work : Work) → is_idle work ≡ true → NotPast work
 idle_not_past Idle idle past = absurd cc
 idle_not_past (Does n a) idle past = by (is_rest (act a)) idle past where
   by : (idle : Bool) → idle ≡ true → (if idle then given.Idle else given_in a.phase) ≡ given.PastTurn → ⊥
@@ -68,7 +68,7 @@ given_not_past n a gives past = by (is_rest (act a)) past where
   by false at = let none : ◌≡◌ {A = Given} given.Given given.PastTurn = sym gives ∙ at in cc
 
 -- a marker is idle where it has nothing to give back
-idle_given : (work : Work) → given_by work ≡ given.Idle → is_idle work ≡ true
+pub idle_given : (work : Work) → given_by work ≡ given.Idle → is_idle work ≡ true
 idle_given Idle is = refl
 idle_given (Does n a) is = by (is_rest (act a)) refl is where
   in_phase : (phase : Phase) → given_in phase ≡ given.Idle → ⊥
@@ -86,7 +86,7 @@ idle_given (Does n a) is = by (is_rest (act a)) refl is where
 
 module _ (plan : Tables) where
   -- an idle marker is out of the way of the others
-  idle_aside : (work : Work) → is_idle work ≡ true → IsAside (office plan) work
+  pub idle_aside : (work : Work) → is_idle work ≡ true → IsAside (office plan) work
   idle_aside Idle idle = tt
   idle_aside (Does n a) idle = let bare = rest_bare (office plan) a.phase a.job a.readings a.held a.reply a.effects (idle_free plan (Does n a) idle) in (bare.1, bare.2)
 
