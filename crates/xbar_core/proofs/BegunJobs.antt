@@ -1,6 +1,6 @@
 -- a marker that gives back is at the very beginning of its job
 use Rattle.std.proofs.Common.{◌≡◌, ℕ, zero, suc, ◌+◌, Bool, true, false, List, [], ◌∷◌, length, refl, sym, ◌∙◌, ap, subst, arith}
-use Rattle.std.specs.Prelude.{Option, Some, slice_get}
+use Rattle.std.specs.Prelude.{slice_get}
 use Rattle.turns.specs.Attempt as generic
 use Rattle.turns.specs.Attempt.{act, act_in, begin_with, change, changed, forgotten, free_act, freed, request_in, rest_of, restarted, restarted_in}
 use Rattle.turns.specs.Runs.{is_rest}
@@ -15,7 +15,7 @@ use Rattle.xbar_jobs.specs.Attempt.{Act, Attempt, Phase, next_step, step_of}
 use Rattle.xbar_jobs.specs.Jobs.{first_conn}
 use Rattle.xbar_jobs.specs.Office.{office}
 use Rattle.xbar_core.specs.AtWork.{IsBackingAt, IsBackingBy, IsBackingIn, gives_up, left_at, left_by, told_of}
-use Rattle.xbar_core.specs.Exchange.{Exchange, Marker, Work}
+use Rattle.xbar_core.specs.Exchange.{Exchange}
 use Rattle.xbar_core.specs.Holding.{IsAt}
 use Rattle.xbar_core.specs.Moves.{begun_anew, given_at, given_back, given_by, request_count, stepped, steps, work_anew}
 use Rattle.xbar_core.specs.declared.given.Given.TheVariants as given

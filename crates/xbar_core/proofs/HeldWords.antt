@@ -16,7 +16,6 @@ use Rattle.xbar_equip.proofs.WordNumbers.{distinct}
 use Rattle.xbar_plan.specs.Tables.{Tables}
 use Rattle.xbar_office.specs.Legal.{after}
 use Rattle.xbar_office.specs.declared.job.Job.{Job}
-use Rattle.xbar_office.specs.declared.reply.Record.{Record}
 use Rattle.xbar_office.specs.declared.reply.Reply.{Reply}
 use Rattle.xbar_jobs.specs.Attempt.{Attempt, Phase, next_step}
 use Rattle.xbar_jobs.specs.Office.{Protects, ShowsOffice, office}
@@ -106,17 +105,19 @@ module _ (plan : Tables) where
     past_recorded k number turn a at past =
         let fits : IsOperating (office plan) e.words (map turned e.records) k number turn a = fits_in k number a at (Operates turn) past in
         let known : IsRecorded (office plan) (map turned e.records) k number turn a = fits.recorded in
-        let found : IsTurn e.records known.place known.recorded = turn_there e.records known.place known.recorded (slice_get e.records known.place) refl (sym (slice_get-map turned e.records known.place) ∙ known.stands) in
-        (known.place, record {
-          number = number;
-          at = at;
-          turn = turn;
-          past = past;
-          recorded = found.found;
-          stands = found.there;
-          turn_is = ap (λ (t : worlds.Record Job Reply). t.turn) found.turn ∙ known.turn_is;
-          marker = ap (λ (t : worlds.Record Job Reply). t.actor) found.turn ∙ known.actor;
-          number_is = ap (λ (t : worlds.Record Job Reply). t.number) found.turn ∙ known.number_is;
-          job = ap (λ (t : worlds.Record Job Reply). t.job) found.turn ∙ known.job;
-          reply = known.reply ∙ ap (λ (t : worlds.Record Job Reply). Some t.reply) (sym found.turn);
-        })
+        let found : IsTurn e.records known.place known.recorded = turn_there e.records known.place known.recorded (slice_get e.records known.place) refl (sym (slice_get-map turned e.records known.place) ∙ known.stands) in (
+          known.place,
+          record {
+            number = number;
+            at = at;
+            turn = turn;
+            past = past;
+            recorded = found.found;
+            stands = found.there;
+            turn_is = ap (λ (t : worlds.Record Job Reply). t.turn) found.turn ∙ known.turn_is;
+            marker = ap (λ (t : worlds.Record Job Reply). t.actor) found.turn ∙ known.actor;
+            number_is = ap (λ (t : worlds.Record Job Reply). t.number) found.turn ∙ known.number_is;
+            job = ap (λ (t : worlds.Record Job Reply). t.job) found.turn ∙ known.job;
+            reply = known.reply ∙ ap (λ (t : worlds.Record Job Reply). Some t.reply) (sym found.turn);
+          },
+        )

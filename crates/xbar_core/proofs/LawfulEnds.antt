@@ -1,7 +1,7 @@
 -- in a lawful office a marker past its turn has little left, and one that no other is in the way of comes to its end
-use Rattle.std.proofs.Common.{◌≡◌, ℕ, zero, suc, ◌+◌, ◌-◌, ◌*◌, ◌<◌, ◌≤◌, ◌⊎◌, Bool, true, false, List, [], ◌∷◌, ◌++◌, length, length-append, map, inl, inr, refl, sym, ◌∙◌, ap, subst, arith, eqb}
+use Rattle.std.proofs.Common.{◌≡◌, ℕ, zero, suc, ◌-◌, ◌<◌, ◌≤◌, Bool, true, false, List, [], ◌∷◌, ◌++◌, length, length-append, map, inl, inr, refl, sym, ◌∙◌, ap, subst, arith, eqb}
 use Rattle.std.specs.List.{AllByRecursion, IsDistinct, list_any}
-use Rattle.std.specs.Prelude.{◌==◌, ◌||◌, Some, slice_get}
+use Rattle.std.specs.Prelude.{◌||◌, slice_get}
 use Rattle.std.proofs.lemmas.Bool.{eqb-true}
 use Rattle.std.proofs.lemmas.List.{length-map}
 use Rattle.std.proofs.lemmas.Map.Steps.{length-le_from_distinct_below}
@@ -10,10 +10,10 @@ use lib.ListN.{get_elem?}
 use Rattle.turns.specs.Among.{AreDistinct, IsIn}
 use Rattle.turns.specs.Attempt.{HasTurned, StandsIn, act}
 use Rattle.turns.specs.Bounds as bounds
-use Rattle.turns.specs.Law.{IsFree, IsSound}
+use Rattle.turns.specs.Law.{IsSound}
 use Rattle.turns.specs.Runs as runs
 use Rattle.turns.specs.Runs.{is_rest}
-use Rattle.turns.specs.World.{ActorOf, Does, World, moved}
+use Rattle.turns.specs.World.{ActorOf, Does, World}
 use Rattle.turns.specs.declared.phase.Phase.TheVariants.{Operates}
 use Rattle.turns.proofs.AloneEnds.{alone_ends}
 use Rattle.turns.proofs.Moving.{keeps}
@@ -32,14 +32,13 @@ use Rattle.xbar_jobs.specs.declared.decision.Decision.{Decision}
 use Rattle.xbar_jobs.specs.declared.effect.Effect.{Effect}
 use Rattle.xbar_jobs.proofs.JobBounds.{jobs_bounded}
 use Rattle.xbar_jobs.proofs.OfficeSystem.{office_is}
-use Rattle.xbar_core.specs.AtWork.{told_of}
-use Rattle.xbar_core.specs.Exchange.{Exchange, IsLawfulExchange, Marker, is_idle, world}
+use Rattle.xbar_core.specs.Exchange.{Exchange, IsLawfulExchange, is_idle, world}
 use Rattle.xbar_core.specs.Holding.{IsAt}
 use Rattle.xbar_core.specs.Moves.{stepped, steps}
 use Rattle.xbar_core.specs.Settling.{most_steps_alone}
 use Rattle.xbar_core.proofs.Actors.{actor_at}
 use Rattle.xbar_core.proofs.Ending.{IsIdleAt, free_idle, past_ends}
-use Rattle.xbar_core.proofs.Markers.{marker_set, marker_there, works}
+use Rattle.xbar_core.proofs.Markers.{marker_set, marker_there}
 use Rattle.xbar_core.proofs.StepCases.{step_made}
 use Rattle.xbar_core.proofs.Stepping.{step_idle}
 use Rattle.xbar_core.proofs.WorldMoves.{has_to_give, steps_in_world}
@@ -105,11 +104,14 @@ module _ (plan : Tables) where
   next_at e k number a at = by (is_rest (act a)) refl where
     by : (rest : Bool) → is_rest (act a) ≡ rest → (b : Attempt) × IsAt (stepped plan k e) k number b
     by true rests = (a, subst (λ (x : Exchange). IsAt x k number a) (sym (step_idle plan e k at.marker at.there (ap is_idle at.work ∙ rests))) at)
-    by false goes = (_, record {
-      marker = _;
-      there = ap (λ (x : Exchange). slice_get x.markers k) (step_made plan e k number at.marker a at.there at.work goes) ∙ marker_set e.markers k _ at.marker at.there;
-      work = refl;
-    })
+    by false goes = (
+      _,
+      record {
+        marker = _;
+        there = ap (λ (x : Exchange). slice_get x.markers k) (step_made plan e k number at.marker a at.there at.work goes) ∙ marker_set e.markers k _ at.marker at.there;
+        work = refl;
+      },
+    )
 
   module _ (laws : IsLawful plan) where
     -- its steps are those of its world

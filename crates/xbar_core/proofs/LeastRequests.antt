@@ -1,8 +1,8 @@
 -- a marker that is preferred is the lowest of those that have requested the connector
-use Rattle.std.proofs.Common.{◌≡◌, ◌≢◌, ℕ, zero, suc, ◌+◌, ◌<◌, ◌≤◌, ◌⊎◌, Bool, true, false, bit_or, slice_index, inl, inr, refl, sym, ◌∙◌, ap, subst, arith, eq-eqb}
+use Rattle.std.proofs.Common.{◌≡◌, ◌≢◌, ℕ, zero, suc, ◌+◌, ◌<◌, ◌≤◌, ◌⊎◌, Bool, true, false, bit_or, inl, inr, refl, sym, ◌∙◌, ap, subst, arith, eq-eqb}
 use Rattle.std.specs.Int.{bit_at}
 use Rattle.std.specs.Prelude.{◌==◌, ◌%◌, ◌||◌, Option, Some, None, if◌then◌else◌}
-use Rattle.turns.specs.Attempt.{act, act_in, change, told as told_by}
+use Rattle.turns.specs.Attempt.{act_in, told as told_by}
 use Rattle.turns.specs.Law.{FitsIn}
 use Rattle.turns.specs.Runs.{is_rest}
 use Rattle.turns.specs.Sharings.{by_holder, by_request, first_request, judged, lower_request, request_bit}

@@ -1,5 +1,5 @@
 -- a job past its turn comes to its end by the steps of its marker, whatever other moves come in between
-use Rattle.std.proofs.Common.{◌≡◌, ◌≢◌, ℕ, ◌+◌, ◌-◌, ◌≤◌, ◌⊎◌, Bool, true, false, List, [], ◌∷◌, ◌++◌, length, slice_index, inl, inr, refl, sym, ◌∙◌, ap, subst, arith}
+use Rattle.std.proofs.Common.{◌≡◌, ◌≢◌, ℕ, ◌+◌, ◌-◌, ◌≤◌, ◌⊎◌, Bool, true, false, List, [], ◌∷◌, length, inl, inr, refl, sym, ◌∙◌, ap, subst, arith}
 use Rattle.std.specs.Prelude.{◌==◌, cond, Option, Some, None, slice_get}
 use Rattle.std.proofs.lemmas.Bool.{eqb-true}
 use Rattle.std.proofs.lemmas.List.Sums.{sum_by-cons}
@@ -20,10 +20,10 @@ use Rattle.xbar_jobs.specs.Office.{office}
 use Rattle.xbar_jobs.specs.declared.effect.Effect.{Effect}
 use Rattle.xbar_core.specs.AtWork.{told_of}
 use Rattle.xbar_core.specs.Ends.{ComesToEnd, is_step_of, own_steps}
-use Rattle.xbar_core.specs.Exchange.{Exchange, Marker, Work, is_idle}
+use Rattle.xbar_core.specs.Exchange.{Exchange, Marker, is_idle}
 use Rattle.xbar_core.specs.Holding.{IsAt}
-use Rattle.xbar_core.specs.Moves.{answered, assigned, refusal, stepped, with_work}
-use Rattle.xbar_core.specs.Runs.{Assigns, BeginsAnew, GivesBack, Move, Settles, Steps, made_by, run_from, unless_refused}
+use Rattle.xbar_core.specs.Moves.{assigned, refusal, stepped, with_work}
+use Rattle.xbar_core.specs.Runs.{Assigns, BeginsAnew, GivesBack, Move, Settles, Steps, made_by, unless_refused}
 use Rattle.xbar_core.specs.declared.assign_fault.AssignFault.{AssignFault}
 use Rattle.xbar_core.proofs.Keeping.{KeepsRestarts, KeepsSteps, back_keeps, begun_keeps, settled_keeps}
 use Rattle.xbar_core.proofs.Markers.{marker_else, marker_set}

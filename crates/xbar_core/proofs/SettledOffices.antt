@@ -1,10 +1,10 @@
 -- a lawful office that settles does so: each marker runs to its end in its turn
 use Rattle.std.proofs.Common.{◌≡◌, ◌≢◌, ℕ, ◌<◌, ◌⊎◌, Bool, true, false, length, inl, inr, refl, sym, ◌∙◌, ap, subst, arith}
 use Rattle.std.specs.Prelude.{Option, Some, None, ⊤, if◌then◌else◌, slice_get}
-use Rattle.std.proofs.lemmas.Option.{none-some, same_Some, slice_get_within}
+use Rattle.std.proofs.lemmas.Option.{same_Some, slice_get_within}
 use mathlib.Core.Option.{some}
 use lib.ListN.{get_elem?}
-use Rattle.turns.specs.Attempt.{act, begin_with, restarted}
+use Rattle.turns.specs.Attempt.{act, begin_with}
 use Rattle.turns.specs.Bounds.{IsAside}
 use Rattle.turns.specs.Runs.{is_rest}
 use Rattle.turns.specs.World.{ActorOf, Idle, Does}

@@ -6,7 +6,7 @@ use Rattle.turns.proofs.Lists.{one_or_two}
 use Rattle.xbar_plan.specs.Tables.{Tables}
 use Rattle.xbar_core.specs.Ends.{EachMakes, EndsIfPast, GivesBack, IsPast, RunsToEnd, Settles}
 use Rattle.xbar_core.specs.Exchange.{Exchange, Marker, Work, is_idle}
-use Rattle.xbar_core.specs.Moves.{given_at, given_back, stepped, steps}
+use Rattle.xbar_core.specs.Moves.{given_at, stepped, steps}
 use Rattle.xbar_core.specs.Settling.{for_each}
 use Rattle.xbar_core.specs.declared.given.Given.{Given}
 use Rattle.xbar_core.specs.declared.given.Given.TheVariants as given

@@ -1,8 +1,7 @@
 -- a move of the office is that move of its world
-use Rattle.std.proofs.Common.{◌≡◌, ◌≢◌, ℕ, zero, suc, Bool, true, false, List, [], ◌∷◌, ◌++◌, append-nil, map, slice_index, slice_set, refl, sym, ◌∙◌, ap, subst}
+use Rattle.std.proofs.Common.{◌≡◌, ◌≢◌, ℕ, zero, suc, Bool, true, false, List, [], ◌∷◌, ◌++◌, append-nil, map, slice_set, refl, sym, ◌∙◌, ap, subst}
 use Rattle.std.specs.Prelude.{Option, Some, None, slice_get}
 use Rattle.std.proofs.lemmas.Option.{none-some}
-use Rattle.turns.specs.Attempt as generic
 use Rattle.turns.specs.Attempt.{StandsIn, act, act_in, begin_with, closing_act, free_act, restarted}
 use Rattle.turns.specs.Runs.{is_rest}
 use Rattle.turns.specs.World as worlds
@@ -12,13 +11,11 @@ use Rattle.turns.proofs.Lists.{set_idle}
 use Rattle.xbar_equip.specs.declared.conn.Conn.{Conn}
 use Rattle.xbar_plan.specs.Tables.{Tables}
 use Rattle.xbar_office.specs.declared.job.Job.{Job}
-use Rattle.xbar_office.specs.declared.reply.Record.{Record}
 use Rattle.xbar_office.specs.declared.reply.Reply.{Reply}
 use Rattle.xbar_jobs.specs.Attempt.{Attempt, Phase}
 use Rattle.xbar_jobs.specs.Jobs.{first_conn}
 use Rattle.xbar_jobs.specs.Office.{office}
 use Rattle.xbar_jobs.specs.declared.effect.Effect.{Effect}
-use Rattle.xbar_core.specs.AtWork.{told_of}
 use Rattle.xbar_core.specs.Exchange.{Exchange, IsLawfulExchange, Marker, Work, is_idle, turned, world}
 use Rattle.xbar_core.specs.Holding.{IsAt}
 use Rattle.xbar_core.specs.Moves.{assigned, begun_anew, stepped, with_work, work_anew}

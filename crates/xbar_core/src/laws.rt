@@ -142,105 +142,77 @@ pub fn a_release_opens_its_own_crosspoints()
 
 /// Whatever moves are made, the records before them begin the records after them.
 pub fn records_only_grow()
-    ensures moved {
-        (plan : Tables) (e : Exchange) (move : Move)
-        → (later : List Record) × ((made_by plan e move).records ≡ e.records ++ later)
-    }
-    ensures run {
-        (plan : Tables) (e : Exchange) (moves : List Move)
-        → (later : List Record) × ((run_from plan e moves).records ≡ e.records ++ later)
-    }
+    ensures moved { (plan : Tables) (e : Exchange) (move : Move)
+        → (later : List Record) × ((made_by plan e move).records ≡ e.records ++ later) }
+    ensures run { (plan : Tables) (e : Exchange) (moves : List Move)
+        → (later : List Record) × ((run_from plan e moves).records ≡ e.records ++ later) }
 {}
 
 /// A job past its turn comes to its end within as many steps of its marker as it has effects and connectors
 /// left, whatever other moves come in between. The step that frees its last connector tells its record.
 pub fn jobs_past_their_turns_end()
-    ensures ends {
-        (plan : Tables) (e : Exchange) (moves : List Move) (k number turn : ℕ) (a : Attempt)
-        → IsAt e k number a → a.phase ≡ Phase.Operates turn
+    ensures ends { (plan : Tables) (e : Exchange) (moves : List Move) (k number turn : ℕ)
+        (a : Attempt) → IsAt e k number a → a.phase ≡ Phase.Operates turn
         → length a.effects + length a.held ≤ own_steps k moves
-        → ComesToEnd plan e moves k number turn a.job
-    }
-    ensures told {
-        (plan : Tables) (e : Exchange) (k number turn : ℕ) (a : Attempt) (conn : Conn)
+        → ComesToEnd plan e moves k number turn a.job }
+    ensures told { (plan : Tables) (e : Exchange) (k number turn : ℕ) (a : Attempt) (conn : Conn)
         → IsLawfulExchange plan e → IsAt e k number a → a.phase ≡ Phase.Operates turn
         → a.effects ≡ [] → a.held ≡ conn ∷ []
-        → (r : Record) × (event_at_step plan k e ≡ Event.Finished r)
-    }
+        → (r : Record) × (event_at_step plan k e ≡ Event.Finished r) }
 {}
 
 /// An office that settles brings each job to its end: in the order of their numbers the markers past their
 /// turn run to their end, then all others give back, and then each runs to its end. There is but one office
 /// that this leads to.
 pub fn settling_ends_all_jobs()
-    ensures settles {
-        (plan : Tables) (e : Exchange) → IsLawful plan → IsLawfulExchange plan e
-        → Settles plan e (settled plan e)
-    }
-    ensures one {
-        (plan : Tables) (e other : Exchange) → Settles plan e other
-        → IsLawful plan → IsLawfulExchange plan e → other ≡ settled plan e
-    }
-    ensures same {
-        (plan : Tables) (e one other : Exchange) → Settles plan e one → Settles plan e other
-        → one ≡ other
-    }
+    ensures settles { (plan : Tables) (e : Exchange) → IsLawful plan → IsLawfulExchange plan e
+        → Settles plan e (settled plan e) }
+    ensures one { (plan : Tables) (e other : Exchange) → Settles plan e other
+        → IsLawful plan → IsLawfulExchange plan e → other ≡ settled plan e }
+    ensures same { (plan : Tables) (e one other : Exchange)
+        → Settles plan e one → Settles plan e other → one ≡ other }
 {}
 
 /// A move of the office is that move of its world: a step, if a marker that gives back holds something
 /// still, as each does in a lawful office; to begin a job anew; and to be assigned one.
 pub fn moves_are_those_of_its_world()
-    ensures steps {
-        (plan : Tables) (e : Exchange) (k number : ℕ) (a : Attempt) → IsAt e k number a
+    ensures steps { (plan : Tables) (e : Exchange) (k number : ℕ) (a : Attempt) → IsAt e k number a
         → (a.phase ≡ Phase.GivesBack → a.held ≢ [])
-        → world plan (stepped plan k e) ≡ worlds.moved (office plan) k number a (world plan e)
-    }
-    ensures holds {
-        (plan : Tables) (e : Exchange) (k number : ℕ) (a : Attempt)
-        → IsLawfulExchange plan e → IsAt e k number a → a.phase ≡ Phase.GivesBack → a.held ≢ []
-    }
-    ensures begins_anew {
-        (plan : Tables) (e : Exchange) (k number : ℕ) (a : Attempt) → IsAt e k number a
-        → world plan (begun_anew plan k e) ≡ worlds.given_back (office plan) k number a (world plan e)
-    }
-    ensures assigns {
-        (plan : Tables) (e : Exchange) (k number : ℕ) (job : Job)
-        → world plan (assigned k number job e) ≡ worlds.assigned (office plan) k number job (world plan e)
-    }
+        → world plan (stepped plan k e) ≡ worlds.moved (office plan) k number a (world plan e) }
+    ensures holds { (plan : Tables) (e : Exchange) (k number : ℕ) (a : Attempt)
+        → IsLawfulExchange plan e → IsAt e k number a → a.phase ≡ Phase.GivesBack → a.held ≢ [] }
+    ensures begins_anew { (plan : Tables) (e : Exchange) (k number : ℕ) (a : Attempt)
+        → IsAt e k number a → world plan (begun_anew plan k e)
+        ≡ worlds.given_back (office plan) k number a (world plan e) }
+    ensures assigns { (plan : Tables) (e : Exchange) (k number : ℕ) (job : Job)
+        → world plan (assigned k number job e)
+        ≡ worlds.assigned (office plan) k number job (world plan e) }
 {}
 
 /// A connector is freed in giving back, or past the turn once no effect is left.
 pub fn more_of_attempts_keep_their_order()
-    ensures frees {
-        (a : Attempt) (conn : Conn) → act a ≡ Free conn
+    ensures frees { (a : Attempt) (conn : Conn) → act a ≡ Free conn
         → (a.phase ≡ Phase.GivesBack)
-            ⊎ ((turn : ℕ) × (a.phase ≡ Phase.Operates turn) × (a.effects ≡ []))
-    }
+        ⊎ ((turn : ℕ) × (a.phase ≡ Phase.Operates turn) × (a.effects ≡ [])) }
 {}
 
 /// A step that frees a connector changes no protected word.
 pub fn more_of_words_are_their_holders()
-    ensures frees {
-        (plan : Tables) (e : Exchange) (k number n : ℕ) (a : Attempt) (conn : Conn)
+    ensures frees { (plan : Tables) (e : Exchange) (k number n : ℕ) (a : Attempt) (conn : Conn)
         → IsAt e k number a → act a ≡ Free conn → n < 416
-        → slice_index (stepped plan k e).words n ≡ slice_index e.words n
-    }
+        → slice_index (stepped plan k e).words n ≡ slice_index e.words n }
 {}
 
 /// A marker that gives back is at its job's very beginning.
 pub fn more_of_giving_back_frees_all()
-    ensures begins {
-        (plan : Tables) (e : Exchange) (k number : ℕ) (a : Attempt)
+    ensures begins { (plan : Tables) (e : Exchange) (k number : ℕ) (a : Attempt)
         → given_at (slice_get e.markers k) ≡ Given.Given → IsAt e k number a
-        → IsAt (given_back plan k e) k number (begin_with (first_conn a.job) a.job)
-    }
+        → IsAt (given_back plan k e) k number (begin_with (first_conn a.job) a.job) }
 {}
 
 /// The marker that is preferred has the lowest number of those that have requested the connector.
 pub fn more_of_events_tell_the_truth()
-    ensures least {
-        (plan : Tables) (e : Exchange) (k other : ℕ) → IsLawfulExchange plan e
+    ensures least { (plan : Tables) (e : Exchange) (k other : ℕ) → IsLawfulExchange plan e
         → event_at_step plan k e ≡ Event.Preferred other
-        → (conn : Conn) → AsksFor e k conn → (j : ℕ) → j < other → ¬ HasRequested e j conn
-    }
+        → (conn : Conn) → AsksFor e k conn → (j : ℕ) → j < other → ¬ HasRequested e j conn }
 {}
