@@ -1,5 +1,6 @@
 use Rattle.std.proofs.Common.{arith, subst, sym}
 use Rattle.turns.specs.Attempt.{StandsIn}
+use Rattle.turns.specs.Seen.{AreReadWords}
 use Rattle.xbar_jobs.specs.Attempt.{Attempt}
 use Rattle.xbar_jobs.specs.Office.{office}
 use Rattle.xbar_jobs.specs.Standing.{HasRoomIn}
@@ -10,7 +11,8 @@ pub push-requires : goal.push-requires
 push-requires c =
     let stands = subst (λ (a : Attempt). StandsIn (office c.args.plan.now) a a.phase) (sym c.self.view_is) c.requires.comes in
     let has_room = subst (λ (a : Attempt). HasRoomIn c.args.plan.now a a.phase) (sym c.self.view_is) c.requires.room in
-    let room = come_to_seize c.args.plan.now _ c.in-Seizes.conn c.in-Seizes.field-1 c.in-Seizes.is stands has_room in
+    let read = subst (λ (a : Attempt). AreReadWords a.readings) (sym c.self.view_is) c.requires.read in
+    let room = come_to_seize c.args.plan.now _ c.in-Seizes.conn c.in-Seizes.field-1 read c.in-Seizes.is stands has_room in
     (omega arith, room.fits)
 
 pub invariant_of-self : goal.invariant_of-self
@@ -21,3 +23,6 @@ invariant_of-self c = record {
   reply = c.self.invariant.reply;
   effects = c.self.invariant.effects;
 }
+
+pub walk_on-requires : goal.walk_on-requires
+walk_on-requires c = subst (λ (a : Attempt). AreReadWords a.readings) (sym c.self.view_is) c.requires.read
