@@ -1,6 +1,7 @@
 use Rattle.std.proofs.Common.{◌≡◌, ℕ, ◌<◌, ◌≤◌, List, [], length, subst, sym, arith}
 use Rattle.std.specs.Prelude.{Some, Result, Ok, Err, MatchResult}
-use Rattle.turns.proofs.Keeping.{WalkFits, under_more, walk_keeps}
+use Rattle.turns.proofs.Keeping.{HasReadWords, WalkFits, under_more, walk_fits, walk_keeps}
+use Rattle.turns.specs.Seen.{AreReadWords}
 use Rattle.turns.specs.System.{AreUnder}
 use Rattle.turns.specs.declared.wanted.Wanted.TheVariants.{Seize, Test}
 use Rattle.xbar_equip.specs.Word.{Word, IsWord, LineSwitch, LineJunctor, TrunkSwitch, TrunkJunctor, GroupWord, ConnWord, TurnWord, protector, word_number}
@@ -34,14 +35,14 @@ pub protected_below : (conn : Conn) (number : ℕ) → Protects conn number → 
 protected_below conn number p = subst (λ (n : ℕ). n < 416) p.named (number_below p.word conn p.there p.protects)
 
 -- a job's walk comes to effects on words that are held, to a word that may be tested, or to a connector
-pub walk_covered : (plan : Tables) (seen : Seen) (job : Job) → IsLawful plan → IsJob job → WalkFits (office plan) (IsCovered plan) seen.held (walk seen (script plan job))
-walk_covered plan seen job laws range =
-    walk_keeps (office plan) (λ a b e. (conn_eq-exact a b).0 e) (IsCovered plan) seen [] (script plan job) (λ conn within. absurd within) (script_keeps plan job laws range)
+pub walk_covered : (plan : Tables) (seen : Seen) (job : Job) → IsLawful plan → IsJob job → HasReadWords (office plan) seen → WalkFits (office plan) (IsCovered plan) seen.held (walk seen (script plan job))
+walk_covered plan seen job laws range read =
+    walk_fits (office plan) (λ a b e. (conn_eq-exact a b).0 e) (IsCovered plan) seen read [] (script plan job) (λ conn within. absurd within) (script_keeps plan job laws range)
 
 -- and to no more effects than there is room for
-walk_well_covered : (plan : Tables) (seen : Seen) (job : Job) → IsLawful plan → IsJob job → WalkFits (office plan) (IsWellCovered plan) seen.held (walk seen (script plan job))
-walk_well_covered plan seen job laws range =
-    walk_keeps (office plan) (λ a b e. (conn_eq-exact a b).0 e) (IsWellCovered plan) seen [] (script plan job) (λ conn within. absurd within) (job_keeps plan laws job range)
+walk_well_covered : (plan : Tables) (seen : Seen) (job : Job) → IsLawful plan → IsJob job → AreReadWords seen.readings → WalkFits (office plan) (IsWellCovered plan) seen.held (walk seen (script plan job))
+walk_well_covered plan seen job laws range read =
+    walk_keeps (office plan) (λ a b e. (conn_eq-exact a b).0 e) (IsWellCovered plan) seen read [] (script plan job) (λ conn within. absurd within) (job_keeps plan laws job range)
 
 in_office : (plan : Tables) (held : List Conn) (found : Result Decision Wanted) → WalkFits (office plan) (IsWellCovered plan) held found → MatchResult found (λ decision. AreEffects (effects decision) × (length (effects decision) ≤ most_effects)) (λ wanted. IsWanted wanted)
 in_office plan held (Ok decision) good = let fits = good.fits in (fits.covered.effects, fits.few)
@@ -49,13 +50,13 @@ in_office plan held (Err (Seize conn)) range = range
 in_office plan held (Err (Test word)) under = let below = protected_below under.lock word under.protects in omega arith
 
 -- so what it comes to is of the office
-pub walk_range : (plan : Tables) (seen : Seen) (job : Job) (found : Result Decision Wanted) → IsLawful plan → IsJob job → found ≡ walk seen (script plan job) → MatchResult found (λ decision. AreEffects (effects decision) × (length (effects decision) ≤ most_effects)) (λ wanted. IsWanted wanted)
-walk_range plan seen job found laws range is =
+pub walk_range : (plan : Tables) (seen : Seen) (job : Job) (found : Result Decision Wanted) → IsLawful plan → IsJob job → AreReadWords seen.readings → found ≡ walk seen (script plan job) → MatchResult found (λ decision. AreEffects (effects decision) × (length (effects decision) ≤ most_effects)) (λ wanted. IsWanted wanted)
+walk_range plan seen job found laws range read is =
     subst (λ (r : Result Decision Wanted). MatchResult r (λ decision. AreEffects (effects decision) × (length (effects decision) ≤ most_effects)) (λ wanted. IsWanted wanted)) (sym is)
-    (in_office plan seen.held (walk seen (script plan job)) (walk_well_covered plan seen job laws range))
+    (in_office plan seen.held (walk seen (script plan job)) (walk_well_covered plan seen job laws range read))
 
 -- a decision that it comes to has its effects on words that are held
-pub decided_under : (plan : Tables) (seen : Seen) (job : Job) (decision : Decision) → IsLawful plan → IsJob job → walk seen (script plan job) ≡ Ok decision → AreUnder (office plan) seen.held (effects decision)
-decided_under plan seen job decision laws range come =
-    let covered = subst (λ (found : _). WalkFits (office plan) (IsCovered plan) seen.held found) come (walk_covered plan seen job laws range) in
+pub decided_under : (plan : Tables) (seen : Seen) (job : Job) (decision : Decision) → IsLawful plan → IsJob job → HasReadWords (office plan) seen → walk seen (script plan job) ≡ Ok decision → AreUnder (office plan) seen.held (effects decision)
+decided_under plan seen job decision laws range read come =
+    let covered = subst (λ (found : _). WalkFits (office plan) (IsCovered plan) seen.held found) come (walk_covered plan seen job laws range read) in
     λ effect within. under_more (office plan) covered.some seen.held _ covered.among (covered.fits.under effect within)

@@ -8,6 +8,7 @@ pub mod TriedGroups
 pub mod HuntedLines
 pub mod HeldWords
 pub mod HeldEffects
+pub mod FittingEffects
 pub mod TracingKeeps
 pub mod TrialKeeps
 pub mod ConnectKeeps
@@ -28,6 +29,7 @@ pub mod FewConns
 pub mod HoldsFew
 pub mod JunctorRows
 pub mod BusyMembers
+pub mod ShownWords
 pub mod TakenMembers
 pub mod SameChoice
 pub mod TestedJunctors

@@ -2,6 +2,7 @@ use Rattle.std.specs.Prelude.{◌≡◌, ◌<◌, ◌≤◌, ◌+◌, ◌-◌, �
 use Rattle.turns.specs.Among.{IsIn, AreDistinct}
 use Rattle.turns.specs.Attempt as generic
 use Rattle.turns.specs.Script.{AsksAtMost, left, value_read}
+use Rattle.turns.specs.Seen.{AreReadWords}
 use Rattle.turns.specs.declared.phase.Phase.TheVariants.{Requests, Seizes, Tests, Turns, Withdraws, GivesBack, Operates}
 use Rattle.turns.specs.declared.reading.Reading.{Reading}
 use Rattle.xbar_equip.specs.Conn.{IsConn, conn_eq}
@@ -109,9 +110,11 @@ HoldsFewIn plan a (Withdraws conn) = ⊤
 HoldsFewIn plan a GivesBack = ⊤
 HoldsFewIn plan a (Operates turn) = ⊤
 
--- an attempt stands where its job brings it under this plan, with room for what it will come by
+-- an attempt stands where its job brings it under this plan, by values of 64 bits, with room for what it
+-- will come by
 pub record Stands (plan : Tables) (a : Attempt) : Type 0 where
   pub comes : generic.Stands (office plan) a
+  pub read : AreReadWords a.readings
   pub few : length a.held ≤ most_held
   pub holds : HoldsFewIn plan a a.phase
   pub room : HasRoomIn plan a a.phase

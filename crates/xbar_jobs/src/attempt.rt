@@ -56,6 +56,7 @@ impl Model for Attempt {
 impl Attempt {
     ghost use Rattle.std.specs.Prelude.{ℕ, None, Err, is_some, if◌then◌else◌};
     ghost use Rattle.turns.specs.Attempt.{act, begin_with, change, closing_act, free_act, changed, forgotten, freed, goes_on, operated, put_off as put_off_by, reply_in, rest_of, restarted, turn_in, walks_on, IsAnswerTo};
+    ghost use Rattle.turns.specs.Seen.{AreReadWords};
     ghost use Rattle.xbar_plan.specs.Lawful.{IsLawful};
     ghost use Rattle.xbar_plan.specs.Tables.{Tables};
     ghost use Rattle.xbar_equip.specs.Conn.{IsConn};
@@ -255,6 +256,7 @@ impl Attempt {
 
     /// Goes through the job with what was come by, as far as it goes.
     fn walk_on(&mut self, plan: &Plan)
+        requires { AreReadWords self.old.readings }
         ensures { self.new ≡ walks_on (office plan.now) self.old }
     {
         let gathered = Gathered {

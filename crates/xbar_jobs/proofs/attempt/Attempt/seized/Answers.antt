@@ -1,5 +1,6 @@
 use Rattle.std.proofs.Common.{arith, subst, sym}
 use Rattle.turns.specs.Attempt.{StandsIn}
+use Rattle.turns.specs.Seen.{AreReadWords}
 use Rattle.xbar_jobs.specs.Attempt.{Attempt}
 use Rattle.xbar_jobs.specs.Office.{office}
 use Rattle.xbar_jobs.specs.Standing.{HoldsFewIn}
@@ -23,3 +24,6 @@ invariant_of-self c = record {
   reply = c.self.invariant.reply;
   effects = c.self.invariant.effects;
 }
+
+pub walk_on-requires : goal.walk_on-requires
+walk_on-requires c = subst (λ (a : Attempt). AreReadWords a.readings) (sym c.self.view_is) c.requires.read
