@@ -89,8 +89,8 @@ pub stands_after : (plan : Tables) (a : Attempt) (answer : Answer) → IsLawful 
 stands_after plan a answer laws in_range fits stands = record {
   comes = stands_change (office plan) (office_is plan laws) a answer in_range (still_read a.phase a.readings stands.read) stands.comes;
   read = read_after plan a a.phase answer fits stands.read;
-  few = few_change plan laws a in_range answer stands.comes stands.holds stands.few;
-  holds = holds_change plan laws a in_range answer stands.comes stands.holds;
+  few = few_change plan laws a in_range stands.read answer stands.comes stands.holds stands.few;
+  holds = holds_change plan laws a in_range stands.read answer stands.comes stands.holds;
   room = room_change plan a answer laws stands.read fits stands.comes stands.room;
 }
 

@@ -3,13 +3,12 @@ use Rattle.std.proofs.Common.{◌≡◌, ℕ, ◌+◌, ◌-◌, ◌^◌, ◌<◌
 use Rattle.std.specs.Prelude.{◌==◌, Result, Ok, Err, if◌then◌else◌, ⊤}
 use Rattle.std.proofs.lemmas.Bool.{eqb-true}
 use Rattle.turns.specs.Attempt as generic
-use Rattle.turns.specs.Attempt.{IsAnswerTo, act, act_in, begin, change, changed, come_to, goes_on, operated}
+use Rattle.turns.specs.Attempt.{IsAnswerTo, act, act_in, begin, begin_with, change, changed, come_to, goes_on, operated}
 use Rattle.turns.specs.Bounds.{AreSteady, IsSteady}
 use Rattle.turns.specs.declared.answer.Answer.{Answer}
 use Rattle.turns.specs.declared.answer.Answer.TheVariants.{Asked, Seized, Held, Preferred, Again, Value, Turn, Done}
 use Rattle.turns.specs.declared.phase.Phase.TheVariants.{Requests, Seizes, Tests, Turns, Withdraws, GivesBack, Operates}
 use Rattle.turns.specs.declared.wanted.Wanted.TheVariants.{Seize, Test}
-use Rattle.turns.proofs.Standing.{stands_begin, stands_change}
 use Rattle.turns.proofs.SteadyAttempts.{job_stays}
 use Rattle.xbar_equip.specs.declared.conn.Conn.{Conn}
 use Rattle.xbar_plan.specs.Lawful.{IsLawful}
@@ -17,14 +16,14 @@ use Rattle.xbar_plan.specs.Tables.{Tables}
 use Rattle.xbar_office.specs.Legal.{IsJob}
 use Rattle.xbar_office.specs.declared.job.Job.{Job}
 use Rattle.xbar_jobs.specs.Attempt.{Attempt, Counted, Phase, count_in, counted, fresh}
-use Rattle.xbar_jobs.specs.Counting.{after_answer, after_answers}
+use Rattle.xbar_jobs.specs.Counting.{AreAnswers, after_answer, after_answers}
+use Rattle.xbar_jobs.specs.Jobs.{first_conn}
 use Rattle.xbar_jobs.specs.Office.{office}
 use Rattle.xbar_jobs.specs.Script.{Wanted}
-use Rattle.xbar_jobs.specs.Standing.{HoldsFewIn, most_held}
+use Rattle.xbar_jobs.specs.Standing.{Stands, most_held}
 use Rattle.xbar_jobs.specs.declared.decision.Decision.{Decision}
 use Rattle.xbar_jobs.specs.declared.effect.Effect.{Effect}
-use Rattle.xbar_jobs.proofs.HoldsFew.{few_change, holds_begin, holds_change}
-use Rattle.xbar_jobs.proofs.OfficeSystem.{office_is}
+use Rattle.xbar_jobs.proofs.AttemptStands.{stands_after, stands_begun}
 
 -- while steady answers come, an attempt that has made a step seizes, holds something or has decided
 abbrev HasBegun : Phase → List Conn → Type 0
@@ -119,30 +118,16 @@ module _ (plan : Tables) where
   count_is job (Preferred other ∷ answers) (fits, steady, later) below = absurd steady
   count_is job (answer ∷ answers) (fits, steady, later) below = absurd fits
 
-  -- an attempt at a job of the office stands where its job brings it, and holds few
-  record HoldsFewAlong (a : Attempt) : Type 0 where
-    pub job : IsJob a.job
-    pub comes : generic.Stands (office plan) a
-    pub few : length a.held ≤ most_held
-    pub holds : HoldsFewIn plan a a.phase
-
   module _ (laws : IsLawful plan) where
-    held_along : (p : Counted) (answers : List Answer) → HoldsFewAlong p.attempt
+    held_along : (p : Counted) (answers : List Answer) → IsJob p.attempt.job → Stands plan p.attempt
+        → AreAnswers plan p.attempt answers
         → length (after_answers plan p answers).attempt.held ≤ most_held
-    held_along p [] along = along.few
-    held_along p (answer ∷ answers) along = held_along (after_answer plan p answer) answers (record {
-      job = job_stays (office plan) p.attempt answer along.job;
-      comes = stands_change (office plan) (office_is plan laws) p.attempt answer along.job along.comes;
-      few = few_change plan laws p.attempt along.job answer along.comes along.holds along.few;
-      holds = holds_change plan laws p.attempt along.job answer along.comes along.holds;
-    })
+    held_along p [] job stands told = stands.few
+    held_along p (answer ∷ answers) job stands (fits, later) =
+        held_along (after_answer plan p answer) answers (job_stays (office plan) p.attempt answer job)
+        (stands_after plan p.attempt answer laws job fits stands) later
 
     -- whatever it is told, an attempt never holds more than the most
-    pub held_is_few : (job : Job) (answers : List Answer) → IsJob job
+    pub held_is_few : (job : Job) (answers : List Answer) → IsJob job → AreAnswers plan (begin_with (first_conn job) job) answers
         → length (after_answers plan (fresh job) answers).attempt.held ≤ most_held
-    held_is_few job answers in_range = held_along (fresh job) answers (record {
-      job = in_range;
-      comes = stands_begin (office plan) (office_is plan laws) job in_range;
-      few = omega arith;
-      holds = holds_begin plan job laws;
-    })
+    held_is_few job answers in_range told = held_along (fresh job) answers in_range (stands_begun plan job laws in_range) told

@@ -1,6 +1,7 @@
 -- what an attempt holds is few, whatever comes of its steps
 use Rattle.std.proofs.Common.{◌≡◌, ℕ, ◌-◌, ◌<◌, ◌≤◌, Bool, true, false, List, [], ◌∷◌, ◌++◌, length, length-append, refl, sym, ◌∙◌, ap, subst, arith}
 use Rattle.std.specs.Prelude.{Option, Some, None, Result, Ok, Err}
+use Rattle.turns.specs.Seen.{AreReadWords}
 use Rattle.turns.specs.Attempt.{StandsIn, begin_with, change, changed, come_to, forgotten, freed, goes_on, operated, rest_of, restarted, restarted_in, seen_of}
 use Rattle.turns.specs.Script.{Ends, Tests, Seizes, first_wanted, is_held, left, left_of_test, left_of_seizing, value_read, walk}
 use Rattle.turns.specs.declared.answer.Answer.{Answer}
@@ -157,9 +158,9 @@ module _ (plan : Tables) where
   few_operated a (effect ∷ effects) few = few
 
   -- whatever comes of its step, an attempt that stands where its script brings it holds few again
-  module _ (laws : IsLawful plan) (a : Attempt) (in_range : IsJob a.job) where
+  module _ (laws : IsLawful plan) (a : Attempt) (in_range : IsJob a.job) (read : AreReadWords a.readings) where
     holds_more : (conn : Conn) → StandsIn (office plan) a (Requests conn) → HoldsFew plan a → HoldsFew plan (record a { held = a.held ++ conn ∷ [] })
-    holds_more conn come holds = holds_seized a conn (wanted_lock (office plan) (office_is plan laws) a conn in_range come) come holds
+    holds_more conn come holds = holds_seized a conn (wanted_lock (office plan) (office_is plan laws) a conn in_range read come) come holds
 
     holds_changed : (phase : Phase) (answer : Answer) → a.phase ≡ phase → HoldsFewIn plan a a.phase
         → StandsIn (office plan) a phase → HoldsFewIn plan a phase

@@ -24,7 +24,7 @@ ghost use Rattle.xbar_office.specs.declared.job.Job.TheVariants.{Release};
 ghost use Rattle.xbar_office.specs.declared.reply.Card.{Card};
 ghost use Rattle.xbar_office.specs.declared.reply.End.TheVariants.{Released};
 ghost use Rattle.xbar_jobs.specs.Attempt.{Act, Attempt, fresh, step_of};
-ghost use Rattle.xbar_jobs.specs.Counting.{after_answers};
+ghost use Rattle.xbar_jobs.specs.Counting.{AreAnswers, after_answers};
 ghost use Rattle.xbar_jobs.specs.Jobs.{script};
 ghost use Rattle.xbar_jobs.specs.Keeping.{IsCovered};
 ghost use Rattle.xbar_jobs.specs.Office.{ShowsOffice, office};
@@ -122,6 +122,7 @@ pub fn jobs_hold_few_connectors()
         → SeizesOthers most_others (script plan job) }
     ensures stands { (plan : Tables) (a : Attempt) → Stands plan a → length a.held ≤ most_held }
     ensures told { (plan : Tables) (job : Job) (answers : List Answer) → IsLawful plan → IsJob job
+        → AreAnswers plan (fresh job).attempt answers
         → length (after_answers plan (fresh job) answers).attempt.held ≤ most_held }
 {}
 

@@ -30,7 +30,7 @@ impl Program {
     ghost use Rattle.xbar_office.specs.Legal.{IsJob};
     ghost use Rattle.xbar_plan.specs.Lawful.{IsLawful};
     ghost use Rattle.xbar_plan.specs.Tables.{Tables};
-    ghost use Rattle.xbar_jobs.specs.Attempt.{counted, fresh, next_step, with_count, turn_in};
+    ghost use Rattle.xbar_jobs.specs.Attempt.{counted, fresh, next_step, with_count};
     ghost use Rattle.xbar_jobs.specs.Counting.{after_answer};
     ghost use Rattle.xbar_jobs.specs.Office.{office};
     ghost use Rattle.xbar_jobs.specs.OnWords.{step_word};

@@ -9,4 +9,4 @@ pub returns-clause-stands : goal.returns-clause-stands
 returns-clause-stands c = λ plan a stands. stands.few
 
 pub returns-clause-told : goal.returns-clause-told
-returns-clause-told c = λ plan job answers laws in_range. held_is_few plan laws job answers in_range
+returns-clause-told c = λ plan job answers laws in_range told. held_is_few plan laws job answers in_range told
