@@ -122,7 +122,7 @@ module _ (plan : Tables) where
     past_few turn phase =
         let few = (stands_there plan e k n a was at).few in
         let sound = was.lawful.sound k n a (actor_at e k n a at) in
-        let within = within_anywhere (office plan) (office_is plan laws) most_readings most_seizings most_effects (jobs_bounded plan laws) a sound.job sound.stands in
+        let within = within_anywhere (office plan) (office_is plan laws) most_readings most_seizings most_effects (jobs_bounded plan laws) (world plan e) k n a was.lawful.are_words sound in
         let left : length a.effects + length a.held ≤ 1 + length a.held + (3 * most_seizings + most_readings + most_effects + 1) =
         subst (WithinIn (office plan) (office_is plan laws) most_readings most_seizings most_effects (jobs_bounded plan laws) (1 + length a.held + (3 * most_seizings + most_readings + most_effects + 1)) a) phase within in
         omega (arith, few, left)

@@ -1,15 +1,18 @@
 -- what every office keeps that markers drive: it is lawful, its attempts stand where their jobs bring them, and there is room for the records to come
 use Rattle.std.proofs.Common.{◌≡◌, ◌≢◌, ℕ, zero, suc, ◌+◌, ◌<◌, ◌≤◌, ◌⊎◌, List, [], ◌∷◌, length, length-append, length-set, inl, inr, refl, sym, ◌∙◌, ap, subst, arith}
-use Rattle.std.specs.Prelude.{Option, Some, None, is_some, if◌then◌else◌, slice_get, slice_set}
+use Rattle.std.specs.Prelude.{Option, Some, None, is_some, if◌then◌else◌, slice_get, slice_set, true, false}
 use Rattle.std.proofs.lemmas.List.{length-map}
 use Rattle.std.proofs.lemmas.Option.{none-some, same_Some, slice_get_within}
 use Rattle.turns.specs.Attempt as generic
-use Rattle.turns.specs.Attempt.{Ask, Take, act, act_in, begin_with, change, changed, closing_act, free_act, operated, restarted, restarted_in, turn_in}
+use Rattle.turns.specs.Attempt.{Ask, Take, act, act_in, begin_with, change, changed, closing_act, free_act, operated, restarted, restarted_in, turn_in, IsAnswerTo, Rest, forgotten, freed}
 use Rattle.turns.specs.World as worlds
-use Rattle.turns.specs.World.{Idle, Does, added_in}
+use Rattle.turns.specs.World.{Idle, Does, added_in, place}
+use Rattle.turns.specs.Runs.{is_rest}
 use Rattle.turns.specs.declared.answer.Answer.{Answer}
 use Rattle.turns.specs.declared.answer.Answer.TheVariants.{Value, Done}
 use Rattle.turns.specs.declared.phase.Phase.TheVariants.{Requests, Seizes, Tests, Turns, Withdraws, GivesBack, Operates}
+use mathlib.Core.Option.{some}
+use Rattle.turns.proofs.ExactWords.{answers_fit}
 use Rattle.turns.proofs.Lists.{one_or_two}
 use Rattle.xbar_equip.specs.declared.conn.Conn.{Conn}
 use Rattle.xbar_plan.specs.Tables.{Tables}
@@ -52,6 +55,14 @@ module _ (plan : Tables) where
   -- the job of a lawful office's marker is one
   job_there : (e : Exchange) (k n : ℕ) (a : Attempt) → IsLawfulExchange plan e → IsAt e k n a → IsJob a.job
   job_there e k n a law at = (law.sound k n a (actor_at e k n a at)).job
+
+  -- what it is told of its next step answers that step
+  told_fits : (e : Exchange) (k : ℕ) (a : Attempt) → IsLawfulExchange plan e → is_rest (act a) ≡ false →
+      IsAnswerTo (act a) (told_of k e.words a)
+  told_fits e k a law goes =
+      let acts : act a ≢ Rest = λ rests. let two : true ≡ false = ap is_rest (sym rests) ∙ goes in cc in
+      subst (λ (answer : Answer). IsAnswerTo (act a) answer) (sym (answer_is plan k e.words a))
+      (answers_fit (office plan) k (act a) (found_by plan e.words a) acts (law.are_words (place (office plan) (act a))))
 
   pub stands_there : (e : Exchange) (k n : ℕ) (a : Attempt) → IsExchange plan e → IsAt e k n a → Stands plan a
   stands_there e k n a was at = subst (StandsAt plan) at.work (was.stands k at.marker at.there)
@@ -98,7 +109,7 @@ module _ (plan : Tables) where
             let a = made.attempt in
             subst (λ (x : Exchange). AreStanding x.markers) (sym made.is)
             (stands_set e.markers k _ made.at.marker made.at.there
-            (stands_after plan a (told_of k e.words a) laws (job_there e k made.number a was.lawful made.at) (stands_there e k made.number a was made.at)) was.stands)
+            (stands_after plan a (told_of k e.words a) laws (job_there e k made.number a was.lawful made.at) (told_fits e k a was.lawful made.goes) (stands_there e k made.number a was made.at)) was.stands)
       ]
 
     -- so does a marker that is to give back, and begins its job anew

@@ -1,9 +1,8 @@
 -- what a marker past its turn decided on words that show the set before its record, and what it has made of it
 use Rattle.std.proofs.Common.{◌≡◌, ℕ, zero, suc, List, [], ◌∷◌, ◌++◌, length, map, take, slice_index, refl, sym, ◌∙◌, ap, subst, arith}
-use Rattle.std.specs.Prelude.{Some, Ok, slice_get}
+use Rattle.std.specs.Prelude.{Some, slice_get}
 use Rattle.std.proofs.lemmas.Option.{slice_get-map}
 use Rattle.turns.specs.Among.{IsIn}
-use Rattle.turns.specs.Attempt.{HasTurned, StandsIn}
 use Rattle.turns.specs.Law.{FitsIn, IsOperating, IsRecorded, IsSound}
 use Rattle.turns.specs.Script.{run}
 use Rattle.turns.specs.System.{AreDue, AreUnder, IsUnder}
@@ -26,7 +25,7 @@ use Rattle.xbar_jobs.specs.Keeping.{AreEffects}
 use Rattle.xbar_jobs.specs.Office.{ShowsOffice, office}
 use Rattle.xbar_jobs.specs.declared.decision.Decision.{Decision}
 use Rattle.xbar_jobs.specs.declared.effect.Effect.{Effect}
-use Rattle.xbar_jobs.proofs.Covered.{walk_range}
+use Rattle.xbar_jobs.proofs.Covered.{run_range}
 use Rattle.xbar_jobs.proofs.OfficeSystem.{script_decides}
 use Rattle.xbar_core.specs.Exchange.{Exchange, IsLawfulExchange, turned, world}
 use Rattle.xbar_core.specs.Holding.{IsAt}
@@ -107,9 +106,8 @@ module _ (plan : Tables) (laws : IsLawful plan) (e : Exchange) (lawful : IsLawfu
   -- the effects that are left are of the office
   left_range : AreEffects a.effects
   left_range effect within =
-      let stands : HasTurned (office plan) a = subst (StandsIn (office plan) a) past sound.stands in
-      let all = (walk_range plan stands.seen a.job (Ok stands.decision) laws sound.job (sym stands.come)).0 in
-      all effect (subst (IsIn effect) (sym stands.effects) (in_back effect stands.made a.effects within))
+      let all = run_range plan fits.decided.words a.job laws sound.job fits.decided.are_words in
+      all effect (subst (IsIn effect) (sym fits.decided.effects) (in_back effect fits.decided.made a.effects within))
 
   -- what a marker past its turn decided
   pub decided : Decided plan e k a

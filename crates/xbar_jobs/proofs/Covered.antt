@@ -2,7 +2,9 @@ use Rattle.std.proofs.Common.{◌≡◌, ℕ, ◌<◌, ◌≤◌, List, [], leng
 use Rattle.std.specs.Prelude.{Some, Result, Ok, Err, MatchResult}
 use Rattle.turns.proofs.Keeping.{HasReadWords, WalkFits, under_more, walk_fits, walk_keeps}
 use Rattle.turns.specs.Seen.{AreReadWords}
-use Rattle.turns.specs.System.{AreUnder}
+use Rattle.turns.specs.Script.{run}
+use Rattle.turns.specs.System.{AreUnder, AreWords}
+use Rattle.turns.proofs.Words.{run_ends}
 use Rattle.turns.specs.declared.wanted.Wanted.TheVariants.{Seize, Test}
 use Rattle.xbar_equip.specs.Word.{Word, IsWord, LineSwitch, LineJunctor, TrunkSwitch, TrunkJunctor, GroupWord, ConnWord, TurnWord, protector, word_number}
 use Rattle.xbar_equip.specs.declared.conn.Conn.{Conn}
@@ -19,6 +21,7 @@ use Rattle.xbar_jobs.specs.Script.{Seen, Wanted, walk}
 use Rattle.xbar_jobs.specs.Standing.{most_effects}
 use Rattle.xbar_jobs.specs.declared.decision.Decision.{Decision}
 use Rattle.xbar_jobs.proofs.HeldEffects.{IsWellCovered}
+use Rattle.xbar_jobs.proofs.JobBounds.{ends_as_kept}
 use Rattle.xbar_jobs.proofs.JobKeeps.{job_keeps, script_keeps}
 
 -- a word that a connector protects comes before the connectors' own words
@@ -54,6 +57,14 @@ pub walk_range : (plan : Tables) (seen : Seen) (job : Job) (found : Result Decis
 walk_range plan seen job found laws range read is =
     subst (λ (r : Result Decision Wanted). MatchResult r (λ decision. AreEffects (effects decision) × (length (effects decision) ≤ most_effects)) (λ wanted. IsWanted wanted)) (sym is)
     (in_office plan seen.held (walk seen (script plan job)) (walk_well_covered plan seen job laws range read))
+
+-- run alone on words of 64 bits, a job comes to effects of the office
+pub run_range : (plan : Tables) (words : List ℕ) (job : Job) → IsLawful plan → IsJob job → AreWords words →
+    AreEffects (effects (run words (script plan job)))
+run_range plan words job laws range are =
+    let Has : Decision → Type 0 = λ decision. AreEffects (effects decision) in
+    run_ends Has words (script plan job) are
+    (ends_as_kept plan (IsCovered plan) Has [] (script plan job) (λ held decision covered. covered.effects) (script_keeps plan job laws range))
 
 -- a decision that it comes to has its effects on words that are held
 pub decided_under : (plan : Tables) (seen : Seen) (job : Job) (decision : Decision) → IsLawful plan → IsJob job → HasReadWords (office plan) seen → walk seen (script plan job) ≡ Ok decision → AreUnder (office plan) seen.held (effects decision)

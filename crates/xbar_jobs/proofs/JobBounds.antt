@@ -71,7 +71,7 @@ script_asks plan (Complete line dialled) laws = complete_asks plan laws line dia
 script_asks plan (Release line) laws = asks_more 8 4 42 19 (release_steps plan line) (omega arith) (omega arith) (release_asks plan line)
 
 -- what fits wherever a script ends holds of its ends
-ends_as_kept : (plan : Tables) {A : Type 0} (Fits : List Conn → A → Type 0) (Has : A → Type 0) (held : List Conn) (script : Script A) → ((conns : List Conn) (found : A) → Fits conns found → Has found) → KeepsTo (office plan) Fits held script → EndsIn Has script
+pub ends_as_kept : (plan : Tables) {A : Type 0} (Fits : List Conn → A → Type 0) (Has : A → Type 0) (held : List Conn) (script : Script A) → ((conns : List Conn) (found : A) → Fits conns found → Has found) → KeepsTo (office plan) Fits held script → EndsIn Has script
 unfolding EndsIn KeepsTo
 ends_as_kept plan Fits Has held (Ends found) has keeps = has held found keeps
 ends_as_kept plan Fits Has held (Tests word script) has keeps = λ value fits. ends_as_kept plan Fits Has held (script value) has (keeps.1 value fits)
