@@ -29,7 +29,7 @@ impl From<EngineFault> for Exit {
             EngineFault::Markers => Exit::CommandLine,
             EngineFault::Long => Exit::Traffic,
             EngineFault::Memory => Exit::Memory,
-            EngineFault::Device | EngineFault::Stalled => Exit::Device,
+            EngineFault::Device => Exit::Device,
         }
     }
 }

@@ -103,7 +103,7 @@ fn fault_line(fault: EngineFault) -> &'static str {
     match fault {
         EngineFault::Markers => "FAULT,MARKERS",
         EngineFault::Memory => "FAULT,MEMORY",
-        EngineFault::Device | EngineFault::Stalled => "FAULT,DEVICE",
+        EngineFault::Device => "FAULT,DEVICE",
         EngineFault::Long => "FAULT,LONG",
     }
 }

@@ -15,7 +15,6 @@ fn each_end_has_its_status(rt: HostRuntime) {
         (EngineFault::Long, "FAULT,LONG", 4),
         (EngineFault::Memory, "FAULT,MEMORY", 5),
         (EngineFault::Device, "FAULT,DEVICE", 6),
-        (EngineFault::Stalled, "FAULT,DEVICE", 6),
     ] {
         assert_eq!(rt;
             (fault_line(fault), Exit::from(fault) as u8),
