@@ -104,7 +104,7 @@ impl<T: Read> Read for Counted<T> {
 impl<T: Read> Source for Counted<T> {
     ghost use Rattle.counted_io.specs.Counted.{counted_failures, counted_reads};
 
-    ghost failure_count = { λ counted. Some (counted_failures counted) };
+    ghost failure_count = { λ counted. counted_failures counted };
 
     ghost read_count = { λ counted. Some (counted_reads counted) };
 
@@ -114,6 +114,12 @@ impl<T: Read> Source for Counted<T> {
 
     fn reads(&self) -> u64 {
         Counted::reads(self)
+    }
+
+    fn read_and_count(&mut self, buf: &mut [u8]) -> io::Result<usize> {
+        // To a proof the count is at most `u64::MAX` once it was read.
+        let _failures = self.failures;
+        self.read(buf)
     }
 }
 
@@ -158,9 +164,19 @@ impl<T: Write> Write for Counted<T> {
 impl<T: Write> Sink for Counted<T> {
     ghost use Rattle.counted_io.specs.Counted.{counted_failures};
 
-    ghost failure_count = { λ counted. Some (counted_failures counted) };
+    ghost failure_count = { λ counted. counted_failures counted };
 
     fn failures(&self) -> u64 {
         Counted::failures(self)
+    }
+
+    fn write_and_count(&mut self, buf: &[u8]) -> io::Result<usize> {
+        let _failures = self.failures;
+        self.write(buf)
+    }
+
+    fn flush_and_count(&mut self) -> io::Result<()> {
+        let _failures = self.failures;
+        self.flush()
     }
 }

@@ -2,7 +2,7 @@
 
 ghost use Rattle.std.specs.Prelude.{◌≡◌, ◌≢◌, ◌↔◌, ◌⊎◌, Err, IfErr, IfOk, IfSome, List, ℕ, length};
 ghost use Rattle.std.specs.Io.KnownBytes.{Appends, Keeps};
-ghost use Rattle.counted_io.specs.Counts.{FailureCounted, NoneCounted, ReadsUsedUp};
+ghost use Rattle.counted_io.specs.Counts.{HasFailed, ReadsUsedUp};
 ghost use Rattle.crossbar5.specs.Faults.{ComesFirst, IsMarkerCount};
 ghost use Rattle.crossbar5.specs.Run.{IsRefusedUnread, IsReplay, IsReplayUnder, IsWrittenOf, RefusesPlan};
 
@@ -50,8 +50,8 @@ fn comes_to<R: Source>(
 ) -> Result<Written, EngineFault>
     ensures replay { IfOk result (λ written. (traffic : List ℕ) × IfSome (R.remaining source.old) (λ all. traffic ≡ all) × IsReplay plan.now kinds.now traffic written.text.items written.status) }
     ensures markers { (result ≡ Err EngineFault.Markers) ↔ ¬ IsMarkerCount (length kinds.now) }
-    ensures device { result ≡ Err EngineFault.Device → FailureCounted (R.failure_count source.old) (R.failure_count source.new) }
-    ensures no_failure { result ≢ Err EngineFault.Device → NoneCounted (R.failure_count source.old) (R.failure_count source.new) }
+    ensures device { result ≡ Err EngineFault.Device → HasFailed (R.failure_count source.old) (R.failure_count source.new) }
+    ensures no_failure { result ≢ Err EngineFault.Device → R.failure_count source.new ≡ R.failure_count source.old }
     ensures long { result ≡ Err EngineFault.Long → ReadsUsedUp (R.read_count source.old) (R.read_count source.new) }
     ensures unread { IsRefusedUnread plan.now kinds.now → source.new ≡ source.old }
 {
@@ -72,7 +72,7 @@ fn comes_to<R: Source>(
 ///
 /// The markers are judged first, then the plan, then the traffic. Markers or a plan that are refused
 /// leave the source unread. The input is read to its end before a row is looked at, and the output is written in
-/// one go once all is known. Of how much went out before `Device` or `Stalled` nothing is said.
+/// one go once all is known. Of how much went out before `Device` nothing is said.
 pub fn run_replay<R: Source, W: Sink>(
     alloc: Global,
     plan: &[u8],
@@ -82,8 +82,8 @@ pub fn run_replay<R: Source, W: Sink>(
 ) -> Result<Status, EngineFault>
     ensures replay { IfOk result (λ status. (traffic text : List ℕ) × IfSome (R.remaining source.old) (λ all. traffic ≡ all) × IsReplay plan.now kinds.now traffic text status × Appends (W.contents sink.old) (W.contents sink.new) text) }
     ensures markers { (result ≡ Err EngineFault.Markers) ↔ ¬ IsMarkerCount (length kinds.now) }
-    ensures device { result ≡ Err EngineFault.Device → FailureCounted (R.failure_count source.old) (R.failure_count source.new) ⊎ FailureCounted (W.failure_count sink.old) (W.failure_count sink.new) }
-    ensures no_failure { result ≢ Err EngineFault.Device → NoneCounted (R.failure_count source.old) (R.failure_count source.new) × NoneCounted (W.failure_count sink.old) (W.failure_count sink.new) }
+    ensures device { result ≡ Err EngineFault.Device → HasFailed (R.failure_count source.old) (R.failure_count source.new) ⊎ HasFailed (W.failure_count sink.old) (W.failure_count sink.new) }
+    ensures no_failure { result ≢ Err EngineFault.Device → (R.failure_count source.new ≡ R.failure_count source.old) × (W.failure_count sink.new ≡ W.failure_count sink.old) }
     ensures long { result ≡ Err EngineFault.Long → ReadsUsedUp (R.read_count source.old) (R.read_count source.new) }
     ensures unread { IsRefusedUnread plan.now kinds.now → source.new ≡ source.old }
     ensures unwritten { IfErr result (λ fault. ComesFirst fault → Keeps (W.contents sink.old) (W.contents sink.new)) }

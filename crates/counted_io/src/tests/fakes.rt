@@ -1,4 +1,6 @@
-//! Readers and writers that fail at a chosen call, or count nothing.
+//! Readers and writers that fail at a chosen call, or whose counts stand.
+
+ghost use Rattle.std.specs.Prelude.{◌-◌, ◌^◌};
 
 use crate::{Sink, Source};
 use std::io;
@@ -65,7 +67,7 @@ impl Read for Endless {
     }
 }
 
-/// A source or sink whose counts stay as they are: it counts no failure and no read.
+/// A source or sink whose counts stand: that of its failures at the most that it can be.
 #[derive(Drop)]
 pub struct Still<T> {
     pub inner: T,
@@ -79,22 +81,32 @@ impl<T> Still<T> {
 }
 
 impl<T: Read> Read for Still<T> {
+    ghost remaining = { λ still. T.remaining still.inner };
+
     fn read(&mut self, buf: &mut [u8]) -> io::Result<usize> {
         self.inner.read(buf)
     }
 }
 
 impl<T: Read> Source for Still<T> {
+    ghost failure_count = { λ _. 2 ^ 64 - 1 };
+
     fn failures(&self) -> u64 {
-        0
+        u64::MAX
     }
 
     fn reads(&self) -> u64 {
         self.reads
     }
+
+    fn read_and_count(&mut self, buf: &mut [u8]) -> io::Result<usize> {
+        self.read(buf)
+    }
 }
 
 impl<T: Write> Write for Still<T> {
+    ghost contents = { λ still. T.contents still.inner };
+
     fn write(&mut self, buf: &[u8]) -> io::Result<usize> {
         self.inner.write(buf)
     }
@@ -105,8 +117,18 @@ impl<T: Write> Write for Still<T> {
 }
 
 impl<T: Write> Sink for Still<T> {
+    ghost failure_count = { λ _. 2 ^ 64 - 1 };
+
     fn failures(&self) -> u64 {
-        0
+        u64::MAX
+    }
+
+    fn write_and_count(&mut self, buf: &[u8]) -> io::Result<usize> {
+        self.write(buf)
+    }
+
+    fn flush_and_count(&mut self) -> io::Result<()> {
+        self.flush()
     }
 }
 

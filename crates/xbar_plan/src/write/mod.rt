@@ -2,13 +2,14 @@
 
 mod texts;
 
-ghost use Rattle.std.specs.Prelude.{◌≡◌, Ok, IfOk, OnOk, IsTrue, map};
+ghost use Rattle.std.specs.Prelude.{◌≡◌, Ok, IfOk, OnOk, IsTrue, Some, map};
 ghost use Rattle.xbar_equip.specs.Link.{link_text as text_of_link};
 ghost use Rattle.toml.specs.Data.{member, is_before};
 ghost use Rattle.toml.specs.View.{view, table_view};
-ghost use Rattle.xbar_plan.specs.Document.{plan_of};
+ghost use Rattle.xbar_plan.specs.Document.{plan_of, version_in};
 ghost use Rattle.xbar_plan.specs.Lawful.{IsLawful};
 ghost use Rattle.xbar_plan.specs.Written.{array_of, group_text as text_of_group, station_text as text_of_station, route_text as text_of_route, document_in_version_2};
+ghost use Rattle.xbar_plan.specs.declared.read.version.Version.TheVariants.{Two};
 
 use crate::group::Group;
 use crate::route::Route;
@@ -106,7 +107,8 @@ pub fn version_2(
     faults: &[Link],
 ) -> Result<Vec<u8>, AllocError>
     requires { IsLawful (record { groups = groups.now; stations = stations.now; routes = routes.now; faults = faults.now }) }
-    ensures { IfOk result (λ text. plan_of text.items ≡ Ok (record { groups = groups.now; stations = stations.now; routes = routes.now; faults = faults.now })) }
+    ensures version { IfOk result (λ text. version_in text.items ≡ Some Two) }
+    ensures tables { IfOk result (λ text. plan_of text.items ≡ Ok (record { groups = groups.now; stations = stations.now; routes = routes.now; faults = faults.now })) }
 {
     let document = document_of(alloc, groups, stations, routes, faults)?;
     match toml::table_to_string_pretty(alloc, &document) {
