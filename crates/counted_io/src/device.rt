@@ -29,7 +29,8 @@ pub trait Source: Read {
     /// Reads as `read` does. An error is a failure that was counted, and nothing else is one.
     fn read_and_count(&mut self, buf: &mut [u8]) -> io::Result<usize>
         ensures bound { ReadsAtMost result buf.new }
-        ensures bytes { ReadConsumes (Self.remaining self.old) (Self.remaining self.new) result buf.new }
+        ensures bytes { ReadConsumes (Self.remaining self.old) (Self.remaining self.new)
+            result buf.new }
         ensures ok { OnOk result (failure_count self.new ≡ failure_count self.old) }
         ensures err { OnErr result (HasFailed (failure_count self.old) (failure_count self.new)) };
 }
@@ -50,7 +51,8 @@ pub trait Sink: Write {
     /// some bytes are taken; nothing else is one.
     fn write_and_count(&mut self, buf: &[u8]) -> io::Result<usize>
         ensures bound { WritesAtMost result buf.now }
-        ensures bytes { WriteAppends (Self.contents self.old) (Self.contents self.new) result buf.now }
+        ensures bytes { WriteAppends (Self.contents self.old) (Self.contents self.new)
+            result buf.now }
         ensures taken { IfOk result (λ count. (0 < count) ⊎ (buf.now ≡ [])
             → failure_count self.new ≡ failure_count self.old) }
         ensures none_taken { IfOk result (λ count. count ≡ 0 → 0 < length buf.now

@@ -20,8 +20,10 @@ const CHUNK: usize = 512;
 pub fn read_all<R: Source>(alloc: Global, source: &mut R) -> Result<Vec<u8>, ReadFault>
     ensures bytes { IfOk result (λ bytes. IfSome (R.remaining source.old) (λ all. bytes.items ≡ all)) }
     ensures end { OnOk result (IsAtEnd (R.remaining source.new)) }
-    ensures device { result ≡ Err ReadFault.Device → HasFailed (R.failure_count source.old) (R.failure_count source.new) }
-    ensures no_failure { result ≢ Err ReadFault.Device → R.failure_count source.new ≡ R.failure_count source.old }
+    ensures device { result ≡ Err ReadFault.Device
+        → HasFailed (R.failure_count source.old) (R.failure_count source.new) }
+    ensures no_failure { result ≢ Err ReadFault.Device
+        → R.failure_count source.new ≡ R.failure_count source.old }
     ensures long { result ≡ Err ReadFault.Long → ReadsUsedUp (R.read_count source.old) (R.read_count source.new) }
 {
     let reads_before = source.reads();

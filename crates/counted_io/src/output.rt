@@ -11,8 +11,10 @@ use crate::write_fault::WriteFault;
 /// is left open.
 pub fn write_all<W: Sink>(sink: &mut W, bytes: &[u8]) -> Result<(), WriteFault>
     ensures bytes { OnOk result (Appends (W.contents sink.old) (W.contents sink.new) bytes.now) }
-    ensures device { result ≡ Err WriteFault.Device → HasFailed (W.failure_count sink.old) (W.failure_count sink.new) }
-    ensures no_failure { result ≢ Err WriteFault.Device → W.failure_count sink.new ≡ W.failure_count sink.old }
+    ensures device { result ≡ Err WriteFault.Device
+        → HasFailed (W.failure_count sink.old) (W.failure_count sink.new) }
+    ensures no_failure { result ≢ Err WriteFault.Device
+        → W.failure_count sink.new ≡ W.failure_count sink.old }
 {
     let mut rest = bytes;
     while !rest.is_empty() {

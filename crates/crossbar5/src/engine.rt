@@ -1,7 +1,7 @@
 //! The engine's main job: a replay, from the bytes of its plan and its traffic to those of its output.
 
-ghost use Rattle.std.specs.Prelude.{◌≡◌, ◌≢◌, ◌↔◌, ◌⊎◌, Err, IfErr, IfOk, IfSome, List, ℕ, length};
-ghost use Rattle.std.specs.Io.KnownBytes.{Appends, Keeps};
+ghost use Rattle.std.specs.Prelude.{◌≡◌, ◌≢◌, ◌↔◌, ◌⊎◌, Err, IfErr, IfOk, IfSome, List, OnOk, ℕ, length};
+ghost use Rattle.std.specs.Io.KnownBytes.{Appends, IsAtEnd, Keeps};
 ghost use Rattle.counted_io.specs.Counts.{HasFailed, ReadsUsedUp};
 ghost use Rattle.crossbar5.specs.Faults.{ComesFirst, IsMarkerCount};
 ghost use Rattle.crossbar5.specs.Run.{IsRefusedUnread, IsReplay, IsReplayUnder, IsWrittenOf, RefusesPlan};
@@ -50,10 +50,14 @@ fn comes_to<R: Source>(
 ) -> Result<Written, EngineFault>
     ensures replay { IfOk result (λ written. (traffic : List ℕ) × IfSome (R.remaining source.old) (λ all. traffic ≡ all) × IsReplay plan.now kinds.now traffic written.text.items written.status) }
     ensures markers { (result ≡ Err EngineFault.Markers) ↔ ¬ IsMarkerCount (length kinds.now) }
-    ensures device { result ≡ Err EngineFault.Device → HasFailed (R.failure_count source.old) (R.failure_count source.new) }
-    ensures no_failure { result ≢ Err EngineFault.Device → R.failure_count source.new ≡ R.failure_count source.old }
+    ensures device { result ≡ Err EngineFault.Device
+        → HasFailed (R.failure_count source.old) (R.failure_count source.new) }
+    ensures no_failure { result ≢ Err EngineFault.Device
+        → R.failure_count source.new ≡ R.failure_count source.old }
     ensures long { result ≡ Err EngineFault.Long → ReadsUsedUp (R.read_count source.old) (R.read_count source.new) }
     ensures unread { IsRefusedUnread plan.now kinds.now → source.new ≡ source.old }
+    ensures end { OnOk result (¬ IsRefusedUnread plan.now kinds.now
+        → IsAtEnd (R.remaining source.new)) }
 {
     if kinds.is_empty() || kinds.len() > MOST_MARKERS {
         return Err(EngineFault::Markers);
@@ -82,10 +86,16 @@ pub fn run_replay<R: Source, W: Sink>(
 ) -> Result<Status, EngineFault>
     ensures replay { IfOk result (λ status. (traffic text : List ℕ) × IfSome (R.remaining source.old) (λ all. traffic ≡ all) × IsReplay plan.now kinds.now traffic text status × Appends (W.contents sink.old) (W.contents sink.new) text) }
     ensures markers { (result ≡ Err EngineFault.Markers) ↔ ¬ IsMarkerCount (length kinds.now) }
-    ensures device { result ≡ Err EngineFault.Device → HasFailed (R.failure_count source.old) (R.failure_count source.new) ⊎ HasFailed (W.failure_count sink.old) (W.failure_count sink.new) }
-    ensures no_failure { result ≢ Err EngineFault.Device → (R.failure_count source.new ≡ R.failure_count source.old) × (W.failure_count sink.new ≡ W.failure_count sink.old) }
+    ensures device { result ≡ Err EngineFault.Device
+        → HasFailed (R.failure_count source.old) (R.failure_count source.new)
+        ⊎ HasFailed (W.failure_count sink.old) (W.failure_count sink.new) }
+    ensures no_failure { result ≢ Err EngineFault.Device
+        → (R.failure_count source.new ≡ R.failure_count source.old)
+        × (W.failure_count sink.new ≡ W.failure_count sink.old) }
     ensures long { result ≡ Err EngineFault.Long → ReadsUsedUp (R.read_count source.old) (R.read_count source.new) }
     ensures unread { IsRefusedUnread plan.now kinds.now → source.new ≡ source.old }
+    ensures end { OnOk result (¬ IsRefusedUnread plan.now kinds.now
+        → IsAtEnd (R.remaining source.new)) }
     ensures unwritten { IfErr result (λ fault. ComesFirst fault → Keeps (W.contents sink.old) (W.contents sink.new)) }
 {
     let written = comes_to(alloc, plan, kinds, source)?;

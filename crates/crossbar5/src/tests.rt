@@ -8,6 +8,7 @@ use xbar_core::Kind;
 
 mod faults;
 mod kinds;
+mod large;
 mod meetings;
 mod memory;
 mod plans;

@@ -1,7 +1,8 @@
-use super::fakes::{Endless, FailAt, Still, Stuck};
+use super::fakes::{Still, Stuck};
 use crate::{Counted, ReadFault, Sink, Source, WriteFault, read_all, write_all};
 use std::io::{Read, Write};
 use std::test::Fail;
+use test_devices::{Endless, FailAt};
 
 #[test]
 fn texts_of_faults(rt: HostRuntime) -> Result<(), Fail> {

@@ -1,71 +1,10 @@
-//! Readers and writers that fail at a chosen call, or whose counts stand.
+//! A source or sink whose counts stand, and a writer that is stuck once.
 
 ghost use Rattle.std.specs.Prelude.{◌-◌, ◌^◌};
 
 use crate::{Sink, Source};
 use std::io;
-use std::io::{ErrorKind, Read, Write};
-
-/// Passes some calls, fails one, and passes all that follow.
-#[derive(Drop)]
-pub struct FailAt<T> {
-    pub inner: T,
-    pub calls: Option<u32>,
-}
-
-impl<T> FailAt<T> {
-    /// Fails the call that follows this many.
-    pub fn new(calls: u32, inner: T) -> Self {
-        FailAt {
-            inner,
-            calls: Some(calls),
-        }
-    }
-
-    fn pass(&mut self) -> io::Result<()> {
-        let Some(calls) = self.calls else {
-            return Ok(());
-        };
-        self.calls = calls.checked_sub(1);
-        match self.calls {
-            Some(_) => Ok(()),
-            None => Err(io::Error::new(ErrorKind::Other, "the device failed")),
-        }
-    }
-}
-
-impl<T: Read> Read for FailAt<T> {
-    fn read(&mut self, buf: &mut [u8]) -> io::Result<usize> {
-        self.pass()?;
-        self.inner.read(buf)
-    }
-}
-
-impl<T: Write> Write for FailAt<T> {
-    fn write(&mut self, buf: &[u8]) -> io::Result<usize> {
-        self.pass()?;
-        self.inner.write(buf)
-    }
-
-    fn flush(&mut self) -> io::Result<()> {
-        self.pass()?;
-        self.inner.flush()
-    }
-}
-
-/// Gives a byte at each read, without end.
-#[derive(Drop)]
-pub struct Endless;
-
-impl Read for Endless {
-    fn read(&mut self, buf: &mut [u8]) -> io::Result<usize> {
-        let Some(first) = buf.first_mut() else {
-            return Ok(0);
-        };
-        *first = b'x';
-        Ok(1)
-    }
-}
+use std::io::{Read, Write};
 
 /// A source or sink whose counts stand: that of its failures at the most that it can be.
 #[derive(Drop)]

@@ -13,4 +13,5 @@ loop-rest-preserved g c =
     let (front, split, appended, none_failed) = c.loop-rest.invariant in
     let rest = c.loop-rest.rest.now in
     let count = c.in-Ok.count in
-    (front ++ take count rest, moves_front _ front rest count split, Appends-trans _ _ _ _ _ appended c.in-Ok.ensures.bytes, c.in-Ok.ensures.taken (inl (omega (arith, c.if-count-eq0.false))) ∙ none_failed)
+    let none_more = c.in-Ok.ensures.taken (inl (omega (arith, c.if-count-eq0.false))) in
+    (front ++ take count rest, moves_front _ front rest count split, Appends-trans _ _ _ _ _ appended c.in-Ok.ensures.bytes, none_more ∙ none_failed)
