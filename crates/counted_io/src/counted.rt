@@ -84,11 +84,15 @@ impl<T: Read> Read for Counted<T> {
 
     fn read(&mut self, buf: &mut [u8]) -> io::Result<usize>
         ensures bound { ReadsAtMost result buf.new }
-        ensures bytes { ReadConsumes (T.remaining (counted_inner self.old)) (T.remaining (counted_inner self.new)) result buf.new }
+        ensures bytes { ReadConsumes (T.remaining (counted_inner self.old))
+            (T.remaining (counted_inner self.new)) result buf.new }
         ensures ok { OnOk result (counted_failures self.new ≡ counted_failures self.old) }
-        ensures err { OnErr result (counted_failures self.new ≡ one_more (counted_failures self.old)) }
-        ensures some_given { IfOk result (λ count. 0 < count → counted_reads self.new ≡ one_more (counted_reads self.old)) }
-        ensures none_given { IfOk result (λ count. count ≡ 0 → counted_reads self.new ≡ counted_reads self.old) }
+        ensures err { OnErr result (counted_failures self.new ≡
+            one_more (counted_failures self.old)) }
+        ensures some_given { IfOk result (λ count. 0 < count →
+            counted_reads self.new ≡ one_more (counted_reads self.old)) }
+        ensures none_given { IfOk result (λ count. count ≡ 0 →
+            counted_reads self.new ≡ counted_reads self.old) }
         ensures err_reads { OnErr result (counted_reads self.new ≡ counted_reads self.old) }
     {
         let result = self.inner.read(buf);
@@ -130,10 +134,14 @@ impl<T: Write> Write for Counted<T> {
 
     fn write(&mut self, buf: &[u8]) -> io::Result<usize>
         ensures bound { WritesAtMost result buf.now }
-        ensures bytes { WriteAppends (T.contents (counted_inner self.old)) (T.contents (counted_inner self.new)) result buf.now }
-        ensures taken { IfOk result (λ count. (0 < count) ⊎ (buf.now ≡ []) → counted_failures self.new ≡ counted_failures self.old) }
-        ensures none_taken { IfOk result (λ count. count ≡ 0 → 0 < length buf.now → counted_failures self.new ≡ one_more (counted_failures self.old)) }
-        ensures err { OnErr result (counted_failures self.new ≡ one_more (counted_failures self.old)) }
+        ensures bytes { WriteAppends (T.contents (counted_inner self.old))
+            (T.contents (counted_inner self.new)) result buf.now }
+        ensures taken { IfOk result (λ count. (0 < count) ⊎ (buf.now ≡ []) →
+            counted_failures self.new ≡ counted_failures self.old) }
+        ensures none_taken { IfOk result (λ count. count ≡ 0 → 0 < length buf.now →
+            counted_failures self.new ≡ one_more (counted_failures self.old)) }
+        ensures err { OnErr result (counted_failures self.new ≡
+            one_more (counted_failures self.old)) }
         ensures reads { counted_reads self.new ≡ counted_reads self.old }
     {
         let result = self.inner.write(buf);
@@ -148,9 +156,11 @@ impl<T: Write> Write for Counted<T> {
     }
 
     fn flush(&mut self) -> io::Result<()>
-        ensures bytes { Keeps (T.contents (counted_inner self.old)) (T.contents (counted_inner self.new)) }
+        ensures bytes { Keeps (T.contents (counted_inner self.old))
+            (T.contents (counted_inner self.new)) }
         ensures ok { OnOk result (counted_failures self.new ≡ counted_failures self.old) }
-        ensures err { OnErr result (counted_failures self.new ≡ one_more (counted_failures self.old)) }
+        ensures err { OnErr result (counted_failures self.new ≡
+            one_more (counted_failures self.old)) }
         ensures reads { counted_reads self.new ≡ counted_reads self.old }
     {
         let result = self.inner.flush();

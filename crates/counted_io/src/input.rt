@@ -18,13 +18,15 @@ const CHUNK: usize = 512;
 /// count stands at `u64::MAX`; and `Memory` if memory was refused. After a fault what was read is
 /// lost, and nothing is said of where the source stands.
 pub fn read_all<R: Source>(alloc: Global, source: &mut R) -> Result<Vec<u8>, ReadFault>
-    ensures bytes { IfOk result (λ bytes. IfSome (R.remaining source.old) (λ all. bytes.items ≡ all)) }
+    ensures bytes { IfOk result (λ bytes. IfSome (R.remaining source.old)
+        (λ all. bytes.items ≡ all)) }
     ensures end { OnOk result (IsAtEnd (R.remaining source.new)) }
     ensures device { result ≡ Err ReadFault.Device
         → HasFailed (R.failure_count source.old) (R.failure_count source.new) }
     ensures no_failure { result ≢ Err ReadFault.Device
         → R.failure_count source.new ≡ R.failure_count source.old }
-    ensures long { result ≡ Err ReadFault.Long → ReadsUsedUp (R.read_count source.old) (R.read_count source.new) }
+    ensures long { result ≡ Err ReadFault.Long →
+        ReadsUsedUp (R.read_count source.old) (R.read_count source.new) }
 {
     let reads_before = source.reads();
     let mut bytes = Vec::new(alloc);

@@ -18,7 +18,8 @@ use xbar_traffic::{Mode, Traffic};
 
 /// What is written for a plan that is refused, if it is not for want of memory.
 fn refuse_plan(alloc: Global, fault: PlanFault) -> Result<Written, EngineFault>
-    ensures written { IfOk result (λ written. (fault ≢ PlanFault.Memory) × IsWrittenOf (RefusesPlan fault) written.text.items written.status) }
+    ensures written { IfOk result (λ written. (fault ≢ PlanFault.Memory) ×
+        IsWrittenOf (RefusesPlan fault) written.text.items written.status) }
     ensures why { IfErr result (λ why. why ≡ EngineFault.Memory) }
 {
     if fault == PlanFault::Memory {
@@ -33,7 +34,8 @@ fn refuse_plan(alloc: Global, fault: PlanFault) -> Result<Written, EngineFault>
 /// What is written for the bytes of a whole traffic.
 fn replay(alloc: Global, plan: &Plan, kinds: &[Kind], bytes: &[u8]) -> Result<Written, AllocError>
     requires { IsMarkerCount (length kinds.now) }
-    ensures { IfOk result (λ written. IsReplayUnder plan.now kinds.now bytes.now written.text.items written.status) }
+    ensures { IfOk result (λ written.
+        IsReplayUnder plan.now kinds.now bytes.now written.text.items written.status) }
 {
     xbar_traffic::laws::rows_are_in_range();
     xbar_traffic::laws::rows_are_of_their_mode();
@@ -48,13 +50,16 @@ fn comes_to<R: Source>(
     kinds: &[Kind],
     source: &mut R,
 ) -> Result<Written, EngineFault>
-    ensures replay { IfOk result (λ written. (traffic : List ℕ) × IfSome (R.remaining source.old) (λ all. traffic ≡ all) × IsReplay plan.now kinds.now traffic written.text.items written.status) }
+    ensures replay { IfOk result (λ written. (traffic : List ℕ) ×
+        IfSome (R.remaining source.old) (λ all. traffic ≡ all) ×
+        IsReplay plan.now kinds.now traffic written.text.items written.status) }
     ensures markers { (result ≡ Err EngineFault.Markers) ↔ ¬ IsMarkerCount (length kinds.now) }
     ensures device { result ≡ Err EngineFault.Device
         → HasFailed (R.failure_count source.old) (R.failure_count source.new) }
     ensures no_failure { result ≢ Err EngineFault.Device
         → R.failure_count source.new ≡ R.failure_count source.old }
-    ensures long { result ≡ Err EngineFault.Long → ReadsUsedUp (R.read_count source.old) (R.read_count source.new) }
+    ensures long { result ≡ Err EngineFault.Long →
+        ReadsUsedUp (R.read_count source.old) (R.read_count source.new) }
     ensures unread { IsRefusedUnread plan.now kinds.now → source.new ≡ source.old }
     ensures end { OnOk result (¬ IsRefusedUnread plan.now kinds.now
         → IsAtEnd (R.remaining source.new)) }
@@ -84,7 +89,10 @@ pub fn run_replay<R: Source, W: Sink>(
     source: &mut R,
     sink: &mut W,
 ) -> Result<Status, EngineFault>
-    ensures replay { IfOk result (λ status. (traffic text : List ℕ) × IfSome (R.remaining source.old) (λ all. traffic ≡ all) × IsReplay plan.now kinds.now traffic text status × Appends (W.contents sink.old) (W.contents sink.new) text) }
+    ensures replay { IfOk result (λ status. (traffic text : List ℕ) ×
+        IfSome (R.remaining source.old) (λ all. traffic ≡ all) ×
+        IsReplay plan.now kinds.now traffic text status ×
+        Appends (W.contents sink.old) (W.contents sink.new) text) }
     ensures markers { (result ≡ Err EngineFault.Markers) ↔ ¬ IsMarkerCount (length kinds.now) }
     ensures device { result ≡ Err EngineFault.Device
         → HasFailed (R.failure_count source.old) (R.failure_count source.new)
@@ -92,11 +100,13 @@ pub fn run_replay<R: Source, W: Sink>(
     ensures no_failure { result ≢ Err EngineFault.Device
         → (R.failure_count source.new ≡ R.failure_count source.old)
         × (W.failure_count sink.new ≡ W.failure_count sink.old) }
-    ensures long { result ≡ Err EngineFault.Long → ReadsUsedUp (R.read_count source.old) (R.read_count source.new) }
+    ensures long { result ≡ Err EngineFault.Long →
+        ReadsUsedUp (R.read_count source.old) (R.read_count source.new) }
     ensures unread { IsRefusedUnread plan.now kinds.now → source.new ≡ source.old }
     ensures end { OnOk result (¬ IsRefusedUnread plan.now kinds.now
         → IsAtEnd (R.remaining source.new)) }
-    ensures unwritten { IfErr result (λ fault. ComesFirst fault → Keeps (W.contents sink.old) (W.contents sink.new)) }
+    ensures unwritten { IfErr result (λ fault. ComesFirst fault →
+        Keeps (W.contents sink.old) (W.contents sink.new)) }
 {
     let written = comes_to(alloc, plan, kinds, source)?;
     write_all(sink, &written.text)?;

@@ -20,8 +20,11 @@ fn assign(
     job: Job,
 ) -> Result<Option<MarkerFault>, AllocError>
     requires { IsJob job }
-    ensures fault { IfOk result (λ fault. fault ≡ refused_as (refusal office.old.exchange marker job)) }
-    ensures done { IfOk result (λ fault. fault ≡ None → office.new ≡ record office.old { exchange = assigned marker job_no job office.old.exchange }) }
+    ensures fault { IfOk result (λ fault. fault ≡
+        refused_as (refusal office.old.exchange marker job)) }
+    ensures done { IfOk result (λ fault. fault ≡ None →
+        office.new ≡
+        record office.old { exchange = assigned marker job_no job office.old.exchange }) }
     ensures memory { OnErr result (refusal office.old.exchange marker job ≡ None) }
     ensures unchanged { OnErr result (office.new ≡ office.old) }
 {
@@ -37,7 +40,8 @@ fn assign(
 /// Has a marker make so many steps, or tells that the office has no such marker.
 fn make_steps(office: &mut Exchange, marker: u32, count: u32) -> Option<MarkerFault>
     ensures fault { result ≡ missing (slice_get office.old.exchange.markers marker) }
-    ensures done { result ≡ None → office.new ≡ record office.old { exchange = steps office.old.plan marker count office.old.exchange } }
+    ensures done { result ≡ None → office.new ≡
+        record office.old { exchange = steps office.old.plan marker count office.old.exchange } }
 {
     if marker >= office.marker_count() {
         return Some(MarkerFault::NoMarker);
@@ -52,7 +56,9 @@ pub fn do_row(office: &mut Exchange, row: &Row) -> Result<Option<MarkerFault>, A
     requires range { IsRow row.now }
     requires mode { mode_of row.now ≡ Mode.Replay }
     ensures fault { IfOk result (λ fault. fault ≡ row_fault office.old.exchange row.now) }
-    ensures done { IfOk result (λ fault. fault ≡ None → office.new ≡ record office.old { exchange = done office.old.plan office.old.exchange row.now }) }
+    ensures done { IfOk result (λ fault. fault ≡ None →
+        office.new ≡
+        record office.old { exchange = done office.old.plan office.old.exchange row.now }) }
     ensures memory { OnErr result (IsUnrefusedJob office.old.exchange row.now) }
     ensures unchanged { OnErr result (office.new ≡ office.old) }
 {

@@ -78,7 +78,7 @@ fn check_words(rt: &impl Abort, words: &[u64], wanted: &[(usize, u64)]) {
 }
 
 /// What a reply says, as `DialTone 3041-0-417 1`, with its cards.
-fn told(alloc: Global, reply: &Reply) -> Result<String, Fail> {
+fn reply_text(alloc: Global, reply: &Reply) -> Result<String, Fail> {
     let mut text = match &reply.end {
         End::DialTone { path, trial } => format!(in alloc; "DialTone {path} {trial}")?,
         End::Connected {
@@ -111,7 +111,7 @@ fn end_of(rt: &impl Abort, alloc: Global, program: &Program) -> Result<String, F
     let Some(reply) = program.reply() else {
         panic!(rt; "no reply is known");
     };
-    told(alloc, reply)
+    reply_text(alloc, reply)
 }
 
 /// Does a job on the words with one marker, and tells how it ended and after how many steps.

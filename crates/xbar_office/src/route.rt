@@ -57,7 +57,8 @@ pub fn idle_trunk(plan: &Plan, paths: &[Path], groups: &[u8]) -> Option<IdleTrun
     requires { AreGroups plan.now groups.now }
     ensures trunk { result ≡ idle_trunk_of plan.now paths.now groups.now }
     ensures group { IfSome result (λ trunk. trunk.group < length plan.now.groups) }
-    ensures first { IfSome result (λ trunk. trunk.first < length (members_of plan.now trunk.group)) }
+    ensures first { IfSome result (λ trunk. trunk.first < length
+        (members_of plan.now trunk.group)) }
 {
     for group in groups {
         if let Some(first) = first_idle(paths, members(plan, *group)) {

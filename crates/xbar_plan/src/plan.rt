@@ -26,9 +26,19 @@ impl Model for Plan {
 
     ghost Value = { Tables };
 
-    ghost view = { λ a. record { groups = a.groups.items; stations = a.stations.items; routes = a.routes.items; faults = a.faults.items } };
+    ghost view = { λ a. record {
+      groups = a.groups.items;
+      stations = a.stations.items;
+      routes = a.routes.items;
+      faults = a.faults.items;
+    } };
 
-    ghost invariant = { λ a. IsLawful (record { groups = a.groups.items; stations = a.stations.items; routes = a.routes.items; faults = a.faults.items }) };
+    ghost invariant = { λ a. IsLawful (record {
+      groups = a.groups.items;
+      stations = a.stations.items;
+      routes = a.routes.items;
+      faults = a.faults.items;
+    }) };
 }
 
 impl Plan {
@@ -46,8 +56,18 @@ impl Plan {
         routes: Vec<Route>,
         faults: Vec<Link>,
     ) -> Self
-        requires { IsLawful (record { groups = groups.items; stations = stations.items; routes = routes.items; faults = faults.items }) }
-        ensures { result ≡ record { groups = groups.items; stations = stations.items; routes = routes.items; faults = faults.items } }
+        requires { IsLawful (record {
+          groups = groups.items;
+          stations = stations.items;
+          routes = routes.items;
+          faults = faults.items;
+        }) }
+        ensures { result ≡ record {
+          groups = groups.items;
+          stations = stations.items;
+          routes = routes.items;
+          faults = faults.items;
+        } }
     {
         Plan {
             groups,
@@ -65,7 +85,12 @@ impl Plan {
         routes: Vec<Route>,
         faults: Vec<Link>,
     ) -> Result<Self, PlanFault>
-        ensures { IsPlanOf (record { groups = groups.items; stations = stations.items; routes = routes.items; faults = faults.items }) result }
+        ensures { IsPlanOf (record {
+          groups = groups.items;
+          stations = stations.items;
+          routes = routes.items;
+          faults = faults.items;
+        }) result }
     {
         match lawful::fault_in(alloc, &groups, &stations, &routes, &faults)? {
             None => Ok(Plan::new(groups, stations, routes, faults)),

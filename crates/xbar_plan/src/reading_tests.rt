@@ -28,7 +28,7 @@ const CODES: usize = 3;
 const FAULTS: usize = 4;
 
 /// The fault of a document, if it has one.
-fn told(alloc: Global, lines: Lines) -> Result<Option<PlanFault>, AllocError> {
+fn fault_of(alloc: Global, lines: Lines) -> Result<Option<PlanFault>, AllocError> {
     let text = document(alloc, lines)?;
     Ok(Plan::read(alloc, text.as_bytes()).err())
 }
@@ -91,7 +91,11 @@ fn each_has(
     lines: &[&'static str],
 ) -> Result<(), Fail> {
     for line in lines {
-        assert_eq!(rt; told(alloc, changed(EXAMPLE, at, *line))?, fault, "{line}");
+        assert_eq!(rt;
+            fault_of(alloc, changed(EXAMPLE, at, *line))?,
+            fault,
+            "{line}"
+        );
     }
     Ok(())
 }
@@ -233,7 +237,7 @@ fn lesser_is_told(
 ) -> Result<(), Fail> {
     for (fault, (at, line), (other, more)) in rows {
         let lines = changed(changed(EXAMPLE, *at, *line), *other, *more);
-        assert_eq!(rt; told(alloc, lines)?, Some(*fault), "{line}");
+        assert_eq!(rt; fault_of(alloc, lines)?, Some(*fault), "{line}");
     }
     Ok(())
 }
@@ -311,7 +315,7 @@ fn second_version_has_one_to_ten_lines_a_number(rt: HostRuntime) -> Result<(), F
         ),
     ];
     for (fault, line) in rows {
-        assert_eq!(rt; told(alloc, changed(second, 2, line))?, fault, "{line}");
+        assert_eq!(rt; fault_of(alloc, changed(second, 2, line))?, fault, "{line}");
     }
     Ok(())
 }

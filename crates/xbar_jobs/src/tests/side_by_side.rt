@@ -69,7 +69,7 @@ fn go_side_by_side(rt: &impl Abort, alloc: Global, plan: &Plan, seed: u64) -> Re
         let reply = office.whole(job)?;
         assert_eq!(rt;
             end_of(rt, alloc, &program)?,
-            told(alloc, &reply)?,
+            reply_text(alloc, &reply)?,
             "{job:?}"
         );
         check_shown(rt, alloc, plan, &office, &words)?;

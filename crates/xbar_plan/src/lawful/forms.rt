@@ -84,7 +84,13 @@ fn are_in_range(
     routes: &[Route],
     faults: &[Link],
 ) -> Result<bool, AllocError>
-    ensures { IfOk result (λ holds. holds ≡ are_tables_in_range (record { groups = groups.now; stations = stations.now; routes = routes.now; faults = faults.now })) }
+    ensures { IfOk result (λ holds. holds ≡ are_tables_in_range
+        (record {
+          groups = groups.now;
+          stations = stations.now;
+          routes = routes.now;
+          faults = faults.now;
+        })) }
 {
     let places = places_of(alloc, groups)?;
     xbar_equip::laws::places_are_in_range(&places);
@@ -100,7 +106,13 @@ pub fn are_well_formed(
     routes: &[Route],
     faults: &[Link],
 ) -> Result<bool, AllocError>
-    ensures { IfOk result (λ holds. holds ≡ are_tables_well_formed (record { groups = groups.now; stations = stations.now; routes = routes.now; faults = faults.now })) }
+    ensures { IfOk result (λ holds. holds ≡ are_tables_well_formed
+        (record {
+          groups = groups.now;
+          stations = stations.now;
+          routes = routes.now;
+          faults = faults.now;
+        })) }
 {
     let in_range = are_in_range(alloc, groups, stations, routes, faults)?;
     Ok(are_well_formed_groups(groups) && in_range)
