@@ -44,7 +44,6 @@ fn settled(alloc: Global, mut office: Exchange<'_>) -> Result<Written, AllocErro
     ensures history { IfOk result (λ written. IsOneHistory office.entry.plan (settled_office office.entry.plan office.entry.exchange)) }
 {
     office.settle();
-    xbar_plan::laws::every_plan_is_lawful(office.plan());
     xbar_core::laws::jobs_act_at_their_turns();
     let paths = count_paths(office.words());
     let closed = count_closed(office.words());

@@ -91,7 +91,7 @@ module _ (plan : Tables) where
   past_ends k turn n count e a at phase few = ends_if k turn n count e a (is_rest (act a)) refl at phase few
 
   -- a marker that is free for a job is idle
-  free_idle : (work : Work) → IsFree (office plan) work → is_idle work ≡ true
+  pub free_idle : (work : Work) → IsFree (office plan) work → is_idle work ≡ true
   free_idle Idle free = refl
   free_idle (Does n a) free = ap is_rest free
 

@@ -148,7 +148,7 @@ module _ (plan : Tables) where
       ∙ no_records (recorded k n a (generic.answered (office plan) k (act a) found)) (added_at plan k n found a a.phase ∙ adds_none k n found a a.phase backs)
 
   -- and its steps are on words of connectors, behind the protected ones
-  conn_behind : (conn : Conn) → 416 ≤ word_number (ConnWord conn)
+  pub conn_behind : (conn : Conn) → 416 ≤ word_number (ConnWord conn)
   conn_behind (Llf frame) = omega arith
   conn_behind (Tlf frame) = omega arith
   conn_behind (Group group) = omega arith

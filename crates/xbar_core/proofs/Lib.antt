@@ -32,3 +32,14 @@ pub mod LinkSides
 pub mod LeftEffects
 pub mod ClosedCrosspoints
 pub mod OneCall
+pub mod GrownRecords
+pub mod ToldEvents
+pub mod PastTurns
+pub mod WorldMoves
+pub mod FreedConnectors
+pub mod BegunJobs
+pub mod LeastRequests
+pub mod HeldWords
+pub mod Stages
+pub mod LawfulEnds
+pub mod SettledOffices

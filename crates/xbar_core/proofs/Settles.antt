@@ -47,7 +47,7 @@ all_changed change Has Done is (suc k) e has j m below there = by (one_or_two j 
   by (inr two) earlier = earlier (omega (arith, two)) (sym (is.others k j (for_each change k e) two) ∙ there)
 
 -- all markers have this
-abbrev AllAre : (Work → Type 0) → Exchange → Type 0
+abbrev pub AllAre : (Work → Type 0) → Exchange → Type 0
 AllAre Done e = (j : ℕ) (m : Marker) → slice_get e.markers j ≡ Some m → Done m.work
 
 -- a marker that is past its turn is idle
@@ -59,7 +59,7 @@ not_turned work waits past = let both = sym waits ∙ past in absurd cc
 
 module _ (plan : Tables) where
   -- an idle marker is out of the way of the others
-  idle_aside : (work : Work) → is_idle work ≡ true → IsAside (office plan) work
+  pub idle_aside : (work : Work) → is_idle work ≡ true → IsAside (office plan) work
   idle_aside Idle idle = tt
   idle_aside (Does n a) idle = let bare = rest_bare (office plan) a.phase a.job a.readings a.held a.reply a.effects (idle_free plan (Does n a) idle) in (bare.1, bare.2)
 

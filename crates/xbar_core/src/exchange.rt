@@ -5,6 +5,7 @@ ghost use Rattle.turns.specs.World.{Idle};
 ghost use Rattle.xbar_equip.specs.Word.{word_count};
 ghost use Rattle.xbar_office.specs.Legal.{IsJob};
 ghost use Rattle.xbar_core.specs.AtWork.{IsBackingAt};
+ghost use Rattle.xbar_core.specs.Ends.{Settles};
 ghost use Rattle.xbar_core.specs.Exchange.{IsLawfulExchange, Marker as TheMarker, is_idle as is_idle_work, opened};
 ghost use Rattle.xbar_core.specs.Moves.{assigned, begun_anew, event_at_step, frees_left, given_at, given_back, refusal, stepped, steps};
 ghost use Rattle.xbar_core.specs.Settling.{ended, ended_past_turn, for_each, settled};
@@ -305,6 +306,7 @@ impl<'p> Exchange<'p> {
     pub fn settle(&mut self)
         ensures settled { self.new
             ≡ record self.old { exchange = settled self.old.plan self.old.exchange } }
+        ensures settles { Settles self.old.plan self.old.exchange self.new.exchange }
         ensures idle { (k : ℕ) (m : TheMarker) → slice_get self.new.exchange.markers k ≡ Some m →
             is_idle_work m.work ≡ true }
     {

@@ -1,10 +1,11 @@
 //! What holds of every office of many markers, whatever moves its markers make in whatever order. Each
 //! function does nothing: its contract is the law.
 
-ghost use Rattle.std.specs.Prelude.{◌≡◌, ◌↔◌, ◌+◌, ◌<◌, ◌≤◌, ◌^◌, ◌%◌, ◌∷◌, ◌++◌, ◌≢◌, ℕ, List, [], Option, Some, None, true, length, slice_get, slice_index};
+ghost use Rattle.std.specs.Prelude.{◌≡◌, ◌↔◌, ◌+◌, ◌<◌, ◌≤◌, ◌⊎◌, ◌^◌, ◌%◌, ◌∷◌, ◌++◌, ◌≢◌, ℕ, List, [], Option, Some, None, true, length, slice_get, slice_index};
 ghost use Rattle.turns.specs.Among.{IsIn};
-ghost use Rattle.turns.specs.Attempt.{Free, IsSeizing, Make, act, change, read_in};
+ghost use Rattle.turns.specs.Attempt.{Free, IsSeizing, Make, act, begin_with, change, read_in};
 ghost use Rattle.turns.specs.System.{perform_all};
+ghost use Rattle.turns.specs.World as worlds;
 ghost use Rattle.turns.specs.declared.answer.Answer.{Answer};
 ghost use Rattle.turns.specs.declared.phase.Phase.{Phase};
 ghost use Rattle.turns.specs.declared.reading.Reading.{Reading};
@@ -24,15 +25,17 @@ ghost use Rattle.xbar_office.specs.declared.reply.Card.{Card};
 ghost use Rattle.xbar_office.specs.declared.reply.End.TheVariants.{Released};
 ghost use Rattle.xbar_office.specs.declared.reply.Record.{Record};
 ghost use Rattle.xbar_jobs.specs.Attempt.{Attempt, next_step};
+ghost use Rattle.xbar_jobs.specs.Jobs.{first_conn};
 ghost use Rattle.xbar_jobs.specs.Office.{Protects, ShowsOffice, office};
 ghost use Rattle.xbar_jobs.specs.OnWords.{answer_of, step_word};
 ghost use Rattle.xbar_jobs.specs.Opening.{ReleasesJust};
 ghost use Rattle.xbar_jobs.specs.declared.effect.Effect.{Effect};
-ghost use Rattle.xbar_core.specs.Exchange.{Exchange, IsLawfulExchange, Marker, is_idle, opened};
+ghost use Rattle.xbar_core.specs.Ends.{ComesToEnd, Settles, own_steps};
+ghost use Rattle.xbar_core.specs.Exchange.{Exchange, IsLawfulExchange, Marker, is_idle, opened, world};
 ghost use Rattle.xbar_core.specs.Holding.{AsksFor, HasRequested, Holds, IsAt, TellsTruth, completed};
 ghost use Rattle.xbar_core.specs.Links.{BelongsTo, IsAtLink, IsClosed, IsPastTurn, OpensItsOwn};
 ghost use Rattle.xbar_core.specs.Moves.{assigned, begun_anew, event_at_step, given_at, given_back, recorded, refusal, stepped};
-ghost use Rattle.xbar_core.specs.Runs.{AreMoves, Move, run_of};
+ghost use Rattle.xbar_core.specs.Runs.{AreMoves, Move, made_by, run_from, run_of};
 ghost use Rattle.xbar_core.specs.Settling.{settled};
 ghost use Rattle.xbar_core.specs.declared.event.Event.{Event};
 ghost use Rattle.xbar_core.specs.declared.given.Given.{Given};
@@ -75,20 +78,19 @@ pub fn jobs_act_at_their_turns()
         AreJobs (jobs_of e.records) }
     ensures replies { (plan : Tables) (e : Exchange) → IsLawfulExchange plan e →
         HaveReplies plan [] e.records }
-    ensures legal { (plan : Tables) (e : Exchange) →
-        IsLawfulExchange plan e → length e.records < 2 ^ 64 → IsLegal plan e.records }
+    ensures legal { (plan : Tables) (e : Exchange) → IsLawfulExchange plan e →
+        length e.records < 2 ^ 64 → IsLegal plan e.records }
     ensures counted { (plan : Tables) (e : Exchange) → IsLawfulExchange plan e →
         slice_index e.words (word_number TurnWord) ≡ length e.records % 2 ^ 64 }
     ensures shows { (plan : Tables) (e : Exchange) → IsLawfulExchange plan e →
         ShowsOffice plan (completed plan e) (after plan e.records) }
     ensures made { (plan : Tables) (e : Exchange) → IsLawfulExchange plan e →
-        ((k number turn : ℕ) (a : Attempt) →
-        IsAt e k number a → a.phase ≡ Phase.Operates turn → a.effects ≡ []) →
+        ((k number turn : ℕ) (a : Attempt) → IsAt e k number a → a.phase ≡ Phase.Operates turn →
+        a.effects ≡ []) → ShowsOffice plan e.words (after plan e.records) }
+    ensures free { (plan : Tables) (e : Exchange) → IsLawfulExchange plan e →
+        ((k : ℕ) (conn : Conn) → ¬ Holds e k conn) →
         ShowsOffice plan e.words (after plan e.records) }
-    ensures free { (plan : Tables) (e : Exchange) →
-        IsLawful plan → IsLawfulExchange plan e → ((k : ℕ) (conn : Conn) → ¬ Holds e k conn) →
-        ShowsOffice plan e.words (after plan e.records) }
-    ensures idle { (plan : Tables) (e : Exchange) → IsLawful plan → IsLawfulExchange plan e →
+    ensures idle { (plan : Tables) (e : Exchange) → IsLawfulExchange plan e →
         ((k : ℕ) (m : Marker) → slice_get e.markers k ≡ Some m → is_idle m.work ≡ true) →
         ShowsOffice plan e.words (after plan e.records) }
 {}
@@ -103,10 +105,10 @@ pub fn connectors_tell_the_truth()
 /// before its turn is still what the words have.
 pub fn words_are_their_holders()
     ensures alone { (plan : Tables) (e : Exchange) (k number : ℕ) (a : Attempt) (conn : Conn) →
-        IsLawful plan → IsLawfulExchange plan e →
-        IsAt e k number a → Protects conn (step_word (next_step a)) → IsIn conn a.held }
+        IsLawfulExchange plan e → IsAt e k number a → Protects conn (step_word (next_step a)) →
+        IsIn conn a.held }
     ensures spared { (plan : Tables) (e : Exchange) (k n : ℕ) (conn : Conn) →
-        IsLawful plan → IsLawfulExchange plan e → Protects conn n → ¬ Holds e k conn →
+        IsLawfulExchange plan e → Protects conn n → ¬ Holds e k conn →
         slice_index (stepped plan k e).words n ≡ slice_index e.words n }
     ensures read { (plan : Tables) (e : Exchange) (k number : ℕ) (a : Attempt) (r : Reading ℕ) →
         IsLawfulExchange plan e → IsAt e k number a → IsIn r (read_in a.phase a.readings) →
@@ -130,10 +132,9 @@ pub fn attempts_keep_their_order()
 /// has finished or not; a job that finishes has it at the place of its turn.
 pub fn turned_jobs_are_recorded()
     ensures turned { (plan : Tables) (e : Exchange) (k number turn : ℕ) (a : Attempt) →
-        IsLawful plan → IsLawfulExchange plan e →
-        IsAt e k number a → a.phase ≡ Phase.Operates turn → (place : ℕ) × IsPastTurn e k place a }
-    ensures place { (plan : Tables) (e : Exchange) (k : ℕ) (r : Record) →
-        IsLawful plan → IsLawfulExchange plan e →
+        IsLawfulExchange plan e → IsAt e k number a → a.phase ≡ Phase.Operates turn →
+        (place : ℕ) × IsPastTurn e k place a }
+    ensures place { (plan : Tables) (e : Exchange) (k : ℕ) (r : Record) → IsLawfulExchange plan e →
         length e.records < 2 ^ 64 → event_at_step plan k e ≡ Event.Finished r →
         slice_get (stepped plan k e).records r.turn ≡ Some r }
     ensures job { (plan : Tables) (e : Exchange) (k number : ℕ) (a : Attempt) (r : Record) →
@@ -203,4 +204,81 @@ pub fn a_release_opens_its_own_crosspoints()
         IsAt e k number a → a.phase ≡ Phase.Operates turn → a.job ≡ Release line →
         a.reply ≡ Some (record { end = Released own other; cards = cards }) →
         OpensItsOwn plan own other e.words a.effects }
+{}
+
+/// Whatever moves are made, the records before them begin the records after them.
+pub fn records_only_grow()
+    ensures moved { (plan : Tables) (e : Exchange) (move : Move)
+        → (later : List Record) × ((made_by plan e move).records ≡ e.records ++ later) }
+    ensures run { (plan : Tables) (e : Exchange) (moves : List Move)
+        → (later : List Record) × ((run_from plan e moves).records ≡ e.records ++ later) }
+{}
+
+/// A job past its turn comes to its end within as many steps of its marker as it has effects and connectors
+/// left, whatever other moves come in between. The step that frees its last connector tells its record.
+pub fn jobs_past_their_turns_end()
+    ensures ends { (plan : Tables) (e : Exchange) (moves : List Move) (k number turn : ℕ)
+        (a : Attempt) → IsAt e k number a → a.phase ≡ Phase.Operates turn
+        → length a.effects + length a.held ≤ own_steps k moves
+        → ComesToEnd plan e moves k number turn a.job }
+    ensures told { (plan : Tables) (e : Exchange) (k number turn : ℕ) (a : Attempt) (conn : Conn)
+        → IsLawfulExchange plan e → IsAt e k number a → a.phase ≡ Phase.Operates turn
+        → a.effects ≡ [] → a.held ≡ conn ∷ []
+        → (r : Record) × (event_at_step plan k e ≡ Event.Finished r) }
+{}
+
+/// An office that settles brings each job to its end: in the order of their numbers the markers past their
+/// turn run to their end, then all others give back, and then each runs to its end. There is but one office
+/// that this leads to.
+pub fn settling_ends_all_jobs()
+    ensures settles { (plan : Tables) (e : Exchange) → IsLawful plan → IsLawfulExchange plan e
+        → Settles plan e (settled plan e) }
+    ensures one { (plan : Tables) (e other : Exchange) → Settles plan e other
+        → IsLawful plan → IsLawfulExchange plan e → other ≡ settled plan e }
+    ensures same { (plan : Tables) (e one other : Exchange)
+        → Settles plan e one → Settles plan e other → one ≡ other }
+{}
+
+/// A move of the office is that move of its world: a step, if a marker that gives back holds something
+/// still, as each does in a lawful office; to begin a job anew; and to be assigned one.
+pub fn moves_are_those_of_its_world()
+    ensures steps { (plan : Tables) (e : Exchange) (k number : ℕ) (a : Attempt) → IsAt e k number a
+        → (a.phase ≡ Phase.GivesBack → a.held ≢ [])
+        → world plan (stepped plan k e) ≡ worlds.moved (office plan) k number a (world plan e) }
+    ensures holds { (plan : Tables) (e : Exchange) (k number : ℕ) (a : Attempt)
+        → IsLawfulExchange plan e → IsAt e k number a → a.phase ≡ Phase.GivesBack → a.held ≢ [] }
+    ensures begins_anew { (plan : Tables) (e : Exchange) (k number : ℕ) (a : Attempt)
+        → IsAt e k number a → world plan (begun_anew plan k e)
+        ≡ worlds.given_back (office plan) k number a (world plan e) }
+    ensures assigns { (plan : Tables) (e : Exchange) (k number : ℕ) (job : Job)
+        → world plan (assigned k number job e)
+        ≡ worlds.assigned (office plan) k number job (world plan e) }
+{}
+
+/// A connector is freed in giving back, or past the turn once no effect is left.
+pub fn more_of_attempts_keep_their_order()
+    ensures frees { (a : Attempt) (conn : Conn) → act a ≡ Free conn
+        → (a.phase ≡ Phase.GivesBack)
+        ⊎ ((turn : ℕ) × (a.phase ≡ Phase.Operates turn) × (a.effects ≡ [])) }
+{}
+
+/// A step that frees a connector changes no protected word.
+pub fn more_of_words_are_their_holders()
+    ensures frees { (plan : Tables) (e : Exchange) (k number n : ℕ) (a : Attempt) (conn : Conn)
+        → IsAt e k number a → act a ≡ Free conn → n < 416
+        → slice_index (stepped plan k e).words n ≡ slice_index e.words n }
+{}
+
+/// A marker that gives back is at its job's very beginning.
+pub fn more_of_giving_back_frees_all()
+    ensures begins { (plan : Tables) (e : Exchange) (k number : ℕ) (a : Attempt)
+        → given_at e k ≡ Given.Given → IsAt e k number a
+        → IsAt (given_back plan k e) k number (begin_with (first_conn a.job) a.job) }
+{}
+
+/// The marker that is preferred has the lowest number of those that have requested the connector.
+pub fn more_of_events_tell_the_truth()
+    ensures least { (plan : Tables) (e : Exchange) (k other : ℕ) → IsLawfulExchange plan e
+        → event_at_step plan k e ≡ Event.Preferred other
+        → (conn : Conn) → AsksFor e k conn → (j : ℕ) → j < other → ¬ HasRequested e j conn }
 {}

@@ -109,7 +109,7 @@ impl Work {
         })
     }
 
-    /// Adds the record of the turn, if that is what was made. The job has it then, under this number.
+    /// Adds the record of the turn that the job has just taken, if that is what it did.
     fn enter(&self, marker: u32, answer: Answer, records: &mut Vec<Record>)
         requires turned { (turn : ℕ) → answer ≡ Answer.Turn turn →
             self.now.program.attempt.phase ≡ Phase.Operates turn }
