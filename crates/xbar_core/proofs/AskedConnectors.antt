@@ -1,5 +1,5 @@
 -- what a marker is told of a connector that it asks for is true
-use Rattle.std.proofs.Common.{◌≡◌, ℕ, ◌+◌, ◌<◌, ◌%◌, Bool, true, false, List, [], ◌∷◌, bit_or, slice_index, refl, sym, ◌∙◌, ap, subst, arith}
+use Rattle.std.proofs.Common.{◌≡◌, ℕ, ◌+◌, ◌<◌, ◌%◌, Bool, true, false, List, [], ◌∷◌, bit_or, slice_index, refl, sym, ◌∙◌, ap, subst, arith, eq-eqb}
 use Rattle.std.specs.Int.{bit_at}
 use Rattle.std.specs.Prelude.{◌==◌, ◌||◌, Option, Some, None, if◌then◌else◌}
 use Rattle.std.proofs.lemmas.Bool.{eqb-true}
@@ -61,8 +61,15 @@ lower_stood k word j few lower set = by (j == k) refl (sym (asked_requests k wor
   by true same stands = let one = eqb-true j k same in absurd (omega (arith, one, lower))
   by false other stands = eqb-true (bit_at word (8 + j)) 1 stands
 
--- a marker at this attempt asks for a connector, and is told this of a word that has the connector's holder, and of the requests of lower markers no others
-record IsJudged (e : Exchange) (k : ℕ) (a : Attempt) (j : Judgement) : Type 0 where
+-- and each that stood before stands in it
+still_stands : (k word j : ℕ) → j < 48 → (bit_at word (8 + j) == 1) ≡ true → (bit_at (bit_or word (request_bit k)) (8 + j) == 1) ≡ true
+still_stands k word j few set = asked_requests k word j few ∙ by (j == k) set where
+  by : (own : Bool) → (bit_at word (8 + j) == 1) ≡ true → (own || bit_at word (8 + j) == 1) ≡ true
+  by true is = refl
+  by false is = is
+
+-- a marker at this attempt asks for a connector, and is told this of a word that has the connector's holder and all requests for it, and of those of lower markers no others
+pub record IsJudged (e : Exchange) (k : ℕ) (a : Attempt) (j : Judgement) : Type 0 where
   pub conn : Conn
   pub asked : asked_in a.phase ≡ Some conn
   pub range : IsConn conn
@@ -70,10 +77,11 @@ record IsJudged (e : Exchange) (k : ℕ) (a : Attempt) (j : Judgement) : Type 0 
   pub judges : judged k word ≡ j
   pub holder : word % 64 ≡ conn_word e conn % 64
   pub lower : (other : ℕ) → other < k → (bit_at word (8 + other) == 1) ≡ true → bit_at (conn_word e conn) (8 + other) ≡ 1
+  pub all : (other : ℕ) → other < 48 → bit_at (conn_word e conn) (8 + other) ≡ 1 → (bit_at word (8 + other) == 1) ≡ true
 
 module _ (plan : Tables) (e : Exchange) (lawful : IsLawfulExchange plan e) (k number : ℕ) (a : Attempt) (at : IsAt e k number a) where
   -- there are 48 markers at most
-  few : k < 48
+  pub few : k < 48
   few = let below = there_below (world plan e).actors k (Does number a) (actor_at e k number a at) in let most = lawful.few in omega (arith, below, most)
 
   abbrev told_in : Phase → Answer
@@ -101,6 +109,7 @@ module _ (plan : Tables) (e : Exchange) (lawful : IsLawfulExchange plan e) (k nu
     judges = told_judged (Asked _) _ j refl told;
     holder = asked_holder k (conn_word e conn);
     lower = λ other less set. lower_stood k (conn_word e conn) other few less set;
+    all = λ other below set. still_stands k (conn_word e conn) other below (eq-eqb (bit_at (conn_word e conn) (8 + other)) 1 set);
   }
 
   judged_seizing : (conn : Conn) (expected : ℕ) (j : Judgement) → a.phase ≡ Seizes conn expected → stop (told_in (Seizes conn expected)) ≡ Some j → IsJudged e k a j
@@ -112,6 +121,7 @@ module _ (plan : Tables) (e : Exchange) (lawful : IsLawfulExchange plan e) (k nu
     judges = by (conn_word e conn == expected) told;
     holder = refl;
     lower = λ other less set. eqb-true (bit_at (conn_word e conn) (8 + other)) 1 set;
+    all = λ other below set. eq-eqb (bit_at (conn_word e conn) (8 + other)) 1 set;
   } where
     by : (same : Bool) → stop (if same then Seized else told_by (Again (conn_word e conn)) (judged k (conn_word e conn))) ≡ Some j → judged k (conn_word e conn) ≡ j
     by true stops = absurd cc
@@ -127,7 +137,7 @@ module _ (plan : Tables) (e : Exchange) (lawful : IsLawfulExchange plan e) (k nu
   judged_in (Operates turn) j is told = absurd (close_goes _ a.effects a.held j told)
 
   -- a marker that is stopped asked for a connector
-  judged_at : (answer : Answer) (j : Judgement) → answer_of k (next_step a) e.words ≡ answer → stop answer ≡ Some j → IsJudged e k a j
+  pub judged_at : (answer : Answer) (j : Judgement) → answer_of k (next_step a) e.words ≡ answer → stop answer ≡ Some j → IsJudged e k a j
   judged_at answer j is stops = judged_in a.phase j refl (ap stop (sym (answer_is plan k e.words a) ∙ is) ∙ stops)
 
   module _ (j : Judgement) (seen : IsJudged e k a j) where
@@ -191,7 +201,7 @@ module _ (k number : ℕ) (a after : Attempt) where
   not_preferred told other None ends = cc
   not_preferred told other (Some asked) ends = cc
 
-  preferred_answer : (answer : Answer) (other : ℕ) → event_of k number a after answer ≡ event.Preferred other → answer ≡ Preferred other
+  pub preferred_answer : (answer : Answer) (other : ℕ) → event_of k number a after answer ≡ event.Preferred other → answer ≡ Preferred other
   preferred_answer (Held told) other ends = absurd (not_preferred told other (asked_in a.phase) ends)
   preferred_answer (Preferred told) other ends = cc
   preferred_answer (Asked word) other ends = absurd cc

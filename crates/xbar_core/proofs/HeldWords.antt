@@ -93,9 +93,8 @@ module _ (plan : Tables) where
     spares_held k n conn protects free = elim (step_cases plan e k) [
       | inl same ↦ ap (λ (x : Exchange). slice_index x.words n) same
       | inr made ↦
-          let at : IsAt e k made.number made.attempt = record { marker = made.marker; there = made.there; work = made.at } in
           ap (λ (x : Exchange). slice_index x.words n) made.is
-          ∙ index_other e.words _ n _ (λ same. free (record { number = made.number; attempt = made.attempt; at = at; held = holds_alone k made.number made.attempt at conn (subst (Protects conn) same protects) }))
+          ∙ index_other e.words _ n _ (λ same. free (record { number = made.number; attempt = made.attempt; at = made.at; held = holds_alone k made.number made.attempt made.at conn (subst (Protects conn) same protects) }))
     ]
 
     -- a marker past its turn has its record in the order
