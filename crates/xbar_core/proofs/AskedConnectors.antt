@@ -1,8 +1,8 @@
 -- what a marker is told of a connector that it asks for is true
-use Rattle.std.proofs.Common.{◌≡◌, ℕ, ◌+◌, ◌<◌, ◌%◌, Bool, true, false, List, [], ◌∷◌, bit_or, slice_index, refl, sym, ◌∙◌, ap, subst, arith, inl, inr}
+use Rattle.std.proofs.Common.{◌≡◌, ℕ, ◌+◌, ◌<◌, ◌%◌, Bool, true, false, List, [], ◌∷◌, bit_or, slice_index, refl, sym, ◌∙◌, ap, subst, arith, inl, inr, eq-eqb}
 use Rattle.std.specs.Int.{bit_at}
 use Rattle.std.specs.Prelude.{◌==◌, Option, Some, None, if◌then◌else◌, slice_get, ◌||◌}
-use Rattle.std.proofs.lemmas.Bool.{eqb-true}
+use Rattle.std.proofs.lemmas.Bool.{eqb-true, eqb-false}
 use Rattle.std.proofs.lemmas.Option.{same_Some}
 use Rattle.turns.specs.Attempt as generic
 use Rattle.turns.specs.Attempt.{act, act_in, asked_in, closing_act, free_act, told as told_by}
@@ -18,7 +18,7 @@ use Rattle.turns.specs.declared.judgement.Judgement.TheVariants as judgement
 use Rattle.turns.specs.declared.phase.Phase.TheVariants.{Requests, Seizes, Tests, Turns, Withdraws, GivesBack, Operates}
 use Rattle.turns.proofs.FirstRequests.{judged_true}
 use Rattle.turns.proofs.Lists.{there_below}
-use Rattle.turns.proofs.LockWords.{asked_holder, asked_requests}
+use Rattle.turns.proofs.LockWords.{asked_holder, asked_others, asked_own, asked_requests}
 use Rattle.xbar_equip.specs.Conn.{IsConn}
 use Rattle.xbar_equip.specs.declared.conn.Conn.{Conn}
 use Rattle.xbar_plan.specs.Tables.{Tables}
@@ -61,8 +61,15 @@ lower_stood k word j few lower set = elim (asked_requests k word j (omega arith)
   | inr stands ↦ eqb-true (bit_at word (8 + j)) 1 stands
 ]
 
--- a marker at this attempt asks for a connector, and is told this of a word that has the connector's holder, and of the requests of lower markers no others
-record IsJudged (e : Exchange) (k : ℕ) (a : Attempt) (j : Judgement) : Type 0 where
+-- and each that stood before stands in it
+still_stands : (k word j : ℕ) → j < 48 → (bit_at word (8 + j) == 1) ≡ true → (bit_at (bit_or word (request_bit k)) (8 + j) == 1) ≡ true
+still_stands k word j few set = by (j == k) refl where
+  by : (own : Bool) → (j == k) ≡ own → (bit_at (bit_or word (request_bit k)) (8 + j) == 1) ≡ true
+  by true same = subst (λ (m : ℕ). (bit_at (bit_or word (request_bit k)) (8 + m) == 1) ≡ true) (sym (eqb-true j k same)) (asked_own k word)
+  by false other = asked_others k word j few (eqb-false j k other) set
+
+-- a marker at this attempt asks for a connector, and is told this of a word that has the connector's holder and all requests for it, and of those of lower markers no others
+pub record IsJudged (e : Exchange) (k : ℕ) (a : Attempt) (j : Judgement) : Type 0 where
   pub conn : Conn
   pub asked : asked_in a.phase ≡ Some conn
   pub range : IsConn conn
@@ -70,10 +77,11 @@ record IsJudged (e : Exchange) (k : ℕ) (a : Attempt) (j : Judgement) : Type 0 
   pub judges : judged k word ≡ j
   pub holder : word % 64 ≡ conn_word e conn % 64
   pub lower : (other : ℕ) → other < k → (bit_at word (8 + other) == 1) ≡ true → bit_at (conn_word e conn) (8 + other) ≡ 1
+  pub all : (other : ℕ) → other < 48 → bit_at (conn_word e conn) (8 + other) ≡ 1 → (bit_at word (8 + other) == 1) ≡ true
 
 module _ (plan : Tables) (e : Exchange) (lawful : IsLawfulExchange plan e) (k number : ℕ) (a : Attempt) (at : IsAt e k number a) where
   -- there are 48 markers at most
-  few : k < 48
+  pub few : k < 48
   few = let below = there_below (world plan e).actors k (Does number a) (actor_at e k number a at) in let most = lawful.few in omega (arith, below, most)
 
   abbrev told_in : Phase → Answer
@@ -101,6 +109,7 @@ module _ (plan : Tables) (e : Exchange) (lawful : IsLawfulExchange plan e) (k nu
     judges = told_judged (Asked _) _ j refl told;
     holder = asked_holder k (conn_word e conn);
     lower = λ other less set. lower_stood k (conn_word e conn) other few less set;
+    all = λ other below set. still_stands k (conn_word e conn) other below (eq-eqb (bit_at (conn_word e conn) (8 + other)) 1 set);
   }
 
   judged_seizing : (conn : Conn) (expected : ℕ) (j : Judgement) → a.phase ≡ Seizes conn expected → stop (told_in (Seizes conn expected)) ≡ Some j → IsJudged e k a j
@@ -112,6 +121,7 @@ module _ (plan : Tables) (e : Exchange) (lawful : IsLawfulExchange plan e) (k nu
     judges = by (conn_word e conn == expected) told;
     holder = refl;
     lower = λ other less set. eqb-true (bit_at (conn_word e conn) (8 + other)) 1 set;
+    all = λ other below set. eq-eqb (bit_at (conn_word e conn) (8 + other)) 1 set;
   } where
     by : (same : Bool) → stop (if same then Seized else told_by (Again (conn_word e conn)) (judged k (conn_word e conn))) ≡ Some j → judged k (conn_word e conn) ≡ j
     by true stops = absurd cc
@@ -127,7 +137,7 @@ module _ (plan : Tables) (e : Exchange) (lawful : IsLawfulExchange plan e) (k nu
   judged_in (Operates turn) j is told = absurd (close_goes _ a.effects a.held j told)
 
   -- a marker that is stopped asked for a connector
-  judged_at : (answer : Answer) (j : Judgement) → answer_of k (next_step a) e.words ≡ answer → stop answer ≡ Some j → IsJudged e k a j
+  pub judged_at : (answer : Answer) (j : Judgement) → answer_of k (next_step a) e.words ≡ answer → stop answer ≡ Some j → IsJudged e k a j
   judged_at answer j is stops = judged_in a.phase j refl (ap stop (sym (answer_is plan k e.words a) ∙ is) ∙ stops)
 
   module _ (j : Judgement) (seen : IsJudged e k a j) where
@@ -191,7 +201,7 @@ module _ (k number : ℕ) (a after : Attempt) where
   not_preferred told other None ends = cc
   not_preferred told other (Some asked) ends = cc
 
-  preferred_answer : (answer : Answer) (other : ℕ) → event_of k number a after answer ≡ event.Preferred other → answer ≡ Preferred other
+  pub preferred_answer : (answer : Answer) (other : ℕ) → event_of k number a after answer ≡ event.Preferred other → answer ≡ Preferred other
   preferred_answer (Held told) other ends = absurd (not_preferred told other (asked_in a.phase) ends)
   preferred_answer (Preferred told) other ends = cc
   preferred_answer (Asked word) other ends = absurd cc

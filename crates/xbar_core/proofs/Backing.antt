@@ -15,11 +15,11 @@ use Rattle.xbar_jobs.specs.declared.effect.Effect.{Effect}
 use Rattle.xbar_core.specs.AtWork.{told_of, IsBackingAt, IsBackingBy, IsBackingIn, gives_up, gives_up_at, is_turned}
 use Rattle.xbar_core.specs.Exchange.{Exchange, Marker, OfPlan, Work, is_idle}
 use Rattle.xbar_core.specs.Holding.{IsAt}
-use Rattle.xbar_core.specs.Moves.{backed_as, begun_anew, frees_left, given_at, given_back, given_by, request_count, stepped, steps, with_work, work_anew}
+use Rattle.xbar_core.specs.Moves.{backed_as, begun_anew, frees_left, given_at, given_back, given_by, request_count, stepped, steps}
 use Rattle.xbar_core.specs.declared.given.Given.{Given}
 use Rattle.xbar_core.specs.declared.given.Given.TheVariants as given
-use Rattle.xbar_core.proofs.Jobs.{at_job_has, at_job_is, begun_is, set_at, work_at}
-use Rattle.xbar_core.proofs.StepCases.{now_at, step_count, step_made}
+use Rattle.xbar_core.proofs.Jobs.{anew_at, at_job_has, at_job_is, work_at}
+use Rattle.xbar_core.proofs.StepCases.{gone_on, step_count}
 use Rattle.xbar_core.proofs.Worlds.{answer_is, found_by}
 
 -- what is left to give up
@@ -63,7 +63,7 @@ module _ (plan : Tables) where
   one_less k words a backs goes = subst (λ (answer : Answer). IsOneLess (change (office plan) a answer) (left_in a)) (sym (answer_is plan k words a)) (less_in k (found_by plan words a) a a.phase backs goes)
 
 -- a step that gives up is one
-gives_up_goes : (next : Act) → gives_up (step_of next) ≡ true → is_rest next ≡ false
+pub gives_up_goes : (next : Act) → gives_up (step_of next) ≡ true → is_rest next ≡ false
 gives_up_goes generic.Rest e = absurd cc
 gives_up_goes (generic.Ask conn) e = refl
 gives_up_goes (generic.Take conn expected) e = refl
@@ -72,6 +72,10 @@ gives_up_goes (generic.Free conn) e = refl
 gives_up_goes (generic.Look word) e = refl
 gives_up_goes generic.Turn e = refl
 gives_up_goes (generic.Make effect) e = refl
+
+pub no_more : (held : List Conn) → length held ≡ 0 → held ≡ []
+no_more [] e = refl
+no_more (conn ∷ held) e = absurd (omega arith)
 
 -- where nothing is given up any more, nothing is left to give up
 none_freed : (held : List Conn) → ¬ (held ≡ []) → gives_up (step_of (free_act held)) ≡ false → ⊥
@@ -121,11 +125,23 @@ module _ (plan : Tables) (e : Exchange) (k : ℕ) (back : IsBacking e k) where
       let a = back.attempt in
       let b = change (office plan) a (told_of k e.words a) in
       let less = one_less plan k e.words a back.backs goes in
-      let now = subst (λ (x : Exchange). IsAt x k n b) (sym (step_made plan e k n a back.at (gives_up_goes (act a) goes))) (now_at plan e k n a (told_of k e.words a) back.at) in
+      let now = gone_on plan e k n a back.at (gives_up_goes (act a) goes) in
       record { backs = backing_at _ k n b now less.0; one = ap suc (left_is _ k n b now) ∙ less.1 ∙ sym (left_is e k n a back.at) }
 
   pub none_left : gives_up (next_step back.attempt) ≡ false → frees_left e k ≡ 0
   none_left rests = left_is e k back.number back.attempt back.at ∙ none_left_in back.attempt back.attempt.phase back.backs rests
+
+-- with something left, a step gives up one thing
+pub goes_with : (a : Attempt) (count : ℕ) → IsBackingIn a a.phase → left_in a ≡ suc count → gives_up (next_step a) ≡ true
+goes_with a count backs left = by (gives_up (next_step a)) refl where
+  by : (goes : Bool) → gives_up (next_step a) ≡ goes → gives_up (next_step a) ≡ true
+  by true is = is
+  by false rests = let none = none_left_in a a.phase backs rests in absurd (omega (arith, none, left))
+
+pub gives_one : (plan : Tables) (k : ℕ) (e : Exchange) → IsBackingAt (slice_get e.markers k) → (count : ℕ) → frees_left e k ≡ suc count → GaveUp (stepped plan k e) k (frees_left e k)
+gives_one plan k e backs count left =
+    let back = backing e k backs in
+    gave_up plan e k back (goes_with back.attempt count back.backs (sym (left_is e k back.number back.attempt back.at) ∙ left))
 
 -- as far as a loop has come: some things were given up, and the steps left lead to what all lead to
 pub record IsGivingUp (first now : OfPlan) (k : ℕ) : Type 0 where
@@ -184,7 +200,7 @@ module _ (plan : Tables) where
   stays_back [] goes none = cc
   stays_back (conn ∷ held) goes none = cc
 
-  anew_in : (a : Attempt) (phase : Phase) → a.phase ≡ phase → is_rest (act_in phase a) ≡ false → is_some (turn_in phase) ≡ false
+  pub anew_in : (a : Attempt) (phase : Phase) → a.phase ≡ phase → is_rest (act_in phase a) ≡ false → is_some (turn_in phase) ≡ false
       → let b = restarted_in (office plan) phase a in IsBackingIn b b.phase × (left_in b ≡ request_count (request_in phase) + length a.held)
   anew_in a (Requests conn) at goes is = let back = freed_backs (forgotten a) a.held in (back.0, omega (arith, back.1))
   anew_in a (Seizes conn expected) at goes is = (tt, refl)
@@ -209,14 +225,14 @@ answers (Does n a) = by (is_rest (act a)) (is_some (turn_in a.phase)) refl refl 
   by false false goes is = (goes, is)
 
 -- marker k gives back: something is left of its job, whose turn is still to come
-record Gives (e : Exchange) (k : ℕ) : Type 0 where
+pub record Gives (e : Exchange) (k : ℕ) : Type 0 where
   pub number : ℕ
   pub attempt : Attempt
   pub at : IsAt e k number attempt
   pub told : Answers (Does number attempt) given.Given
 
 module _ (plan : Tables) (e : Exchange) (k : ℕ) where
-  gives : given_at e k ≡ given.Given → Gives e k
+  pub gives : given_at e k ≡ given.Given → Gives e k
   gives = at_job_has (λ what. what ≡ given.Given → Gives e k) given.Idle (λ m n a. given_by (Does n a)) e k (λ is. absurd cc)
       (λ n a at is. record { number = n; attempt = a; at = at; told = subst (Answers (Does n a)) is (answers (Does n a)) })
 
@@ -224,10 +240,8 @@ module _ (plan : Tables) (e : Exchange) (k : ℕ) where
   pub anew : given_at e k ≡ given.Given → IsBackingAt (slice_get (begun_anew plan k e).markers k) × (frees_left (begun_anew plan k e) k ≡ frees_left e k)
   anew is =
       let has = gives is in
-      let m = has.at.marker in
       let b = restarted (office plan) has.attempt in
-      let begun = begun_is e k m has.at.there plan ∙ ap (λ (work : Work). with_work k m (work_anew plan work) e) has.at.work in
-      let now = subst (λ (x : Exchange). IsAt x k has.number b) (sym begun) (set_at e k has.number m b has.at.there) in
+      let now = anew_at plan e k has.number has.attempt has.at in
       let back = anew_in plan has.attempt has.attempt.phase refl has.told.0 has.told.1 in
       (backing_at _ k has.number b now back.0, left_is _ k has.number b now ∙ back.1 ∙ sym (left_is e k has.number has.attempt has.at))
 

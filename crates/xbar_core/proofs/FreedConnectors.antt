@@ -42,6 +42,6 @@ pub free_spares : (plan : Tables) (e : Exchange) (k number n : ℕ) (a : Attempt
 free_spares plan e k number n a conn at frees below =
     let own = ap (λ (next : Act). place (office plan) next) frees in
     let behind = conn_behind plan conn in
-    ap (λ (x : Exchange). slice_index x.words n) (step_made plan e k number at.marker a at.there at.work (ap (λ (next : Act). is_rest next) frees))
+    ap (λ (x : Exchange). slice_index x.words n) (step_made plan e k number a at (ap (λ (next : Act). is_rest next) frees))
     ∙ ap (λ (words : List ℕ). slice_index words n) (words_are plan k e.words a)
     ∙ index_other e.words _ n _ (λ same. omega (arith, same, own, behind, below))

@@ -23,11 +23,10 @@ use Rattle.xbar_core.specs.Holding.{Holds, HasRequested, IsAt}
 use Rattle.xbar_core.specs.Moves.{answered, backed_as, begun_anew, frees_left, given_at, given_back, recorded, request_count, stepped, steps}
 use Rattle.xbar_core.specs.declared.given.Given.{Given}
 use Rattle.xbar_core.specs.declared.given.Given.TheVariants as given
-use Rattle.xbar_core.proofs.Backing.{anew, back_goes, backing, by_backing, left_is}
+use Rattle.xbar_core.proofs.Backing.{anew, back_goes, backing, by_backing, gives_one, left_is}
 use Rattle.xbar_core.proofs.Keeping.{KeepsRestarts, back_keeps, begun_keeps}
 use Rattle.xbar_core.proofs.Jobs.{one_job, set_at}
 use Rattle.xbar_core.proofs.Markers.{marker_else}
-use Rattle.xbar_core.proofs.Settles.{gives_one}
 use Rattle.xbar_core.proofs.StepCases.{now_at, step_cases, step_else}
 use Rattle.xbar_core.proofs.Worlds.{added_at, answer_is, found_by, words_are}
 

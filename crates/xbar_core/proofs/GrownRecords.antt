@@ -37,7 +37,7 @@ module _ (plan : Tables) (first : List Record) where
   ]
 
   restart_begins : (k : ℕ) → KeepsRestarts plan (Begin first) k
-  restart_begins k e number m a begins there at = begins
+  restart_begins k e number a begins at = begins
 
 module _ (plan : Tables) where
   -- by whatever move

@@ -33,17 +33,15 @@ use Rattle.xbar_core.proofs.GivenBack.{conn_behind}
 use Rattle.xbar_core.proofs.MadeEffects.{made_show}
 use Rattle.xbar_core.proofs.StepCases.{step_cases}
 
--- at most one connector protects a word
-one_protects : (number : ℕ) (a b : Conn) → Protects a number → Protects b number → a ≡ b
-one_protects number a b p q =
-    let same : p.word ≡ q.word = distinct p.word q.word p.there q.there (p.named ∙ sym q.named) in
-    let both : Some a ≡ Some b = sym p.protects ∙ ap protector same ∙ q.protects in
-    cc
-
 module _ (plan : Tables) where
-  -- the connector that protects a word under what is held is held
+  -- the connector that protects a word under what is held is held, as no other protects it
   under_held : (number : ℕ) (held : List Conn) (conn : Conn) → IsUnder (office plan) held number → Protects conn number → IsIn conn held
-  under_held number held conn under protects = subst (λ (c : Conn). IsIn c held) (one_protects number under.lock conn under.protects protects) under.held
+  under_held number held conn under protects =
+      let by = under.protects in
+      let same : by.word ≡ protects.word = distinct by.word protects.word by.there protects.there (by.named ∙ sym protects.named) in
+      let both : Some under.lock ≡ Some conn = sym by.protects ∙ ap protector same ∙ protects.protects in
+      let one : under.lock ≡ conn = cc in
+      subst (λ (c : Conn). IsIn c held) one under.held
 
   -- no connector's own word is protected, nor is the turn word
   conn_bare : (own conn : Conn) → ¬ Protects conn (word_number (ConnWord own))
@@ -95,9 +93,8 @@ module _ (plan : Tables) where
     spares_held k n conn protects free = elim (step_cases plan e k) [
       | inl same ↦ ap (λ (x : Exchange). slice_index x.words n) same
       | inr made ↦
-          let at : IsAt e k made.number made.attempt = record { marker = made.marker; there = made.there; work = made.at } in
           ap (λ (x : Exchange). slice_index x.words n) made.is
-          ∙ index_other e.words _ n _ (λ same. free (record { number = made.number; attempt = made.attempt; at = at; held = holds_alone k made.number made.attempt at conn (subst (Protects conn) same protects) }))
+          ∙ index_other e.words _ n _ (λ same. free (record { number = made.number; attempt = made.attempt; at = made.at; held = holds_alone k made.number made.attempt made.at conn (subst (Protects conn) same protects) }))
     ]
 
     -- a marker past its turn has its record in the order

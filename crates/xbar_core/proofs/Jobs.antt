@@ -1,14 +1,15 @@
 -- what holds of something of a marker, or of its job, whichever is there
-use Rattle.std.proofs.Common.{◌≡◌, ℕ, refl, sym, ◌∙◌, ap}
+use Rattle.std.proofs.Common.{◌≡◌, ℕ, refl, sym, ◌∙◌, ap, subst}
 use Rattle.std.specs.Prelude.{Option, Some, None, slice_get}
 use Rattle.std.proofs.lemmas.Option.{same_Some}
-use Rattle.turns.specs.Attempt.{begin_with, turn_in}
+use Rattle.turns.specs.Attempt.{begin_with, restarted, turn_in}
 use Rattle.turns.specs.World.{Idle, Does}
 use Rattle.turns.specs.declared.phase.Phase.TheVariants.{Requests, Seizes, Tests, Turns, Withdraws, GivesBack, Operates}
 use Rattle.xbar_plan.specs.Tables.{Tables}
 use Rattle.xbar_office.specs.declared.job.Job.{Job}
 use Rattle.xbar_jobs.specs.Attempt.{Attempt, Phase}
 use Rattle.xbar_jobs.specs.Jobs.{first_conn}
+use Rattle.xbar_jobs.specs.Office.{office}
 use Rattle.xbar_core.specs.Exchange.{Exchange, Marker, Work, at_marker, on_job}
 use Rattle.xbar_core.specs.Holding.{IsAt}
 use Rattle.xbar_core.specs.Moves.{assigned, begun_anew, given_at, given_by, with_work, work_anew}
@@ -50,6 +51,10 @@ module _ (e : Exchange) (k : ℕ) (m : Marker) (there : slice_get e.markers k �
   pub given_is : given_at e k ≡ given_by m.work
   given_is = ap (at_marker given.Idle (λ o. given_by o.work)) there
 
+-- so a job that is there begins anew
+pub begun_at : (plan : Tables) (e : Exchange) (k n : ℕ) (a : Attempt) (at : IsAt e k n a) → begun_anew plan k e ≡ with_work k at.marker (Does n (restarted (office plan) a)) e
+begun_at plan e k n a at = begun_is e k at.marker at.there plan ∙ ap (λ (work : Work). with_work k at.marker (work_anew plan work) e) at.work
+
 -- a marker is at one attempt
 pub work_at : (e : Exchange) (k n : ℕ) (a : Attempt) (m : Marker) → IsAt e k n a → slice_get e.markers k ≡ Some m → m.work ≡ Does n a
 work_at e k n a m at there = ap (λ (o : Marker). o.work) (same_Some m at.marker (sym there ∙ at.there)) ∙ at.work
@@ -62,6 +67,9 @@ one_job e k n j a b at other =
 -- and once it is set to one, it is at that
 pub set_at : (e : Exchange) (k n : ℕ) (m : Marker) (a : Attempt) → slice_get e.markers k ≡ Some m → IsAt (with_work k m (Does n a) e) k n a
 set_at e k n m a there = record { marker = record m { work = Does n a }; there = marker_set e.markers k _ m there; work = refl }
+
+pub anew_at : (plan : Tables) (e : Exchange) (k n : ℕ) (a : Attempt) → IsAt e k n a → IsAt (begun_anew plan k e) k n (restarted (office plan) a)
+anew_at plan e k n a at = subst (λ (x : Exchange). IsAt x k n (restarted (office plan) a)) (sym (begun_at plan e k n a at)) (set_at e k n at.marker (restarted (office plan) a) at.there)
 
 -- what has turned is past its turn
 pub past_turn : (phase : Phase) (turn : ℕ) → turn_in phase ≡ Some turn → phase ≡ Operates turn

@@ -1,5 +1,5 @@
 -- what steps and restarts of markers keep, give backs and settlings keep
-use Rattle.std.proofs.Common.{◌≡◌, ℕ, zero, suc, Bool, true, false, List, length, refl, sym, ◌∙◌, ap, subst}
+use Rattle.std.proofs.Common.{◌≡◌, ℕ, zero, suc, Bool, true, false, List, length, length-set, refl, sym, ◌∙◌, ap, subst}
 use Rattle.std.specs.Prelude.{Some, is_some, if◌then◌else◌, slice_get, slice_set}
 use Rattle.turns.specs.Attempt.{restarted, turn_in}
 use Rattle.turns.specs.World.{Idle, Does}
@@ -14,6 +14,7 @@ use Rattle.xbar_core.specs.declared.given.Given.{Given}
 use Rattle.xbar_core.specs.declared.given.Given.TheVariants as given
 use Rattle.xbar_core.proofs.Jobs.{at_job_has, at_marker_has}
 use Rattle.xbar_core.proofs.Markers.{marker_same}
+use Rattle.xbar_core.proofs.StepCases.{step_count}
 
 -- marker k is at an attempt at the job of a number, and begins it anew
 abbrev pub KeepsRestarts : Tables → (Exchange → Type 0) → ℕ → Type 0
@@ -72,3 +73,17 @@ settled_keeps plan Has step_keeps restart_keeps e has =
     for_each_keeps Has (ended plan) (λ k x is. steps_keep plan Has k (step_keeps k) most_steps_alone x is) count _
     (for_each_keeps Has (given_back plan) (λ k x is. back_keeps plan Has k (step_keeps k) (restart_keeps k) x is) count _
     (for_each_keeps Has (ended_past_turn plan) (λ k x is. past_turn_keeps plan Has k (step_keeps k) x is) count e has))
+
+-- as many markers stay
+module _ (plan : Tables) (k : ℕ) where
+  counted : (n : ℕ) → KeepsSteps plan (λ e. length e.markers ≡ n) k
+  counted n e is = step_count plan e k ∙ is
+
+  pub count_end : (e : Exchange) → length (ended plan k e).markers ≡ length e.markers
+  count_end e = steps_keep plan (λ x. length x.markers ≡ length e.markers) k (counted (length e.markers)) most_steps_alone e refl
+
+  pub count_past : (e : Exchange) → length (ended_past_turn plan k e).markers ≡ length e.markers
+  count_past e = past_turn_keeps plan (λ x. length x.markers ≡ length e.markers) k (counted (length e.markers)) e refl
+
+  pub count_back : (e : Exchange) → length (given_back plan k e).markers ≡ length e.markers
+  count_back e = back_keeps plan (λ x. length x.markers ≡ length e.markers) k (counted (length e.markers)) (λ x n a is at. length-set x.markers k _ ∙ is) e refl

@@ -1,7 +1,7 @@
 -- in a lawful office a marker past its turn has little left, and one that no other is in the way of comes to its end
 use Rattle.std.proofs.Common.{◌≡◌, ℕ, zero, suc, ◌-◌, ◌<◌, ◌≤◌, Bool, true, false, List, [], ◌∷◌, ◌++◌, length, length-append, map, inl, inr, refl, sym, ◌∙◌, ap, subst, arith, eqb}
 use Rattle.std.specs.List.{AllByRecursion, IsDistinct, list_any}
-use Rattle.std.specs.Prelude.{◌||◌, slice_get}
+use Rattle.std.specs.Prelude.{◌||◌}
 use Rattle.std.proofs.lemmas.Bool.{eqb-true}
 use Rattle.std.proofs.lemmas.List.{length-map}
 use Rattle.std.proofs.lemmas.Map.Steps.{length-le_from_distinct_below}
@@ -38,8 +38,8 @@ use Rattle.xbar_core.specs.Moves.{stepped, steps}
 use Rattle.xbar_core.specs.Settling.{most_steps_alone}
 use Rattle.xbar_core.proofs.Actors.{actor_at}
 use Rattle.xbar_core.proofs.Ending.{IsIdleAt, free_idle, past_ends}
-use Rattle.xbar_core.proofs.Markers.{marker_set, marker_there}
-use Rattle.xbar_core.proofs.StepCases.{step_made}
+use Rattle.xbar_core.proofs.Markers.{marker_there}
+use Rattle.xbar_core.proofs.StepCases.{gone_on}
 use Rattle.xbar_core.proofs.Stepping.{step_idle}
 use Rattle.xbar_core.proofs.WorldMoves.{has_to_give, steps_in_world}
 use Rattle.xbar_core.proofs.Worlds.{lawful_stepped}
@@ -96,7 +96,7 @@ module _ (plan : Tables) (laws : IsLawful plan) (e : Exchange) (lawful : IsLawfu
   past_idle turn past =
       let left = few_left turn past in
       let held = few_conns a.held (λ c within. (sound.held c within).there) sound.distinct in
-      past_ends plan k turn number most_steps_alone e at.marker a at.there at.work past (omega (arith, left, held))
+      past_ends plan k turn number most_steps_alone e a at past (omega (arith, left, held))
 
 module _ (plan : Tables) where
   -- a marker at an attempt stays at one
@@ -104,14 +104,7 @@ module _ (plan : Tables) where
   next_at e k number a at = by (is_rest (act a)) refl where
     by : (rest : Bool) → is_rest (act a) ≡ rest → (b : Attempt) × IsAt (stepped plan k e) k number b
     by true rests = (a, subst (λ (x : Exchange). IsAt x k number a) (sym (step_idle plan e k at.marker at.there (ap is_idle at.work ∙ rests))) at)
-    by false goes = (
-      _,
-      record {
-        marker = _;
-        there = ap (λ (x : Exchange). slice_get x.markers k) (step_made plan e k number at.marker a at.there at.work goes) ∙ marker_set e.markers k _ at.marker at.there;
-        work = refl;
-      },
-    )
+    by false goes = (_, gone_on plan e k number a at goes)
 
   module _ (laws : IsLawful plan) where
     -- its steps are those of its world

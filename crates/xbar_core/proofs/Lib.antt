@@ -7,7 +7,6 @@ pub mod Kept
 pub mod Stepping
 pub mod Backing
 pub mod Ending
-pub mod Settles
 pub mod GivenBack
 pub mod Loops
 pub mod Actors

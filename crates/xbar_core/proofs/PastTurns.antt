@@ -3,7 +3,6 @@ use Rattle.std.proofs.Common.{◌≡◌, ◌≢◌, ℕ, ◌+◌, ◌-◌, ◌�
 use Rattle.std.specs.Prelude.{◌==◌, cond, Option, Some, None, slice_get}
 use Rattle.std.proofs.lemmas.Bool.{eqb-true}
 use Rattle.std.proofs.lemmas.List.Sums.{sum_by-cons}
-use Rattle.std.proofs.lemmas.Option.{same_Some}
 use Rattle.turns.specs.Attempt as generic
 use Rattle.turns.specs.Attempt.{Free, Rest, act, act_in, change, changed, closing_act, operated, restarted, restarted_in}
 use Rattle.turns.specs.Runs.{is_rest}
@@ -26,11 +25,12 @@ use Rattle.xbar_core.specs.Moves.{assigned, refusal, stepped, with_work}
 use Rattle.xbar_core.specs.Runs.{Assigns, BeginsAnew, GivesBack, Move, Settles, Steps, made_by, unless_refused}
 use Rattle.xbar_core.specs.declared.assign_fault.AssignFault.{AssignFault}
 use Rattle.xbar_core.proofs.Keeping.{KeepsRestarts, KeepsSteps, back_keeps, begun_keeps, settled_keeps}
-use Rattle.xbar_core.proofs.Markers.{marker_else, marker_set}
+use Rattle.xbar_core.proofs.Jobs.{assigned_is, one_job, set_at, work_at}
+use Rattle.xbar_core.proofs.Markers.{marker_else}
 use Rattle.xbar_core.proofs.ReleaseTurns.{makes_one}
-use Rattle.xbar_core.proofs.StepCases.{step_else, step_made}
+use Rattle.xbar_core.proofs.StepCases.{gone_on, step_else}
 use Rattle.xbar_core.proofs.Stepping.{step_idle}
-use Rattle.xbar_core.proofs.Worlds.{answer_is, found_by, refused_none}
+use Rattle.xbar_core.proofs.Worlds.{answer_is, found_by, taken}
 
 module _ (plan : Tables) (e : Exchange) (k number turn : ℕ) (a : Attempt) (conn : Conn) (held : List Conn) (at : IsAt e k number a) (past : a.phase ≡ Operates turn) (none : a.effects ≡ []) (first : a.held ≡ conn ∷ held) where
   -- past its turn, with no effect left, the next step frees the first connector
@@ -48,25 +48,13 @@ module _ (plan : Tables) (e : Exchange) (k number turn : ℕ) (a : Attempt) (con
 
   -- and then it holds the others
   frees_one : IsAt (stepped plan k e) k number (record a { held = held })
-  frees_one = record {
-    marker = record at.marker { work = Does number (change (office plan) a (told_of k e.words a)) };
-    there =
-        ap (λ (x : Exchange). slice_get x.markers k) (step_made plan e k number at.marker a at.there at.work (ap (λ (next : Act). is_rest next) frees_first))
-        ∙ marker_set e.markers k _ at.marker at.there;
-    work = ap (λ (b : Attempt). Does number b) others_held;
-  }
+  frees_one = subst (IsAt (stepped plan k e) k number) others_held (gone_on plan e k number a at (ap (λ (next : Act). is_rest next) frees_first))
 
 -- with nothing left, an attempt past its turn is at rest
 none_rests : (effects : List Effect) (held : List Conn) → length effects + length held ≤ 0 → closing_act effects held ≡ Rest
 none_rests [] [] few = refl
 none_rests [] (conn ∷ held) few = absurd (omega arith)
 none_rests (effect ∷ effects) held few = absurd (omega arith)
-
--- where one is at an attempt, it is the one
-same_at : (e : Exchange) (k number n : ℕ) (a b : Attempt) (m : Marker) → IsAt e k number a → slice_get e.markers k ≡ Some m → m.work ≡ Does n b → (number ≡ n) × (a ≡ b)
-same_at e k number n a b m at there work =
-    let same : Does number a ≡ Does n b = sym at.work ∙ ap (λ (o : Marker). o.work) (same_Some _ _ (sym at.there ∙ there)) ∙ work in
-    (cc, cc)
 
 module _ (plan : Tables) (k number turn : ℕ) (job : Job) where
   -- marker k is past its turn at this job, with no more than so much left of it
@@ -124,25 +112,23 @@ module _ (plan : Tables) (k number turn : ℕ) (job : Job) where
 
   -- and to begin anew changes nothing past the turn
   restart_keeps : (left j : ℕ) → KeepsRestarts plan (HasLeft left) j
-  restart_keeps left j e n m b has there work = by (one_or_two k j) where
+  restart_keeps left j e n b has there = by (one_or_two k j) where
     after : Exchange
-    after = with_work j m (Does n (restarted (office plan) b)) e
+    after = with_work j there.marker (Does n (restarted (office plan) b)) e
 
     stays : b.phase ≡ Operates turn → restarted (office plan) b ≡ b
     stays past = ap (λ (phase : Phase). restarted_in (office plan) phase b) past
 
     by : (k ≡ j) ⊎ (k ≢ j) → HasLeft left after
     by (inl one) =
-        let here : slice_get e.markers k ≡ Some m = ap (slice_get e.markers) one ∙ there in
-        let same = same_at e k number n has.attempt b m has.at here work in
+        let same = one_job e k number n has.attempt b has.at (subst (λ (i : ℕ). IsAt e i n b) (sym one) there) in
         let past : b.phase ≡ Operates turn = ap (λ (c : Attempt). c.phase) (sym same.1) ∙ has.past in
         record {
           attempt = has.attempt;
-          at = record {
-            marker = record m { work = Does n (restarted (office plan) b) };
-            there = ap (slice_get after.markers) one ∙ marker_set e.markers j _ m there;
-            work = ap (λ (c : Attempt). Does n c) (stays past ∙ sym same.1) ∙ ap (λ (i : ℕ). Does i has.attempt) (sym same.0);
-          };
+          at =
+              subst (λ (i : ℕ). IsAt after i number has.attempt) (sym one)
+              (subst (λ (i : ℕ). IsAt after j i has.attempt) (sym same.0)
+              (subst (IsAt after j n) (stays past ∙ sym same.1) (set_at e j n there.marker (restarted (office plan) b) there.there)));
           past = has.past;
           job_is = has.job_is;
           few = has.few;
@@ -153,18 +139,17 @@ module _ (plan : Tables) (k number turn : ℕ) (job : Job) where
   assigned_keeps : (left : ℕ) (e : Exchange) (j n : ℕ) (new : Job) (has : HasLeft left e) → is_rest (act has.attempt) ≡ false → (why : Option AssignFault) → refusal e j new ≡ why → HasLeft left (unless_refused why (assigned j n new e) e)
   assigned_keeps left e j n new has goes (Some fault) refused = has
   assigned_keeps left e j n new has goes None free = by (one_or_two k j) where
-    busy : (i : ℕ) → slice_get e.markers i ≡ Some has.at.marker → refusal e i new ≡ None → ⊥
-    busy i there taken =
-        let idle : is_idle has.at.marker.work ≡ true = refused_none has.at.marker new (rw there at taken) in
-        let both : ◌≡◌ {A = Bool} true false = sym idle ∙ ap is_idle has.at.work ∙ goes in cc
+    busy : refusal e k new ≡ None → ⊥
+    busy gets =
+        let to = taken e k new gets in
+        let both : ◌≡◌ {A = Bool} true false = sym to.idle ∙ ap is_idle (work_at e k number has.attempt to.marker has.at to.there) ∙ goes in cc
 
-    other : (found : Option Marker) → k ≢ j → slice_get e.markers j ≡ found → slice_get (assigned j n new e).markers k ≡ slice_get e.markers k
-    other None two there = rw there refl
-    other (Some m) two there = rw there (marker_else e.markers j k _ two)
+    other : k ≢ j → slice_get (assigned j n new e).markers k ≡ slice_get e.markers k
+    other two = let to = taken e j new free in ap (λ (x : Exchange). slice_get x.markers k) (assigned_is e j to.marker to.there n new) ∙ marker_else e.markers j k _ two
 
     by : (k ≡ j) ⊎ (k ≢ j) → HasLeft left (assigned j n new e)
-    by (inl one) = absurd (busy k has.at.there (ap (λ (i : ℕ). refusal e i new) one ∙ free))
-    by (inr two) = same_left left e (assigned j n new e) (other (slice_get e.markers j) two refl) has
+    by (inl one) = absurd (busy (ap (λ (i : ℕ). refusal e i new) one ∙ free))
+    by (inr two) = same_left left e (assigned j n new e) (other two) has
 
   -- by a step of it there is one thing less, and by any other move no more
   move_less : (left rest : ℕ) (e : Exchange) (move : Move) (has : HasLeft left e) → is_rest (act has.attempt) ≡ false → left ≤ cond (is_step_of k move) 1 0 + rest → HasLeft rest (made_by plan e move)

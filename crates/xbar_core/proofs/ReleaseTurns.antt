@@ -33,7 +33,7 @@ use Rattle.xbar_core.specs.Holding.{IsAt, completed}
 use Rattle.xbar_core.specs.Moves.{answered, stepped}
 use Rattle.xbar_core.proofs.Actors.{actor_at}
 use Rattle.xbar_core.proofs.Records.{completed_shows}
-use Rattle.xbar_core.proofs.StepCases.{now_at, step_made}
+use Rattle.xbar_core.proofs.StepCases.{gone_on, step_made}
 use Rattle.xbar_core.proofs.Worlds.{answer_is, words_are}
 
 module _ (plan : Tables) (laws : IsLawful plan) (e : Exchange) (lawful : IsLawfulExchange plan e) (k number : ℕ) (a : Attempt) (at : IsAt e k number a) (turns : a.phase ≡ Turns) where
@@ -100,7 +100,7 @@ module _ (plan : Tables) (e : Exchange) (k number turn : ℕ) (a : Attempt) (eff
   goes_to : IsAt (stepped plan k e) k number (record a { effects = effects })
   goes_to =
       subst (λ (b : Attempt). IsAt (stepped plan k e) k number b) others_left
-      (subst (λ (x : Exchange). IsAt x k number (change (office plan) a (told_of k e.words a))) (sym is_stepped) (now_at plan e k number a (told_of k e.words a) at))
+      (gone_on plan e k number a at goes_on)
 
   pub makes_one : ((stepped plan k e).words ≡ perform_all (office plan) e.words (effect ∷ [])) × IsAt (stepped plan k e) k number (record a { effects = effects })
   makes_one = (words_made, goes_to)

@@ -1,38 +1,55 @@
--- a lawful office that settles does so: each marker runs to its end in its turn
+-- a lawful office that settles does so: each marker runs to its end in its turn, and then all are idle
 use Rattle.std.proofs.Common.{◌≡◌, ◌≢◌, ℕ, ◌<◌, ◌⊎◌, Bool, true, false, length, inl, inr, refl, sym, ◌∙◌, ap, subst, arith}
-use Rattle.std.specs.Prelude.{Option, Some, None, ⊤, if◌then◌else◌, slice_get}
+use Rattle.std.specs.Prelude.{Option, Some, None, is_some, ⊤, if◌then◌else◌, slice_get}
 use Rattle.std.proofs.lemmas.Option.{same_Some, slice_get_within}
 use mathlib.Core.Option.{some}
 use lib.ListN.{get_elem?}
-use Rattle.turns.specs.Attempt.{act, begin_with}
+use Rattle.turns.specs.Attempt.{act, begin_with, turn_in}
 use Rattle.turns.specs.Bounds.{IsAside}
 use Rattle.turns.specs.Runs.{is_rest}
 use Rattle.turns.specs.World.{ActorOf, Idle, Does}
-use Rattle.turns.specs.declared.phase.Phase.TheVariants.{Requests, Seizes, Tests, Turns, Withdraws, GivesBack as GivesBackPhase, Operates}
+use Rattle.turns.specs.declared.phase.Phase.TheVariants.{Operates}
 use Rattle.turns.proofs.Lists.{one_or_two}
+use Rattle.turns.proofs.Moving.{rest_bare}
 use Rattle.xbar_plan.specs.Tables.{Tables}
 use Rattle.xbar_plan.specs.Lawful.{IsLawful}
-use Rattle.xbar_jobs.specs.Attempt.{Attempt, Phase}
+use Rattle.xbar_jobs.specs.Attempt.{Attempt}
 use Rattle.xbar_jobs.specs.Jobs.{first_conn}
 use Rattle.xbar_jobs.specs.Office.{office}
 use Rattle.xbar_core.specs.Ends.{EachMakes, EndsIfPast, GivesBack, IsPast, RunsToEnd, Settles}
 use Rattle.xbar_core.specs.Exchange.{Exchange, IsLawfulExchange, Marker, Work, is_idle, world}
 use Rattle.xbar_core.specs.Holding.{IsAt}
-use Rattle.xbar_core.specs.Moves.{given_at, given_back, given_by, given_in, steps}
+use Rattle.xbar_core.specs.Moves.{given_at, given_back, given_by, steps}
 use Rattle.xbar_core.specs.Settling.{ended, ended_past_turn, for_each, most_steps_alone, settled}
 use Rattle.xbar_core.specs.declared.given.Given.{Given}
 use Rattle.xbar_core.specs.declared.given.Given.TheVariants as given
-use Rattle.xbar_core.proofs.Backing.{back_rests}
+use Rattle.xbar_core.proofs.Backing.{Answers, answers, back_rests, gives}
 use Rattle.xbar_core.proofs.BegunJobs.{given_back_begins}
 use Rattle.xbar_core.proofs.Ending.{IsIdleAt, stays_idle, steps_idle}
 use Rattle.xbar_core.proofs.GivenBack.{others_stay}
-use Rattle.xbar_core.proofs.Keeping.{past_turn_keeps, steps_keep}
+use Rattle.xbar_core.proofs.Jobs.{at_job_has, at_job_is, given_is, past_turn, work_at}
+use Rattle.xbar_core.proofs.Keeping.{count_back, count_end, past_turn_keeps, steps_keep}
 use Rattle.xbar_core.proofs.LawfulEnds.{aside_idle, past_idle}
 use Rattle.xbar_core.proofs.Markers.{marker_there, none_within}
-use Rattle.xbar_core.proofs.Settles.{AllAre, NotPast, count_back, count_end, idle_aside, idle_given, idle_not_past}
 use Rattle.xbar_core.proofs.Stages.{IsStage, each_does, each_keeps, each_made, one_settles, past_or_not}
 use Rattle.xbar_core.proofs.StepCases.{step_count, step_else}
-use Rattle.xbar_core.proofs.Worlds.{lawful_given_back, lawful_stepped}
+use Rattle.xbar_core.proofs.Worlds.{idle_free, lawful_given_back, lawful_stepped}
+
+-- all markers have this
+abbrev AllAre : (Work → Type 0) → Exchange → Type 0
+AllAre Done e = (j : ℕ) (m : Marker) → slice_get e.markers j ≡ Some m → Done m.work
+
+-- nothing is left of a job, or its turn is still to come
+abbrev NotPast : Work → Type 0
+NotPast work = ¬ (given_by work ≡ given.PastTurn)
+
+idle_not_past : (work : Work) → is_idle work ≡ true → NotPast work
+idle_not_past work idle past = let told = subst (Answers work) past (answers work) in let both = sym idle ∙ told.0 in absurd cc
+
+-- an idle marker is out of the way of the others
+idle_aside : (plan : Tables) (work : Work) → is_idle work ≡ true → IsAside (office plan) work
+idle_aside plan Idle idle = tt
+idle_aside plan (Does n a) idle = let bare = rest_bare (office plan) a.phase a.job a.readings a.held a.reply a.effects (idle_free plan (Does n a) idle) in (bare.1, bare.2)
 
 -- an attempt that marker k is at, past its turn
 record IsPastAt (e : Exchange) (k : ℕ) : Type 0 where
@@ -42,57 +59,35 @@ record IsPastAt (e : Exchange) (k : ℕ) : Type 0 where
   pub turn : ℕ
   pub past : attempt.phase ≡ Operates turn
 
-turn_in : (phase : Phase) → given_in phase ≡ given.PastTurn → (turn : ℕ) × (phase ≡ Operates turn)
-turn_in (Operates turn) is = (turn, refl)
-turn_in (Requests conn) is = absurd cc
-turn_in (Seizes conn expected) is = absurd cc
-turn_in (Tests word) is = absurd cc
-turn_in Turns is = absurd cc
-turn_in (Withdraws conn) is = absurd cc
-turn_in GivesBackPhase is = absurd cc
-
-turn_by : (n : ℕ) (a : Attempt) → given_by (Does n a) ≡ given.PastTurn → (turn : ℕ) × (a.phase ≡ Operates turn)
-turn_by n a is = by (is_rest (act a)) is where
-  by : (rest : Bool) → (if rest then given.Idle else given_in a.phase) ≡ given.PastTurn → (turn : ℕ) × (a.phase ≡ Operates turn)
-  by true past = absurd cc
-  by false past = turn_in a.phase past
-
 module _ (e : Exchange) (k : ℕ) where
   -- a marker past its turn is at such an attempt
   past_at : IsPast e k → IsPastAt e k
-  past_at past = by (slice_get e.markers k) refl where
-    by_work : (m : Marker) (work : Work) → slice_get e.markers k ≡ Some m → m.work ≡ work → given_by work ≡ given.PastTurn → IsPastAt e k
-    by_work m Idle there is at = absurd cc
-    by_work m (Does n a) there is at = let turn = turn_by n a at in record { number = n; attempt = a; at = record { marker = m; there = there; work = is }; turn = turn.0; past = turn.1 }
-
-    by : (found : Option Marker) → slice_get e.markers k ≡ found → IsPastAt e k
-    by None there = absurd (let idle : ◌≡◌ {A = Given} given.Idle given.PastTurn = rw there at past in cc)
-    by (Some m) there = by_work m m.work there refl (rw there at past)
+  past_at = at_job_has (λ what. what ≡ given.PastTurn → IsPastAt e k) given.Idle (λ m n a. given_by (Does n a)) e k (λ past. absurd cc)
+      (λ n a at past. by n a at (turn_in a.phase) refl (subst (Answers (Does n a)) past (answers (Does n a))).1) where
+        by : (n : ℕ) (a : Attempt) → IsAt e k n a → (turned : Option ℕ) → turn_in a.phase ≡ turned → is_some (turn_in a.phase) ≡ true → IsPastAt e k
+        by n a at None is past = let both = sym past ∙ ap (is_some {T = ℕ}) is in absurd cc
+        by n a at (Some turn) is past = record { number = n; attempt = a; at = at; turn = turn; past = past_turn a.phase turn is }
 
   module _ (plan : Tables) where
+    abbrev ended_if : Bool → Exchange
+    ended_if past = if past then ended plan k e else e
+
+    -- and runs to its end
+    past_ended : IsPast e k → ended_past_turn plan k e ≡ ended plan k e
+    past_ended past =
+        let found = past_at past in
+        at_job_is e (λ m n a. ended_if (is_some (turn_in a.phase))) e k found.number found.attempt found.at
+        ∙ ap (λ phase. ended_if (is_some (turn_in phase))) found.past
+
     -- any other is left alone
     past_alone : ¬ IsPast e k → ended_past_turn plan k e ≡ e
-    past_alone not = by (slice_get e.markers k) refl where
-      by_turn : (m : Marker) (n turn : ℕ) (a : Attempt) → slice_get e.markers k ≡ Some m → m.work ≡ Does n a → a.phase ≡ Operates turn → (rest : Bool) → is_rest (act a) ≡ rest → ended plan k e ≡ e
-      by_turn m n turn a there is at true rests = steps_idle plan k most_steps_alone e m there (ap is_idle is ∙ rests)
-      by_turn m n turn a there is at false goes = absurd (not (rw (there, is, goes, at) refl))
-
-      by_phase : (m : Marker) (n : ℕ) (a : Attempt) (phase : Phase) → slice_get e.markers k ≡ Some m → m.work ≡ Does n a → a.phase ≡ phase → ended_past_turn plan k e ≡ e
-      by_phase m n a (Operates turn) there is at = rw (there, is, at) (by_turn m n turn a there is at (is_rest (act a)) refl)
-      by_phase m n a (Requests conn) there is at = rw (there, is, at) refl
-      by_phase m n a (Seizes conn expected) there is at = rw (there, is, at) refl
-      by_phase m n a (Tests word) there is at = rw (there, is, at) refl
-      by_phase m n a Turns there is at = rw (there, is, at) refl
-      by_phase m n a (Withdraws conn) there is at = rw (there, is, at) refl
-      by_phase m n a GivesBackPhase there is at = rw (there, is, at) refl
-
-      by_work : (m : Marker) (work : Work) → slice_get e.markers k ≡ Some m → m.work ≡ work → ended_past_turn plan k e ≡ e
-      by_work m Idle there is = rw (there, is) refl
-      by_work m (Does n a) there is = by_phase m n a a.phase there is refl
-
-      by : (found : Option Marker) → slice_get e.markers k ≡ found → ended_past_turn plan k e ≡ e
-      by None there = rw there refl
-      by (Some m) there = by_work m m.work there refl
+    past_alone not = at_job_has (λ x. x ≡ e) e (λ m n a. ended_if (is_some (turn_in a.phase))) e k refl (λ n a at. by n a at (is_some (turn_in a.phase)) (is_rest (act a)) refl refl) where
+      by : (n : ℕ) (a : Attempt) (at : IsAt e k n a) (past rest : Bool) → is_some (turn_in a.phase) ≡ past → is_rest (act a) ≡ rest → ended_if past ≡ e
+      by n a at false rest is goes = refl
+      by n a at true true is rests = steps_idle plan k most_steps_alone e at.marker at.there (ap is_idle at.work ∙ rests)
+      by n a at true false is goes =
+          absurd (not (at_job_is given.Idle (λ m i b. given_by (Does i b)) e k n a at
+          ∙ (λ i. if goes i then given.Idle else (if is i then given.PastTurn else given.Given))))
 
 -- a marker that is idle after steps of it has run to its end
 ran : (plan : Tables) (k count : ℕ) (before after : Exchange) → after ≡ steps plan k count before → IsIdleAt (steps plan k count before) k → RunsToEnd plan k before after
@@ -108,9 +103,7 @@ module _ (plan : Tables) (laws : IsLawful plan) where
   ends_past k e lawful = record {
     past = λ past.
         let found = past_at e k past in
-        let at = found.at in
-        let turned = found.past in
-        ran plan k most_steps_alone e (ended_past_turn plan k e) (rw (at.there, at.work, turned) refl) (past_idle plan laws e lawful k found.number found.attempt at found.turn turned);
+        ran plan k most_steps_alone e (ended_past_turn plan k e) (past_ended e k plan past) (past_idle plan laws e lawful k found.number found.attempt found.at found.turn found.past);
     other = past_alone e k plan;
   }
 
@@ -159,7 +152,7 @@ module _ (plan : Tables) (laws : IsLawful plan) where
     first_done : (k : ℕ) (before after : Exchange) (m : Marker) → EndsIfPast plan k before after → slice_get after.markers k ≡ Some m → NotPast m.work
     first_done k before after m ends there = elim (past_or_not before k) [
       | inl past ↦ idle_not_past m.work ((ends.past past).idle m there)
-      | inr not ↦ λ past. not (ap given_at (ap (λ (x : Exchange). slice_get x.markers k) (sym (ends.other not)) ∙ there) ∙ past)
+      | inr not ↦ λ past. not (given_is before k m (ap (λ (x : Exchange). slice_get x.markers k) (sym (ends.other not)) ∙ there) ∙ past)
     ]
 
     first : IsStage (EndsIfPast plan) (IsOffice Any) NotPast
@@ -179,28 +172,23 @@ module _ (plan : Tables) (laws : IsLawful plan) where
     begun_back number a = ((refl, refl), λ past. cc)
 
     second_done : (k : ℕ) (e : Exchange) (m : Marker) → AllAre NotPast e → slice_get (given_back plan k e).markers k ≡ Some m → Back m.work
-    second_done k e m none there = by (slice_get e.markers k) refl where
-      size : k < length e.markers
-      size = let within = slice_get_within (given_back plan k e).markers k m there in let same = count_back plan k e in omega (arith, within, same)
+    second_done k e m none there = by (given_at e k) refl where
+      rests : ¬ (given_at e k ≡ given.Given) → slice_get e.markers k ≡ Some m
+      rests not = ap (λ (x : Exchange). slice_get x.markers k) (sym (back_rests plan e k not)) ∙ there
 
-      begins : (was : Marker) (work : Work) → slice_get e.markers k ≡ Some was → was.work ≡ work → given_by work ≡ given.Given → Back m.work
-      begins was Idle at is gives = absurd cc
-      begins was (Does n a) at is gives =
-          let now = given_back_begins plan e k n a (rw (at, is) gives) (record { marker = was; there = at; work = is }) in
-          subst Back (sym now.work ∙ ap (λ (o : Marker). o.work) (same_Some now.marker m (sym now.there ∙ there))) (begun_back n a)
+      answered : (what : Given) → given_at e k ≡ what → slice_get e.markers k ≡ Some m → Answers m.work what
+      answered what is at = subst (Answers m.work) (sym (given_is e k m at) ∙ is) (answers m.work)
 
-      asked : (was : Marker) → slice_get e.markers k ≡ Some was → (what : Given) → given_by was.work ≡ what → Back m.work
-      asked was at given.Given is = begins was was.work at refl is
-      asked was at given.PastTurn is = absurd (none k was at is)
-      asked was at given.Idle is =
-          let rests = back_rests plan e k was at (λ gives. let two : ◌≡◌ {A = Given} given.Given given.Idle = sym gives ∙ is in cc) in
-          let one : was ≡ m = same_Some was m (sym at ∙ ap (λ (x : Exchange). slice_get x.markers k) (sym rests) ∙ there) in
-          let idle : is_idle m.work ≡ true = ap (λ (o : Marker). is_idle o.work) (sym one) ∙ idle_given was.work is in
+      by : (what : Given) → given_at e k ≡ what → Back m.work
+      by given.Given is =
+          let has = gives plan e k is in
+          let now = given_back_begins plan e k has.number has.attempt is has.at in
+          subst Back (sym (work_at (given_back plan k e) k has.number _ m now there)) (begun_back has.number has.attempt)
+      by given.PastTurn is = let at = rests (λ gives. let two = sym is ∙ gives in cc) in absurd (none k m at (sym (given_is e k m at) ∙ is))
+      by given.Idle is =
+          let at = rests (λ gives. let two = sym is ∙ gives in cc) in
+          let idle = answered given.Idle is at in
           (idle_aside plan m.work idle, idle_not_past m.work idle)
-
-      by : (found : Option Marker) → slice_get e.markers k ≡ found → Back m.work
-      by None at = absurd (none_within e.markers k size at)
-      by (Some was) at = asked was at (given_by was.work) refl
 
     back_else : (k j : ℕ) (before after : Exchange) → GivesBack plan k before after → j ≢ k → slice_get after.markers j ≡ slice_get before.markers j
     back_else k j before after gives two = ap (λ (x : Exchange). slice_get x.markers j) gives ∙ others_stay plan before k j two
@@ -246,14 +234,24 @@ module _ (plan : Tables) (laws : IsLawful plan) where
           (ran plan k most_steps_alone e (ended plan k e) refl (ends_aside k e has (omega (arith, within, same, size)))).idle m there;
     }
 
+    abbrev IsDone : Work → Type 0
+    IsDone work = is_idle work ≡ true
+
+    third : IsStage (RunsToEnd plan) (IsOffice (IsAside (office plan))) IsDone
+    third = record {
+      keeps = λ k before after runs has.
+          let made : AreSteps k before after = record { count = runs.count; is = runs.steps_are } in
+          record {
+            lawful = steps_lawful k before after made has.lawful;
+            size = steps_size k before after made ∙ has.size;
+            all = all_kept (IsAside (office plan)) k before after (λ j two. steps_else k j before after made two) (λ m there. idle_aside plan m.work (runs.idle m there)) has.all;
+          };
+      others = λ k j before after runs two. steps_else k j before after (record { count = runs.count; is = runs.steps_are }) two;
+      does = λ k before after m runs has there. runs.idle m there;
+    }
+
     third_keeps : (k : ℕ) (e : Exchange) → IsOffice (IsAside (office plan)) e → IsOffice (IsAside (office plan)) (ended plan k e)
-    third_keeps k e has =
-        let made : AreSteps k e (ended plan k e) = record { count = most_steps_alone; is = refl } in
-        record {
-          lawful = steps_lawful k e (ended plan k e) made has.lawful;
-          size = steps_size k e (ended plan k e) made ∙ has.size;
-          all = all_kept (IsAside (office plan)) k e (ended plan k e) (λ j two. steps_else k j e (ended plan k e) made two) (λ m there. idle_aside plan m.work ((third_runs k e has).idle m there)) has.all;
-        }
+    third_keeps k e has = third.keeps k e (ended plan k e) (third_runs k e has) has
 
   -- once all have made a stage, they have what each has of it
   all_done : (Makes : ℕ → Exchange → Exchange → Type 0) (Has Done : Work → Type 0) (n : ℕ) (before after : Exchange) → IsStage Makes (IsOffice n Has) Done → EachMakes Makes n before after → IsOffice n Has before → IsOffice n Done after
@@ -268,25 +266,38 @@ module _ (plan : Tables) (laws : IsLawful plan) where
             each_does Makes (IsOffice n Has) Done stage n before after made has j m (omega (arith, within, size)) there;
       }
 
-  -- an office that settles does so by those stages
-  pub office_settles : (e : Exchange) → IsLawfulExchange plan e → Settles plan e (settled plan e)
-  office_settles e lawful =
-      let n : ℕ = length e.markers in
-      let past : Exchange = for_each (ended_past_turn plan) n e in
-      let back : Exchange = for_each (given_back plan) n past in
-      let begins : IsOffice n (Any n) e = record { lawful = lawful; size = refl; all = λ j m there. tt } in
-      let ends : EachMakes (EndsIfPast plan) n e past = each_made (EndsIfPast plan) (ended_past_turn plan) (IsLawfulExchange plan) past_lawful ends_past n e lawful in
-      let gives : EachMakes (GivesBack plan) n past back = each_made (GivesBack plan) (given_back plan) (λ x. ⊤) (λ k x is. tt) (λ k x is. refl) n past tt in
-      let none = all_done (EndsIfPast plan) (Any n) NotPast n e past (first n) ends begins in
-      let out = all_done (GivesBack plan) NotPast (Back n) n past back (second n) gives none in
-      let aside : IsOffice n (IsAside (office plan)) back = record { lawful = out.lawful; size = out.size; all = λ j m there. (out.all j m there).0 } in
-      record {
-        ended = past;
-        given = back;
-        ends = ends;
-        gives = gives;
-        runs = each_made (RunsToEnd plan) (ended plan) (IsOffice n (IsAside (office plan))) (third_keeps n) (third_runs n) n back aside;
-      }
+  module _ (e : Exchange) (lawful : IsLawfulExchange plan e) where
+    abbrev n : ℕ
+    n = length e.markers
+
+    abbrev past : Exchange
+    past = for_each (ended_past_turn plan) n e
+
+    abbrev back : Exchange
+    back = for_each (given_back plan) n past
+
+    ends : EachMakes (EndsIfPast plan) n e past
+    ends = each_made (EndsIfPast plan) (ended_past_turn plan) (IsLawfulExchange plan) past_lawful ends_past n e lawful
+
+    gives_all : EachMakes (GivesBack plan) n past back
+    gives_all = each_made (GivesBack plan) (given_back plan) (λ x. ⊤) (λ k x is. tt) (λ k x is. refl) n past tt
+
+    aside : IsOffice n (IsAside (office plan)) back
+    aside =
+        let none = all_done (EndsIfPast plan) (Any n) NotPast n e past (first n) ends (record { lawful = lawful; size = refl; all = λ j m there. tt }) in
+        let out = all_done (GivesBack plan) NotPast (Back n) n past back (second n) gives_all none in
+        record { lawful = out.lawful; size = out.size; all = λ j m there. (out.all j m there).0 }
+
+    runs : EachMakes (RunsToEnd plan) n back (settled plan e)
+    runs = each_made (RunsToEnd plan) (ended plan) (IsOffice n (IsAside (office plan))) (third_keeps n) (third_runs n) n back aside
+
+    -- an office that settles does so by those stages
+    pub office_settles : Settles plan e (settled plan e)
+    office_settles = record { ended = past; given = back; ends = ends; gives = gives_all; runs = runs }
+
+    -- and then every marker is idle
+    pub settled_idle : (k : ℕ) (m : Marker) → slice_get (settled plan e).markers k ≡ Some m → is_idle m.work ≡ true
+    settled_idle = (all_done (RunsToEnd plan) (IsAside (office plan)) (IsDone n) n back (settled plan e) (third n) runs aside).all
 
   pub settles_so : (e other : Exchange) → Settles plan e other → IsLawfulExchange plan e → other ≡ settled plan e
   settles_so e other settles lawful = one_settles plan e other (settled plan e) settles (office_settles e lawful)

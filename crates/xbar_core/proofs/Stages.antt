@@ -48,8 +48,8 @@ module _ (Makes : ℕ → Exchange → Exchange → Type 0) where
 
 -- whether a marker is past its turn
 pub past_or_not : (e : Exchange) (k : ℕ) → IsPast e k ⊎ (¬ IsPast e k)
-past_or_not e k = by (given_at (slice_get e.markers k)) refl where
-  by : (what : Given) → given_at (slice_get e.markers k) ≡ what → IsPast e k ⊎ (¬ IsPast e k)
+past_or_not e k = by (given_at e k) refl where
+  by : (what : Given) → given_at e k ≡ what → IsPast e k ⊎ (¬ IsPast e k)
   by given.PastTurn is = inl is
   by given.Given is = inr (λ past. let two : ◌≡◌ {A = Given} given.Given given.PastTurn = sym is ∙ past in cc)
   by given.Idle is = inr (λ past. let two : ◌≡◌ {A = Given} given.Idle given.PastTurn = sym is ∙ past in cc)
@@ -59,7 +59,7 @@ module _ (plan : Tables) where
   step_still : (k : ℕ) (e : Exchange) → ((m : Marker) → slice_get e.markers k ≡ Some m → is_idle m.work ≡ true) → stepped plan k e ≡ e
   step_still k e idle = elim (step_cases plan e k) [
     | inl same ↦ same
-    | inr made ↦ absurd (let both : ◌≡◌ {A = Bool} true false = sym (idle made.marker made.there) ∙ ap is_idle made.at ∙ made.goes in cc)
+    | inr made ↦ absurd (let both : ◌≡◌ {A = Bool} true false = sym (idle made.at.marker made.at.there) ∙ ap is_idle made.at.work ∙ made.goes in cc)
   ]
 
   steps_still : (k count : ℕ) (e : Exchange) → ((m : Marker) → slice_get e.markers k ≡ Some m → is_idle m.work ≡ true) → steps plan k count e ≡ e

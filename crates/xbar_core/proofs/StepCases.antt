@@ -1,5 +1,5 @@
 -- a step changes nothing, or it is the next step of an attempt
-use Rattle.std.proofs.Common.{◌≡◌, ◌≢◌, ℕ, ◌⊎◌, Bool, true, false, length, length-set, inl, inr, refl, ap, ◌∙◌}
+use Rattle.std.proofs.Common.{◌≡◌, ◌≢◌, ℕ, ◌⊎◌, Bool, true, false, length, length-set, inl, inr, refl, sym, ap, subst, ◌∙◌}
 use Rattle.std.specs.Prelude.{if◌then◌else◌, slice_get}
 use Rattle.turns.specs.Attempt.{act, change}
 use Rattle.turns.specs.Runs.{is_rest}
@@ -54,6 +54,11 @@ now_at plan e k n a told at = record {
   there = marker_set e.markers k _ at.marker at.there;
   work = refl;
 }
+
+pub gone_on : (plan : Tables) (e : Exchange) (k n : ℕ) (a : Attempt) → IsAt e k n a → is_rest (act a) ≡ false → IsAt (stepped plan k e) k n (change (office plan) a (told_of k e.words a))
+gone_on plan e k n a at goes =
+    let told = told_of k e.words a in
+    subst (λ (x : Exchange). IsAt x k n (change (office plan) a told)) (sym (step_made plan e k n a at goes)) (now_at plan e k n a told at)
 
 -- as many markers stay
 pub step_count : (plan : Tables) (e : Exchange) (k : ℕ) → length (stepped plan k e).markers ≡ length e.markers

@@ -18,9 +18,9 @@ use Rattle.xbar_jobs.specs.Office.{office}
 use Rattle.xbar_jobs.specs.declared.effect.Effect.{Effect}
 use Rattle.xbar_core.specs.Exchange.{Exchange, IsLawfulExchange, Marker, Work, is_idle, turned, world}
 use Rattle.xbar_core.specs.Holding.{IsAt}
-use Rattle.xbar_core.specs.Moves.{assigned, begun_anew, stepped, with_work, work_anew}
+use Rattle.xbar_core.specs.Moves.{assigned, begun_anew, stepped}
 use Rattle.xbar_core.proofs.Actors.{actor_at}
-use Rattle.xbar_core.proofs.Backing.{begun_is}
+use Rattle.xbar_core.proofs.Jobs.{begun_at}
 use Rattle.xbar_core.proofs.Markers.{marker_same, works, works_set}
 use Rattle.xbar_core.proofs.StepCases.{step_made}
 use Rattle.xbar_core.proofs.Stepping.{step_idle}
@@ -71,13 +71,12 @@ module _ (plan : Tables) (e : Exchange) (k number : ℕ) (a : Attempt) (at : IsA
   steps_in_world gives = by (is_rest (act a)) refl where
     by : (rest : Bool) → is_rest (act a) ≡ rest → world plan (stepped plan k e) ≡ moved (office plan) k number a (world plan e)
     by true rests = ap (world plan) (step_idle plan e k at.marker at.there (ap is_idle at.work ∙ rests)) ∙ sym (rest_moves gives a.phase refl rests)
-    by false goes = ap (world plan) (step_made plan e k number at.marker a at.there at.work goes) ∙ sym (moved_is plan e k number at.marker a)
+    by false goes = ap (world plan) (step_made plan e k number a at goes) ∙ sym (moved_is plan e k number at.marker a)
 
   -- a marker that is to begin its job anew is the actor that is
   pub anew_in_world : world plan (begun_anew plan k e) ≡ worlds.given_back (office plan) k number a (world plan e)
   anew_in_world =
-      ap (world plan) (begun_is plan e k at.marker at.there)
-      ∙ ap (λ (work : Work). world plan (with_work k at.marker (work_anew plan work) e)) at.work
+      ap (world plan) (begun_at plan e k number a at)
       ∙ ap (λ (actors : List Work). record { words = e.words; actors = actors; order = map turned e.records }) (works_set e.markers k (record at.marker { work = Does number (restarted (office plan) a) }))
 
   -- in a lawful office a marker that gives back holds something
