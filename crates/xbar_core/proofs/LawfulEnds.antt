@@ -8,26 +8,27 @@ use Rattle.std.proofs.lemmas.Map.Steps.{length-le_from_distinct_below}
 use mathlib.Core.Option.{some}
 use lib.ListN.{get_elem?}
 use Rattle.turns.specs.Among.{AreDistinct, IsIn}
-use Rattle.turns.specs.Attempt.{HasTurned, StandsIn, act}
+use Rattle.turns.specs.Attempt.{act}
 use Rattle.turns.specs.Bounds as bounds
-use Rattle.turns.specs.Law.{IsSound}
+use Rattle.turns.specs.Law.{FitsIn, IsOperating, IsSound}
 use Rattle.turns.specs.Runs as runs
+use Rattle.turns.specs.Script.{run}
 use Rattle.turns.specs.Runs.{is_rest}
 use Rattle.turns.specs.World.{ActorOf, Does, World}
 use Rattle.turns.specs.declared.phase.Phase.TheVariants.{Operates}
 use Rattle.turns.proofs.AloneEnds.{alone_ends}
 use Rattle.turns.proofs.Moving.{keeps}
-use Rattle.turns.proofs.SteadyAttempts.{walk_ends}
+use Rattle.turns.proofs.Words.{run_ends}
 use Rattle.xbar_equip.specs.Conn.{IsConn}
 use Rattle.xbar_equip.specs.Word.{ConnWord, word_number}
 use Rattle.xbar_equip.specs.declared.conn.Conn.{Conn}
 use Rattle.xbar_equip.proofs.WordNumbers.{conn_range, distinct_conns}
 use Rattle.xbar_plan.specs.Tables.{Tables}
 use Rattle.xbar_plan.specs.Lawful.{IsLawful}
-use Rattle.xbar_jobs.specs.Attempt.{Attempt}
+use Rattle.xbar_jobs.specs.Attempt.{Attempt, Phase}
 use Rattle.xbar_jobs.specs.Closing.{effects as effects_of}
 use Rattle.xbar_jobs.specs.Office.{office}
-use Rattle.xbar_jobs.specs.Standing.{most_effects, most_held, most_readings}
+use Rattle.xbar_jobs.specs.Standing.{most_effects, most_readings, most_seizings}
 use Rattle.xbar_jobs.specs.declared.decision.Decision.{Decision}
 use Rattle.xbar_jobs.specs.declared.effect.Effect.{Effect}
 use Rattle.xbar_jobs.proofs.JobBounds.{jobs_bounded}
@@ -85,10 +86,11 @@ module _ (plan : Tables) (laws : IsLawful plan) (e : Exchange) (lawful : IsLawfu
   -- past its turn a marker has no more effects left than its job has
   few_left : (turn : ℕ) → a.phase ≡ Operates turn → length a.effects ≤ most_effects
   few_left turn past =
-      let turned : HasTurned (office plan) a = subst (StandsIn (office plan) a) past sound.stands in
-      let few = walk_ends (office plan).same (λ (d : Decision). length (effects_of d) ≤ most_effects) turned.seen ((office plan).script a.job) turned.decision ((jobs_bounded plan laws).effects a.job sound.job) turned.come in
-      let all : length (effects_of turned.decision) ≡ length (turned.made ++ a.effects) = ap (length {A = Effect}) turned.effects in
-      let size = length-append turned.made a.effects in
+      let fits : IsOperating (office plan) e.words (world plan e).order k number turn a = subst (λ (p : Phase). FitsIn (office plan) (world plan e) k number a p) past sound.fits in
+      let decision : Decision = run fits.decided.words ((office plan).script a.job) in
+      let few = run_ends (λ (d : Decision). length (effects_of d) ≤ most_effects) fits.decided.words ((office plan).script a.job) fits.decided.are_words ((jobs_bounded plan laws).effects a.job sound.job) in
+      let all : length (effects_of decision) ≡ length (fits.decided.made ++ a.effects) = ap (length {A = Effect}) fits.decided.effects in
+      let size = length-append fits.decided.made a.effects in
       omega (arith, few, all, size)
 
   -- so it ends within the steps that settling makes
@@ -124,7 +126,7 @@ module _ (plan : Tables) where
         → ((j : ℕ) (other : ActorOf (office plan)) → ¬ (j ≡ k) → get_elem? (world plan e).actors j ≡ some other → bounds.IsAside (office plan) other) → IsIdleAt (steps plan k most_steps_alone e) k
     aside_idle e k number a lawful at bare aside =
         let none : length a.held ≡ 0 = ap (length {A = Conn}) bare in
-        let end = alone_ends (office plan) (office_is plan laws) most_readings most_held most_effects (jobs_bounded plan laws)
+        let end = alone_ends (office plan) (office_is plan laws) most_readings most_seizings most_effects (jobs_bounded plan laws)
         (λ w j n b now stands. keeps (office plan) (office_is plan laws) w now j n b stands) k number (world plan e) a most_steps_alone lawful (actor_at e k number a at) aside (omega (arith, none)) in
         let there = ap (λ (w : World (office plan)). get_elem? w.actors k) (steps_same most_steps_alone e k number a lawful at) ∙ end.1 in
         let found = marker_there (steps plan k most_steps_alone e).markers k end.0 there in
