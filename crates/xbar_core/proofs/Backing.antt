@@ -15,7 +15,7 @@ use Rattle.xbar_jobs.specs.declared.effect.Effect.{Effect}
 use Rattle.xbar_core.specs.AtWork.{told_of, IsBackingAt, IsBackingBy, IsBackingIn, gives_up, gives_up_at, is_turned}
 use Rattle.xbar_core.specs.Exchange.{Exchange, Marker, OfPlan, Work, is_idle}
 use Rattle.xbar_core.specs.Holding.{IsAt}
-use Rattle.xbar_core.specs.Moves.{backed_as, begun_anew, frees_left, given_at, given_back, given_by, request_count, stepped, steps}
+use Rattle.xbar_core.specs.Moves.{backed_as, begun_anew, frees_left, given_at, given_back, given_by, request_count, after_step, steps}
 use Rattle.xbar_core.specs.declared.given.Given.{Given}
 use Rattle.xbar_core.specs.declared.given.Given.TheVariants as given
 use Rattle.xbar_core.proofs.Jobs.{anew_at, at_job_has, at_job_is, work_at}
@@ -45,12 +45,12 @@ module _ (plan : Tables) where
   freed_less a [] = (refl, refl)
   freed_less a (conn ∷ held) = ((λ e. cc), omega arith)
 
-  given_less : (k found : ℕ) (a : Attempt) (held : List Conn) → a.held ≡ held → ¬ (held ≡ []) → IsOneLess (changed (office plan) a GivesBack (generic.answered (office plan) k (free_act held) found)) (length held)
+  given_less : (k found : ℕ) (a : Attempt) (held : List Conn) → a.held ≡ held → ¬ (held ≡ []) → IsOneLess (changed (office plan) a GivesBack (generic.answer_to (office plan) k (free_act held) found)) (length held)
   given_less k found a [] at not = absurd (not refl)
   given_less k found a (conn ∷ held) at not = subst (λ (all : List Conn). IsOneLess (freed (office plan) a (rest_of all)) (suc (length held))) (sym at) (freed_less a held)
 
   abbrev Lessens : ℕ → ℕ → Attempt → Phase → Type 0
-  Lessens k found a phase = gives_up (step_of (act_in phase a)) ≡ true → IsOneLess (changed (office plan) a phase (generic.answered (office plan) k (act_in phase a) found)) (request_count (request_in phase) + length a.held)
+  Lessens k found a phase = gives_up (step_of (act_in phase a)) ≡ true → IsOneLess (changed (office plan) a phase (generic.answer_to (office plan) k (act_in phase a) found)) (request_count (request_in phase) + length a.held)
 
   less_in : (k found : ℕ) (a : Attempt) (phase : Phase) → IsBackingIn a phase → Lessens k found a phase
   less_in k found a = by_backing (Lessens k found a) a
@@ -119,7 +119,7 @@ pub record GaveUp (now : Exchange) (k left : ℕ) : Type 0 where
   pub one : suc (frees_left now k) ≡ left
 
 module _ (plan : Tables) (e : Exchange) (k : ℕ) (back : IsBacking e k) where
-  pub gave_up : gives_up (next_step back.attempt) ≡ true → GaveUp (stepped plan k e) k (frees_left e k)
+  pub gave_up : gives_up (next_step back.attempt) ≡ true → GaveUp (after_step plan k e) k (frees_left e k)
   gave_up goes =
       let n = back.number in
       let a = back.attempt in
@@ -138,7 +138,7 @@ goes_with a count backs left = by (gives_up (next_step a)) refl where
   by true is = is
   by false rests = let none = none_left_in a a.phase backs rests in absurd (omega (arith, none, left))
 
-pub gives_one : (plan : Tables) (k : ℕ) (e : Exchange) → IsBackingAt (slice_get e.markers k) → (count : ℕ) → frees_left e k ≡ suc count → GaveUp (stepped plan k e) k (frees_left e k)
+pub gives_one : (plan : Tables) (k : ℕ) (e : Exchange) → IsBackingAt (slice_get e.markers k) → (count : ℕ) → frees_left e k ≡ suc count → GaveUp (after_step plan k e) k (frees_left e k)
 gives_one plan k e backs count left =
     let back = backing e k backs in
     gave_up plan e k back (goes_with back.attempt count back.backs (sym (left_is e k back.number back.attempt back.at) ∙ left))
@@ -160,10 +160,10 @@ module _ (first now next : OfPlan) (k : ℕ) (m : Marker) (there : slice_get now
   next_up : gives_up (next_step back.attempt) ≡ gives_up_at m.work
   next_up = ap gives_up_at (sym (work_at now.exchange k back.number back.attempt m back.at there))
 
-  gave : gives_up_at m.work ≡ true → GaveUp (stepped now.plan k now.exchange) k (frees_left now.exchange k)
+  gave : gives_up_at m.work ≡ true → GaveUp (after_step now.plan k now.exchange) k (frees_left now.exchange k)
   gave goes = gave_up now.plan now.exchange k back (next_up ∙ goes)
 
-  pub one_given : gives_up_at m.work ≡ true → next ≡ record now { exchange = stepped now.plan k now.exchange } → IsGivingUp first next k
+  pub one_given : gives_up_at m.work ≡ true → next ≡ record now { exchange = after_step now.plan k now.exchange } → IsGivingUp first next k
   unfolding steps
   one_given goes is =
       let less = gave goes in
@@ -173,12 +173,12 @@ module _ (first now next : OfPlan) (k : ℕ) (m : Marker) (there : slice_get now
         backs = subst (λ (o : OfPlan). IsBackingAt (slice_get o.exchange.markers k)) (sym is) less.backs;
         rest =
             so_far.rest ∙ ap (λ (n : ℕ). steps first.plan k n now.exchange) (sym less.one)
-            ∙ ap (λ (p : Tables). steps first.plan k (frees_left (stepped now.plan k now.exchange) k) (stepped p k now.exchange)) (sym so_far.plan)
+            ∙ ap (λ (p : Tables). steps first.plan k (frees_left (after_step now.plan k now.exchange) k) (after_step p k now.exchange)) (sym so_far.plan)
             ∙ ap (λ (o : OfPlan). steps first.plan k (frees_left o.exchange k) o.exchange) (sym is);
       }
 
   -- each time there is less to give up
-  pub less_given : gives_up_at m.work ≡ true → next ≡ record now { exchange = stepped now.plan k now.exchange } → frees_left next.exchange k < frees_left now.exchange k
+  pub less_given : gives_up_at m.work ≡ true → next ≡ record now { exchange = after_step now.plan k now.exchange } → frees_left next.exchange k < frees_left now.exchange k
   less_given goes is =
       let less = gave goes in
       let after = ap (λ (o : OfPlan). frees_left o.exchange k) is in

@@ -14,7 +14,7 @@ use Rattle.xbar_jobs.specs.Office.{office}
 use Rattle.xbar_core.specs.AtWork.{IsBackingIn, gives_up, told_of}
 use Rattle.xbar_core.specs.Exchange.{Exchange}
 use Rattle.xbar_core.specs.Holding.{IsAt}
-use Rattle.xbar_core.specs.Moves.{begun_anew, frees_left, given_at, given_back, given_by, request_count, stepped, steps}
+use Rattle.xbar_core.specs.Moves.{begun_anew, frees_left, given_at, given_back, given_by, request_count, after_step, steps}
 use Rattle.xbar_core.specs.declared.given.Given.TheVariants as given
 use Rattle.xbar_core.proofs.Backing.{Answers, anew_in, answers, back_goes, by_backing, gives_up_goes, goes_with, left_in, left_is, no_more, one_less}
 use Rattle.xbar_core.proofs.Jobs.{anew_at, at_job_is}
@@ -46,13 +46,13 @@ module _ (plan : Tables) where
   anew_begins a (Operates turn) at = record { job_is = refl; begins = λ other is. let two : ◌≡◌ {A = Phase} (Operates turn) (Requests other) = sym at ∙ is in absurd cc }
 
   -- and on its way back
-  given_begins : (k found : ℕ) (a : Attempt) (job : Job) (held : List Conn) → a.job ≡ job → Begins job (changed (office plan) a GivesBack (generic.answered (office plan) k (free_act held) found))
+  given_begins : (k found : ℕ) (a : Attempt) (job : Job) (held : List Conn) → a.job ≡ job → Begins job (changed (office plan) a GivesBack (generic.answer_to (office plan) k (free_act held) found))
   given_begins k found a job [] is = freed_begins a job (rest_of a.held) is
   given_begins k found a job (conn ∷ held) is = freed_begins a job (rest_of a.held) is
 
   module _ (k number : ℕ) (job : Job) where
     abbrev BeginsBy : ℕ → Attempt → Phase → Type 0
-    BeginsBy found a phase = gives_up (step_of (act_in phase a)) ≡ true → Begins job (changed (office plan) a phase (generic.answered (office plan) k (act_in phase a) found))
+    BeginsBy found a phase = gives_up (step_of (act_in phase a)) ≡ true → Begins job (changed (office plan) a phase (generic.answer_to (office plan) k (act_in phase a) found))
 
     back_begins : (found : ℕ) (a : Attempt) → a.job ≡ job → (phase : Phase) → IsBackingIn a phase → BeginsBy found a phase
     back_begins found a is = by_backing (BeginsBy found a) a
@@ -75,7 +75,7 @@ module _ (plan : Tables) where
         let b : Attempt = change (office plan) a (told_of k e.words a) in
         let less = one_less plan k e.words a backs goes in
         let begins : Begins job b = subst (λ (answer : Answer). Begins job (change (office plan) a answer)) (sym (answer_is plan k e.words a)) (back_begins (found_by plan e.words a) a is.job_is a.phase backs goes) in
-        back_to_begin count (stepped plan k e) b (gone_on plan e k number a at (gives_up_goes (act a) goes)) begins less.0 (omega (arith, less.1, left))
+        back_to_begin count (after_step plan k e) b (gone_on plan e k number a at (gives_up_goes (act a) goes)) begins less.0 (omega (arith, less.1, left))
 
   -- so a marker that gives back begins
   pub given_back_begins : (e : Exchange) (k number : ℕ) (a : Attempt) → given_at e k ≡ given.Given → IsAt e k number a → IsAt (given_back plan k e) k number (begin_with (first_conn a.job) a.job)

@@ -27,7 +27,7 @@ use Rattle.xbar_jobs.proofs.OfficeSystem.{office_is}
 use Rattle.xbar_core.specs.AtWork.{told_of}
 use Rattle.xbar_core.specs.Exchange.{Exchange, Marker, Work, is_idle, world}
 use Rattle.xbar_core.specs.Holding.{IsAt}
-use Rattle.xbar_core.specs.Moves.{answered, steps}
+use Rattle.xbar_core.specs.Moves.{after_answer, steps}
 use Rattle.xbar_core.specs.Settling.{most_steps_alone}
 use Rattle.xbar_core.specs.Standing.{IsExchange}
 use Rattle.xbar_core.proofs.Actors.{actor_at}
@@ -60,7 +60,7 @@ module _ (plan : Tables) where
 
   -- past the turn there is one thing less to make or to free with each step
   closing_less : (k found turn : ℕ) (a : Attempt) (effects : List Effect) (held : List Conn) → a.phase ≡ Operates turn → a.effects ≡ effects → a.held ≡ held → is_rest (closing_act effects held) ≡ false
-      → HasLeft turn (changed (office plan) a (Operates turn) (generic.answered (office plan) k (closing_act effects held) found)) (length effects + length held)
+      → HasLeft turn (changed (office plan) a (Operates turn) (generic.answer_to (office plan) k (closing_act effects held) found)) (length effects + length held)
   closing_less k found turn a [] [] at these those goes = absurd cc
   closing_less k found turn a [] (conn ∷ held) at these those goes =
       let none : length a.effects ≡ 0 = ap (length {A = Effect}) these in
@@ -73,7 +73,7 @@ module _ (plan : Tables) where
   one_closed : (k turn : ℕ) (words : List ℕ) (a : Attempt) → a.phase ≡ Operates turn → is_rest (act a) ≡ false → HasLeft turn (change (office plan) a (told_of k words a)) (length a.effects + length a.held)
   one_closed k turn words a at goes =
       subst (λ (answer : Answer). HasLeft turn (change (office plan) a answer) (length a.effects + length a.held)) (sym (answer_is plan k words a))
-      (subst (λ (phase : Phase). HasLeft turn (changed (office plan) a phase (generic.answered (office plan) k (act_in phase a) (found_by plan words a))) (length a.effects + length a.held)) (sym at)
+      (subst (λ (phase : Phase). HasLeft turn (changed (office plan) a phase (generic.answer_to (office plan) k (act_in phase a) (found_by plan words a))) (length a.effects + length a.held)) (sym at)
       (closing_less k (found_by plan words a) turn a a.effects a.held at refl refl (subst (λ (phase : Phase). is_rest (act_in phase a) ≡ false) at goes)))
 
   -- so it ends, whatever the others do
@@ -85,7 +85,7 @@ module _ (plan : Tables) where
       let left = one_closed k turn e.words a phase goes in
       let b = change (office plan) a (told_of k e.words a) in
       subst (λ (x : Exchange). IsIdleAt (steps plan k less x) k) (sym (step_made plan e k n a at goes))
-      (ends_if k turn n less (answered plan k at.marker n a (told_of k e.words a) e) b (is_rest (act b)) refl (now_at plan e k n a (told_of k e.words a) at) left.phase (omega (arith, left.one)))
+      (ends_if k turn n less (after_answer plan k at.marker n a (told_of k e.words a) e) b (is_rest (act b)) refl (now_at plan e k n a (told_of k e.words a) at) left.phase (omega (arith, left.one)))
 
   pub past_ends : (k turn n count : ℕ) (e : Exchange) (a : Attempt) → IsAt e k n a → a.phase ≡ Operates turn → length a.effects + length a.held ≤ count → IsIdleAt (steps plan k count e) k
   past_ends k turn n count e a at phase few = ends_if k turn n count e a (is_rest (act a)) refl at phase few
@@ -99,11 +99,11 @@ module _ (plan : Tables) where
   abbrev HasEnded : ℕ → World (office plan) → Type 0
   HasEnded k w = (ended : ActorOf (office plan)) × (get_elem? w.actors k ≡ some ended) × IsFree (office plan) ended
 
-  busy_step : (k n count : ℕ) (e : Exchange) (a : Attempt) (at : IsAt e k n a) → HasEnded k (bounds.stepped (office plan) k (suc count) (world plan e)) → HasEnded k (bounds.stepped (office plan) k count (world plan (answered plan k at.marker n a (told_of k e.words a) e)))
+  busy_step : (k n count : ℕ) (e : Exchange) (a : Attempt) (at : IsAt e k n a) → HasEnded k (bounds.after_steps (office plan) k (suc count) (world plan e)) → HasEnded k (bounds.after_steps (office plan) k count (world plan (after_answer plan k at.marker n a (told_of k e.words a) e)))
   busy_step k n count e a at ended =
-      subst (λ (w : World (office plan)). HasEnded k (bounds.stepped (office plan) k count w)) (ap (λ o. runs.stepped_at (office plan) k o (world plan e)) (actor_at e k n a at) ∙ moved_is plan e k n at.marker a) ended
+      subst (λ (w : World (office plan)). HasEnded k (bounds.after_steps (office plan) k count w)) (ap (λ o. runs.stepped_at (office plan) k o (world plan e)) (actor_at e k n a at) ∙ moved_is plan e k n at.marker a) ended
 
-  ends_with : (k count : ℕ) (e : Exchange) (m : Marker) (work : Work) (idle : Bool) → slice_get e.markers k ≡ Some m → m.work ≡ work → is_idle work ≡ idle → HasEnded k (bounds.stepped (office plan) k count (world plan e)) → IsIdleAt (steps plan k count e) k
+  ends_with : (k count : ℕ) (e : Exchange) (m : Marker) (work : Work) (idle : Bool) → slice_get e.markers k ≡ Some m → m.work ≡ work → is_idle work ≡ idle → HasEnded k (bounds.after_steps (office plan) k count (world plan e)) → IsIdleAt (steps plan k count e) k
   unfolding steps
   ends_with k zero e m work idle there is rests (ended, here, free) =
       let same : m.work ≡ ended = some-injective m.work ended (sym (actor_there e.markers k m there) ∙ here) in
@@ -114,7 +114,7 @@ module _ (plan : Tables) where
       let at : IsAt e k n a = record { marker = m; there = there; work = is } in
       let now = now_at plan e k n a (told_of k e.words a) at in
       subst (λ (x : Exchange). IsIdleAt (steps plan k count x) k) (sym (step_made plan e k n a at goes))
-      (ends_with k count (answered plan k m n a (told_of k e.words a) e) now.marker now.marker.work (is_idle now.marker.work) now.there refl refl (busy_step k n count e a at ended))
+      (ends_with k count (after_answer plan k m n a (told_of k e.words a) e) now.marker now.marker.work (is_idle now.marker.work) now.there refl refl (busy_step k n count e a at ended))
 
   module _ (laws : IsLawful plan) (e : Exchange) (was : IsExchange plan e) (k n : ℕ) (a : Attempt) (at : IsAt e k n a) where
     -- what is left past the turn is no more than what a whole job has

@@ -22,7 +22,7 @@ use Rattle.xbar_jobs.specs.declared.effect.Effect.{Effect}
 use Rattle.xbar_core.specs.AtWork.{told_of}
 use Rattle.xbar_core.specs.Exchange.{Exchange, IsLawfulExchange, turned, world}
 use Rattle.xbar_core.specs.Holding.{IsAt}
-use Rattle.xbar_core.specs.Moves.{event_at_step, event_of, finished, moved_on, record_of, refused_by, stepped}
+use Rattle.xbar_core.specs.Moves.{event_at_step, event_of, finished, moved_on, record_of, refused_by, after_step}
 use Rattle.xbar_core.specs.declared.event.Event.TheVariants as event
 use Rattle.xbar_core.proofs.Actors.{actor_at}
 use Rattle.xbar_core.proofs.Records.{records_legal}
@@ -153,7 +153,7 @@ module _ (plan : Tables) (e : Exchange) (k : ℕ) (r : Record) (lawful : IsLawfu
       let found = turn_there e.records known.place known.recorded (slice_get e.records known.place) refl (sym (slice_get-map turned e.records known.place) ∙ known.stands) in
       (known.place, found.there ∙ ap Some (is_recorded plan (map turned e.records) k number a r ended known found.found found.turn))
 
-  finished_by : length e.records < 2 ^ 64 → HasCome plan e k (event.Finished r) → slice_get (stepped plan k e).records r.turn ≡ Some r
+  finished_by : length e.records < 2 ^ 64 → HasCome plan e k (event.Finished r) → slice_get (after_step plan k e).records r.turn ≡ Some r
   finished_by few come =
       let recorded = finished_there come.number come.attempt come.at (at_end plan k come.number e.words come.attempt r come.comes) in
       let place = turn_at e.records recorded.0 r (records_legal plan e lawful few).turns recorded.1 in
@@ -161,5 +161,5 @@ module _ (plan : Tables) (e : Exchange) (k : ℕ) (r : Record) (lawful : IsLawfu
       ap (λ (records : List Record). slice_get records r.turn) (step_adds plan e k come.number come.attempt come.at) ∙ get_before e.records _ r.turn r there
 
   -- a job that finishes has its record at the place of its turn
-  pub finished_at : length e.records < 2 ^ 64 → event_at_step plan k e ≡ event.Finished r → slice_get (stepped plan k e).records r.turn ≡ Some r
+  pub finished_at : length e.records < 2 ^ 64 → event_at_step plan k e ≡ event.Finished r → slice_get (after_step plan k e).records r.turn ≡ Some r
   finished_at few ends = finished_by few (has_come plan e k (event.Finished r) (λ same. cc) ends)

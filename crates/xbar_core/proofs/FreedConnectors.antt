@@ -12,7 +12,7 @@ use Rattle.xbar_jobs.specs.Office.{office}
 use Rattle.xbar_jobs.specs.declared.effect.Effect.{Effect}
 use Rattle.xbar_core.specs.Exchange.{Exchange}
 use Rattle.xbar_core.specs.Holding.{IsAt}
-use Rattle.xbar_core.specs.Moves.{stepped}
+use Rattle.xbar_core.specs.Moves.{after_step}
 use Rattle.xbar_core.proofs.GivenBack.{conn_behind}
 use Rattle.xbar_core.proofs.StepCases.{step_made}
 use Rattle.xbar_core.proofs.Worlds.{words_are}
@@ -38,7 +38,7 @@ pub frees_when : (a : Attempt) (conn : Conn) → act a ≡ Free conn → (a.phas
 frees_when a conn frees = frees_in a a.phase conn frees
 
 -- the word that is changed is the connector's own
-pub free_spares : (plan : Tables) (e : Exchange) (k number n : ℕ) (a : Attempt) (conn : Conn) → IsAt e k number a → act a ≡ Free conn → n < 416 → slice_index (stepped plan k e).words n ≡ slice_index e.words n
+pub free_spares : (plan : Tables) (e : Exchange) (k number n : ℕ) (a : Attempt) (conn : Conn) → IsAt e k number a → act a ≡ Free conn → n < 416 → slice_index (after_step plan k e).words n ≡ slice_index e.words n
 free_spares plan e k number n a conn at frees below =
     let own = ap (λ (next : Act). place (office plan) next) frees in
     let behind = conn_behind plan conn in

@@ -20,7 +20,7 @@ use Rattle.xbar_jobs.specs.declared.effect.Effect.{Effect}
 use Rattle.xbar_core.specs.AtWork.{told_of, IsBackingAt, IsBackingIn}
 use Rattle.xbar_core.specs.Exchange.{Exchange, turned}
 use Rattle.xbar_core.specs.Holding.{Holds, HasRequested, IsAt}
-use Rattle.xbar_core.specs.Moves.{answered, backed_as, begun_anew, frees_left, given_at, given_back, recorded, request_count, stepped, steps}
+use Rattle.xbar_core.specs.Moves.{after_answer, backed_as, begun_anew, frees_left, given_at, given_back, added_record, request_count, after_step, steps}
 use Rattle.xbar_core.specs.declared.given.Given.{Given}
 use Rattle.xbar_core.specs.declared.given.Given.TheVariants as given
 use Rattle.xbar_core.proofs.Backing.{anew, back_goes, backing, by_backing, gives_one, left_is}
@@ -33,7 +33,7 @@ use Rattle.xbar_core.proofs.Worlds.{added_at, answer_is, found_by, words_are}
 module _ (plan : Tables) (k : ℕ) (Has : Exchange → Type 0) where
   -- each step of a marker on its way back keeps it
   abbrev KeepsBack : Type 0
-  KeepsBack = (x : Exchange) (n : ℕ) (a : Attempt) → Has x → (at : IsAt x k n a) → IsBackingIn a a.phase → Has (answered plan k at.marker n a (told_of k x.words a) x)
+  KeepsBack = (x : Exchange) (n : ℕ) (a : Attempt) → Has x → (at : IsAt x k n a) → IsBackingIn a a.phase → Has (after_answer plan k at.marker n a (told_of k x.words a) x)
 
   -- it is kept, and the marker has nothing left to give up
   record IsBack (x : Exchange) : Type 0 where
@@ -41,7 +41,7 @@ module _ (plan : Tables) (k : ℕ) (Has : Exchange → Type 0) where
     pub none : frees_left x k ≡ 0
 
   module _ (keeps : KeepsBack) where
-    one_back : (x : Exchange) → IsBackingAt (slice_get x.markers k) → Has x → Has (stepped plan k x)
+    one_back : (x : Exchange) → IsBackingAt (slice_get x.markers k) → Has x → Has (after_step plan k x)
     one_back x backs has = elim (step_cases plan x k) [
       | inl same ↦ subst Has (sym same) has
       | inr made ↦
@@ -56,7 +56,7 @@ module _ (plan : Tables) (k : ℕ) (Has : Exchange → Type 0) where
     all_back zero x backs left has = record { has = has; none = left }
     all_back (suc count) x backs left has =
         let less = gives_one plan k x backs count left in
-        all_back count (stepped plan k x) less.backs (omega (arith, less.one, left)) (one_back x backs has)
+        all_back count (after_step plan k x) less.backs (omega (arith, less.one, left)) (one_back x backs has)
 
     module _ (restarts : KeepsRestarts plan Has k) where
       -- a marker that may gives back all
@@ -140,11 +140,11 @@ module _ (plan : Tables) where
   no_records [] none = refl
   no_records (r ∷ records) none = absurd cc
 
-  back_records : (k n : ℕ) (words : List ℕ) (a : Attempt) → IsBackingIn a a.phase → recorded k n a (told_of k words a) ≡ []
+  back_records : (k n : ℕ) (words : List ℕ) (a : Attempt) → IsBackingIn a a.phase → added_record k n a (told_of k words a) ≡ []
   back_records k n words a backs =
       let found : ℕ = found_by plan words a in
-      ap (recorded k n a) (answer_is plan k words a)
-      ∙ no_records (recorded k n a (generic.answered (office plan) k (act a) found)) (added_at plan k n found a a.phase ∙ adds_none k n found a a.phase backs)
+      ap (added_record k n a) (answer_is plan k words a)
+      ∙ no_records (added_record k n a (generic.answer_to (office plan) k (act a) found)) (added_at plan k n found a a.phase ∙ adds_none k n found a a.phase backs)
 
   -- and its steps are on words of connectors, behind the protected ones
   pub conn_behind : (conn : Conn) → 416 ≤ word_number (ConnWord conn)

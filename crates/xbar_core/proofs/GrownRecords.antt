@@ -6,8 +6,8 @@ use Rattle.xbar_office.specs.declared.job.Job.{Job}
 use Rattle.xbar_office.specs.declared.reply.Record.{Record}
 use Rattle.xbar_core.specs.AtWork.{told_of}
 use Rattle.xbar_core.specs.Exchange.{Exchange, Marker}
-use Rattle.xbar_core.specs.Moves.{assigned, recorded, refusal, stepped}
-use Rattle.xbar_core.specs.Runs.{Assigns, BeginsAnew, GivesBack, Move, Settles, Steps, made_by, run_from, unless_refused}
+use Rattle.xbar_core.specs.Moves.{assigned, added_record, refusal, after_step}
+use Rattle.xbar_core.specs.Runs.{Assigns, BeginsAnew, GivesBack, Move, Settles, Steps, after_move, run_from, unless_refused}
 use Rattle.xbar_core.specs.declared.assign_fault.AssignFault.{AssignFault}
 use Rattle.xbar_core.proofs.GivenBack.{records_stay}
 use Rattle.xbar_core.proofs.Keeping.{KeepsRestarts, KeepsSteps, begun_keeps, settled_keeps}
@@ -33,7 +33,7 @@ module _ (plan : Tables) (first : List Record) where
   step_begins : (k : ℕ) → KeepsSteps plan (Begin first) k
   step_begins k e begins = elim (step_cases plan e k) [
     | inl same ↦ subst (Begin first) (sym same) begins
-    | inr made ↦ more_begin e (recorded k made.number made.attempt (told_of k e.words made.attempt)) (stepped plan k e) (ap (λ (x : Exchange). x.records) made.is) begins
+    | inr made ↦ more_begin e (added_record k made.number made.attempt (told_of k e.words made.attempt)) (after_step plan k e) (ap (λ (x : Exchange). x.records) made.is) begins
   ]
 
   restart_begins : (k : ℕ) → KeepsRestarts plan (Begin first) k
@@ -41,7 +41,7 @@ module _ (plan : Tables) (first : List Record) where
 
 module _ (plan : Tables) where
   -- by whatever move
-  pub move_begins : (e : Exchange) (move : Move) → Begin e.records (made_by plan e move)
+  pub move_begins : (e : Exchange) (move : Move) → Begin e.records (after_move plan e move)
   move_begins e (Assigns k number job) = by (refusal e k job) where
     by : (why : Option AssignFault) → Begin e.records (unless_refused why (assigned k number job e) e)
     by None = ([], assigned_adds e k number job (slice_get e.markers k) refl ∙ sym (append-nil e.records))
@@ -56,5 +56,5 @@ module _ (plan : Tables) where
   run_begins e [] = begin_own e
   run_begins e (move ∷ moves) =
       let one = move_begins e move in
-      let rest = run_begins (made_by plan e move) moves in
+      let rest = run_begins (after_move plan e move) moves in
       (one.0 ++ rest.0, rest.1 ∙ ap (λ (records : List Record). records ++ rest.0) one.1 ∙ append_assoc e.records one.0 rest.0)

@@ -26,7 +26,7 @@ use Rattle.xbar_jobs.proofs.StepActs.{act_word}
 use Rattle.xbar_core.specs.Exchange.{Exchange, IsLawfulExchange, turned, world}
 use Rattle.xbar_core.specs.Holding.{Holds, IsAt}
 use Rattle.xbar_core.specs.Links.{IsPastTurn}
-use Rattle.xbar_core.specs.Moves.{stepped}
+use Rattle.xbar_core.specs.Moves.{after_step}
 use Rattle.xbar_core.proofs.Actors.{actor_at}
 use Rattle.xbar_core.proofs.FinishedJobs.{IsTurn, turn_there}
 use Rattle.xbar_core.proofs.GivenBack.{conn_behind}
@@ -89,7 +89,7 @@ module _ (plan : Tables) where
         effect_held k number a at turn a.effects past refl (λ conn held. free k conn (record { number = number; attempt = a; at = at; held = held })))
 
     -- the step of a marker that does not hold a word's connector spares the word
-    pub spares_held : (k n : ℕ) (conn : Conn) → Protects conn n → ¬ Holds e k conn → slice_index (stepped plan k e).words n ≡ slice_index e.words n
+    pub spares_held : (k n : ℕ) (conn : Conn) → Protects conn n → ¬ Holds e k conn → slice_index (after_step plan k e).words n ≡ slice_index e.words n
     spares_held k n conn protects free = elim (step_cases plan e k) [
       | inl same ↦ ap (λ (x : Exchange). slice_index x.words n) same
       | inr made ↦

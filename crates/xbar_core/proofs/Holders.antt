@@ -17,7 +17,7 @@ use Rattle.xbar_jobs.proofs.OfficeSystem.{office_is}
 use Rattle.xbar_jobs.proofs.StepActs.{act_word}
 use Rattle.xbar_core.specs.Exchange.{Exchange, IsLawfulExchange, world}
 use Rattle.xbar_core.specs.Holding.{Holds, IsAt}
-use Rattle.xbar_core.specs.Moves.{stepped}
+use Rattle.xbar_core.specs.Moves.{after_step}
 use Rattle.xbar_core.proofs.Actors.{actor_at}
 use Rattle.xbar_core.proofs.Connectors.{free_word}
 use Rattle.xbar_core.proofs.Records.{after_same}
@@ -36,7 +36,7 @@ module _ (plan : Tables) (e : Exchange) (laws : IsLawful plan) (lawful : IsLawfu
       alone (office plan) (office_is plan laws) (world plan e) lawful k number a conn (actor_at e k number a at) (subst (Protects conn) (act_word plan (act a)) protects)
 
   -- the step of a marker that does not hold a word's connector spares the word
-  pub step_spares : (k n : ℕ) (conn : Conn) → Protects conn n → ¬ Holds e k conn → slice_index (stepped plan k e).words n ≡ slice_index e.words n
+  pub step_spares : (k n : ℕ) (conn : Conn) → Protects conn n → ¬ Holds e k conn → slice_index (after_step plan k e).words n ≡ slice_index e.words n
   step_spares k n conn protects free = elim (step_cases plan e k) [
     | inl same ↦ ap (λ (x : Exchange). slice_index x.words n) same
     | inr made ↦

@@ -35,7 +35,7 @@ use Rattle.xbar_jobs.proofs.JobBounds.{jobs_bounded}
 use Rattle.xbar_jobs.proofs.OfficeSystem.{office_is}
 use Rattle.xbar_core.specs.Exchange.{Exchange, IsLawfulExchange, is_idle, world}
 use Rattle.xbar_core.specs.Holding.{IsAt}
-use Rattle.xbar_core.specs.Moves.{stepped, steps}
+use Rattle.xbar_core.specs.Moves.{after_step, steps}
 use Rattle.xbar_core.specs.Settling.{most_steps_alone}
 use Rattle.xbar_core.proofs.Actors.{actor_at}
 use Rattle.xbar_core.proofs.Ending.{IsIdleAt, free_idle, past_ends}
@@ -102,24 +102,24 @@ module _ (plan : Tables) (laws : IsLawful plan) (e : Exchange) (lawful : IsLawfu
 
 module _ (plan : Tables) where
   -- a marker at an attempt stays at one
-  next_at : (e : Exchange) (k number : ℕ) (a : Attempt) → IsAt e k number a → (b : Attempt) × IsAt (stepped plan k e) k number b
+  next_at : (e : Exchange) (k number : ℕ) (a : Attempt) → IsAt e k number a → (b : Attempt) × IsAt (after_step plan k e) k number b
   next_at e k number a at = by (is_rest (act a)) refl where
-    by : (rest : Bool) → is_rest (act a) ≡ rest → (b : Attempt) × IsAt (stepped plan k e) k number b
+    by : (rest : Bool) → is_rest (act a) ≡ rest → (b : Attempt) × IsAt (after_step plan k e) k number b
     by true rests = (a, subst (λ (x : Exchange). IsAt x k number a) (sym (step_idle plan e k at.marker at.there (ap is_idle at.work ∙ rests))) at)
     by false goes = (_, gone_on plan e k number a at goes)
 
   module _ (laws : IsLawful plan) where
     -- its steps are those of its world
-    steps_same : (count : ℕ) (e : Exchange) (k number : ℕ) (a : Attempt) → IsLawfulExchange plan e → IsAt e k number a → world plan (steps plan k count e) ≡ bounds.stepped (office plan) k count (world plan e)
+    steps_same : (count : ℕ) (e : Exchange) (k number : ℕ) (a : Attempt) → IsLawfulExchange plan e → IsAt e k number a → world plan (steps plan k count e) ≡ bounds.after_steps (office plan) k count (world plan e)
     unfolding steps
     steps_same zero e k number a lawful at = refl
     steps_same (suc count) e k number a lawful at =
         let next = next_at e k number a at in
         let actor : get_elem? (world plan e).actors k ≡ some (Does number a) = actor_at e k number a at in
-        let one : world plan (stepped plan k e) ≡ runs.stepped_at (office plan) k (get_elem? (world plan e).actors k) (world plan e) =
+        let one : world plan (after_step plan k e) ≡ runs.stepped_at (office plan) k (get_elem? (world plan e).actors k) (world plan e) =
         steps_in_world plan e k number a at (has_to_give plan e k number a at lawful) ∙ ap (λ o. runs.stepped_at (office plan) k o (world plan e)) (sym actor) in
-        steps_same count (stepped plan k e) k number next.0 (lawful_stepped plan e k laws lawful) next.1
-        ∙ ap (bounds.stepped (office plan) k count) one
+        steps_same count (after_step plan k e) k number next.0 (lawful_stepped plan e k laws lawful) next.1
+        ∙ ap (bounds.after_steps (office plan) k count) one
 
     -- one that holds nothing, with no other in its way, comes to its end
     pub aside_idle : (e : Exchange) (k number : ℕ) (a : Attempt) → IsLawfulExchange plan e → IsAt e k number a → a.held ≡ []

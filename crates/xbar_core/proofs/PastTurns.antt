@@ -21,8 +21,8 @@ use Rattle.xbar_core.specs.AtWork.{told_of}
 use Rattle.xbar_core.specs.Ends.{ComesToEnd, is_step_of, own_steps}
 use Rattle.xbar_core.specs.Exchange.{Exchange, Marker, is_idle}
 use Rattle.xbar_core.specs.Holding.{IsAt}
-use Rattle.xbar_core.specs.Moves.{assigned, refusal, stepped, with_work}
-use Rattle.xbar_core.specs.Runs.{Assigns, BeginsAnew, GivesBack, Move, Settles, Steps, made_by, unless_refused}
+use Rattle.xbar_core.specs.Moves.{assigned, refusal, after_step, with_work}
+use Rattle.xbar_core.specs.Runs.{Assigns, BeginsAnew, GivesBack, Move, Settles, Steps, after_move, unless_refused}
 use Rattle.xbar_core.specs.declared.assign_fault.AssignFault.{AssignFault}
 use Rattle.xbar_core.proofs.Keeping.{KeepsRestarts, KeepsSteps, back_keeps, begun_keeps, settled_keeps}
 use Rattle.xbar_core.proofs.Jobs.{assigned_is, one_job, set_at, work_at}
@@ -41,14 +41,14 @@ module _ (plan : Tables) (e : Exchange) (k number turn : ℕ) (a : Attempt) (con
 
   others_held : change (office plan) a (told_of k e.words a) ≡ record a { held = held }
   others_held =
-      ap (change (office plan) a) (answer_is plan k e.words a ∙ ap (λ (next : Act). generic.answered (office plan) k next (found_by plan e.words a)) frees_first)
+      ap (change (office plan) a) (answer_is plan k e.words a ∙ ap (λ (next : Act). generic.answer_to (office plan) k next (found_by plan e.words a)) frees_first)
       ∙ ap (λ (phase : Phase). changed (office plan) a phase Done) past
       ∙ ap (operated a) none
       ∙ ap (λ (all : List Conn). record a { held = generic.rest_of all }) first
 
   -- and then it holds the others
-  frees_one : IsAt (stepped plan k e) k number (record a { held = held })
-  frees_one = subst (IsAt (stepped plan k e) k number) others_held (gone_on plan e k number a at (ap (λ (next : Act). is_rest next) frees_first))
+  frees_one : IsAt (after_step plan k e) k number (record a { held = held })
+  frees_one = subst (IsAt (after_step plan k e) k number) others_held (gone_on plan e k number a at (ap (λ (next : Act). is_rest next) frees_first))
 
 -- with nothing left, an attempt past its turn is at rest
 none_rests : (effects : List Effect) (held : List Conn) → length effects + length held ≤ 0 → closing_act effects held ≡ Rest
@@ -83,7 +83,7 @@ module _ (plan : Tables) (k number turn : ℕ) (job : Job) where
     abbrev a : Attempt
     a = has.attempt
 
-    less_by : (effects : List Effect) (held : List Conn) → a.effects ≡ effects → a.held ≡ held → HasLeft (left - 1) (stepped plan k e)
+    less_by : (effects : List Effect) (held : List Conn) → a.effects ≡ effects → a.held ≡ held → HasLeft (left - 1) (after_step plan k e)
     less_by [] [] these those =
         let none : length a.effects ≡ 0 = ap (length {A = Effect}) these in
         let bare : length a.held ≡ 0 = ap (length {A = Conn}) those in
@@ -100,15 +100,15 @@ module _ (plan : Tables) (k number turn : ℕ) (job : Job) where
         let few = has.few in
         record { attempt = record a { effects = effects }; at = (makes_one plan e k number turn a effect effects has.at has.past these).1; past = has.past; job_is = has.job_is; few = omega (arith, all, few) }
 
-    step_less : HasLeft (left - 1) (stepped plan k e)
+    step_less : HasLeft (left - 1) (after_step plan k e)
     step_less = less_by a.effects a.held refl refl
 
   -- with a step of any marker there is no more
   step_keeps : (left j : ℕ) → KeepsSteps plan (HasLeft left) j
   step_keeps left j e has = by (one_or_two k j) where
-    by : (k ≡ j) ⊎ (k ≢ j) → HasLeft left (stepped plan j e)
-    by (inl one) = subst (λ (i : ℕ). HasLeft left (stepped plan i e)) one (more_left (left - 1) left (stepped plan k e) (omega arith) (step_less left e has))
-    by (inr two) = same_left left e (stepped plan j e) (step_else plan e j k two) has
+    by : (k ≡ j) ⊎ (k ≢ j) → HasLeft left (after_step plan j e)
+    by (inl one) = subst (λ (i : ℕ). HasLeft left (after_step plan i e)) one (more_left (left - 1) left (after_step plan k e) (omega arith) (step_less left e has))
+    by (inr two) = same_left left e (after_step plan j e) (step_else plan e j k two) has
 
   -- and to begin anew changes nothing past the turn
   restart_keeps : (left j : ℕ) → KeepsRestarts plan (HasLeft left) j
@@ -152,12 +152,12 @@ module _ (plan : Tables) (k number turn : ℕ) (job : Job) where
     by (inr two) = same_left left e (assigned j n new e) (other two) has
 
   -- by a step of it there is one thing less, and by any other move no more
-  move_less : (left rest : ℕ) (e : Exchange) (move : Move) (has : HasLeft left e) → is_rest (act has.attempt) ≡ false → left ≤ cond (is_step_of k move) 1 0 + rest → HasLeft rest (made_by plan e move)
+  move_less : (left rest : ℕ) (e : Exchange) (move : Move) (has : HasLeft left e) → is_rest (act has.attempt) ≡ false → left ≤ cond (is_step_of k move) 1 0 + rest → HasLeft rest (after_move plan e move)
   move_less left rest e (Assigns j n new) has goes few = more_left left rest _ (omega arith) (assigned_keeps left e j n new has goes (refusal e j new) refl)
   move_less left rest e (Steps j) has goes few = by (j == k) refl few where
-    by : (own : Bool) → (j == k) ≡ own → left ≤ cond own 1 0 + rest → HasLeft rest (stepped plan j e)
-    by true own below = subst (λ (i : ℕ). HasLeft rest (stepped plan i e)) (sym (eqb-true j k own)) (more_left (left - 1) rest (stepped plan k e) (omega arith) (step_less left e has))
-    by false other below = more_left left rest (stepped plan j e) (omega arith) (step_keeps left j e has)
+    by : (own : Bool) → (j == k) ≡ own → left ≤ cond own 1 0 + rest → HasLeft rest (after_step plan j e)
+    by true own below = subst (λ (i : ℕ). HasLeft rest (after_step plan i e)) (sym (eqb-true j k own)) (more_left (left - 1) rest (after_step plan k e) (omega arith) (step_less left e has))
+    by false other below = more_left left rest (after_step plan j e) (omega arith) (step_keeps left j e has)
   move_less left rest e (BeginsAnew j) has goes few = more_left left rest _ (omega arith) (begun_keeps plan (HasLeft left) j (restart_keeps left j) e has)
   move_less left rest e (GivesBack j) has goes few = more_left left rest _ (omega arith) (back_keeps plan (HasLeft left) j (step_keeps left j) (restart_keeps left j) e has)
   move_less left rest e Settles has goes few = more_left left rest _ (omega arith) (settled_keeps plan (HasLeft left) (step_keeps left) (restart_keeps left) e has)
@@ -173,11 +173,11 @@ module _ (plan : Tables) (k number turn : ℕ) (job : Job) where
   comes_to_end left e (move ∷ moves) has few =
       let more = sum_by-cons (λ (m : Move). cond (is_step_of k m) 1 0) move moves in
       by (is_rest (act has.attempt)) refl
-      (λ goes. comes_to_end (own_steps k moves) (made_by plan e move) moves (move_less left (own_steps k moves) e move has goes (omega (arith, more, few))) (omega arith)) where
-        later : ComesToEnd plan (made_by plan e move) moves k number turn job → ComesToEnd plan e (move ∷ moves) k number turn job
+      (λ goes. comes_to_end (own_steps k moves) (after_move plan e move) moves (move_less left (own_steps k moves) e move has goes (omega (arith, more, few))) (omega arith)) where
+        later : ComesToEnd plan (after_move plan e move) moves k number turn job → ComesToEnd plan e (move ∷ moves) k number turn job
         later end = record { before = move ∷ end.before; later = end.later; split = ap (λ (all : List Move). move ∷ all) end.split; ended = end.ended; there = end.there; phase = end.phase; job_is = end.job_is; rests = end.rests }
 
-        by : (rest : Bool) → is_rest (act has.attempt) ≡ rest → (is_rest (act has.attempt) ≡ false → ComesToEnd plan (made_by plan e move) moves k number turn job) → ComesToEnd plan e (move ∷ moves) k number turn job
+        by : (rest : Bool) → is_rest (act has.attempt) ≡ rest → (is_rest (act has.attempt) ≡ false → ComesToEnd plan (after_move plan e move) moves k number turn job) → ComesToEnd plan e (move ∷ moves) k number turn job
         by true rests end = ended_now left e (move ∷ moves) has (rest_is (act has.attempt) rests)
         by false goes end = later (end goes)
 

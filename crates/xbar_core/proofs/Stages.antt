@@ -6,7 +6,7 @@ use Rattle.turns.proofs.Lists.{one_or_two}
 use Rattle.xbar_plan.specs.Tables.{Tables}
 use Rattle.xbar_core.specs.Ends.{EachMakes, EndsIfPast, GivesBack, IsPast, RunsToEnd, Settles}
 use Rattle.xbar_core.specs.Exchange.{Exchange, Marker, Work, is_idle}
-use Rattle.xbar_core.specs.Moves.{given_at, stepped, steps}
+use Rattle.xbar_core.specs.Moves.{given_at, after_step, steps}
 use Rattle.xbar_core.specs.Settling.{for_each}
 use Rattle.xbar_core.specs.declared.given.Given.{Given}
 use Rattle.xbar_core.specs.declared.given.Given.TheVariants as given
@@ -56,7 +56,7 @@ past_or_not e k = by (given_at e k) refl where
 
 module _ (plan : Tables) where
   -- where marker k is idle, its steps change nothing
-  step_still : (k : ℕ) (e : Exchange) → ((m : Marker) → slice_get e.markers k ≡ Some m → is_idle m.work ≡ true) → stepped plan k e ≡ e
+  step_still : (k : ℕ) (e : Exchange) → ((m : Marker) → slice_get e.markers k ≡ Some m → is_idle m.work ≡ true) → after_step plan k e ≡ e
   step_still k e idle = elim (step_cases plan e k) [
     | inl same ↦ same
     | inr made ↦ absurd (let both : ◌≡◌ {A = Bool} true false = sym (idle made.at.marker made.at.there) ∙ ap is_idle made.at.work ∙ made.goes in cc)
@@ -73,7 +73,7 @@ module _ (plan : Tables) where
   steps_more k zero more e = let none : 0 + more ≡ more = omega arith in ap (λ (n : ℕ). steps plan k n e) none
   steps_more k (suc one) more e =
       let next : suc one + more ≡ suc (one + more) = omega arith in
-      ap (λ (n : ℕ). steps plan k n e) next ∙ steps_more k one more (stepped plan k e)
+      ap (λ (n : ℕ). steps plan k n e) next ∙ steps_more k one more (after_step plan k e)
 
   -- a marker that runs to its end comes to one office, whatever the count of its steps
   run_more : (k more : ℕ) (before after : Exchange) (ends : RunsToEnd plan k before after) → after ≡ steps plan k (ends.count + more) before

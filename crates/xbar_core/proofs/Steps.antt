@@ -12,7 +12,7 @@ use Rattle.xbar_jobs.specs.OnWords.{answer_of}
 use Rattle.xbar_core.specs.AtWork.{told_of}
 use Rattle.xbar_core.specs.Exchange.{Exchange}
 use Rattle.xbar_core.specs.Holding.{IsAt}
-use Rattle.xbar_core.specs.Moves.{event_at_step, event_of, recorded, stepped}
+use Rattle.xbar_core.specs.Moves.{event_at_step, event_of, added_record, after_step}
 use Rattle.xbar_core.specs.declared.event.Event.{Event}
 use Rattle.xbar_core.specs.declared.event.Event.TheVariants as event
 use Rattle.xbar_core.proofs.Jobs.{at_job_has}
@@ -20,13 +20,13 @@ use Rattle.xbar_core.proofs.StepCases.{made_if, step_at}
 
 module _ (plan : Tables) (e : Exchange) (k number : ℕ) (a : Attempt) (at : IsAt e k number a) where
   -- at rest nothing is recorded
-  rest_adds : act a ≡ Rest → recorded k number a (told_of k e.words a) ≡ []
-  rest_adds idle = ap (λ next. recorded k number a (answer_of k (step_of next) e.words)) idle
+  rest_adds : act a ≡ Rest → added_record k number a (told_of k e.words a) ≡ []
+  rest_adds idle = ap (λ next. added_record k number a (answer_of k (step_of next) e.words)) idle
 
   -- a step adds the record of its turn, if it is one
-  pub step_adds : (stepped plan k e).records ≡ e.records ++ recorded k number a (told_of k e.words a)
+  pub step_adds : (after_step plan k e).records ≡ e.records ++ added_record k number a (told_of k e.words a)
   step_adds = ap (λ (after : Exchange). after.records) (step_at plan e k number a at) ∙ by (is_rest (act a)) refl where
-    by : (idle : Bool) → is_rest (act a) ≡ idle → (made_if plan e k idle at.marker number a).records ≡ e.records ++ recorded k number a (told_of k e.words a)
+    by : (idle : Bool) → is_rest (act a) ≡ idle → (made_if plan e k idle at.marker number a).records ≡ e.records ++ added_record k number a (told_of k e.words a)
     by true idle = sym (ap (λ (more : List Record). e.records ++ more) (rest_adds (rest_is (act a) idle)) ∙ append-nil e.records)
     by false idle = refl
 

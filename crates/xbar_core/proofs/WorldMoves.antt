@@ -18,7 +18,7 @@ use Rattle.xbar_jobs.specs.Office.{office}
 use Rattle.xbar_jobs.specs.declared.effect.Effect.{Effect}
 use Rattle.xbar_core.specs.Exchange.{Exchange, IsLawfulExchange, Marker, Work, is_idle, turned, world}
 use Rattle.xbar_core.specs.Holding.{IsAt}
-use Rattle.xbar_core.specs.Moves.{assigned, begun_anew, stepped}
+use Rattle.xbar_core.specs.Moves.{assigned, begun_anew, after_step}
 use Rattle.xbar_core.proofs.Actors.{actor_at}
 use Rattle.xbar_core.proofs.Jobs.{begun_at}
 use Rattle.xbar_core.proofs.Markers.{marker_same, works, works_set}
@@ -67,9 +67,9 @@ module _ (plan : Tables) (e : Exchange) (k number : ℕ) (a : Attempt) (at : IsA
   rest_moves gives (Operates turn) is rests = let left = none_left a.effects a.held rests in rested turn is left.0 left.1
 
   -- a step is that step of its world
-  pub steps_in_world : HasToGive a → world plan (stepped plan k e) ≡ moved (office plan) k number a (world plan e)
+  pub steps_in_world : HasToGive a → world plan (after_step plan k e) ≡ moved (office plan) k number a (world plan e)
   steps_in_world gives = by (is_rest (act a)) refl where
-    by : (rest : Bool) → is_rest (act a) ≡ rest → world plan (stepped plan k e) ≡ moved (office plan) k number a (world plan e)
+    by : (rest : Bool) → is_rest (act a) ≡ rest → world plan (after_step plan k e) ≡ moved (office plan) k number a (world plan e)
     by true rests = ap (world plan) (step_idle plan e k at.marker at.there (ap is_idle at.work ∙ rests)) ∙ sym (rest_moves gives a.phase refl rests)
     by false goes = ap (world plan) (step_made plan e k number a at goes) ∙ sym (moved_is plan e k number at.marker a)
 

@@ -11,7 +11,7 @@ use Rattle.xbar_office.specs.declared.reply.Record.{Record}
 use Rattle.xbar_jobs.specs.Attempt.{Attempt, next_step}
 use Rattle.xbar_jobs.specs.Jobs.{first_conn}
 use Rattle.xbar_jobs.specs.Office.{office}
-use Rattle.xbar_jobs.specs.OnWords.{answer_of, made}
+use Rattle.xbar_jobs.specs.OnWords.{answer_of, words_after}
 use Rattle.xbar_core.specs.Exchange.{Exchange, Marker, Work, at_marker, is_idle, on_job}
 use Rattle.xbar_core.specs.Kinds.{takes}
 use Rattle.xbar_core.specs.declared.assign_fault.AssignFault.{AssignFault}
@@ -47,31 +47,31 @@ record_of turn k number a =
     a.reply)
 
 -- the record that an answer adds: none but by a turn
-abbrev pub recorded : ℕ → ℕ → Attempt → Answer → List Record
-recorded k number a (answer.Turn turn) = record_of turn k number a
-recorded k number a _ = []
+abbrev pub added_record : ℕ → ℕ → Attempt → Answer → List Record
+added_record k number a (answer.Turn turn) = record_of turn k number a
+added_record k number a _ = []
 
 -- marker k made the next step of its attempt, which was answered so: its word is what the step
 -- makes of it, the attempt goes on by the answer, and a turn adds its record
-abbrev pub answered : Tables → ℕ → Marker → ℕ → Attempt → Answer → Exchange → Exchange
-answered plan k m number a told e = record {
-  words = made k (next_step a) e.words;
+abbrev pub after_answer : Tables → ℕ → Marker → ℕ → Attempt → Answer → Exchange → Exchange
+after_answer plan k m number a told e = record {
+  words = words_after k (next_step a) e.words;
   markers = slice_set e.markers k (record m { work = Does number (change (office plan) a told) });
-  records = e.records ++ recorded k number a told;
+  records = e.records ++ added_record k number a told;
 }
 
 -- marker k makes its next step; an idle one makes none
-unfoldable pub stepped : Tables → ℕ → Exchange → Exchange
-stepped plan k e =
+unfoldable pub after_step : Tables → ℕ → Exchange → Exchange
+after_step plan k e =
     at_marker e (λ m. on_job e (λ number a.
     if is_rest (act a) then e
-    else answered plan k m number a (answer_of k (next_step a) e.words) e) m.work)
+    else after_answer plan k m number a (answer_of k (next_step a) e.words) e) m.work)
     (slice_get e.markers k)
 
 -- so many steps of it
 unfoldable pub steps : Tables → ℕ → ℕ → Exchange → Exchange
 steps plan k zero e = e
-steps plan k (suc count) e = steps plan k count (stepped plan k e)
+steps plan k (suc count) e = steps plan k count (after_step plan k e)
 
 -- the record of a job, once it has turned
 abbrev pub own_record : ℕ → ℕ → Attempt → List Record

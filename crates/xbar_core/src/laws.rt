@@ -31,11 +31,11 @@ ghost use Rattle.xbar_jobs.specs.OnWords.{answer_of, step_word};
 ghost use Rattle.xbar_jobs.specs.Opening.{ReleasesJust};
 ghost use Rattle.xbar_jobs.specs.declared.effect.Effect.{Effect};
 ghost use Rattle.xbar_core.specs.Ends.{ComesToEnd, Settles, own_steps};
-ghost use Rattle.xbar_core.specs.Exchange.{Exchange, IsLawfulExchange, Marker, is_idle, opened, world};
+ghost use Rattle.xbar_core.specs.Exchange.{Exchange, IsLawfulExchange, Marker, is_idle, fresh_exchange, world};
 ghost use Rattle.xbar_core.specs.Holding.{AsksFor, HasRequested, Holds, IsAt, TellsTruth, completed};
 ghost use Rattle.xbar_core.specs.Links.{BelongsTo, IsAtLink, IsClosed, IsPastTurn, OpensItsOwn};
-ghost use Rattle.xbar_core.specs.Moves.{assigned, begun_anew, event_at_step, given_at, given_back, recorded, refusal, stepped};
-ghost use Rattle.xbar_core.specs.Runs.{AreMoves, Move, made_by, run_from, run_of};
+ghost use Rattle.xbar_core.specs.Moves.{assigned, begun_anew, event_at_step, given_at, given_back, added_record, refusal, after_step};
+ghost use Rattle.xbar_core.specs.Runs.{AreMoves, Move, after_move, run_from, run_of};
 ghost use Rattle.xbar_core.specs.Settling.{settled};
 ghost use Rattle.xbar_core.specs.declared.event.Event.{Event};
 ghost use Rattle.xbar_core.specs.declared.given.Given.{Given};
@@ -45,12 +45,12 @@ ghost use Rattle.xbar_core.specs.declared.kind.Kind.{Kind};
 /// and each settling keeps it so. A step adds the record of its turn, if it is one, at the end.
 pub fn every_move_keeps_the_law()
     ensures opens { (plan : Tables) (kinds : List Kind) → IsLawful plan → length kinds ≤ 48 →
-        IsLawfulExchange plan (opened kinds) }
+        IsLawfulExchange plan (fresh_exchange kinds) }
     ensures assigns { (plan : Tables) (e : Exchange) (k number : ℕ) (job : Job) →
         IsLawful plan → IsLawfulExchange plan e → IsJob job → refusal e k job ≡ None →
         IsLawfulExchange plan (assigned k number job e) }
     ensures steps { (plan : Tables) (e : Exchange) (k : ℕ) →
-        IsLawful plan → IsLawfulExchange plan e → IsLawfulExchange plan (stepped plan k e) }
+        IsLawful plan → IsLawfulExchange plan e → IsLawfulExchange plan (after_step plan k e) }
     ensures begins_anew { (plan : Tables) (e : Exchange) (k : ℕ) →
         IsLawful plan → IsLawfulExchange plan e → IsLawfulExchange plan (begun_anew plan k e) }
     ensures gives_back { (plan : Tables) (e : Exchange) (k : ℕ) →
@@ -58,8 +58,8 @@ pub fn every_move_keeps_the_law()
     ensures settles { (plan : Tables) (e : Exchange) → IsLawful plan → IsLawfulExchange plan e →
         IsLawfulExchange plan (settled plan e) }
     ensures adds { (plan : Tables) (e : Exchange) (k number : ℕ) (a : Attempt) → IsAt e k number a →
-        (stepped plan k e).records
-        ≡ e.records ++ recorded k number a (answer_of k (next_step a) e.words) }
+        (after_step plan k e).records
+        ≡ e.records ++ added_record k number a (answer_of k (next_step a) e.words) }
 {}
 
 /// Whatever moves any markers make, in whatever order, the office that they come to is lawful.
@@ -102,21 +102,24 @@ pub fn connectors_tell_the_truth()
 {}
 
 /// A protected word is tested or changed by the holder of its connector alone. What a marker has read
-/// before its turn is still what the words have.
+/// before its turn is still what the words have. A step that frees a connector changes none.
 pub fn words_are_their_holders()
     ensures alone { (plan : Tables) (e : Exchange) (k number : ℕ) (a : Attempt) (conn : Conn) →
         IsLawfulExchange plan e → IsAt e k number a → Protects conn (step_word (next_step a)) →
         IsIn conn a.held }
     ensures spared { (plan : Tables) (e : Exchange) (k n : ℕ) (conn : Conn) →
         IsLawfulExchange plan e → Protects conn n → ¬ Holds e k conn →
-        slice_index (stepped plan k e).words n ≡ slice_index e.words n }
+        slice_index (after_step plan k e).words n ≡ slice_index e.words n }
     ensures read { (plan : Tables) (e : Exchange) (k number : ℕ) (a : Attempt) (r : Reading ℕ) →
         IsLawfulExchange plan e → IsAt e k number a → IsIn r (read_in a.phase a.readings) →
         slice_index e.words r.word ≡ r.value }
+    ensures frees { (plan : Tables) (e : Exchange) (k number n : ℕ) (a : Attempt) (conn : Conn)
+        → IsAt e k number a → act a ≡ Free conn → n < 416
+        → slice_index (after_step plan k e).words n ≡ slice_index e.words n }
 {}
 
 /// No connector is requested or seized past the turn, and no effect comes before it. A marker keeps each
-/// connector that it has seized until it frees it, past its turn only once no effect is left.
+/// connector that it has seized until it frees it: in giving back, or past its turn once no effect is left.
 pub fn attempts_keep_their_order()
     ensures seizes { (a : Attempt) (turn : ℕ) → a.phase ≡ Phase.Operates turn →
         ¬ IsSeizing (act a) }
@@ -124,8 +127,9 @@ pub fn attempts_keep_their_order()
         (turn : ℕ) × (a.phase ≡ Phase.Operates turn) }
     ensures keeps { (plan : Tables) (a : Attempt) (answer : Answer) (conn : Conn) →
         IsIn conn a.held → act a ≢ Free conn → IsIn conn (change (office plan) a answer).held }
-    ensures frees { (a : Attempt) (turn : ℕ) (conn : Conn) →
-        a.phase ≡ Phase.Operates turn → act a ≡ Free conn → a.effects ≡ [] }
+    ensures frees { (a : Attempt) (conn : Conn) → act a ≡ Free conn
+        → (a.phase ≡ Phase.GivesBack)
+        ⊎ ((turn : ℕ) × (a.phase ≡ Phase.Operates turn) × (a.effects ≡ [])) }
 {}
 
 /// A job past its turn has its record in the order, with its turn, marker, number, job and reply, whether it
@@ -136,15 +140,15 @@ pub fn turned_jobs_are_recorded()
         (place : ℕ) × IsPastTurn e k place a }
     ensures place { (plan : Tables) (e : Exchange) (k : ℕ) (r : Record) → IsLawfulExchange plan e →
         length e.records < 2 ^ 64 → event_at_step plan k e ≡ Event.Finished r →
-        slice_get (stepped plan k e).records r.turn ≡ Some r }
+        slice_get (after_step plan k e).records r.turn ≡ Some r }
     ensures job { (plan : Tables) (e : Exchange) (k number : ℕ) (a : Attempt) (r : Record) →
         IsAt e k number a → event_at_step plan k e ≡ Event.Finished r →
         (r.marker ≡ k) × (r.job_no ≡ number) × (r.job ≡ a.job) }
 {}
 
 /// A marker that gives back, as it may up to its turn, holds no connector afterwards and has no request
-/// standing. Whether it does or not, it still has its job, under its number, and no record, no other marker
-/// and no protected word changes.
+/// standing, and is at its job's very beginning. Whether it does or not, it still has its job, under its
+/// number, and no record, no other marker and no protected word changes.
 pub fn giving_back_frees_all()
     ensures free { (plan : Tables) (e : Exchange) (k : ℕ) (conn : Conn) →
         given_at e k ≡ Given.Given →
@@ -157,10 +161,13 @@ pub fn giving_back_frees_all()
         slice_get (given_back plan k e).markers j ≡ slice_get e.markers j }
     ensures words { (plan : Tables) (e : Exchange) (k n : ℕ) → n < 416 →
         slice_index (given_back plan k e).words n ≡ slice_index e.words n }
+    ensures begins { (plan : Tables) (e : Exchange) (k number : ℕ) (a : Attempt)
+        → given_at e k ≡ Given.Given → IsAt e k number a
+        → IsAt (given_back plan k e) k number (begin_with (first_conn a.job) a.job) }
 {}
 
 /// A marker is refused a connector that another holds, the one that is named; and another is preferred
-/// that has a lower number and has requested the connector, which nobody holds.
+/// that has a lower number and has requested the connector, which nobody holds: of those the lowest.
 pub fn events_tell_the_truth()
     ensures refused { (plan : Tables) (e : Exchange) (k holder : ℕ) (conn : Conn) →
         IsLawfulExchange plan e → event_at_step plan k e ≡ Event.Refused conn holder →
@@ -169,6 +176,9 @@ pub fn events_tell_the_truth()
         IsLawfulExchange plan e → event_at_step plan k e ≡ Event.Preferred other →
         (conn : Conn) × AsksFor e k conn × (other < k)
         × HasRequested e other conn × ((j : ℕ) → ¬ Holds e j conn) }
+    ensures least { (plan : Tables) (e : Exchange) (k other : ℕ) → IsLawfulExchange plan e
+        → event_at_step plan k e ≡ Event.Preferred other
+        → (conn : Conn) → AsksFor e k conn → (j : ℕ) → j < other → ¬ HasRequested e j conn }
 {}
 
 /// No link ever carries two calls. At each moment, half-done jobs included, each closed crosspoint belongs
@@ -196,8 +206,8 @@ pub fn a_release_opens_its_own_crosspoints()
     ensures each { (plan : Tables) (e : Exchange) (k number turn : ℕ) (a : Attempt)
         (effect : Effect) (effects : List Effect) →
         IsAt e k number a → a.phase ≡ Phase.Operates turn → a.effects ≡ effect ∷ effects →
-        ((stepped plan k e).words ≡ perform_all (office plan) e.words (effect ∷ []))
-        × IsAt (stepped plan k e) k number (record a { effects = effects }) }
+        ((after_step plan k e).words ≡ perform_all (office plan) e.words (effect ∷ []))
+        × IsAt (after_step plan k e) k number (record a { effects = effects }) }
     ensures left { (plan : Tables) (e : Exchange) (k number turn : ℕ) (a : Attempt)
         (line : Line) (own : Path) (other : Option Path) (cards : List Card) →
         IsLawful plan → IsLawfulExchange plan e →
@@ -209,7 +219,7 @@ pub fn a_release_opens_its_own_crosspoints()
 /// Whatever moves are made, the records before them begin the records after them.
 pub fn records_only_grow()
     ensures moved { (plan : Tables) (e : Exchange) (move : Move)
-        → (later : List Record) × ((made_by plan e move).records ≡ e.records ++ later) }
+        → (later : List Record) × ((after_move plan e move).records ≡ e.records ++ later) }
     ensures run { (plan : Tables) (e : Exchange) (moves : List Move)
         → (later : List Record) × ((run_from plan e moves).records ≡ e.records ++ later) }
 {}
@@ -244,7 +254,7 @@ pub fn settling_ends_all_jobs()
 pub fn moves_are_those_of_its_world()
     ensures steps { (plan : Tables) (e : Exchange) (k number : ℕ) (a : Attempt) → IsAt e k number a
         → (a.phase ≡ Phase.GivesBack → a.held ≢ [])
-        → world plan (stepped plan k e) ≡ worlds.moved (office plan) k number a (world plan e) }
+        → world plan (after_step plan k e) ≡ worlds.moved (office plan) k number a (world plan e) }
     ensures holds { (plan : Tables) (e : Exchange) (k number : ℕ) (a : Attempt)
         → IsLawfulExchange plan e → IsAt e k number a → a.phase ≡ Phase.GivesBack → a.held ≢ [] }
     ensures begins_anew { (plan : Tables) (e : Exchange) (k number : ℕ) (a : Attempt)
@@ -253,32 +263,4 @@ pub fn moves_are_those_of_its_world()
     ensures assigns { (plan : Tables) (e : Exchange) (k number : ℕ) (job : Job)
         → world plan (assigned k number job e)
         ≡ worlds.assigned (office plan) k number job (world plan e) }
-{}
-
-/// A connector is freed in giving back, or past the turn once no effect is left.
-pub fn more_of_attempts_keep_their_order()
-    ensures frees { (a : Attempt) (conn : Conn) → act a ≡ Free conn
-        → (a.phase ≡ Phase.GivesBack)
-        ⊎ ((turn : ℕ) × (a.phase ≡ Phase.Operates turn) × (a.effects ≡ [])) }
-{}
-
-/// A step that frees a connector changes no protected word.
-pub fn more_of_words_are_their_holders()
-    ensures frees { (plan : Tables) (e : Exchange) (k number n : ℕ) (a : Attempt) (conn : Conn)
-        → IsAt e k number a → act a ≡ Free conn → n < 416
-        → slice_index (stepped plan k e).words n ≡ slice_index e.words n }
-{}
-
-/// A marker that gives back is at its job's very beginning.
-pub fn more_of_giving_back_frees_all()
-    ensures begins { (plan : Tables) (e : Exchange) (k number : ℕ) (a : Attempt)
-        → given_at e k ≡ Given.Given → IsAt e k number a
-        → IsAt (given_back plan k e) k number (begin_with (first_conn a.job) a.job) }
-{}
-
-/// The marker that is preferred has the lowest number of those that have requested the connector.
-pub fn more_of_events_tell_the_truth()
-    ensures least { (plan : Tables) (e : Exchange) (k other : ℕ) → IsLawfulExchange plan e
-        → event_at_step plan k e ≡ Event.Preferred other
-        → (conn : Conn) → AsksFor e k conn → (j : ℕ) → j < other → ¬ HasRequested e j conn }
 {}

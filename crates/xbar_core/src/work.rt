@@ -7,10 +7,10 @@ ghost use Rattle.xbar_office.specs.Legal.{IsJob};
 ghost use Rattle.xbar_plan.specs.Tables.{Tables};
 ghost use Rattle.xbar_jobs.specs.Attempt.{Attempt, counted, fresh, next_step, with_count};
 ghost use Rattle.xbar_jobs.specs.Office.{office};
-ghost use Rattle.xbar_jobs.specs.OnWords.{made};
+ghost use Rattle.xbar_jobs.specs.OnWords.{words_after};
 ghost use Rattle.xbar_jobs.specs.Standing.{Stands};
 ghost use Rattle.xbar_core.specs.AtWork.{conn_asked, gives_up, told_of};
-ghost use Rattle.xbar_core.specs.Moves.{event_of, own_record, recorded, refused_by};
+ghost use Rattle.xbar_core.specs.Moves.{event_of, own_record, added_record, refused_by};
 ghost use Rattle.xbar_core.specs.Standing.{waits_in};
 
 use crate::event::Event;
@@ -114,10 +114,10 @@ impl Work {
         requires turned { (turn : ℕ) → answer ≡ Answer.Turn turn →
             self.now.program.attempt.phase ≡ Phase.Operates turn }
         requires room { length records.old.items
-            + length (recorded marker self.now.job_no self.now.program.attempt answer)
+            + length (added_record marker self.now.job_no self.now.program.attempt answer)
             ≤ vec_capacity records.old }
         ensures records { records.new.items
-            ≡ records.old.items ++ recorded marker self.now.job_no self.now.program.attempt answer }
+            ≡ records.old.items ++ added_record marker self.now.job_no self.now.program.attempt answer }
         ensures room { vec_capacity records.old ≤ vec_capacity records.new }
     {
         if let Answer::Turn(_) = answer {
@@ -172,9 +172,9 @@ impl Work {
               (change (office plan.now) self.old.program.attempt
               (told_of marker words.old self.old.program.attempt));
         } }
-        ensures words { words.new ≡ made marker (next_step self.old.program.attempt) words.old }
+        ensures words { words.new ≡ words_after marker (next_step self.old.program.attempt) words.old }
         ensures records { records.new.items ≡ records.old.items
-            ++ recorded marker self.old.job_no self.old.program.attempt
+            ++ added_record marker self.old.job_no self.old.program.attempt
             (told_of marker words.old self.old.program.attempt) }
         ensures room { vec_capacity records.old ≤ vec_capacity records.new }
         ensures event { result ≡ event_of marker self.old.job_no self.old.program.attempt

@@ -15,7 +15,7 @@ use Rattle.xbar_switch.proofs.Fields.{above_fields-close_bits}
 use Rattle.xbar_match.specs.Switches.{shape_at}
 use Rattle.xbar_match.proofs.OneCrosspoint.{no_more-lt}
 use Rattle.xbar_plan.specs.Tables.{Tables}
-use Rattle.xbar_jobs.specs.Closing.{leave_effects, made, operation_of, other_opens, path_opens}
+use Rattle.xbar_jobs.specs.Closing.{leave_effects, value_after, operation_of, other_opens, path_opens}
 use Rattle.xbar_jobs.specs.Keeping.{IsCovered, IsEffect}
 use Rattle.xbar_jobs.specs.Office.{office}
 use Rattle.xbar_jobs.specs.declared.decision.Decision.{Decision}
@@ -68,5 +68,5 @@ module _ (plan : Tables) (leave : Leave) where
     after (inr last) = bit last
 
   -- and what that leaves of words is words
-  pub leave_words : MakesWords (made (leave_effects leave))
+  pub leave_words : MakesWords (value_after (leave_effects leave))
   leave_words = made_below (office plan) (leave_effects leave) leave_fits

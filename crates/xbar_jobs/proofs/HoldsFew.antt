@@ -3,7 +3,7 @@ use Rattle.std.proofs.Common.{◌≡◌, ℕ, ◌-◌, ◌<◌, ◌≤◌, Bool,
 use Rattle.std.specs.Prelude.{Option, Some, None, Result, Ok, Err}
 use Rattle.turns.specs.Seen.{AreReadWords}
 use Rattle.turns.specs.Attempt.{StandsIn, begin_with, change, changed, come_to, forgotten, freed, goes_on, operated, rest_of, restarted, restarted_in, seen_of}
-use Rattle.turns.specs.Script.{Ends, Tests, Seizes, first_wanted, is_held, left, left_of_test, left_of_seizing, value_read, walk}
+use Rattle.turns.specs.Script.{Ends, TestThen, SeizeThen, first_wanted, is_held, left, left_of_test, left_of_seizing, value_read, walk}
 use Rattle.turns.specs.declared.answer.Answer.{Answer}
 use Rattle.turns.specs.declared.answer.Answer.TheVariants.{Asked, Seized, Held, Preferred, Again, Value, Turn, Done}
 use Rattle.turns.specs.declared.phase.Phase.TheVariants as phases
@@ -40,12 +40,12 @@ others_left : {A : Type 0} (seen : Seen) (most : ℕ) (script : Script A) → Se
     → SeizesOthers most (left conn_eq seen script)
 unfolding left SeizesOthers left_of_test left_of_seizing
 others_left seen most (Ends found) seizes = tt
-others_left {A} seen most (Tests word script) seizes = at (value_read seen.readings word) (λ value. others_left seen most (script value) (seizes value)) where
+others_left {A} seen most (TestThen word script) seizes = at (value_read seen.readings word) (λ value. others_left seen most (script value) (seizes value)) where
   at : (o : Option ℕ) → ((value : ℕ) → SeizesOthers most (left conn_eq seen (script value)))
       → SeizesOthers most (left_of_test script (λ value. left conn_eq seen (script value)) word o)
   at None later = seizes
   at (Some value) later = later value
-others_left {A} seen most (Seizes conn script) (one, seizes) = at (is_held conn_eq seen.held conn) (others_left seen (most - others conn) script seizes) where
+others_left {A} seen most (SeizeThen conn script) (one, seizes) = at (is_held conn_eq seen.held conn) (others_left seen (most - others conn) script seizes) where
   at : (b : Bool) → SeizesOthers (most - others conn) (left conn_eq seen script)
       → SeizesOthers most (left_of_seizing script (left conn_eq seen script) conn b)
   at false later = (one, seizes)
@@ -66,15 +66,15 @@ others_seized : {A : Type 0} (seen more : Seen) (conn : Conn) (most : ℕ) (scri
     → (others conn ≤ most) × SeizesOthers (most - others conn) (left conn_eq more script)
 unfolding first_wanted SeizesOthers left left_of_seizing
 others_seized {A} seen more conn most script (Ends found) grows own is wants seizes = absurd cc
-others_seized {A} seen more conn most script (Tests word rest) grows own is wants seizes = absurd cc
-others_seized {A} seen more conn most script (Seizes other rest) grows own is wants (one, seizes) =
+others_seized {A} seen more conn most script (TestThen word rest) grows own is wants seizes = absurd cc
+others_seized {A} seen more conn most script (SeizeThen other rest) grows own is wants (one, seizes) =
     let same : other ≡ conn = cc in
     let now : left conn_eq more script ≡ left conn_eq more rest = left_again conn_eq conn_eq-itself seen more script grows ∙ ap (left conn_eq more) is ∙ at same in (
       subst (λ (c : Conn). others c ≤ most) same one,
       subst (λ (s : Script A). SeizesOthers (most - others conn) s) (sym now)
           (others_left more (most - others conn) rest (subst (λ (c : Conn). SeizesOthers (most - others c) rest) same seizes)),
     ) where
-      at : other ≡ conn → left conn_eq more (Seizes other rest) ≡ left conn_eq more rest
+      at : other ≡ conn → left conn_eq more (SeizeThen other rest) ≡ left conn_eq more rest
       at same = rw (ap (is_held conn_eq more.held) same ∙ own) refl
 
 module _ (plan : Tables) where

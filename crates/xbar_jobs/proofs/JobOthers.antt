@@ -15,7 +15,7 @@ use Rattle.xbar_office.specs.Trunks.{leads_inside}
 use Rattle.xbar_office.specs.declared.aim.Aim.TheVariants.{Connected, DialTone}
 use Rattle.xbar_office.specs.declared.job.Job.{Job}
 use Rattle.xbar_office.specs.declared.job.Job.TheVariants.{Dial, Complete, Release}
-use Rattle.xbar_jobs.specs.Closing.{leave_effects, leave_of, leaving, made}
+use Rattle.xbar_jobs.specs.Closing.{leave_effects, leave_of, leaving, value_after}
 use Rattle.xbar_jobs.specs.Completing.{call, call_by, call_from, call_line, call_number, call_without, complete_from, complete_steps, hunt, register_at, unless_busy, unless_calling}
 use Rattle.xbar_jobs.specs.Connecting.{alone}
 use Rattle.xbar_jobs.specs.Jobs.{dial_steps, script, serve_idle_line}
@@ -137,7 +137,7 @@ module _ (plan : Tables) (laws : IsLawful plan) where
       let made_call : Script Decision = as_if_made (leave_effects leave) (call plan after dialled groups) in (
         omega arith,
         others_bind 6 0 6 made_call (λ decision. Ends (leaving leave decision)) refl
-            (others_read_with (made (leave_effects leave)) 6 _ (call_seizes after dialled groups (route_few plan laws (code_of dialled)))) (λ decision. tt),
+            (others_read_with (value_after (leave_effects leave)) 6 _ (call_seizes after dialled groups (route_few plan laws (code_of dialled)))) (λ decision. tt),
       )
 
   from_seizes : (calling : Party) (dialled : ℕ) (own : Path) (found : Option MemberPlace)

@@ -2,7 +2,7 @@
 use Rattle.std.proofs.Common.{◌≡◌, ℕ, zero, suc, ◌+◌, ◌-◌, ◌≤◌, List, [], ◌∷◌, length, refl, arith}
 use Rattle.std.specs.Prelude.{Option, Some, None, slice_get}
 use Rattle.std.specs.Option.{option_map_or}
-use Rattle.turns.specs.Script.{Ends, Tests, Seizes, ◌>>=◌, read_with}
+use Rattle.turns.specs.Script.{Ends, TestThen, SeizeThen, ◌>>=◌, read_with}
 use Rattle.xbar_equip.specs.Ten.{TrunkPlace}
 use Rattle.xbar_plan.specs.Tables.{Tables}
 use Rattle.xbar_plan.specs.declared.group.Member.{Member}
@@ -26,8 +26,8 @@ pub others_more : {A : Type 0} (few most : ℕ) (script : Script A) → few ≤ 
     → SeizesOthers few script → SeizesOthers most script
 unfolding SeizesOthers
 others_more few most (Ends found) fewer seizes = tt
-others_more few most (Tests word script) fewer seizes = λ value. others_more few most (script value) fewer (seizes value)
-others_more few most (Seizes conn script) fewer (one, seizes) =
+others_more few most (TestThen word script) fewer seizes = λ value. others_more few most (script value) fewer (seizes value)
+others_more few most (SeizeThen conn script) fewer (one, seizes) =
     (omega (arith, one), others_more (few - others conn) (most - others conn) script (omega (arith, one)) seizes)
 
 -- one after another seizes no more than both together
@@ -36,8 +36,8 @@ pub others_bind : {A B : Type 0} (few more all : ℕ) (script : Script A) (next 
     → SeizesOthers all (script >>= next)
 unfolding SeizesOthers ◌>>=◌
 others_bind few more all (Ends found) next sum seizes later = others_more more all (next found) (omega arith) (later found)
-others_bind few more all (Tests word script) next sum seizes later = λ value. others_bind few more all (script value) next sum (seizes value) later
-others_bind few more all (Seizes conn script) next sum (one, seizes) later =
+others_bind few more all (TestThen word script) next sum seizes later = λ value. others_bind few more all (script value) next sum (seizes value) later
+others_bind few more all (SeizeThen conn script) next sum (one, seizes) later =
     (omega (arith, one), others_bind (few - others conn) more (all - others conn) script next (omega (arith, one)) seizes later)
 
 -- words that are read as something makes them change nothing of it
@@ -45,8 +45,8 @@ pub others_read_with : {A : Type 0} (change : ℕ → ℕ → ℕ) (most : ℕ) 
     → SeizesOthers most script → SeizesOthers most (read_with change script)
 unfolding SeizesOthers read_with
 others_read_with change most (Ends found) seizes = tt
-others_read_with change most (Tests word script) seizes = λ value. others_read_with change most (script (change word value)) (seizes (change word value))
-others_read_with change most (Seizes conn script) (one, seizes) = (one, others_read_with change (most - others conn) script seizes)
+others_read_with change most (TestThen word script) seizes = λ value. others_read_with change most (script (change word value)) (seizes (change word value))
+others_read_with change most (SeizeThen conn script) (one, seizes) = (one, others_read_with change (most - others conn) script seizes)
 
 -- to test the line junctor switches of both sides seizes nothing
 junctors_seize : (frame channel count : ℕ) → SeizesOthers 0 (test_junctors frame channel count)

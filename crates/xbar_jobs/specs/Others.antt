@@ -1,5 +1,5 @@
 use Rattle.std.specs.Prelude.{ℕ, ◌+◌, ◌-◌, ◌≤◌, List, [], ◌∷◌, ⊤}
-use Rattle.turns.specs.Script.{Ends, Tests, Seizes}
+use Rattle.turns.specs.Script.{Ends, TestThen, SeizeThen}
 use Rattle.xbar_equip.specs.declared.conn.Conn.{Conn}
 use Rattle.xbar_equip.specs.declared.conn.Conn.TheVariants.{Llf, Tlf, Group}
 use Rattle.xbar_jobs.specs.Script.{Script}
@@ -18,6 +18,6 @@ others_in (conn ∷ conns) = others conn + others_in conns
 -- whatever is read, a script has no more seizings than these of connectors besides line link frames
 unfoldable pub SeizesOthers : {A : Type 0} → ℕ → Script A → Type 0
 SeizesOthers most (Ends found) = ⊤
-SeizesOthers most (Tests word script) = (value : ℕ) → SeizesOthers most (script value)
-SeizesOthers most (Seizes conn script) =
+SeizesOthers most (TestThen word script) = (value : ℕ) → SeizesOthers most (script value)
+SeizesOthers most (SeizeThen conn script) =
     (others conn ≤ most) × SeizesOthers (most - others conn) script

@@ -112,7 +112,7 @@ fn call_without(
     requires index { leave.index < 40 }
     ensures { result ≡ walk gathered.now (call_without_script plan.now calling.now dialled leave) }
 {
-    Seen::new(gathered).seize(Conn::Group(leave.group))?;
+    Seen::new(gathered).require_held(Conn::Group(leave.group))?;
     let mut effects = Effects::new();
     leave.add_effects(&mut effects);
     let effects = effects.as_slice();

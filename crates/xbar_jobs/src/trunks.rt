@@ -94,8 +94,8 @@ pub fn find_trunk(plan: &Plan, seen: &Seen, groups: &[u8]) -> Result<Option<Idle
     xbar_plan::laws::groups_have_members();
     for group in groups {
         let group = *group;
-        seen.seize(Conn::Group(group))?;
-        let word = seen.test(group_word(group))?;
+        seen.require_held(Conn::Group(group))?;
+        let word = seen.value_of(group_word(group))?;
         let trunks = trunks_of(plan, group, word);
         if let Some(first) = first_clear(word, trunks.members.len()) {
             return Ok(Some(IdleGroup {

@@ -1,5 +1,6 @@
 use Rattle.xbar_core.proofs.Actors.{actor_at}
 use Rattle.xbar_core.proofs.HeldWords.{holds_alone, spares_held}
+use Rattle.xbar_core.proofs.FreedConnectors.{free_spares}
 use Rattle.xbar_core.proofs.laws.words_are_their_holders.Goals as goal
 
 pub returns-clause-alone : goal.returns-clause-alone
@@ -10,3 +11,6 @@ returns-clause-spared c = λ plan e k n conn lawful protects free. spares_held p
 
 pub returns-clause-read : goal.returns-clause-read
 returns-clause-read c = λ plan e k number a r lawful at within. ((lawful.sound k number a (actor_at e k number a at)).read r within).value
+
+pub returns-clause-frees : goal.returns-clause-frees
+returns-clause-frees c = free_spares

@@ -2,7 +2,7 @@ use Rattle.std.proofs.Common.{◌≡◌, rules, Some, None, Ok, Err, sym, ap, �
 use Rattle.turns.specs.Script.{value_read}
 use Rattle.turns.specs.declared.wanted.Wanted.TheVariants.{Test}
 use Rattle.xbar_jobs.proofs.SeenTests.{test_read, test_unread}
-use Rattle.xbar_jobs.proofs.seen.Seen.test.Goals as goal
+use Rattle.xbar_jobs.proofs.seen.Seen.value_of.Goals as goal
 
 pub returns-in_err-value : goal.returns-in_err-value
 returns-in_err-value c =
