@@ -60,3 +60,15 @@ fn check_replay(
     assert_eq!(rt; (text, status), wanted);
     Ok(())
 }
+
+/// A replay of this traffic by two markers ends well, and writes this text.
+fn check_done(
+    rt: &impl Abort,
+    alloc: Global,
+    plan: &str,
+    traffic: &str,
+    text: &str,
+) -> Result<(), Fail> {
+    let wanted = (text, Status::Fine);
+    check_replay(rt, alloc, plan, &TWO, traffic.as_bytes(), wanted)
+}
