@@ -34,6 +34,22 @@ use Rattle.xbar_core.proofs.MadeEffects.{made_show}
 use Rattle.xbar_core.proofs.StepCases.{step_cases}
 
 module _ (plan : Tables) where
+  -- a record of a marker's turn is that of its attempt past the turn
+  pub past_turn : (e : Exchange) (k number turn : ℕ) (a : Attempt) → IsAt e k number a → a.phase ≡ Operates turn → (known : IsRecorded (office plan) (map turned e.records) k number turn a) → IsTurn e.records known.place known.recorded → IsPastTurn e k known.place a
+  past_turn e k number turn a at past known found = record {
+    number = number;
+    at = at;
+    turn = turn;
+    past = past;
+    recorded = found.found;
+    stands = found.there;
+    turn_is = ap (λ (t : worlds.Record Job Reply). t.turn) found.turn ∙ known.turn_is;
+    marker = ap (λ (t : worlds.Record Job Reply). t.actor) found.turn ∙ known.actor;
+    number_is = ap (λ (t : worlds.Record Job Reply). t.number) found.turn ∙ known.number_is;
+    job = ap (λ (t : worlds.Record Job Reply). t.job) found.turn ∙ known.job;
+    reply = known.reply ∙ ap (λ (t : worlds.Record Job Reply). Some t.reply) (sym found.turn);
+  }
+
   -- the connector that protects a word under what is held is held, as no other protects it
   under_held : (number : ℕ) (held : List Conn) (conn : Conn) → IsUnder (office plan) held number → Protects conn number → IsIn conn held
   under_held number held conn under protects =
@@ -104,17 +120,5 @@ module _ (plan : Tables) where
         let known : IsRecorded (office plan) (map turned e.records) k number turn a = fits.recorded in
         let found : IsTurn e.records known.place known.recorded = turn_there e.records known.place known.recorded (slice_get e.records known.place) refl (sym (slice_get-map turned e.records known.place) ∙ known.stands) in (
           known.place,
-          record {
-            number = number;
-            at = at;
-            turn = turn;
-            past = past;
-            recorded = found.found;
-            stands = found.there;
-            turn_is = ap (λ (t : worlds.Record Job Reply). t.turn) found.turn ∙ known.turn_is;
-            marker = ap (λ (t : worlds.Record Job Reply). t.actor) found.turn ∙ known.actor;
-            number_is = ap (λ (t : worlds.Record Job Reply). t.number) found.turn ∙ known.number_is;
-            job = ap (λ (t : worlds.Record Job Reply). t.job) found.turn ∙ known.job;
-            reply = known.reply ∙ ap (λ (t : worlds.Record Job Reply). Some t.reply) (sym found.turn);
-          },
+          past_turn e k number turn a at past known found,
         )

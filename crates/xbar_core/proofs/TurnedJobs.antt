@@ -30,6 +30,7 @@ use Rattle.xbar_jobs.proofs.OfficeSystem.{script_decides}
 use Rattle.xbar_core.specs.Exchange.{Exchange, IsLawfulExchange, turned, world}
 use Rattle.xbar_core.specs.Holding.{IsAt}
 use Rattle.xbar_core.specs.Links.{IsPastTurn}
+use Rattle.xbar_core.proofs.HeldWords.{past_turn}
 use Rattle.xbar_core.proofs.Actors.{actor_at}
 use Rattle.xbar_core.proofs.FinishedJobs.{IsTurn, turn_there}
 use Rattle.xbar_core.proofs.Records.{replies_legal}
@@ -113,19 +114,7 @@ module _ (plan : Tables) (laws : IsLawful plan) (e : Exchange) (lawful : IsLawfu
   pub decided : Decided plan e k a
   decided = record {
     place = known.place;
-    past = record {
-      number = number;
-      at = at;
-      turn = turn;
-      past = past;
-      recorded = found.found;
-      stands = found.there;
-      turn_is = ap (λ (t : worlds.Record Job Reply). t.turn) found.turn ∙ known.turn_is;
-      marker = ap (λ (t : worlds.Record Job Reply). t.actor) found.turn ∙ known.actor;
-      number_is = ap (λ (t : worlds.Record Job Reply). t.number) found.turn ∙ known.number_is;
-      job = job_is;
-      reply = known.reply ∙ ap (λ (t : worlds.Record Job Reply). Some t.reply) (sym found.turn);
-    };
+    past = past_turn plan e k number turn a at past known found;
     job = sound.job;
     words = fits.decided.words;
     size = fits.decided.size;
