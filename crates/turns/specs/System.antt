@@ -1,4 +1,4 @@
-use Rattle.std.specs.Prelude.{◌≡◌, ◌↔◌, ℕ, ◌<◌, ◌==◌, if◌then◌else◌, Bool, true, List, [], ◌∷◌, ◌++◌, length, fold, slice_index, slice_set, ⊤, Err, ◌^◌, replicate}
+use Rattle.std.specs.Prelude.{◌≡◌, ◌↔◌, ℕ, ◌<◌, ◌==◌, if◌then◌else◌, Bool, true, List, [], ◌∷◌, ◌++◌, length, fold, slice_index, slice_set, ⊤, Err, ◌^◌}
 use Rattle.turns.specs.Among.{IsIn}
 use Rattle.turns.specs.Operations.{applied, FitsWord}
 use Rattle.turns.specs.Script.{Script, Ends, TestThen, SeizeThen, run, first_wanted}

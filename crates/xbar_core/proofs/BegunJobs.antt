@@ -1,5 +1,5 @@
 -- a marker that gives back is at the very beginning of its job
-use Rattle.std.proofs.Common.{◌≡◌, ℕ, zero, suc, ◌+◌, Bool, true, false, List, [], ◌∷◌, length, refl, sym, ◌∙◌, ap, subst, arith}
+use Rattle.std.proofs.Common.{◌≡◌, ℕ, zero, suc, ◌+◌, true, List, [], ◌∷◌, length, refl, sym, ◌∙◌, ap, subst, arith}
 use Rattle.turns.specs.Attempt as generic
 use Rattle.turns.specs.Attempt.{act, act_in, begin_with, change, changed, forgotten, free_act, freed, request_in, rest_of, restarted, restarted_in}
 use Rattle.turns.specs.World.{Does}
@@ -8,7 +8,7 @@ use Rattle.turns.specs.declared.phase.Phase.TheVariants.{Requests, Seizes, Tests
 use Rattle.xbar_equip.specs.declared.conn.Conn.{Conn}
 use Rattle.xbar_plan.specs.Tables.{Tables}
 use Rattle.xbar_office.specs.declared.job.Job.{Job}
-use Rattle.xbar_jobs.specs.Attempt.{Attempt, Phase, next_step, step_of}
+use Rattle.xbar_jobs.specs.Attempt.{Attempt, Phase, step_of}
 use Rattle.xbar_jobs.specs.Jobs.{first_conn}
 use Rattle.xbar_jobs.specs.Office.{office}
 use Rattle.xbar_core.specs.AtWork.{IsBackingIn, gives_up, told_of}

@@ -11,7 +11,6 @@ use Rattle.turns.specs.Runs.{is_rest}
 use Rattle.turns.specs.declared.answer.Answer.{Answer}
 use Rattle.turns.specs.declared.answer.Answer.TheVariants.{Value, Done}
 use Rattle.turns.specs.declared.phase.Phase.TheVariants.{Requests, Seizes, Tests, Turns, Withdraws, GivesBack, Operates}
-use mathlib.Core.Option.{some}
 use Rattle.turns.proofs.ExactWords.{answers_fit}
 use Rattle.turns.proofs.Lists.{one_or_two}
 use Rattle.xbar_equip.specs.declared.conn.Conn.{Conn}

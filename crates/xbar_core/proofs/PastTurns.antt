@@ -19,7 +19,7 @@ use Rattle.xbar_jobs.specs.Office.{office}
 use Rattle.xbar_jobs.specs.declared.effect.Effect.{Effect}
 use Rattle.xbar_core.specs.AtWork.{told_of}
 use Rattle.xbar_core.specs.Ends.{ComesToEnd, is_step_of, own_steps}
-use Rattle.xbar_core.specs.Exchange.{Exchange, Marker, is_idle}
+use Rattle.xbar_core.specs.Exchange.{Exchange, is_idle}
 use Rattle.xbar_core.specs.Holding.{IsAt}
 use Rattle.xbar_core.specs.Moves.{assigned, refusal, after_step, with_work}
 use Rattle.xbar_core.specs.Runs.{Assigns, BeginsAnew, GivesBack, Move, Settles, Steps, after_move, unless_refused}

@@ -2,8 +2,7 @@ use Rattle.std.specs.Prelude.{ℕ, zero, suc, ◌+◌, ◌*◌, is_some, length,
 use Rattle.turns.specs.Attempt.{turn_in}
 use Rattle.xbar_plan.specs.Tables.{Tables}
 use Rattle.xbar_jobs.specs.Standing.{most_effects, most_held, most_readings, most_seizings}
-use Rattle.xbar_core.specs.Exchange.{Exchange, at_marker, on_job, Marker, Work}
-use Rattle.xbar_jobs.specs.Attempt.{Phase}
+use Rattle.xbar_core.specs.Exchange.{Exchange, at_marker, on_job}
 use Rattle.xbar_core.specs.Moves.{given_back, steps}
 
 -- a marker that no other is in the way of has no more steps to its end: two to withdraw and to try

@@ -1,5 +1,5 @@
 -- an attempt has room for what is left of its script
-use Rattle.std.proofs.Common.{◌≡◌, ℕ, ◌+◌, ◌-◌, ◌<◌, List, [], ◌∷◌, ◌++◌, length, length-append, inl, inr, refl, sym, ◌∙◌, ap, subst, arith, ◌^◌, ◌≤◌}
+use Rattle.std.proofs.Common.{◌≡◌, ℕ, ◌+◌, ◌-◌, ◌<◌, List, [], ◌∷◌, ◌++◌, length, length-append, inl, inr, refl, sym, ◌∙◌, ap, subst, arith, ◌^◌}
 use Rattle.std.specs.Prelude.{None, Result, Ok, Err}
 use Rattle.turns.specs.Attempt.{IsAnswerTo, StandsIn, act, act_in, begin_with, change, changed, come_to, forgotten, freed, goes_on, operated, rest_of, restarted, restarted_in, seen_of}
 use Rattle.turns.specs.Script.{AsksAtMost, left, value_read, walk}

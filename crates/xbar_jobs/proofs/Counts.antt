@@ -2,8 +2,7 @@
 use Rattle.std.proofs.Common.{◌≡◌, ℕ, ◌+◌, ◌-◌, ◌^◌, ◌<◌, ◌≤◌, Bool, true, false, List, [], ◌∷◌, ◌++◌, length, refl, sym, ◌∙◌, subst, arith}
 use Rattle.std.specs.Prelude.{◌==◌, Result, Ok, Err, if◌then◌else◌, ⊤}
 use Rattle.std.proofs.lemmas.Bool.{eqb-true}
-use Rattle.turns.specs.Attempt as generic
-use Rattle.turns.specs.Attempt.{IsAnswerTo, act, act_in, begin, begin_with, change, changed, come_to, goes_on, operated}
+use Rattle.turns.specs.Attempt.{IsAnswerTo, act_in, begin, begin_with, change, changed, come_to, goes_on, operated}
 use Rattle.turns.specs.Bounds.{AreSteady, IsSteady}
 use Rattle.turns.specs.declared.answer.Answer.{Answer}
 use Rattle.turns.specs.declared.answer.Answer.TheVariants.{Asked, Seized, Held, Preferred, Again, Value, Turn, Done}
