@@ -181,11 +181,13 @@ impl<T: Write> Sink for Counted<T> {
     }
 
     fn write_and_count(&mut self, buf: &[u8]) -> io::Result<usize> {
+        // Read for its range alone.
         let _failures = self.failures;
         self.write(buf)
     }
 
     fn flush_and_count(&mut self) -> io::Result<()> {
+        // Read for its range alone.
         let _failures = self.failures;
         self.flush()
     }

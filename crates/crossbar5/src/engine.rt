@@ -37,6 +37,7 @@ fn replay(alloc: Global, plan: &Plan, kinds: &[Kind], bytes: &[u8]) -> Result<Wr
     ensures { IfOk result (λ written.
         IsReplayUnder plan.now kinds.now bytes.now written.text.items written.status) }
 {
+    // Called for their clauses alone.
     xbar_traffic::laws::rows_are_in_range();
     xbar_traffic::laws::rows_are_of_their_mode();
     let traffic = Traffic::read(alloc, Mode::Replay, bytes)?;

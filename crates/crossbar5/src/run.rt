@@ -49,6 +49,7 @@ fn settled(alloc: Global, mut office: Exchange<'_>) -> Result<Written, AllocErro
         IsOneHistory office.entry.plan (settled_office office.entry.plan office.entry.exchange)) }
 {
     office.settle();
+    // Called for its clauses alone.
     xbar_core::laws::jobs_act_at_their_turns();
     let paths = count_paths(office.words());
     let closed = count_closed(office.words());

@@ -16,6 +16,7 @@ const STEPS: u32 = 128;
 fn begin(plan: &Plan, job: Job) -> Program
     ensures { Stands plan.now result.attempt }
 {
+    // Called for its clauses alone.
     xbar_plan::laws::every_plan_is_lawful(plan);
     Program::new(job)
 }

@@ -76,6 +76,7 @@ impl<'p> Exchange<'p> {
         if kinds.is_empty() || kinds.len() > MOST_MARKERS {
             return Err(OpenFault::Markers);
         }
+        // Called for its clauses alone.
         xbar_plan::laws::every_plan_is_lawful(plan);
         let markers = markers_of(alloc, kinds)?;
         Ok(Exchange {
@@ -168,6 +169,7 @@ impl<'p> Exchange<'p> {
         if let Some(fault) = self.refuses(marker, &job) {
             return Err(fault);
         }
+        // Called for its clauses alone.
         xbar_plan::laws::every_plan_is_lawful(self.plan);
         // Each marker has one turn to come at most.
         self.records.reserve(self.markers.len())?;
@@ -182,6 +184,7 @@ impl<'p> Exchange<'p> {
             ≡ record self.old { exchange = after_step self.old.plan marker self.old.exchange } }
         ensures event { result ≡ event_at_step self.old.plan marker self.old.exchange }
     {
+        // Called for its clauses alone.
         xbar_plan::laws::every_plan_is_lawful(self.plan);
         self.markers[marker as usize].step(
             self.plan,
@@ -197,6 +200,7 @@ impl<'p> Exchange<'p> {
         ensures { self.new
             ≡ record self.old { exchange = begun_anew self.old.plan marker self.old.exchange } }
     {
+        // Called for its clauses alone.
         xbar_plan::laws::every_plan_is_lawful(self.plan);
         self.markers[marker as usize].restart();
     }
@@ -310,6 +314,7 @@ impl<'p> Exchange<'p> {
         ensures idle { (k : ℕ) (m : TheMarker) → slice_get self.new.exchange.markers k ≡ Some m →
             is_idle_work m.work ≡ true }
     {
+        // Called for its clauses alone.
         xbar_plan::laws::every_plan_is_lawful(self.plan);
         self.end_all_past_turn();
         self.give_back_all();

@@ -86,6 +86,7 @@ fn call(plan: &Plan, seen: &Seen, calling: &Party, dialled: Dialled) -> Result<D
     ensures { result ≡ walk seen.now
         (call_script plan.now calling.now dialled (route_of plan.now (code_of dialled))) }
 {
+    // Called for its clauses alone.
     xbar_plan::laws::codes_lead_to_trunks();
     let Some(groups) = plan.route(dialled.code()) else {
         return Ok(Decision::refused(End::VacantCode));
@@ -126,6 +127,7 @@ fn register_at(plan: &Plan, own: &Path) -> Option<MemberPlace>
     ensures register { result ≡ register_at_of plan.now own.now }
     ensures range { IfSome result (λ found. (found.group < 16) × (found.index < 40)) }
 {
+    // Called for its clauses alone.
     xbar_plan::laws::member_places_are_in_range();
     let found = plan.member_of(own.place)?;
     if found.group == plan.register_group() {

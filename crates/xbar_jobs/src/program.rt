@@ -56,6 +56,7 @@ impl Program {
         ensures word { step_word result < word_count }
     {
         let step = self.attempt.next();
+        // Called for its clauses alone.
         let _word = step.word();
         step
     }
@@ -98,6 +99,7 @@ impl Program {
         ensures turn { (number : ℕ) → answer ≡ Answer.Turn number
             → DoesAsOffice plan.now self.new.attempt }
     {
+        // Called for their clauses alone.
         xbar_plan::laws::every_plan_is_lawful(plan);
         let _job = self.attempt.job();
         self.attempt.take(plan, answer);
@@ -115,6 +117,7 @@ impl Program {
         ensures plan { (plan : Tables) → IsLawful plan → Stands plan self.old.attempt
             → Stands plan self.new.attempt }
     {
+        // Called for its clauses alone.
         let _job = self.attempt.job();
         self.attempt.restart();
         if self.attempt.is_fresh() {

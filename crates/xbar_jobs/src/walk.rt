@@ -75,6 +75,7 @@ pub fn walk(plan: &Plan, gathered: &Gathered, job: &Job) -> Result<Decision, Wan
         (λ decision. AreEffects (effects decision) × (length (effects decision) ≤ most_effects))
         (λ wanted. IsWanted wanted) }
 {
+    // Called for its clauses alone.
     xbar_plan::laws::every_plan_is_lawful(plan);
     follow(plan, gathered, job)
 }

@@ -23,6 +23,7 @@ pub fn members(plan: &Plan, group: u8) -> &[Member]
     ensures members { result.now ≡ members_of plan.now group }
     ensures size { length result.now ≤ 40 }
 {
+    // Called for its clauses alone.
     xbar_plan::laws::groups_have_members();
     plan.group(group).members()
 }

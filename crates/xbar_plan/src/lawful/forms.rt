@@ -71,6 +71,7 @@ fn know_stations(stations: &[Station])
     ensures lines { IsTrue (list_all (λ station. list_all is_line station.lines) stations.now) }
 {
     for station in stations {
+        // Called for their clauses alone.
         let _number = station.number().number();
         xbar_equip::laws::lines_are_in_range(station.lines());
     }
@@ -93,8 +94,10 @@ fn are_in_range(
         })) }
 {
     let places = places_of(alloc, groups)?;
+    // Called for its clauses alone.
     xbar_equip::laws::places_are_in_range(&places);
     know_stations(stations);
+    // Called for its clauses alone.
     xbar_equip::laws::links_are_in_range(faults);
     Ok(have_three_digits(routes))
 }
