@@ -1,41 +1,25 @@
--- a marker past its turn comes to its end, and so does one that no other is in the way of
-use Rattle.std.proofs.Common.{◌≡◌, ℕ, zero, suc, ◌+◌, ◌*◌, ◌≤◌, Bool, true, false, List, [], ◌∷◌, length, refl, sym, ◌∙◌, ap, subst, arith}
+-- a marker past its turn comes to its end
+use Rattle.std.proofs.Common.{◌≡◌, ℕ, zero, suc, ◌+◌, ◌≤◌, Bool, true, false, List, [], ◌∷◌, length, refl, sym, ◌∙◌, ap, subst, arith}
 use Rattle.std.specs.Prelude.{Some, slice_get}
-use mathlib.Core.Option.{some, some-injective}
-use lib.ListN.{get_elem?}
 use Rattle.turns.specs.Attempt as generic
 use Rattle.turns.specs.Attempt.{Rest, act, act_in, change, changed, closing_act, operated}
-use Rattle.turns.specs.Bounds as bounds
 use Rattle.turns.specs.Law.{IsFree}
-use Rattle.turns.specs.Runs as runs
 use Rattle.turns.specs.Runs.{is_rest}
-use Rattle.turns.specs.World.{ActorOf, Idle, Does, World}
+use Rattle.turns.specs.World.{Idle, Does}
 use Rattle.turns.specs.declared.answer.Answer.{Answer}
 use Rattle.turns.specs.declared.phase.Phase.TheVariants.{Operates}
-use Rattle.turns.proofs.AloneEnds.{alone_ends}
-use Rattle.turns.proofs.Moving.{keeps}
-use Rattle.turns.proofs.SteadyAttempts.{WithinIn, within_anywhere}
 use Rattle.xbar_equip.specs.declared.conn.Conn.{Conn}
 use Rattle.xbar_plan.specs.Tables.{Tables}
-use Rattle.xbar_plan.specs.Lawful.{IsLawful}
 use Rattle.xbar_jobs.specs.Attempt.{Attempt, Phase}
 use Rattle.xbar_jobs.specs.Office.{office}
-use Rattle.xbar_jobs.specs.Standing.{most_effects, most_readings, most_seizings}
 use Rattle.xbar_jobs.specs.declared.effect.Effect.{Effect}
-use Rattle.xbar_jobs.proofs.JobBounds.{jobs_bounded}
-use Rattle.xbar_jobs.proofs.OfficeSystem.{office_is}
 use Rattle.xbar_core.specs.AtWork.{told_of}
-use Rattle.xbar_core.specs.Exchange.{Exchange, Marker, Work, is_idle, world}
+use Rattle.xbar_core.specs.Exchange.{Exchange, Marker, Work, is_idle}
 use Rattle.xbar_core.specs.Holding.{IsAt}
 use Rattle.xbar_core.specs.Moves.{after_answer, steps}
-use Rattle.xbar_core.specs.Settling.{most_steps_alone}
-use Rattle.xbar_core.specs.Standing.{IsExchange}
-use Rattle.xbar_core.proofs.Actors.{actor_at}
-use Rattle.xbar_core.proofs.Markers.{actor_there}
-use Rattle.xbar_core.proofs.Kept.{stands_there}
 use Rattle.xbar_core.proofs.StepCases.{now_at, step_made}
 use Rattle.xbar_core.proofs.Stepping.{step_idle}
-use Rattle.xbar_core.proofs.Worlds.{answer_is, found_by, moved_is}
+use Rattle.xbar_core.proofs.Worlds.{answer_is, found_by}
 
 -- marker k is idle
 pub record IsIdleAt (e : Exchange) (k : ℕ) : Type 0 where
@@ -94,43 +78,3 @@ module _ (plan : Tables) where
   pub free_idle : (work : Work) → IsFree (office plan) work → is_idle work ≡ true
   free_idle Idle free = refl
   free_idle (Does n a) free = ap is_rest free
-
-  -- where its actor has ended its job, a marker is idle
-  abbrev HasEnded : ℕ → World (office plan) → Type 0
-  HasEnded k w = (ended : ActorOf (office plan)) × (get_elem? w.actors k ≡ some ended) × IsFree (office plan) ended
-
-  busy_step : (k n count : ℕ) (e : Exchange) (a : Attempt) (at : IsAt e k n a) → HasEnded k (bounds.after_steps (office plan) k (suc count) (world plan e)) → HasEnded k (bounds.after_steps (office plan) k count (world plan (after_answer plan k at.marker n a (told_of k e.words a) e)))
-  busy_step k n count e a at ended =
-      subst (λ (w : World (office plan)). HasEnded k (bounds.after_steps (office plan) k count w)) (ap (λ o. runs.stepped_at (office plan) k o (world plan e)) (actor_at e k n a at) ∙ moved_is plan e k n at.marker a) ended
-
-  ends_with : (k count : ℕ) (e : Exchange) (m : Marker) (work : Work) (idle : Bool) → slice_get e.markers k ≡ Some m → m.work ≡ work → is_idle work ≡ idle → HasEnded k (bounds.after_steps (office plan) k count (world plan e)) → IsIdleAt (steps plan k count e) k
-  unfolding steps
-  ends_with k zero e m work idle there is rests (ended, here, free) =
-      let same : m.work ≡ ended = some-injective m.work ended (sym (actor_there e.markers k m there) ∙ here) in
-      record { marker = m; there = there; idle = ap is_idle same ∙ free_idle ended free }
-  ends_with k (suc count) e m work true there is rests ended = stays_idle k (suc count) e m there (ap is_idle is ∙ rests)
-  ends_with k (suc count) e m Idle false there is goes ended = absurd cc
-  ends_with k (suc count) e m (Does n a) false there is goes ended =
-      let at : IsAt e k n a = record { marker = m; there = there; work = is } in
-      let now = now_at plan e k n a (told_of k e.words a) at in
-      subst (λ (x : Exchange). IsIdleAt (steps plan k count x) k) (sym (step_made plan e k n a at goes))
-      (ends_with k count (after_answer plan k m n a (told_of k e.words a) e) now.marker now.marker.work (is_idle now.marker.work) now.there refl refl (busy_step k n count e a at ended))
-
-  module _ (laws : IsLawful plan) (e : Exchange) (was : IsExchange plan e) (k n : ℕ) (a : Attempt) (at : IsAt e k n a) where
-    -- what is left past the turn is no more than what a whole job has
-    pub past_few : (turn : ℕ) → a.phase ≡ Operates turn → length a.effects + length a.held ≤ most_steps_alone
-    past_few turn phase =
-        let few = (stands_there plan e k n a was at).few in
-        let sound = was.lawful.sound k n a (actor_at e k n a at) in
-        let within = within_anywhere (office plan) (office_is plan laws) most_readings most_seizings most_effects (jobs_bounded plan laws) (world plan e) k n a was.lawful.are_words sound in
-        let left : length a.effects + length a.held ≤ 1 + length a.held + (3 * most_seizings + most_readings + most_effects + 1) =
-        subst (WithinIn (office plan) (office_is plan laws) most_readings most_seizings most_effects (jobs_bounded plan laws) (1 + length a.held + (3 * most_seizings + most_readings + most_effects + 1)) a) phase within in
-        omega (arith, few, left)
-
-    -- a marker that no other is in the way of ends
-    pub alone_idle : ((j : ℕ) (other : ActorOf (office plan)) → ¬ (j ≡ k) → get_elem? (world plan e).actors j ≡ some other → bounds.IsAside (office plan) other) → IsIdleAt (steps plan k most_steps_alone e) k
-    alone_idle aside =
-        let few = (stands_there plan e k n a was at).few in
-        ends_with k most_steps_alone e at.marker at.marker.work (is_idle at.marker.work) at.there refl refl
-        (alone_ends (office plan) (office_is plan laws) most_readings most_seizings most_effects (jobs_bounded plan laws)
-        (λ w j number b now stands. keeps (office plan) (office_is plan laws) w now j number b stands) k n (world plan e) a most_steps_alone was.lawful (actor_at e k n a at) aside (omega (arith, few)))

@@ -14,7 +14,6 @@ pub mod Records
 pub mod Steps
 pub mod Connectors
 pub mod AskedConnectors
-pub mod Holders
 pub mod KeptConnectors
 pub mod FinishedJobs
 pub mod Runs
