@@ -11,7 +11,6 @@ use Rattle.turns.specs.declared.phase.Phase.{Phase}
 use Rattle.turns.specs.declared.phase.Phase.TheVariants.{Requests, Seizes, Tests, Turns, Withdraws, GivesBack, Operates}
 use Rattle.turns.specs.declared.reading.Reading.{Reading}
 use Rattle.turns.proofs.Completed.{all_spare, completed_index, completed_length}
-use Rattle.turns.proofs.Words.{zeros_below}
 use Rattle.turns.proofs.Sound.{begin_sound}
 use Rattle.turns.proofs.Settings.{held_of, request_of}
 use Rattle.turns.proofs.Quiet.{still}
