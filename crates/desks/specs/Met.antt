@@ -1,0 +1,66 @@
+use Rattle.std.specs.Prelude.{◌≡◌, ◌<◌, ℕ, true, List, [], ◌∷◌, length, slice_index, ◌%◌, ◌^◌}
+use Rattle.turns.specs.System.{System}
+use Rattle.turns.specs.World.{ActorOf, RecordOf, after}
+use Rattle.turns.specs.Law.{IsLegal, holder_at}
+use Rattle.desks.specs.Parts.{Begins, own, looked}
+use Rattle.desks.specs.Kept.{PartOf, Follows}
+use Rattle.desks.specs.Desks.{is_idle}
+use Rattle.turns.specs.Among.{IsIn}
+
+module _ (O : System) where
+  -- what the parts of a view tell of an order: each has seen a beginning of it, with all records of its own
+  abbrev pub AllBegin : List (RecordOf O) → List (PartOf O) → Type 0
+  AllBegin order [] = Unit {0}
+  AllBegin order (p ∷ parts) = (Begins p.seen order × (own p.number order ≡ own p.number p.seen)) × AllBegin order parts
+
+  -- a look at the turn word: all parts of the view have seen the order, whose length the word tells
+  pub record HasLooked (before : List (PartOf O)) (found : ℕ) (after : List (PartOf O)) : Type 0 where
+    pub order : List (RecordOf O)
+    pub legal : IsLegal O 0 O.opening order
+    pub begins : AllBegin order before
+    pub after_is : after ≡ looked order before
+    pub counted : found ≡ length order % 2 ^ 64
+
+  -- two actors have met: both have seen one order now, of which each had seen a beginning before, with all records of its own
+  pub record HaveMet (one other : ℕ) (one_seen other_seen one_after other_after : List (RecordOf O)) : Type 0 where
+    pub legal : IsLegal O 0 O.opening other_after
+    pub same : one_after ≡ other_after
+    pub one_begins : Begins one_seen other_after
+    pub other_begins : Begins other_seen other_after
+    pub one_own : own one other_after ≡ own one one_seen
+    pub other_own : own other other_after ≡ own other other_seen
+
+  -- the words of a table that was shut, whose last order begins with what an actor had seen, with all records of its own: its length stands in the turn word, and where no lock is held the words show the state after it
+  pub record IsShut (number : ℕ) (seen : List (RecordOf O)) (words : List ℕ) : Type 0 where
+    pub order : List (RecordOf O)
+    pub legal : IsLegal O 0 O.opening order
+    pub begins : Begins seen order
+    pub own_is : own number order ≡ own number seen
+    pub size : length words ≡ O.size
+    pub counted : slice_index words O.turn_word ≡ length order % 2 ^ 64
+    pub shows : ((lock : O.Lock) → O.IsLock lock → holder_at O words lock ≡ 0) → O.Shows words (after O O.opening order)
+
+  -- what an actor was at its last step may be followed by one that is at rest
+  pub record CanRest (p : PartOf O) : Type 0 where
+    pub now : ActorOf O
+    pub follows : Follows O p.number p.actor now
+    pub idle : is_idle now ≡ true
+
+  abbrev pub AllRest : List (PartOf O) → Type 0
+  AllRest parts = (p : PartOf O) → IsIn p parts → CanRest p
+
+  -- one of the parts is that of actor k, which has seen this
+  pub record Tells (parts : List (PartOf O)) (k : ℕ) (seen : List (RecordOf O)) : Type 0 where
+    pub part : PartOf O
+    pub within : IsIn part parts
+    pub number_is : part.number ≡ k
+    pub seen_is : part.seen ≡ seen
+
+  -- the words of a table all of whose actors came to rest, after this order: no lock is held, and they show the state after it
+  pub record IsEnded (count : ℕ) (words : List ℕ) (order : List (RecordOf O)) : Type 0 where
+    pub legal : IsLegal O 0 O.opening order
+    pub size : length words ≡ O.size
+    pub counted : slice_index words O.turn_word ≡ length order % 2 ^ 64
+    pub theirs : (r : RecordOf O) → IsIn r order → r.actor < count
+    pub free : (lock : O.Lock) → O.IsLock lock → holder_at O words lock ≡ 0
+    pub shows : O.Shows words (after O O.opening order)
