@@ -13,7 +13,7 @@ use Rattle.turns.specs.Law.{Lawful}
 use Rattle.desks.specs.Parts.{Part, one_if, own, times, times_in_all, first_of, others_of, idle_parts}
 use Rattle.desks.specs.Kept.{PartOf, Fits, IsKept}
 use Rattle.desks.specs.Rule.{Rule}
-use Rattle.desks.specs.Desks.{IsFresh, seen_in}
+use Rattle.desks.specs.Desks.{IsSeated, seen_in}
 use Rattle.desks.proofs.Counting.{times_set}
 use Rattle.desks.proofs.Seating.{follows_itself}
 
@@ -149,8 +149,14 @@ module _ (O : System) where
     fits zero view e p within = fit p (subst (λ (l : List (PartOf O)). IsIn p l) (sym (some-injective (idle_parts 0 count) view e)) within)
     fits (suc id) view e p within = absurd (some-ne-none view (sym e))
 
+  -- a seat of an idle actor that has made no step
+  pub record IsFresh (table : TableId) (k : ℕ) (seat : Seat (Unit {0}) (List (PartOf O))) : Type 0 where
+    pub table_is : seat.table_id ≡ table
+    pub seated : IsSeated O k seat.me Idle
+    pub seen_none : seen_in seat.me.0 ≡ []
+
   -- a seat that was given the first of the idle actors from k on
-  pub fresh : (table : TableId) (k left : ℕ) (seat : Seat (Unit {0}) (List (PartOf O))) → k < O.sharing.most → seat.table_id ≡ table → seat.me ≡ (first_of (idle_parts k (suc left)), []) → IsFresh O table k seat
+  pub fresh : (table : TableId) (k left : ℕ) (seat : Seat (Unit {0}) (List (PartOf O))) → k < O.sharing.most → seat.table_id ≡ table → seat.me ≡ (first_of (idle_parts k (suc left)), []) → IsFresh table k seat
   fresh table k left seat few table_is me = record {
     table_is = table_is;
     seated = record {
@@ -172,7 +178,7 @@ module _ (O : System) where
       let one : suc k ≡ k + 1 = omega arith in
       after ∙ ap (λ (m : Me (Unit {0}) (List (PartOf O))). (others_of m.0, m.1)) (is ∙ ap (λ (m : ℕ). (idle_parts k m, [])) left) ∙ ap (λ (m : ℕ). (idle_parts m (count - (k + 1)), [])) one
 
-  pub fresh_dealt : (table : TableId) (k count : ℕ) (me : Me (Unit {0}) (List (PartOf O))) (seat : Seat (Unit {0}) (List (PartOf O))) → k < count → count ≤ O.sharing.most → me ≡ (idle_parts k (count - k), []) → seat.table_id ≡ table → seat.me ≡ (first_of me.0, []) → IsFresh O table k seat
+  pub fresh_dealt : (table : TableId) (k count : ℕ) (me : Me (Unit {0}) (List (PartOf O))) (seat : Seat (Unit {0}) (List (PartOf O))) → k < count → count ≤ O.sharing.most → me ≡ (idle_parts k (count - k), []) → seat.table_id ≡ table → seat.me ≡ (first_of me.0, []) → IsFresh table k seat
   fresh_dealt table k count me seat below few is table_is after =
       let left : count - k ≡ suc (count - (k + 1)) = omega arith in
       fresh table k (count - (k + 1)) seat (omega arith) table_is (after ∙ ap (λ (m : Me (Unit {0}) (List (PartOf O))). (first_of m.0, [])) (is ∙ ap (λ (m : ℕ). (idle_parts k m, [])) left))

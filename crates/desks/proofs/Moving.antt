@@ -9,14 +9,14 @@ use Rattle.turns.proofs.Lists.{in_either}
 use Rattle.turns.specs.System.{System, IsSystem}
 use Rattle.turns.specs.Attempt.{AttemptOf, act, next}
 use Rattle.turns.specs.World.{World, ActorOf, RecordOf, Does, moved, place, becomes, added_in, recorded, with_actor}
-use Rattle.turns.specs.Law.{Lawful}
+use Rattle.turns.specs.Law.{IsSound, Lawful}
 use Rattle.turns.specs.declared.phase.Phase.{Phase}
 use Rattle.turns.specs.declared.phase.Phase.TheVariants.{Requests, Seizes, Tests, Turns, Withdraws, GivesBack, Operates}
 use Rattle.desks.specs.Parts.{own}
 use Rattle.desks.specs.Kept.{PartOf, Fits, IsKept, Follows, HasMoved}
 use Rattle.desks.specs.Rule.{Rule}
 use Rattle.desks.proofs.Lookups.{there_below}
-use Rattle.desks.proofs.Whys.{says_why}
+use Rattle.desks.proofs.Ending.{ended_in}
 use Rattle.desks.proofs.Counting.{times_set, apart, own_append}
 
 length_set : {A : Type 0} (l : List A) (i : ℕ) (x : A) → length (set l i x) ≡ length l
@@ -122,7 +122,9 @@ module _ (O : System) where
       }
 
       pub told_moved : HasMoved O k number a seen found (after kept.order found ∷ [])
-      told_moved = record { order = kept.order; begins = fit.begins; own_is = fit.own_is; view_is = refl; legal = law.legal; why = says_why O system (with_actor O k (Does number a) now) (follows now kept.lawful fit.there) k number a (set_here kept.actors k (Does number a) there) }
+      told_moved = record { order = kept.order; begins = fit.begins; own_is = fit.own_is; view_is = refl; legal = law.legal; ended = ended_in O (record { words = slice_set words (place O (act a)) (becomes O k (act a) found); actors = actors; order = order }) k number (next O k a found) (next O k a found).phase refl sound.stands sound.fits } where
+        sound : IsSound O (record { words = slice_set words (place O (act a)) (becomes O k (act a) found); actors = actors; order = order }) k number (next O k a found)
+        sound = law.sound k number (next O k a found) (own_fits found refl).there
 
     -- whatever the table is when the actor's next step changes its word, the rule is kept
     pub allows : (count slots id i : ℕ) (f : ℕ → ℕ) → i ≡ place O (act a) → ((n : ℕ) → f n ≡ becomes O k (act a) n) → Allows (Rule O count) slots id (here ∷ [], []) i f (λ n me. (me.1 ≡ []) × HasMoved O k number a seen n me.0)

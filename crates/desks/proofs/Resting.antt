@@ -9,14 +9,15 @@ use Rattle.turns.specs.System.{System}
 use Rattle.turns.specs.Attempt.{AttemptOf, act_in, closing_act, free_act}
 use Rattle.turns.specs.World.{World, ActorOf, RecordOf, Does, after}
 use Rattle.turns.specs.Law.{Holds, Lawful, holder_at}
-use Rattle.turns.specs.Runs.{is_rest}
+use Rattle.turns.specs.Runs.{is_free, is_rest}
 use Rattle.turns.specs.declared.phase.Phase.{Phase}
 use Rattle.turns.specs.declared.phase.Phase.TheVariants.{Requests, Seizes, Tests, Turns, Withdraws, GivesBack, Operates}
 use Rattle.turns.proofs.Lists.{in_front, in_back, one_or_two}
 use Rattle.desks.specs.Parts.{Begins, one_if, own, times}
 use Rattle.desks.specs.Kept.{PartOf, IsKept}
-use Rattle.desks.specs.Desks.{IsSeated, is_idle, seen_in}
-use Rattle.desks.specs.Met.{AllRest, CanRest, IsEnded, Tells}
+use Rattle.desks.specs.Desks.{IsSeated, seen_in}
+use Rattle.desks.specs.Met.{AllRest, CanRest, HasClosed, IsEnded, Tells}
+use Rattle.desks.specs.Views.{DeskView}
 use Rattle.desks.specs.Rule.{Rule}
 use Rattle.desks.proofs.Counting.{times_in, times_one}
 use Rattle.desks.proofs.Lookups.{there_below}
@@ -46,7 +47,7 @@ module _ (O : System) where
   record Rested (w : World O) (parts : List (PartOf O)) : Type 0 where
     pub actors : List (ActorOf O)
     pub lawful : Lawful O (record { words = w.words; actors = actors; order = w.order })
-    pub resting : (k : ℕ) (m : ActorOf O) → 1 ≤ times k parts → get_elem? actors k ≡ some m → is_idle m ≡ true
+    pub resting : (k : ℕ) (m : ActorOf O) → 1 ≤ times k parts → get_elem? actors k ≡ some m → is_free O m ≡ true
     pub others : (k : ℕ) → times k parts ≡ 0 → get_elem? actors k ≡ get_elem? w.actors k
 
   come_to_rest : (w : World O) → Lawful O w → (parts : List (PartOf O)) → ((k : ℕ) → times k parts ≤ 1) → ((p : PartOf O) → IsIn p parts → get_elem? w.actors p.number ≡ some p.actor) → AllRest O parts → Rested w parts
@@ -63,7 +64,7 @@ module _ (O : System) where
         actors = set before.actors p.number can.now;
         lawful = law';
         resting = λ k m here e. ⊎_elim
-            (λ same. subst (λ (x : ActorOf O). is_idle x ≡ true) (some-injective can.now m (sym (set_here before.actors p.number can.now (there_below before.actors p.number p.actor at)) ∙ subst (λ (n : ℕ). get_elem? (set before.actors p.number can.now) n ≡ some m) same e)) can.idle)
+            (λ same. subst (λ (x : ActorOf O). is_free O x ≡ true) (some-injective can.now m (sym (set_here before.actors p.number can.now (there_below before.actors p.number p.actor at)) ∙ subst (λ (n : ℕ). get_elem? (set before.actors p.number can.now) n ≡ some m) same e)) can.idle)
             (λ apart.
             let zero_if : one_if (p.number == k) ≡ 0 = ap one_if (ne_eqb p.number k (λ x. apart (sym x))) in
             before.resting k m (omega arith) (sym (set_else before.actors p.number k can.now apart) ∙ e))
@@ -92,9 +93,9 @@ module _ (O : System) where
     rested : Rested w parts
     rested = come_to_rest w kept.lawful parts (λ k. let a = times_one k views id parts at in let b = kept.once k in omega arith) (λ p within. (kept.fits id parts at p within).there) rest
 
-    idle : (k : ℕ) (m : ActorOf O) → get_elem? rested.actors k ≡ some m → is_idle m ≡ true
+    idle : (k : ℕ) (m : ActorOf O) → get_elem? rested.actors k ≡ some m → is_free O m ≡ true
     idle k m e = at_count (times k parts) refl where
-      at_count : (n : ℕ) → times k parts ≡ n → is_idle m ≡ true
+      at_count : (n : ℕ) → times k parts ≡ n → is_free O m ≡ true
       at_count zero none =
           let below : k < length kept.actors = there_below kept.actors k m (sym (rested.others k none) ∙ e) in
           let all = kept.all in
@@ -113,7 +114,7 @@ module _ (O : System) where
       at_holder (suc k) e = absurd (holds_none k lock ((names (record { words = words; actors = rested.actors; order = kept.order }) k lock rested.lawful is).0 e))
 
   -- a view with one more desk's part, behind those of the later desks
-  pub can_rest : (k : ℕ) (me : Me (Unit {0}) (List (PartOf O))) (now : ActorOf O) → IsSeated O k me now → is_idle now ≡ true → AllRest O me.0
+  pub can_rest : (k : ℕ) (me : Me (Unit {0}) (List (PartOf O))) (now : ActorOf O) → IsSeated O k me now → is_free O now ≡ true → AllRest O me.0
   can_rest k me now seated idle =
       subst (λ (m : Me (Unit {0}) (List (PartOf O))). AllRest O m.0) (sym seated.me_is) only where
         only : AllRest O (record { number = k; actor = seated.before; seen = seen_in me.0 } ∷ [])
@@ -125,10 +126,13 @@ module _ (O : System) where
   rest_all (q ∷ parts) more one other p (inl e) = one p (inl e)
   rest_all (q ∷ parts) more one other p (inr later) = rest_all parts more (λ r within. one r (inr within)) other p later
 
-  pub tells_seated : (k : ℕ) (me : Me (Unit {0}) (List (PartOf O))) (now : ActorOf O) → IsSeated O k me now → Tells O me.0 k (seen_in me.0)
+  tells_seated : (k : ℕ) (me : Me (Unit {0}) (List (PartOf O))) (now : ActorOf O) → IsSeated O k me now → Tells O me.0 k (seen_in me.0)
   tells_seated k me now seated =
       let seen : List (RecordOf O) = seen_in me.0 in
       subst (λ (m : Me (Unit {0}) (List (PartOf O))). Tells O m.0 k seen) (sym seated.me_is) (record { part = record { number = k; actor = seated.before; seen = seen }; within = inl refl; number_is = refl; seen_is = refl })
+
+  pub tells_desk : (k : ℕ) (me : Me (Unit {0}) (List (PartOf O))) (now : ActorOf O) (seen : List (RecordOf O)) → IsSeated O k me now → seen_in me.0 ≡ seen → Tells O me.0 k seen
+  tells_desk k me now seen seated is = subst (Tells O me.0 k) is (tells_seated k me now seated)
 
   pub tells_more : (parts more : List (PartOf O)) (k : ℕ) (seen : List (RecordOf O)) → Tells O parts k seen → Tells O (parts ++ more) k seen
   tells_more parts more k seen t = record { part = t.part; within = in_front t.part parts more t.within; number_is = t.number_is; seen_is = t.seen_is }
@@ -142,7 +146,7 @@ module _ (O : System) where
   some_below (x ∷ xs) (suc k) Q h told = some_below xs k Q (omega arith) told
 
   -- all desks' parts stand in the view of the seat that closed the table, and each can rest
-  pub ended_all : {D : Type 0} (desks : List D) (seen_of : D → List (RecordOf O))
+  ended_all : {D : Type 0} (desks : List D) (seen_of : D → List (RecordOf O))
       → ((w : World O) → Lawful O w → ((lock : O.Lock) → O.IsLock lock → holder_at O w.words lock ≡ 0) → O.Shows w.words (after O O.opening w.order))
       → ((w : World O) (k : ℕ) (lock : O.Lock) → Lawful O w → O.IsLock lock → (holder_at O w.words lock ≡ suc k) ↔ Holds O w.actors k lock)
       → (count id : ℕ) (parts : List (PartOf O)) (words : List ℕ) (slots : List (Unit {0})) → length desks ≡ count → Final (Seen (Rule O count) id parts) words slots → AllRest O parts
@@ -172,3 +176,12 @@ module _ (O : System) where
       at : (o : Option D) → IfSome o (λ d. Tells O parts i (seen_of d)) → IfSome o (λ d. Begins (seen_of d) kept.order × (own i kept.order ≡ own i (seen_of d)))
       at None h = tt
       at (Some d) h = one i (seen_of d) h
+
+  pub has_closed : {Setting : Type 0} (desks : List (DeskView Setting O.Lock O.Job O.Reply O.Effect))
+      → ((w : World O) → Lawful O w → ((lock : O.Lock) → O.IsLock lock → holder_at O w.words lock ≡ 0) → O.Shows w.words (after O O.opening w.order))
+      → ((w : World O) (k : ℕ) (lock : O.Lock) → Lawful O w → O.IsLock lock → (holder_at O w.words lock ≡ suc k) ↔ Holds O w.actors k lock)
+      → (count id : ℕ) (parts : List (PartOf O)) (words : List ℕ) (slots : List (Unit {0})) → length desks ≡ count → Final (Seen (Rule O count) id parts) words slots → AllRest O parts
+      → ((i : ℕ) → IfSome (slice_get desks i) (λ d. Tells O parts i d.seen)) → HasClosed O desks words
+  has_closed desks free names count id parts words slots long final rest told =
+      let all = ended_all desks (λ d. d.seen) free names count id parts words slots long final rest told in
+      record { order = all.0; ended = subst (λ (n : ℕ). IsEnded O n words all.0) (sym long) all.1; each = all.2 }

@@ -4,15 +4,17 @@ use lib.ListN.{get_elem?}
 use Rattle.atomic_table.specs.Table.{Allows, Me, State}
 use Rattle.atomic_table.proofs.Lists.{set_again, set_here}
 use Rattle.turns.specs.System.{System, IsSystem}
-use Rattle.turns.specs.Attempt.{Act, Rest, Ask, Take, Leave, Free, Look, Turn, Make, AttemptOf, act, next}
+use Rattle.turns.specs.Attempt.{Rest, AttemptOf, act, answered, next}
 use Rattle.turns.specs.World.{World, ActorOf, RecordOf, Idle, Does, moved, place, becomes, added_in, with_actor}
 use Rattle.turns.specs.Law.{IsFree, Lawful}
-use Rattle.turns.specs.Runs.{is_rest}
-use Rattle.desks.specs.Kept.{PartOf, Follows, HasMoved}
+use Rattle.turns.specs.Runs.{is_free}
+use Rattle.desks.specs.Kept.{PartOf, Follows, HasEnded, HasMoved}
+use Rattle.turns.specs.declared.answer.Answer.{Answer}
 use Rattle.desks.specs.Rule.{Rule}
-use Rattle.desks.specs.Desks.{IsSeated, is_idle, seen_in}
+use Rattle.desks.specs.Desks.{HasStepped, IsSeated, NamesWhom, seen_in}
 use Rattle.desks.proofs.Lookups.{there_below}
 use Rattle.desks.proofs.Moving.{allows}
+use Rattle.desks.proofs.Ending.{rest_is}
 
 -- a rule at one of two equal settings is that at the other
 pub allows_at : {Setting : Type 0} (View : Type 0) (rule : Setting → State (Unit {0}) View → Type 0) (s t : Setting) (slots id : ℕ) (me : Me (Unit {0}) View) (i : ℕ) (f : ℕ → ℕ) (then : ℕ → Me (Unit {0}) View → Type 0) → s ≡ t → Allows (rule t) slots id me i f then → Allows (rule s) slots id me i f then
@@ -50,24 +52,43 @@ module _ (O : System) where
         legal = rw seen moved.legal;
       }
 
+  seen_after : (k number : ℕ) (a : AttemptOf O) (seen : List (RecordOf O)) (me_after : Me (Unit {0}) (List (PartOf O))) (found : ℕ) → (moved : HasMoved O k number a seen found me_after.0) → seen_in me_after.0 ≡ moved.order ++ added_in O k number a a.phase found
+  seen_after k number a seen me_after found moved = ap seen_in moved.view_is
+
+  -- a step by what the seat tells of it
+  pub stepped_by : (k number : ℕ) (a after : AttemptOf O) (me me_after : Me (Unit {0}) (List (PartOf O))) (found : ℕ) (answer : Answer) → HasMoved O k number a (seen_in me.0) found me_after.0 → after ≡ next O k a found → answer ≡ answered O k (act a) found → NamesWhom O k (act a) found answer → HasStepped O k (Does number a) (Does number after) (seen_in me.0) (seen_in me_after.0) answer
+  stepped_by k number a after me me_after found answer moved is told names =
+      let seen = seen_after k number a (seen_in me.0) me_after found moved in
+      record {
+        number = number;
+        attempt = a;
+        found = found;
+        before_is = refl;
+        after_is = ap (λ (b : AttemptOf O). Does number b) is;
+        answer_is = told;
+        names_whom = names;
+        order = moved.order;
+        begins = moved.begins;
+        own_is = moved.own_is;
+        seen_is = seen;
+        legal = rw seen moved.legal;
+      }
+
+  -- and the job's end
+  pub ended_after : (k number : ℕ) (a after : AttemptOf O) (me me_after : Me (Unit {0}) (List (PartOf O))) (found : ℕ) → HasMoved O k number a (seen_in me.0) found me_after.0 → after ≡ next O k a found → act after ≡ Rest → HasEnded O (seen_in me_after.0) k number after
+  ended_after k number a after me me_after found moved is rests =
+      let seen = seen_after k number a (seen_in me.0) me_after found moved in
+      rw (seen, is) (moved.ended (subst (λ (b : AttemptOf O). act b ≡ Rest) is rests))
+
   -- what an actor is after one more change follows what the first one follows
   pub follows_on : (k : ℕ) (before now later : ActorOf O) → Follows O k before now → ((w : World O) → Lawful O w → get_elem? w.actors k ≡ some now → Lawful O (with_actor O k later w)) → Follows O k before later
   follows_on k before now later first second w law there =
       let h : Lawful O (with_actor O k later (with_actor O k now w)) = second (with_actor O k now w) (first w law there) (set_here w.actors k now (there_below w.actors k before there)) in
       subst (λ (l : List (ActorOf O)). Lawful O (record { words = w.words; actors = l; order = w.order })) (set_set w.actors k now later) h
 
-  pub idle_free : (m : ActorOf O) → is_idle m ≡ true → IsFree O m
+  pub idle_free : (m : ActorOf O) → is_free O m ≡ true → IsFree O m
   idle_free Idle e = tt
-  idle_free (Does number a) e = rest_is (act a) e where
-    rest_is : (x : Act O.Lock O.Effect) → is_rest x ≡ true → x ≡ Rest
-    rest_is Rest e = refl
-    rest_is (Ask lock) e = cc
-    rest_is (Take lock expected) e = cc
-    rest_is (Leave lock) e = cc
-    rest_is (Free lock) e = cc
-    rest_is (Look word) e = cc
-    rest_is Turn e = cc
-    rest_is (Make effect) e = cc
+  idle_free (Does number a) e = rest_is O (act a) e
 
   -- a seat that knows its actor knows it after such a change
   pub seated_on : (k : ℕ) (me : Me (Unit {0}) (List (PartOf O))) (now later : ActorOf O) → IsSeated O k me now → ((w : World O) → Lawful O w → get_elem? w.actors k ≡ some now → Lawful O (with_actor O k later w)) → IsSeated O k me later

@@ -7,7 +7,9 @@ use Rattle.turns.specs.World.{Actor, Idle, Does, Record}
 use Rattle.turns.specs.declared.phase.Phase.{Phase}
 use Rattle.turns.specs.declared.phase.Phase.TheVariants.{Requests, Seizes, Tests, Turns, Withdraws, GivesBack, Operates}
 use Rattle.turns.specs.declared.reading.Reading.{Reading}
+use Rattle.atomic_table.specs.Seated.{TableId, table_id_coded}
 use Rattle.desks.specs.Parts.{Part}
+use Rattle.desks.specs.Views.{DeskView}
 
 -- codes of what a view has, by those of the types that it is made of: phases and actors as sums, records as tuples
 abbrev PhaseParts : Type 0 → Type 0
@@ -82,4 +84,12 @@ part_code {Lock} {Job} {Reply} {Effect} lock job reply effect =
     code_by (ℕ × (Actor Lock Job Reply Effect × List (Record Job Reply))) (coded× coded_ℕ (coded× (actor_code lock job reply effect) (coded_list (record_code job reply))))
     (λ p. (p.number, (p.actor, p.seen)))
     (λ p. record { number = p.0; actor = p.1.0; seen = p.1.1 })
+    (λ _. refl)
+
+abbrev pub desk_code : {Setting Lock Job Reply Effect : Type 0} → Coded Setting → Coded Lock → Coded Job → Coded Reply → Coded Effect → Coded (DeskView Setting Lock Job Reply Effect)
+desk_code {Setting} {Lock} {Job} {Reply} {Effect} setting lock job reply effect =
+    code_by (TableId × (Setting × (ℕ × (Actor Lock Job Reply Effect × List (Record Job Reply)))))
+    (coded× table_id_coded (coded× setting (coded× coded_ℕ (coded× (actor_code lock job reply effect) (coded_list (record_code job reply))))))
+    (λ d. (d.table, (d.setting, (d.number, (d.actor, d.seen)))))
+    (λ p. record { table = p.0; setting = p.1.0; number = p.1.1.0; actor = p.1.1.1.0; seen = p.1.1.1.1 })
     (λ _. refl)

@@ -1,10 +1,12 @@
-use Rattle.std.specs.Prelude.{◌≡◌, ◌<◌, ℕ, true, List, [], ◌∷◌, length, slice_index, ◌%◌, ◌^◌}
+use Rattle.std.specs.Prelude.{◌≡◌, ◌<◌, ℕ, true, List, [], ◌∷◌, length, slice_index, slice_get, IfSome, ◌%◌, ◌^◌}
 use Rattle.turns.specs.System.{System}
 use Rattle.turns.specs.World.{ActorOf, RecordOf, after}
 use Rattle.turns.specs.Law.{IsLegal, holder_at}
 use Rattle.desks.specs.Parts.{Begins, own, looked}
 use Rattle.desks.specs.Kept.{PartOf, Follows}
-use Rattle.desks.specs.Desks.{is_idle}
+use Rattle.desks.specs.Views.{DeskView}
+use Rattle.atomic_table.specs.Seated.{TableId}
+use Rattle.turns.specs.Runs.{is_free}
 use Rattle.turns.specs.Among.{IsIn}
 
 module _ (O : System) where
@@ -44,7 +46,7 @@ module _ (O : System) where
   pub record CanRest (p : PartOf O) : Type 0 where
     pub now : ActorOf O
     pub follows : Follows O p.number p.actor now
-    pub idle : is_idle now ≡ true
+    pub idle : is_free O now ≡ true
 
   abbrev pub AllRest : List (PartOf O) → Type 0
   AllRest parts = (p : PartOf O) → IsIn p parts → CanRest p
@@ -64,3 +66,21 @@ module _ (O : System) where
     pub theirs : (r : RecordOf O) → IsIn r order → r.actor < count
     pub free : (lock : O.Lock) → O.IsLock lock → holder_at O words lock ≡ 0
     pub shows : O.Shows words (after O O.opening order)
+
+  -- desk i of a room, under this setting, which is idle
+  pub record IsIdleDesk {Setting : Type 0} (table : TableId) (setting : Setting) (i : ℕ) (desk : DeskView Setting O.Lock O.Job O.Reply O.Effect) : Type 0 where
+    pub number_is : desk.number ≡ i
+    pub table_is : desk.table ≡ table
+    pub setting_is : desk.setting ≡ setting
+    pub idle : is_free O desk.actor ≡ true
+
+  -- idle desks of a room, each at the place of its number
+  abbrev pub AreIdle : {Setting : Type 0} → TableId → Setting → List (DeskView Setting O.Lock O.Job O.Reply O.Effect) → Type 0
+  AreIdle table setting desks = (i : ℕ) → IfSome (slice_get desks i) (λ d. IsIdleDesk table setting i d)
+
+  -- the words of a room that was shut with all of its desks show the state after one legal order, which each
+  -- desk's seen begins, and whose records are those of the desks' own turns and no others
+  pub record HasClosed {Setting : Type 0} (desks : List (DeskView Setting O.Lock O.Job O.Reply O.Effect)) (words : List ℕ) : Type 0 where
+    pub order : List (RecordOf O)
+    pub ended : IsEnded (length desks) words order
+    pub each : (i : ℕ) → IfSome (slice_get desks i) (λ d. Begins d.seen order × (own i order ≡ own i d.seen))

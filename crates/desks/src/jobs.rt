@@ -1,14 +1,18 @@
-ghost use Rattle.std.specs.Prelude.{◌≡◌, ◌≢◌, ◌<◌, ℕ, IfOk};
+ghost use Rattle.std.specs.Prelude.{◌≡◌, ◌≢◌, ◌<◌, IfOk};
 
 use std::alloc::{AllocError, Global};
+use std::snapshot::Snapshot;
 use turns::{Answer, Operation};
 
 /// Jobs that actors do on shared words, as `turns` has them, and the program that an actor does a job with.
+///
+/// Each function is exact by the law's own words, so that whoever writes one proves nothing of threads.
 pub trait Jobs {
     ghost use Rattle.turns.specs.Attempt.{Attempt, Rest, act, answered, begin, next, restarted};
     ghost use Rattle.turns.specs.Runs.{is_rest};
     ghost use Rattle.turns.specs.System.{IsSystem, SystemOver, system_of};
     ghost use Rattle.turns.specs.World.{operation as operation_of, place as place_of};
+    ghost use Rattle.desks.specs.Outcomes.{is_given_up, outcome_of};
 
     /// What tells the systems of a family apart, as a plan.
     type Setting;
@@ -17,7 +21,7 @@ pub trait Jobs {
 
     type Job: Drop;
 
-    type Reply;
+    type Reply: Drop;
 
     type Effect;
     /// An actor's attempt at a job.
@@ -32,11 +36,12 @@ pub trait Jobs {
     // What a program keeps under a setting.
     ghost Stands: { Self.Setting → Self.Program → Type 0 };
 
-    fn begin(setting: &Self::Setting, job: Self::Job) -> Self::Program
-        requires setting { IsSetting setting.now }
-        requires job { (system setting.now).IsJob job }
-        ensures begins { attempt result ≡ begin (system_of (system setting.now)) job }
-        ensures stands { Stands setting.now result };
+    /// A desk holds no borrow of the setting, only a snapshot.
+    fn begin(setting: &Snapshot<Self::Setting>, job: Self::Job) -> Self::Program
+        requires setting { IsSetting setting.now.value }
+        requires job { (system setting.now.value).IsJob job }
+        ensures begins { attempt result ≡ begin (system_of (system setting.now.value)) job }
+        ensures stands { Stands setting.now.value result };
 
     /// How many words there are.
     fn size(setting: &Self::Setting) -> usize
@@ -53,6 +58,14 @@ pub trait Jobs {
     /// Whether its job is done, and it holds nothing.
     fn rests(program: &Self::Program) -> bool
         ensures { result ≡ is_rest (act (attempt program.now)) };
+
+    /// Whether it was given up, and has a request to withdraw or locks to free.
+    fn is_given_up(program: &Self::Program) -> bool
+        ensures { result ≡ is_given_up (attempt program.now).phase };
+
+    /// Past its turn, the turn's number, its job and its reply.
+    fn outcome(program: &Self::Program) -> Option<(u64, Self::Job, Self::Reply)>
+        ensures { result ≡ outcome_of (attempt program.now) };
 
     /// The number of the word that its next step is made on.
     fn place(setting: &Self::Setting, program: &Self::Program) -> usize

@@ -4,6 +4,7 @@
 pub use desk::Desk;
 pub use jobs::Jobs;
 pub use meeting::meet;
+pub use progress::{Progress, Told};
 pub use room::Room;
 pub use shutting::{shut, shut_all};
 pub use view::View;
@@ -11,6 +12,7 @@ pub use view::View;
 mod desk;
 mod jobs;
 mod meeting;
+mod progress;
 mod room;
 mod rule;
 mod shutting;

@@ -1,6 +1,6 @@
 ghost use Rattle.std.specs.Prelude.{◌≡◌, ◌++◌, ◌<◌, [], ℕ, List};
 ghost use Rattle.atomic_table.specs.Table.{Allows};
-ghost use Rattle.desks.specs.Desks.{IsSeated, actor_of, seen_in};
+ghost use Rattle.desks.specs.Views.{IsDeskOf};
 ghost use Rattle.desks.specs.Met.{HasLooked, HaveMet};
 ghost use Rattle.desks.specs.Kept.{PartOf};
 ghost use Rattle.desks.specs.Parts.{first_of, others_of};
@@ -76,18 +76,13 @@ fn meet_seats<F: Jobs>(
     *other = mem::replace(one, first);
 }
 
-/// Two actors meet: each has seen what both have seen, and all turns so far.
+/// Two desks meet: each has seen what both have seen, and all turns so far.
 pub fn meet<F: Jobs>(room: &Room<F>, setting: &F::Setting, one: &mut Desk<F>, other: &mut Desk<F>)
-    requires setting { F.IsSetting setting.now }
-    requires room { (room.now.table.shared.key.setting.value ≡ setting.now) × (room.now.table.shared.table_id.words ≡ (F.system setting.now).size) }
-    requires tables { (one.old.seat.table_id ≡ room.now.table.shared.table_id) × (other.old.seat.table_id ≡ room.now.table.shared.table_id) }
-    requires one { IsSeated (system_of (F.system setting.now)) one.old.number one.old.seat.me (actor_of F.attempt one.old.doing) }
-    requires other { IsSeated (system_of (F.system setting.now)) other.old.number other.old.seat.me (actor_of F.attempt other.old.doing) }
-    ensures same { (one.new.number ≡ one.old.number) × (one.new.doing ≡ one.old.doing) × (other.new.number ≡ other.old.number) × (other.new.doing ≡ other.old.doing) }
-    ensures tables { (one.new.seat.table_id ≡ room.now.table.shared.table_id) × (other.new.seat.table_id ≡ room.now.table.shared.table_id) }
-    ensures one { IsSeated (system_of (F.system setting.now)) one.old.number one.new.seat.me (actor_of F.attempt one.old.doing) }
-    ensures other { IsSeated (system_of (F.system setting.now)) other.old.number other.new.seat.me (actor_of F.attempt other.old.doing) }
-    ensures met { HaveMet (system_of (F.system setting.now)) one.old.number other.old.number (seen_in one.old.seat.me.0) (seen_in other.old.seat.me.0) (seen_in one.new.seat.me.0) (seen_in other.new.seat.me.0) }
+    requires one { IsDeskOf one.old room.now setting.now }
+    requires other { IsDeskOf other.old room.now setting.now }
+    ensures one { one.new ≡ record (one.old) { seen = one.new.seen } }
+    ensures other { other.new ≡ record (other.old) { seen = other.new.seen } }
+    ensures met { HaveMet (system_of (F.system setting.now)) one.old.number other.old.number one.old.seen other.old.seen one.new.seen other.new.seen }
 {
     meet_seats::<F>(&room.table.shared, setting, &mut one.seat, &mut other.seat);
 }

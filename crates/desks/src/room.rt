@@ -1,6 +1,6 @@
 ghost use Rattle.std.specs.Prelude.{◌≡◌, ◌≤◌, ◌<◌, ℕ, [], None, IfOk, IfSome, slice_get, vec_capacity, vec_len};
-ghost use Rattle.desks.specs.Desks.{IsFresh};
 ghost use Rattle.desks.specs.Parts.{idle_parts};
+ghost use Rattle.desks.specs.Views.{AreNew};
 ghost use Rattle.turns.specs.System.{system_of};
 
 use crate::desk::Desk;
@@ -9,6 +9,7 @@ use crate::rule::{Key, Parted, Rules, Systems};
 use crate::steps::{Knows, Words};
 use atomic_table::{Seat, Table};
 use std::alloc::{AllocError, Global};
+use std::marker::Model;
 use std::snapshot::Snapshot;
 use turns::laws;
 
@@ -16,6 +17,17 @@ use turns::laws;
 #[derive(Drop)]
 pub struct Room<F: Jobs> {
     pub(crate) table: Table<(), Knows<F>, Key<F::Setting>, Rules<F>, Global>,
+}
+
+impl<F: Jobs> Model for Room<F> {
+    ghost use Rattle.std.specs.Prelude.{◌≡◌};
+    ghost use Rattle.desks.specs.Views.{RoomView};
+
+    ghost Value = { RoomView F.Setting };
+
+    ghost view = { λ room. record { table = room.table.shared.table_id; setting = room.table.shared.key.setting.value; count = room.table.shared.key.count } };
+
+    ghost invariant = { λ room. F.IsSetting room.table.shared.key.setting.value × (room.table.shared.table_id.words ≡ (F.system room.table.shared.key.setting.value).size) × (room.table.shared.table_id.slots ≡ 0) };
 }
 
 /// Gives each of the actors that a seat knows a desk of its own.
@@ -26,16 +38,17 @@ fn deal<F: Jobs>(
     count: u32,
     desks: &mut Vec<Desk<F>>,
 )
+    requires setting { F.IsSetting setting.now }
     requires few { count ≤ (F.system setting.now).sharing.most }
     requires room { (shared.now.key.setting.value ≡ setting.now) × (0 < shared.now.table_id.words) }
     requires seat { (seat.table_id ≡ shared.now.table_id) × (seat.me ≡ (idle_parts 0 count, [])) }
     requires none { (desks.old.items ≡ []) × (count ≤ vec_capacity desks.old) }
-    ensures count { vec_len desks.new ≡ count }
-    ensures each { (i : ℕ) → IfSome (slice_get desks.new.items i) (λ d. (d.number ≡ i) × (d.doing ≡ None) × IsFresh (system_of (F.system setting.now)) shared.now.table_id i d.seat) }
+    ensures { AreNew desks.new.items (record { table = shared.now.table_id; setting = setting.now; count = count }) }
 {
     for number in 0..count {
         let one = shared.split_seat::<Parted>(&mut seat);
         desks.push_reserved(Desk {
+            setting: Snapshot::of(setting),
             seat: one,
             number,
             doing: None,
@@ -44,7 +57,7 @@ fn deal<F: Jobs>(
 }
 
 impl<F: Jobs> Room<F> {
-    /// Words of 0, and so many desks.
+    /// Opens a room on the system's first words, with so many desks.
     pub fn open(
         alloc: Global,
         setting: &F::Setting,
@@ -52,9 +65,8 @@ impl<F: Jobs> Room<F> {
     ) -> Result<(Room<F>, Vec<Desk<F>>), AllocError>
         requires setting { F.IsSetting setting.now }
         requires few { count ≤ (F.system setting.now).sharing.most }
-        ensures room { IfOk result (λ r. (r.0.table.shared.key.setting.value ≡ setting.now) × (r.0.table.shared.table_id.words ≡ (F.system setting.now).size) × (r.0.table.shared.table_id.slots ≡ 0) × (r.0.table.shared.key.count ≡ count)) }
-        ensures count { IfOk result (λ r. vec_len r.1 ≡ count) }
-        ensures each { IfOk result (λ r. (i : ℕ) → IfSome (slice_get r.1.items i) (λ d. (d.number ≡ i) × (d.doing ≡ None) × IsFresh (system_of (F.system setting.now)) r.0.table.shared.table_id i d.seat)) }
+        ensures room { IfOk result (λ r. (r.0.setting ≡ setting.now) × (r.0.count ≡ count)) }
+        ensures desks { IfOk result (λ r. AreNew r.1.items r.0) }
     {
         laws::every_move_keeps_the_law::<Systems<F>>();
         let words = F::initial(alloc, setting)?;
@@ -64,8 +76,7 @@ impl<F: Jobs> Room<F> {
             count,
         };
         let (table, seat) = Table::of_words(alloc, words.as_slice(), &key)?;
-        let room = Room { table };
-        deal(&room.table.shared, setting, seat, count, &mut desks);
-        Ok((room, desks))
+        deal(&table.shared, setting, seat, count, &mut desks);
+        Ok((Room { table }, desks))
     }
 }

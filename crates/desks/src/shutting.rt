@@ -1,10 +1,9 @@
 ghost use Rattle.std.specs.Prelude.{◌≡◌, ◌≤◌, ◌<◌, ℕ, true, List, [], IfNone, IfSome, MatchResult, slice_get, vec_capacity, vec_len};
 ghost use Rattle.std.specs.Slots.{slots_items, slots_len, IsFull};
-ghost use Rattle.desks.specs.Desks.{IsSeated, actor_of, is_idle, seen_in};
-ghost use Rattle.desks.specs.Met.{AllRest, IsEnded, IsShut, Tells};
-ghost use Rattle.desks.specs.Parts.{Begins, own};
+ghost use Rattle.desks.specs.Desks.{IsSeated, seen_in};
+ghost use Rattle.desks.specs.Met.{AllRest, AreIdle, HasClosed, IsShut, Tells};
+ghost use Rattle.desks.specs.Views.{IsDeskOf};
 ghost use Rattle.turns.specs.System.{system_of};
-ghost use Rattle.turns.specs.World.{RecordOf};
 
 use crate::desk::Desk;
 use crate::jobs::Jobs;
@@ -25,10 +24,14 @@ fn copy_words(closed: &Closed<(), Global>, words: &mut Vec<u64>)
     }
 }
 
+/// The seat of a desk, which knows the desk's actor alone.
 fn seat_of<F: Jobs>(desk: Desk<F>) -> Seat<(), Knows<F>>
-    ensures { result ≡ desk.seat }
+    ensures table { result.table_id ≡ desk.table }
+    ensures seated { IsSeated (system_of (F.system desk.setting)) desk.number result.me desk.actor }
+    ensures seen { seen_in result.me.0 ≡ desk.seen }
 {
     let Desk {
+        setting: _,
         seat,
         number: _,
         doing: _,
@@ -43,10 +46,10 @@ fn gather<F: Jobs>(
     mut desks: Vec<Desk<F>>,
 ) -> Option<Seat<(), Knows<F>>>
     requires room { (shared.now.key.setting.value ≡ setting.now) × (0 < shared.now.table_id.words) }
-    requires desks { (i : ℕ) → IfSome (slice_get desks.items i) (λ d. (d.number ≡ i) × (d.seat.table_id ≡ shared.now.table_id) × IsSeated (system_of (F.system setting.now)) i d.seat.me (actor_of F.attempt d.doing) × (is_idle (actor_of F.attempt d.doing) ≡ true)) }
+    requires desks { AreIdle (system_of (F.system setting.now)) shared.now.table_id setting.now desks.items }
     ensures table { IfSome result (λ seat. (seat.table_id ≡ shared.now.table_id) × (seat.me.1 ≡ [])) }
     ensures rest { IfSome result (λ seat. AllRest (system_of (F.system setting.now)) seat.me.0) }
-    ensures told { IfSome result (λ seat. (i : ℕ) → IfSome (slice_get desks.items i) (λ d. Tells (system_of (F.system setting.now)) seat.me.0 i (seen_in d.seat.me.0))) }
+    ensures told { IfSome result (λ seat. (i : ℕ) → IfSome (slice_get desks.items i) (λ d. Tells (system_of (F.system setting.now)) seat.me.0 i d.seen)) }
     ensures none { IfNone result (vec_len desks ≡ 0) }
 {
     let Some(last) = desks.pop() else {
@@ -59,19 +62,19 @@ fn gather<F: Jobs>(
     Some(seat)
 }
 
-/// Shuts the room with all of its desks, which are idle, and gives its words. For want of memory all are handed back.
+/// Shuts the room with all of its desks, which are idle and each at the place of its number, and gives its
+/// words. For want of memory all are handed back.
 pub fn shut_all<F: Jobs>(
     alloc: Global,
     room: Room<F>,
     setting: &F::Setting,
     desks: Vec<Desk<F>>,
 ) -> Result<Vec<u64>, (Room<F>, Vec<Desk<F>>)>
-    requires setting { F.IsSetting setting.now }
-    requires room { (room.table.shared.key.setting.value ≡ setting.now) × (room.table.shared.table_id.words ≡ (F.system setting.now).size) × (room.table.shared.table_id.slots ≡ 0) }
-    requires all { (vec_len desks ≡ room.table.shared.key.count) × (0 < vec_len desks) }
-    requires desks { (i : ℕ) → IfSome (slice_get desks.items i) (λ d. (d.number ≡ i) × (d.seat.table_id ≡ room.table.shared.table_id) × IsSeated (system_of (F.system setting.now)) i d.seat.me (actor_of F.attempt d.doing) × (is_idle (actor_of F.attempt d.doing) ≡ true)) }
+    requires setting { room.setting ≡ setting.now }
+    requires all { (vec_len desks ≡ room.count) × (0 < vec_len desks) }
+    requires desks { AreIdle (system_of (F.system setting.now)) room.table setting.now desks.items }
     ensures { MatchResult result
-        (λ words. (order : List (RecordOf (system_of (F.system setting.now)))) × IsEnded (system_of (F.system setting.now)) (vec_len desks) words.items order × ((i : ℕ) → IfSome (slice_get desks.items i) (λ d. Begins (seen_in d.seat.me.0) order × (own i order ≡ own i (seen_in d.seat.me.0)))))
+        (λ words. HasClosed (system_of (F.system setting.now)) desks.items words.items)
         (λ back. (back.0 ≡ room) × (back.1 ≡ desks)) }
 {
     laws::jobs_act_at_their_turns::<Systems<F>>();
@@ -96,23 +99,17 @@ pub fn shut<F: Jobs>(
     setting: &F::Setting,
     desk: Desk<F>,
 ) -> Result<Vec<u64>, (Room<F>, Desk<F>)>
-    requires setting { F.IsSetting setting.now }
-    requires room { (room.table.shared.key.setting.value ≡ setting.now) × (room.table.shared.table_id.words ≡ (F.system setting.now).size) × (room.table.shared.table_id.slots ≡ 0) }
-    requires table { desk.seat.table_id ≡ room.table.shared.table_id }
-    requires seated { IsSeated (system_of (F.system setting.now)) desk.number desk.seat.me (actor_of F.attempt desk.doing) }
-    ensures { MatchResult result (λ words. IsShut (system_of (F.system setting.now)) desk.number (seen_in desk.seat.me.0) words.items) (λ back. (back.0 ≡ room) × (back.1 ≡ desk)) }
+    requires { IsDeskOf desk room setting.now }
+    ensures { MatchResult result
+        (λ words. IsShut (system_of (F.system setting.now)) desk.number desk.seen words.items)
+        (λ back. (back.0 ≡ room) × (back.1 ≡ desk)) }
 {
     laws::jobs_act_at_their_turns::<Systems<F>>();
     let Ok(mut words) = Vec::with_capacity(alloc, F::size(setting)) else {
         return Err((room, desk));
     };
     let Room { table } = room;
-    let Desk {
-        seat,
-        number: _,
-        doing: _,
-    } = desk;
-    let closed = table.close_with(seat);
+    let closed = table.close_with(seat_of(desk));
     copy_words(&closed, &mut words);
     closed.free();
     Ok(words)

@@ -2,12 +2,15 @@ ghost use Rattle.std.specs.Prelude.{◌≡◌, ◌≢◌, ◌<◌, ℕ};
 ghost use Rattle.atomic_table.specs.Table.{Allows};
 ghost use Rattle.turns.specs.Attempt.{Rest, act};
 ghost use Rattle.turns.specs.World.{Does, becomes, place as place_of};
-ghost use Rattle.desks.specs.Desks.{HasStepped, IsSeated, seen_in};
+ghost use Rattle.turns.specs.Law.{IsLegal};
+ghost use Rattle.desks.specs.Desks.{HasStepped, IsProgress, IsSeated, seen_in};
+ghost use Rattle.desks.specs.Kept.{HasEnded};
 ghost use Rattle.turns.specs.Operations.{applied};
 ghost use Rattle.desks.specs.Rule.{Rule};
 ghost use Rattle.turns.specs.System.{system_of};
 
 use crate::jobs::Jobs;
+use crate::progress::{Progress, Told as ToldRecord};
 use crate::rule::{Key, Rules, Systems, Telling, Told};
 use crate::view::View;
 use atomic_table::{Seat, Shared};
@@ -87,10 +90,40 @@ pub(crate) fn step<F: Jobs>(
     requires goes_on { act (F.attempt program.old) ≢ Rest }
     ensures same { seat.new.table_id ≡ seat.old.table_id }
     ensures stands { F.Stands setting.now program.new }
-    ensures stepped { HasStepped (system_of (F.system setting.now)) actor number (F.attempt program.old) (F.attempt program.new) (seen_in seat.old.me.0) (seen_in seat.new.me.0) result }
+    ensures stepped { HasStepped (system_of (F.system setting.now)) actor (Does number (F.attempt program.old)) (Does number (F.attempt program.new)) (seen_in seat.old.me.0) (seen_in seat.new.me.0) result }
+    ensures ended { act (F.attempt program.new) ≡ Rest → HasEnded (system_of (F.system setting.now)) (seen_in seat.new.me.0) actor number (F.attempt program.new) }
     ensures seated { IsSeated (system_of (F.system setting.now)) actor seat.new.me (Does number (F.attempt program.new)) }
 {
     laws::every_move_keeps_the_law::<Systems<F>>();
+    laws::put_off_actors_are_told_by_whom::<Systems<F>>();
     let found = make::<F, Brand>(shared, setting, seat, actor, number, program);
     F::take(setting, actor, program, found)
+}
+
+/// What a step has come to: where it was the last of its job, the job's record.
+pub(crate) fn tell<F: Jobs>(
+    _setting: &F::Setting,
+    seat: &Seat<(), Knows<F>>,
+    answer: Answer,
+    actor: u32,
+    number: u64,
+    program: &F::Program,
+) -> Progress<F::Job, F::Reply>
+    requires legal { let O = system_of (F.system _setting.now) in IsLegal O 0 O.opening (seen_in seat.now.me.0) }
+    requires ended { act (F.attempt program.now) ≡ Rest → HasEnded (system_of (F.system _setting.now)) (seen_in seat.now.me.0) actor number (F.attempt program.now) }
+    ensures { IsProgress (system_of (F.system _setting.now)) actor (Does number (F.attempt program.now)) (seen_in seat.now.me.0) answer result }
+{
+    if !F::rests(program) {
+        return Progress::Moved(answer);
+    }
+    match F::outcome(program) {
+        Some((turn, job, reply)) => Progress::Finished(ToldRecord {
+            turn,
+            actor,
+            number,
+            job,
+            reply,
+        }),
+        None => unreachable!(),
+    }
 }

@@ -1,7 +1,6 @@
-use Rattle.std.proofs.Common.{◌≡◌, ◌≤◌, ◌-◌, ℕ, [], None, IfSome, slice_get, vec_capacity, vec_len}
-use Rattle.desks.specs.Desks.{IsFresh}
+use Rattle.std.proofs.Common.{◌≡◌, ◌≤◌, ◌-◌, ℕ, [], IfSome, slice_get, vec_capacity, vec_len}
+use Rattle.desks.specs.Views.{new_desk}
 use Rattle.desks.specs.Parts.{idle_parts}
-use Rattle.turns.specs.System.{system_of}
 use Rattle.desks.proofs.room.deal.Given as goal
 
 abbrev pub invariant-loop-number : goal.invariant-loop-number
@@ -11,5 +10,5 @@ invariant-loop-number g l = record {
   me : l.seat.me ≡ (idle_parts l.number (l.count - l.number), []);
   len : vec_len l.desks ≡ l.number;
   room : l.count ≤ vec_capacity l.desks;
-  each : (i : ℕ) → IfSome (slice_get l.desks.items i) (λ d. (d.number ≡ i) × (d.doing ≡ None) × IsFresh (system_of (g.F.Jobs.system l.setting)) l.shared.table_id i d.seat);
+  each : (i : ℕ) → IfSome (slice_get l.desks.items i) (λ d. d ≡ new_desk (record { table = l.shared.table_id; setting = l.setting; count = l.count }) i);
 }

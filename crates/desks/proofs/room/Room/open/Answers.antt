@@ -23,3 +23,12 @@ deal-requires-clause-room g c =
     let long : length c.as_slice.result.now ≡ O.size = ap length initial ∙ system.opens.initial_length in
     let words : 0 < c.in_ok-table.table.shared.table_id.words = omega (arith, some_words O system, long, made.0) in
     (ap (λ k. k.setting.value) made.5 ∙ c.of.ensures, words)
+
+pub invariant_of-result : goal.invariant_of-result
+invariant_of-result g c =
+    let O = system_of (g.F.Jobs.system c.args.setting.now) in
+    let system = g.met.F.Jobs.is_system c.args.setting.now c.requires.setting in
+    let made = c.in_ok-table.ensures in
+    let initial : c.as_slice.result.now ≡ O.initial = c.as_slice.ensures.value ∙ c.in_ok-words.ensures in
+    let setting : c.in_ok-table.table.shared.key.setting.value ≡ c.args.setting.now = ap (λ k. k.setting.value) made.5 ∙ c.of.ensures in
+    rw setting (c.requires.setting, made.0 ∙ ap length initial ∙ system.opens.initial_length, made.1)
