@@ -20,7 +20,7 @@ module _ (O : System) where
   reseated k me me_after now order seated legal view empty =
       let seen : seen_in me_after.0 ≡ order = ap seen_in view in
       let view' : me_after.0 ≡ part k seated.before (seen_in me_after.0) ∷ [] = view ∙ ap (λ (s : List (RecordOf O)). part k seated.before s ∷ []) (sym seen) in
-      record { few = seated.few; before = seated.before; me_is = λ j. (view' j, empty j); follows = seated.follows; legal = rw seen legal }
+      record { few = seated.few; before = seated.before; me_is = λ j. (view' j, empty j); follows = seated.follows; legal = rw seen legal; to_free = seated.to_free }
 
   -- what comes of it that two seats were joined, looked, and were parted
   pub record AreMet (k j : ℕ) (me you me_after you_after : Me (Unit {0}) (List (PartOf O))) (now then : ActorOf O) : Type 0 where

@@ -165,6 +165,7 @@ module _ (O : System) where
       me_is = me ∙ ap (λ (l : List (RecordOf O)). (record { number = k; actor = Idle; seen = l } ∷ [], [])) (sym seen);
       follows = follows_itself O k Idle;
       legal = rw seen tt;
+      to_free = tt;
     };
     seen_none = seen;
   } where

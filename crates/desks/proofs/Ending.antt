@@ -36,6 +36,16 @@ module _ (O : System) where
   ended_in w k number a GivesBack e stands fits rests = absurd (stands (holds_none a.held rests))
   ended_in w k number a (Operates turn) e stands fits rests = record { turn = turn; phase = e; recorded = fits.recorded }
 
+  -- an attempt that gives back has something to free
+  pub to_free_in : (a : AttemptOf O) (phase : Phase Lock ℕ) → StandsIn O a phase → phase ≡ GivesBack → ¬ (a.held ≡ [])
+  to_free_in a (Requests lock) stands e = absurd cc
+  to_free_in a (Seizes lock expected) stands e = absurd cc
+  to_free_in a (Tests word) stands e = absurd cc
+  to_free_in a Turns stands e = absurd cc
+  to_free_in a (Withdraws lock) stands e = absurd cc
+  to_free_in a GivesBack stands e = stands
+  to_free_in a (Operates turn) stands e = absurd cc
+
   -- who puts an actor off is told by the law
   pub names_whom : (k : ℕ) (step : Act Lock Effect) (found : ℕ) → ((holder : ℕ) → answered O k step found ≡ Held holder → IsPutOffBy O k step found (judgement.Held holder))
       → ((other : ℕ) → answered O k step found ≡ Preferred other → IsPutOffBy O k step found (judgement.Preferred other))

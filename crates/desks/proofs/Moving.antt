@@ -16,7 +16,7 @@ use Rattle.desks.specs.Parts.{own}
 use Rattle.desks.specs.Kept.{PartOf, Fits, IsKept, Follows, HasMoved}
 use Rattle.desks.specs.Rule.{Rule}
 use Rattle.desks.proofs.Lookups.{there_below}
-use Rattle.desks.proofs.Ending.{ended_in}
+use Rattle.desks.proofs.Ending.{ended_in, to_free_in}
 use Rattle.desks.proofs.Counting.{times_set, apart, own_append}
 
 length_set : {A : Type 0} (l : List A) (i : ℕ) (x : A) → length (set l i x) ≡ length l
@@ -122,7 +122,7 @@ module _ (O : System) where
       }
 
       pub told_moved : HasMoved O k number a seen found (after kept.order found ∷ [])
-      told_moved = record { order = kept.order; begins = fit.begins; own_is = fit.own_is; view_is = refl; legal = law.legal; ended = ended_in O (record { words = slice_set words (place O (act a)) (becomes O k (act a) found); actors = actors; order = order }) k number (next O k a found) (next O k a found).phase refl sound.stands sound.fits } where
+      told_moved = record { order = kept.order; begins = fit.begins; own_is = fit.own_is; view_is = refl; legal = law.legal; ended = ended_in O (record { words = slice_set words (place O (act a)) (becomes O k (act a) found); actors = actors; order = order }) k number (next O k a found) (next O k a found).phase refl sound.stands sound.fits; to_free = λ gives. to_free_in O (next O k a found) (next O k a found).phase sound.stands gives } where
         sound : IsSound O (record { words = slice_set words (place O (act a)) (becomes O k (act a) found); actors = actors; order = order }) k number (next O k a found)
         sound = law.sound k number (next O k a found) (own_fits found refl).there
 

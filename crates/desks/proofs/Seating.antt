@@ -11,7 +11,7 @@ use Rattle.turns.specs.Runs.{is_free}
 use Rattle.desks.specs.Kept.{PartOf, Follows, HasEnded, HasMoved}
 use Rattle.turns.specs.declared.answer.Answer.{Answer}
 use Rattle.desks.specs.Rule.{Rule}
-use Rattle.desks.specs.Desks.{HasStepped, IsSeated, NamesWhom, seen_in}
+use Rattle.desks.specs.Desks.{HasStepped, HasToFree, IsSeated, NamesWhom, seen_in}
 use Rattle.desks.proofs.Lookups.{there_below}
 use Rattle.desks.proofs.Moving.{allows}
 use Rattle.desks.proofs.Ending.{rest_is}
@@ -50,6 +50,7 @@ module _ (O : System) where
         me_is = λ j. (view j, empty j);
         follows = subst (λ (b : AttemptOf O). Follows O k m (Does number b)) (sym is) (follows_itself k m);
         legal = rw seen moved.legal;
+        to_free = subst (λ (b : AttemptOf O). HasToFree O (Does number b)) (sym is) moved.to_free;
       }
 
   seen_after : (k number : ℕ) (a : AttemptOf O) (seen : List (RecordOf O)) (me_after : Me (Unit {0}) (List (PartOf O))) (found : ℕ) → (moved : HasMoved O k number a seen found me_after.0) → seen_in me_after.0 ≡ moved.order ++ added_in O k number a a.phase found
@@ -91,5 +92,5 @@ module _ (O : System) where
   idle_free (Does number a) e = rest_is O (act a) e
 
   -- a seat that knows its actor knows it after such a change
-  pub seated_on : (k : ℕ) (me : Me (Unit {0}) (List (PartOf O))) (now later : ActorOf O) → IsSeated O k me now → ((w : World O) → Lawful O w → get_elem? w.actors k ≡ some now → Lawful O (with_actor O k later w)) → IsSeated O k me later
-  seated_on k me now later seated second = record { few = seated.few; before = seated.before; me_is = seated.me_is; follows = follows_on k seated.before now later seated.follows second; legal = seated.legal }
+  pub seated_on : (k : ℕ) (me : Me (Unit {0}) (List (PartOf O))) (now later : ActorOf O) → IsSeated O k me now → ((w : World O) → Lawful O w → get_elem? w.actors k ≡ some now → Lawful O (with_actor O k later w)) → HasToFree O later → IsSeated O k me later
+  seated_on k me now later seated second to_free = record { few = seated.few; before = seated.before; me_is = seated.me_is; follows = follows_on k seated.before now later seated.follows second; legal = seated.legal; to_free = to_free }

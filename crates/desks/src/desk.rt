@@ -2,14 +2,14 @@ ghost use Rattle.std.specs.Prelude.{◌≡◌, ℕ};
 ghost use Rattle.turns.specs.Law.{IsLegal};
 ghost use Rattle.turns.specs.Runs.{is_free};
 ghost use Rattle.turns.specs.System.{system_of};
-ghost use Rattle.desks.specs.Desks.{HasAdvanced, assigned_if};
+ghost use Rattle.desks.specs.Desks.{HasAdvanced, HasGivenBack, assigned_if};
 ghost use Rattle.desks.specs.Views.{IsDeskOf};
 
 use crate::jobs::Jobs;
 use crate::progress::Progress;
 use crate::room::Room;
 use crate::rule::Systems;
-use crate::steps::{Knows, step, tell};
+use crate::steps::{Knows, free_all, step, tell};
 use atomic_table::Seat;
 use std::marker::Model;
 use std::snapshot::Snapshot;
@@ -95,5 +95,27 @@ impl<F: Jobs> Desk<F> {
             program,
         );
         tell::<F>(setting, &self.seat, answer, self.number, *number, program)
+    }
+    /// Withdraws its request and frees what it holds, each by one atomic operation, and begins its job anew.
+    /// Past its turn it changes nothing.
+    pub fn give_back(&mut self, room: &Room<F>, setting: &F::Setting)
+        requires { IsDeskOf self.old room.now setting.now }
+        ensures same { self.new ≡ record (self.old) { actor = self.new.actor; seen = self.new.seen } }
+        ensures given_back { HasGivenBack (system_of (F.system setting.now)) self.old.number self.old.actor self.new.actor self.old.seen self.new.seen }
+    {
+        laws::every_move_keeps_the_law::<Systems<F>>();
+        let Some((number, program)) = &mut self.doing else {
+            return;
+        };
+        F::restart(setting, program);
+        let shared = &room.table.shared;
+        free_all::<F>(
+            shared,
+            setting,
+            &mut self.seat,
+            self.number,
+            *number,
+            program,
+        );
     }
 }

@@ -3,7 +3,7 @@ ghost use Rattle.atomic_table.specs.Table.{Allows};
 ghost use Rattle.turns.specs.Attempt.{Rest, act};
 ghost use Rattle.turns.specs.World.{Does, becomes, place as place_of};
 ghost use Rattle.turns.specs.Law.{IsLegal};
-ghost use Rattle.desks.specs.Desks.{HasStepped, IsProgress, IsSeated, seen_in};
+ghost use Rattle.desks.specs.Desks.{FreesAll, HasStepped, IsProgress, IsSeated, seen_in};
 ghost use Rattle.desks.specs.Kept.{HasEnded};
 ghost use Rattle.turns.specs.Operations.{applied};
 ghost use Rattle.desks.specs.Rule.{Rule};
@@ -98,6 +98,31 @@ pub(crate) fn step<F: Jobs>(
     laws::put_off_actors_are_told_by_whom::<Systems<F>>();
     let found = make::<F, Brand>(shared, setting, seat, actor, number, program);
     F::take(setting, actor, program, found)
+}
+
+/// Steps on while what was held is given back: its request is withdrawn, and its locks are freed.
+pub(crate) fn free_all<F: Jobs>(
+    shared: &Words<F>,
+    setting: &F::Setting,
+    seat: &mut Seat<(), Knows<F>>,
+    actor: u32,
+    number: u64,
+    program: &mut F::Program,
+)
+    requires table { seat.old.table_id ≡ shared.now.table_id }
+    requires words { shared.now.table_id.words ≡ (F.system setting.now).size }
+    requires key { shared.now.key.setting.value ≡ setting.now }
+    requires setting { F.IsSetting setting.now }
+    requires stands { F.Stands setting.now program.old }
+    requires seated { IsSeated (system_of (F.system setting.now)) actor seat.old.me (Does number (F.attempt program.old)) }
+    ensures same { seat.new.table_id ≡ seat.old.table_id }
+    ensures stands { F.Stands setting.now program.new }
+    ensures freed { FreesAll (system_of (F.system setting.now)) actor number (F.attempt program.old) (F.attempt program.new) (seen_in seat.old.me.0) (seen_in seat.new.me.0) }
+    ensures seated { IsSeated (system_of (F.system setting.now)) actor seat.new.me (Does number (F.attempt program.new)) }
+{
+    while F::is_given_up(program) {
+        step::<F>(shared, setting, seat, actor, number, program);
+    }
 }
 
 /// What a step has come to: where it was the last of its job, the job's record.
