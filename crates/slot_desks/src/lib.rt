@@ -1,0 +1,6 @@
+//! The slots as jobs that desks do, on words that threads share.
+#![tactic(auto)]
+
+pub use jobs::SlotJobs;
+
+mod jobs;
