@@ -3,4 +3,5 @@
 
 pub use jobs::SlotJobs;
 
+pub mod driving;
 mod jobs;
