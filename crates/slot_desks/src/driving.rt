@@ -149,3 +149,50 @@ pub fn put_desk(_room: &SlotRoom, desks: &mut Vec<SlotDesk>, desk: SlotDesk)
 {
     desks.push_reserved(desk);
 }
+
+/// One step of a desk at work, or its next job.
+fn go_on(room: &SlotRoom, desk: &mut SlotDesk, number: u64, log: &mut Vec<SlotTold>)
+    requires { IsDeskOf desk.old room.now tt }
+    ensures desk { IsDeskOf desk.new room.now tt }
+    ensures number { desk.new.number ≡ desk.old.number }
+{
+    match desk.advance(room, &()) {
+        Progress::Idle => {
+            let slot = (number % 8) as u32;
+            let job = match number % 3 {
+                0 => Job::Take,
+                1 => Job::TakeBoth,
+                _ => Job::Give(slot),
+            };
+            desk.assign(number, job);
+        }
+        Progress::Moved(_) => {}
+        Progress::Finished(told) => {
+            if log.push(told).is_err() {
+                return;
+            }
+        }
+    }
+}
+
+/// Two desks at work in turn, so many steps of the one, and twice as many of the other. (Were there as many, each
+/// step of the one would change the word that the other expects, and neither would come far.)
+pub fn in_turn(
+    room: &SlotRoom,
+    one: &mut SlotDesk,
+    other: &mut SlotDesk,
+    steps: u64,
+    log: &mut Vec<SlotTold>,
+)
+    requires one { IsDeskOf one.old room.now tt }
+    requires other { IsDeskOf other.old room.now tt }
+    ensures one { IsDeskOf one.new room.now tt }
+    ensures other { IsDeskOf other.new room.now tt }
+    ensures numbers { (one.new.number ≡ one.old.number) × (other.new.number ≡ other.old.number) }
+{
+    for number in 0..steps {
+        go_on(room, one, number, log);
+        go_on(room, other, number, log);
+        go_on(room, other, number, log);
+    }
+}

@@ -5,3 +5,5 @@ pub use jobs::SlotJobs;
 
 pub mod driving;
 mod jobs;
+#[cfg(test)]
+mod tests;
