@@ -1,4 +1,4 @@
-//! Threads that take slots and give them back, each on a desk of its own.
+//! Desks that take slots and give them back.
 
 ghost use Rattle.std.specs.Prelude.{◌≡◌, ◌<◌, ◌+◌, IfSome, vec_capacity, vec_len};
 ghost use Rattle.desks.specs.Met.{AreIdle, IsIdleDesk};
@@ -175,8 +175,8 @@ fn go_on(room: &SlotRoom, desk: &mut SlotDesk, number: u64, log: &mut Vec<SlotTo
     }
 }
 
-/// Two desks at work in turn, so many steps of the one, and twice as many of the other. (Were there as many, each
-/// step of the one would change the word that the other expects, and neither would come far.)
+/// Two desks at work in turn, so many steps of the one, and twice as many of the other. Were there as
+/// many, each step of the one would change the word that the other expects, and neither would come far.
 pub fn in_turn(
     room: &SlotRoom,
     one: &mut SlotDesk,
