@@ -7,7 +7,7 @@ use Rattle.xbar_traffic.specs.declared.fault.RowFault.{RowFault}
 use Rattle.xbar_traffic.specs.declared.fault.RowFault.TheVariants.{Marker}
 use Rattle.xbar_traffic.specs.declared.fault.TrafficFault.{TrafficFault}
 use Rattle.xbar_traffic.specs.declared.row.Row.{Row}
-use Rattle.xbar_core.specs.Exchange.{Exchange, OfPlan, opened}
+use Rattle.xbar_core.specs.Exchange.{Exchange, OfPlan, fresh_exchange}
 use Rattle.xbar_core.specs.Settling.{settled}
 use Rattle.xbar_core.specs.declared.kind.Kind.{Kind}
 use Rattle.crossbar5.specs.Rows.{done, row_fault}
@@ -20,7 +20,7 @@ pub record HasRun (plan : Tables) (kinds : List Kind) (rows : List Row) (fault :
   pub left : outcome plan kinds rows fault ≡ outcome_from plan now.exchange number (drop index rows) fault
   pub count : number ≡ index + 1
 
-pub has_opened : (plan : Tables) (kinds : List Kind) (rows : List Row) (fault : Option RowFault) (now : OfPlan) → now ≡ record { plan = plan; exchange = opened kinds } → HasRun plan kinds rows fault now 1 0
+pub has_opened : (plan : Tables) (kinds : List Kind) (rows : List Row) (fault : Option RowFault) (now : OfPlan) → now ≡ record { plan = plan; exchange = fresh_exchange kinds } → HasRun plan kinds rows fault now 1 0
 has_opened plan kinds rows fault now is = record {
   under = ap (λ (o : OfPlan). o.plan) is;
   left = ap (λ (o : OfPlan). outcome_from plan o.exchange 1 rows fault) (sym is);

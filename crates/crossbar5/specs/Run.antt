@@ -8,7 +8,7 @@ use Rattle.xbar_match.specs.Switches.{word_of}
 use Rattle.xbar_match.specs.Counts.{closed_line_fields, closed_switch_fields}
 use Rattle.xbar_office.specs.Legal.{IsLegal, after}
 use Rattle.xbar_jobs.specs.Office.{ShowsOffice}
-use Rattle.xbar_core.specs.Exchange.{Exchange, Marker, is_idle, opened}
+use Rattle.xbar_core.specs.Exchange.{Exchange, Marker, is_idle, fresh_exchange}
 use Rattle.xbar_core.specs.Settling.{settled}
 use Rattle.xbar_core.specs.declared.kind.Kind.{Kind}
 use Rattle.xbar_traffic.specs.Fault.{fault_line}
@@ -48,7 +48,7 @@ outcome_from plan e number (row ∷ rows) fault = judged number (row_fault e row
 
 -- what rows come to in an office that opens with markers of these kinds, with the fault of the row behind them
 abbrev pub outcome : Tables → List Kind → List Row → Option RowFault → Outcome
-outcome plan kinds rows fault = outcome_from plan (opened kinds) 1 rows fault
+outcome plan kinds rows fault = outcome_from plan (fresh_exchange kinds) 1 rows fault
 
 -- what is written of it
 abbrev pub outcome_text : Outcome → List ℕ

@@ -1,7 +1,7 @@
 //! What traffic comes to in an office, as text.
 
 ghost use Rattle.std.specs.Prelude.{◌≡◌, All, IfOk, length};
-ghost use Rattle.xbar_core.specs.Exchange.{opened};
+ghost use Rattle.xbar_core.specs.Exchange.{fresh_exchange};
 ghost use Rattle.xbar_core.specs.Settling.{settled as settled_office};
 ghost use Rattle.xbar_traffic.specs.Row.{IsRow, mode_of};
 ghost use Rattle.xbar_traffic.specs.declared.mode.Mode.{Mode};
@@ -21,7 +21,7 @@ use xbar_traffic::{RowFault, Traffic, TrafficFault};
 /// Opens an office; how many markers it has is known to be in range.
 fn open<'p>(alloc: Global, plan: &'p Plan, kinds: &[Kind]) -> Result<Exchange<'p>, AllocError>
     requires { IsMarkerCount (length kinds.now) }
-    ensures { IfOk result (λ office. office ≡ record { plan = plan.now; exchange = opened kinds.now }) }
+    ensures { IfOk result (λ office. office ≡ record { plan = plan.now; exchange = fresh_exchange kinds.now }) }
 {
     match Exchange::open(alloc, plan, kinds) {
         Ok(office) => Ok(office),

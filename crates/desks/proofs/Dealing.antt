@@ -8,7 +8,7 @@ use Rattle.atomic_table.specs.declared.shared.Seat.{Seat}
 use Rattle.atomic_table.proofs.Lists.{at_set, at_snoc}
 use Rattle.turns.specs.Among.{IsIn}
 use Rattle.turns.specs.System.{System, IsSystem}
-use Rattle.turns.specs.World.{ActorOf, RecordOf, Idle, opened}
+use Rattle.turns.specs.World.{ActorOf, RecordOf, Idle, fresh_world}
 use Rattle.turns.specs.Law.{Lawful}
 use Rattle.desks.specs.Parts.{Part, one_if, own, times, times_in_all, first_of, others_of, idle_parts}
 use Rattle.desks.specs.Kept.{PartOf, Fits, IsKept}
@@ -125,7 +125,7 @@ module _ (O : System) where
             (at_snoc (set s.views id v) [] view other e)
 
   -- the table as it is opened
-  pub opening_kept : (count : ℕ) → Lawful O (opened O count) → IsKept O count O.initial (idle_parts 0 count ∷ [])
+  pub opening_kept : (count : ℕ) → Lawful O (fresh_world O count) → IsKept O count O.initial (idle_parts 0 count ∷ [])
   opening_kept count law = record {
     actors = replicate count Idle;
     order = [];
@@ -135,7 +135,7 @@ module _ (O : System) where
     fits = fits;
     once = λ k. let h = idle_once O.Lock O.Job O.Reply O.Effect k 0 count in omega arith;
   } where
-    fit : (p : PartOf O) → IsIn p (idle_parts 0 count) → Fits O (opened O count) p
+    fit : (p : PartOf O) → IsIn p (idle_parts 0 count) → Fits O (fresh_world O count) p
     fit p within =
         let h = idle_in 0 count p within in
         let below : p.number < count = omega (arith, h.below) in
@@ -145,7 +145,7 @@ module _ (O : System) where
           own_is = ap (own p.number) (sym h.seen);
         }
 
-    fits : (id : ℕ) (view : List (PartOf O)) → get_elem? (idle_parts 0 count ∷ []) id ≡ some view → (p : PartOf O) → IsIn p view → Fits O (opened O count) p
+    fits : (id : ℕ) (view : List (PartOf O)) → get_elem? (idle_parts 0 count ∷ []) id ≡ some view → (p : PartOf O) → IsIn p view → Fits O (fresh_world O count) p
     fits zero view e p within = fit p (subst (λ (l : List (PartOf O)). IsIn p l) (sym (some-injective (idle_parts 0 count) view e)) within)
     fits (suc id) view e p within = absurd (some-ne-none view (sym e))
 

@@ -2,7 +2,7 @@ use Rattle.std.proofs.Common.{◌≡◌, ◌≢◌, ℕ, zero, suc, ◌+◌, ◌
 use Rattle.std.specs.Prelude.{Option, Some, None, slice_get, ◌==◌, if◌then◌else◌}
 use Rattle.turns.specs.Among.{IsIn}
 use Rattle.turns.specs.System.{System}
-use Rattle.turns.specs.Attempt.{Act, AttemptOf, Rest, Ask, Take, Leave, Free, Look, Turn as TakesTurn, Make, StandsIn, act_in, answered, free_act}
+use Rattle.turns.specs.Attempt.{Act, AttemptOf, Rest, Ask, Take, Leave, Free, Look, Turn as TakesTurn, Make, StandsIn, act_in, answer_to, free_act}
 use Rattle.turns.specs.World.{World, ActorOf, Does, RecordOf}
 use Rattle.turns.specs.Law.{FitsIn, IsLegal}
 use Rattle.turns.specs.Runs.{is_rest}
@@ -47,9 +47,9 @@ module _ (O : System) where
   to_free_in a (Operates turn) stands e = absurd cc
 
   -- who puts an actor off is told by the law
-  pub names_whom : (k : ℕ) (step : Act Lock Effect) (found : ℕ) → ((holder : ℕ) → answered O k step found ≡ Held holder → IsPutOffBy O k step found (judgement.Held holder))
-      → ((other : ℕ) → answered O k step found ≡ Preferred other → IsPutOffBy O k step found (judgement.Preferred other))
-      → (answer : Answer) → answer ≡ answered O k step found → NamesWhom O k step found answer
+  pub names_whom : (k : ℕ) (step : Act Lock Effect) (found : ℕ) → ((holder : ℕ) → answer_to O k step found ≡ Held holder → IsPutOffBy O k step found (judgement.Held holder))
+      → ((other : ℕ) → answer_to O k step found ≡ Preferred other → IsPutOffBy O k step found (judgement.Preferred other))
+      → (answer : Answer) → answer ≡ answer_to O k step found → NamesWhom O k step found answer
   names_whom k step found held preferred (Asked word) e = tt
   names_whom k step found held preferred Seized e = tt
   names_whom k step found held preferred (Held holder) e = held holder (sym e)

@@ -1,6 +1,6 @@
 use Rattle.std.proofs.Common.{◌≡◌, ◌≢◌, ℕ, suc, ◌+◌, ◌≤◌, true, List, [], ◌∷◌, length, sym, refl, ap, subst, arith, ◌∙◌}
 use Rattle.turns.specs.System.{System}
-use Rattle.turns.specs.Attempt.{AttemptOf, Rest, act_in, answered, begin, changed, forgotten, free_act, freed, next, rest_of, restarted, restarted_in}
+use Rattle.turns.specs.Attempt.{AttemptOf, Rest, act_in, answer_to, begin, changed, forgotten, free_act, freed, next, rest_of, restarted, restarted_in}
 use Rattle.turns.specs.declared.answer.Answer.TheVariants.{Done}
 use Rattle.turns.specs.declared.phase.Phase.{Phase}
 use Rattle.turns.specs.declared.phase.Phase.TheVariants.{Requests, Seizes, Tests, Turns, Withdraws, GivesBack, Operates}
@@ -25,7 +25,7 @@ module _ (O : System) where
   freed_back a end [] e = sym e
   freed_back a end (lock ∷ held) e = e
 
-  freeing_done : (k found : ℕ) (held : List Lock) → answered O k (free_act held) found ≡ Done
+  freeing_done : (k found : ℕ) (held : List Lock) → answer_to O k (free_act held) found ≡ Done
   freeing_done k found [] = refl
   freeing_done k found (lock ∷ held) = refl
 
@@ -33,7 +33,7 @@ module _ (O : System) where
   rest_shorter [] some = absurd (some refl)
   rest_shorter (lock ∷ held) some = omega arith
 
-  goes_back_in : (k found : ℕ) (a : AttemptOf O) (phase : Phase Lock ℕ) → is_given_up phase ≡ true → (phase ≡ GivesBack → ¬ (a.held ≡ [])) → GoesBack phase a (changed O a phase (answered O k (act_in phase a) found))
+  goes_back_in : (k found : ℕ) (a : AttemptOf O) (phase : Phase Lock ℕ) → is_given_up phase ≡ true → (phase ≡ GivesBack → ¬ (a.held ≡ [])) → GoesBack phase a (changed O a phase (answer_to O k (act_in phase a) found))
   goes_back_in k found a (Requests lock) up some = absurd cc
   goes_back_in k found a (Seizes lock expected) up some = absurd cc
   goes_back_in k found a (Tests word) up some = absurd cc

@@ -8,7 +8,7 @@ use Rattle.turns.specs.Among.{IsIn}
 use Rattle.turns.proofs.Lists.{in_either}
 use Rattle.turns.specs.System.{System, IsSystem}
 use Rattle.turns.specs.Attempt.{AttemptOf, act, next}
-use Rattle.turns.specs.World.{World, ActorOf, RecordOf, Does, moved, place, becomes, added_in, recorded, with_actor}
+use Rattle.turns.specs.World.{World, ActorOf, RecordOf, Does, moved, place, becomes, added_in, turn_record, with_actor}
 use Rattle.turns.specs.Law.{IsSound, Lawful}
 use Rattle.turns.specs.declared.phase.Phase.{Phase}
 use Rattle.turns.specs.declared.phase.Phase.TheVariants.{Requests, Seizes, Tests, Turns, Withdraws, GivesBack, Operates}
@@ -28,7 +28,7 @@ module _ (O : System) where
   open O use {Lock, Job, Reply}
 
   -- the record of another actor's turn is not its own
-  own_recorded : (j k number : ℕ) (job : Job) (reply : Option Reply) (found : ℕ) → j ≢ k → own j (recorded O k number job reply found) ≡ []
+  own_recorded : (j k number : ℕ) (job : Job) (reply : Option Reply) (found : ℕ) → j ≢ k → own j (turn_record O k number job reply found) ≡ []
   own_recorded j k number job None found away = refl
   own_recorded j k number job (Some reply) found away = rw (ne_eqb k j (λ e. away (sym e))) refl
 
@@ -42,7 +42,7 @@ module _ (O : System) where
   own_added j k number a (Operates turn) found away = refl
 
   -- the record of a turn is of the actor whose turn it is
-  actor_recorded : (k number : ℕ) (job : Job) (reply : Option Reply) (found : ℕ) (r : RecordOf O) → IsIn r (recorded O k number job reply found) → r.actor ≡ k
+  actor_recorded : (k number : ℕ) (job : Job) (reply : Option Reply) (found : ℕ) (r : RecordOf O) → IsIn r (turn_record O k number job reply found) → r.actor ≡ k
   actor_recorded k number job None found r within = absurd within
   actor_recorded k number job (Some reply) found r (inl e) = ap (λ (x : RecordOf O). x.actor) e
   actor_recorded k number job (Some reply) found r (inr none) = absurd none

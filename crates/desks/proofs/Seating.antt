@@ -4,7 +4,7 @@ use lib.ListN.{get_elem?}
 use Rattle.atomic_table.specs.Table.{Allows, Me, State}
 use Rattle.atomic_table.proofs.Lists.{set_again, set_here}
 use Rattle.turns.specs.System.{System, IsSystem}
-use Rattle.turns.specs.Attempt.{Rest, AttemptOf, act, answered, next}
+use Rattle.turns.specs.Attempt.{Rest, AttemptOf, act, answer_to, next}
 use Rattle.turns.specs.World.{World, ActorOf, RecordOf, Idle, Does, moved, place, becomes, added_in, with_actor}
 use Rattle.turns.specs.Law.{IsFree, Lawful}
 use Rattle.turns.specs.Runs.{is_free}
@@ -57,7 +57,7 @@ module _ (O : System) where
   seen_after k number a seen me_after found moved = ap seen_in moved.view_is
 
   -- a step by what the seat tells of it
-  pub stepped_by : (k number : ℕ) (a after : AttemptOf O) (me me_after : Me (Unit {0}) (List (PartOf O))) (found : ℕ) (answer : Answer) → HasMoved O k number a (seen_in me.0) found me_after.0 → after ≡ next O k a found → answer ≡ answered O k (act a) found → NamesWhom O k (act a) found answer → HasStepped O k (Does number a) (Does number after) (seen_in me.0) (seen_in me_after.0) answer
+  pub stepped_by : (k number : ℕ) (a after : AttemptOf O) (me me_after : Me (Unit {0}) (List (PartOf O))) (found : ℕ) (answer : Answer) → HasMoved O k number a (seen_in me.0) found me_after.0 → after ≡ next O k a found → answer ≡ answer_to O k (act a) found → NamesWhom O k (act a) found answer → HasStepped O k (Does number a) (Does number after) (seen_in me.0) (seen_in me_after.0) answer
   stepped_by k number a after me me_after found answer moved is told names =
       let seen = seen_after k number a (seen_in me.0) me_after found moved in
       record {

@@ -8,7 +8,7 @@ use turns::{Answer, Operation};
 ///
 /// Each function is exact by the law's own words, so that whoever writes one proves nothing of threads.
 pub trait Jobs {
-    ghost use Rattle.turns.specs.Attempt.{Attempt, Rest, act, answered, begin, next, restarted};
+    ghost use Rattle.turns.specs.Attempt.{Attempt, Rest, act, answer_to, begin, next, restarted};
     ghost use Rattle.turns.specs.Runs.{is_rest};
     ghost use Rattle.turns.specs.System.{IsSystem, SystemOver, system_of};
     ghost use Rattle.turns.specs.World.{operation as operation_of, place as place_of};
@@ -84,7 +84,7 @@ pub trait Jobs {
         requires stands { Stands setting.now program.old }
         requires goes_on { act (attempt program.old) ≢ Rest }
         ensures next { attempt program.new ≡ next (system_of (system setting.now)) actor (attempt program.old) found }
-        ensures answer { result ≡ answered (system_of (system setting.now)) actor (act (attempt program.old)) found }
+        ensures answer { result ≡ answer_to (system_of (system setting.now)) actor (act (attempt program.old)) found }
         ensures stands { Stands setting.now program.new };
 
     /// Begins anew, once all that it holds is given back. Past the turn nothing changes.

@@ -1,7 +1,7 @@
 use Rattle.std.proofs.Common.{◌≡◌, ℕ, ◌/◌, Bool, true, false, [], ◌∷◌, refl, ◌∙◌}
 use Rattle.std.specs.Prelude.{Option, Some, None, Ok, Err}
 use Rattle.turns.specs.Seen.{Seen}
-use Rattle.turns.specs.Script.{Script, Ends, Tests, Seizes, walk, left, left_of_test, left_of_seizing, first_wanted, is_held, value_read}
+use Rattle.turns.specs.Script.{Script, Ends, TestThen, SeizeThen, walk, left, left_of_test, left_of_seizing, first_wanted, is_held, value_read}
 use Rattle.turns.specs.declared.wanted.Wanted.TheVariants.{Seize, Test}
 use Rattle.turns.proofs.Walks.{walk_end}
 use Rattle.slots.specs.System.{Decision, Takes, Gives, free_in, taken_or, both_or_none, and_upper, script, slots}
@@ -21,14 +21,14 @@ module _ (seen : Seen ℕ) where
   walk_of script = walk slots.same seen script
 
   -- a walk goes on by what is held, and by what was read
-  walk_seizing : (lock : ℕ) (script : Script ℕ Decision) → walk_of (Seizes lock script) ≡ seized lock (walk_of script) (is_held slots.same seen.held lock)
+  walk_seizing : (lock : ℕ) (script : Script ℕ Decision) → walk_of (SeizeThen lock script) ≡ seized lock (walk_of script) (is_held slots.same seen.held lock)
   unfolding walk left left_of_seizing first_wanted
   walk_seizing lock script = at (is_held slots.same seen.held lock) where
     at : (b : Bool) → first_wanted (left_of_seizing script (left slots.same seen script) lock b) ≡ seized lock (first_wanted (left slots.same seen script)) b
     at true = refl
     at false = refl
 
-  walk_testing : (word : ℕ) (script : ℕ → Script ℕ Decision) → walk_of (Tests word script) ≡ tested word (λ value. walk_of (script value)) (value_read seen.readings word)
+  walk_testing : (word : ℕ) (script : ℕ → Script ℕ Decision) → walk_of (TestThen word script) ≡ tested word (λ value. walk_of (script value)) (value_read seen.readings word)
   unfolding walk left left_of_test first_wanted
   walk_testing word script = at (value_read seen.readings word) where
     at : (o : Option ℕ) → first_wanted (left_of_test script (λ value. left slots.same seen (script value)) word o) ≡ tested word (λ value. first_wanted (left slots.same seen (script value))) o
@@ -46,19 +46,19 @@ module _ (seen : Seen ℕ) where
     by_upper_word None = refl
     by_upper_word (Some upper) = by_found (free_in 1 upper)
 
-    by_upper : (b : Bool) → seized 1 (walk_of (Tests 1 (λ upper. taken_or (free_in 1 upper) (Ends (Takes []))))) b ≡ take_upper None b (value_read seen.readings 1)
+    by_upper : (b : Bool) → seized 1 (walk_of (TestThen 1 (λ upper. taken_or (free_in 1 upper) (Ends (Takes []))))) b ≡ take_upper None b (value_read seen.readings 1)
     by_upper false = refl
     by_upper true = walk_testing 1 _ ∙ by_upper_word (value_read seen.readings 1)
 
-    by_slot : (o : Option ℕ) → walk_of (taken_or o (Seizes 1 (Tests 1 (λ upper. taken_or (free_in 1 upper) (Ends (Takes [])))))) ≡ take_upper o (is_held slots.same seen.held 1) (value_read seen.readings 1)
+    by_slot : (o : Option ℕ) → walk_of (taken_or o (SeizeThen 1 (TestThen 1 (λ upper. taken_or (free_in 1 upper) (Ends (Takes [])))))) ≡ take_upper o (is_held slots.same seen.held 1) (value_read seen.readings 1)
     by_slot (Some slot) = walk_end slots.same seen (Takes (slot ∷ []))
     by_slot None = walk_seizing 1 _ ∙ by_upper (is_held slots.same seen.held 1)
 
-    by_lower_word : (o : Option ℕ) → tested 0 (λ lower. walk_of (taken_or (free_in 0 lower) (Seizes 1 (Tests 1 (λ upper. taken_or (free_in 1 upper) (Ends (Takes []))))))) o ≡ take_come true o (is_held slots.same seen.held 1) (value_read seen.readings 1)
+    by_lower_word : (o : Option ℕ) → tested 0 (λ lower. walk_of (taken_or (free_in 0 lower) (SeizeThen 1 (TestThen 1 (λ upper. taken_or (free_in 1 upper) (Ends (Takes []))))))) o ≡ take_come true o (is_held slots.same seen.held 1) (value_read seen.readings 1)
     by_lower_word None = refl
     by_lower_word (Some lower) = by_slot (free_in 0 lower)
 
-    by_lower : (b : Bool) → seized 0 (walk_of (Tests 0 (λ lower. taken_or (free_in 0 lower) (Seizes 1 (Tests 1 (λ upper. taken_or (free_in 1 upper) (Ends (Takes [])))))))) b ≡ take_come b (value_read seen.readings 0) (is_held slots.same seen.held 1) (value_read seen.readings 1)
+    by_lower : (b : Bool) → seized 0 (walk_of (TestThen 0 (λ lower. taken_or (free_in 0 lower) (SeizeThen 1 (TestThen 1 (λ upper. taken_or (free_in 1 upper) (Ends (Takes [])))))))) b ≡ take_come b (value_read seen.readings 0) (is_held slots.same seen.held 1) (value_read seen.readings 1)
     by_lower false = refl
     by_lower true = walk_testing 0 _ ∙ by_lower_word (value_read seen.readings 0)
 
@@ -72,7 +72,7 @@ module _ (seen : Seen ℕ) where
     by_upper_word slot None = refl
     by_upper_word slot (Some upper) = by_found slot (free_in 1 upper)
 
-    by_upper : (slot : ℕ) (b : Bool) → seized 1 (walk_of (Tests 1 (λ upper. both_or_none (Some slot) (free_in 1 upper)))) b ≡ both_upper (Some slot) b (value_read seen.readings 1)
+    by_upper : (slot : ℕ) (b : Bool) → seized 1 (walk_of (TestThen 1 (λ upper. both_or_none (Some slot) (free_in 1 upper)))) b ≡ both_upper (Some slot) b (value_read seen.readings 1)
     by_upper slot false = refl
     by_upper slot true = walk_testing 1 _ ∙ by_upper_word slot (value_read seen.readings 1)
 
@@ -84,7 +84,7 @@ module _ (seen : Seen ℕ) where
     by_lower_word None = refl
     by_lower_word (Some lower) = by_slot (free_in 0 lower)
 
-    by_lower : (b : Bool) → seized 0 (walk_of (Tests 0 (λ lower. and_upper (free_in 0 lower)))) b ≡ both_come b (value_read seen.readings 0) (is_held slots.same seen.held 1) (value_read seen.readings 1)
+    by_lower : (b : Bool) → seized 0 (walk_of (TestThen 0 (λ lower. and_upper (free_in 0 lower)))) b ≡ both_come b (value_read seen.readings 0) (is_held slots.same seen.held 1) (value_read seen.readings 1)
     by_lower false = refl
     by_lower true = walk_testing 0 _ ∙ by_lower_word (value_read seen.readings 0)
 

@@ -2,7 +2,7 @@
 use Rattle.std.proofs.Common.{ℕ, ◌≤◌, [], length, arith}
 use Rattle.std.specs.Prelude.{Option, Some, None}
 use Rattle.turns.specs.Bounds.{AreBounded, EndsIn}
-use Rattle.turns.specs.Script.{Script, Ends, Tests, Seizes, AsksAtMost}
+use Rattle.turns.specs.Script.{Script, Ends, TestThen, SeizeThen, AsksAtMost}
 use Rattle.slots.specs.System.{Decision, Takes, free_in, taken_or, both_or_none, and_upper, effects_of, script, slots}
 use Rattle.slots.specs.declared.job.Job.{Job}
 use Rattle.slots.specs.declared.job.Job.TheVariants.{Take, TakeBoth, Give}
@@ -27,7 +27,7 @@ asks_upper (Some lower) = λ word below. asks_both lower (free_in 1 word)
 
 asks : (job : Job) → AsksAtMost 2 2 (script job)
 unfolding AsksAtMost
-asks Take = λ lower below. asks_or 1 1 (free_in 0 lower) (Seizes 1 (Tests 1 (λ upper. taken_or (free_in 1 upper) (Ends (Takes []))))) (λ upper below. asks_or 0 0 (free_in 1 upper) (Ends (Takes [])) tt)
+asks Take = λ lower below. asks_or 1 1 (free_in 0 lower) (SeizeThen 1 (TestThen 1 (λ upper. taken_or (free_in 1 upper) (Ends (Takes []))))) (λ upper below. asks_or 0 0 (free_in 1 upper) (Ends (Takes [])) tt)
 asks TakeBoth = λ lower below. asks_upper (free_in 0 lower)
 asks (Give slot) = tt
 
@@ -48,7 +48,7 @@ ends_upper (Some lower) = λ word below. ends_both lower (free_in 1 word)
 
 ends : (job : Job) → EndsIn HasFew (script job)
 unfolding EndsIn
-ends Take = λ lower below. ends_or (free_in 0 lower) (Seizes 1 (Tests 1 (λ upper. taken_or (free_in 1 upper) (Ends (Takes []))))) (λ upper below. ends_or (free_in 1 upper) (Ends (Takes [])) (omega arith))
+ends Take = λ lower below. ends_or (free_in 0 lower) (SeizeThen 1 (TestThen 1 (λ upper. taken_or (free_in 1 upper) (Ends (Takes []))))) (λ upper below. ends_or (free_in 1 upper) (Ends (Takes [])) (omega arith))
 ends TakeBoth = λ lower below. ends_upper (free_in 0 lower)
 ends (Give slot) = omega arith
 

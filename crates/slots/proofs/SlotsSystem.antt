@@ -6,7 +6,7 @@ use Rattle.std.proofs.lemmas.Bool.{eqb-true, eq-eqb}
 use Rattle.std.proofs.lemmas.Nat.Bits.{bit_at-zero}
 use Rattle.turns.specs.Among.{IsIn}
 use Rattle.turns.specs.Operations.{FitsWord}
-use Rattle.turns.specs.Script.{Script, Ends, Tests, Seizes, run, first_wanted}
+use Rattle.turns.specs.Script.{Script, Ends, TestThen, SeizeThen, run, first_wanted}
 use Rattle.turns.specs.Sharing.{IsUnused}
 use Rattle.turns.specs.Sharings.{preferring}
 use Rattle.turns.specs.System.{IsSystem, IsUnder, AreUnder, AreAlike, KeepsTo, DecidesAs, DecidesUnder, perform_all, FitWords, MayMake}
@@ -90,7 +90,7 @@ keeps Take right = (
   omega arith,
   (
     word_under (0 ∷ []) 0 (omega arith) (inl refl),
-    λ low below. taken_keeps (0 ∷ []) 0 low (Seizes 1 (Tests 1 (λ upper. taken_or (free_in 1 upper) (Ends (Takes []))))) (free_in 0 low) refl (omega arith) (inl refl)
+    λ low below. taken_keeps (0 ∷ []) 0 low (SeizeThen 1 (TestThen 1 (λ upper. taken_or (free_in 1 upper) (Ends (Takes []))))) (free_in 0 low) refl (omega arith) (inl refl)
         (omega arith, (word_under (0 ∷ 1 ∷ []) 1 (omega arith) (inr (inl refl)), λ high below. taken_keeps (0 ∷ 1 ∷ []) 1 high (Ends (Takes [])) (free_in 1 high) refl (omega arith) (inr (inl refl)) (may_mark (0 ∷ 1 ∷ []) [] (none_held (0 ∷ 1 ∷ []))))),
   ),
 )
@@ -125,7 +125,7 @@ module _ (words : List ℕ) where
   one_run None = refl
   one_run (Some slot) = refl
 
-  take_run : (o : Option ℕ) → run words (taken_or o (Seizes 1 (Tests 1 (λ upper. taken_or (free_in 1 upper) (Ends (Takes [])))))) ≡ Takes (option_to_list (or_first o (free_in 1 (slice_index words 1))))
+  take_run : (o : Option ℕ) → run words (taken_or o (SeizeThen 1 (TestThen 1 (λ upper. taken_or (free_in 1 upper) (Ends (Takes [])))))) ≡ Takes (option_to_list (or_first o (free_in 1 (slice_index words 1))))
   unfolding run
   take_run None = one_run (free_in 1 (slice_index words 1))
   take_run (Some slot) = refl

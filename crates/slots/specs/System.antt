@@ -1,6 +1,6 @@
 use Rattle.std.specs.Prelude.{◌≡◌, ℕ, ◌+◌, ◌-◌, ◌*◌, ◌/◌, ◌%◌, ◌^◌, ◌<◌, ◌==◌, Option, Some, None, List, [], ◌∷◌, map, replicate, slice_index, ⊤}
 use Rattle.std.specs.Int.{bit_at}
-use Rattle.turns.specs.Script.{Script, Ends, Tests, Seizes}
+use Rattle.turns.specs.Script.{Script, Ends, TestThen, SeizeThen}
 use Rattle.turns.specs.Sharings.{preferring}
 use Rattle.turns.specs.System.{System, SystemOver, system_of}
 use Rattle.turns.specs.declared.operation.Operation.{Operation}
@@ -62,14 +62,14 @@ both_or_none (Some lower) None = Ends (Takes [])
 both_or_none None upper = Ends (Takes [])
 
 abbrev pub and_upper : Option ℕ → Script ℕ Decision
-and_upper (Some lower) = Seizes 1 (Tests 1 (λ word. both_or_none (Some lower) (free_in 1 word)))
+and_upper (Some lower) = SeizeThen 1 (TestThen 1 (λ word. both_or_none (Some lower) (free_in 1 word)))
 and_upper None = Ends (Takes [])
 
 -- what a job does, step by step
 abbrev pub script : Job → Script ℕ Decision
-script Take = Seizes 0 (Tests 0 (λ lower. taken_or (free_in 0 lower) (Seizes 1 (Tests 1 (λ upper. taken_or (free_in 1 upper) (Ends (Takes [])))))))
-script TakeBoth = Seizes 0 (Tests 0 (λ lower. and_upper (free_in 0 lower)))
-script (Give slot) = Seizes (slot / 4) (Ends (Gives slot))
+script Take = SeizeThen 0 (TestThen 0 (λ lower. taken_or (free_in 0 lower) (SeizeThen 1 (TestThen 1 (λ upper. taken_or (free_in 1 upper) (Ends (Takes [])))))))
+script TakeBoth = SeizeThen 0 (TestThen 0 (λ lower. and_upper (free_in 0 lower)))
+script (Give slot) = SeizeThen (slot / 4) (Ends (Gives slot))
 
 abbrev pub first_lock : Job → ℕ
 first_lock Take = 0

@@ -5,7 +5,7 @@ ghost use Rattle.std.specs.Int.{bit_at};
 ghost use mathlib.Core.Option.{some};
 ghost use lib.ListN.{get_elem?};
 ghost use Rattle.turns.specs.Attempt.{AttemptOf, Make, act, begin};
-ghost use Rattle.turns.specs.Bounds.{AreSteady, IsAside, stepped};
+ghost use Rattle.turns.specs.Bounds.{AreSteady, IsAside, after_steps};
 ghost use Rattle.turns.specs.Law.{IsFree, Lawful, holder_at};
 ghost use Rattle.turns.specs.Runs.{Move, AreMoves, run_of};
 ghost use Rattle.turns.specs.World.{World, ActorOf, Does, RecordOf, after};
@@ -65,7 +65,7 @@ pub fn steady_jobs_are_short()
 
 /// An actor that is left alone ends its job within 13 steps, and one more for each lock that it held before.
 pub fn jobs_left_alone_end()
-    ensures { (w : World slots) (k number : ℕ) (a : AttemptOf slots) (count : ℕ) → Lawful slots w → get_elem? w.actors k ≡ some (Does number a) → ((j : ℕ) (m : ActorOf slots) → ¬ (j ≡ k) → get_elem? w.actors j ≡ some m → IsAside slots m) → 13 + length a.held ≤ count → (ended : ActorOf slots) × (get_elem? (stepped slots k count w).actors k ≡ some ended) × IsFree slots ended }
+    ensures { (w : World slots) (k number : ℕ) (a : AttemptOf slots) (count : ℕ) → Lawful slots w → get_elem? w.actors k ≡ some (Does number a) → ((j : ℕ) (m : ActorOf slots) → ¬ (j ≡ k) → get_elem? w.actors j ≡ some m → IsAside slots m) → 13 + length a.held ≤ count → (ended : ActorOf slots) × (get_elem? (after_steps slots k count w).actors k ≡ some ended) × IsFree slots ended }
 {
     laws::actors_left_alone_end::<Slots>();
 }

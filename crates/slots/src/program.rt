@@ -1,5 +1,5 @@
 ghost use Rattle.std.specs.Prelude.{◌≡◌, ◌≢◌, ◌<◌, map};
-ghost use Rattle.turns.specs.Attempt.{Rest, act, answered, begin, change, forgotten, freed, next, put_off, restarted, walks_on};
+ghost use Rattle.turns.specs.Attempt.{Rest, act, answer_to, begin, change, forgotten, freed, next, put_off, restarted, walks_on};
 ghost use Rattle.turns.specs.Runs.{is_rest};
 ghost use Rattle.turns.specs.World.{operation as operation_of, place as place_of};
 ghost use Rattle.slots.specs.Few.{list_of};

@@ -1,7 +1,7 @@
 //! The steps of a program: what each is told by the number that it finds.
 
 ghost use Rattle.std.specs.Prelude.{◌≡◌, ◌<◌, ◌≢◌};
-ghost use Rattle.turns.specs.Attempt.{Rest, act, answered, next, restarted};
+ghost use Rattle.turns.specs.Attempt.{Rest, act, answer_to, next, restarted};
 ghost use Rattle.slots.specs.Few.{is_full};
 ghost use Rattle.slots.specs.Programs.{Keeps, attempt_of};
 ghost use Rattle.slots.specs.System.{slots};
@@ -16,7 +16,7 @@ fn request(program: Program, actor: u32, bank: u32, found: u64) -> (Program, Ans
     requires phase { program.phase ≡ Phase.Requests bank }
     requires keeps { Keeps program }
     ensures next { attempt_of result.0 ≡ next slots actor (attempt_of program) found }
-    ensures answer { result.1 ≡ answered slots actor (act (attempt_of program)) found }
+    ensures answer { result.1 ≡ answer_to slots actor (act (attempt_of program)) found }
     ensures keeps { Keeps result.0 }
 {
     let word = asked_by(actor, found);
@@ -38,7 +38,7 @@ fn seize(program: Program, actor: u32, bank: u32, expected: u64, found: u64) -> 
     requires phase { program.phase ≡ Phase.Seizes bank expected }
     requires keeps { Keeps program }
     ensures next { attempt_of result.0 ≡ next slots actor (attempt_of program) found }
-    ensures answer { result.1 ≡ answered slots actor (act (attempt_of program)) found }
+    ensures answer { result.1 ≡ answer_to slots actor (act (attempt_of program)) found }
     ensures keeps { Keeps result.0 }
 {
     if found == expected {
@@ -63,7 +63,7 @@ fn test(program: Program, actor: u32, word: usize, found: u64) -> (Program, Answ
     requires phase { program.phase ≡ Phase.Tests word }
     requires keeps { Keeps program }
     ensures next { attempt_of result.0 ≡ next slots actor (attempt_of program) found }
-    ensures answer { result.1 ≡ answered slots actor (act (attempt_of program)) found }
+    ensures answer { result.1 ≡ answer_to slots actor (act (attempt_of program)) found }
     ensures keeps { Keeps result.0 }
 {
     let readings = program.readings.with(Reading { word, value: found });
@@ -79,7 +79,7 @@ fn free(program: Program, actor: u32, found: u64) -> (Program, Answer)
     requires goes_on { act (attempt_of program) ≢ Rest }
     requires keeps { Keeps program }
     ensures next { attempt_of result.0 ≡ next slots actor (attempt_of program) found }
-    ensures answer { result.1 ≡ answered slots actor (act (attempt_of program)) found }
+    ensures answer { result.1 ≡ answer_to slots actor (act (attempt_of program)) found }
     ensures keeps { Keeps result.0 }
 {
     let held = program.held.rest();
@@ -92,7 +92,7 @@ fn operate(program: Program, actor: u32, turn: u64, found: u64) -> (Program, Ans
     requires goes_on { act (attempt_of program) ≢ Rest }
     requires keeps { Keeps program }
     ensures next { attempt_of result.0 ≡ next slots actor (attempt_of program) found }
-    ensures answer { result.1 ≡ answered slots actor (act (attempt_of program)) found }
+    ensures answer { result.1 ≡ answer_to slots actor (act (attempt_of program)) found }
     ensures keeps { Keeps result.0 }
 {
     let after = match program.effects {
@@ -114,7 +114,7 @@ fn step(program: Program, actor: u32, found: u64) -> (Program, Answer)
     requires goes_on { act (attempt_of program) ≢ Rest }
     requires keeps { Keeps program }
     ensures next { attempt_of result.0 ≡ next slots actor (attempt_of program) found }
-    ensures answer { result.1 ≡ answered slots actor (act (attempt_of program)) found }
+    ensures answer { result.1 ≡ answer_to slots actor (act (attempt_of program)) found }
     ensures keeps { Keeps result.0 }
 {
     match program.phase {
@@ -141,7 +141,7 @@ impl Program {
         requires goes_on { act (attempt_of self.old) ≢ Rest }
         requires keeps { Keeps self.old }
         ensures next { attempt_of self.new ≡ next slots actor (attempt_of self.old) found }
-        ensures answer { result ≡ answered slots actor (act (attempt_of self.old)) found }
+        ensures answer { result ≡ answer_to slots actor (act (attempt_of self.old)) found }
         ensures keeps { Keeps self.new }
     {
         let (after, answer) = step(*self, actor, found);

@@ -4,7 +4,7 @@ use mathlib.Core.Option.{some}
 use lib.ListN.{get_elem?}
 use Rattle.turns.specs.System.{System}
 use Rattle.turns.specs.Attempt.{AttemptOf, left_in}
-use Rattle.turns.specs.World.{World, ActorOf, Idle, Does, left_of, made, completed_word, completed_from, after}
+use Rattle.turns.specs.World.{World, ActorOf, Idle, Does, left_of, value_after, completed_word, completed_from, after}
 use Rattle.turns.specs.Law.{IsFree, Lawful}
 use Rattle.turns.specs.declared.phase.Phase.{Phase}
 use Rattle.turns.specs.declared.phase.Phase.TheVariants.{Requests, Seizes, Tests, Turns, Withdraws, GivesBack, Operates}
@@ -24,7 +24,7 @@ module _ (O : System) where
   complete_from actors none number (value ∷ words) =
       let same : completed_word O actors number value ≡ value =
       all_spare O actors number value
-      (λ k m at found. ap (λ (effects : List Effect). made O effects number found) (none k m at)) in
+      (λ k m at found. ap (λ (effects : List Effect). value_after O effects number found) (none k m at)) in
       ap (λ (first : ℕ). first ∷ completed_from O actors (suc number) words) same ∙
       ap (λ (rest : List ℕ). value ∷ rest) (complete_from actors none (suc number) words)
 

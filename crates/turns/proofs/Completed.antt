@@ -5,7 +5,7 @@ use mathlib.Core.Option.{some, some-injective, some-ne-none}
 use lib.ListN.{get_elem?}
 use Rattle.turns.specs.Among.{IsIn}
 use Rattle.turns.specs.System.{System, effect_on, IsSystem, IsUnder, AreUnder, AreDue, perform, perform_all}
-use Rattle.turns.specs.World.{World, ActorOf, left_of, made, completed, completed_word, completed_from}
+use Rattle.turns.specs.World.{World, ActorOf, left_of, value_after, completed, completed_word, completed_from}
 use Rattle.turns.proofs.Lists.{one_or_two, index_same, index_other}
 
 if_true : {A : Type 0} (b : Bool) (x y : A) → b ≡ true → (if b then x else y) ≡ x
@@ -20,20 +20,20 @@ module _ (O : System) where
   open O use {Lock, Effect, effect_word}
 
   -- an effect on this word, and one on another word
-  pub made_here : (effect : Effect) (effects : List Effect) (n v : ℕ) → effect_word effect ≡ n → made O (effect ∷ effects) n v ≡ made O effects n (effect_on O effect v)
-  made_here effect effects n v e = ap (made O effects n) (if_true (effect_word effect == n) (effect_on O effect v) v (eq-eqb (effect_word effect) n e))
+  pub made_here : (effect : Effect) (effects : List Effect) (n v : ℕ) → effect_word effect ≡ n → value_after O (effect ∷ effects) n v ≡ value_after O effects n (effect_on O effect v)
+  made_here effect effects n v e = ap (value_after O effects n) (if_true (effect_word effect == n) (effect_on O effect v) v (eq-eqb (effect_word effect) n e))
 
-  pub made_else : (effect : Effect) (effects : List Effect) (n v : ℕ) → effect_word effect ≢ n → made O (effect ∷ effects) n v ≡ made O effects n v
-  made_else effect effects n v e = ap (made O effects n) (if_false (effect_word effect == n) (effect_on O effect v) v (λ yes. e (eqb-true (effect_word effect) n yes)))
+  pub made_else : (effect : Effect) (effects : List Effect) (n v : ℕ) → effect_word effect ≢ n → value_after O (effect ∷ effects) n v ≡ value_after O effects n v
+  made_else effect effects n v e = ap (value_after O effects n) (if_false (effect_word effect == n) (effect_on O effect v) v (λ yes. e (eqb-true (effect_word effect) n yes)))
 
   -- effects and then others
-  pub made_append : (effects more : List Effect) (n v : ℕ) → made O (effects ++ more) n v ≡ made O more n (made O effects n v)
+  pub made_append : (effects more : List Effect) (n v : ℕ) → value_after O (effects ++ more) n v ≡ value_after O more n (value_after O effects n v)
   made_append [] more n v = refl
   made_append (effect ∷ effects) more n v = made_append effects more n (if effect_word effect == n then effect_on O effect v else v)
 
   -- effects that leave a word as it is
   abbrev pub Spares : List Effect → ℕ → Type 0
-  Spares effects n = (v : ℕ) → made O effects n v ≡ v
+  Spares effects n = (v : ℕ) → value_after O effects n v ≡ v
 
   -- some effect is on this word, or all of them spare it
   pub touch_or_spare : (effects : List Effect) (n : ℕ) → ((effect : Effect) × IsIn effect effects × (effect_word effect ≡ n)) ⊎ Spares effects n
@@ -54,10 +54,10 @@ module _ (O : System) where
   perform_length words [] = refl
   perform_length words (effect ∷ effects) = perform_length (perform O words effect) effects ∙ length-set words (effect_word effect) (effect_on O effect (slice_index words (effect_word effect)))
 
-  pub perform_index : (words : List ℕ) (effects : List Effect) (n : ℕ) → ((effect : Effect) → IsIn effect effects → effect_word effect < length words) → slice_index (perform_all O words effects) n ≡ made O effects n (slice_index words n)
+  pub perform_index : (words : List ℕ) (effects : List Effect) (n : ℕ) → ((effect : Effect) → IsIn effect effects → effect_word effect < length words) → slice_index (perform_all O words effects) n ≡ value_after O effects n (slice_index words n)
   unfolding perform_all
   perform_index words [] n there = refl
-  perform_index words (effect ∷ effects) n there = perform_index (perform O words effect) effects n (λ e within. subst (λ (l : ℕ). effect_word e < l) (sym (length-set words (effect_word effect) (effect_on O effect (slice_index words (effect_word effect))))) (there e (inr within))) ∙ ap (made O effects n) (at (one_or_two (effect_word effect) n)) where
+  perform_index words (effect ∷ effects) n there = perform_index (perform O words effect) effects n (λ e within. subst (λ (l : ℕ). effect_word e < l) (sym (length-set words (effect_word effect) (effect_on O effect (slice_index words (effect_word effect))))) (there e (inr within))) ∙ ap (value_after O effects n) (at (one_or_two (effect_word effect) n)) where
     at : (effect_word effect ≡ n) ⊎ (effect_word effect ≢ n) → slice_index (perform O words effect) n ≡ (if effect_word effect == n then effect_on O effect (slice_index words n) else slice_index words n)
     at (inl e) =
         subst (λ (m : ℕ). slice_index (perform O words effect) m ≡ effect_on O effect (slice_index words m)) e (index_same words (effect_word effect) (effect_on O effect (slice_index words (effect_word effect))) (there effect (inl refl))) ∙
@@ -110,13 +110,13 @@ module _ (O : System) where
   all_spare (m ∷ actors) n v spare = ap (completed_word O actors n) (spare zero m refl v) ∙ all_spare actors n v (λ j other at. spare (suc j) other at)
 
   -- only actor k may have effects on this word
-  pub only_one : (actors : List (ActorOf O)) (k n v : ℕ) (m : ActorOf O) → get_elem? actors k ≡ some m → ((j : ℕ) (other : ActorOf O) → j ≢ k → get_elem? actors j ≡ some other → Spares (left_of O other) n) → completed_word O actors n v ≡ made O (left_of O m) n v
+  pub only_one : (actors : List (ActorOf O)) (k n v : ℕ) (m : ActorOf O) → get_elem? actors k ≡ some m → ((j : ℕ) (other : ActorOf O) → j ≢ k → get_elem? actors j ≡ some other → Spares (left_of O other) n) → completed_word O actors n v ≡ value_after O (left_of O m) n v
   only_one [] k n v m at spare = absurd (some-ne-none m (sym at))
-  only_one (x ∷ actors) zero n v m at spare = all_spare actors n (made O (left_of O x) n v) (λ j other there. spare (suc j) other (λ e. omega arith) there) ∙ ap (λ (y : ActorOf O). made O (left_of O y) n v) (some-injective x m at)
+  only_one (x ∷ actors) zero n v m at spare = all_spare actors n (value_after O (left_of O x) n v) (λ j other there. spare (suc j) other (λ e. omega arith) there) ∙ ap (λ (y : ActorOf O). value_after O (left_of O y) n v) (some-injective x m at)
   only_one (x ∷ actors) (suc k) n v m at spare = ap (completed_word O actors n) (spare zero x (λ e. omega arith) refl v) ∙ only_one actors k n v m at (λ j other apart there. spare (suc j) other (λ e. apart (omega arith)) there)
 
   -- actor k's new effects do the same to this word
-  pub same_done : (actors : List (ActorOf O)) (k n v : ℕ) (m new : ActorOf O) → get_elem? actors k ≡ some m → ((x : ℕ) → made O (left_of O new) n x ≡ made O (left_of O m) n x) → completed_word O (set actors k new) n v ≡ completed_word O actors n v
+  pub same_done : (actors : List (ActorOf O)) (k n v : ℕ) (m new : ActorOf O) → get_elem? actors k ≡ some m → ((x : ℕ) → value_after O (left_of O new) n x ≡ value_after O (left_of O m) n x) → completed_word O (set actors k new) n v ≡ completed_word O actors n v
   same_done [] k n v m new at same = refl
-  same_done (x ∷ actors) zero n v m new at same = ap (completed_word O actors n) (same v ∙ ap (λ (y : ActorOf O). made O (left_of O y) n v) (sym (some-injective x m at)))
-  same_done (x ∷ actors) (suc k) n v m new at same = same_done actors k n (made O (left_of O x) n v) m new at same
+  same_done (x ∷ actors) zero n v m new at same = ap (completed_word O actors n) (same v ∙ ap (λ (y : ActorOf O). value_after O (left_of O y) n v) (sym (some-injective x m at)))
+  same_done (x ∷ actors) (suc k) n v m new at same = same_done actors k n (value_after O (left_of O x) n v) m new at same

@@ -5,7 +5,7 @@ use lib.ListN.{get_elem?}
 use Rattle.turns.specs.Among.{IsIn}
 use Rattle.turns.specs.System.{System, IsSystem, IsUnder}
 use Rattle.turns.specs.Attempt.{AttemptOf, act}
-use Rattle.turns.specs.World.{World, ActorOf, Idle, Does, left_of, made, completed, after, moved, place}
+use Rattle.turns.specs.World.{World, ActorOf, Idle, Does, left_of, value_after, completed, after, moved, place}
 use Rattle.turns.specs.Law.{IsRecorded, FitsIn, IsOperating, Lawful, WasDecided, holder_at}
 use Rattle.turns.specs.declared.phase.Phase.{Phase}
 use Rattle.turns.specs.declared.phase.Phase.TheVariants.{Requests, Seizes, Tests, Turns, Withdraws, GivesBack, Operates}
@@ -27,7 +27,7 @@ module _ (O : System) (system : IsSystem O) (w : World O) (law : Lawful O w) whe
   below n lock p = subst (λ (l : ℕ). n < l) (sym law.size) (system.words.word_there n lock p)
 
   -- a word under a lock that is held: its holder's effects complete it
-  pub held_word : (k number : ℕ) (a : AttemptOf O) (n : ℕ) → get_elem? w.actors k ≡ some (Does number a) → IsUnder O a.held n → slice_index (completed O w) n ≡ made O (left_of O (Does number a)) n (slice_index w.words n)
+  pub held_word : (k number : ℕ) (a : AttemptOf O) (n : ℕ) → get_elem? w.actors k ≡ some (Does number a) → IsUnder O a.held n → slice_index (completed O w) n ≡ value_after O (left_of O (Does number a)) n (slice_index w.words n)
   held_word k number a n there u = completed_index O w n (below n u.lock u.protects) ∙ only_one O w.actors k n (slice_index w.words n) (Does number a) there (others_spare O system w law k number a there n u)
 
   free_spares : (n : ℕ) (lock : Lock) → Protects lock n → holder_at O w.words lock ≡ 0 → (j : ℕ) (m : ActorOf O) → get_elem? w.actors j ≡ some m → Spares O (left_of O m) n

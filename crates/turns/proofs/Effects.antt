@@ -4,7 +4,7 @@ use mathlib.Core.Option.{some}
 use lib.ListN.{get_elem?}
 use Rattle.turns.specs.System.{System, effect_on, IsSystem, AreWords, IsUnder, AreUnder}
 use Rattle.turns.specs.Attempt.{AttemptOf, Stands}
-use Rattle.turns.specs.World.{World, ActorOf, Idle, Does, left_of, made, completed, completed_word}
+use Rattle.turns.specs.World.{World, ActorOf, Idle, Does, left_of, value_after, completed, completed_word}
 use Rattle.turns.specs.Law.{IsOperating, IsSound, Lawful, holder_at, word_at}
 use Rattle.turns.specs.declared.phase.Phase.TheVariants.{Operates}
 use Rattle.turns.specs.declared.reading.Reading.{Reading}
@@ -75,12 +75,12 @@ module _ (O : System) (system : IsSystem O) (w : World O) (law : Lawful O w) (k 
     are_words = set_below w.words p (effect_on O effect (slice_index w.words p)) law.are_words (applied_below (O.operation_of effect) (slice_index w.words p) (fits.fit effect (inl refl)) (law.are_words p))
 
     -- what is under what is held is what the effects made so far, and this one, make of the words at the turn
-    since : (n : ℕ) → IsUnder O held n → slice_index other n ≡ made O (fits.decided.made ++ effect ∷ []) n (slice_index fits.decided.words n)
+    since : (n : ℕ) → IsUnder O held n → slice_index other n ≡ value_after O (fits.decided.made ++ effect ∷ []) n (slice_index fits.decided.words n)
     since n over = by (one_or_two p n) ∙ sym (made_append O fits.decided.made (effect ∷ []) n (slice_index fits.decided.words n)) where
       v : ℕ
-      v = made O fits.decided.made n (slice_index fits.decided.words n)
+      v = value_after O fits.decided.made n (slice_index fits.decided.words n)
 
-      by : (p ≡ n) ⊎ (p ≢ n) → slice_index other n ≡ made O (effect ∷ []) n v
+      by : (p ≡ n) ⊎ (p ≢ n) → slice_index other n ≡ value_after O (effect ∷ []) n v
       by (inl e) =
           subst (λ (m : ℕ). slice_index other m ≡ effect_on O effect (slice_index w.words m)) e (index_same w.words p (effect_on O effect (slice_index w.words p)) p_there)
           ∙ ap (effect_on O effect) (fits.decided.since n over)
@@ -131,7 +131,7 @@ module _ (O : System) (system : IsSystem O) (w : World O) (law : Lawful O w) (k 
         let before = only_one O w.actors k n v (Does number old) there (others_spare old there n within) in
         let later = only_one O (set w.actors k (Does number new)) k n (slice_index other n) (Does number new) (set_here w.actors k (Does number new) (Does number old) there) (others_spare_then old new there n within) in
         let now : slice_index other n ≡ effect_on O effect v = subst (λ (m : ℕ). slice_index other m ≡ effect_on O effect (slice_index w.words m)) e (index_same w.words p (effect_on O effect (slice_index w.words p)) p_there) in
-        before ∙ made_here O effect effects n v e ∙ sym (later ∙ ap (made O effects n) now)
+        before ∙ made_here O effect effects n v e ∙ sym (later ∙ ap (value_after O effects n) now)
     word_same n (inr apart) =
         let v = slice_index w.words n in
         sym (ap (completed_word O (set w.actors k (Does number new)) n) (else_same n (λ e. apart (sym e))) ∙ same_done O w.actors k n v (Does number old) (Does number new) there (λ x. sym (made_else O effect effects n x apart)))

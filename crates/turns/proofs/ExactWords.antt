@@ -3,10 +3,10 @@ use Rattle.std.proofs.Common.{◌≡◌, ◌≢◌, ℕ, ◌<◌, ◌^◌, ◌�
 use Rattle.std.specs.Prelude.{◌==◌, ◌||◌, Option, Some, None, Result, Ok, Err, if◌then◌else◌}
 use Rattle.turns.specs.Among.{IsIn}
 use Rattle.turns.specs.Seen.{Seen, AreReadWords}
-use Rattle.turns.specs.Script.{Script, Ends, Tests, Seizes, is_held, value_read, left, left_of_test, left_of_seizing, first_wanted, walk}
-use Rattle.turns.specs.Sharing.{asked}
+use Rattle.turns.specs.Script.{Script, Ends, TestThen, SeizeThen, is_held, value_read, left, left_of_test, left_of_seizing, first_wanted, walk}
+use Rattle.turns.specs.Sharing.{with_request}
 use Rattle.turns.specs.System.{System}
-use Rattle.turns.specs.Attempt.{Act, Rest, Ask, Take, Leave, Free as FreeAct, Look, Turn, Make, AttemptOf, IsAnswerTo, StandsIn, act_in, answered, changed, closing_act, come_to, free_act, freed, goes_on, operated, read_in, rest_of, told}
+use Rattle.turns.specs.Attempt.{Act, Rest, Ask, Take, Leave, Free as FreeAct, Look, Turn, Make, AttemptOf, IsAnswerTo, StandsIn, act_in, answer_to, changed, closing_act, come_to, free_act, freed, goes_on, operated, read_in, rest_of, unless_put_off}
 use Rattle.turns.specs.World.{becomes, place}
 use Rattle.turns.specs.Law.{word_at}
 use Rattle.turns.specs.declared.answer.Answer.{Answer}
@@ -34,11 +34,11 @@ module _ {Lock : Type 0} (same : Lock → Lock → Bool) where
   pub wanted_bare : {A : Type 0} (seen : Seen Lock) (lock : Lock) (script : Script Lock A) → walk same seen script ≡ Err (Seize lock) → is_held same seen.held lock ≡ false
   unfolding walk left left_of_test left_of_seizing first_wanted
   wanted_bare seen lock (Ends found) e = absurd cc
-  wanted_bare seen lock (Tests word script) e = at (value_read seen.readings word) (λ value. wanted_bare seen lock (script value)) e where
+  wanted_bare seen lock (TestThen word script) e = at (value_read seen.readings word) (λ value. wanted_bare seen lock (script value)) e where
     at : (o : Option ℕ) → ((value : ℕ) → walk same seen (script value) ≡ Err (Seize lock) → is_held same seen.held lock ≡ false) → first_wanted (left_of_test script (λ value. left same seen (script value)) word o) ≡ Err (Seize lock) → is_held same seen.held lock ≡ false
     at None later e = absurd cc
     at (Some value) later e = later value e
-  wanted_bare seen lock (Seizes other script) e = at (is_held same seen.held other) refl (wanted_bare seen lock script) e where
+  wanted_bare seen lock (SeizeThen other script) e = at (is_held same seen.held other) refl (wanted_bare seen lock script) e where
     at : (b : Bool) → is_held same seen.held other ≡ b → (walk same seen script ≡ Err (Seize lock) → is_held same seen.held lock ≡ false) → first_wanted (left_of_seizing script (left same seen script) other b) ≡ Err (Seize lock) → is_held same seen.held lock ≡ false
     at false own later e = let one : other ≡ lock = cc in ap (is_held same seen.held) (sym one) ∙ own
     at true own later e = later e
@@ -57,20 +57,20 @@ module _ (O : System) where
   open O use {Lock, Effect, Decision, IsLock, sharing}
 
   -- an answer is of the step's kind, and a value that was tested fits a word
-  told_asked : (lock : Lock) (word : ℕ) (j : Judgement) → IsAnswerTo {Effect = Effect} (Ask lock) (told (Asked word) j)
+  told_asked : (lock : Lock) (word : ℕ) (j : Judgement) → IsAnswerTo {Effect = Effect} (Ask lock) (unless_put_off (Asked word) j)
   told_asked lock word judgement.Free = tt
   told_asked lock word (judgement.Held holder) = tt
   told_asked lock word (judgement.Preferred other) = tt
 
-  told_taken : (lock : Lock) (expected word : ℕ) (b : Bool) (j : Judgement) → IsAnswerTo {Effect = Effect} (Take lock expected) (if b then Seized else told (Again word) j)
+  told_taken : (lock : Lock) (expected word : ℕ) (b : Bool) (j : Judgement) → IsAnswerTo {Effect = Effect} (Take lock expected) (if b then Seized else unless_put_off (Again word) j)
   told_taken lock expected word true j = tt
   told_taken lock expected word false judgement.Free = tt
   told_taken lock expected word false (judgement.Held holder) = tt
   told_taken lock expected word false (judgement.Preferred other) = tt
 
-  pub answers_fit : (k : ℕ) (step : Act Lock Effect) (found : ℕ) → step ≢ Rest → found < 2 ^ 64 → IsAnswerTo step (answered O k step found)
+  pub answers_fit : (k : ℕ) (step : Act Lock Effect) (found : ℕ) → step ≢ Rest → found < 2 ^ 64 → IsAnswerTo step (answer_to O k step found)
   answers_fit k Rest found acts below = absurd (acts refl)
-  answers_fit k (Ask lock) found acts below = told_asked lock (asked sharing k found) (sharing.judged k (asked sharing k found))
+  answers_fit k (Ask lock) found acts below = told_asked lock (with_request sharing k found) (sharing.judged k (with_request sharing k found))
   answers_fit k (Take lock expected) found acts below = told_taken lock expected found (found == expected) (sharing.judged k found)
   answers_fit k (Leave lock) found acts below = tt
   answers_fit k (FreeAct lock) found acts below = tt
@@ -101,11 +101,11 @@ module _ (O : System) where
   exact_operated words a turn [] at = subst (IsExact words) (sym at) tt
   exact_operated words a turn (effect ∷ effects) at = subst (IsExact words) (sym at) tt
 
-  pub free_done : (k found : ℕ) (held : List Lock) → answered O k (free_act held) found ≡ Done
+  pub free_done : (k found : ℕ) (held : List Lock) → answer_to O k (free_act held) found ≡ Done
   free_done k found [] = refl
   free_done k found (lock ∷ held) = refl
 
-  pub closing_done : (k found : ℕ) (effects : List Effect) (held : List Lock) → answered O k (closing_act effects held) found ≡ Done
+  pub closing_done : (k found : ℕ) (effects : List Effect) (held : List Lock) → answer_to O k (closing_act effects held) found ≡ Done
   closing_done k found [] held = free_done k found held
   closing_done k found (effect ∷ effects) held = refl
 
@@ -117,25 +117,25 @@ module _ (O : System) where
     abbrev pub words_after : Act Lock Effect → List ℕ
     words_after step = slice_set words (place O step) (becomes O k step (found_by step))
 
-    exact_asked : (lock : Lock) (word : ℕ) (j : Judgement) (after : List ℕ) → word_at O after lock ≡ word → IsExact after (changed O a (Requests lock) (told (Asked word) j)).phase
+    exact_asked : (lock : Lock) (word : ℕ) (j : Judgement) (after : List ℕ) → word_at O after lock ≡ word → IsExact after (changed O a (Requests lock) (unless_put_off (Asked word) j)).phase
     exact_asked lock word judgement.Free after e = e
     exact_asked lock word (judgement.Held holder) after e = tt
     exact_asked lock word (judgement.Preferred other) after e = tt
 
-    exact_again : (lock : Lock) (expected word : ℕ) (j : Judgement) (after : List ℕ) → word_at O after lock ≡ word → IsExact after (changed O a (SeizesNext lock expected) (told (Again word) j)).phase
+    exact_again : (lock : Lock) (expected word : ℕ) (j : Judgement) (after : List ℕ) → word_at O after lock ≡ word → IsExact after (changed O a (SeizesNext lock expected) (unless_put_off (Again word) j)).phase
     exact_again lock expected word judgement.Free after e = e
     exact_again lock expected word (judgement.Held holder) after e = tt
     exact_again lock expected word (judgement.Preferred other) after e = tt
 
-    exact_taken : (lock : Lock) (expected word taken : ℕ) (b : Bool) (j : Judgement) → O.lock_word lock < length words → IsExact (slice_set words (O.lock_word lock) (if b then taken else word)) (changed O a (SeizesNext lock expected) (if b then Seized else told (Again word) j)).phase
+    exact_taken : (lock : Lock) (expected word taken : ℕ) (b : Bool) (j : Judgement) → O.lock_word lock < length words → IsExact (slice_set words (O.lock_word lock) (if b then taken else word)) (changed O a (SeizesNext lock expected) (if b then Seized else unless_put_off (Again word) j)).phase
     exact_taken lock expected word taken true j there = let b : AttemptOf O = record a { held = a.held ++ lock ∷ [] } in exact_on (slice_set words (O.lock_word lock) taken) b (come_to O b)
     exact_taken lock expected word taken false j there = exact_again lock expected word j (slice_set words (O.lock_word lock) word) (index_same words (O.lock_word lock) word there)
 
     -- after any step, what is expected of a lock's word is what it has
     pub exact_after : (phase : Phase Lock ℕ) → a.phase ≡ phase → StandsIn O a phase → AreReadWords (read_in phase a.readings) → ((lock : Lock) → AreReadWords a.readings → come_to O a ≡ Err (Seize lock) → O.lock_word lock < length words) →
-        IsExact (words_after (act_in phase a)) (changed O a phase (answered O k (act_in phase a) (found_by (act_in phase a)))).phase
+        IsExact (words_after (act_in phase a)) (changed O a phase (answer_to O k (act_in phase a) (found_by (act_in phase a)))).phase
     exact_after (Requests lock) at stands read there =
-        let v = asked sharing k (word_at O words lock) in
+        let v = with_request sharing k (word_at O words lock) in
         exact_asked lock v (sharing.judged k v) (slice_set words (O.lock_word lock) v) (index_same words (O.lock_word lock) v (there lock read stands))
     exact_after (SeizesNext lock expected) at stands read there =
         let found = word_at O words lock in

@@ -5,7 +5,7 @@ use mathlib.Core.Option.{Option, some, none}
 use lib.ListN.{get_elem?}
 use Rattle.turns.specs.System.{System}
 use Rattle.turns.specs.World.{World, ActorOf, RecordOf, Idle, Does, added, assigned}
-use Rattle.turns.specs.Runs.{Move, Assigns, Steps, Backs, is_free, assigned_at, stepped_at, backed_at, made_by, run_from}
+use Rattle.turns.specs.Runs.{Move, Assigns, Steps, Backs, is_free, assigned_at, stepped_at, backed_at, after_move, run_from}
 
 module _ (O : System) where
   -- the order of one world begins that of another
@@ -35,7 +35,7 @@ module _ (O : System) where
   backed_grows w k (some Idle) = grows_by_none w
   backed_grows w k (some (Does number a)) = grows_by_none w
 
-  pub move_grows : (w : World O) (move : Move O.Job) → Grows w (made_by O w move)
+  pub move_grows : (w : World O) (move : Move O.Job) → Grows w (after_move O w move)
   move_grows w (Assigns k number job) = assigned_grows w k number job (get_elem? w.actors k)
   move_grows w (Steps k) = stepped_grows w k (get_elem? w.actors k)
   move_grows w (Backs k) = backed_grows w k (get_elem? w.actors k)
@@ -44,6 +44,6 @@ module _ (O : System) where
   run_grows w [] = grows_by_none w
   run_grows w (move ∷ moves) =
       let first = move_grows w move in
-      let rest = run_grows (made_by O w move) moves in
+      let rest = run_grows (after_move O w move) moves in
       let more = ap (λ (order : List (RecordOf O)). order ++ rest.0) first.1 in
       (first.0 ++ rest.0, rest.1 ∙ more ∙ append_assoc w.order first.0 rest.0)

@@ -2,7 +2,7 @@ use Rattle.std.proofs.Common.{◌≡◌, ℕ, ◌<◌, ◌^◌, Bool, true, fals
 use Rattle.std.specs.Prelude.{Option, Some, None, ◌||◌, Result, Ok, Err}
 use Rattle.turns.specs.Among.{IsIn}
 use Rattle.turns.specs.Seen.{Seen, AreReadWords}
-use Rattle.turns.specs.Script.{Script, Ends, Tests, Seizes, ◌>>=◌, is_held, value_read, left, left_of_test, left_of_seizing, first_wanted, walk}
+use Rattle.turns.specs.Script.{Script, Ends, TestThen, SeizeThen, ◌>>=◌, is_held, value_read, left, left_of_test, left_of_seizing, first_wanted, walk}
 use Rattle.turns.specs.System.{System, IsUnder, KeepsTo}
 use Rattle.turns.specs.declared.wanted.Wanted.{Wanted}
 use Rattle.turns.specs.declared.wanted.Wanted.TheVariants.{Seize, Test}
@@ -33,15 +33,15 @@ module _ (O : System) where
   pub keeps_bind : {A B : Type 0} (Fits : List Lock → B → Type 0) (held : List Lock) (script : Script Lock A) (next : A → Script Lock B) → KeepsTo O (λ locks found. KeepsTo O Fits locks (next found)) held script → KeepsTo O Fits held (script >>= next)
   unfolding KeepsTo ◌>>=◌
   keeps_bind Fits held (Ends found) next keeps = keeps
-  keeps_bind Fits held (Tests word script) next keeps = (keeps.0, λ value below. keeps_bind Fits held (script value) next (keeps.1 value below))
-  keeps_bind Fits held (Seizes lock script) next keeps = (keeps.0, keeps_bind Fits (held ++ lock ∷ []) script next keeps.1)
+  keeps_bind Fits held (TestThen word script) next keeps = (keeps.0, λ value below. keeps_bind Fits held (script value) next (keeps.1 value below))
+  keeps_bind Fits held (SeizeThen lock script) next keeps = (keeps.0, keeps_bind Fits (held ++ lock ∷ []) script next keeps.1)
 
   -- a script keeps to what follows from what it keeps to
   pub keeps_map : {A : Type 0} (Fits More : List Lock → A → Type 0) (held : List Lock) (script : Script Lock A) → ((locks : List Lock) (found : A) → Fits locks found → More locks found) → KeepsTo O Fits held script → KeepsTo O More held script
   unfolding KeepsTo
   keeps_map Fits More held (Ends found) more keeps = more held found keeps
-  keeps_map Fits More held (Tests word script) more keeps = (keeps.0, λ value below. keeps_map Fits More held (script value) more (keeps.1 value below))
-  keeps_map Fits More held (Seizes lock script) more keeps = (keeps.0, keeps_map Fits More (held ++ lock ∷ []) script more keeps.1)
+  keeps_map Fits More held (TestThen word script) more keeps = (keeps.0, λ value below. keeps_map Fits More held (script value) more (keeps.1 value below))
+  keeps_map Fits More held (SeizeThen lock script) more keeps = (keeps.0, keeps_map Fits More (held ++ lock ∷ []) script more keeps.1)
 
   -- the end of a walk fits locks that are held
   pub record FitsHeld {A : Type 0} (Fits : List Lock → A → Type 0) (held : List Lock) (found : A) : Type 0 where
@@ -73,8 +73,8 @@ module _ (O : System) where
     pub walk_keeps : (held : List Lock) (script : Script Lock A) → AreAmong held seen.held → KeepsTo O Fits held script → WalkFits Fits seen.held (walk O.same seen script)
     unfolding walk left first_wanted KeepsTo
     walk_keeps held (Ends found) among keeps = record { some = held; among = among; fits = keeps }
-    walk_keeps held (Tests word script) among keeps =
+    walk_keeps held (TestThen word script) among keeps =
         keeps_test word script (value_read seen.readings word) refl (under_more held seen.held word among keeps.0) (λ value below. walk_keeps held (script value) among (keeps.1 value below))
-    walk_keeps held (Seizes lock script) among keeps =
+    walk_keeps held (SeizeThen lock script) among keeps =
         keeps_seizing lock script (is_held O.same seen.held lock) keeps.0
         (λ own. walk_keeps (held ++ lock ∷ []) script (with_lock held lock among (held_in O.same one_lock seen.held lock own)) keeps.1)

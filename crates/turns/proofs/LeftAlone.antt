@@ -7,12 +7,12 @@ use mathlib.Core.Option.{some, some-injective}
 use lib.ListN.{get_elem?}
 use Rattle.turns.specs.Among.{IsIn}
 use Rattle.turns.specs.Seen.{AreReadWords}
-use Rattle.turns.specs.Sharing.{asked}
+use Rattle.turns.specs.Sharing.{with_request}
 use Rattle.turns.specs.System.{System, IsSystem}
-use Rattle.turns.specs.Attempt.{AttemptOf, StandsIn, act, act_in, answered, closing_act, come_to, free_act, next, read_in, request_in, seen_of, told}
+use Rattle.turns.specs.Attempt.{AttemptOf, StandsIn, act, act_in, answer_to, closing_act, come_to, free_act, next, read_in, request_in, seen_of, unless_put_off}
 use Rattle.turns.specs.World.{World, ActorOf, Does, moved, place}
 use Rattle.turns.specs.Law.{Holds, HasRequested, Lawful, holder_at, word_at}
-use Rattle.turns.specs.Runs.{made_by, stepped_at, Steps}
+use Rattle.turns.specs.Runs.{after_move, stepped_at, Steps}
 use Rattle.turns.specs.Bounds.{IsAside, IsSteady}
 use Rattle.turns.specs.declared.answer.Answer.{Answer}
 use Rattle.turns.specs.declared.answer.Answer.TheVariants.{Asked, Seized, Again}
@@ -77,11 +77,11 @@ module _ (O : System) (is : IsSystem O) where
         at (suc j) e = absurd (true≢false (sym (held_of O.same a.held lock (λ l. (is.same l l).1 refl) (named_mine lock j right e)) ∙ wanted_bare O.same (seen_of a) lock (O.script a.job) wants))
 
       -- so it may go on, with its request, or once that stands
-      free_asked : sharing.judged k (asked sharing k (word_at O w.words lock)) ≡ judgement.Free
+      free_asked : sharing.judged k (with_request sharing k (word_at O w.words lock)) ≡ judgement.Free
       free_asked =
           let shared = law.shared lock right in
           let word = word_at O w.words lock in
-          is.sharing.alone_free k (asked sharing k word) few (is.sharing.asked_is k word few shared.is_word) (is.sharing.asked_holder k word few shared.is_word ∙ nobody)
+          is.sharing.alone_free k (with_request sharing k word) few (is.sharing.asked_is k word few shared.is_word) (is.sharing.asked_holder k word few shared.is_word ∙ nobody)
           (λ j below e. elim (is.sharing.asked_requests k word few shared.is_word j below e) [ inl one ↦ one | inr stood ↦ asked_mine lock j right below stood ])
 
       pub free_again : sharing.judged k (word_at O w.words lock) ≡ judgement.Free
@@ -93,19 +93,19 @@ module _ (O : System) (is : IsSystem O) where
 
     -- its step's answer is steady where what it expects is what there is
     abbrev answer_in : Phase Lock ℕ → Answer
-    answer_in phase = answered O k (act_in phase a) (slice_index w.words (place O (act_in phase a)))
+    answer_in phase = answer_to O k (act_in phase a) (slice_index w.words (place O (act_in phase a)))
 
     steady_in : (phase : Phase Lock ℕ) → StandsIn O a phase → AreReadWords (read_in phase a.readings) → IsExact O w.words phase → IsSteady (answer_in phase)
-    steady_in (Requests lock) stands read exact = subst (λ (j : Judgement). IsSteady (told (Asked (asked sharing k (word_at O w.words lock))) j)) (sym (free_asked read lock stands)) tt
+    steady_in (Requests lock) stands read exact = subst (λ (j : Judgement). IsSteady (unless_put_off (Asked (with_request sharing k (word_at O w.words lock))) j)) (sym (free_asked read lock stands)) tt
     steady_in (SeizesNext lock expected) stands read exact =
-        subst (λ (b : Bool). IsSteady (if b then Seized else told (Again (word_at O w.words lock)) (sharing.judged k (word_at O w.words lock)))) (sym (eq-eqb (word_at O w.words lock) expected exact)) tt
+        subst (λ (b : Bool). IsSteady (if b then Seized else unless_put_off (Again (word_at O w.words lock)) (sharing.judged k (word_at O w.words lock)))) (sym (eq-eqb (word_at O w.words lock) expected exact)) tt
     steady_in (TestsNext word) stands read exact = tt
     steady_in Turns stands read exact = tt
     steady_in (Withdraws lock) stands read exact = tt
     steady_in GivesBack stands read exact = subst IsSteady (sym (free_done O k (slice_index w.words (place O (free_act a.held))) a.held)) tt
     steady_in (Operates turn) stands read exact = subst IsSteady (sym (closing_done O k (slice_index w.words (place O (closing_act a.effects a.held))) a.effects a.held)) tt
 
-    pub steady : IsExact O w.words a.phase → IsSteady (answered O k (act a) (slice_index w.words (place O (act a))))
+    pub steady : IsExact O w.words a.phase → IsSteady (answer_to O k (act a) (slice_index w.words (place O (act a))))
     steady exact = steady_in a.phase (law.sound k number a there).stands still_read exact
 
     -- after its step what it expects is what there is, and the others are still out of the way
@@ -120,5 +120,5 @@ module _ (O : System) (is : IsSystem O) where
     pub aside_next : AreAside k (moved O k number a w).actors
     aside_next j m other e = aside j m other (sym (set_else w.actors k j (Does number (next O k a (slice_index w.words (place O (act a))))) other) ∙ e)
 
-    pub step_is : made_by O w (Steps k) ≡ moved O k number a w
+    pub step_is : after_move O w (Steps k) ≡ moved O k number a w
     step_is = ap (λ o. stepped_at O k o w) there

@@ -5,7 +5,7 @@ use lib.ListN.{get_elem?, length-replicate}
 use Rattle.turns.specs.Among.{IsIn}
 use Rattle.turns.specs.System.{System, IsSystem}
 use Rattle.turns.specs.Attempt.{AttemptOf, Rest, act, left_in, begin, request_in}
-use Rattle.turns.specs.World.{World, ActorOf, Idle, Does, left_of, moved, assigned, given_back, opened, made, completed}
+use Rattle.turns.specs.World.{World, ActorOf, Idle, Does, left_of, moved, assigned, given_back, fresh_world, value_after, completed}
 use Rattle.turns.specs.Law.{IsFree, IsShared, Lawful}
 use Rattle.turns.specs.declared.phase.Phase.{Phase}
 use Rattle.turns.specs.declared.phase.Phase.TheVariants.{Requests, Seizes, Tests, Turns, Withdraws, GivesBack, Operates}
@@ -51,7 +51,7 @@ module _ (O : System) where
 
   module _ (system : IsSystem O) where
     -- nobody holds or requests a lock
-    opens_shared : (count : ℕ) (lock : Lock) → IsLock lock → IsShared O (opened O count) lock
+    opens_shared : (count : ℕ) (lock : Lock) → IsLock lock → IsShared O (fresh_world O count) lock
     opens_shared count lock is =
         let unused = system.opens.unused lock is in
         record {
@@ -64,19 +64,19 @@ module _ (O : System) where
         }
 
     -- a system opens lawfully
-    pub opens : (count : ℕ) → count ≤ sharing.most → Lawful O (opened O count)
+    pub opens : (count : ℕ) → count ≤ sharing.most → Lawful O (fresh_world O count)
     opens count few = record {
       few = subst (λ (l : ℕ). l ≤ sharing.most) (sym (length-replicate count Idle)) few;
       size = system.opens.initial_length;
       are_words = system.opens.are_words;
       turn = system.opens.no_turn;
       legal = tt;
-      shows = system.looks O.initial (completed O (opened O count)) O.opening (record {
+      shows = system.looks O.initial (completed O (fresh_world O count)) O.opening (record {
         this_length = system.opens.initial_length;
         that_length = completed_length O (replicate count Idle) 0 O.initial ∙ system.opens.initial_length;
         under = λ n lock e.
-            sym (completed_index O (opened O count) n (subst (λ (l : ℕ). n < l) (sym system.opens.initial_length) (system.words.word_there n lock e)) ∙
-            all_spare O (replicate count Idle) n (slice_index O.initial n) (λ j m at v. ap (λ (effects : List Effect). made O effects n v) (idle_left count j m at)));
+            sym (completed_index O (fresh_world O count) n (subst (λ (l : ℕ). n < l) (sym system.opens.initial_length) (system.words.word_there n lock e)) ∙
+            all_spare O (replicate count Idle) n (slice_index O.initial n) (λ j m at v. ap (λ (effects : List Effect). value_after O effects n v) (idle_left count j m at)));
       }) system.opens.shows;
       sound = λ k number a at. absurd (idle_none count k number a at);
       shared = λ lock is. opens_shared count lock is;

@@ -6,9 +6,9 @@ use Rattle.std.proofs.lemmas.List.Sums.{sum_by-cons}
 use mathlib.Core.Option.{Option, some, none, some-injective}
 use lib.ListN.{get_elem?}
 use Rattle.turns.specs.System.{System}
-use Rattle.turns.specs.Attempt.{AttemptOf, act, act_in, answered, begin, changed, closing_act, next, operated, rest_of, restarted, restarted_in}
+use Rattle.turns.specs.Attempt.{AttemptOf, act, act_in, answer_to, begin, changed, closing_act, next, operated, rest_of, restarted, restarted_in}
 use Rattle.turns.specs.World.{World, ActorOf, Idle, Does, assigned, place}
-use Rattle.turns.specs.Runs.{Move, Assigns, Steps, Backs, is_rest, is_free, assigned_at, stepped_at, backed_at, made_by}
+use Rattle.turns.specs.Runs.{Move, Assigns, Steps, Backs, is_rest, is_free, assigned_at, stepped_at, backed_at, after_move}
 use Rattle.turns.specs.Ending.{ComesToEnd, is_step_of, own_steps}
 use Rattle.turns.specs.declared.phase.Phase.{Phase}
 use Rattle.turns.specs.declared.phase.Phase.TheVariants.{Operates}
@@ -33,7 +33,7 @@ module _ (O : System) where
       → a.phase ≡ Operates turn → a.effects ≡ effects → a.held ≡ held
       → is_rest (closing_act effects held) ≡ false
       → HasLess turn a.job (length effects + length held)
-      (changed O a (Operates turn) (answered O k (closing_act effects held) found))
+      (changed O a (Operates turn) (answer_to O k (closing_act effects held) found))
   closing_less k found turn a [] [] at these those goes = absurd cc
   closing_less k found turn a [] (lock ∷ held) at these those goes =
       let none : length a.effects ≡ 0 = ap (length {A = Effect}) these in
@@ -56,7 +56,7 @@ module _ (O : System) where
       let left = length a.effects + length a.held in
       let acts = subst (λ (phase : Phase Lock ℕ). is_rest (act_in phase a) ≡ false) at goes in
       subst (λ (phase : Phase Lock ℕ).
-      HasLess turn a.job left (changed O a phase (answered O k (act_in phase a) found)))
+      HasLess turn a.job left (changed O a phase (answer_to O k (act_in phase a) found)))
       (sym at)
       (closing_less k found turn a a.effects a.held at refl refl acts)
 
@@ -116,7 +116,7 @@ module _ (O : System) where
           ap some (given_same i b (same_actor j (Does i b) one here))
 
     -- what is no step of its own leaves it as it is
-    others_same : (move : Move Job) → is_step_of k move ≡ false → IsSame (made_by O w move)
+    others_same : (move : Move Job) → is_step_of k move ≡ false → IsSame (after_move O w move)
     others_same (Assigns j i job) other = assigned_same j i job (get_elem? w.actors j) refl
     others_same (Steps j) other = stepped_same j (get_elem? w.actors j) (λ one.
         let both : ◌≡◌ {A = Bool} true false = sym (eq-eqb j k (sym one)) ∙ other in
@@ -128,12 +128,12 @@ module _ (O : System) where
     after = next O k a (slice_index w.words (place O (act a)))
 
     own_next : (move : Move Job) → is_step_of k move ≡ true
-        → get_elem? (made_by O w move).actors k ≡ some (Does number after)
+        → get_elem? (after_move O w move).actors k ≡ some (Does number after)
     own_next (Assigns j i job) own = absurd cc
     own_next (Backs j) own = absurd cc
     own_next (Steps j) own =
         let one : j ≡ k = eqb-true j k own in
-        ap (λ (x : ℕ). get_elem? (made_by O w (Steps x)).actors k) one ∙
+        ap (λ (x : ℕ). get_elem? (after_move O w (Steps x)).actors k) one ∙
         ap (λ found. get_elem? (stepped_at O k found w).actors k) there ∙
         set_here w.actors k (Does number after) (Does number a) there
 
@@ -150,13 +150,13 @@ module _ (O : System) where
     past_on : (w : World O) (move : Move Job) (enough most : ℕ)
         (past : IsPast w k number turn job enough) → is_rest (act past.attempt) ≡ false
         → enough ≡ one_if (is_step_of k move) + most
-        → IsPast (made_by O w move) k number turn job most
+        → IsPast (after_move O w move) k number turn job most
     past_on w move enough most past goes counted = by (is_step_of k move) refl counted where
       a : AttemptOf O
       a = past.attempt
 
       by : (own : Bool) → is_step_of k move ≡ own → enough ≡ one_if own + most
-          → IsPast (made_by O w move) k number turn job most
+          → IsPast (after_move O w move) k number turn job most
       by true own more =
           let found = slice_index w.words (place O (act a)) in
           let less = next_less k found turn a past.phase goes in
@@ -191,7 +191,7 @@ module _ (O : System) where
     }
 
     ends_later : (w : World O) (move : Move Job) (moves : List (Move Job))
-        → ComesToEnd O (made_by O w move) moves k number turn job
+        → ComesToEnd O (after_move O w move) moves k number turn job
         → ComesToEnd O w (move ∷ moves) k number turn job
     ends_later w move moves end = record {
       before = move ∷ end.before;
@@ -213,10 +213,10 @@ module _ (O : System) where
           let less = next_less k 0 turn past.attempt past.phase goes in
           absurd (omega (arith, less.one, past.few))
     comes_to_end (move ∷ moves) w past =
-        by (is_rest (act past.attempt)) refl (λ on. comes_to_end moves (made_by O w move) on) where
+        by (is_rest (act past.attempt)) refl (λ on. comes_to_end moves (after_move O w move) on) where
           by : (rests : Bool) → is_rest (act past.attempt) ≡ rests
-              → (IsPast (made_by O w move) k number turn job (own_steps k moves)
-              → ComesToEnd O (made_by O w move) moves k number turn job)
+              → (IsPast (after_move O w move) k number turn job (own_steps k moves)
+              → ComesToEnd O (after_move O w move) moves k number turn job)
               → ComesToEnd O w (move ∷ moves) k number turn job
           by true rests later = ends_now w (move ∷ moves) (own_steps k (move ∷ moves)) past rests
           by false goes later =

@@ -1,9 +1,9 @@
 -- an actor is put off by the judgement of the word of the lock that its step asks for
 use Rattle.std.proofs.Common.{◌≡◌, ℕ, Bool, true, false, inl, inr, refl, ap, ◌∙◌, subst}
 use Rattle.std.specs.Prelude.{◌==◌, ⊤, if◌then◌else◌}
-use Rattle.turns.specs.Sharing.{asked}
+use Rattle.turns.specs.Sharing.{with_request}
 use Rattle.turns.specs.System.{System}
-use Rattle.turns.specs.Attempt.{Act, Rest, Ask, Take, Leave, Free as FreeAct, Look, Turn as TurnAct, Make, answered, told}
+use Rattle.turns.specs.Attempt.{Act, Rest, Ask, Take, Leave, Free as FreeAct, Look, Turn as TurnAct, Make, answer_to, unless_put_off}
 use Rattle.turns.specs.PutOff.{IsPutOffBy}
 use Rattle.turns.specs.declared.answer.Answer.{Answer}
 use Rattle.turns.specs.declared.answer.Answer.TheVariants.{Asked, Seized, Held, Preferred, Again, Value, Turn, Done}
@@ -24,11 +24,11 @@ GoesOn Done = ⊤
 -- an answer puts an actor off, and comes of this judgement alone
 record ComesOf (answer : Answer) (judged : Judgement) : Type 0 where
   pub stops : ¬ GoesOn answer
-  pub tells : (other : Answer) (j : Judgement) → GoesOn other → told other j ≡ answer → j ≡ judged
+  pub tells : (other : Answer) (j : Judgement) → GoesOn other → unless_put_off other j ≡ answer → j ≡ judged
 
 held_comes : (holder : ℕ) → ComesOf (Held holder) (judgement.Held holder)
 held_comes holder = record { stops = λ goes. goes; tells = tells } where
-  tells : (other : Answer) (j : Judgement) → GoesOn other → told other j ≡ Held holder
+  tells : (other : Answer) (j : Judgement) → GoesOn other → unless_put_off other j ≡ Held holder
       → j ≡ judgement.Held holder
   tells other judgement.Free goes same = absurd (subst GoesOn same goes)
   tells other (judgement.Held one) goes same =
@@ -38,7 +38,7 @@ held_comes holder = record { stops = λ goes. goes; tells = tells } where
 
 preferred_comes : (other : ℕ) → ComesOf (Preferred other) (judgement.Preferred other)
 preferred_comes other = record { stops = λ goes. goes; tells = tells } where
-  tells : (answer : Answer) (j : Judgement) → GoesOn answer → told answer j ≡ Preferred other
+  tells : (answer : Answer) (j : Judgement) → GoesOn answer → unless_put_off answer j ≡ Preferred other
       → j ≡ judgement.Preferred other
   tells answer judgement.Free goes same = absurd (subst GoesOn same goes)
   tells answer (judgement.Held holder) goes same = absurd cc
@@ -56,7 +56,7 @@ module _ (O : System) where
       not_so other goes same = absurd (comes.stops (subst GoesOn same goes))
 
       put_off_taking : (lock : Lock) (expected : ℕ) (b : Bool) → (found == expected) ≡ b
-          → (if b then Seized else told (Again found) (sharing.judged k found)) ≡ answer
+          → (if b then Seized else unless_put_off (Again found) (sharing.judged k found)) ≡ answer
           → IsPutOffBy O k (Take lock expected) found judged
       put_off_taking lock expected true at same = not_so Seized tt same
       put_off_taking lock expected false at same = record {
@@ -67,10 +67,10 @@ module _ (O : System) where
             comes.tells (Again found) (sharing.judged k found) tt same;
       }
 
-      put_off_by : (step : Act Lock Effect) → answered O k step found ≡ answer
+      put_off_by : (step : Act Lock Effect) → answer_to O k step found ≡ answer
           → IsPutOffBy O k step found judged
       put_off_by (Ask lock) same =
-          let word = asked sharing k found in
+          let word = with_request sharing k found in
           let says = comes.tells (Asked word) (sharing.judged k word) tt same in
           record { lock = lock; asks = inl refl; says = says }
       put_off_by (Take lock expected) same =
@@ -83,13 +83,13 @@ module _ (O : System) where
       put_off_by (Make effect) same = not_so Done tt same
 
   pub put_off_held : (k found holder : ℕ) (step : Act Lock Effect)
-      → answered O k step found ≡ Held holder
+      → answer_to O k step found ≡ Held holder
       → IsPutOffBy O k step found (judgement.Held holder)
   put_off_held k found holder step same =
       put_off_by k found (Held holder) (judgement.Held holder) (held_comes holder) step same
 
   pub put_off_preferred : (k found other : ℕ) (step : Act Lock Effect)
-      → answered O k step found ≡ Preferred other
+      → answer_to O k step found ≡ Preferred other
       → IsPutOffBy O k step found (judgement.Preferred other)
   put_off_preferred k found other step same =
       let comes = preferred_comes other in

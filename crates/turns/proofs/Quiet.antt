@@ -5,7 +5,7 @@ use lib.ListN.{get_elem?}
 use Rattle.turns.specs.Among.{IsIn}
 use Rattle.turns.specs.System.{System, IsSystem, AreAlike, AreWords}
 use Rattle.turns.specs.Attempt.{AttemptOf, request_in}
-use Rattle.turns.specs.World.{World, ActorOf, Does, left_of, made, completed, completed_word}
+use Rattle.turns.specs.World.{World, ActorOf, Does, left_of, value_after, completed, completed_word}
 use Rattle.turns.specs.Law.{IsShared, IsSound, Lawful, holder_at}
 use Rattle.turns.proofs.Lists.{there_below}
 use Rattle.turns.proofs.Completed.{completed_index, completed_length, same_done}
@@ -49,7 +49,7 @@ module _ (O : System) where
       legal = law.legal;
       shows = system.looks (completed O w) (completed O (renewed O w other w.order k number new)) _ (alike system w (renewed O w other w.order k number new) law.size (quiet.long ∙ law.size) (λ n lock e.
           ap (completed_word O w.actors n) (sym (quiet.under n lock e)) ∙
-          sym (same_done O w.actors k n (slice_index other n) m (Does number new) there (λ x. ap (λ (effects : List O.Effect). made O effects n x) left)))) law.shows;
+          sym (same_done O w.actors k n (slice_index other n) m (Does number new) there (λ x. ap (λ (effects : List O.Effect). value_after O effects n x) left)))) law.shows;
       sound = all_sound O w k m there other w.order number new own others;
       shared = shared;
     }

@@ -3,7 +3,7 @@ use Rattle.std.proofs.Common.{◌≡◌, ℕ, zero, suc, Bool, true, false, List
 use Rattle.std.specs.Prelude.{Option, Some, None, ◌==◌, find, option_map, slice_index, if◌then◌else◌}
 use Rattle.std.proofs.lemmas.Bool.{eqb-true}
 use Rattle.turns.specs.Seen.{Seen, changed_readings}
-use Rattle.turns.specs.Script.{Script, Ends, Tests, Seizes, AsksAtMost, run, read_with, is_held, value_read, left, left_of_test, left_of_seizing, first_wanted, walk}
+use Rattle.turns.specs.Script.{Script, Ends, TestThen, SeizeThen, AsksAtMost, run, read_with, is_held, value_read, left, left_of_test, left_of_seizing, first_wanted, walk}
 use Rattle.turns.specs.System.{System, KeepsTo}
 use Rattle.turns.specs.declared.reading.Reading.{Reading}
 use Rattle.turns.proofs.Words.{MakesWords}
@@ -12,9 +12,9 @@ use Rattle.turns.proofs.Words.{MakesWords}
 pub run_read_with : {Lock A : Type 0} (words other : List ℕ) (change : ℕ → ℕ → ℕ) (script : Script Lock A) → ((word : ℕ) → slice_index other word ≡ change word (slice_index words word)) → run words (read_with change script) ≡ run other script
 unfolding run read_with
 run_read_with words other change (Ends found) made = refl
-run_read_with words other change (Tests word script) made =
+run_read_with words other change (TestThen word script) made =
     run_read_with words other change (script (change word (slice_index words word))) made ∙ ap (λ (value : ℕ). run other (script value)) (sym (made word))
-run_read_with words other change (Seizes lock script) made = run_read_with words other change script made
+run_read_with words other change (SeizeThen lock script) made = run_read_with words other change script made
 
 -- what was read in a word, made so
 pub value_read-changed : (change : ℕ → ℕ → ℕ) (readings : List (Reading ℕ)) (word : ℕ) → value_read (changed_readings change readings) word ≡ option_map (change word) (value_read readings word)
@@ -32,7 +32,7 @@ module _ {Lock : Type 0} (same : Lock → Lock → Bool) where
   pub walk_read_with : {A : Type 0} (seen : Seen Lock) (change : ℕ → ℕ → ℕ) (script : Script Lock A) → walk same seen (read_with change script) ≡ walk same (record { held = seen.held; readings = changed_readings change seen.readings }) script
   unfolding walk left left_of_test left_of_seizing first_wanted read_with
   walk_read_with seen change (Ends found) = refl
-  walk_read_with {A} seen change (Tests word script) =
+  walk_read_with {A} seen change (TestThen word script) =
       at (value_read seen.readings word) (λ value. walk_read_with seen change (script value))
       ∙ ap (λ (o : Option ℕ). first_wanted (left_of_test script (λ value. left same later (script value)) word o)) (sym (value_read-changed change seen.readings word)) where
         later : Seen Lock
@@ -43,7 +43,7 @@ module _ {Lock : Type 0} (same : Lock → Lock → Bool) where
             ≡ first_wanted (left_of_test script (λ value. left same (record { held = seen.held; readings = changed_readings change seen.readings }) (script value)) word (option_map (change word) o))
         at None same = refl
         at (Some value) same = same (change word value)
-  walk_read_with {A} seen change (Seizes lock script) = at (is_held same seen.held lock) (walk_read_with seen change script) where
+  walk_read_with {A} seen change (SeizeThen lock script) = at (is_held same seen.held lock) (walk_read_with seen change script) where
     at : (b : Bool) → walk same seen (read_with change script) ≡ walk same (record { held = seen.held; readings = changed_readings change seen.readings }) script
         → first_wanted (left_of_seizing (read_with change script) (left same seen (read_with change script)) lock b)
         ≡ first_wanted (left_of_seizing script (left same (record { held = seen.held; readings = changed_readings change seen.readings }) script) lock b)
@@ -54,10 +54,10 @@ module _ {Lock : Type 0} (same : Lock → Lock → Bool) where
 pub asks_read_with : {Lock A : Type 0} (change : ℕ → ℕ → ℕ) (tests seizings : ℕ) (script : Script Lock A) → MakesWords change → AsksAtMost tests seizings script → AsksAtMost tests seizings (read_with change script)
 unfolding AsksAtMost read_with
 asks_read_with change tests seizings (Ends found) words asks = tt
-asks_read_with change zero seizings (Tests word script) words asks = asks
-asks_read_with change (suc tests) seizings (Tests word script) words asks = λ value below. asks_read_with change tests seizings (script (change word value)) words (asks (change word value) (words word value below))
-asks_read_with change tests zero (Seizes lock script) words asks = asks
-asks_read_with change tests (suc seizings) (Seizes lock script) words asks = asks_read_with change tests seizings script words asks
+asks_read_with change zero seizings (TestThen word script) words asks = asks
+asks_read_with change (suc tests) seizings (TestThen word script) words asks = λ value below. asks_read_with change tests seizings (script (change word value)) words (asks (change word value) (words word value below))
+asks_read_with change tests zero (SeizeThen lock script) words asks = asks
+asks_read_with change tests (suc seizings) (SeizeThen lock script) words asks = asks_read_with change tests seizings script words asks
 
 module _ (O : System) where
   open O use {Lock}
@@ -66,5 +66,5 @@ module _ (O : System) where
   pub keeps_read_with : {A : Type 0} (Fits : List Lock → A → Type 0) (held : List Lock) (change : ℕ → ℕ → ℕ) (script : Script Lock A) → MakesWords change → KeepsTo O Fits held script → KeepsTo O Fits held (read_with change script)
   unfolding KeepsTo read_with
   keeps_read_with Fits held change (Ends found) words keeps = keeps
-  keeps_read_with Fits held change (Tests word script) words keeps = (keeps.0, λ value below. keeps_read_with Fits held change (script (change word value)) words (keeps.1 (change word value) (words word value below)))
-  keeps_read_with Fits held change (Seizes lock script) words keeps = (keeps.0, keeps_read_with Fits (held ++ lock ∷ []) change script words keeps.1)
+  keeps_read_with Fits held change (TestThen word script) words keeps = (keeps.0, λ value below. keeps_read_with Fits held change (script (change word value)) words (keeps.1 (change word value) (words word value below)))
+  keeps_read_with Fits held change (SeizeThen lock script) words keeps = (keeps.0, keeps_read_with Fits (held ++ lock ∷ []) change script words keeps.1)

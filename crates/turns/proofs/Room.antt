@@ -2,7 +2,7 @@ use Rattle.std.proofs.Common.{◌≡◌, ℕ, zero, suc, ◌<◌, ◌^◌, Bool,
 use Rattle.std.specs.Prelude.{Option, Some, None, ◌==◌, ◌||◌, Err, find, option_map, if◌then◌else◌}
 use Rattle.std.proofs.lemmas.Bool.{eq-eqb}
 use Rattle.turns.specs.Seen.{Seen, AreReadWords}
-use Rattle.turns.specs.Script.{Script, Ends, Tests, Seizes, AsksAtMost, is_held, value_read, left, left_of_test, left_of_seizing, first_wanted}
+use Rattle.turns.specs.Script.{Script, Ends, TestThen, SeizeThen, AsksAtMost, is_held, value_read, left, left_of_test, left_of_seizing, first_wanted}
 use Rattle.turns.specs.declared.reading.Reading.{Reading}
 use Rattle.turns.specs.declared.wanted.Wanted.TheVariants.{Seize, Test}
 use Rattle.turns.proofs.Words.{value_read-below}
@@ -54,11 +54,11 @@ module _ {Lock : Type 0} (same : Lock → Lock → Bool) (self : (lock : Lock) �
   pub left_again : {A : Type 0} (seen more : Seen Lock) (script : Script Lock A) → Grows seen more → left same more script ≡ left same more (left same seen script)
   unfolding left left_of_test left_of_seizing
   left_again seen more (Ends found) grows = refl
-  left_again seen more (Tests word script) grows = at (value_read seen.readings word) refl (λ value. left_again seen more (script value) grows) where
+  left_again seen more (TestThen word script) grows = at (value_read seen.readings word) refl (λ value. left_again seen more (script value) grows) where
     at : (o : Option ℕ) → value_read seen.readings word ≡ o → ((value : ℕ) → left same more (script value) ≡ left same more (left same seen (script value))) → left_of_test script (λ value. left same more (script value)) word (value_read more.readings word) ≡ left same more (left_of_test script (λ value. left same seen (script value)) word o)
     at None e later = refl
     at (Some value) e later = rw (grows.readings word value e) (later value)
-  left_again seen more (Seizes lock script) grows = at (is_held same seen.held lock) refl (left_again seen more script grows) where
+  left_again seen more (SeizeThen lock script) grows = at (is_held same seen.held lock) refl (left_again seen more script grows) where
     at : (b : Bool) → is_held same seen.held lock ≡ b → left same more script ≡ left same more (left same seen script) → left_of_seizing script (left same more script) lock (is_held same more.held lock) ≡ left same more (left_of_seizing script (left same seen script) lock b)
     at false e later = refl
     at true e later = rw (grows.held lock e) later
@@ -67,30 +67,30 @@ module _ {Lock : Type 0} (same : Lock → Lock → Bool) (self : (lock : Lock) �
   pub one_more_test : {A : Type 0} (tests seizings : ℕ) (script : Script Lock A) → AsksAtMost tests seizings script → AsksAtMost (suc tests) seizings script
   unfolding AsksAtMost
   one_more_test tests seizings (Ends found) asks = asks
-  one_more_test zero seizings (Tests word script) asks = absurd asks
-  one_more_test (suc tests) seizings (Tests word script) asks = λ value below. one_more_test tests seizings (script value) (asks value below)
-  one_more_test tests zero (Seizes lock script) asks = absurd asks
-  one_more_test tests (suc seizings) (Seizes lock script) asks = one_more_test tests seizings script asks
+  one_more_test zero seizings (TestThen word script) asks = absurd asks
+  one_more_test (suc tests) seizings (TestThen word script) asks = λ value below. one_more_test tests seizings (script value) (asks value below)
+  one_more_test tests zero (SeizeThen lock script) asks = absurd asks
+  one_more_test tests (suc seizings) (SeizeThen lock script) asks = one_more_test tests seizings script asks
 
   pub one_more_seizing : {A : Type 0} (tests seizings : ℕ) (script : Script Lock A) → AsksAtMost tests seizings script → AsksAtMost tests (suc seizings) script
   unfolding AsksAtMost
   one_more_seizing tests seizings (Ends found) asks = asks
-  one_more_seizing zero seizings (Tests word script) asks = absurd asks
-  one_more_seizing (suc tests) seizings (Tests word script) asks = λ value below. one_more_seizing tests seizings (script value) (asks value below)
-  one_more_seizing tests zero (Seizes lock script) asks = absurd asks
-  one_more_seizing tests (suc seizings) (Seizes lock script) asks = one_more_seizing tests seizings script asks
+  one_more_seizing zero seizings (TestThen word script) asks = absurd asks
+  one_more_seizing (suc tests) seizings (TestThen word script) asks = λ value below. one_more_seizing tests seizings (script value) (asks value below)
+  one_more_seizing tests zero (SeizeThen lock script) asks = absurd asks
+  one_more_seizing tests (suc seizings) (SeizeThen lock script) asks = one_more_seizing tests seizings script asks
 
   -- what is left of a script asks for no more than the script
   pub left_asks : {A : Type 0} (seen : Seen Lock) (tests seizings : ℕ) (script : Script Lock A) → AreReadWords seen.readings → AsksAtMost tests seizings script → AsksAtMost tests seizings (left same seen script)
   unfolding left AsksAtMost left_of_test left_of_seizing
   left_asks seen tests seizings (Ends found) read asks = asks
-  left_asks seen zero seizings (Tests word script) read asks = absurd asks
-  left_asks seen (suc tests) seizings (Tests word script) read asks = at (value_read seen.readings word) refl (λ value below. left_asks seen tests seizings (script value) read (asks value below)) where
+  left_asks seen zero seizings (TestThen word script) read asks = absurd asks
+  left_asks seen (suc tests) seizings (TestThen word script) read asks = at (value_read seen.readings word) refl (λ value below. left_asks seen tests seizings (script value) read (asks value below)) where
     at : (o : Option ℕ) → value_read seen.readings word ≡ o → ((value : ℕ) → value < 2 ^ 64 → AsksAtMost tests seizings (left same seen (script value))) → AsksAtMost (suc tests) seizings (left_of_test script (λ value. left same seen (script value)) word o)
     at None is later = asks
     at (Some value) is later = one_more_test tests seizings (left same seen (script value)) (later value (value_read-below seen.readings word value read is))
-  left_asks seen tests zero (Seizes lock script) read asks = absurd asks
-  left_asks seen tests (suc seizings) (Seizes lock script) read asks = at (is_held same seen.held lock) (left_asks seen tests seizings script read asks) where
+  left_asks seen tests zero (SeizeThen lock script) read asks = absurd asks
+  left_asks seen tests (suc seizings) (SeizeThen lock script) read asks = at (is_held same seen.held lock) (left_asks seen tests seizings script read asks) where
     at : (b : Bool) → AsksAtMost tests seizings (left same seen script) → AsksAtMost tests (suc seizings) (left_of_seizing script (left same seen script) lock b)
     at false later = asks
     at true later = one_more_seizing tests seizings (left same seen script) later
@@ -105,30 +105,30 @@ module _ {Lock : Type 0} (same : Lock → Lock → Bool) (self : (lock : Lock) �
   pub seized_at : {A : Type 0} (seen more : Seen Lock) (lock : Lock) (tests seizings : ℕ) (script rest : Script Lock A) → Grows seen more → AreReadWords more.readings → is_held same more.held lock ≡ true → left same seen script ≡ rest → first_wanted rest ≡ Err (Seize lock) → AsksAtMost tests seizings rest → RoomForOne seizings (λ n. AsksAtMost tests n (left same more script))
   unfolding first_wanted AsksAtMost left left_of_seizing
   seized_at {A = A} seen more lock tests seizings script (Ends found) grows read own is wants asks = absurd cc
-  seized_at {A = A} seen more lock tests seizings script (Tests word rest) grows read own is wants asks = absurd cc
-  seized_at {A = A} seen more lock tests zero script (Seizes other rest) grows read own is wants asks = absurd asks
-  seized_at {A = A} seen more lock tests (suc seizings) script (Seizes other rest) grows read own is wants asks =
+  seized_at {A = A} seen more lock tests seizings script (TestThen word rest) grows read own is wants asks = absurd cc
+  seized_at {A = A} seen more lock tests zero script (SeizeThen other rest) grows read own is wants asks = absurd asks
+  seized_at {A = A} seen more lock tests (suc seizings) script (SeizeThen other rest) grows read own is wants asks =
       let one : other ≡ lock = cc in
       record {
         rest = seizings;
         one = refl;
         asks = subst (λ (s : Script Lock A). AsksAtMost tests seizings s) (sym (left_again seen more script grows ∙ ap (left same more) is ∙ at one)) (left_asks more tests seizings rest read asks);
       } where
-        at : other ≡ lock → left same more (Seizes other rest) ≡ left same more rest
+        at : other ≡ lock → left same more (SeizeThen other rest) ≡ left same more rest
         at one = rw (ap (is_held same more.held) one ∙ own) refl
 
   -- a word that was wanted has room, and with a reading of it there is room for the rest
   pub read_at : {A : Type 0} (seen more : Seen Lock) (word : ℕ) (tests seizings : ℕ) (script rest : Script Lock A) → Grows seen more → AreReadWords more.readings → (value : ℕ) × (value_read more.readings word ≡ Some value) → left same seen script ≡ rest → first_wanted rest ≡ Err (Test word) → AsksAtMost tests seizings rest → RoomForOne tests (λ n. AsksAtMost n seizings (left same more script))
   unfolding first_wanted AsksAtMost left left_of_test
   read_at {A = A} seen more word tests seizings script (Ends found) grows read own is wants asks = absurd cc
-  read_at {A = A} seen more word tests seizings script (Seizes lock rest) grows read own is wants asks = absurd cc
-  read_at {A = A} seen more word zero seizings script (Tests other rest) grows read own is wants asks = absurd asks
-  read_at {A = A} seen more word (suc tests) seizings script (Tests other rest) grows read own is wants asks =
+  read_at {A = A} seen more word tests seizings script (SeizeThen lock rest) grows read own is wants asks = absurd cc
+  read_at {A = A} seen more word zero seizings script (TestThen other rest) grows read own is wants asks = absurd asks
+  read_at {A = A} seen more word (suc tests) seizings script (TestThen other rest) grows read own is wants asks =
       let one : other ≡ word = cc in
       record {
         rest = tests;
         one = refl;
         asks = subst (λ (s : Script Lock A). AsksAtMost tests seizings s) (sym (left_again seen more script grows ∙ ap (left same more) is ∙ at one)) (left_asks more tests seizings (rest own.0) read (asks own.0 (value_read-below more.readings word own.0 read own.1)));
       } where
-        at : other ≡ word → left same more (Tests other rest) ≡ left same more (rest own.0)
+        at : other ≡ word → left same more (TestThen other rest) ≡ left same more (rest own.0)
         at one = rw (ap (value_read more.readings) one ∙ own.1) refl

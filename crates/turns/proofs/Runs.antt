@@ -4,9 +4,9 @@ use mathlib.Core.Option.{Option, some, none}
 use lib.ListN.{get_elem?}
 use Rattle.turns.specs.System.{System, IsSystem}
 use Rattle.turns.specs.Attempt.{Act, Rest, Ask, Take, Leave, Look, Turn, Make, Free, act}
-use Rattle.turns.specs.World.{World, ActorOf, Idle, Does, assigned, opened}
+use Rattle.turns.specs.World.{World, ActorOf, Idle, Does, assigned, fresh_world}
 use Rattle.turns.specs.Law.{IsFree, Lawful}
-use Rattle.turns.specs.Runs.{Move, Assigns, Steps, Backs, is_rest, is_free, assigned_at, stepped_at, backed_at, made_by, run_from, run_of, IsMove, AreMoves}
+use Rattle.turns.specs.Runs.{Move, Assigns, Steps, Backs, is_rest, is_free, assigned_at, stepped_at, backed_at, after_move, run_from, run_of, IsMove, AreMoves}
 use Rattle.turns.proofs.Moving.{opens, assigns, keeps, gives_back}
 
 pub rest_is : {Lock Effect : Type 0} (a : Act Lock Effect) → is_rest a ≡ true → a ≡ Rest
@@ -43,15 +43,15 @@ module _ (O : System) (system : IsSystem O) where
     backs_at (some Idle) there = law
     backs_at (some (Does number a)) there = gives_back O system w law k number a there
 
-  made_lawful : (w : World O) (move : Move O.Job) → Lawful O w → IsMove O move → Lawful O (made_by O w move)
+  made_lawful : (w : World O) (move : Move O.Job) → Lawful O w → IsMove O move → Lawful O (after_move O w move)
   made_lawful w (Assigns k number job) law is = assigns_at w law k number job (get_elem? w.actors k) is refl
   made_lawful w (Steps k) law is = steps_at w law k (get_elem? w.actors k) refl
   made_lawful w (Backs k) law is = backs_at w law k (get_elem? w.actors k) refl
 
   run_lawful : (w : World O) (moves : List (Move O.Job)) → Lawful O w → AreMoves O moves → Lawful O (run_from O w moves)
   run_lawful w [] law are = law
-  run_lawful w (move ∷ moves) law are = run_lawful (made_by O w move) moves (made_lawful w move law are.0) are.1
+  run_lawful w (move ∷ moves) law are = run_lawful (after_move O w move) moves (made_lawful w move law are.0) are.1
 
   -- every run is lawful
   pub runs : (count : ℕ) (moves : List (Move O.Job)) → count ≤ O.sharing.most → AreMoves O moves → Lawful O (run_of O count moves)
-  runs count moves few are = run_lawful (opened O count) moves (opens O system count few) are
+  runs count moves few are = run_lawful (fresh_world O count) moves (opens O system count few) are

@@ -1,7 +1,7 @@
 use Rattle.std.proofs.Common.{◌≡◌, List, [], ◌∷◌, ◌++◌, refl, ◌∙◌, ap, append_assoc, subst, sym}
 use Rattle.std.specs.Prelude.{ℕ, Bool, Result, Ok, Err}
 use Rattle.turns.specs.Seen.{AreReadWords}
-use Rattle.turns.specs.Script.{Script, Ends, Tests, Seizes, is_held, value_read, left, left_of_test, left_of_seizing, first_wanted, walk}
+use Rattle.turns.specs.Script.{Script, Ends, TestThen, SeizeThen, is_held, value_read, left, left_of_test, left_of_seizing, first_wanted, walk}
 use Rattle.turns.specs.System.{System, IsSystem, DecidesUnder}
 use Rattle.turns.specs.Attempt.{AttemptOf, Stands, StandsIn, HasTurned, begin, change, changed, come_to, freed, goes_on, operated, restarted, restarted_in, read_in, rest_of, seen_of, forgotten}
 use Rattle.turns.specs.declared.answer.Answer.{Answer}
@@ -16,8 +16,8 @@ use Rattle.turns.proofs.Keeping.{walk_keeps, WalkFits}
 pub left_fresh : {Lock A : Type 0} (same : Lock → Lock → Bool) (script : Script Lock A) → left same (record { held = []; readings = [] }) script ≡ script
 unfolding left left_of_test left_of_seizing is_held value_read
 left_fresh same (Ends found) = refl
-left_fresh same (Tests word script) = refl
-left_fresh same (Seizes lock script) = refl
+left_fresh same (TestThen word script) = refl
+left_fresh same (SeizeThen lock script) = refl
 
 module _ (O : System) (is : IsSystem O) where
   open O use {Lock, Job, Effect, Decision, IsLock}

@@ -2,7 +2,7 @@
 use Rattle.std.proofs.Common.{◌≡◌, ℕ, suc, ◌+◌, ◌-◌, ◌*◌, ◌<◌, ◌≤◌, ◌^◌, Bool, true, false, List, [], ◌∷◌, ◌++◌, length, length-append, refl, sym, ap, subst, arith}
 use Rattle.std.specs.Prelude.{Option, Some, None, Result, Ok, Err}
 use Rattle.turns.specs.Seen.{Seen, AreReadWords}
-use Rattle.turns.specs.Script.{Script, Ends, Tests, Seizes, AsksAtMost, is_held, value_read, left, left_of_test, left_of_seizing, first_wanted, walk}
+use Rattle.turns.specs.Script.{Script, Ends, TestThen, SeizeThen, AsksAtMost, is_held, value_read, left, left_of_test, left_of_seizing, first_wanted, walk}
 use Rattle.turns.specs.System.{System, IsSystem, AreWords}
 use Rattle.turns.specs.Attempt.{AttemptOf, IsAnswerTo, Stands, StandsIn, act, act_in, begin, change, changed, closing_act, come_to, free_act, freed, goes_on, left_in, operated, read_in, rest_of, seen_of}
 use Rattle.turns.specs.World.{World}
@@ -25,11 +25,11 @@ module _ {Lock A : Type 0} (same : Lock → Lock → Bool) (Has : A → Type 0) 
   left_ends : (script : Script Lock A) → EndsIn Has script → EndsIn Has (left same seen script)
   unfolding EndsIn left left_of_test left_of_seizing
   left_ends (Ends found) has = has
-  left_ends (Tests word script) has = at (value_read seen.readings word) refl (λ value below. left_ends (script value) (has value below)) where
+  left_ends (TestThen word script) has = at (value_read seen.readings word) refl (λ value below. left_ends (script value) (has value below)) where
     at : (o : Option ℕ) → value_read seen.readings word ≡ o → ((value : ℕ) → value < 2 ^ 64 → EndsIn Has (left same seen (script value))) → EndsIn Has (left_of_test script (λ value. left same seen (script value)) word o)
     at None is later = has
     at (Some value) is later = later value (value_read-below seen.readings word value read is)
-  left_ends (Seizes lock script) has = at (is_held same seen.held lock) (left_ends script has) where
+  left_ends (SeizeThen lock script) has = at (is_held same seen.held lock) (left_ends script has) where
     at : (b : Bool) → EndsIn Has (left same seen script) → EndsIn Has (left_of_seizing script (left same seen script) lock b)
     at false later = has
     at true later = later
@@ -37,8 +37,8 @@ module _ {Lock A : Type 0} (same : Lock → Lock → Bool) (Has : A → Type 0) 
   first_end : (script : Script Lock A) (found : A) → EndsIn Has script → first_wanted script ≡ Ok found → Has found
   unfolding EndsIn first_wanted
   first_end (Ends end) found has e = let one : end ≡ found = cc in subst Has one has
-  first_end (Tests word script) found has e = absurd cc
-  first_end (Seizes lock script) found has e = absurd cc
+  first_end (TestThen word script) found has e = absurd cc
+  first_end (SeizeThen lock script) found has e = absurd cc
 
   -- and so does a walk through it
   pub walk_ends : (script : Script Lock A) (found : A) → EndsIn Has script → walk same seen script ≡ Ok found → Has found

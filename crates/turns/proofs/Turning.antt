@@ -9,7 +9,7 @@ use Rattle.turns.specs.Script.{run}
 use Rattle.turns.specs.Seen.{AreReadFrom}
 use Rattle.turns.specs.System.{System, IsSystem, AreWords, IsUnder, AreUnder, MayMake, AreAlike, DecidesAs, perform_all, AreDue}
 use Rattle.turns.specs.Attempt.{AttemptOf, HasDecided, seen_of}
-use Rattle.turns.specs.World.{World, RecordOf, Idle, Does, made, completed, completed_word, after, recorded}
+use Rattle.turns.specs.World.{World, RecordOf, Idle, Does, value_after, completed, completed_word, after, turn_record}
 use Rattle.turns.specs.Law.{IsRecorded, IsSound, Lawful, WasDecided, holder_at, word_at}
 use Rattle.turns.specs.declared.answer.Answer.TheVariants.{Turn as TurnNumber}
 use Rattle.turns.specs.declared.phase.Phase.TheVariants.{Turns}
@@ -98,11 +98,11 @@ module _ (O : System) (system : IsSystem O) (w : World O) (law : Lawful O w) (k 
     holders lock is = ap O.sharing.holder (lock_words lock is)
 
     -- a protected word, with the effects made: as the completed word with the actor past its turn
-    word_same : (n : ℕ) → ((effect : Effect) × IsIn effect effects × (effect_word effect ≡ n)) ⊎ Spares O effects n → made O effects n (completed_word O w.actors n (slice_index w.words n)) ≡ completed_word O (set w.actors k (Does number new)) n (slice_index w.words n)
+    word_same : (n : ℕ) → ((effect : Effect) × IsIn effect effects × (effect_word effect ≡ n)) ⊎ Spares O effects n → value_after O effects n (completed_word O w.actors n (slice_index w.words n)) ≡ completed_word O (set w.actors k (Does number new)) n (slice_index w.words n)
     word_same n (inl t) =
         let within : IsUnder O held n = subst (λ (m : ℕ). IsUnder O held m) t.2 (under t.0 t.1) in
         let v = slice_index w.words n in
-        ap (made O effects n) (only_one O w.actors k n v (Does number old) there (others_spare O system w law k number old there n within)) ∙
+        ap (value_after O effects n) (only_one O w.actors k n v (Does number old) there (others_spare O system w law k number old there n within)) ∙
         sym (only_one O (set w.actors k (Does number new)) k n v (Does number new) (set_here w.actors k (Does number new) (Does number old) there) (others_spare_then O system w law k number old new there n within))
     word_same n (inr spares) = spares (completed_word O w.actors n (slice_index w.words n)) ∙ sym (same_done O w.actors k n (slice_index w.words n) (Does number old) (Does number new) there spares)
 
@@ -119,7 +119,7 @@ module _ (O : System) (system : IsSystem O) (w : World O) (law : Lawful O w) (k 
       under = λ n lock e.
           let below = system.words.word_there n lock e in
           perform_index O words effects n (λ effect within. let u = under effect within in subst (λ (l : ℕ). effect_word effect < l) (sym words_long) (system.words.word_there (effect_word effect) u.lock u.protects)) ∙
-          ap (made O effects n) (completed_index O w n (subst (λ (l : ℕ). n < l) (sym law.size) below)) ∙
+          ap (value_after O effects n) (completed_index O w n (subst (λ (l : ℕ). n < l) (sym law.size) below)) ∙
           word_same n (touch_or_spare O effects n) ∙
           ap (completed_word O (set w.actors k (Does number new)) n) (sym (else_same n (no_turn O system n lock e))) ∙
           sym (completed_index O (then order) n (subst (λ (l : ℕ). n < l) (sym other_long) below));
@@ -188,10 +188,10 @@ module _ (O : System) (system : IsSystem O) (w : World O) (law : Lawful O w) (k 
           shared = λ lock is. shared_on O w k (Does number old) there other (w.order ++ r ∷ []) number new lock (law.shared lock is) (lock_words lock is) (λ within. within) ((λ e. absurd cc), (λ e. absurd cc)) (few_actors O w law k (Does number old) there);
         }
 
-    by_reply : (given : Option Reply) → reply ≡ given → given ≡ Some (reply_of decided.decision) → Lawful O (then (w.order ++ recorded O k number job given found))
+    by_reply : (given : Option Reply) → reply ≡ given → given ≡ Some (reply_of decided.decision) → Lawful O (then (w.order ++ turn_record O k number job given found))
     by_reply None same e = absurd cc
     by_reply (Some said) same e = turns_by (record { turn = found; actor = k; number = number; job = job; reply = said }) refl refl refl refl same cc
 
     -- actor k takes its turn
-    pub turns : Lawful O (then (w.order ++ recorded O k number job reply found))
+    pub turns : Lawful O (then (w.order ++ turn_record O k number job reply found))
     turns = by_reply reply refl decided.reply

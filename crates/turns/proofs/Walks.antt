@@ -2,7 +2,7 @@ use Rattle.std.proofs.Common.{◌≡◌, ℕ, Bool, true, false, List, [], ◌�
 use Rattle.std.specs.Prelude.{Option, Some, None, ◌==◌, Result, Ok, Err, find, option_map, slice_index, if◌then◌else◌}
 use Rattle.std.proofs.lemmas.Bool.{eqb-true}
 use Rattle.turns.specs.Seen.{Seen, AreReadFrom}
-use Rattle.turns.specs.Script.{Script, Ends, Tests, Seizes, ◌>>=◌, run, is_held, value_read, left, left_of_test, left_of_seizing, first_wanted, walk}
+use Rattle.turns.specs.Script.{Script, Ends, TestThen, SeizeThen, ◌>>=◌, run, is_held, value_read, left, left_of_test, left_of_seizing, first_wanted, walk}
 use Rattle.turns.specs.declared.reading.Reading.{Reading}
 use Rattle.turns.specs.declared.wanted.Wanted.{Wanted}
 
@@ -15,8 +15,8 @@ then_walk (Err wanted) next = Err wanted
 pub run_bind : {Lock A B : Type 0} (words : List ℕ) (script : Script Lock A) (next : A → Script Lock B) → run words (script >>= next) ≡ run words (next (run words script))
 unfolding run ◌>>=◌
 run_bind words (Ends found) next = refl
-run_bind words (Tests word script) next = run_bind words (script (slice_index words word)) next
-run_bind words (Seizes lock script) next = run_bind words script next
+run_bind words (TestThen word script) next = run_bind words (script (slice_index words word)) next
+run_bind words (SeizeThen lock script) next = run_bind words script next
 
 -- what was read in a word is what the word has
 pub read_value : (words : List ℕ) (readings : List (Reading ℕ)) (word value : ℕ) → AreReadFrom words readings → value_read readings word ≡ Some value → slice_index words word ≡ value
@@ -44,8 +44,8 @@ module _ {Lock : Type 0} (same : Lock → Lock → Bool) where
   pub walk_bind : {A B : Type 0} (seen : Seen Lock) (script : Script Lock A) (next : A → Script Lock B) → walk same seen (script >>= next) ≡ then_walk (walk same seen script) (λ found. walk same seen (next found))
   unfolding walk left first_wanted ◌>>=◌
   walk_bind seen (Ends found) next = refl
-  walk_bind seen (Tests word script) next = bind_test seen word (value_read seen.readings word) script next (λ value. walk_bind seen (script value) next)
-  walk_bind seen (Seizes lock script) next = bind_seizing seen lock (is_held same seen.held lock) script next (walk_bind seen script next)
+  walk_bind seen (TestThen word script) next = bind_test seen word (value_read seen.readings word) script next (λ value. walk_bind seen (script value) next)
+  walk_bind seen (SeizeThen lock script) next = bind_seizing seen lock (is_held same seen.held lock) script next (walk_bind seen script next)
 
   -- it goes on where the first one was gone through
   pub walk_goes_on : {A B : Type 0} (seen : Seen Lock) (script : Script Lock A) (next : A → Script Lock B) (found : A) → walk same seen script ≡ Ok found → walk same seen (script >>= next) ≡ walk same seen (next found)
@@ -64,11 +64,11 @@ module _ {Lock : Type 0} (same : Lock → Lock → Bool) where
   pub walk_run : {A : Type 0} (words : List ℕ) (seen : Seen Lock) (script : Script Lock A) (found : A) → AreReadFrom words seen.readings → walk same seen script ≡ Ok found → run words script ≡ found
   unfolding run walk left left_of_test left_of_seizing first_wanted
   walk_run words seen (Ends end) found read e = cc
-  walk_run {A} words seen (Tests word script) found read e = at (value_read seen.readings word) refl (λ value. walk_run words seen (script value) found read) e where
+  walk_run {A} words seen (TestThen word script) found read e = at (value_read seen.readings word) refl (λ value. walk_run words seen (script value) found read) e where
     at : (o : Option ℕ) → value_read seen.readings word ≡ o → ((value : ℕ) → walk same seen (script value) ≡ Ok found → run words (script value) ≡ found) → first_wanted (left_of_test script (λ value. left same seen (script value)) word o) ≡ Ok found → run words (script (slice_index words word)) ≡ found
     at None none later e = absurd cc
     at (Some value) is later e = ap (λ (v : ℕ). run words (script v)) (read_value words seen.readings word value read is) ∙ later value e
-  walk_run words seen (Seizes lock script) found read e = at (is_held same seen.held lock) (walk_run words seen script found read) e where
+  walk_run words seen (SeizeThen lock script) found read e = at (is_held same seen.held lock) (walk_run words seen script found read) e where
     at : (b : Bool) → (walk same seen script ≡ Ok found → run words script ≡ found) → first_wanted (left_of_seizing script (left same seen script) lock b) ≡ Ok found → run words script ≡ found
     at false later e = absurd cc
     at true later e = later e

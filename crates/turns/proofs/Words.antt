@@ -6,11 +6,11 @@ use Rattle.std.specs.Prelude.{Some, ◌==◌, find, option_map, if◌then◌else
 use mathlib.Core.Option.{some}
 use lib.ListN.{get_elem?}
 use Rattle.turns.specs.Operations.{applied, FitsWord}
-use Rattle.turns.specs.Script.{Script, Ends, Tests, Seizes, run, value_read}
+use Rattle.turns.specs.Script.{Script, Ends, TestThen, SeizeThen, run, value_read}
 use Rattle.turns.specs.Bounds.{EndsIn}
 use Rattle.turns.specs.Seen.{AreReadWords}
 use Rattle.turns.specs.System.{System, AreWords, FitWords, effect_on}
-use Rattle.turns.specs.World.{ActorOf, left_of, made, completed_word, completed_from}
+use Rattle.turns.specs.World.{ActorOf, left_of, value_after, completed_word, completed_from}
 use Rattle.turns.specs.declared.operation.Operation.{Operation}
 use Rattle.turns.specs.declared.operation.Operation.TheVariants.{Load, Or, And, Add, CompareExchange}
 use Rattle.turns.specs.declared.reading.Reading.{Reading}
@@ -63,14 +63,14 @@ read_more readings last are below r within = elim (in_more r last readings withi
 pub run_ends : {Lock A : Type 0} (Has : A → Type 0) (words : List ℕ) (script : Script Lock A) → AreWords words → EndsIn Has script → Has (run words script)
 unfolding run EndsIn
 run_ends Has words (Ends found) are has = has
-run_ends Has words (Tests word script) are has = run_ends Has words (script (slice_index words word)) are (has (slice_index words word) (are word))
-run_ends Has words (Seizes lock script) are has = run_ends Has words script are has
+run_ends Has words (TestThen word script) are has = run_ends Has words (script (slice_index words word)) are (has (slice_index words word) (are word))
+run_ends Has words (SeizeThen lock script) are has = run_ends Has words script are has
 
 module _ (O : System) where
   open O use {Effect}
 
   -- effects that fit their words leave words
-  pub made_below : (effects : List Effect) → FitWords O effects → MakesWords (made O effects)
+  pub made_below : (effects : List Effect) → FitWords O effects → MakesWords (value_after O effects)
   made_below [] fit word value below = below
   made_below (effect ∷ effects) fit word value below =
       made_below effects (λ e within. fit e (inr within)) word (if O.effect_word effect == word then effect_on O effect value else value) (at (O.effect_word effect == word)) where
@@ -85,7 +85,7 @@ module _ (O : System) where
   completed_word-below : (actors : List (ActorOf O)) (word value : ℕ) → AllFit actors → value < 2 ^ 64 → completed_word O actors word value < 2 ^ 64
   completed_word-below [] word value fit below = below
   completed_word-below (m ∷ actors) word value fit below =
-      completed_word-below actors word (made O (left_of O m) word value) (λ k other at. fit (suc k) other at) (made_below (left_of O m) (fit 0 m refl) word value below)
+      completed_word-below actors word (value_after O (left_of O m) word value) (λ k other at. fit (suc k) other at) (made_below (left_of O m) (fit 0 m refl) word value below)
 
   -- so the completed words are words
   pub completed_below : (actors : List (ActorOf O)) (word : ℕ) (words : List ℕ) → AllFit actors → AreWords words → AreWords (completed_from O actors word words)

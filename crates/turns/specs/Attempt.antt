@@ -1,7 +1,7 @@
 use Rattle.std.specs.Prelude.{◌≡◌, ℕ, ◌<◌, ◌^◌, ◌==◌, Option, Some, None, List, [], ◌∷◌, ◌++◌, Result, Ok, Err, ⊤, if◌then◌else◌}
 use Rattle.turns.specs.Seen.{Seen}
 use Rattle.turns.specs.Script.{walk}
-use Rattle.turns.specs.Sharing.{asked}
+use Rattle.turns.specs.Sharing.{with_request}
 use Rattle.turns.specs.System.{System}
 use Rattle.turns.specs.declared.answer.Answer.{Answer}
 use Rattle.turns.specs.declared.answer.Answer.TheVariants.{Asked, Seized, Held, Preferred, Again, Value, Turn as TurnNumber, Done}
@@ -138,10 +138,10 @@ operated a [] = record a { held = rest_of a.held }
 operated a (effect ∷ effects) = record a { effects = effects }
 
 -- an actor that may go on does so by this answer
-abbrev pub told : Answer → Judgement → Answer
-told answer judgement.Free = answer
-told answer (judgement.Held holder) = Held holder
-told answer (judgement.Preferred other) = Preferred other
+abbrev pub unless_put_off : Answer → Judgement → Answer
+unless_put_off answer judgement.Free = answer
+unless_put_off answer (judgement.Held holder) = Held holder
+unless_put_off answer (judgement.Preferred other) = Preferred other
 
 -- an answer is of the step's kind, and a value that was tested fits a word
 abbrev pub IsAnswerTo : {Lock Effect : Type 0} → Act Lock Effect → Answer → Type 0
@@ -207,19 +207,19 @@ module _ (O : System) where
   change a answer = changed a a.phase answer
 
   -- what actor k is told of its step that found this number
-  abbrev pub answered : ℕ → Act Lock Effect → ℕ → Answer
-  answered k Rest found = Done
-  answered k (Ask lock) found = told (Asked (asked sharing k found)) (sharing.judged k (asked sharing k found))
-  answered k (Take lock expected) found = if found == expected then Seized else told (Again found) (sharing.judged k found)
-  answered k (Leave lock) found = Done
-  answered k (Free lock) found = Done
-  answered k (Look word) found = Value found
-  answered k Turn found = TurnNumber found
-  answered k (Make effect) found = Done
+  abbrev pub answer_to : ℕ → Act Lock Effect → ℕ → Answer
+  answer_to k Rest found = Done
+  answer_to k (Ask lock) found = unless_put_off (Asked (with_request sharing k found)) (sharing.judged k (with_request sharing k found))
+  answer_to k (Take lock expected) found = if found == expected then Seized else unless_put_off (Again found) (sharing.judged k found)
+  answer_to k (Leave lock) found = Done
+  answer_to k (Free lock) found = Done
+  answer_to k (Look word) found = Value found
+  answer_to k Turn found = TurnNumber found
+  answer_to k (Make effect) found = Done
 
   -- the attempt of actor k after its next step, which found this number
   abbrev pub next : ℕ → AttemptOf → ℕ → AttemptOf
-  next k a found = change a (answered k (act a) found)
+  next k a found = change a (answer_to k (act a) found)
 
   -- begun anew before its turn, once what it holds was given back; past its turn nothing changes
   abbrev pub restarted_in : Phase Lock ℕ → AttemptOf → AttemptOf

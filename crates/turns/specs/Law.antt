@@ -4,7 +4,7 @@ use lib.ListN.{get_elem?}
 use Rattle.turns.specs.Among.{IsIn, AreDistinct}
 use Rattle.turns.specs.Script.{run}
 use Rattle.turns.specs.Sharing.{ShowsRequests}
-use Rattle.turns.specs.System.{System, IsUnder, AreUnder, AreDue, effect_on, made_by, AreWords, FitWords, MayMake}
+use Rattle.turns.specs.System.{System, IsUnder, AreUnder, AreDue, effect_on, fold_effects, AreWords, FitWords, MayMake}
 use Rattle.turns.specs.Attempt.{AttemptOf, Rest, Stands, act, read_in, request_in}
 use Rattle.turns.specs.World.{World, ActorOf, Idle, Does, RecordOf, completed, after}
 use Rattle.turns.specs.declared.judgement.Judgement.TheVariants.{Free}
@@ -48,7 +48,7 @@ module _ (O : System) where
     pub effects : effects_of (run words (O.script a.job)) ≡ made ++ a.effects
     -- while an effect is left, those made are under what is held; and what is under that is now what they made of those words
     pub under : (effect : Effect) → IsIn effect a.effects → AreUnder O a.held made
-    pub since : (number : ℕ) → IsUnder O a.held number → slice_index now number ≡ made_by effect_word (effect_on O) made number (slice_index words number)
+    pub since : (number : ℕ) → IsUnder O a.held number → slice_index now number ≡ fold_effects effect_word (effect_on O) made number (slice_index words number)
 
   -- past its turn: the effects that are left are under what is held and fit their words, each is due, the turn is recorded, and it was decided on the state before it
   pub record IsOperating (words : List ℕ) (order : List (RecordOf O)) (k number turn : ℕ) (a : AttemptOf O) : Type 0 where

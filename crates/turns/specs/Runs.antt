@@ -3,7 +3,7 @@ use mathlib.Core.Option.{Option, some, none}
 use lib.ListN.{get_elem?}
 use Rattle.turns.specs.System.{System}
 use Rattle.turns.specs.Attempt.{Act, Rest, act}
-use Rattle.turns.specs.World.{World, ActorOf, Idle, Does, moved, assigned, given_back, opened}
+use Rattle.turns.specs.World.{World, ActorOf, Idle, Does, moved, assigned, given_back, fresh_world}
 
 -- what may happen next: a job is assigned to an actor under a number, an actor makes its next step, or it gives back
 pub data Move (Job : Type 0) : Type 0 where
@@ -35,19 +35,19 @@ module _ (O : System) where
   backed_at k (some Idle) w = w
   backed_at k (some (Does number a)) w = given_back O k number a w
 
-  abbrev pub made_by : World O → Move O.Job → World O
-  made_by w (Assigns k number job) = assigned_at k number job (get_elem? w.actors k) w
-  made_by w (Steps k) = stepped_at k (get_elem? w.actors k) w
-  made_by w (Backs k) = backed_at k (get_elem? w.actors k) w
+  abbrev pub after_move : World O → Move O.Job → World O
+  after_move w (Assigns k number job) = assigned_at k number job (get_elem? w.actors k) w
+  after_move w (Steps k) = stepped_at k (get_elem? w.actors k) w
+  after_move w (Backs k) = backed_at k (get_elem? w.actors k) w
 
   -- moves of any actors, one after another
   abbrev pub run_from : World O → List (Move O.Job) → World O
   run_from w [] = w
-  run_from w (move ∷ moves) = run_from (made_by w move) moves
+  run_from w (move ∷ moves) = run_from (after_move w move) moves
 
   -- a run of so many actors
   abbrev pub run_of : ℕ → List (Move O.Job) → World O
-  run_of count moves = run_from (opened O count) moves
+  run_of count moves = run_from (fresh_world O count) moves
 
   abbrev pub IsMove : Move O.Job → Type 0
   IsMove (Assigns k number job) = O.IsJob job

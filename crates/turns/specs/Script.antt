@@ -10,14 +10,14 @@ infixl 20 ◌>>◌
 -- what a job is to do until it can decide: it ends with what it found, or tests a word and goes on by its value, or seizes a lock and goes on
 pub data Script (Lock A : Type 0) : Type 0 where
   Ends : A → Script Lock A
-  Tests : ℕ → (ℕ → Script Lock A) → Script Lock A
-  Seizes : Lock → Script Lock A → Script Lock A
+  TestThen : ℕ → (ℕ → Script Lock A) → Script Lock A
+  SeizeThen : Lock → Script Lock A → Script Lock A
 
 -- one script and then another, which goes on with what the first one found
 unfoldable pub ◌>>=◌ : {Lock A B : Type 0} → Script Lock A → (A → Script Lock B) → Script Lock B
 Ends found >>= next = next found
-Tests word script >>= next = Tests word (λ value. script value >>= next)
-Seizes lock script >>= next = Seizes lock (script >>= next)
+TestThen word script >>= next = TestThen word (λ value. script value >>= next)
+SeizeThen lock script >>= next = SeizeThen lock (script >>= next)
 
 -- one script and then another
 abbrev pub ◌>>◌ : {Lock A B : Type 0} → Script Lock A → Script Lock B → Script Lock B
@@ -25,23 +25,23 @@ script >> next = script >>= (λ _. next)
 
 -- test a word, and find its value
 abbrev pub test : {Lock : Type 0} → ℕ → Script Lock ℕ
-test word = Tests word Ends
+test word = TestThen word Ends
 
 -- seize a lock
 abbrev pub seize : {Lock : Type 0} → Lock → Script Lock ⊤
-seize lock = Seizes lock (Ends tt)
+seize lock = SeizeThen lock (Ends tt)
 
 -- a script that goes on by each word's value as this makes it
 unfoldable pub read_with : {Lock A : Type 0} → (ℕ → ℕ → ℕ) → Script Lock A → Script Lock A
 read_with change (Ends found) = Ends found
-read_with change (Tests word script) = Tests word (λ value. read_with change (script (change word value)))
-read_with change (Seizes lock script) = Seizes lock (read_with change script)
+read_with change (TestThen word script) = TestThen word (λ value. read_with change (script (change word value)))
+read_with change (SeizeThen lock script) = SeizeThen lock (read_with change script)
 
 -- the end of a script on given words, all locks being free
 unfoldable pub run : {Lock A : Type 0} → List ℕ → Script Lock A → A
 run words (Ends found) = found
-run words (Tests word script) = run words (script (slice_index words word))
-run words (Seizes lock script) = run words script
+run words (TestThen word script) = run words (script (slice_index words word))
+run words (SeizeThen lock script) = run words script
 
 -- whether a lock is held, where `same` tells whether two locks are one
 unfoldable pub is_held : {Lock : Type 0} → (Lock → Lock → Bool) → List Lock → Lock → Bool
@@ -53,25 +53,25 @@ value_read readings word = option_map (λ reading. reading.value) (find (λ read
 
 -- a test is left to do where its word was not read
 unfoldable pub left_of_test : {Lock A : Type 0} → (ℕ → Script Lock A) → (ℕ → Script Lock A) → ℕ → Option ℕ → Script Lock A
-left_of_test script left word None = Tests word script
+left_of_test script left word None = TestThen word script
 left_of_test script left word (Some value) = left value
 
 -- a seizing is left to do where its lock is not held
 unfoldable pub left_of_seizing : {Lock A : Type 0} → Script Lock A → Script Lock A → Lock → Bool → Script Lock A
-left_of_seizing script left lock false = Seizes lock script
+left_of_seizing script left lock false = SeizeThen lock script
 left_of_seizing script left lock true = left
 
 -- what is left of a script for an attempt: a lock that it holds is not seized again, and a word that it has read is not tested again
 unfoldable pub left : {Lock A : Type 0} → (Lock → Lock → Bool) → Seen Lock → Script Lock A → Script Lock A
 left same seen (Ends found) = Ends found
-left same seen (Tests word script) = left_of_test script (λ value. left same seen (script value)) word (value_read seen.readings word)
-left same seen (Seizes lock script) = left_of_seizing script (left same seen script) lock (is_held same seen.held lock)
+left same seen (TestThen word script) = left_of_test script (λ value. left same seen (script value)) word (value_read seen.readings word)
+left same seen (SeizeThen lock script) = left_of_seizing script (left same seen script) lock (is_held same seen.held lock)
 
 -- the end of a script, or what it wants first
 unfoldable pub first_wanted : {Lock A : Type 0} → Script Lock A → Result A (Wanted Lock ℕ)
 first_wanted (Ends found) = Ok found
-first_wanted (Tests word script) = Err (Test word)
-first_wanted (Seizes lock script) = Err (Seize lock)
+first_wanted (TestThen word script) = Err (Test word)
+first_wanted (SeizeThen lock script) = Err (Seize lock)
 
 -- the walk of an attempt through a script: to its end, or to what it wants next
 unfoldable pub walk : {Lock A : Type 0} → (Lock → Lock → Bool) → Seen Lock → Script Lock A → Result A (Wanted Lock ℕ)
@@ -80,8 +80,8 @@ walk same seen script = first_wanted (left same seen script)
 -- whatever is read in words of 64 bits, a script has no more tests and no more seizings than these
 unfoldable pub AsksAtMost : {Lock A : Type 0} → ℕ → ℕ → Script Lock A → Type 0
 AsksAtMost tests seizings (Ends found) = ⊤
-AsksAtMost zero seizings (Tests word script) = ⊥
-AsksAtMost (suc tests) seizings (Tests word script) =
+AsksAtMost zero seizings (TestThen word script) = ⊥
+AsksAtMost (suc tests) seizings (TestThen word script) =
     (value : ℕ) → value < 2 ^ 64 → AsksAtMost tests seizings (script value)
-AsksAtMost tests zero (Seizes lock script) = ⊥
-AsksAtMost tests (suc seizings) (Seizes lock script) = AsksAtMost tests seizings script
+AsksAtMost tests zero (SeizeThen lock script) = ⊥
+AsksAtMost tests (suc seizings) (SeizeThen lock script) = AsksAtMost tests seizings script

@@ -25,14 +25,14 @@ pub record Sharing : Type 1 where
   pub judged : ℕ → ℕ → Judgement
 
 -- the word with actor k's request, and without it; once its holder has freed the lock
-abbrev pub asked : Sharing → ℕ → ℕ → ℕ
-asked S k word = applied (S.request k) word
+abbrev pub with_request : Sharing → ℕ → ℕ → ℕ
+with_request S k word = applied (S.request k) word
 
-abbrev pub withdrawn : Sharing → ℕ → ℕ → ℕ
-withdrawn S k word = applied (S.withdrawal k) word
+abbrev pub without_request : Sharing → ℕ → ℕ → ℕ
+without_request S k word = applied (S.withdrawal k) word
 
-abbrev pub freed : Sharing → ℕ → ℕ
-freed S word = applied S.freeing word
+abbrev pub without_holder : Sharing → ℕ → ℕ
+without_holder S word = applied S.freeing word
 
 -- a judgement is true of the word
 abbrev pub IsTrueOf : Sharing → ℕ → ℕ → Judgement → Type 0
@@ -69,21 +69,21 @@ KeepsOthers S k word after =
 -- what must hold of them
 pub record IsSharing (S : Sharing) : Type 0 where
   -- a request keeps the holder
-  pub asked_is : (k word : ℕ) → k < S.most → S.IsWord word → S.IsWord (asked S k word)
-  pub asked_holder : (k word : ℕ) → k < S.most → S.IsWord word → S.holder (asked S k word) ≡ S.holder word
-  pub asked_requests : (k word : ℕ) → k < S.most → S.IsWord word → AddsOnly S k word (asked S k word)
+  pub asked_is : (k word : ℕ) → k < S.most → S.IsWord word → S.IsWord (with_request S k word)
+  pub asked_holder : (k word : ℕ) → k < S.most → S.IsWord word → S.holder (with_request S k word) ≡ S.holder word
+  pub asked_requests : (k word : ℕ) → k < S.most → S.IsWord word → AddsOnly S k word (with_request S k word)
   -- so does its withdrawal
-  pub withdrawn_is : (k word : ℕ) → k < S.most → S.IsWord word → S.IsWord (withdrawn S k word)
-  pub withdrawn_holder : (k word : ℕ) → k < S.most → S.IsWord word → S.holder (withdrawn S k word) ≡ S.holder word
-  pub withdrawn_requests : (k word : ℕ) → k < S.most → S.IsWord word → Clears S k word (withdrawn S k word)
+  pub withdrawn_is : (k word : ℕ) → k < S.most → S.IsWord word → S.IsWord (without_request S k word)
+  pub withdrawn_holder : (k word : ℕ) → k < S.most → S.IsWord word → S.holder (without_request S k word) ≡ S.holder word
+  pub withdrawn_requests : (k word : ℕ) → k < S.most → S.IsWord word → Clears S k word (without_request S k word)
   -- a lock that nobody holds, once seized, names its holder, whose request is gone
   pub taken_is : (k word : ℕ) → k < S.most → S.IsWord word → S.holder word ≡ 0 → S.IsWord (S.taken k word)
   pub taken_holder : (k word : ℕ) → k < S.most → S.IsWord word → S.holder word ≡ 0 → S.holder (S.taken k word) ≡ suc k
   pub taken_requests : (k word : ℕ) → k < S.most → S.IsWord word → S.holder word ≡ 0 → Clears S k word (S.taken k word)
   -- a lock that was freed has no holder
-  pub freed_is : (word : ℕ) → S.IsWord word → S.IsWord (freed S word)
-  pub freed_holder : (word : ℕ) → S.IsWord word → S.holder (freed S word) ≡ 0
-  pub freed_requests : (word : ℕ) → S.IsWord word → AddsNone S word (freed S word)
+  pub freed_is : (word : ℕ) → S.IsWord word → S.IsWord (without_holder S word)
+  pub freed_holder : (word : ℕ) → S.IsWord word → S.holder (without_holder S word) ≡ 0
+  pub freed_requests : (word : ℕ) → S.IsWord word → AddsNone S word (without_holder S word)
   -- judgements are true, and an actor that requests alone what nobody holds may go on
   pub judged_true : (k word : ℕ) → k < S.most → S.IsWord word → IsTrueOf S k word (S.judged k word)
   pub alone_free : (k word : ℕ) → k < S.most → S.IsWord word → S.holder word ≡ 0 → ((j : ℕ) → j < S.most → S.requests j word ≡ true → j ≡ k) → S.judged k word ≡ Free
@@ -93,13 +93,13 @@ pub record IsSharing (S : Sharing) : Type 0 where
 -- what must hold too where each request is to be seen in the word, from the step that makes it to that which
 -- withdraws it or seizes the lock
 pub record ShowsRequests (S : Sharing) : Type 0 where
-  pub asked_own : (k word : ℕ) → k < S.most → S.IsWord word → S.requests k (asked S k word) ≡ true
+  pub asked_own : (k word : ℕ) → k < S.most → S.IsWord word → S.requests k (with_request S k word) ≡ true
   pub asked_others : (k word : ℕ) → k < S.most → S.IsWord word →
-      KeepsOthers S k word (asked S k word)
+      KeepsOthers S k word (with_request S k word)
   pub withdrawn_others : (k word : ℕ) → k < S.most → S.IsWord word →
-      KeepsOthers S k word (withdrawn S k word)
+      KeepsOthers S k word (without_request S k word)
   pub taken_others : (k word : ℕ) → k < S.most → S.IsWord word → S.holder word ≡ 0 →
       KeepsOthers S k word (S.taken k word)
   -- no request goes when the lock is freed
   pub freed_others : (word : ℕ) → S.IsWord word → (j : ℕ) → j < S.most →
-      S.requests j word ≡ true → S.requests j (freed S word) ≡ true
+      S.requests j word ≡ true → S.requests j (without_holder S word) ≡ true

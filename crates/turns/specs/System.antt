@@ -1,7 +1,7 @@
 use Rattle.std.specs.Prelude.{◌≡◌, ◌↔◌, ℕ, ◌<◌, ◌==◌, if◌then◌else◌, Bool, true, List, [], ◌∷◌, ◌++◌, length, fold, slice_index, slice_set, ⊤, Err, ◌^◌}
 use Rattle.turns.specs.Among.{IsIn}
 use Rattle.turns.specs.Operations.{applied, FitsWord}
-use Rattle.turns.specs.Script.{Script, Ends, Tests, Seizes, run, first_wanted}
+use Rattle.turns.specs.Script.{Script, Ends, TestThen, SeizeThen, run, first_wanted}
 use Rattle.turns.specs.Sharing.{Sharing, IsSharing, IsUnused}
 use Rattle.turns.specs.declared.operation.Operation.{Operation}
 use Rattle.turns.specs.declared.wanted.Wanted.TheVariants.{Seize}
@@ -62,9 +62,9 @@ abbrev pub AreWords : List ℕ → Type 0
 AreWords words = (n : ℕ) → slice_index words n < 2 ^ 64
 
 -- what effects, one after another, make of the number in a word
-abbrev pub made_by : {Effect : Type 0} → (Effect → ℕ) → (Effect → ℕ → ℕ) → List Effect → ℕ → ℕ → ℕ
-made_by word_of on [] word value = value
-made_by word_of on (effect ∷ effects) word value = made_by word_of on effects word (if word_of effect == word then on effect value else value)
+abbrev pub fold_effects : {Effect : Type 0} → (Effect → ℕ) → (Effect → ℕ → ℕ) → List Effect → ℕ → ℕ → ℕ
+fold_effects word_of on [] word value = value
+fold_effects word_of on (effect ∷ effects) word value = fold_effects word_of on effects word (if word_of effect == word then on effect value else value)
 
 module _ (O : System) where
   open O use {Lock, Job, State, Reply, Effect, Decision, IsLock, Protects, effect_word, Due, effects_of, reply_of, size}
@@ -95,9 +95,9 @@ module _ (O : System) where
   -- with these locks held, a script tests only words that what is seized by then protects, and, whatever is read in words of 64 bits, its ends fit what is held then
   unfoldable pub KeepsTo : {A : Type 0} → (List Lock → A → Type 0) → List Lock → Script Lock A → Type 0
   KeepsTo Fits held (Ends found) = Fits held found
-  KeepsTo Fits held (Tests word script) =
+  KeepsTo Fits held (TestThen word script) =
       IsUnder held word × ((value : ℕ) → value < 2 ^ 64 → KeepsTo Fits held (script value))
-  KeepsTo Fits held (Seizes lock script) = IsLock lock × KeepsTo Fits (held ++ lock ∷ []) script
+  KeepsTo Fits held (SeizeThen lock script) = IsLock lock × KeepsTo Fits (held ++ lock ∷ []) script
 
   -- a decision has effects that may be made with these locks held
   abbrev pub DecidesUnder : List Lock → Decision → Type 0

@@ -1,6 +1,6 @@
 use Rattle.std.specs.Prelude.{ℕ, suc, Option, Some, None, List, [], ◌∷◌, ◌++◌, set, replicate, slice_index, slice_set}
 use Rattle.turns.specs.Operations.{applied}
-use Rattle.turns.specs.System.{made_by, System, effect_on}
+use Rattle.turns.specs.System.{fold_effects, System, effect_on}
 use Rattle.turns.specs.Attempt.{Attempt, Act, Rest, Ask, Take, Leave, Free, Look, Turn, Make, AttemptOf, act, next, left_in, begin, restarted}
 use Rattle.turns.specs.declared.operation.Operation.{Operation}
 use Rattle.turns.specs.declared.operation.Operation.TheVariants.{Load, Add, CompareExchange}
@@ -62,12 +62,12 @@ module _ (O : System) where
   becomes k act found = applied (operation k act) found
 
   -- the record of a turn, else none
-  abbrev pub recorded : ℕ → ℕ → Job → Option Reply → ℕ → List RecordOf
-  recorded k number job None found = []
-  recorded k number job (Some reply) found = record { turn = found; actor = k; number = number; job = job; reply = reply } ∷ []
+  abbrev pub turn_record : ℕ → ℕ → Job → Option Reply → ℕ → List RecordOf
+  turn_record k number job None found = []
+  turn_record k number job (Some reply) found = record { turn = found; actor = k; number = number; job = job; reply = reply } ∷ []
 
   abbrev pub added_in : ℕ → ℕ → AttemptOf O → Phase Lock ℕ → ℕ → List RecordOf
-  added_in k number a Turns found = recorded k number a.job a.reply found
+  added_in k number a Turns found = turn_record k number a.job a.reply found
   added_in k number a (Requests lock) found = []
   added_in k number a (Seizes lock expected) found = []
   added_in k number a (Tests word) found = []
@@ -102,8 +102,8 @@ module _ (O : System) where
   given_back k number a w = with_actor k (Does number (restarted O a)) w
 
   -- so many actors, all idle, on the words that the system opens on
-  abbrev pub opened : ℕ → World
-  opened count = record { words = O.initial; actors = replicate count Idle; order = [] }
+  abbrev pub fresh_world : ℕ → World
+  fresh_world count = record { words = O.initial; actors = replicate count Idle; order = [] }
 
   -- the effects that an actor has left to make
   abbrev pub left_of : ActorOf → List Effect
@@ -111,12 +111,12 @@ module _ (O : System) where
   left_of (Does number a) = left_in a.phase a.effects
 
   -- what effects make of the number in a word
-  abbrev pub made : List Effect → ℕ → ℕ → ℕ
-  made = made_by effect_word (effect_on O)
+  abbrev pub value_after : List Effect → ℕ → ℕ → ℕ
+  value_after = fold_effects effect_word (effect_on O)
 
   abbrev pub completed_word : List ActorOf → ℕ → ℕ → ℕ
   completed_word [] word value = value
-  completed_word (m ∷ actors) word value = completed_word actors word (made (left_of m) word value)
+  completed_word (m ∷ actors) word value = completed_word actors word (value_after (left_of m) word value)
 
   abbrev pub completed_from : List ActorOf → ℕ → List ℕ → List ℕ
   completed_from actors word [] = []

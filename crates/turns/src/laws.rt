@@ -9,14 +9,14 @@ ghost use Rattle.turns.specs.Among.{IsIn};
 ghost use Rattle.turns.specs.Seen.{Seen, AreReadFrom, AreReadWords};
 ghost use Rattle.turns.specs.Script.{run, walk};
 ghost use Rattle.turns.specs.System.{System, IsSystem, IsUnder};
-ghost use Rattle.turns.specs.Attempt.{AttemptOf, Free, Make, Rest, act, answered, begin, change};
+ghost use Rattle.turns.specs.Attempt.{AttemptOf, Free, Make, Rest, act, answer_to, begin, change};
 ghost use Rattle.turns.specs.Attempt.{IsAnswerTo, IsSeizing, Stands, read_in, restarted};
 ghost use Rattle.turns.specs.World.{World, ActorOf, RecordOf, Does, moved, place, added};
-ghost use Rattle.turns.specs.World.{assigned, given_back, opened, completed, after, left_of, made};
+ghost use Rattle.turns.specs.World.{assigned, given_back, fresh_world, completed, after, left_of, value_after};
 ghost use Rattle.turns.specs.Law.{Lawful, IsFree, IsLegal, IsRecorded, WasDecided};
 ghost use Rattle.turns.specs.Law.{Holds, HasRequested, MaySeize, holder_at, word_at};
-ghost use Rattle.turns.specs.Runs.{Move, AreMoves, made_by, run_from, run_of};
-ghost use Rattle.turns.specs.Bounds.{AreBounded, AreSteady, IsAside, stepped};
+ghost use Rattle.turns.specs.Runs.{Move, AreMoves, after_move, run_from, run_of};
+ghost use Rattle.turns.specs.Bounds.{AreBounded, AreSteady, IsAside, after_steps};
 ghost use Rattle.turns.specs.Ending.{ComesToEnd, own_steps};
 ghost use Rattle.turns.specs.PutOff.{IsPutOffBy};
 ghost use Rattle.turns.specs.Sharing.{IsSharing, ShowsRequests};
@@ -38,7 +38,7 @@ pub trait Family {
 /// back of any actor keeps it so.
 pub fn every_move_keeps_the_law<F: Family>()
     ensures opens { (setting : F.Setting) → let O = F.system setting in
-        (count : ℕ) → IsSystem O → count ≤ O.sharing.most → Lawful O (opened O count) }
+        (count : ℕ) → IsSystem O → count ≤ O.sharing.most → Lawful O (fresh_world O count) }
     ensures assigns { (setting : F.Setting) → let O = F.system setting in
         (w : World O) (k number : ℕ) (m : ActorOf O) (job : O.Job)
         → IsSystem O → Lawful O w → get_elem? w.actors k ≡ some m → IsFree O m → O.IsJob job
@@ -68,7 +68,7 @@ pub fn every_run_is_lawful<F: Family>()
 pub fn the_order_only_grows<F: Family>()
     ensures each { (setting : F.Setting) → let O = F.system setting in
         (w : World O) (move : Move O.Job)
-        → (later : List (RecordOf O)) × ((made_by O w move).order ≡ w.order ++ later) }
+        → (later : List (RecordOf O)) × ((after_move O w move).order ≡ w.order ++ later) }
     ensures run { (setting : F.Setting) → let O = F.system setting in
         (w : World O) (moves : List (Move O.Job))
         → (later : List (RecordOf O)) × ((run_from O w moves).order ≡ w.order ++ later) }
@@ -96,7 +96,7 @@ pub fn jobs_act_at_their_turns<F: Family>()
         (w : World O) (k number : ℕ) (a : AttemptOf O) (n : ℕ)
         → IsSystem O → Lawful O w → get_elem? w.actors k ≡ some (Does number a) → IsUnder O a.held n
         → slice_index (completed O w) n
-        ≡ made O (left_of O (Does number a)) n (slice_index w.words n) }
+        ≡ value_after O (left_of O (Does number a)) n (slice_index w.words n) }
     ensures made { (setting : F.Setting) → let O = F.system setting in
         (w : World O)
         → Lawful O w
@@ -186,7 +186,7 @@ pub fn attempts_keep_their_order<F: Family>()
         → MaySeize O k expected }
     ensures answers { (setting : F.Setting) → let O = F.system setting in
         (k : ℕ) (a : AttemptOf O) (found : ℕ) → act a ≢ Rest → found < 2 ^ 64
-        → IsAnswerTo (act a) (answered O k (act a) found) }
+        → IsAnswerTo (act a) (answer_to O k (act a) found) }
     ensures frees { (setting : F.Setting) → let O = F.system setting in
         (a : AttemptOf O) (lock : O.Lock) → act a ≡ Free lock
         → (a.phase ≡ Phase.GivesBack)
@@ -201,11 +201,11 @@ pub fn attempts_keep_their_order<F: Family>()
 pub fn put_off_actors_are_told_by_whom<F: Family>()
     ensures held { (setting : F.Setting) → let O = F.system setting in
         (k : ℕ) (a : AttemptOf O) (found holder : ℕ)
-        → answered O k (act a) found ≡ Answer.Held holder
+        → answer_to O k (act a) found ≡ Answer.Held holder
         → IsPutOffBy O k (act a) found (Judgement.Held holder) }
     ensures preferred { (setting : F.Setting) → let O = F.system setting in
         (k : ℕ) (a : AttemptOf O) (found other : ℕ)
-        → answered O k (act a) found ≡ Answer.Preferred other
+        → answer_to O k (act a) found ≡ Answer.Preferred other
         → IsPutOffBy O k (act a) found (Judgement.Preferred other) }
 {}
 
@@ -275,7 +275,7 @@ pub fn actors_left_alone_end<F: Family>()
         → ((j : ℕ) (m : ActorOf O) → ¬ (j ≡ k) → get_elem? w.actors j ≡ some m → IsAside O m)
         → 2 + length a.held + (3 * seizings + tests + effects + 1) ≤ count
         → (ended : ActorOf O)
-        × (get_elem? (stepped O k count w).actors k ≡ some ended) × IsFree O ended }
+        × (get_elem? (after_steps O k count w).actors k ≡ some ended) × IsFree O ended }
 {
     every_move_keeps_the_law::<F>();
 }

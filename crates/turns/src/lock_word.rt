@@ -2,7 +2,7 @@
 //! one more than the number of the actor that holds the lock, and bit 8 + `actor` is the actor's request.
 
 ghost use Rattle.std.specs.Prelude.{◌≡◌, ◌<◌};
-ghost use Rattle.turns.specs.Sharing.{asked, freed as freed_word, withdrawn};
+ghost use Rattle.turns.specs.Sharing.{with_request, without_holder as freed_word, without_request};
 ghost use Rattle.turns.specs.Sharings.{preferring, request_bit as request_bit_of, taken_by as taken_by_of};
 
 /// The bit of an actor's request.
@@ -16,7 +16,7 @@ pub fn request_bit(actor: u32) -> u64
 /// The word with the actor's request.
 pub fn asked_by(actor: u32, word: u64) -> u64
     requires { actor < 48 }
-    ensures { result ≡ asked preferring actor word }
+    ensures { result ≡ with_request preferring actor word }
 {
     word | request_bit(actor)
 }
@@ -24,7 +24,7 @@ pub fn asked_by(actor: u32, word: u64) -> u64
 /// The word without the actor's request.
 pub fn withdrawn_by(actor: u32, word: u64) -> u64
     requires { actor < 48 }
-    ensures { result ≡ withdrawn preferring actor word }
+    ensures { result ≡ without_request preferring actor word }
 {
     word & !request_bit(actor)
 }

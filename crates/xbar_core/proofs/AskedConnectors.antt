@@ -5,7 +5,7 @@ use Rattle.std.specs.Prelude.{◌==◌, Option, Some, None, if◌then◌else◌,
 use Rattle.std.proofs.lemmas.Bool.{eqb-true}
 use Rattle.std.proofs.lemmas.Option.{same_Some}
 use Rattle.turns.specs.Attempt as generic
-use Rattle.turns.specs.Attempt.{act_in, change, closing_act, free_act, told as told_by}
+use Rattle.turns.specs.Attempt.{act_in, change, closing_act, free_act, unless_put_off as told_by}
 use Rattle.turns.specs.Law.{FitsIn}
 use Rattle.turns.specs.Sharing.{IsTrueOf}
 use Rattle.turns.specs.Sharings.{judged, preferring, request_bit}
@@ -85,17 +85,17 @@ module _ (plan : Tables) (e : Exchange) (lawful : IsLawfulExchange plan e) (k nu
   few = let below = there_below (world plan e).actors k (Does number a) (actor_at e k number a at) in let most = lawful.few in omega (arith, below, most)
 
   abbrev told_in : Phase → Answer
-  told_in phase = generic.answered (office plan) k (act_in phase a) (slice_index e.words (place (office plan) (act_in phase a)))
+  told_in phase = generic.answer_to (office plan) k (act_in phase a) (slice_index e.words (place (office plan) (act_in phase a)))
 
   fits_in : (phase : Phase) → a.phase ≡ phase → FitsIn (office plan) (world plan e) k number a phase
   fits_in phase is = subst (FitsIn (office plan) (world plan e) k number a) is (lawful.sound k number a (actor_at e k number a at)).fits
 
   -- nothing stops a marker that frees what it holds, or makes its effects
-  free_goes : (found : ℕ) (held : List Conn) (j : Judgement) → stop (generic.answered (office plan) k (free_act held) found) ≡ Some j → ⊥
+  free_goes : (found : ℕ) (held : List Conn) (j : Judgement) → stop (generic.answer_to (office plan) k (free_act held) found) ≡ Some j → ⊥
   free_goes found [] j told = cc
   free_goes found (conn ∷ held) j told = cc
 
-  close_goes : (found : ℕ) (effects : List Effect) (held : List Conn) (j : Judgement) → stop (generic.answered (office plan) k (closing_act effects held) found) ≡ Some j → ⊥
+  close_goes : (found : ℕ) (effects : List Effect) (held : List Conn) (j : Judgement) → stop (generic.answer_to (office plan) k (closing_act effects held) found) ≡ Some j → ⊥
   close_goes found [] held j told = free_goes found held j told
   close_goes found (effect ∷ effects) held j told = cc
 

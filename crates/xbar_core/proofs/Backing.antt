@@ -14,7 +14,7 @@ use Rattle.xbar_jobs.specs.Office.{office}
 use Rattle.xbar_jobs.specs.declared.effect.Effect.{Effect}
 use Rattle.xbar_core.specs.AtWork.{told_of, IsBackingAt, IsBackingBy, IsBackingIn, gives_up, gives_up_at, left_at, left_by}
 use Rattle.xbar_core.specs.Exchange.{Exchange, Marker, OfPlan, Work}
-use Rattle.xbar_core.specs.Moves.{anew_at, backed_as, backed_at, backed_by, begun_anew, given_back, given_by, given_in, request_count, stepped, steps, with_work, work_anew}
+use Rattle.xbar_core.specs.Moves.{anew_at, backed_as, backed_at, backed_by, begun_anew, given_back, given_by, given_in, request_count, after_step, steps, with_work, work_anew}
 use Rattle.xbar_core.specs.declared.given.Given.{Given}
 use Rattle.xbar_core.specs.declared.given.Given.TheVariants as given
 use Rattle.xbar_core.proofs.Markers.{marker_set}
@@ -34,11 +34,11 @@ module _ (plan : Tables) where
   freed_less a [] = (refl, refl)
   freed_less a (conn ∷ held) = ((λ e. cc), omega arith)
 
-  given_less : (k found : ℕ) (a : Attempt) (held : List Conn) → a.held ≡ held → ¬ (held ≡ []) → IsOneLess (changed (office plan) a GivesBack (generic.answered (office plan) k (free_act held) found)) (length held)
+  given_less : (k found : ℕ) (a : Attempt) (held : List Conn) → a.held ≡ held → ¬ (held ≡ []) → IsOneLess (changed (office plan) a GivesBack (generic.answer_to (office plan) k (free_act held) found)) (length held)
   given_less k found a [] at not = absurd (not refl)
   given_less k found a (conn ∷ held) at not = subst (λ (all : List Conn). IsOneLess (freed (office plan) a (rest_of all)) (suc (length held))) (sym at) (freed_less a held)
 
-  less_in : (k found : ℕ) (a : Attempt) (phase : Phase) → IsBackingIn a phase → gives_up (step_of (act_in phase a)) ≡ true → IsOneLess (changed (office plan) a phase (generic.answered (office plan) k (act_in phase a) found)) (request_count (request_in phase) + length a.held)
+  less_in : (k found : ℕ) (a : Attempt) (phase : Phase) → IsBackingIn a phase → gives_up (step_of (act_in phase a)) ≡ true → IsOneLess (changed (office plan) a phase (generic.answer_to (office plan) k (act_in phase a) found)) (request_count (request_in phase) + length a.held)
   less_in k found a (Withdraws conn) backs goes = let less = freed_less a a.held in (less.0, omega (arith, less.1))
   less_in k found a GivesBack backs goes = let less = given_less k found a a.held refl backs in (less.0, omega (arith, less.1))
   less_in k found a (Requests conn) backs goes = absurd cc
@@ -87,7 +87,7 @@ pub record GaveUp (now : Option Marker) (left : ℕ) : Type 0 where
   pub one : suc (left_at now) ≡ left
 
 module _ (plan : Tables) (e : Exchange) (k : ℕ) (m : Marker) (there : slice_get e.markers k ≡ Some m) where
-  gave_by : (work : Work) → m.work ≡ work → IsBackingBy work → gives_up_at work ≡ true → GaveUp (slice_get (stepped plan k e).markers k) (left_by work)
+  gave_by : (work : Work) → m.work ≡ work → IsBackingBy work → gives_up_at work ≡ true → GaveUp (slice_get (after_step plan k e).markers k) (left_by work)
   gave_by Idle at backs goes = absurd backs
   gave_by (Does n a) at backs goes =
       let answer = told_of k e.words a in
@@ -96,7 +96,7 @@ module _ (plan : Tables) (e : Exchange) (k : ℕ) (m : Marker) (there : slice_ge
       let less = one_less plan k e.words a backs goes in
       subst (λ (o : Option Marker). GaveUp o (left_in a)) (sym now) (record { backs = less.0; one = less.1 })
 
-  pub gave_up : IsBackingBy m.work → gives_up_at m.work ≡ true → GaveUp (slice_get (stepped plan k e).markers k) (left_by m.work)
+  pub gave_up : IsBackingBy m.work → gives_up_at m.work ≡ true → GaveUp (slice_get (after_step plan k e).markers k) (left_by m.work)
   gave_up = gave_by m.work refl
 
 -- as far as a loop has come: some things were given up, and the steps left lead to what all lead to
@@ -110,27 +110,27 @@ pub none_given : (first : OfPlan) (k : ℕ) → IsBackingAt (slice_get first.exc
 none_given first k backs = record { plan = refl; count = refl; backs = backs; rest = refl }
 
 module _ (first now next : OfPlan) (k : ℕ) (m : Marker) (there : slice_get now.exchange.markers k ≡ Some m) (so_far : IsGivingUp first now k) where
-  gave : gives_up_at m.work ≡ true → GaveUp (slice_get (stepped now.plan k now.exchange).markers k) (left_by m.work)
+  gave : gives_up_at m.work ≡ true → GaveUp (slice_get (after_step now.plan k now.exchange).markers k) (left_by m.work)
   gave goes = gave_up now.plan now.exchange k m there (subst IsBackingAt there so_far.backs) goes
 
-  pub one_given : gives_up_at m.work ≡ true → next ≡ record now { exchange = stepped now.plan k now.exchange } → IsGivingUp first next k
+  pub one_given : gives_up_at m.work ≡ true → next ≡ record now { exchange = after_step now.plan k now.exchange } → IsGivingUp first next k
   unfolding steps
   one_given goes is =
       let less = gave goes in
       let left = λ (o : OfPlan). left_at (slice_get o.exchange.markers k) in
-      let here : left now ≡ suc (left_at (slice_get (stepped now.plan k now.exchange).markers k)) = ap left_at there ∙ sym less.one in
+      let here : left now ≡ suc (left_at (slice_get (after_step now.plan k now.exchange).markers k)) = ap left_at there ∙ sym less.one in
       record {
         plan = ap (λ (o : OfPlan). o.plan) is ∙ so_far.plan;
         count = ap (λ (o : OfPlan). length o.exchange.markers) is ∙ step_count now.plan now.exchange k ∙ so_far.count;
         backs = subst (λ (o : OfPlan). IsBackingAt (slice_get o.exchange.markers k)) (sym is) less.backs;
         rest =
             so_far.rest ∙ ap (λ (n : ℕ). steps first.plan k n now.exchange) here
-            ∙ ap (λ (p : Tables). steps first.plan k (left_at (slice_get (stepped now.plan k now.exchange).markers k)) (stepped p k now.exchange)) (sym so_far.plan)
+            ∙ ap (λ (p : Tables). steps first.plan k (left_at (slice_get (after_step now.plan k now.exchange).markers k)) (after_step p k now.exchange)) (sym so_far.plan)
             ∙ ap (λ (o : OfPlan). steps first.plan k (left_at (slice_get o.exchange.markers k)) o.exchange) (sym is);
       }
 
   -- each time there is less to give up
-  pub less_given : gives_up_at m.work ≡ true → next ≡ record now { exchange = stepped now.plan k now.exchange } → left_at (slice_get next.exchange.markers k) < left_at (slice_get now.exchange.markers k)
+  pub less_given : gives_up_at m.work ≡ true → next ≡ record now { exchange = after_step now.plan k now.exchange } → left_at (slice_get next.exchange.markers k) < left_at (slice_get now.exchange.markers k)
   less_given goes is =
       let less = gave goes in
       let after = ap (λ (o : OfPlan). left_at (slice_get o.exchange.markers k)) is in

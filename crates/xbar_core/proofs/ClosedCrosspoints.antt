@@ -20,7 +20,7 @@ use Rattle.xbar_match.specs.Switches.{held_at, shape_at}
 use Rattle.xbar_plan.specs.Lawful.{IsLawful}
 use Rattle.xbar_plan.specs.Tables.{Tables}
 use Rattle.xbar_jobs.specs.Attempt.{Attempt, Phase}
-use Rattle.xbar_jobs.specs.Closing.{effect_word, made as made_of}
+use Rattle.xbar_jobs.specs.Closing.{effect_word, value_after as made_of}
 use Rattle.xbar_jobs.specs.Office.{Protects, office}
 use Rattle.xbar_jobs.specs.declared.effect.Effect.{Effect}
 use Rattle.xbar_jobs.specs.declared.effect.Effect.TheVariants.{Open}

@@ -26,7 +26,7 @@ use Rattle.xbar_jobs.proofs.JobBounds.{jobs_bounded}
 use Rattle.xbar_jobs.proofs.OfficeSystem.{office_is}
 use Rattle.xbar_core.specs.AtWork.{told_of}
 use Rattle.xbar_core.specs.Exchange.{Exchange, Marker, Work, is_idle, world}
-use Rattle.xbar_core.specs.Moves.{answered, steps}
+use Rattle.xbar_core.specs.Moves.{after_answer, steps}
 use Rattle.xbar_core.specs.Settling.{most_steps_alone}
 use Rattle.xbar_core.specs.Standing.{IsExchange}
 use Rattle.xbar_core.proofs.Markers.{actor_there, marker_set}
@@ -58,7 +58,7 @@ module _ (plan : Tables) where
 
   -- past the turn there is one thing less to make or to free with each step
   closing_less : (k found turn : ℕ) (a : Attempt) (effects : List Effect) (held : List Conn) → a.phase ≡ Operates turn → a.effects ≡ effects → a.held ≡ held → is_rest (closing_act effects held) ≡ false
-      → HasLeft turn (changed (office plan) a (Operates turn) (generic.answered (office plan) k (closing_act effects held) found)) (length effects + length held)
+      → HasLeft turn (changed (office plan) a (Operates turn) (generic.answer_to (office plan) k (closing_act effects held) found)) (length effects + length held)
   closing_less k found turn a [] [] at these those goes = absurd cc
   closing_less k found turn a [] (conn ∷ held) at these those goes =
       let none : length a.effects ≡ 0 = ap (length {A = Effect}) these in
@@ -71,7 +71,7 @@ module _ (plan : Tables) where
   one_closed : (k turn : ℕ) (words : List ℕ) (a : Attempt) → a.phase ≡ Operates turn → is_rest (act a) ≡ false → HasLeft turn (change (office plan) a (told_of k words a)) (length a.effects + length a.held)
   one_closed k turn words a at goes =
       subst (λ (answer : Answer). HasLeft turn (change (office plan) a answer) (length a.effects + length a.held)) (sym (answer_is plan k words a))
-      (subst (λ (phase : Phase). HasLeft turn (changed (office plan) a phase (generic.answered (office plan) k (act_in phase a) (found_by plan words a))) (length a.effects + length a.held)) (sym at)
+      (subst (λ (phase : Phase). HasLeft turn (changed (office plan) a phase (generic.answer_to (office plan) k (act_in phase a) (found_by plan words a))) (length a.effects + length a.held)) (sym at)
       (closing_less k (found_by plan words a) turn a a.effects a.held at refl refl (subst (λ (phase : Phase). is_rest (act_in phase a) ≡ false) at goes)))
 
   -- marker k after its next step
@@ -89,8 +89,8 @@ module _ (plan : Tables) where
       by (is_rest (act a)) refl
       (λ goes.
       let left = one_closed k turn e.words a phase goes in
-      past_ends k turn n less (answered plan k m n a (told_of k e.words a) e) (now k n e m a) (change (office plan) a (told_of k e.words a)) (marker_set e.markers k (now k n e m a) m there) refl left.phase (omega (arith, left.one))) where
-        by : (idle : Bool) → is_rest (act a) ≡ idle → (is_rest (act a) ≡ false → IsIdleAt (steps plan k less (answered plan k m n a (told_of k e.words a) e)) k) → IsIdleAt (steps plan k (suc less) e) k
+      past_ends k turn n less (after_answer plan k m n a (told_of k e.words a) e) (now k n e m a) (change (office plan) a (told_of k e.words a)) (marker_set e.markers k (now k n e m a) m there) refl left.phase (omega (arith, left.one))) where
+        by : (idle : Bool) → is_rest (act a) ≡ idle → (is_rest (act a) ≡ false → IsIdleAt (steps plan k less (after_answer plan k m n a (told_of k e.words a) e)) k) → IsIdleAt (steps plan k (suc less) e) k
         by true rest later = stays_idle k (suc less) e m there (ap is_idle at ∙ rest)
         by false goes later = subst (λ (x : Exchange). IsIdleAt (steps plan k less x) k) (sym (step_made plan e k n m a there at goes)) (later goes)
 
@@ -103,20 +103,20 @@ module _ (plan : Tables) where
   abbrev HasEnded : ℕ → World (office plan) → Type 0
   HasEnded k w = (ended : ActorOf (office plan)) × (get_elem? w.actors k ≡ some ended) × IsFree (office plan) ended
 
-  busy_step : (k n count : ℕ) (e : Exchange) (m : Marker) (a : Attempt) → slice_get e.markers k ≡ Some m → m.work ≡ Does n a → HasEnded k (bounds.stepped (office plan) k (suc count) (world plan e)) → HasEnded k (bounds.stepped (office plan) k count (world plan (answered plan k m n a (told_of k e.words a) e)))
+  busy_step : (k n count : ℕ) (e : Exchange) (m : Marker) (a : Attempt) → slice_get e.markers k ≡ Some m → m.work ≡ Does n a → HasEnded k (bounds.after_steps (office plan) k (suc count) (world plan e)) → HasEnded k (bounds.after_steps (office plan) k count (world plan (after_answer plan k m n a (told_of k e.words a) e)))
   busy_step k n count e m a there at ended =
       let actor : get_elem? (world plan e).actors k ≡ some (Does n a) = actor_there e.markers k m there ∙ ap some at in
-      subst (λ (w : World (office plan)). HasEnded k (bounds.stepped (office plan) k count w)) (ap (λ o. runs.stepped_at (office plan) k o (world plan e)) actor ∙ moved_is plan e k n m a) ended
+      subst (λ (w : World (office plan)). HasEnded k (bounds.after_steps (office plan) k count w)) (ap (λ o. runs.stepped_at (office plan) k o (world plan e)) actor ∙ moved_is plan e k n m a) ended
 
-  ends_with : (k count : ℕ) (e : Exchange) (m : Marker) → slice_get e.markers k ≡ Some m → HasEnded k (bounds.stepped (office plan) k count (world plan e)) → IsIdleAt (steps plan k count e) k
+  ends_with : (k count : ℕ) (e : Exchange) (m : Marker) → slice_get e.markers k ≡ Some m → HasEnded k (bounds.after_steps (office plan) k count (world plan e)) → IsIdleAt (steps plan k count e) k
   unfolding steps
   ends_with k zero e m there (ended, here, free) =
       let same : m.work ≡ ended = some-injective m.work ended (sym (actor_there e.markers k m there) ∙ here) in
       record { marker = m; there = there; idle = ap is_idle same ∙ free_idle ended free }
   ends_with k (suc count) e m there ended =
       by m.work (is_idle m.work) refl refl
-      (λ n a at. ends_with k count (answered plan k m n a (told_of k e.words a) e) (now k n e m a) (marker_set e.markers k (now k n e m a) m there) (busy_step k n count e m a there at ended)) where
-        by : (work : Work) (idle : Bool) → m.work ≡ work → is_idle work ≡ idle → ((n : ℕ) (a : Attempt) → m.work ≡ Does n a → IsIdleAt (steps plan k count (answered plan k m n a (told_of k e.words a) e)) k) → IsIdleAt (steps plan k (suc count) e) k
+      (λ n a at. ends_with k count (after_answer plan k m n a (told_of k e.words a) e) (now k n e m a) (marker_set e.markers k (now k n e m a) m there) (busy_step k n count e m a there at ended)) where
+        by : (work : Work) (idle : Bool) → m.work ≡ work → is_idle work ≡ idle → ((n : ℕ) (a : Attempt) → m.work ≡ Does n a → IsIdleAt (steps plan k count (after_answer plan k m n a (told_of k e.words a) e)) k) → IsIdleAt (steps plan k (suc count) e) k
         by work true at rest later = stays_idle k (suc count) e m there (ap is_idle at ∙ rest)
         by Idle false at goes later = absurd cc
         by (Does n a) false at goes later = subst (λ (x : Exchange). IsIdleAt (steps plan k count x) k) (sym (step_made plan e k n m a there at goes)) (later n a at)

@@ -22,7 +22,7 @@ use Rattle.xbar_jobs.specs.OnWords.{answer_of}
 use Rattle.xbar_jobs.specs.declared.effect.Effect.{Effect}
 use Rattle.xbar_core.specs.Exchange.{Exchange, IsLawfulExchange, Marker, Work, is_idle, turned, world}
 use Rattle.xbar_core.specs.Holding.{IsAt}
-use Rattle.xbar_core.specs.Moves.{event_at, event_at_step, event_by, event_of, finished, moved_on, own_record, record_of, refused_by, stepped}
+use Rattle.xbar_core.specs.Moves.{event_at, event_at_step, event_by, event_of, finished, moved_on, own_record, record_of, refused_by, after_step}
 use Rattle.xbar_core.specs.declared.event.Event.TheVariants as event
 use Rattle.xbar_core.proofs.Actors.{actor_at}
 use Rattle.xbar_core.proofs.Records.{records_legal}
@@ -174,7 +174,7 @@ module _ (plan : Tables) (e : Exchange) (k : ℕ) (r : Record) (lawful : IsLawfu
       (known.place, found.there ∙ ap Some (is_recorded plan (map turned e.records) k number a r ended known found.found found.turn))
 
   -- a job that finishes has its record at the place of its turn
-  pub finished_at : length e.records < 2 ^ 64 → event_at_step plan k e ≡ event.Finished r → slice_get (stepped plan k e).records r.turn ≡ Some r
+  pub finished_at : length e.records < 2 ^ 64 → event_at_step plan k e ≡ event.Finished r → slice_get (after_step plan k e).records r.turn ≡ Some r
   finished_at few ends =
       let job = by_marker plan e k r (slice_get e.markers k) refl ends in
       let recorded = finished_there job.number job.attempt job.at job.finished in

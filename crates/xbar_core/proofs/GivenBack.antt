@@ -21,7 +21,7 @@ use Rattle.xbar_jobs.specs.declared.effect.Effect.{Effect}
 use Rattle.xbar_core.specs.AtWork.{told_of, IsBackingAt, IsBackingBy, IsBackingIn, left_at, left_by}
 use Rattle.xbar_core.specs.Exchange.{Exchange, Marker, Work, turned}
 use Rattle.xbar_core.specs.Holding.{Holds, HasRequested, IsAt}
-use Rattle.xbar_core.specs.Moves.{answered, backed_at, begun_anew, given_at, given_back, given_by, recorded, request_count, stepped, steps, with_work, work_anew}
+use Rattle.xbar_core.specs.Moves.{after_answer, backed_at, begun_anew, given_at, given_back, given_by, added_record, request_count, after_step, steps, with_work, work_anew}
 use Rattle.xbar_core.specs.declared.given.Given.{Given}
 use Rattle.xbar_core.specs.declared.given.Given.TheVariants as given
 use Rattle.xbar_core.proofs.Backing.{back_goes, back_rests, backs_anew, begun_is}
@@ -34,7 +34,7 @@ use Rattle.xbar_core.proofs.Worlds.{added_at, answer_is, found_by, words_are}
 module _ (plan : Tables) (k : ℕ) (Has : Exchange → Type 0) where
   -- each step of a marker on its way back keeps it
   abbrev KeepsBack : Type 0
-  KeepsBack = (x : Exchange) (n : ℕ) (m : Marker) (a : Attempt) → Has x → slice_get x.markers k ≡ Some m → m.work ≡ Does n a → IsBackingIn a a.phase → Has (answered plan k m n a (told_of k x.words a) x)
+  KeepsBack = (x : Exchange) (n : ℕ) (m : Marker) (a : Attempt) → Has x → slice_get x.markers k ≡ Some m → m.work ≡ Does n a → IsBackingIn a a.phase → Has (after_answer plan k m n a (told_of k x.words a) x)
 
   -- it is kept, and the marker has nothing left to give up
   record IsBack (x : Exchange) : Type 0 where
@@ -42,7 +42,7 @@ module _ (plan : Tables) (k : ℕ) (Has : Exchange → Type 0) where
     pub none : left_at (slice_get x.markers k) ≡ 0
 
   module _ (keeps : KeepsBack) where
-    one_back : (x : Exchange) → IsBackingAt (slice_get x.markers k) → Has x → Has (stepped plan k x)
+    one_back : (x : Exchange) → IsBackingAt (slice_get x.markers k) → Has x → Has (after_step plan k x)
     one_back x backs has = elim (step_cases plan x k) [
       | inl same ↦ subst Has (sym same) has
       | inr made ↦
@@ -56,7 +56,7 @@ module _ (plan : Tables) (k : ℕ) (Has : Exchange → Type 0) where
     all_back zero x backs left has = record { has = has; none = left }
     all_back (suc count) x backs left has =
         let less = gives_one plan k x backs count left in
-        all_back count (stepped plan k x) less.backs (omega (arith, less.one, left)) (one_back x backs has)
+        all_back count (after_step plan k x) less.backs (omega (arith, less.one, left)) (one_back x backs has)
 
     module _ (anew : (x : Exchange) (m : Marker) → slice_get x.markers k ≡ Some m → Has x → Has (with_work k m (work_anew plan m.work) x)) where
       -- a marker that may gives back all
@@ -166,11 +166,11 @@ module _ (plan : Tables) where
   no_records [] none = refl
   no_records (r ∷ records) none = absurd cc
 
-  back_records : (k n : ℕ) (words : List ℕ) (a : Attempt) → IsBackingIn a a.phase → recorded k n a (told_of k words a) ≡ []
+  back_records : (k n : ℕ) (words : List ℕ) (a : Attempt) → IsBackingIn a a.phase → added_record k n a (told_of k words a) ≡ []
   back_records k n words a backs =
       let found : ℕ = found_by plan words a in
-      ap (recorded k n a) (answer_is plan k words a)
-      ∙ no_records (recorded k n a (generic.answered (office plan) k (act a) found)) (added_at plan k n found a a.phase ∙ adds_none k n found a a.phase backs)
+      ap (added_record k n a) (answer_is plan k words a)
+      ∙ no_records (added_record k n a (generic.answer_to (office plan) k (act a) found)) (added_at plan k n found a a.phase ∙ adds_none k n found a a.phase backs)
 
   -- and its steps are on words of connectors, behind the protected ones
   conn_behind : (conn : Conn) → 416 ≤ word_number (ConnWord conn)
@@ -208,7 +208,7 @@ module _ (plan : Tables) where
 
     module _ (number : ℕ) (job : Job) where
       -- and keeps its job, under its number
-      step_job : (x : Exchange) (n : ℕ) (m : Marker) (a : Attempt) → HasJobAt number job (slice_get x.markers k) → slice_get x.markers k ≡ Some m → m.work ≡ Does n a → IsBackingIn a a.phase → HasJobAt number job (slice_get (answered plan k m n a (told_of k x.words a) x).markers k)
+      step_job : (x : Exchange) (n : ℕ) (m : Marker) (a : Attempt) → HasJobAt number job (slice_get x.markers k) → slice_get x.markers k ≡ Some m → m.work ≡ Does n a → IsBackingIn a a.phase → HasJobAt number job (slice_get (after_answer plan k m n a (told_of k x.words a) x).markers k)
       step_job x n m a has there at backs =
           let was : HasJobBy number job m.work = subst (HasJobAt number job) there has in
           let of : HasJobBy number job (Does n a) = subst (HasJobBy number job) at was in

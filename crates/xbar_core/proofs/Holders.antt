@@ -18,7 +18,7 @@ use Rattle.xbar_jobs.proofs.OfficeSystem.{office_is}
 use Rattle.xbar_jobs.proofs.StepActs.{act_word}
 use Rattle.xbar_core.specs.Exchange.{Exchange, IsLawfulExchange, Marker, Work, is_idle, world}
 use Rattle.xbar_core.specs.Holding.{Holds, IsAt}
-use Rattle.xbar_core.specs.Moves.{answered, stepped, stepped_at, stepped_by}
+use Rattle.xbar_core.specs.Moves.{after_answer, after_step, stepped_at, stepped_by}
 use Rattle.xbar_core.proofs.Actors.{actor_at}
 use Rattle.xbar_core.proofs.Connectors.{free_word}
 use Rattle.xbar_core.proofs.Records.{after_same}
@@ -37,7 +37,7 @@ module _ (plan : Tables) (e : Exchange) (laws : IsLawful plan) (lawful : IsLawfu
 
   module _ (k n : ℕ) (conn : Conn) (protects : Protects conn n) (free : ¬ Holds e k conn) where
     -- any other word is not the one that its step is on
-    else_spared : (m : Marker) (number : ℕ) (a : Attempt) → IsAt e k number a → (idle : Bool) → slice_index (if idle then e else answered plan k m number a (answer_of k (next_step a) e.words) e).words n ≡ slice_index e.words n
+    else_spared : (m : Marker) (number : ℕ) (a : Attempt) → IsAt e k number a → (idle : Bool) → slice_index (if idle then e else after_answer plan k m number a (answer_of k (next_step a) e.words) e).words n ≡ slice_index e.words n
     else_spared m number a at true = refl
     else_spared m number a at false =
         index_other e.words _ n _ (λ same. free (record { number = number; attempt = a; at = at; held = step_alone k number a conn at (subst (Protects conn) same protects) }))
@@ -51,6 +51,6 @@ module _ (plan : Tables) (e : Exchange) (laws : IsLawful plan) (lawful : IsLawfu
     marker_spared (Some m) there = work_spared m m.work there refl
 
     -- the step of a marker that does not hold a word's connector spares the word
-    pub step_spares : slice_index (stepped plan k e).words n ≡ slice_index e.words n
-    unfolding stepped
+    pub step_spares : slice_index (after_step plan k e).words n ≡ slice_index e.words n
+    unfolding after_step
     step_spares = marker_spared (slice_get e.markers k) refl

@@ -8,7 +8,7 @@ use Rattle.xbar_plan.specs.Tables.{Tables}
 use Rattle.xbar_jobs.specs.Attempt.{Attempt, Phase}
 use Rattle.xbar_jobs.specs.Office.{office}
 use Rattle.xbar_core.specs.Exchange.{Exchange, Marker, Work}
-use Rattle.xbar_core.specs.Moves.{anew_at, backed_as, backed_at, backed_by, begun_anew, given_back, given_by, request_count, stepped, steps, with_work, work_anew}
+use Rattle.xbar_core.specs.Moves.{anew_at, backed_as, backed_at, backed_by, begun_anew, given_back, given_by, request_count, after_step, steps, with_work, work_anew}
 use Rattle.xbar_core.specs.Settling.{ended, ended_at, ended_by, ended_in, ended_past_turn, for_each, most_steps_alone, settled}
 use Rattle.xbar_core.specs.declared.given.Given.{Given}
 use Rattle.xbar_core.specs.declared.given.Given.TheVariants as given
@@ -19,7 +19,7 @@ abbrev pub KeepsRestarts : Tables → (Exchange → Type 0) → ℕ → Type 0
 KeepsRestarts plan Has k = (e : Exchange) (n : ℕ) (m : Marker) (a : Attempt) → Has e → slice_get e.markers k ≡ Some m → m.work ≡ Does n a → Has (with_work k m (Does n (restarted (office plan) a)) e)
 
 abbrev pub KeepsSteps : Tables → (Exchange → Type 0) → ℕ → Type 0
-KeepsSteps plan Has k = (e : Exchange) → Has e → Has (stepped plan k e)
+KeepsSteps plan Has k = (e : Exchange) → Has e → Has (after_step plan k e)
 
 -- what each change keeps, changes of many markers keep
 pub for_each_keeps : (Has : Exchange → Type 0) (change : ℕ → Exchange → Exchange) → ((k : ℕ) (e : Exchange) → Has e → Has (change k e)) → (count : ℕ) (e : Exchange) → Has e → Has (for_each change count e)
@@ -50,7 +50,7 @@ module _ (plan : Tables) (Has : Exchange → Type 0) (k : ℕ) (step_keeps : Kee
   pub steps_keep : (count : ℕ) (e : Exchange) → Has e → Has (steps plan k count e)
   unfolding steps
   steps_keep zero e has = has
-  steps_keep (suc count) e has = steps_keep count (stepped plan k e) (step_keeps e has)
+  steps_keep (suc count) e has = steps_keep count (after_step plan k e) (step_keeps e has)
 
   ended_in_keeps : (e : Exchange) (phase : Phase) → Has e → Has (ended_in plan k phase e)
   ended_in_keeps e (Operates turn) has = steps_keep most_steps_alone e has

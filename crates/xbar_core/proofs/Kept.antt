@@ -24,8 +24,8 @@ use Rattle.xbar_jobs.specs.Office.{office}
 use Rattle.xbar_jobs.specs.declared.effect.Effect.{Effect}
 use Rattle.xbar_jobs.proofs.AttemptStands.{stands_after, stands_again, stands_begun}
 use Rattle.xbar_core.specs.AtWork.{told_of}
-use Rattle.xbar_core.specs.Exchange.{Exchange, IsLawfulExchange, Marker, Work, opened, turned}
-use Rattle.xbar_core.specs.Moves.{assigned_at, recorded, refusal, refusal_at, stepped, with_work, work_anew}
+use Rattle.xbar_core.specs.Exchange.{Exchange, IsLawfulExchange, Marker, Work, fresh_exchange, turned}
+use Rattle.xbar_core.specs.Moves.{assigned_at, added_record, refusal, refusal_at, after_step, with_work, work_anew}
 use Rattle.xbar_core.specs.Standing.{HasRoom, IsExchange, StandsAt, waiting, waits, waits_in}
 use Rattle.xbar_core.specs.declared.kind.Kind.{Kind}
 use Rattle.xbar_core.proofs.Markers.{actor_there, marker_else, marker_set, waiting_most, waiting_set, waits_most}
@@ -57,38 +57,38 @@ module _ (plan : Tables) where
   operated_waits a turn [] at = subst (λ (phase : Phase). waits_in phase ≤ 0) (sym at) (omega arith)
   operated_waits a turn (effect ∷ effects) at = subst (λ (phase : Phase). waits_in phase ≤ 0) (sym at) (omega arith)
 
-  closed_waits : (k found turn : ℕ) (a : Attempt) (effects : List Effect) (held : List Conn) → a.phase ≡ Operates turn → waits_in (changed (office plan) a (Operates turn) (generic.answered (office plan) k (closing_act effects held) found)).phase ≤ 0
+  closed_waits : (k found turn : ℕ) (a : Attempt) (effects : List Effect) (held : List Conn) → a.phase ≡ Operates turn → waits_in (changed (office plan) a (Operates turn) (generic.answer_to (office plan) k (closing_act effects held) found)).phase ≤ 0
   closed_waits k found turn a [] [] at = operated_waits a turn a.effects at
   closed_waits k found turn a [] (conn ∷ held) at = operated_waits a turn a.effects at
   closed_waits k found turn a (effect ∷ effects) held at = operated_waits a turn a.effects at
 
-  few_recorded : (k n found : ℕ) (job : Job) (reply : Option Reply) → length (worlds.recorded (office plan) k n job reply found) ≤ 1
+  few_recorded : (k n found : ℕ) (job : Job) (reply : Option Reply) → length (worlds.turn_record (office plan) k n job reply found) ≤ 1
   few_recorded k n found job None = omega arith
   few_recorded k n found job (Some reply) = omega arith
 
   -- with a turn there is one record more, and one turn less to come
-  fewer_in : (k n found : ℕ) (a : Attempt) (phase : Phase) → a.phase ≡ phase → waits_in (changed (office plan) a phase (generic.answered (office plan) k (act_in phase a) found)).phase + length (added_in (office plan) k n a phase found) ≤ waits_in phase
-  fewer_in k n found a (Requests conn) at = let most = waits_most (changed (office plan) a (Requests conn) (generic.answered (office plan) k (Ask conn) found)).phase in omega (arith, most)
-  fewer_in k n found a (Seizes conn expected) at = let most = waits_most (changed (office plan) a (Seizes conn expected) (generic.answered (office plan) k (Take conn expected) found)).phase in omega (arith, most)
+  fewer_in : (k n found : ℕ) (a : Attempt) (phase : Phase) → a.phase ≡ phase → waits_in (changed (office plan) a phase (generic.answer_to (office plan) k (act_in phase a) found)).phase + length (added_in (office plan) k n a phase found) ≤ waits_in phase
+  fewer_in k n found a (Requests conn) at = let most = waits_most (changed (office plan) a (Requests conn) (generic.answer_to (office plan) k (Ask conn) found)).phase in omega (arith, most)
+  fewer_in k n found a (Seizes conn expected) at = let most = waits_most (changed (office plan) a (Seizes conn expected) (generic.answer_to (office plan) k (Take conn expected) found)).phase in omega (arith, most)
   fewer_in k n found a (Tests word) at = let most = waits_most (changed (office plan) a (Tests word) (Value found)).phase in omega (arith, most)
   fewer_in k n found a Turns at = let few = few_recorded k n found a.job a.reply in omega (arith, few)
   fewer_in k n found a (Withdraws conn) at = let most = waits_most (changed (office plan) a (Withdraws conn) Done).phase in omega (arith, most)
-  fewer_in k n found a GivesBack at = let most = waits_most (changed (office plan) a GivesBack (generic.answered (office plan) k (free_act a.held) found)).phase in omega (arith, most)
+  fewer_in k n found a GivesBack at = let most = waits_most (changed (office plan) a GivesBack (generic.answer_to (office plan) k (free_act a.held) found)).phase in omega (arith, most)
   fewer_in k n found a (Operates turn) at = let none = closed_waits k found turn a a.effects a.held at in omega (arith, none)
 
-  pub fewer : (k n : ℕ) (words : List ℕ) (a : Attempt) → waits_in (change (office plan) a (told_of k words a)).phase + length (recorded k n a (told_of k words a)) ≤ waits_in a.phase
+  pub fewer : (k n : ℕ) (words : List ℕ) (a : Attempt) → waits_in (change (office plan) a (told_of k words a)).phase + length (added_record k n a (told_of k words a)) ≤ waits_in a.phase
   fewer k n words a =
       let found : ℕ = found_by plan words a in
       let one = fewer_in k n found a a.phase refl in
-      let size : length (recorded k n a (generic.answered (office plan) k (act a) found)) ≡ length (added_in (office plan) k n a a.phase found) =
-      sym (length-map (recorded k n a (generic.answered (office plan) k (act a) found)) turned) ∙ ap (length {A = worlds.Record Job Reply}) (added_at plan k n found a a.phase) in
-      subst (λ (answer : Answer). waits_in (change (office plan) a answer).phase + length (recorded k n a answer) ≤ waits_in a.phase) (sym (answer_is plan k words a)) (omega (arith, one, size))
+      let size : length (added_record k n a (generic.answer_to (office plan) k (act a) found)) ≡ length (added_in (office plan) k n a a.phase found) =
+      sym (length-map (added_record k n a (generic.answer_to (office plan) k (act a) found)) turned) ∙ ap (length {A = worlds.Record Job Reply}) (added_at plan k n found a a.phase) in
+      subst (λ (answer : Answer). waits_in (change (office plan) a answer).phase + length (added_record k n a answer) ≤ waits_in a.phase) (sym (answer_is plan k words a)) (omega (arith, one, size))
 
   module _ (laws : IsLawful plan) where
     -- a step keeps it
-    pub kept_stepped : (e : Exchange) (k : ℕ) → IsExchange plan e → IsExchange plan (stepped plan k e)
+    pub kept_stepped : (e : Exchange) (k : ℕ) → IsExchange plan e → IsExchange plan (after_step plan k e)
     kept_stepped e k was = record { lawful = lawful_stepped plan e k laws was.lawful; stands = stands } where
-      stands : AreStanding (stepped plan k e).markers
+      stands : AreStanding (after_step plan k e).markers
       stands = elim (step_cases plan e k) [
         | inl same ↦ subst (λ (x : Exchange). AreStanding x.markers) (sym same) was.stands
         | inr made ↦
@@ -113,13 +113,13 @@ module _ (plan : Tables) where
     }
 
   -- a step leaves room for the records to come
-  pub room_stepped : (e : Exchange) (k room : ℕ) → HasRoom e room → HasRoom (stepped plan k e) room
+  pub room_stepped : (e : Exchange) (k room : ℕ) → HasRoom e room → HasRoom (after_step plan k e) room
   room_stepped e k room fits = elim (step_cases plan e k) [
     | inl same ↦ subst (λ (x : Exchange). HasRoom x room) (sym same) fits
     | inr made ↦
         let a = made.attempt in
         let after = change (office plan) a (told_of k e.words a) in
-        let size = length-append e.records (recorded k made.number a (told_of k e.words a)) in
+        let size = length-append e.records (added_record k made.number a (told_of k e.words a)) in
         let one = waiting_set e.markers k (record made.marker { work = Does made.number after }) made.marker made.there in
         let was = ap waits made.at in
         let less = fewer k made.number e.words a in
@@ -153,19 +153,19 @@ module _ (plan : Tables) where
   kept_anew e k m laws was there = anew_keeps plan (IsExchange plan) k (kept_restarted laws k) e m was there
 
   -- an office opens so
-  idle_opened : (kinds : List Kind) (k : ℕ) (m : Marker) → slice_get (opened kinds).markers k ≡ Some m → m.work ≡ Idle
+  idle_opened : (kinds : List Kind) (k : ℕ) (m : Marker) → slice_get (fresh_exchange kinds).markers k ≡ Some m → m.work ≡ Idle
   idle_opened [] k m there = absurd (none-some m there)
   idle_opened (kind ∷ kinds) zero m there = ap (λ (o : Marker). o.work) (sym (same_Some (record { kind = kind; work = Idle }) m there))
   idle_opened (kind ∷ kinds) (suc k) m there = idle_opened kinds k m there
 
-  pub kept_opened : (kinds : List Kind) → IsLawful plan → length kinds ≤ 48 → IsExchange plan (opened kinds)
+  pub kept_opened : (kinds : List Kind) → IsLawful plan → length kinds ≤ 48 → IsExchange plan (fresh_exchange kinds)
   kept_opened kinds laws few = record {
     lawful = lawful_opened plan kinds laws few;
     stands = λ k m there. subst (StandsAt plan) (sym (idle_opened kinds k m there)) tt;
   }
 
 -- nobody waits for a turn in an office that opens
-pub none_waits : (kinds : List Kind) → waiting (opened kinds).markers ≡ 0
+pub none_waits : (kinds : List Kind) → waiting (fresh_exchange kinds).markers ≡ 0
 unfolding waiting
 none_waits [] = refl
 none_waits (kind ∷ kinds) = let none = none_waits kinds in omega (arith, none)

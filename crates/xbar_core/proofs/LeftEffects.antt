@@ -12,7 +12,7 @@ use Rattle.xbar_match.specs.Effects.{IsCrosspoint, opened_word}
 use Rattle.xbar_match.specs.Switches.{held_at, shape_at}
 use Rattle.xbar_match.proofs.OneField.{held_at-close_other, held_at-open_other}
 use Rattle.xbar_plan.specs.Tables.{Tables}
-use Rattle.xbar_jobs.specs.Closing.{IsDue, effect_on, effect_word, made as made_of}
+use Rattle.xbar_jobs.specs.Closing.{IsDue, effect_on, effect_word, value_after as made_of}
 use Rattle.xbar_jobs.specs.Keeping.{AreEffects, IsEffect}
 use Rattle.xbar_jobs.specs.Office.{office}
 use Rattle.xbar_jobs.specs.declared.effect.Effect.{Effect}

@@ -3,7 +3,7 @@ use Rattle.std.proofs.Common.{◌≡◌, ℕ, suc, ◌+◌, ◌-◌, ◌<◌, le
 use Rattle.std.specs.Prelude.{Option, Some, None, slice_get, true}
 use Rattle.xbar_plan.specs.Tables.{Tables}
 use Rattle.xbar_core.specs.Exchange.{Exchange, Marker, OfPlan, is_idle}
-use Rattle.xbar_core.specs.Moves.{given_back, stepped, steps}
+use Rattle.xbar_core.specs.Moves.{given_back, after_step, steps}
 use Rattle.xbar_core.specs.Settling.{ended, ended_past_turn, for_each, settled}
 use Rattle.xbar_core.proofs.Ending.{steps_idle}
 use Rattle.xbar_core.proofs.Markers.{none_within}
@@ -20,7 +20,7 @@ pub record AreMade (first now : OfPlan) (k count made : ℕ) : Type 0 where
 pub none_made : (first : OfPlan) (k count : ℕ) → AreMade first first k count 0
 none_made first k count = record { plan = refl; size = refl; rest = ap (λ (n : ℕ). steps first.plan k n first.exchange) (omega arith) }
 
-pub one_made : (first now next : OfPlan) (k count made : ℕ) → made < count → AreMade first now k count made → next ≡ record now { exchange = stepped now.plan k now.exchange } → AreMade first next k count (made + 1)
+pub one_made : (first now next : OfPlan) (k count made : ℕ) → made < count → AreMade first now k count made → next ≡ record now { exchange = after_step now.plan k now.exchange } → AreMade first next k count (made + 1)
 unfolding steps
 one_made first now next k count made below so_far is =
     let rest : count - made ≡ suc (count - (made + 1)) = omega arith in
@@ -29,7 +29,7 @@ one_made first now next k count made below so_far is =
       size = ap (λ (o : OfPlan). length o.exchange.markers) is ∙ step_count now.plan now.exchange k ∙ so_far.size;
       rest =
           so_far.rest ∙ ap (λ (n : ℕ). steps first.plan k n now.exchange) rest
-          ∙ ap (λ (p : Tables). steps first.plan k (count - (made + 1)) (stepped p k now.exchange)) (sym so_far.plan)
+          ∙ ap (λ (p : Tables). steps first.plan k (count - (made + 1)) (after_step p k now.exchange)) (sym so_far.plan)
           ∙ ap (λ (o : OfPlan). steps first.plan k (count - (made + 1)) o.exchange) (sym is);
     }
 

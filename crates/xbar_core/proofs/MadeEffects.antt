@@ -3,7 +3,7 @@ use Rattle.std.proofs.Common.{◌≡◌, ℕ, suc, List, [], ◌∷◌, ◌∙�
 use mathlib.Core.Option.{some}
 use lib.ListN.{get_elem?}
 use Rattle.turns.specs.Attempt.{left_in}
-use Rattle.turns.specs.World.{Idle, Does, completed_from, completed_word, left_of, made}
+use Rattle.turns.specs.World.{Idle, Does, completed_from, completed_word, left_of, value_after}
 use Rattle.turns.specs.declared.phase.Phase.TheVariants.{Requests, Seizes, Tests, Turns, Withdraws, GivesBack, Operates}
 use Rattle.turns.proofs.Completed.{all_spare}
 use Rattle.xbar_plan.specs.Tables.{Tables}
@@ -37,7 +37,7 @@ module _ (plan : Tables) where
 
   -- so nothing is to be completed
   word_made : (actors : List Work) (word value : ℕ) → NoneLeft actors → completed_word (office plan) actors word value ≡ value
-  word_made actors word value none = all_spare (office plan) actors word value (λ j work there v. ap (λ (effects : List Effect). made (office plan) effects word v) (none j work there))
+  word_made actors word value none = all_spare (office plan) actors word value (λ j work there v. ap (λ (effects : List Effect). value_after (office plan) effects word v) (none j work there))
 
   words_made : (actors : List Work) (word : ℕ) (words : List ℕ) → NoneLeft actors → completed_from (office plan) actors word words ≡ words
   words_made actors word [] none = refl

@@ -21,7 +21,7 @@ use Rattle.xbar_plan.specs.Tables.{Tables}
 use Rattle.xbar_office.specs.LawfulSet.{IsOrderlySet}
 use Rattle.xbar_office.specs.Legal.{after}
 use Rattle.xbar_jobs.specs.Attempt.{Attempt}
-use Rattle.xbar_jobs.specs.Closing.{made as made_of}
+use Rattle.xbar_jobs.specs.Closing.{value_after as made_of}
 use Rattle.xbar_jobs.specs.Jobs.{script}
 use Rattle.xbar_jobs.specs.Office.{office}
 use Rattle.xbar_jobs.specs.declared.decision.Decision.{Decision}

@@ -8,7 +8,7 @@ use Rattle.turns.specs.Law.{IsSound}
 use Rattle.turns.specs.Runs.{is_rest}
 use Rattle.turns.specs.Seen.{AreReadFrom}
 use Rattle.turns.specs.System.{perform_all}
-use Rattle.turns.specs.World.{Does, becomes, made as worlds_made, place}
+use Rattle.turns.specs.World.{Does, becomes, value_after as worlds_made, place}
 use Rattle.turns.specs.declared.answer.Answer.TheVariants.{Done}
 use Rattle.turns.specs.declared.phase.Phase.TheVariants.{Turns, Operates}
 use Rattle.turns.proofs.Completed.{completed_index, completed_length, only_one}
@@ -30,7 +30,7 @@ use Rattle.xbar_jobs.proofs.ReleasedWords.{a_release_opens_just_its_call}
 use Rattle.xbar_core.specs.AtWork.{told_of}
 use Rattle.xbar_core.specs.Exchange.{Exchange, IsLawfulExchange, world}
 use Rattle.xbar_core.specs.Holding.{IsAt, completed}
-use Rattle.xbar_core.specs.Moves.{answered, stepped}
+use Rattle.xbar_core.specs.Moves.{after_answer, after_step}
 use Rattle.xbar_core.proofs.Actors.{actor_at}
 use Rattle.xbar_core.proofs.Markers.{marker_set}
 use Rattle.xbar_core.proofs.Records.{completed_shows}
@@ -77,11 +77,11 @@ module _ (plan : Tables) (e : Exchange) (k number turn : ℕ) (a : Attempt) (eff
   goes_on : is_rest (act a) ≡ false
   goes_on = ap (λ (next : Act). is_rest next) makes_first
 
-  is_stepped : stepped plan k e ≡ answered plan k at.marker number a (told_of k e.words a) e
+  is_stepped : after_step plan k e ≡ after_answer plan k at.marker number a (told_of k e.words a) e
   is_stepped = step_made plan e k number at.marker a at.there at.work goes_on
 
   -- on its word, and on no other
-  words_made : (stepped plan k e).words ≡ perform_all (office plan) e.words (effect ∷ [])
+  words_made : (after_step plan k e).words ≡ perform_all (office plan) e.words (effect ∷ [])
   unfolding perform_all
   words_made =
       ap (λ (x : Exchange). x.words) is_stepped
@@ -90,7 +90,7 @@ module _ (plan : Tables) (e : Exchange) (k number turn : ℕ) (a : Attempt) (eff
 
   -- and then the others are left
   told_done : told_of k e.words a ≡ Done
-  told_done = answer_is plan k e.words a ∙ ap (λ (next : Act). generic.answered (office plan) k next (slice_index e.words (place (office plan) next))) makes_first
+  told_done = answer_is plan k e.words a ∙ ap (λ (next : Act). generic.answer_to (office plan) k next (slice_index e.words (place (office plan) next))) makes_first
 
   others_left : change (office plan) a (told_of k e.words a) ≡ record a { effects = effects }
   others_left =
@@ -98,12 +98,12 @@ module _ (plan : Tables) (e : Exchange) (k number turn : ℕ) (a : Attempt) (eff
       ∙ ap (λ (phase : Phase). changed (office plan) a phase Done) past
       ∙ ap (operated a) left
 
-  now_at : IsAt (stepped plan k e) k number (record a { effects = effects })
+  now_at : IsAt (after_step plan k e) k number (record a { effects = effects })
   now_at = record {
     marker = record at.marker { work = Does number (change (office plan) a (told_of k e.words a)) };
     there = ap (λ (x : Exchange). slice_get x.markers k) is_stepped ∙ marker_set e.markers k _ at.marker at.there;
     work = ap (λ (b : Attempt). Does number b) others_left;
   }
 
-  pub makes_one : ((stepped plan k e).words ≡ perform_all (office plan) e.words (effect ∷ [])) × IsAt (stepped plan k e) k number (record a { effects = effects })
+  pub makes_one : ((after_step plan k e).words ≡ perform_all (office plan) e.words (effect ∷ [])) × IsAt (after_step plan k e) k number (record a { effects = effects })
   makes_one = (words_made, now_at)

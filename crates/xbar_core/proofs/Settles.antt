@@ -18,7 +18,7 @@ use Rattle.xbar_jobs.specs.Attempt.{Attempt, Phase}
 use Rattle.xbar_jobs.specs.Office.{office}
 use Rattle.xbar_core.specs.AtWork.{IsBackingAt, IsBackingBy, IsBackingIn, gives_up_at, left_at, left_by}
 use Rattle.xbar_core.specs.Exchange.{Exchange, Marker, Work, is_idle, world}
-use Rattle.xbar_core.specs.Moves.{backed_at, begun_anew, given_back, given_by, given_in, request_count, stepped, steps}
+use Rattle.xbar_core.specs.Moves.{backed_at, begun_anew, given_back, given_by, given_in, request_count, after_step, steps}
 use Rattle.xbar_core.specs.Settling.{ended, ended_at, ended_by, ended_in, ended_past_turn, for_each, most_steps_alone, settled}
 use Rattle.xbar_core.specs.Standing.{IsExchange}
 use Rattle.xbar_core.specs.declared.given.Given.{Given}
@@ -108,13 +108,13 @@ module _ (plan : Tables) where
   there_by (Does n a) backs none = there_in n a a.phase refl backs none
 
   -- with something left, a step gives up one thing
-  pub gives_one : (k : ℕ) (e : Exchange) → IsBackingAt (slice_get e.markers k) → (count : ℕ) → left_at (slice_get e.markers k) ≡ suc count → GaveUp (slice_get (stepped plan k e).markers k) (left_at (slice_get e.markers k))
+  pub gives_one : (k : ℕ) (e : Exchange) → IsBackingAt (slice_get e.markers k) → (count : ℕ) → left_at (slice_get e.markers k) ≡ suc count → GaveUp (slice_get (after_step plan k e).markers k) (left_at (slice_get e.markers k))
   gives_one k e backs count left = by (slice_get e.markers k) refl backs left where
     goes_on : (work : Work) → IsBackingBy work → left_by work ≡ suc count → (goes : Bool) → gives_up_at work ≡ goes → gives_up_at work ≡ true
     goes_on work now more true is = is
     goes_on work now more false is = let none = none_left work now is in absurd (omega (arith, none, more))
 
-    by : (found : Option Marker) → slice_get e.markers k ≡ found → IsBackingAt found → left_at found ≡ suc count → GaveUp (slice_get (stepped plan k e).markers k) (left_at found)
+    by : (found : Option Marker) → slice_get e.markers k ≡ found → IsBackingAt found → left_at found ≡ suc count → GaveUp (slice_get (after_step plan k e).markers k) (left_at found)
     by None at now more = absurd now
     by (Some m) at now more = gave_up plan e k m at now (goes_on m.work now more (gives_up_at m.work) refl)
 
@@ -124,7 +124,7 @@ module _ (plan : Tables) where
   gives_all zero k e m backs left there = there_by m.work (subst IsBackingAt there backs) (sym (ap left_at there) ∙ left)
   gives_all (suc count) k e m backs left there =
       let less = gives_one k e backs (count) left in
-      gives_all count k (stepped plan k e) m less.backs (omega (arith, less.one, left)) there
+      gives_all count k (after_step plan k e) m less.backs (omega (arith, less.one, left)) there
 
   -- a marker that was asked to give back is out of the way, and not past its turn
   back_done : (k : ℕ) (e : Exchange) (m : Marker) → AllAre NotPast e → slice_get (given_back plan k e).markers k ≡ Some m → IsAside (office plan) m.work × NotPast m.work

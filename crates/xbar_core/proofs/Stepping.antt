@@ -10,10 +10,10 @@ use Rattle.xbar_plan.specs.Tables.{Tables}
 use Rattle.xbar_office.specs.declared.reply.Record.{Record}
 use Rattle.xbar_jobs.specs.Attempt.{counted, next_step, with_count}
 use Rattle.xbar_jobs.specs.Office.{office}
-use Rattle.xbar_jobs.specs.OnWords.{made}
+use Rattle.xbar_jobs.specs.OnWords.{words_after}
 use Rattle.xbar_core.specs.AtWork.{told_of}
 use Rattle.xbar_core.specs.Exchange.{Exchange, Marker, Work as TheWork, is_idle}
-use Rattle.xbar_core.specs.Moves.{answered, event_at, event_at_step, event_by, recorded, stepped, stepped_at, stepped_by}
+use Rattle.xbar_core.specs.Moves.{after_answer, event_at, event_at_step, event_by, added_record, after_step, stepped_at, stepped_by}
 use Rattle.xbar_core.specs.declared.kind.Kind.{Kind}
 use Rattle.xbar_core.specs.declared.work.Work.{Work}
 use Rattle.xbar_core.proofs.Markers.{marker_same}
@@ -25,10 +25,10 @@ written words new len whole same = subst (λ (n : ℕ). take n (new ++ drop (len
 
 -- a step on all of the words
 pub step_whole : (plan : Tables) (e : Exchange) (k len : ℕ) (words new : List ℕ) (markers : List Marker) (records : List Record) → words ≡ e.words → len ≡ length e.words → length new ≡ length words
-    → record { words = new; markers = markers; records = records } ≡ stepped plan k (record e { words = words }) → record { words = take len (new ++ drop (length new) e.words); markers = markers; records = records } ≡ stepped plan k e
+    → record { words = new; markers = markers; records = records } ≡ after_step plan k (record e { words = words }) → record { words = take len (new ++ drop (length new) e.words); markers = markers; records = records } ≡ after_step plan k e
 step_whole plan e k len words new markers records same whole keeps is =
     ap (λ (all : List ℕ). record { words = all; markers = markers; records = records }) (written e.words new len whole (keeps ∙ ap (length {A = ℕ}) same))
-    ∙ is ∙ ap (λ (all : List ℕ). stepped plan k (record e { words = all })) same
+    ∙ is ∙ ap (λ (all : List ℕ). after_step plan k (record e { words = all })) same
 
 -- the marker that is read at a place
 pub marker_read : (markers : List Marker) (k : ℕ) (read : Marker) → k < length markers → read ≡ get_or markers k read → slice_get markers k ≡ Some read
@@ -36,14 +36,14 @@ marker_read markers k read within is = slice_get_read markers (length markers) k
 
 module _ (plan : Tables) (e : Exchange) (k : ℕ) (m : Marker) (there : slice_get e.markers k ≡ Some m) where
   -- an idle marker makes no step
-  pub step_idle : is_idle m.work ≡ true → stepped plan k e ≡ e
-  unfolding stepped
+  pub step_idle : is_idle m.work ≡ true → after_step plan k e ≡ e
+  unfolding after_step
   step_idle idle = ap (λ (found : Option Marker). stepped_at plan k found e) there ∙ by m.work idle where
     by : (work : TheWork) → is_idle work ≡ true → stepped_by plan k m work e ≡ e
     by Idle is = refl
-    by (Does n a) is = ap (λ (idle : Bool). if idle then e else answered plan k m n a (told_of k e.words a) e) is
+    by (Does n a) is = ap (λ (idle : Bool). if idle then e else after_answer plan k m n a (told_of k e.words a) e) is
 
-  pub step_rests : (after : Marker) → is_idle m.work ≡ true → after ≡ m → record { words = e.words; markers = slice_set e.markers k after; records = e.records } ≡ stepped plan k e
+  pub step_rests : (after : Marker) → is_idle m.work ≡ true → after ≡ m → record { words = e.words; markers = slice_set e.markers k after; records = e.records } ≡ after_step plan k e
   step_rests after idle is =
       (λ i. record { words = e.words; markers = slice_set e.markers k (is i); records = e.records })
       ∙ ap (λ (markers : List Marker). record { words = e.words; markers = markers; records = e.records }) (marker_same e.markers k m there)
@@ -58,9 +58,9 @@ module _ (plan : Tables) (e : Exchange) (k : ℕ) (m : Marker) (there : slice_ge
       → m ≡ record { kind = kind; work = Does work.job_no work.program.attempt }
       → is_rest (act work.program.attempt) ≡ false
       → after ≡ record work { program = with_count (counted work.program.count) (change (office plan) work.program.attempt (told_of k e.words work.program.attempt)) }
-      → words ≡ made k (next_step work.program.attempt) e.words
-      → records ≡ e.records ++ recorded k work.job_no work.program.attempt (told_of k e.words work.program.attempt)
-      → record { words = words; markers = slice_set e.markers k (record { kind = kind; work = Does after.job_no after.program.attempt }); records = records } ≡ stepped plan k e
+      → words ≡ words_after k (next_step work.program.attempt) e.words
+      → records ≡ e.records ++ added_record k work.job_no work.program.attempt (told_of k e.words work.program.attempt)
+      → record { words = words; markers = slice_set e.markers k (record { kind = kind; work = Does after.job_no after.program.attempt }); records = records } ≡ after_step plan k e
   step_goes kind work after words records at goes after_is words_is records_is =
       let a = work.program.attempt in
       let told = told_of k e.words a in

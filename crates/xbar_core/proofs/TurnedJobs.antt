@@ -20,7 +20,7 @@ use Rattle.xbar_office.specs.declared.reply.Record.{Record}
 use Rattle.xbar_office.specs.declared.reply.Reply.{Reply}
 use Rattle.xbar_office.proofs.AuditedRecords.{replies_at}
 use Rattle.xbar_jobs.specs.Attempt.{Attempt}
-use Rattle.xbar_jobs.specs.Closing.{effects as effects_of, made as made_of}
+use Rattle.xbar_jobs.specs.Closing.{effects as effects_of, value_after as made_of}
 use Rattle.xbar_jobs.specs.Jobs.{script}
 use Rattle.xbar_jobs.specs.Keeping.{AreEffects}
 use Rattle.xbar_jobs.specs.Office.{ShowsOffice, office}

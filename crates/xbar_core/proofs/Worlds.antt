@@ -3,7 +3,7 @@ use Rattle.std.proofs.Common.{◌≡◌, ℕ, ◌≤◌, Bool, true, false, List
 use Rattle.std.specs.Prelude.{Option, Some, None, ◌==◌, if◌then◌else◌, slice_get, slice_set}
 use mathlib.Core.Option.{some}
 use Rattle.turns.specs.Attempt as generic
-use Rattle.turns.specs.Attempt.{act, act_in, begin_with, change, closing_act, free_act, request_in, restarted, told as told_by}
+use Rattle.turns.specs.Attempt.{act, act_in, begin_with, change, closing_act, free_act, request_in, restarted, unless_put_off as told_by}
 use Rattle.turns.specs.Law.{IsFree, Lawful}
 use Rattle.turns.specs.Runs.{is_rest}
 use Rattle.turns.specs.World as worlds
@@ -29,13 +29,13 @@ use Rattle.xbar_jobs.specs.Office.{office}
 use Rattle.xbar_jobs.specs.OnWords as steps
 use Rattle.turns.specs.Operations.{applied}
 use Rattle.turns.specs.declared.operation.Operation.{Operation}
-use Rattle.xbar_jobs.specs.OnWords.{answer_of, made, operation}
+use Rattle.xbar_jobs.specs.OnWords.{answer_of, words_after, operation}
 use Rattle.xbar_jobs.specs.declared.effect.Effect.{Effect}
 use Rattle.xbar_jobs.proofs.OfficeSystem.{office_is}
 use Rattle.xbar_jobs.proofs.StepActs.{act_answer, act_operation, act_word}
-use Rattle.xbar_core.specs.Exchange.{Exchange, IsLawfulExchange, Marker, Work, is_idle, opened, turned, world}
+use Rattle.xbar_core.specs.Exchange.{Exchange, IsLawfulExchange, Marker, Work, is_idle, fresh_exchange, turned, world}
 use Rattle.xbar_core.specs.Kinds.{takes}
-use Rattle.xbar_core.specs.Moves.{answered, assigned, assigned_at, begun_anew, given_back, record_of, recorded, refusal, refusal_at, refusal_of, stepped, stepped_at, stepped_by}
+use Rattle.xbar_core.specs.Moves.{after_answer, assigned, assigned_at, begun_anew, given_back, record_of, added_record, refusal, refusal_at, refusal_of, after_step, stepped_at, stepped_by}
 use Rattle.xbar_core.specs.Settling.{settled}
 use Rattle.xbar_core.specs.declared.assign_fault.AssignFault.TheVariants.{NotIdle, WrongKind}
 use Rattle.xbar_core.specs.declared.kind.Kind.{Kind}
@@ -47,32 +47,32 @@ turned_more [] more = refl
 turned_more (r ∷ records) more = ap (λ (all : List (worlds.Record Job Reply)). turned r ∷ all) (turned_more records more)
 
 -- a judged request or seizing adds no record
-adds_asked : (k n word : ℕ) (a : Attempt) (j : Judgement) → recorded k n a (told_by (Asked word) j) ≡ []
+adds_asked : (k n word : ℕ) (a : Attempt) (j : Judgement) → added_record k n a (told_by (Asked word) j) ≡ []
 adds_asked k n word a judgement.Free = refl
 adds_asked k n word a (judgement.Held holder) = refl
 adds_asked k n word a (judgement.Preferred other) = refl
 
-adds_seized : (k n word : ℕ) (a : Attempt) (b : Bool) (j : Judgement) → recorded k n a (if b then Seized else told_by (Again word) j) ≡ []
+adds_seized : (k n word : ℕ) (a : Attempt) (b : Bool) (j : Judgement) → added_record k n a (if b then Seized else told_by (Again word) j) ≡ []
 adds_seized k n word a true j = refl
 adds_seized k n word a false judgement.Free = refl
 adds_seized k n word a false (judgement.Held holder) = refl
 adds_seized k n word a false (judgement.Preferred other) = refl
 
 module _ (plan : Tables) where
-  adds_freed : (k n found : ℕ) (a : Attempt) (held : List Conn) → recorded k n a (generic.answered (office plan) k (free_act held) found) ≡ []
+  adds_freed : (k n found : ℕ) (a : Attempt) (held : List Conn) → added_record k n a (generic.answer_to (office plan) k (free_act held) found) ≡ []
   adds_freed k n found a [] = refl
   adds_freed k n found a (conn ∷ held) = refl
 
-  adds_closed : (k n found : ℕ) (a : Attempt) (effects : List Effect) (held : List Conn) → recorded k n a (generic.answered (office plan) k (closing_act effects held) found) ≡ []
+  adds_closed : (k n found : ℕ) (a : Attempt) (effects : List Effect) (held : List Conn) → added_record k n a (generic.answer_to (office plan) k (closing_act effects held) found) ≡ []
   adds_closed k n found a [] held = adds_freed k n found a held
   adds_closed k n found a (effect ∷ effects) held = refl
 
-  of_reply : (k n found : ℕ) (job : Job) (reply : Option Reply) → map turned (record_of found k n job reply) ≡ worlds.recorded (office plan) k n job reply found
+  of_reply : (k n found : ℕ) (job : Job) (reply : Option Reply) → map turned (record_of found k n job reply) ≡ worlds.turn_record (office plan) k n job reply found
   of_reply k n found job None = refl
   of_reply k n found job (Some reply) = refl
 
   -- a step adds the record that it adds in the world
-  pub added_at : (k n found : ℕ) (a : Attempt) (phase : Phase) → map turned (recorded k n a (generic.answered (office plan) k (act_in phase a) found)) ≡ added_in (office plan) k n a phase found
+  pub added_at : (k n found : ℕ) (a : Attempt) (phase : Phase) → map turned (added_record k n a (generic.answer_to (office plan) k (act_in phase a) found)) ≡ added_in (office plan) k n a phase found
   added_at k n found a (Requests conn) = ap (map turned) (adds_asked k n _ a _)
   added_at k n found a (Seizes conn expected) = ap (map turned) (adds_seized k n found a (found == expected) _)
   added_at k n found a (Tests word) = refl
@@ -85,27 +85,27 @@ module _ (plan : Tables) where
   abbrev pub found_by : List ℕ → Attempt → ℕ
   found_by words a = slice_index words (place (office plan) (act a))
 
-  pub answer_is : (k : ℕ) (words : List ℕ) (a : Attempt) → answer_of k (next_step a) words ≡ generic.answered (office plan) k (act a) (found_by words a)
-  answer_is k words a = ap (λ (n : ℕ). steps.answered k (next_step a) (slice_index words n)) (act_word plan (act a)) ∙ act_answer plan k (act a) (found_by words a)
+  pub answer_is : (k : ℕ) (words : List ℕ) (a : Attempt) → answer_of k (next_step a) words ≡ generic.answer_to (office plan) k (act a) (found_by words a)
+  answer_is k words a = ap (λ (n : ℕ). steps.step_answer k (next_step a) (slice_index words n)) (act_word plan (act a)) ∙ act_answer plan k (act a) (found_by words a)
 
-  pub words_are : (k : ℕ) (words : List ℕ) (a : Attempt) → made k (next_step a) words ≡ slice_set words (place (office plan) (act a)) (becomes (office plan) k (act a) (found_by words a))
+  pub words_are : (k : ℕ) (words : List ℕ) (a : Attempt) → words_after k (next_step a) words ≡ slice_set words (place (office plan) (act a)) (becomes (office plan) k (act a) (found_by words a))
   words_are k words a =
       ap (λ (n : ℕ). slice_set words n (applied (operation k (next_step a)) (slice_index words n))) (act_word plan (act a))
       ∙ ap (λ (op : Operation). slice_set words (place (office plan) (act a)) (applied op (found_by words a))) (act_operation plan k (act a))
 
   -- marker k's step is actor k's
-  pub moved_is : (e : Exchange) (k n : ℕ) (m : Marker) (a : Attempt) → moved (office plan) k n a (world plan e) ≡ world plan (answered plan k m n a (answer_of k (next_step a) e.words) e)
+  pub moved_is : (e : Exchange) (k n : ℕ) (m : Marker) (a : Attempt) → moved (office plan) k n a (world plan e) ≡ world plan (after_answer plan k m n a (answer_of k (next_step a) e.words) e)
   moved_is e k n m a =
       let found : ℕ = found_by e.words a in
-      let told_now : Answer = generic.answered (office plan) k (act a) found in
-      let order = turned_more e.records (recorded k n a told_now) ∙ ap (λ (more : List (worlds.Record Job Reply)). map turned e.records ++ more) (added_at k n found a a.phase) in
+      let told_now : Answer = generic.answer_to (office plan) k (act a) found in
+      let order = turned_more e.records (added_record k n a told_now) ∙ ap (λ (more : List (worlds.Record Job Reply)). map turned e.records ++ more) (added_at k n found a a.phase) in
       ap (λ (words : List ℕ). record { words = words; actors = slice_set (works e.markers) k (Does n (change (office plan) a told_now)); order = map turned e.records ++ added_in (office plan) k n a a.phase found }) (sym (words_are k e.words a))
-      ∙ ap (λ (actors : List Work). record { words = made k (next_step a) e.words; actors = actors; order = map turned e.records ++ added_in (office plan) k n a a.phase found }) (sym (works_set e.markers k (record m { work = Does n (change (office plan) a told_now) })))
-      ∙ ap (λ (all : List (worlds.Record Job Reply)). record { words = made k (next_step a) e.words; actors = works (slice_set e.markers k (record m { work = Does n (change (office plan) a told_now) })); order = all }) (sym order)
-      ∙ ap (λ (answer : Answer). world plan (answered plan k m n a answer e)) (sym (answer_is k e.words a))
+      ∙ ap (λ (actors : List Work). record { words = words_after k (next_step a) e.words; actors = actors; order = map turned e.records ++ added_in (office plan) k n a a.phase found }) (sym (works_set e.markers k (record m { work = Does n (change (office plan) a told_now) })))
+      ∙ ap (λ (all : List (worlds.Record Job Reply)). record { words = words_after k (next_step a) e.words; actors = works (slice_set e.markers k (record m { work = Does n (change (office plan) a told_now) })); order = all }) (sym order)
+      ∙ ap (λ (answer : Answer). world plan (after_answer plan k m n a answer e)) (sym (answer_is k e.words a))
 
 -- all are idle in an office that opens
-works_opened : (kinds : List Kind) → works (opened kinds).markers ≡ replicate (length kinds) Idle
+works_opened : (kinds : List Kind) → works (fresh_exchange kinds).markers ≡ replicate (length kinds) Idle
 works_opened [] = refl
 works_opened (kind ∷ kinds) = ap (λ (all : List Work). Idle ∷ all) (works_opened kinds)
 
@@ -122,13 +122,13 @@ refused_none m job e = by (is_idle m.work) refl e where
   by false is none = absurd cc
 
 module _ (plan : Tables) (laws : IsLawful plan) where
-  work_lawful : (e : Exchange) (k n : ℕ) (m : Marker) (a : Attempt) → IsLawfulExchange plan e → slice_get e.markers k ≡ Some m → m.work ≡ Does n a → IsLawfulExchange plan (answered plan k m n a (answer_of k (next_step a) e.words) e)
+  work_lawful : (e : Exchange) (k n : ℕ) (m : Marker) (a : Attempt) → IsLawfulExchange plan e → slice_get e.markers k ≡ Some m → m.work ≡ Does n a → IsLawfulExchange plan (after_answer plan k m n a (answer_of k (next_step a) e.words) e)
   work_lawful e k n m a law there at = subst (Lawful (office plan)) (moved_is plan e k n m a) (keeps (office plan) (office_is plan laws) (world plan e) law k n a (actor_there e.markers k m there ∙ ap some at))
 
   step_lawful : (e : Exchange) (k : ℕ) (m : Marker) (work : Work) → IsLawfulExchange plan e → slice_get e.markers k ≡ Some m → m.work ≡ work → IsLawfulExchange plan (stepped_by plan k m work e)
   step_lawful e k m Idle law there at = law
   step_lawful e k m (Does n a) law there at = by (is_rest (act a)) where
-    by : (idle : Bool) → IsLawfulExchange plan (if idle then e else answered plan k m n a (answer_of k (next_step a) e.words) e)
+    by : (idle : Bool) → IsLawfulExchange plan (if idle then e else after_answer plan k m n a (answer_of k (next_step a) e.words) e)
     by true = law
     by false = work_lawful e k n m a law there at
 
@@ -151,7 +151,7 @@ module _ (plan : Tables) (laws : IsLawful plan) where
       (gives_back (office plan) (office_is plan laws) (world plan e) law k n a (actor_there e.markers k m there ∙ ap some at))
 
 -- an office opens lawfully
-pub lawful_opened : (plan : Tables) (kinds : List Kind) → IsLawful plan → length kinds ≤ 48 → IsLawfulExchange plan (opened kinds)
+pub lawful_opened : (plan : Tables) (kinds : List Kind) → IsLawful plan → length kinds ≤ 48 → IsLawfulExchange plan (fresh_exchange kinds)
 lawful_opened plan kinds laws few =
     subst (λ (actors : List Work). Lawful (office plan) (record { words = replicate word_count 0; actors = actors; order = [] })) (sym (works_opened kinds))
     (opens (office plan) (office_is plan laws) (length kinds) few)
@@ -161,8 +161,8 @@ pub lawful_assigned : (plan : Tables) (e : Exchange) (k number : ℕ) (job : Job
 lawful_assigned plan e k number job laws law in_range free = assigned_lawful plan laws e k number job (slice_get e.markers k) law in_range refl free
 
 -- so does a step of a marker
-pub lawful_stepped : (plan : Tables) (e : Exchange) (k : ℕ) → IsLawful plan → IsLawfulExchange plan e → IsLawfulExchange plan (stepped plan k e)
-unfolding stepped
+pub lawful_stepped : (plan : Tables) (e : Exchange) (k : ℕ) → IsLawful plan → IsLawfulExchange plan e → IsLawfulExchange plan (after_step plan k e)
+unfolding after_step
 lawful_stepped plan e k laws law = stepped_lawful plan laws e k (slice_get e.markers k) law refl
 
 -- so does a marker that is to begin its job anew

@@ -33,8 +33,8 @@ pub record Exchange : Type 0 where
   pub records : List Record
 
 -- an office opens with all words 0 and all markers idle
-abbrev pub opened : List Kind → Exchange
-opened kinds = record { words = replicate word_count 0; markers = map (λ kind. record { kind = kind; work = worlds.Idle }) kinds; records = [] }
+abbrev pub fresh_exchange : List Kind → Exchange
+fresh_exchange kinds = record { words = replicate word_count 0; markers = map (λ kind. record { kind = kind; work = worlds.Idle }) kinds; records = [] }
 
 -- the record of a turn, as any system of jobs has it
 abbrev pub turned : Record → worlds.Record Job Reply

@@ -12,7 +12,7 @@ use Rattle.xbar_office.specs.declared.reply.Reply.{Reply}
 use Rattle.xbar_jobs.specs.Attempt.{Attempt, Phase, next_step}
 use Rattle.xbar_jobs.specs.Jobs.{first_conn}
 use Rattle.xbar_jobs.specs.Office.{office}
-use Rattle.xbar_jobs.specs.OnWords.{answer_of, made}
+use Rattle.xbar_jobs.specs.OnWords.{answer_of, words_after}
 use Rattle.xbar_core.specs.Exchange.{Exchange, Marker, Work, is_idle}
 use Rattle.xbar_core.specs.Kinds.{takes}
 use Rattle.xbar_core.specs.declared.assign_fault.AssignFault.{AssignFault}
@@ -51,34 +51,34 @@ record_of turn k number job None = []
 record_of turn k number job (Some reply) = record { turn = turn; marker = k; job_no = number; job = job; reply = reply } ∷ []
 
 -- the record that an answer adds: none but by a turn
-abbrev pub recorded : ℕ → ℕ → Attempt → Answer → List Record
-recorded k number a (answer.Turn turn) = record_of turn k number a.job a.reply
-recorded k number a _ = []
+abbrev pub added_record : ℕ → ℕ → Attempt → Answer → List Record
+added_record k number a (answer.Turn turn) = record_of turn k number a.job a.reply
+added_record k number a _ = []
 
 -- marker k made the next step of its attempt, which was answered so: its word is what the step makes of it, the attempt goes on by the answer, and a turn adds its record
-abbrev pub answered : Tables → ℕ → Marker → ℕ → Attempt → Answer → Exchange → Exchange
-answered plan k m number a told e = record {
-  words = made k (next_step a) e.words;
+abbrev pub after_answer : Tables → ℕ → Marker → ℕ → Attempt → Answer → Exchange → Exchange
+after_answer plan k m number a told e = record {
+  words = words_after k (next_step a) e.words;
   markers = slice_set e.markers k (record m { work = Does number (change (office plan) a told) });
-  records = e.records ++ recorded k number a told;
+  records = e.records ++ added_record k number a told;
 }
 
 abbrev pub stepped_by : Tables → ℕ → Marker → Work → Exchange → Exchange
 stepped_by plan k m Idle e = e
-stepped_by plan k m (Does number a) e = if is_idle (Does number a) then e else answered plan k m number a (answer_of k (next_step a) e.words) e
+stepped_by plan k m (Does number a) e = if is_idle (Does number a) then e else after_answer plan k m number a (answer_of k (next_step a) e.words) e
 
 abbrev pub stepped_at : Tables → ℕ → Option Marker → Exchange → Exchange
 stepped_at plan k None e = e
 stepped_at plan k (Some m) e = stepped_by plan k m m.work e
 
 -- marker k makes its next step; an idle one makes none
-unfoldable pub stepped : Tables → ℕ → Exchange → Exchange
-stepped plan k e = stepped_at plan k (slice_get e.markers k) e
+unfoldable pub after_step : Tables → ℕ → Exchange → Exchange
+after_step plan k e = stepped_at plan k (slice_get e.markers k) e
 
 -- so many steps of it
 unfoldable pub steps : Tables → ℕ → ℕ → Exchange → Exchange
 steps plan k zero e = e
-steps plan k (suc count) e = steps plan k count (stepped plan k e)
+steps plan k (suc count) e = steps plan k count (after_step plan k e)
 
 -- the record of a job, once it has turned
 abbrev pub own_record : ℕ → ℕ → Phase → Attempt → List Record

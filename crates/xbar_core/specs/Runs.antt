@@ -2,8 +2,8 @@ use Rattle.std.specs.Prelude.{ℕ, List, [], ◌∷◌, ⊤}
 use Rattle.xbar_plan.specs.Tables.{Tables}
 use Rattle.xbar_office.specs.Legal.{IsJob}
 use Rattle.xbar_office.specs.declared.job.Job.{Job}
-use Rattle.xbar_core.specs.Exchange.{Exchange, opened}
-use Rattle.xbar_core.specs.Moves.{assigned, begun_anew, given_back, refusal, stepped}
+use Rattle.xbar_core.specs.Exchange.{Exchange, fresh_exchange}
+use Rattle.xbar_core.specs.Moves.{assigned, begun_anew, given_back, refusal, after_step}
 use Rattle.xbar_core.specs.Settling.{settled}
 use Rattle.xbar_core.specs.declared.kind.Kind.{Kind}
 use Rattle.std.specs.Prelude.{Option, None, Some}
@@ -22,21 +22,21 @@ unless_refused None now before = now
 unless_refused (Some fault) now before = before
 
 -- a move of a marker; where an assignment is refused, or no marker has the number, nothing changes
-abbrev pub made_by : Tables → Exchange → Move → Exchange
-made_by plan e (Assigns k number job) = unless_refused (refusal e k job) (assigned k number job e) e
-made_by plan e (Steps k) = stepped plan k e
-made_by plan e (BeginsAnew k) = begun_anew plan k e
-made_by plan e (GivesBack k) = given_back plan k e
-made_by plan e Settles = settled plan e
+abbrev pub after_move : Tables → Exchange → Move → Exchange
+after_move plan e (Assigns k number job) = unless_refused (refusal e k job) (assigned k number job e) e
+after_move plan e (Steps k) = after_step plan k e
+after_move plan e (BeginsAnew k) = begun_anew plan k e
+after_move plan e (GivesBack k) = given_back plan k e
+after_move plan e Settles = settled plan e
 
 -- moves one after another, of any markers in any order
 abbrev pub run_from : Tables → Exchange → List Move → Exchange
 run_from plan e [] = e
-run_from plan e (move ∷ moves) = run_from plan (made_by plan e move) moves
+run_from plan e (move ∷ moves) = run_from plan (after_move plan e move) moves
 
 -- a run of an office that opens with markers of these kinds
 abbrev pub run_of : Tables → List Kind → List Move → Exchange
-run_of plan kinds moves = run_from plan (opened kinds) moves
+run_of plan kinds moves = run_from plan (fresh_exchange kinds) moves
 
 -- the jobs that are assigned are of lines that there are
 abbrev pub IsMove : Move → Type 0

@@ -5,8 +5,8 @@ ghost use Rattle.turns.specs.World.{Idle};
 ghost use Rattle.xbar_equip.specs.Word.{word_count};
 ghost use Rattle.xbar_office.specs.Legal.{IsJob};
 ghost use Rattle.xbar_core.specs.AtWork.{IsBackingAt, left_at};
-ghost use Rattle.xbar_core.specs.Exchange.{IsLawfulExchange, Marker as TheMarker, is_idle as is_idle_work, opened};
-ghost use Rattle.xbar_core.specs.Moves.{assigned, begun_anew, event_at_step, given_at, given_back, refusal, stepped, steps};
+ghost use Rattle.xbar_core.specs.Exchange.{IsLawfulExchange, Marker as TheMarker, is_idle as is_idle_work, fresh_exchange};
+ghost use Rattle.xbar_core.specs.Moves.{assigned, begun_anew, event_at_step, given_at, given_back, refusal, after_step, steps};
 ghost use Rattle.xbar_core.specs.Settling.{ended, ended_past_turn, for_each, settled};
 
 use crate::assign_fault::AssignFault;
@@ -58,7 +58,7 @@ fn markers_of(alloc: Global, kinds: &[Kind]) -> Result<Vec<Marker>, AllocError>
 impl<'p> Exchange<'p> {
     /// Opens an office with no path, whose markers are idle and of these kinds.
     pub fn open(alloc: Global, plan: &'p Plan, kinds: &[Kind]) -> Result<Self, OpenFault>
-        ensures ok { IfOk result (λ exchange. exchange ≡ record { plan = plan.now; exchange = opened kinds.now }) }
+        ensures ok { IfOk result (λ exchange. exchange ≡ record { plan = plan.now; exchange = fresh_exchange kinds.now }) }
         ensures markers { (result ≡ Err OpenFault.Markers) ↔ ¬ ((0 < length kinds.now) × (length kinds.now ≤ 48)) }
     {
         if kinds.is_empty() || kinds.len() > MOST_MARKERS {
@@ -161,7 +161,7 @@ impl<'p> Exchange<'p> {
     /// Makes the marker's next step, and tells what came of it. An idle marker makes none.
     pub fn step(&mut self, marker: u32) -> Event
         requires { marker < length self.old.exchange.markers }
-        ensures step { self.new ≡ record self.old { exchange = stepped self.old.plan marker self.old.exchange } }
+        ensures step { self.new ≡ record self.old { exchange = after_step self.old.plan marker self.old.exchange } }
         ensures event { result ≡ event_at_step self.old.plan marker self.old.exchange }
     {
         xbar_plan::laws::every_plan_is_lawful(self.plan);

@@ -28,10 +28,10 @@ ghost use Rattle.xbar_jobs.specs.Office.{Protects, ShowsOffice, office};
 ghost use Rattle.xbar_jobs.specs.OnWords.{answer_of, step_word};
 ghost use Rattle.xbar_jobs.specs.Opening.{ReleasesJust};
 ghost use Rattle.xbar_jobs.specs.declared.effect.Effect.{Effect};
-ghost use Rattle.xbar_core.specs.Exchange.{Exchange, IsLawfulExchange, Marker, is_idle, opened};
+ghost use Rattle.xbar_core.specs.Exchange.{Exchange, IsLawfulExchange, Marker, is_idle, fresh_exchange};
 ghost use Rattle.xbar_core.specs.Holding.{AsksFor, HasRequested, Holds, IsAt, TellsTruth, completed};
 ghost use Rattle.xbar_core.specs.Links.{BelongsTo, IsAtLink, IsClosed, IsPastTurn, OpensItsOwn};
-ghost use Rattle.xbar_core.specs.Moves.{assigned, begun_anew, event_at_step, given_at, given_back, recorded, refusal, stepped};
+ghost use Rattle.xbar_core.specs.Moves.{assigned, begun_anew, event_at_step, given_at, given_back, added_record, refusal, after_step};
 ghost use Rattle.xbar_core.specs.Runs.{AreMoves, Move, run_of};
 ghost use Rattle.xbar_core.specs.Settling.{settled};
 ghost use Rattle.xbar_core.specs.declared.event.Event.{Event};
@@ -41,13 +41,13 @@ ghost use Rattle.xbar_core.specs.declared.kind.Kind.{Kind};
 /// An office opens lawfully, and each assignment, each step of a marker, each beginning anew, each give back
 /// and each settling keeps it so. A step adds the record of its turn, if it is one, at the end.
 pub fn every_move_keeps_the_law()
-    ensures opens { (plan : Tables) (kinds : List Kind) → IsLawful plan → length kinds ≤ 48 → IsLawfulExchange plan (opened kinds) }
+    ensures opens { (plan : Tables) (kinds : List Kind) → IsLawful plan → length kinds ≤ 48 → IsLawfulExchange plan (fresh_exchange kinds) }
     ensures assigns { (plan : Tables) (e : Exchange) (k number : ℕ) (job : Job) → IsLawful plan → IsLawfulExchange plan e → IsJob job → refusal e k job ≡ None → IsLawfulExchange plan (assigned k number job e) }
-    ensures steps { (plan : Tables) (e : Exchange) (k : ℕ) → IsLawful plan → IsLawfulExchange plan e → IsLawfulExchange plan (stepped plan k e) }
+    ensures steps { (plan : Tables) (e : Exchange) (k : ℕ) → IsLawful plan → IsLawfulExchange plan e → IsLawfulExchange plan (after_step plan k e) }
     ensures begins_anew { (plan : Tables) (e : Exchange) (k : ℕ) → IsLawful plan → IsLawfulExchange plan e → IsLawfulExchange plan (begun_anew plan k e) }
     ensures gives_back { (plan : Tables) (e : Exchange) (k : ℕ) → IsLawful plan → IsLawfulExchange plan e → IsLawfulExchange plan (given_back plan k e) }
     ensures settles { (plan : Tables) (e : Exchange) → IsLawful plan → IsLawfulExchange plan e → IsLawfulExchange plan (settled plan e) }
-    ensures adds { (plan : Tables) (e : Exchange) (k number : ℕ) (a : Attempt) → IsAt e k number a → (stepped plan k e).records ≡ e.records ++ recorded k number a (answer_of k (next_step a) e.words) }
+    ensures adds { (plan : Tables) (e : Exchange) (k number : ℕ) (a : Attempt) → IsAt e k number a → (after_step plan k e).records ≡ e.records ++ added_record k number a (answer_of k (next_step a) e.words) }
 {}
 
 /// Whatever moves any markers make, in whatever order, the office that they come to is lawful.
@@ -80,7 +80,7 @@ pub fn connectors_tell_the_truth()
 /// before its turn is still what the words have.
 pub fn words_are_their_holders()
     ensures alone { (plan : Tables) (e : Exchange) (k number : ℕ) (a : Attempt) (conn : Conn) → IsLawful plan → IsLawfulExchange plan e → IsAt e k number a → Protects conn (step_word (next_step a)) → IsIn conn a.held }
-    ensures spared { (plan : Tables) (e : Exchange) (k n : ℕ) (conn : Conn) → IsLawful plan → IsLawfulExchange plan e → Protects conn n → ¬ Holds e k conn → slice_index (stepped plan k e).words n ≡ slice_index e.words n }
+    ensures spared { (plan : Tables) (e : Exchange) (k n : ℕ) (conn : Conn) → IsLawful plan → IsLawfulExchange plan e → Protects conn n → ¬ Holds e k conn → slice_index (after_step plan k e).words n ≡ slice_index e.words n }
     ensures read { (plan : Tables) (e : Exchange) (k number : ℕ) (a : Attempt) (r : Reading ℕ) → IsLawfulExchange plan e → IsAt e k number a → IsIn r (read_in a.phase a.readings) → slice_index e.words r.word ≡ r.value }
 {}
 
@@ -97,7 +97,7 @@ pub fn attempts_keep_their_order()
 /// has finished or not; a job that finishes has it at the place of its turn.
 pub fn turned_jobs_are_recorded()
     ensures turned { (plan : Tables) (e : Exchange) (k number turn : ℕ) (a : Attempt) → IsLawful plan → IsLawfulExchange plan e → IsAt e k number a → a.phase ≡ Phase.Operates turn → (place : ℕ) × IsPastTurn e k place a }
-    ensures place { (plan : Tables) (e : Exchange) (k : ℕ) (r : Record) → IsLawful plan → IsLawfulExchange plan e → length e.records < 2 ^ 64 → event_at_step plan k e ≡ Event.Finished r → slice_get (stepped plan k e).records r.turn ≡ Some r }
+    ensures place { (plan : Tables) (e : Exchange) (k : ℕ) (r : Record) → IsLawful plan → IsLawfulExchange plan e → length e.records < 2 ^ 64 → event_at_step plan k e ≡ Event.Finished r → slice_get (after_step plan k e).records r.turn ≡ Some r }
     ensures job { (plan : Tables) (e : Exchange) (k number : ℕ) (a : Attempt) (r : Record) → IsAt e k number a → event_at_step plan k e ≡ Event.Finished r → (r.marker ≡ k) × (r.job_no ≡ number) × (r.job ≡ a.job) }
 {}
 
@@ -133,6 +133,6 @@ pub fn no_link_carries_two_calls()
 /// is left is the end of it.
 pub fn a_release_opens_its_own_crosspoints()
     ensures turn { (plan : Tables) (e : Exchange) (k number : ℕ) (a : Attempt) (line : Line) (own : Path) (other : Option Path) (cards : List Card) → IsLawful plan → IsLawfulExchange plan e → IsAt e k number a → a.phase ≡ Phase.Turns → a.job ≡ Release line → a.reply ≡ Some (record { end = Released own other; cards = cards }) → ReleasesJust plan own other (completed plan e) a.effects }
-    ensures each { (plan : Tables) (e : Exchange) (k number turn : ℕ) (a : Attempt) (effect : Effect) (effects : List Effect) → IsAt e k number a → a.phase ≡ Phase.Operates turn → a.effects ≡ effect ∷ effects → ((stepped plan k e).words ≡ perform_all (office plan) e.words (effect ∷ [])) × IsAt (stepped plan k e) k number (record a { effects = effects }) }
+    ensures each { (plan : Tables) (e : Exchange) (k number turn : ℕ) (a : Attempt) (effect : Effect) (effects : List Effect) → IsAt e k number a → a.phase ≡ Phase.Operates turn → a.effects ≡ effect ∷ effects → ((after_step plan k e).words ≡ perform_all (office plan) e.words (effect ∷ [])) × IsAt (after_step plan k e) k number (record a { effects = effects }) }
     ensures left { (plan : Tables) (e : Exchange) (k number turn : ℕ) (a : Attempt) (line : Line) (own : Path) (other : Option Path) (cards : List Card) → IsLawful plan → IsLawfulExchange plan e → IsAt e k number a → a.phase ≡ Phase.Operates turn → a.job ≡ Release line → a.reply ≡ Some (record { end = Released own other; cards = cards }) → OpensItsOwn plan own other e.words a.effects }
 {}

@@ -7,7 +7,7 @@ ghost use Rattle.xbar_plan.specs.Tables.{Tables};
 ghost use Rattle.xbar_jobs.specs.Jobs.{first_conn};
 ghost use Rattle.xbar_core.specs.AtWork.{gives_up_at, is_turned};
 ghost use Rattle.xbar_core.specs.Exchange.{Marker as TheMarker, is_idle as is_idle_at};
-ghost use Rattle.xbar_core.specs.Moves.{event_by, given_by, refusal_of, stepped, work_anew};
+ghost use Rattle.xbar_core.specs.Moves.{event_by, given_by, refusal_of, after_step, work_anew};
 ghost use Rattle.xbar_core.specs.Standing.{StandsAt, waits};
 
 use crate::assign_fault::AssignFault;
@@ -136,7 +136,7 @@ impl Marker {
         requires number { number < 48 }
         requires words { length words.old ≡ word_count }
         requires room { length records.old.items + waits self.old.work ≤ vec_capacity records.old }
-        ensures step { (markers : List TheMarker) → slice_get markers number ≡ Some self.old → record { words = words.new; markers = slice_set markers number self.new; records = records.new.items } ≡ stepped plan.now number (record { words = words.old; markers = markers; records = records.old.items }) }
+        ensures step { (markers : List TheMarker) → slice_get markers number ≡ Some self.old → record { words = words.new; markers = slice_set markers number self.new; records = records.new.items } ≡ after_step plan.now number (record { words = words.old; markers = markers; records = records.old.items }) }
         ensures room { vec_capacity records.old ≤ vec_capacity records.new }
         ensures event { result ≡ event_by plan.now number words.old self.old.work }
     {

@@ -6,10 +6,10 @@ ghost use Rattle.xbar_office.specs.Legal.{IsJob};
 ghost use Rattle.xbar_plan.specs.Tables.{Tables};
 ghost use Rattle.xbar_jobs.specs.Attempt.{Attempt, counted, fresh, next_step, turn_in, with_count};
 ghost use Rattle.xbar_jobs.specs.Office.{office};
-ghost use Rattle.xbar_jobs.specs.OnWords.{made};
+ghost use Rattle.xbar_jobs.specs.OnWords.{words_after};
 ghost use Rattle.xbar_jobs.specs.Standing.{Stands};
 ghost use Rattle.xbar_core.specs.AtWork.{conn_asked, entered, gives_up, told_of};
-ghost use Rattle.xbar_core.specs.Moves.{event_of, own_record, recorded, refused_by};
+ghost use Rattle.xbar_core.specs.Moves.{event_of, own_record, added_record, refused_by};
 ghost use Rattle.xbar_core.specs.Standing.{waits_in};
 
 use crate::event::Event;
@@ -158,8 +158,8 @@ impl Work {
         requires words { length words.old ≡ word_count }
         requires room { length records.old.items + waits_in self.old.program.attempt.phase ≤ vec_capacity records.old }
         ensures work { self.new ≡ record self.old { program = with_count (counted self.old.program.count) (change (office plan.now) self.old.program.attempt (told_of marker words.old self.old.program.attempt)) } }
-        ensures words { words.new ≡ made marker (next_step self.old.program.attempt) words.old }
-        ensures records { records.new.items ≡ records.old.items ++ recorded marker self.old.job_no self.old.program.attempt (told_of marker words.old self.old.program.attempt) }
+        ensures words { words.new ≡ words_after marker (next_step self.old.program.attempt) words.old }
+        ensures records { records.new.items ≡ records.old.items ++ added_record marker self.old.job_no self.old.program.attempt (told_of marker words.old self.old.program.attempt) }
         ensures room { vec_capacity records.old ≤ vec_capacity records.new }
         ensures event { result ≡ event_of marker self.old.job_no self.old.program.attempt (change (office plan.now) self.old.program.attempt (told_of marker words.old self.old.program.attempt)) (told_of marker words.old self.old.program.attempt) }
     {

@@ -12,7 +12,7 @@ use Rattle.xbar_plan.specs.declared.group.MemberPlace.{MemberPlace}
 use Rattle.xbar_plan.proofs.LawfulLookups.{lines_of-count, route_of-count}
 use Rattle.xbar_office.specs.Trunks.{leads_inside}
 use Rattle.xbar_office.specs.declared.aim.Aim.TheVariants.{Connected}
-use Rattle.xbar_jobs.specs.Closing.{leave_effects, leave_of, leaving, made}
+use Rattle.xbar_jobs.specs.Closing.{leave_effects, leave_of, leaving, value_after}
 use Rattle.xbar_jobs.specs.Completing.{call, call_by, call_from, call_line, call_number, call_without, complete_from, complete_steps, hunt, register_at, unless_busy, unless_calling}
 use Rattle.xbar_jobs.specs.Connecting.{alone}
 use Rattle.xbar_jobs.specs.Script.{Script, as_if_made}
@@ -88,7 +88,7 @@ module _ (plan : Tables) (laws : IsLawful plan) where
       let after : Party = party_after (leave_effects leave) calling in
       let made_call : Script Decision = as_if_made (leave_effects leave) (call plan after dialled (route_of plan (code_of dialled))) in
       asks_bind 38 16 0 0 38 16 made_call (λ decision. Ends (leaving leave decision)) refl refl
-      (asks_read_with (made (leave_effects leave)) 38 16 _ (call_asks after dialled (route_of plan (code_of dialled)) (route_few (code_of dialled)))) (λ decision. tt)
+      (asks_read_with (value_after (leave_effects leave)) 38 16 _ (call_asks after dialled (route_of plan (code_of dialled)) (route_few (code_of dialled)))) (λ decision. tt)
 
   from_asks : (calling : Party) (dialled : ℕ) (own : Path) (found : Option MemberPlace) → AsksAtMost 38 17 (call_from plan calling dialled own found)
   unfolding AsksAtMost call_from

@@ -25,7 +25,7 @@ use Rattle.xbar_office.specs.Done.{Done}
 use Rattle.xbar_office.specs.Standing.{if_register as path_if_register, path_of}
 use Rattle.xbar_office.specs.declared.reply.End.TheVariants.{NoRegister}
 use Rattle.xbar_office.proofs.RegisterPaths.{line-without}
-use Rattle.xbar_jobs.specs.Closing.{effect_word, effects, leave_effects, leave_of, leaving, made, take_effects}
+use Rattle.xbar_jobs.specs.Closing.{effect_word, effects, leave_effects, leave_of, leaving, value_after, take_effects}
 use Rattle.xbar_jobs.specs.Completing.{call, call_from, call_without, complete_from, complete_steps, if_register}
 use Rattle.xbar_jobs.specs.Office.{ShowsOffice, office}
 use Rattle.xbar_jobs.specs.Script.{as_if_made}
@@ -104,7 +104,7 @@ module _ (plan : Tables) (words : List ℕ) (paths : List Path) (laws : IsLawful
     unfolding run call_without ◌>>=◌
     without_runs =
         run_bind words (as_if_made gone (call plan (party_after gone calling) dialled (route_of plan (code_of dialled)))) _
-        ∙ ap (leaving leave) (run_read_with words after (made gone) (call plan (party_after gone calling) dialled (route_of plan (code_of dialled))) (λ n. perform_index (office plan) words gone n below))
+        ∙ ap (leaving leave) (run_read_with words after (value_after gone) (call plan (party_after gone calling) dialled (route_of plan (code_of dialled))) (λ n. perform_index (office plan) words gone n below))
 
     without_decides : DecidesOn plan words (run words (call_without plan calling dialled leave)) (whole.call plan rest line dialled (route_of plan (code_of dialled)))
     without_decides =

@@ -18,7 +18,7 @@ use Rattle.xbar_plan.proofs.MemberPlaces.{member_place-numbers}
 use Rattle.xbar_office.specs.Trunks.{AreGroups, leads_inside}
 use Rattle.xbar_office.specs.declared.aim.Aim.TheVariants.{Connected}
 use Rattle.xbar_office.specs.declared.reply.End.TheVariants.{CalledBusy, NoRegister, VacantCode, VacantNumber}
-use Rattle.xbar_jobs.specs.Closing.{leave_effects, leave_of, leaving, made}
+use Rattle.xbar_jobs.specs.Closing.{leave_effects, leave_of, leaving, value_after}
 use Rattle.xbar_jobs.specs.Completing.{call, call_by, call_from, call_line, call_number, call_without, complete_from, complete_steps, hunt, if_register, register_at, unless_busy, unless_calling}
 use Rattle.xbar_jobs.specs.Connecting.{alone}
 use Rattle.xbar_jobs.specs.Office.{office}
@@ -110,7 +110,7 @@ module _ (plan : Tables) (laws : IsLawful plan) where
   leaving_keeps held calling dialled leave alone line let_go =
       let after : Party = party_after (leave_effects leave) calling in
       keeps_then plan IsTaking (IsWellCovered plan) held _ _
-      (keeps_read_with (office plan) IsTaking held (made (leave_effects leave)) _ (call_keeps held after dialled (route_of plan (code_of dialled)) line (route_there (code_of dialled))))
+      (keeps_read_with (office plan) IsTaking held (value_after (leave_effects leave)) _ (call_keeps held after dialled (route_of plan (code_of dialled)) line (route_there (code_of dialled))))
       (λ conns decision still taking. leaving_covered plan conns leave decision alone (leave_held held conns still leave let_go) taking)
 
   -- the register's group is seized first

@@ -1,7 +1,7 @@
 -- what the connectors that are held protect, and what stays held while a script is gone through
 use Rattle.std.proofs.Common.{ℕ, ◌<◌, List, [], ◌∷◌, ◌++◌, refl}
 use Rattle.turns.specs.Among.{IsIn}
-use Rattle.turns.specs.Script.{Ends, Tests, Seizes, ◌>>=◌}
+use Rattle.turns.specs.Script.{Ends, TestThen, SeizeThen, ◌>>=◌}
 use Rattle.turns.specs.System.{IsUnder, KeepsTo}
 use Rattle.turns.proofs.Keeping.{AreAmong, keeps_bind, keeps_map}
 use Rattle.turns.proofs.Lists.{in_front}
@@ -38,8 +38,8 @@ module _ (plan : Tables) where
   pub stays_held : {A : Type 0} (Fits : List Conn → A → Type 0) (own held : List Conn) (script : Script A) → AreAmong own held → KeepsTo (office plan) Fits held script → KeepsTo (office plan) (λ conns found. AreAmong own conns × Fits conns found) held script
   unfolding KeepsTo
   stays_held Fits own held (Ends found) among keeps = (among, keeps)
-  stays_held Fits own held (Tests word script) among keeps = (keeps.0, λ value. stays_held Fits own held (script value) among (keeps.1 value))
-  stays_held Fits own held (Seizes conn script) among keeps = (keeps.0, stays_held Fits own (held ++ conn ∷ []) script (λ c within. one_more held conn c (among c within)) keeps.1)
+  stays_held Fits own held (TestThen word script) among keeps = (keeps.0, λ value. stays_held Fits own held (script value) among (keeps.1 value))
+  stays_held Fits own held (SeizeThen conn script) among keeps = (keeps.0, stays_held Fits own (held ++ conn ∷ []) script (λ c within. one_more held conn c (among c within)) keeps.1)
 
   -- a script and then another, which goes on with what the first one found, and with what was held before it
   pub keeps_then : {A B : Type 0} (Fits : List Conn → A → Type 0) (FitsNext : List Conn → B → Type 0) (held : List Conn) (script : Script A) (next : A → Script B) → KeepsTo (office plan) Fits held script → ((conns : List Conn) (found : A) → AreAmong held conns → Fits conns found → KeepsTo (office plan) FitsNext conns (next found)) → KeepsTo (office plan) FitsNext held (script >>= next)

@@ -2,7 +2,7 @@
 use Rattle.std.proofs.Common.{ℕ, ◌≤◌, List, [], ◌∷◌, ◌++◌, length, refl, arith}
 use Rattle.std.specs.Prelude.{Option, Some, None}
 use Rattle.turns.specs.Bounds.{AreBounded, EndsIn}
-use Rattle.turns.specs.Script.{AsksAtMost, Ends, Tests, Seizes, ◌>>=◌}
+use Rattle.turns.specs.Script.{AsksAtMost, Ends, TestThen, SeizeThen, ◌>>=◌}
 use Rattle.turns.specs.System.{KeepsTo}
 use Rattle.xbar_equip.specs.Len.{Line}
 use Rattle.xbar_equip.specs.Ten.{TrunkPlace}
@@ -74,8 +74,8 @@ script_asks plan (Release line) laws = asks_more 8 4 42 19 (release_steps plan l
 ends_as_kept : (plan : Tables) {A : Type 0} (Fits : List Conn → A → Type 0) (Has : A → Type 0) (held : List Conn) (script : Script A) → ((conns : List Conn) (found : A) → Fits conns found → Has found) → KeepsTo (office plan) Fits held script → EndsIn Has script
 unfolding EndsIn KeepsTo
 ends_as_kept plan Fits Has held (Ends found) has keeps = has held found keeps
-ends_as_kept plan Fits Has held (Tests word script) has keeps = λ value. ends_as_kept plan Fits Has held (script value) has (keeps.1 value)
-ends_as_kept plan Fits Has held (Seizes conn script) has keeps = ends_as_kept plan Fits Has (held ++ conn ∷ []) script has keeps.1
+ends_as_kept plan Fits Has held (TestThen word script) has keeps = λ value. ends_as_kept plan Fits Has held (script value) has (keeps.1 value)
+ends_as_kept plan Fits Has held (SeizeThen conn script) has keeps = ends_as_kept plan Fits Has (held ++ conn ∷ []) script has keeps.1
 
 -- a job tests and seizes no more than there is room for, and has no more effects
 pub jobs_bounded : (plan : Tables) → IsLawful plan → AreBounded (office plan) most_readings most_held most_effects

@@ -20,7 +20,7 @@ use Rattle.xbar_match.proofs.OpenChannels.{first_open_channel-shown, shows_links
 use Rattle.xbar_match.proofs.PathEffects.{close_path-shows, with_path-adds}
 use Rattle.xbar_office.specs.Trial.{called_leg, leg_path, matched, with_called}
 use Rattle.xbar_office.proofs.GoodTrials.{channel_found}
-use Rattle.xbar_jobs.specs.Closing.{effect_word, made, path_closes}
+use Rattle.xbar_jobs.specs.Closing.{effect_word, value_after, path_closes}
 use Rattle.xbar_jobs.specs.Office.{office}
 use Rattle.xbar_jobs.specs.Sides.{Side, Sides, join, join_called, open_path, reached_after, side_after, test_junctors}
 use Rattle.xbar_jobs.specs.declared.effect.Effect.{Effect}
@@ -66,8 +66,8 @@ module _ (plan : Tables) (words : List ℕ) (effects : List Effect) (below : (ef
         let frame = side.party.line.frame in
         let same : 0 + n ≡ n = omega arith in
         junctors_after-index effects frame 0 side.junctors n (omega (arith, range, on.count))
-        ∙ ap (λ (at : ℕ). made effects (word_number (LineJunctor frame at)) (slice_index side.junctors n)) same
-        ∙ ap (made effects (word_number (LineJunctor frame n))) (on.junctors n range)
+        ∙ ap (λ (at : ℕ). value_after effects (word_number (LineJunctor frame at)) (slice_index side.junctors n)) same
+        ∙ ap (value_after effects (word_number (LineJunctor frame n))) (on.junctors n range)
         ∙ sym (perform_index (office plan) words effects (word_number (LineJunctor frame n)) below);
   }
 
@@ -76,7 +76,7 @@ module _ (plan : Tables) (words : List ℕ) (effects : List Effect) (below : (ef
     place = at.place;
     word =
         let number = word_number (TrunkSwitch reached.place.frame reached.place.switch) in
-        ap (made effects number) at.word ∙ sym (perform_index (office plan) words effects number below);
+        ap (value_after effects number) at.word ∙ sym (perform_index (office plan) words effects number below);
   }
 
 -- a side of a call as the tests on these words find it

@@ -3,7 +3,7 @@ use Rattle.std.proofs.Common.{◌≡◌, ℕ, zero, suc, ◌+◌, List, [], ◌�
 use Rattle.std.specs.Prelude.{Option, Some, None, Bool, true, false, Err, ⊤, slice_get}
 use Rattle.std.specs.Option.{option_map_or}
 use Rattle.turns.specs.Attempt.{StandsIn, changed, come_to, goes_on, walks_on, seen_of}
-use Rattle.turns.specs.Script.{Ends, Tests, Seizes, ◌>>=◌, first_wanted, is_held, left, left_of_test, left_of_seizing, value_read, walk}
+use Rattle.turns.specs.Script.{Ends, TestThen, SeizeThen, ◌>>=◌, first_wanted, is_held, left, left_of_test, left_of_seizing, value_read, walk}
 use Rattle.turns.specs.declared.answer.Answer.TheVariants.{Value}
 use Rattle.turns.specs.declared.phase.Phase.TheVariants.{Tests as TestsPhase}
 use Rattle.turns.specs.declared.reading.Reading.{Reading}
@@ -42,37 +42,37 @@ use Rattle.xbar_jobs.specs.declared.trunks.IdleGroup.{IdleGroup}
 -- a script begins with the test of this word
 abbrev pub BeginsWith : {A : Type 0} → ℕ → Script A → Type 0
 BeginsWith number (Ends found) = ⊥
-BeginsWith number (Tests word script) = word ≡ number
-BeginsWith number (Seizes conn script) = ⊥
+BeginsWith number (TestThen word script) = word ≡ number
+BeginsWith number (SeizeThen conn script) = ⊥
 
 -- where a script tests a line junctor switch and others of its frame follow, it goes on to the next one whatever it found
 unfoldable pub KeepsRows : {A : Type 0} → Script A → Type 0
 KeepsRows (Ends found) = ⊤
-KeepsRows (Tests word script) = ((next : ℕ) → IsNextJunctor word next → (value : ℕ) → BeginsWith next (script value)) × ((value : ℕ) → KeepsRows (script value))
-KeepsRows (Seizes conn script) = KeepsRows script
+KeepsRows (TestThen word script) = ((next : ℕ) → IsNextJunctor word next → (value : ℕ) → BeginsWith next (script value)) × ((value : ℕ) → KeepsRows (script value))
+KeepsRows (SeizeThen conn script) = KeepsRows script
 
 begins_bind : {A B : Type 0} (number : ℕ) (script : Script A) (next : A → Script B) → BeginsWith number script → BeginsWith number (script >>= next)
 unfolding ◌>>=◌
 begins_bind number (Ends found) next begins = absurd begins
-begins_bind number (Tests word script) next begins = begins
-begins_bind number (Seizes conn script) next begins = absurd begins
+begins_bind number (TestThen word script) next begins = begins
+begins_bind number (SeizeThen conn script) next begins = absurd begins
 
 rows_bind : {A B : Type 0} (script : Script A) (next : A → Script B) → KeepsRows script → ((found : A) → KeepsRows (next found)) → KeepsRows (script >>= next)
 unfolding KeepsRows ◌>>=◌
 rows_bind (Ends found) next rows later = later found
-rows_bind (Tests word script) next rows later =
+rows_bind (TestThen word script) next rows later =
     (λ number is value. begins_bind number (script value) next (rows.0 number is value), λ value. rows_bind (script value) next (rows.1 value) later)
-rows_bind (Seizes conn script) next rows later = rows_bind script next rows later
+rows_bind (SeizeThen conn script) next rows later = rows_bind script next rows later
 
 -- what is left of such a script is such a script
 rows_left : {A : Type 0} (seen : Seen) (script : Script A) → KeepsRows script → KeepsRows (left conn_eq seen script)
 unfolding KeepsRows left left_of_test left_of_seizing
 rows_left seen (Ends found) rows = rows
-rows_left seen (Tests word script) rows = at (value_read seen.readings word) (λ value. rows_left seen (script value) (rows.1 value)) where
+rows_left seen (TestThen word script) rows = at (value_read seen.readings word) (λ value. rows_left seen (script value) (rows.1 value)) where
   at : (o : Option ℕ) → ((value : ℕ) → KeepsRows (left conn_eq seen (script value))) → KeepsRows (left_of_test script (λ value. left conn_eq seen (script value)) word o)
   at None later = rows
   at (Some value) later = later value
-rows_left seen (Seizes conn script) rows = at (is_held conn_eq seen.held conn) (rows_left seen script rows) where
+rows_left seen (SeizeThen conn script) rows = at (is_held conn_eq seen.held conn) (rows_left seen script rows) where
   at : (b : Bool) → KeepsRows (left conn_eq seen script) → KeepsRows (left_of_seizing script (left conn_eq seen script) conn b)
   at false later = rows
   at true later = later
@@ -80,14 +80,14 @@ rows_left seen (Seizes conn script) rows = at (is_held conn_eq seen.held conn) (
 begins_wanted : {A : Type 0} (more : Seen) (next : ℕ) (script : Script A) → BeginsWith next script → value_read more.readings next ≡ None → first_wanted (left conn_eq more script) ≡ Err (Test next)
 unfolding left left_of_test first_wanted
 begins_wanted more next (Ends found) begins unread = absurd begins
-begins_wanted more next (Tests word rest) begins unread = rw (ap (value_read more.readings) begins ∙ unread) (ap (λ (n : ℕ). Err (Test n)) begins)
-begins_wanted more next (Seizes conn rest) begins unread = absurd begins
+begins_wanted more next (TestThen word rest) begins unread = rw (ap (value_read more.readings) begins ∙ unread) (ap (λ (n : ℕ). Err (Test n)) begins)
+begins_wanted more next (SeizeThen conn rest) begins unread = absurd begins
 
 goes_on_at : {A : Type 0} (more : Seen) (number next : ℕ) (rest : Script A) → KeepsRows rest → IsNextJunctor number next → (value : ℕ) × (value_read more.readings number ≡ Some value) → value_read more.readings next ≡ None → first_wanted rest ≡ Err (Test number) → first_wanted (left conn_eq more rest) ≡ Err (Test next)
 unfolding KeepsRows left left_of_test first_wanted
 goes_on_at more number next (Ends found) rows is own unread wants = absurd cc
-goes_on_at more number next (Seizes conn rest) rows is own unread wants = absurd cc
-goes_on_at {A} more number next (Tests word rest) rows is own unread wants =
+goes_on_at more number next (SeizeThen conn rest) rows is own unread wants = absurd cc
+goes_on_at {A} more number next (TestThen word rest) rows is own unread wants =
     let same : word ≡ number = cc in
     rw (ap (value_read more.readings) same ∙ own.1) (begins_wanted more next (rest own.0) (rows.0 next (subst (λ (n : ℕ). IsNextJunctor n next) (sym same) is) own.0) unread)
 

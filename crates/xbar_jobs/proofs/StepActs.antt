@@ -7,7 +7,7 @@ use Rattle.turns.specs.World.{place}
 use Rattle.xbar_plan.specs.Tables.{Tables}
 use Rattle.xbar_jobs.specs.Attempt.{Act, step_of}
 use Rattle.xbar_jobs.specs.Office.{office}
-use Rattle.xbar_jobs.specs.OnWords.{answered, operation, step_word}
+use Rattle.xbar_jobs.specs.OnWords.{step_answer, operation, step_word}
 use Rattle.xbar_jobs.specs.declared.effect.Effect.TheVariants.{Close, Open, SetBit, ClearBit}
 use Rattle.xbar_jobs.specs.declared.step.Step.TheVariants as step
 
@@ -37,7 +37,7 @@ act_operation plan marker (Make (Open c)) = refl
 act_operation plan marker (Make (SetBit number index)) = refl
 act_operation plan marker (Make (ClearBit number index)) = refl
 
-pub act_answer : (plan : Tables) (marker : ℕ) (act : Act) (found : ℕ) → answered marker (step_of act) found ≡ generic.answered (office plan) marker act found
+pub act_answer : (plan : Tables) (marker : ℕ) (act : Act) (found : ℕ) → step_answer marker (step_of act) found ≡ generic.answer_to (office plan) marker act found
 act_answer plan marker Rest found = refl
 act_answer plan marker (Ask conn) found = refl
 act_answer plan marker (Take conn expected) found = refl

@@ -5,7 +5,7 @@ use Rattle.turns.specs.Script.{◌>>=◌, run}
 use Rattle.turns.proofs.Walks.{run_bind}
 use Rattle.xbar_equip.specs.Word.{word_number, LineJunctor}
 use Rattle.xbar_match.specs.Switches.{word_of}
-use Rattle.xbar_jobs.specs.Closing.{made}
+use Rattle.xbar_jobs.specs.Closing.{value_after}
 use Rattle.xbar_jobs.specs.Sides.{junctors_after, test_junctors}
 use Rattle.xbar_jobs.specs.declared.effect.Effect.{Effect}
 
@@ -35,11 +35,11 @@ length-junctors_after effects frame channel [] = refl
 length-junctors_after effects frame channel (word ∷ words) = ap suc (length-junctors_after effects frame (channel + 1) words)
 
 -- and each of them is what effects make of it
-pub junctors_after-index : (effects : List Effect) (frame channel : ℕ) (words : List ℕ) (n : ℕ) → n < length words → slice_index (junctors_after effects frame channel words) n ≡ made effects (word_number (LineJunctor frame (channel + n))) (slice_index words n)
+pub junctors_after-index : (effects : List Effect) (frame channel : ℕ) (words : List ℕ) (n : ℕ) → n < length words → slice_index (junctors_after effects frame channel words) n ≡ value_after effects (word_number (LineJunctor frame (channel + n))) (slice_index words n)
 junctors_after-index effects frame channel [] n below = absurd (omega arith)
 junctors_after-index effects frame channel (word ∷ words) zero below =
     let same : channel ≡ channel + zero = omega arith in
-    ap (λ (at : ℕ). made effects (word_number (LineJunctor frame at)) word) same
+    ap (λ (at : ℕ). value_after effects (word_number (LineJunctor frame at)) word) same
 junctors_after-index effects frame channel (word ∷ words) (suc n) below =
     let same : channel + 1 + n ≡ channel + suc n = omega arith in
-    junctors_after-index effects frame (channel + 1) words n (omega arith) ∙ ap (λ (at : ℕ). made effects (word_number (LineJunctor frame at)) (slice_index words n)) same
+    junctors_after-index effects frame (channel + 1) words n (omega arith) ∙ ap (λ (at : ℕ). value_after effects (word_number (LineJunctor frame at)) (slice_index words n)) same

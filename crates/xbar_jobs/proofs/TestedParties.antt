@@ -12,7 +12,7 @@ use Rattle.xbar_match.specs.Switches.{word_of}
 use Rattle.xbar_match.proofs.PathEffects.{crosspoint_line, crosspoint_line_junctor, crosspoint_trunk_junctor, crosspoint_trunk}
 use Rattle.xbar_office.specs.declared.trial.Parties.{Parties}
 use Rattle.xbar_plan.specs.Tables.{Tables}
-use Rattle.xbar_jobs.specs.Closing.{effect_word, made, path_closes, path_opens}
+use Rattle.xbar_jobs.specs.Closing.{effect_word, value_after, path_closes, path_opens}
 use Rattle.xbar_jobs.specs.Office.{office}
 use Rattle.xbar_jobs.specs.Sides.{party_after}
 use Rattle.xbar_jobs.specs.declared.effect.Effect.{Effect}
@@ -65,5 +65,5 @@ party_after-tested plan words effects below party tested = record {
   line = tested.line;
   word =
       let number = word_number (LineSwitch party.line.frame party.line.switch) in
-      ap (made effects number) tested.word ∙ sym (perform_index (office plan) words effects number below);
+      ap (value_after effects number) tested.word ∙ sym (perform_index (office plan) words effects number below);
 }

@@ -14,7 +14,7 @@ use Rattle.xbar_office.specs.declared.reply.End.TheVariants.{Released}
 use Rattle.xbar_office.specs.declared.two_trials.Choice.{Choice}
 use Rattle.xbar_office.specs.declared.two_trials.Trials.{Trials}
 use Rattle.turns.specs.Operations.{applied}
-use Rattle.turns.specs.System.{made_by}
+use Rattle.turns.specs.System.{fold_effects}
 use Rattle.turns.specs.declared.operation.Operation.{Operation}
 use Rattle.turns.specs.declared.operation.Operation.TheVariants.{Or, And}
 use Rattle.xbar_jobs.specs.declared.decision.Decision.{Decision}
@@ -96,8 +96,8 @@ abbrev pub effect_on : Effect → ℕ → ℕ
 effect_on effect word = applied (operation_of effect) word
 
 -- what effects, one after another, make of the number in a word
-abbrev pub made : List Effect → ℕ → ℕ → ℕ
-made effects word value = made_by effect_word effect_on effects word value
+abbrev pub value_after : List Effect → ℕ → ℕ → ℕ
+value_after effects word value = fold_effects effect_word effect_on effects word value
 
 -- an effect is due on its word: what it closes is open there, what it opens is closed
 abbrev pub IsDue : Effect → ℕ → Type 0

@@ -1,5 +1,5 @@
 use Rattle.std.specs.Prelude.{ℕ, ◌-◌, ◌^◌, ◌==◌, List, bit_or, slice_index, slice_set, if◌then◌else◌}
-use Rattle.turns.specs.Attempt.{told}
+use Rattle.turns.specs.Attempt.{unless_put_off}
 use Rattle.turns.specs.Operations.{applied}
 use Rattle.turns.specs.Sharings.{judged, request_bit, taken_by}
 use Rattle.turns.specs.declared.answer.Answer.{Answer}
@@ -35,21 +35,21 @@ operation marker (Free conn) = And (2 ^ 64 - 1 - 63)
 operation marker Finished = Load
 
 -- what the marker is told of a step that found this number
-abbrev pub answered : ℕ → Step → ℕ → Answer
-answered marker (Request conn) found = told (Asked (bit_or found (request_bit marker))) (judged marker (bit_or found (request_bit marker)))
-answered marker (Seize conn expected) found = if found == expected then Seized else told (Again found) (judged marker found)
-answered marker (Withdraw conn) found = Done
-answered marker (Test word) found = Value found
-answered marker Turn found = TurnNumber found
-answered marker (Close word bits) found = Done
-answered marker (Open word mask) found = Done
-answered marker (Free conn) found = Done
-answered marker Finished found = Done
+abbrev pub step_answer : ℕ → Step → ℕ → Answer
+step_answer marker (Request conn) found = unless_put_off (Asked (bit_or found (request_bit marker))) (judged marker (bit_or found (request_bit marker)))
+step_answer marker (Seize conn expected) found = if found == expected then Seized else unless_put_off (Again found) (judged marker found)
+step_answer marker (Withdraw conn) found = Done
+step_answer marker (Test word) found = Value found
+step_answer marker Turn found = TurnNumber found
+step_answer marker (Close word bits) found = Done
+step_answer marker (Open word mask) found = Done
+step_answer marker (Free conn) found = Done
+step_answer marker Finished found = Done
 
 -- the words after a marker's step
-abbrev pub made : ℕ → Step → List ℕ → List ℕ
-made marker step words = slice_set words (step_word step) (applied (operation marker step) (slice_index words (step_word step)))
+abbrev pub words_after : ℕ → Step → List ℕ → List ℕ
+words_after marker step words = slice_set words (step_word step) (applied (operation marker step) (slice_index words (step_word step)))
 
 -- what the marker is told of it
 abbrev pub answer_of : ℕ → Step → List ℕ → Answer
-answer_of marker step words = answered marker step (slice_index words (step_word step))
+answer_of marker step words = step_answer marker step (slice_index words (step_word step))

@@ -5,7 +5,7 @@ use Rattle.turns.specs.declared.wanted.Wanted as wanted
 use Rattle.xbar_equip.specs.Conn.{conn_eq}
 use Rattle.xbar_equip.specs.Word.{Word, word_number}
 use Rattle.xbar_equip.specs.declared.conn.Conn.{Conn}
-use Rattle.xbar_jobs.specs.Closing.{made}
+use Rattle.xbar_jobs.specs.Closing.{value_after}
 use Rattle.xbar_jobs.specs.declared.effect.Effect.{Effect}
 
 -- what a marker is to do until it can decide, with the office's connectors as locks
@@ -29,4 +29,4 @@ walk seen script = generic.walk conn_eq seen script
 
 -- a script that reads words as effects will leave them
 abbrev pub as_if_made : {A : Type 0} → List Effect → Script A → Script A
-as_if_made effects script = generic.read_with (made effects) script
+as_if_made effects script = generic.read_with (value_after effects) script

@@ -8,7 +8,7 @@ use Rattle.xbar_match.specs.Channels.{match_words, first_open_channel}
 use Rattle.xbar_plan.specs.declared.group.Member.{Member}
 use Rattle.xbar_office.specs.declared.trial.CallPaths.{CallPaths}
 use Rattle.turns.specs.Script.{Ends, ◌>>=◌, ◌>>◌, seize}
-use Rattle.xbar_jobs.specs.Closing.{made, path_closes}
+use Rattle.xbar_jobs.specs.Closing.{value_after, path_closes}
 use Rattle.xbar_jobs.specs.Script.{Script, test}
 use Rattle.xbar_jobs.specs.declared.effect.Effect.{Effect}
 use Rattle.xbar_jobs.specs.declared.party.CallParties.{CallParties}
@@ -87,18 +87,18 @@ open_path side start reached =
 
 -- a party's word as effects will leave it
 abbrev pub party_after : List Effect → Party → Party
-party_after effects party = record { line = party.line; word = made effects (word_number (LineSwitch party.line.frame party.line.switch)) party.word }
+party_after effects party = record { line = party.line; word = value_after effects (word_number (LineSwitch party.line.frame party.line.switch)) party.word }
 
 -- the same of line junctor switches, from a channel on
 abbrev pub junctors_after : List Effect → ℕ → ℕ → List ℕ → List ℕ
 junctors_after effects frame channel [] = []
-junctors_after effects frame channel (word ∷ words) = made effects (word_number (LineJunctor frame channel)) word ∷ junctors_after effects frame (channel + 1) words
+junctors_after effects frame channel (word ∷ words) = value_after effects (word_number (LineJunctor frame channel)) word ∷ junctors_after effects frame (channel + 1) words
 
 abbrev pub side_after : List Effect → Side → Side
 side_after effects side = record { party = party_after effects side.party; junctors = junctors_after effects side.party.line.frame 0 side.junctors }
 
 abbrev pub reached_after : List Effect → Reached → Reached
-reached_after effects reached = record { place = reached.place; word = made effects (word_number (TrunkSwitch reached.place.frame reached.place.switch)) reached.word }
+reached_after effects reached = record { place = reached.place; word = value_after effects (word_number (TrunkSwitch reached.place.frame reached.place.switch)) reached.word }
 
 -- the called side is joined to the second place as the words will be once the calling path is closed, with the same start
 abbrev pub join_called : Option Side → ℕ → Option Reached → Path → Option CallPaths

@@ -3,7 +3,7 @@
 ghost use Rattle.std.specs.Prelude.{◌≡◌, ◌≤◌, ◌+◌, ◌++◌};
 ghost use Rattle.arrayvec.specs.ArrayVec.{array_vec_len};
 ghost use Rattle.xbar_equip.specs.Path.{IsPath};
-ghost use Rattle.xbar_jobs.specs.Closing.{made as made_of, path_closes, path_opens};
+ghost use Rattle.xbar_jobs.specs.Closing.{value_after as made_of, path_closes, path_opens};
 ghost use Rattle.xbar_jobs.specs.Keeping.{AreEffects};
 
 use crate::effect::Effect;

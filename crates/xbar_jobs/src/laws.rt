@@ -6,7 +6,7 @@ ghost use Rattle.std.specs.Prelude.{◌≡◌, ◌+◌, ◌≤◌, ℕ, [], List
 ghost use mathlib.Core.Option.{some};
 ghost use lib.ListN.{get_elem?};
 ghost use Rattle.turns.specs.Among.{IsIn};
-ghost use Rattle.turns.specs.Attempt.{HasDecided, Free, act, answered as told_of, begin};
+ghost use Rattle.turns.specs.Attempt.{HasDecided, Free, act, answer_to as told_of, begin};
 ghost use Rattle.turns.specs.Bounds.{AreBounded, AreSteady};
 ghost use Rattle.turns.specs.Script.{value_read};
 ghost use Rattle.turns.specs.Seen.{AreReadFrom};
@@ -27,7 +27,7 @@ ghost use Rattle.xbar_jobs.specs.Attempt.{Act, Attempt, step_of};
 ghost use Rattle.xbar_jobs.specs.Jobs.{script};
 ghost use Rattle.xbar_jobs.specs.Keeping.{IsCovered};
 ghost use Rattle.xbar_jobs.specs.Office.{ShowsOffice, office};
-ghost use Rattle.xbar_jobs.specs.OnWords.{answered, operation, step_word};
+ghost use Rattle.xbar_jobs.specs.OnWords.{step_answer, operation, step_word};
 ghost use Rattle.xbar_jobs.specs.Opening.{ReleasesJust};
 ghost use Rattle.xbar_jobs.specs.Script.{Script, Seen, walk};
 ghost use Rattle.xbar_jobs.specs.declared.decision.Decision.{Decision};
@@ -60,7 +60,7 @@ pub fn steps_do_what_their_acts_do()
     ensures word { (plan : Tables) (act : Act) → step_word (step_of act) ≡ place (office plan) act }
     ensures operation { (plan : Tables) (marker : ℕ) (act : Act) →
         operation marker (step_of act) ≡ act_operation (office plan) marker act }
-    ensures answer { (plan : Tables) (marker : ℕ) (act : Act) (found : ℕ) → answered marker (step_of act) found ≡ told_of (office plan) marker act found }
+    ensures answer { (plan : Tables) (marker : ℕ) (act : Act) (found : ℕ) → step_answer marker (step_of act) found ≡ told_of (office plan) marker act found }
 {}
 
 /// Past the turn what is held is freed last: once no effect is left.

@@ -1,7 +1,7 @@
 ghost use Rattle.std.specs.Prelude.{◌≡◌};
 ghost use Rattle.xbar_equip.specs.Conn.{conn_eq};
 ghost use Rattle.turns.specs.Script.{is_held as is_held_of};
-ghost use Rattle.turns.specs.Script.{Tests, Ends, seize as seize_script};
+ghost use Rattle.turns.specs.Script.{TestThen, Ends, seize as seize_script};
 ghost use Rattle.xbar_jobs.specs.Script.{walk};
 
 use crate::effect::Effect;
@@ -28,7 +28,7 @@ pub struct Seen<'a, 'm> {
 
 impl<'a, 'm> Model for Seen<'a, 'm> {
     ghost use Rattle.turns.specs.Seen.{changed_readings};
-    ghost use Rattle.xbar_jobs.specs.Closing.{made as made_by};
+    ghost use Rattle.xbar_jobs.specs.Closing.{value_after as made_by};
     ghost use Rattle.xbar_jobs.specs.Keeping.{AreEffects};
     ghost use Rattle.xbar_jobs.specs.Script.{Seen};
 
@@ -58,7 +58,7 @@ fn is_held(held: &[Conn], conn: Conn, place: &Cell<usize>) -> bool
 
 impl<'a, 'm> Seen<'a, 'm> {
     ghost use Rattle.turns.specs.Seen.{changed_readings};
-    ghost use Rattle.xbar_jobs.specs.Closing.{made as made_by};
+    ghost use Rattle.xbar_jobs.specs.Closing.{value_after as made_by};
     ghost use Rattle.xbar_jobs.specs.Keeping.{AreEffects};
 
     #[tactic(auto, using(crate::proofs::SeenTests::unchanged_readings))]
@@ -97,7 +97,7 @@ impl<'a, 'm> Seen<'a, 'm> {
     /// Goes on with the word's value where it was read.
     #[tactic(auto, unfolding(turns::specs::Script::walk, turns::specs::Script::left, turns::specs::Script::left_of_test, turns::specs::Script::first_wanted))]
     pub fn test(&self, word: WordNo) -> Result<u64, Wanted>
-        ensures { result ≡ walk self.now (Tests word Ends) }
+        ensures { result ≡ walk self.now (TestThen word Ends) }
     {
         let value = self
             .readings

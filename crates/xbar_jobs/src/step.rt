@@ -1,7 +1,7 @@
 ghost use Rattle.std.specs.Prelude.{◌≡◌, ◌≢◌, ◌<◌, length};
-ghost use Rattle.turns.specs.Attempt.{IsAnswerTo, told};
+ghost use Rattle.turns.specs.Attempt.{IsAnswerTo, unless_put_off};
 ghost use Rattle.xbar_equip.specs.Word.{word_count};
-ghost use Rattle.xbar_jobs.specs.OnWords.{step_word, operation as operation_of, answered, made, answer_of};
+ghost use Rattle.xbar_jobs.specs.OnWords.{step_word, operation as operation_of, step_answer, words_after, answer_of};
 ghost use Rattle.xbar_jobs.specs.Attempt.{Act, step_of};
 ghost use Rattle.xbar_jobs.specs.Turning.{IsStep};
 
@@ -34,7 +34,7 @@ pub enum Step {
 
 /// The answer to a request or a seizing that may go on by this one.
 fn tell(answer: Answer, judgement: Judgement) -> Answer
-    ensures { result ≡ told answer judgement }
+    ensures { result ≡ unless_put_off answer judgement }
 {
     match judgement {
         Judgement::Free => answer,
@@ -81,7 +81,7 @@ impl Step {
     /// What the marker is told of its step that found this number.
     pub fn answer(&self, marker: u32, found: u64) -> Answer
         requires { marker < 48 }
-        ensures { result ≡ answered marker self.now found }
+        ensures { result ≡ step_answer marker self.now found }
     {
         match self {
             Step::Request(_) => {
@@ -110,7 +110,7 @@ impl Step {
         requires step { IsStep self.now }
         requires marker { marker < 48 }
         requires words { length words.old ≡ word_count }
-        ensures words { words.new ≡ made marker self.now words.old }
+        ensures words { words.new ≡ words_after marker self.now words.old }
         ensures answer { result ≡ answer_of marker self.now words.old }
         ensures kind { (act : Act) → self.now ≡ step_of act → self.now ≢ Step.Finished → IsAnswerTo act result }
     {

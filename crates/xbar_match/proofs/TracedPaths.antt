@@ -17,7 +17,7 @@ use Rattle.xbar_switch.specs.declared.shape.Shape.{Shape}
 use Rattle.xbar_switch.specs.declared.shape.Shape.TheVariants.{Line as LineShape, Other}
 use Rattle.xbar_match.specs.Switches.{shape_at, held_at, word_of}
 use Rattle.xbar_match.specs.Shows.{AreInRange, ShowsPaths}
-use Rattle.xbar_match.specs.Traces.{field_at_place, told, place_at_field, traced, traced_by, traced_to, traced_at, traced_back, traced_back_by, traced_back_to, traced_back_at}
+use Rattle.xbar_match.specs.Traces.{field_at_place, place_told, place_at_field, traced, traced_by, traced_to, traced_at, traced_back, traced_back_by, traced_back_to, traced_back_at}
 use Rattle.xbar_match.proofs.SwitchShapes.{shape_at-line_switch, shape_at-line_junctor, shape_at-trunk_switch, shape_at-trunk_junctor}
 use Rattle.xbar_match.proofs.PathCrosspoints.{which, AtLineSwitch, AtLineJunctor, AtTrunkJunctor, AtTrunkSwitch, at_line_switch, at_line_junctor, at_trunk_junctor, at_trunk_switch, line_link_at, trunk_link_at}
 
@@ -94,8 +94,8 @@ no_field : (shape : Shape) (word place : ℕ) → ((j : ℕ) → j < 10 → fiel
 no_field shape word place never = first_below-none (λ j. field_of shape word j == 1 + place) 10 (λ j below. ne_eqb _ _ (never j below))
 
 -- what a field tells
-told-place : (shape : Shape) (held place : ℕ) → place < places shape → held ≡ 1 + place → told shape held ≡ Some place
-told-place shape held place in_range e = ap (told shape) (e ∙ one-add place) ∙ in_turn (nat_lt place (places shape)) (lt-ltb _ _ in_range) where
+told-place : (shape : Shape) (held place : ℕ) → place < places shape → held ≡ 1 + place → place_told shape held ≡ Some place
+told-place shape held place in_range e = ap (place_told shape) (e ∙ one-add place) ∙ in_turn (nat_lt place (places shape)) (lt-ltb _ _ in_range) where
   in_turn : (b : Bool) → b ≡ true → (if b then Some place else None) ≡ Some place
   in_turn b is = rw is refl
 

@@ -17,13 +17,13 @@ abbrev pub field_at_place : Shape → ℕ → ℕ → Option ℕ
 field_at_place shape word place = first_below (λ v. field_of shape word v == 1 + place) 10
 
 -- the place that a value tells: none for 0, and none past the last place
-abbrev pub told : Shape → ℕ → Option ℕ
-told shape zero = None
-told shape (suc place) = if nat_lt place (places shape) then Some place else None
+abbrev pub place_told : Shape → ℕ → Option ℕ
+place_told shape zero = None
+place_told shape (suc place) = if nat_lt place (places shape) then Some place else None
 
 -- the place that a field is closed at
 abbrev pub place_at_field : Shape → ℕ → ℕ → Option ℕ
-place_at_field shape word v = told shape (field_of shape word v)
+place_at_field shape word v = place_told shape (field_of shape word v)
 
 -- a line's path, once channel, trunk link frame and trunk switch are known
 abbrev pub traced_at : List ℕ → Line → ℕ → ℕ → ℕ → Option Path

@@ -49,13 +49,13 @@ faulty_or_chosen call None = Chosen call
 faulty_or_chosen call (Some link) = Faulty link
 
 -- chosen paths are looked through for the first link that is out of order, the calling path's links first
-abbrev pub tested : Tables → CallPaths → TrialEnd
-tested plan call = faulty_or_chosen call (find (is_faulty plan) (links call.calling ++ called_links call.called))
+abbrev pub end_of_chosen : Tables → CallPaths → TrialEnd
+end_of_chosen plan call = faulty_or_chosen call (find (is_faulty plan) (links call.calling ++ called_links call.called))
 
 -- a trial ends without a channel, or as its chosen paths are
 abbrev pub end_of : Tables → Option CallPaths → TrialEnd
 end_of plan None = NoChannel
-end_of plan (Some call) = tested plan call
+end_of plan (Some call) = end_of_chosen plan call
 
 -- a trial: join the parties to a member, with this start of the channel test
 abbrev pub trial : Tables → List Path → ℕ → Parties → Member → TrialEnd

@@ -2,7 +2,7 @@
 
 ghost use Rattle.std.specs.Prelude.{◌≡◌, ◌<◌, find};
 ghost use Rattle.xbar_plan.specs.Tables.{is_faulty};
-ghost use Rattle.xbar_office.specs.Trial.{called_leg as called_leg_of, with_called as with_called_of, matched as matched_of, links, called_links, tested as tested_of, trial as trial_of};
+ghost use Rattle.xbar_office.specs.Trial.{called_leg as called_leg_of, with_called as with_called_of, matched as matched_of, links, called_links, end_of_chosen as tested_of, trial as trial_of};
 
 use crate::sets::find_path;
 use xbar_equip::{Len, Link, Path, Ten};

@@ -2,7 +2,7 @@ use Rattle.std.proofs.Common.{◌∙◌, ap, sym, arith, List}
 use Rattle.std.proofs.lemmas.List.{at_drop_all}
 use Rattle.turns.specs.Operations.{applied}
 use Rattle.turns.specs.declared.operation.Operation.{Operation}
-use Rattle.xbar_jobs.specs.Closing.{made}
+use Rattle.xbar_jobs.specs.Closing.{value_after}
 use Rattle.xbar_jobs.specs.declared.effect.Effect.{Effect}
 use Rattle.xbar_jobs.proofs.Items.{item_within}
 use Rattle.xbar_jobs.proofs.MadeWords.{next_made}
@@ -22,4 +22,4 @@ loop-effect-preserved c = elim c.if-eq.branch [
 ]
 
 pub returns : goal.returns
-returns c = sym (at_drop_all (λ (effects : List Effect). made effects c.args.word c.loop-effect.value) c.args.effects.now c.loop-effect.effect-index (omega (arith, c.loop-effect-test.false))) ∙ c.loop-effect.invariant
+returns c = sym (at_drop_all (λ (effects : List Effect). value_after effects c.args.word c.loop-effect.value) c.args.effects.now c.loop-effect.effect-index (omega (arith, c.loop-effect-test.false))) ∙ c.loop-effect.invariant

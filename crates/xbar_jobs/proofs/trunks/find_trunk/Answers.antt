@@ -1,6 +1,6 @@
 use Rattle.std.proofs.Common.{◌≡◌, ℕ, rules, arith, ◌<◌, length, slice_index, None, Err, sym, ap, subst, ◌∙◌}
 use Rattle.std.proofs.lemmas.Option.{slice_get-get_or}
-use Rattle.turns.specs.Script.{Tests, Ends}
+use Rattle.turns.specs.Script.{TestThen, Ends}
 use Rattle.xbar_jobs.specs.Script.{walk}
 use Rattle.xbar_equip.specs.First.{first_below}
 use Rattle.xbar_jobs.specs.Trunks.{Trunks, first_clear, is_bit_clear, trunks_of}
@@ -20,7 +20,7 @@ group_word-requires c =
 pub returns-in_err-word-clause-walk : goal.returns-in_err-word-clause-walk
 returns-in_err-word-clause-walk c =
     let wanted : c.from_residual-in_err-word.result ≡ Err c.in_err-word.field-0.0 = search rules in
-    let read = ap (λ (number : ℕ). walk c.args.seen.now (Tests number Ends)) (sym c.group_word.ensures) ∙ sym c.test.ensures ∙ c.in_err-word.was in
+    let read = ap (λ (number : ℕ). walk c.args.seen.now (TestThen number Ends)) (sym c.group_word.ensures) ∙ sym c.test.ensures ∙ c.in_err-word.was in
     wanted ∙ sym (testing_stops c.args.plan.now c.args.seen.now c.args.groups.now c.loop-group.group-index c.loop-group-test.true _ (sym c.seize.ensures ∙ c.in_ok-seize.was) _ read) ∙ c.loop-group.invariant
 
 pub trunks_of-trunks-requires : goal.trunks_of-trunks-requires
@@ -30,7 +30,7 @@ pub returns-in-Some-clause-walk : goal.returns-in-Some-clause-walk
 returns-in-Some-clause-walk c =
     let first : c.first_clear.result ≡ first_clear (trunks_of c.args.plan.now (slice_index c.args.groups.now c.loop-group.group-index) c.in_ok-word.word) =
     c.first_clear.ensures.first ∙ ap (λ (trunks : Trunks). first_below (is_bit_clear c.in_ok-word.word) (length trunks.members)) (c.trunks.view_is ∙ c.trunks_of-trunks.ensures.trunks) in
-    let read = ap (λ (number : ℕ). walk c.args.seen.now (Tests number Ends)) (sym c.group_word.ensures) ∙ sym c.test.ensures ∙ c.in_ok-word.was in
+    let read = ap (λ (number : ℕ). walk c.args.seen.now (TestThen number Ends)) (sym c.group_word.ensures) ∙ sym c.test.ensures ∙ c.in_ok-word.was in
     sym (idle_taken c.args.plan.now c.args.seen.now c.args.groups.now c.loop-group.group-index c.loop-group-test.true _ (sym c.seize.ensures ∙ c.in_ok-seize.was) _ read _ first _ c.in-Some.is) ∙ c.loop-group.invariant
 
 pub returns-in-Some-clause-range : goal.returns-in-Some-clause-range
@@ -44,7 +44,7 @@ loop-group-preserved c =
     let first : c.first_clear.result ≡ first_clear (trunks_of c.args.plan.now (slice_index c.args.groups.now c.loop-group.group-index) c.in_ok-word.word) =
     c.first_clear.ensures.first ∙ ap (λ (trunks : Trunks). first_below (is_bit_clear c.in_ok-word.word) (length trunks.members)) (c.trunks.view_is ∙ c.trunks_of-trunks.ensures.trunks) in
     let none : c.first_clear.result ≡ None = search rules in
-    let read = ap (λ (number : ℕ). walk c.args.seen.now (Tests number Ends)) (sym c.group_word.ensures) ∙ sym c.test.ensures ∙ c.in_ok-word.was in
+    let read = ap (λ (number : ℕ). walk c.args.seen.now (TestThen number Ends)) (sym c.group_word.ensures) ∙ sym c.test.ensures ∙ c.in_ok-word.was in
     sym (busy_passed c.args.plan.now c.args.seen.now c.args.groups.now c.loop-group.group-index c.loop-group-test.true _ (sym c.seize.ensures ∙ c.in_ok-seize.was) _ read _ first none) ∙ c.loop-group.invariant
 
 pub returns-clause-walk : goal.returns-clause-walk

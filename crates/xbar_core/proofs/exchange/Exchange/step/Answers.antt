@@ -1,6 +1,6 @@
 use Rattle.std.proofs.Common.{◌<◌, length, sym, ◌∙◌, ap, subst, arith}
 use Rattle.xbar_core.specs.Exchange.{Exchange, OfPlan}
-use Rattle.xbar_core.specs.Moves.{event_at_step, event_by, stepped}
+use Rattle.xbar_core.specs.Moves.{event_at_step, event_by, after_step}
 use Rattle.xbar_core.specs.Standing.{HasRoom, IsExchange}
 use Rattle.xbar_core.proofs.Markers.{waits_among}
 use Rattle.xbar_core.proofs.Kept.{kept_stepped, room_stepped}
@@ -22,7 +22,7 @@ invariant_of-self c =
     let within : k < length e.markers = omega (arith, ap (λ (o : OfPlan). length o.exchange.markers) c.self.view_is) in
     let there = marker_read e.markers k c.index_mut.result.now within c.index_mut.ensures.value in
     let is = sym (step_whole plan e k c.self.inside.words.len _ _ _ _ c.as_mut_slice.ensures.value c.self.inside.words.ok.0 c.step.auto.words (c.step.ensures.step e.markers there)) in
-    let room : HasRoom (stepped plan k e) c.step.new.records.cap = omega (arith, room_stepped plan e k c.self.inside.records.cap c.self.invariant.1, c.step.ensures.room) in
+    let room : HasRoom (after_step plan k e) c.step.new.records.cap = omega (arith, room_stepped plan e k c.self.inside.records.cap c.self.invariant.1, c.step.ensures.room) in
     (subst (IsExchange plan) is (kept_stepped plan c.every_plan_is_lawful.ensures e k c.self.invariant.0), subst (λ (x : Exchange). HasRoom x c.step.new.records.cap) is room)
 
 pub returns-clause-step : goal.returns-clause-step
@@ -33,7 +33,7 @@ returns-clause-step c =
     let within : k < length e.markers = omega (arith, ap (λ (o : OfPlan). length o.exchange.markers) c.self.view_is) in
     let there = marker_read e.markers k c.index_mut.result.now within c.index_mut.ensures.value in
     let is = step_whole plan e k c.self.inside.words.len _ _ _ _ c.as_mut_slice.ensures.value c.self.inside.words.ok.0 c.step.auto.words (c.step.ensures.step e.markers there) in
-    ap (λ (x : Exchange). record { plan = plan; exchange = x }) is ∙ ap (λ (o : OfPlan). record { plan = o.plan; exchange = stepped o.plan k o.exchange }) c.self.view_is
+    ap (λ (x : Exchange). record { plan = plan; exchange = x }) is ∙ ap (λ (o : OfPlan). record { plan = o.plan; exchange = after_step o.plan k o.exchange }) c.self.view_is
 
 pub returns-clause-event : goal.returns-clause-event
 returns-clause-event c =
