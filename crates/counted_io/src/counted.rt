@@ -84,11 +84,15 @@ impl<T: Read> Read for Counted<T> {
 
     fn read(&mut self, buf: &mut [u8]) -> io::Result<usize>
         ensures bound { ReadsAtMost result buf.new }
-        ensures bytes { ReadConsumes (T.remaining (counted_inner self.old)) (T.remaining (counted_inner self.new)) result buf.new }
+        ensures bytes { ReadConsumes (T.remaining (counted_inner self.old))
+            (T.remaining (counted_inner self.new)) result buf.new }
         ensures ok { OnOk result (counted_failures self.new ≡ counted_failures self.old) }
-        ensures err { OnErr result (counted_failures self.new ≡ one_more (counted_failures self.old)) }
-        ensures some_given { IfOk result (λ count. 0 < count → counted_reads self.new ≡ one_more (counted_reads self.old)) }
-        ensures none_given { IfOk result (λ count. count ≡ 0 → counted_reads self.new ≡ counted_reads self.old) }
+        ensures err { OnErr result (counted_failures self.new ≡
+            one_more (counted_failures self.old)) }
+        ensures some_given { IfOk result (λ count. 0 < count →
+            counted_reads self.new ≡ one_more (counted_reads self.old)) }
+        ensures none_given { IfOk result (λ count. count ≡ 0 →
+            counted_reads self.new ≡ counted_reads self.old) }
         ensures err_reads { OnErr result (counted_reads self.new ≡ counted_reads self.old) }
     {
         let result = self.inner.read(buf);
@@ -104,7 +108,7 @@ impl<T: Read> Read for Counted<T> {
 impl<T: Read> Source for Counted<T> {
     ghost use Rattle.counted_io.specs.Counted.{counted_failures, counted_reads};
 
-    ghost failure_count = { λ counted. Some (counted_failures counted) };
+    ghost failure_count = { λ counted. counted_failures counted };
 
     ghost read_count = { λ counted. Some (counted_reads counted) };
 
@@ -115,6 +119,12 @@ impl<T: Read> Source for Counted<T> {
     fn reads(&self) -> u64 {
         Counted::reads(self)
     }
+
+    fn read_and_count(&mut self, buf: &mut [u8]) -> io::Result<usize> {
+        // To a proof the count is at most `u64::MAX` once it was read.
+        let _failures = self.failures;
+        self.read(buf)
+    }
 }
 
 impl<T: Write> Write for Counted<T> {
@@ -124,10 +134,14 @@ impl<T: Write> Write for Counted<T> {
 
     fn write(&mut self, buf: &[u8]) -> io::Result<usize>
         ensures bound { WritesAtMost result buf.now }
-        ensures bytes { WriteAppends (T.contents (counted_inner self.old)) (T.contents (counted_inner self.new)) result buf.now }
-        ensures taken { IfOk result (λ count. (0 < count) ⊎ (buf.now ≡ []) → counted_failures self.new ≡ counted_failures self.old) }
-        ensures none_taken { IfOk result (λ count. count ≡ 0 → 0 < length buf.now → counted_failures self.new ≡ one_more (counted_failures self.old)) }
-        ensures err { OnErr result (counted_failures self.new ≡ one_more (counted_failures self.old)) }
+        ensures bytes { WriteAppends (T.contents (counted_inner self.old))
+            (T.contents (counted_inner self.new)) result buf.now }
+        ensures taken { IfOk result (λ count. (0 < count) ⊎ (buf.now ≡ []) →
+            counted_failures self.new ≡ counted_failures self.old) }
+        ensures none_taken { IfOk result (λ count. count ≡ 0 → 0 < length buf.now →
+            counted_failures self.new ≡ one_more (counted_failures self.old)) }
+        ensures err { OnErr result (counted_failures self.new ≡
+            one_more (counted_failures self.old)) }
         ensures reads { counted_reads self.new ≡ counted_reads self.old }
     {
         let result = self.inner.write(buf);
@@ -142,9 +156,11 @@ impl<T: Write> Write for Counted<T> {
     }
 
     fn flush(&mut self) -> io::Result<()>
-        ensures bytes { Keeps (T.contents (counted_inner self.old)) (T.contents (counted_inner self.new)) }
+        ensures bytes { Keeps (T.contents (counted_inner self.old))
+            (T.contents (counted_inner self.new)) }
         ensures ok { OnOk result (counted_failures self.new ≡ counted_failures self.old) }
-        ensures err { OnErr result (counted_failures self.new ≡ one_more (counted_failures self.old)) }
+        ensures err { OnErr result (counted_failures self.new ≡
+            one_more (counted_failures self.old)) }
         ensures reads { counted_reads self.new ≡ counted_reads self.old }
     {
         let result = self.inner.flush();
@@ -158,9 +174,21 @@ impl<T: Write> Write for Counted<T> {
 impl<T: Write> Sink for Counted<T> {
     ghost use Rattle.counted_io.specs.Counted.{counted_failures};
 
-    ghost failure_count = { λ counted. Some (counted_failures counted) };
+    ghost failure_count = { λ counted. counted_failures counted };
 
     fn failures(&self) -> u64 {
         Counted::failures(self)
+    }
+
+    fn write_and_count(&mut self, buf: &[u8]) -> io::Result<usize> {
+        // Read for its range alone.
+        let _failures = self.failures;
+        self.write(buf)
+    }
+
+    fn flush_and_count(&mut self) -> io::Result<()> {
+        // Read for its range alone.
+        let _failures = self.failures;
+        self.flush()
     }
 }

@@ -15,8 +15,6 @@ pub enum ReadFault {
     /// There were too many reads that gave bytes.
     #[error("the input is too long")]
     Long,
-    #[error("the device gave errors without end that it did not count")]
-    Stalled,
 }
 
 impl From<AllocError> for ReadFault {

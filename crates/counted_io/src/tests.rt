@@ -1,2 +1,4 @@
+mod calls;
 mod devices;
 mod fakes;
+mod large;

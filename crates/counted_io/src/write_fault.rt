@@ -6,6 +6,4 @@ pub enum WriteFault {
     /// A failure was counted.
     #[error("a write failed")]
     Device,
-    #[error("the device gave errors without end that it did not count")]
-    Stalled,
 }

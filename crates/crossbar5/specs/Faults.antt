@@ -4,7 +4,7 @@ use Rattle.counted_io.specs.declared.read_fault.ReadFault.TheVariants as read
 use Rattle.counted_io.specs.declared.write_fault.WriteFault.{WriteFault}
 use Rattle.counted_io.specs.declared.write_fault.WriteFault.TheVariants as write
 use Rattle.crossbar5.specs.declared.engine_fault.EngineFault.{EngineFault}
-use Rattle.crossbar5.specs.declared.engine_fault.EngineFault.TheVariants.{Markers, Memory, Device, Long, Stalled}
+use Rattle.crossbar5.specs.declared.engine_fault.EngineFault.TheVariants.{Markers, Memory, Device, Long}
 
 -- an office has 1 to 48 markers
 abbrev pub IsMarkerCount : ℕ → Type 0
@@ -15,11 +15,9 @@ abbrev pub of_read : ReadFault → EngineFault
 of_read read.Memory = Memory
 of_read read.Device = Device
 of_read read.Long = Long
-of_read read.Stalled = Stalled
 
 abbrev pub of_write : WriteFault → EngineFault
 of_write write.Device = Device
-of_write write.Stalled = Stalled
 
 -- a fault that comes before anything is written
 abbrev pub ComesFirst : EngineFault → Type 0
@@ -27,4 +25,3 @@ ComesFirst Markers = ⊤
 ComesFirst Memory = ⊤
 ComesFirst Long = ⊤
 ComesFirst Device = ⊥
-ComesFirst Stalled = ⊥

@@ -1,4 +1,4 @@
-use Rattle.std.specs.Prelude.{Option, Some, None, slice_get}
+use Rattle.std.specs.Prelude.{◌≡◌, Option, Some, None, slice_get}
 use Rattle.xbar_plan.specs.Tables.{Tables}
 use Rattle.xbar_core.specs.Exchange.{Exchange, Marker}
 use Rattle.xbar_core.specs.Moves.{assigned, refusal, steps}
@@ -29,6 +29,12 @@ abbrev pub row_fault : Exchange → Row → Option MarkerFault
 row_fault e (Assign marker job_no job) = refused_as (refusal e marker job)
 row_fault e (Steps marker count) = missing (slice_get e.markers marker)
 row_fault e (Call call_no line dialled release) = None
+
+-- a row that assigns a job, and nothing refuses it
+abbrev pub IsUnrefusedJob : Exchange → Row → Type 0
+IsUnrefusedJob e (Assign marker job_no job) = refusal e marker job ≡ None
+IsUnrefusedJob e (Steps marker count) = ⊥
+IsUnrefusedJob e (Call call_no line dialled release) = ⊥
 
 -- the office once a row is done: a job assigned, or so many steps made
 abbrev pub done : Tables → Exchange → Row → Exchange

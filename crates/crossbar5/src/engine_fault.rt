@@ -20,9 +20,6 @@ pub enum EngineFault {
     /// There were too many reads that gave bytes.
     #[error("Long")]
     Long,
-    /// A device gave 2^64 - 1 errors in a row that it did not count.
-    #[error("Stalled")]
-    Stalled,
 }
 
 impl From<AllocError> for EngineFault {
@@ -49,7 +46,6 @@ impl From<ReadFault> for EngineFault {
             ReadFault::Memory => EngineFault::Memory,
             ReadFault::Device => EngineFault::Device,
             ReadFault::Long => EngineFault::Long,
-            ReadFault::Stalled => EngineFault::Stalled,
         }
     }
 }
@@ -60,7 +56,6 @@ impl From<WriteFault> for EngineFault {
     fn from(why: WriteFault) -> Self {
         match why {
             WriteFault::Device => EngineFault::Device,
-            WriteFault::Stalled => EngineFault::Stalled,
         }
     }
 }

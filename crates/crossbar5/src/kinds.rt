@@ -21,7 +21,8 @@ fn kind_of(letter: u8) -> Option<Kind>
 
 /// Whether each letter names a kind.
 fn are_letters(letters: &[u8]) -> bool
-    ensures { IsTrue result ↔ EachIndex letters.now (λ at. IsTrue (is_letter (slice_index letters.now at))) }
+    ensures { IsTrue result ↔ EachIndex letters.now
+        (λ at. IsTrue (is_letter (slice_index letters.now at))) }
 {
     letters.iter().all(|letter| kind_of(*letter).is_some())
 }
@@ -30,8 +31,10 @@ fn are_letters(letters: &[u8]) -> bool
 /// dial tone jobs, `C` for completing jobs and releases, `X` for all. `Markers` is answered where it names none.
 pub fn kinds_of(alloc: Global, text: &str) -> Result<Vec<Kind>, EngineFault>
     ensures named { IfOk result (λ kinds. Names text.now kinds.items) }
-    ensures refused { (result ≡ Err EngineFault.Markers) ↔ ((kinds : List TheKind) → ¬ Names text.now kinds) }
-    ensures why { IfErr result (λ fault. (fault ≡ EngineFault.Markers) ⊎ (fault ≡ EngineFault.Memory)) }
+    ensures refused { (result ≡ Err EngineFault.Markers) ↔
+        ((kinds : List TheKind) → ¬ Names text.now kinds) }
+    ensures why { IfErr result (λ fault. (fault ≡ EngineFault.Markers) ⊎
+        (fault ≡ EngineFault.Memory)) }
 {
     if text.is_empty() || text.len() > MOST_MARKERS || !are_letters(text.as_bytes()) {
         return Err(EngineFault::Markers);

@@ -23,7 +23,8 @@ pub fn report(
 }
 
 fn add_records(text: &mut String, records: &[Record]) -> Result<(), AllocError>
-    ensures { OnOk result (string_bytes text.new ≡ string_bytes text.old ++ flat_map record_line records.now) }
+    ensures { OnOk result (string_bytes text.new ≡ string_bytes text.old ++
+        flat_map record_line records.now) }
 {
     for record in records {
         write!(text, "{}", RecordLine(record))?;
@@ -32,7 +33,8 @@ fn add_records(text: &mut String, records: &[Record]) -> Result<(), AllocError>
 }
 
 fn add_cards(text: &mut String, records: &[Record]) -> Result<(), AllocError>
-    ensures { OnOk result (string_bytes text.new ≡ string_bytes text.old ++ flat_map card_lines records.now) }
+    ensures { OnOk result (string_bytes text.new ≡ string_bytes text.old ++
+        flat_map card_lines records.now) }
 {
     for record in records {
         add_cards_of(text, record)?;

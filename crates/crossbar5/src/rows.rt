@@ -1,11 +1,11 @@
 //! Rows of traffic, done in an office.
 
-ghost use Rattle.std.specs.Prelude.{◌≡◌, IfOk, None, slice_get};
+ghost use Rattle.std.specs.Prelude.{◌≡◌, IfOk, None, OnErr, slice_get};
 ghost use Rattle.xbar_core.specs.Moves.{assigned, refusal, steps};
 ghost use Rattle.xbar_traffic.specs.Row.{IsRow, mode_of};
 ghost use Rattle.xbar_traffic.specs.declared.mode.Mode.{Mode};
 ghost use Rattle.xbar_office.specs.Legal.{IsJob};
-ghost use Rattle.crossbar5.specs.Rows.{done, missing, refused_as, row_fault};
+ghost use Rattle.crossbar5.specs.Rows.{IsUnrefusedJob, done, missing, refused_as, row_fault};
 
 use std::alloc::AllocError;
 use xbar_core::{AssignFault, Exchange};
@@ -20,8 +20,13 @@ fn assign(
     job: Job,
 ) -> Result<Option<MarkerFault>, AllocError>
     requires { IsJob job }
-    ensures fault { IfOk result (λ fault. fault ≡ refused_as (refusal office.old.exchange marker job)) }
-    ensures done { IfOk result (λ fault. fault ≡ None → office.new ≡ record office.old { exchange = assigned marker job_no job office.old.exchange }) }
+    ensures fault { IfOk result (λ fault. fault ≡
+        refused_as (refusal office.old.exchange marker job)) }
+    ensures done { IfOk result (λ fault. fault ≡ None →
+        office.new ≡
+        record office.old { exchange = assigned marker job_no job office.old.exchange }) }
+    ensures memory { OnErr result (refusal office.old.exchange marker job ≡ None) }
+    ensures unchanged { OnErr result (office.new ≡ office.old) }
 {
     match office.assign(marker, job_no, job) {
         Ok(()) => Ok(None),
@@ -35,7 +40,8 @@ fn assign(
 /// Has a marker make so many steps, or tells that the office has no such marker.
 fn make_steps(office: &mut Exchange, marker: u32, count: u32) -> Option<MarkerFault>
     ensures fault { result ≡ missing (slice_get office.old.exchange.markers marker) }
-    ensures done { result ≡ None → office.new ≡ record office.old { exchange = steps office.old.plan marker count office.old.exchange } }
+    ensures done { result ≡ None → office.new ≡
+        record office.old { exchange = steps office.old.plan marker count office.old.exchange } }
 {
     if marker >= office.marker_count() {
         return Some(MarkerFault::NoMarker);
@@ -44,12 +50,17 @@ fn make_steps(office: &mut Exchange, marker: u32, count: u32) -> Option<MarkerFa
     None
 }
 
-/// Does what a row of a replay asks, or tells why it can't be done.
+/// Does what a row of a replay asks, or tells why it can't be done. Memory is wanted for a job alone
+/// that nothing refuses.
 pub fn do_row(office: &mut Exchange, row: &Row) -> Result<Option<MarkerFault>, AllocError>
     requires range { IsRow row.now }
     requires mode { mode_of row.now ≡ Mode.Replay }
     ensures fault { IfOk result (λ fault. fault ≡ row_fault office.old.exchange row.now) }
-    ensures done { IfOk result (λ fault. fault ≡ None → office.new ≡ record office.old { exchange = done office.old.plan office.old.exchange row.now }) }
+    ensures done { IfOk result (λ fault. fault ≡ None →
+        office.new ≡
+        record office.old { exchange = done office.old.plan office.old.exchange row.now }) }
+    ensures memory { OnErr result (IsUnrefusedJob office.old.exchange row.now) }
+    ensures unchanged { OnErr result (office.new ≡ office.old) }
 {
     match row {
         Row::Assign {

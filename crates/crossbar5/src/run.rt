@@ -21,7 +21,8 @@ use xbar_traffic::{RowFault, Traffic, TrafficFault};
 /// Opens an office; how many markers it has is known to be in range.
 fn open<'p>(alloc: Global, plan: &'p Plan, kinds: &[Kind]) -> Result<Exchange<'p>, AllocError>
     requires { IsMarkerCount (length kinds.now) }
-    ensures { IfOk result (λ office. office ≡ record { plan = plan.now; exchange = fresh_exchange kinds.now }) }
+    ensures { IfOk result (λ office. office ≡
+        record { plan = plan.now; exchange = fresh_exchange kinds.now }) }
 {
     match Exchange::open(alloc, plan, kinds) {
         Ok(office) => Ok(office),
@@ -31,7 +32,8 @@ fn open<'p>(alloc: Global, plan: &'p Plan, kinds: &[Kind]) -> Result<Exchange<'p
 }
 
 fn refused(alloc: Global, fault: TrafficFault) -> Result<Written, AllocError>
-    ensures { IfOk result (λ written. IsWrittenOf (RefusesTraffic fault) written.text.items written.status) }
+    ensures { IfOk result (λ written. IsWrittenOf
+        (RefusesTraffic fault) written.text.items written.status) }
 {
     Ok(Written {
         text: fault.text(alloc)?.into_bytes(),
@@ -40,11 +42,14 @@ fn refused(alloc: Global, fault: TrafficFault) -> Result<Written, AllocError>
 }
 
 fn settled(alloc: Global, mut office: Exchange<'_>) -> Result<Written, AllocError>
-    ensures written { IfOk result (λ written. IsWrittenOf (Leaves (settled_office office.entry.plan office.entry.exchange)) written.text.items written.status) }
-    ensures history { IfOk result (λ written. IsOneHistory office.entry.plan (settled_office office.entry.plan office.entry.exchange)) }
+    ensures written { IfOk result (λ written.
+        IsWrittenOf (Leaves
+        (settled_office office.entry.plan office.entry.exchange)) written.text.items written.status) }
+    ensures history { IfOk result (λ written.
+        IsOneHistory office.entry.plan (settled_office office.entry.plan office.entry.exchange)) }
 {
     office.settle();
-    xbar_plan::laws::every_plan_is_lawful(office.plan());
+    // Called for its clauses alone.
     xbar_core::laws::jobs_act_at_their_turns();
     let paths = count_paths(office.words());
     let closed = count_closed(office.words());
@@ -64,8 +69,12 @@ pub fn run(
     requires kinds { IsMarkerCount (length kinds.now) }
     requires range { All IsRow traffic.now.rows.items }
     requires mode { All (λ row. mode_of row ≡ Mode.Replay) traffic.now.rows.items }
-    ensures written { IfOk result (λ written. IsWrittenOf (outcome plan.now kinds.now traffic.now.rows.items traffic.now.fault) written.text.items written.status) }
-    ensures history { IfOk result (λ written. LeavesOneHistory plan.now (outcome plan.now kinds.now traffic.now.rows.items traffic.now.fault)) }
+    ensures written { IfOk result (λ written.
+        IsWrittenOf
+        (outcome plan.now kinds.now traffic.now.rows.items traffic.now.fault) written.text.items written.status) }
+    ensures history { IfOk result (λ written.
+        LeavesOneHistory plan.now
+        (outcome plan.now kinds.now traffic.now.rows.items traffic.now.fault)) }
 {
     let mut office = open(alloc, plan, kinds)?;
     let mut number = 1;

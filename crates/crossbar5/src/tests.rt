@@ -8,6 +8,7 @@ use xbar_core::Kind;
 
 mod faults;
 mod kinds;
+mod large;
 mod meetings;
 mod memory;
 mod plans;
@@ -58,4 +59,16 @@ fn check_replay(
     let text = str::from_utf8(&written).unwrap_or("this is no text");
     assert_eq!(rt; (text, status), wanted);
     Ok(())
+}
+
+/// A replay of this traffic by two markers ends well, and writes this text.
+fn check_done(
+    rt: &impl Abort,
+    alloc: Global,
+    plan: &str,
+    traffic: &str,
+    text: &str,
+) -> Result<(), Fail> {
+    let wanted = (text, Status::Fine);
+    check_replay(rt, alloc, plan, &TWO, traffic.as_bytes(), wanted)
 }

@@ -2,32 +2,38 @@
 //! markers that its words ask for, and writes what comes of it to standard output.
 #![tactic(auto)]
 
-use crate::exit::Exit;
-use counted_io::read_all;
+ghost use Rattle.std.specs.Prelude.{◌≡◌, ◌↔◌, Err, List};
+ghost use Rattle.std.specs.Process.{exit_status};
+ghost use Rattle.xbar_core.specs.declared.kind.Kind.{Kind};
+ghost use Rattle.crossbar5.specs.Kinds.{Names};
+ghost use Rattle.crossbar5_cli.specs.Endings.{exit_of};
+ghost use Rattle.crossbar5_cli.specs.Streams.{MayEndOf};
+
+use crate::causes::ending_without_words;
+use crate::ending::{Ending, ending_of};
+use crate::plan_text::plan_text;
+use crate::stream::{Stream, stream_of, told_on};
 use crossbar5::{Counted, EngineFault, Status, kinds_of, run_replay};
 use crossbar5_command::{Ask, CommandFault, command};
-use std::alloc::{AllocError, Global};
+use std::alloc::AllocError;
 use std::fs::File;
-use std::io::ErrorKind;
 use std::process::ExitCode;
 use std::{env, io};
-use xbar_plan::Plan;
 
-mod exit;
+mod causes;
+mod ending;
+mod plan_text;
+mod stream;
 #[cfg(test)]
 mod tests;
 
 /// Runs the program, and tells the status that it ends with.
 pub fn run(rt: &HostRuntime) -> ExitCode {
-    let exit = match words(rt) {
+    let ending = match words(rt) {
         Ok(words) => run_words(rt, &words),
-        Err(error) if error.kind() == ErrorKind::OutOfMemory => fail(rt, EngineFault::Memory),
-        Err(_) => {
-            let _told = rt.eprintln("error: a word of the command line is not UTF-8 text");
-            Exit::CommandLine
-        }
+        Err(error) => ending_without_words(&error),
     };
-    exit.into()
+    finish(rt, ending)
 }
 
 /// The words of the command line, the program's name first.
@@ -35,75 +41,61 @@ fn words(rt: &HostRuntime) -> io::Result<Vec<String>> {
     Ok(env::args(rt)?.collect(rt.alloc())?)
 }
 
-fn run_words(rt: &HostRuntime, words: &[String]) -> Exit {
+fn run_words(rt: &HostRuntime, words: &[String]) -> Ending {
     let words: Result<Vec<&str>, AllocError> = words
         .iter()
         .map(|word| word.as_str())
         .collect(rt.alloc());
     match words {
         Ok(words) => do_as_asked(rt, &words),
-        Err(_) => fail(rt, EngineFault::Memory),
+        Err(error) => error.into(),
     }
 }
 
-fn do_as_asked(rt: &HostRuntime, words: &[&str]) -> Exit {
+fn do_as_asked(rt: &HostRuntime, words: &[&str]) -> Ending {
     match command(rt.alloc(), words) {
-        Ok(Ask::Replay { plan, kinds }) => match replay(rt, &plan, &kinds) {
-            Ok(status) => status.into(),
-            Err(fault) => fail(rt, fault),
-        },
-        Err(CommandFault::Memory) => fail(rt, EngineFault::Memory),
-        Err(CommandFault::Refused(error)) => tell(rt, &error),
+        Ok(Ask::Replay { plan, kinds }) => ending_of(replay(rt, &plan, &kinds)),
+        Err(fault) => tell(rt, &fault),
     }
 }
 
-fn replay(rt: &HostRuntime, plan: &Option<String>, kinds: &str) -> Result<Status, EngineFault> {
+/// Kinds that are refused are so whatever the plan's file is.
+fn replay(rt: &HostRuntime, plan: &Option<String>, kinds: &str) -> Result<Status, EngineFault>
+    ensures { (result ≡ Err EngineFault.Markers)
+        ↔ ((named : List Kind) → ¬ Names kinds.now named) }
+{
     let kinds = kinds_of(rt.alloc(), kinds)?;
-    let plan = match plan {
-        Some(file) => read_plan(rt, file)?,
-        None => example_plan(rt.alloc())?,
-    };
+    let asked = plan.as_ref().map(|name| File::open(rt, name));
+    let plan = plan_text(rt.alloc(), asked)?;
     let mut source = Counted::new(rt.stdin());
     let mut sink = Counted::new(rt.stdout());
     run_replay(rt.alloc(), &plan, &kinds, &mut source, &mut sink)
 }
 
-fn read_plan(rt: &HostRuntime, file: &str) -> Result<Vec<u8>, EngineFault> {
-    match File::open(rt, file) {
-        Ok(file) => Ok(read_all(rt.alloc(), &mut Counted::new(file))?),
-        Err(error) if error.kind() == ErrorKind::OutOfMemory => Err(EngineFault::Memory),
-        Err(_) => Err(EngineFault::Device),
-    }
-}
-
-fn example_plan(alloc: Global) -> Result<Vec<u8>, AllocError> {
-    Plan::example(alloc)?.version_2(alloc)
-}
-
 /// Tells help or the version on standard output, and why the words are refused on standard error.
-/// That standard error can't be written changes nothing.
-fn tell(rt: &HostRuntime, error: &clap::Error) -> Exit {
-    let told = error.print(rt);
-    if error.use_stderr() {
-        return Exit::CommandLine;
-    }
-    match told {
-        Ok(()) => Exit::Fine,
-        Err(_) => fail(rt, EngineFault::Device),
-    }
+fn tell(rt: &HostRuntime, fault: &CommandFault) -> Ending
+    ensures { MayEndOf fault.now result }
+{
+    let CommandFault::Refused(error) = fault else {
+        return Ending::Failed(EngineFault::Memory);
+    };
+    let stream = stream_of(error);
+    let told = match stream {
+        Stream::Output => rt.print(error),
+        Stream::Errors => rt.eprint(error),
+    };
+    told_on(stream, told.is_ok())
 }
 
-/// Tells a fault on standard error. That this can't be written changes nothing.
-fn fail(rt: &HostRuntime, fault: EngineFault) -> Exit {
-    let _told = rt.eprintln(fault_line(fault));
-    fault.into()
-}
-
-fn fault_line(fault: EngineFault) -> &'static str {
-    match fault {
-        EngineFault::Markers => "FAULT,MARKERS",
-        EngineFault::Memory => "FAULT,MEMORY",
-        EngineFault::Device | EngineFault::Stalled => "FAULT,DEVICE",
-        EngineFault::Long => "FAULT,LONG",
+/// Writes the line of an ending. That it can't be written changes nothing.
+fn finish(rt: &HostRuntime, ending: Ending) -> ExitCode
+    ensures { exit_status result ≡ exit_of ending }
+{
+    if let Some((stream, line)) = ending.line() {
+        let _told = match stream {
+            Stream::Output => rt.println(line),
+            Stream::Errors => rt.eprintln(line),
+        };
     }
+    ExitCode::from(ending.status())
 }

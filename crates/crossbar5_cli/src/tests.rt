@@ -1,42 +1,47 @@
 use super::*;
 use std::test::Fail;
+use xbar_plan::Plan;
 
 #[test]
-fn each_end_has_its_status(rt: HostRuntime) {
-    for (status, number) in [
-        (Status::Fine, 0),
-        (Status::PlanRefused, 3),
-        (Status::TrafficRefused, 4),
+fn each_ending_has_its_status_and_line(rt: HostRuntime) {
+    for (ending, number, line) in [
+        (Ending::Answered(Status::Fine), 0, None),
+        (Ending::Answered(Status::PlanRefused), 3, None),
+        (Ending::Answered(Status::TrafficRefused), 4, None),
+        (Ending::Told, 0, None),
+        (Ending::Refused, 2, None),
+        (
+            Ending::Failed(EngineFault::Markers),
+            2,
+            Some("FAULT,MARKERS"),
+        ),
+        (Ending::Failed(EngineFault::Long), 4, Some("FAULT,LONG")),
+        (Ending::Failed(EngineFault::Memory), 5, Some("FAULT,MEMORY")),
+        (Ending::Failed(EngineFault::Device), 6, Some("FAULT,DEVICE")),
     ] {
-        assert_eq!(rt; Exit::from(status) as u8, number);
-    }
-    for (fault, line, number) in [
-        (EngineFault::Markers, "FAULT,MARKERS", 2),
-        (EngineFault::Long, "FAULT,LONG", 4),
-        (EngineFault::Memory, "FAULT,MEMORY", 5),
-        (EngineFault::Device, "FAULT,DEVICE", 6),
-        (EngineFault::Stalled, "FAULT,DEVICE", 6),
-    ] {
-        assert_eq!(rt;
-            (fault_line(fault), Exit::from(fault) as u8),
-            (line, number)
-        );
+        assert_eq!(rt; ending.status(), number);
+        assert_eq!(rt; ending.line(), line.map(|line| (Stream::Errors, line)));
     }
 }
 
-/// Without a file the plan is the example plan, and a file that isn't there is a failure of a device.
+/// Without a file the plan is the example plan, and a file that isn't there is a device that fails.
 #[test]
 fn plans_are_found(rt: HostRuntime) {
-    let example = example_plan(rt.alloc()).map(|text| Plan::read(rt.alloc(), &text).is_ok());
+    let none: Option<io::Result<&[u8]>> = None;
+    let example = plan_text(rt.alloc(), none).map(|text| Plan::read(rt.alloc(), &text).is_ok());
     assert_eq!(rt; example, Ok(true));
-    let missing = read_plan(&rt, "there_is_no_such_file.toml").err();
-    assert_eq!(rt; missing, Some(EngineFault::Device));
+    let bytes: &[u8] = b"version = 2\n";
+    let opened = plan_text(rt.alloc(), Some(Ok(bytes)));
+    assert!(rt; opened.is_ok_and(|text| text.as_slice() == bytes));
+    let missing = File::open(&rt, "there_is_no_such_file.toml");
+    let fault = plan_text(rt.alloc(), Some(missing)).err();
+    assert_eq!(rt; fault, Some(EngineFault::Device));
 }
 
 /// The words behind the program's name, parted by spaces.
 fn exit_of(rt: &HostRuntime, line: &str) -> Result<u8, Fail> {
     let words: Vec<&str> = line.split(' ').collect(rt.alloc())?;
-    Ok(do_as_asked(rt, &words) as u8)
+    Ok(do_as_asked(rt, &words).status())
 }
 
 #[test]

@@ -55,6 +55,11 @@ fn words_ask_for_a_replay(rt: HostRuntime) -> Result<(), Fail> {
         ("crossbar5 replay --plan a --markers D", Some("a"), "D"),
         ("crossbar5 replay --markers D --plan a", Some("a"), "D"),
         ("crossbar5 replay --plan=a --markers D --", Some("a"), "D"),
+        (
+            "crossbar5 replay --markers DDDDDDDDDDDDDDDDDDDDDDDDCCCCCCCCCCCCCCCCXXXXXXXX",
+            None,
+            "DDDDDDDDDDDDDDDDDDDDDDDDCCCCCCCCCCCCCCCCXXXXXXXX",
+        ),
     ] {
         let ask = asked(rt.alloc(), line)?;
         assert!(rt; is_replay(&ask, plan, kinds), "{line}: {ask:?}");
@@ -101,6 +106,14 @@ fn other_words_are_refused(rt: HostRuntime) -> Result<(), Fail> {
         ("crossbar5 replay --plans a", ErrorKind::UnknownArgument),
         ("crossbar5 replay --version", ErrorKind::UnknownArgument),
         ("crossbar5 replay --plan -x", ErrorKind::UnknownArgument),
+        (
+            "crossbar5 replay --plan a --markers D b c d e f g h",
+            ErrorKind::UnknownArgument,
+        ),
+        (
+            "crossbar5 a b c d e f g h i j k l m n o p",
+            ErrorKind::InvalidSubcommand,
+        ),
         ("crossbar5 replay --plan", ErrorKind::InvalidValue),
         ("crossbar5 replay --markers", ErrorKind::InvalidValue),
         (
@@ -130,6 +143,7 @@ fn help_and_version_are_for_standard_output(rt: HostRuntime) -> Result<(), Fail>
         ("crossbar5 --help", ErrorKind::DisplayHelp),
         ("crossbar5 -h", ErrorKind::DisplayHelp),
         ("crossbar5 --help live", ErrorKind::DisplayHelp),
+        ("crossbar5 --help a b c d e f g h", ErrorKind::DisplayHelp),
         ("crossbar5 replay --help", ErrorKind::DisplayHelp),
         ("crossbar5 replay --plan a -h", ErrorKind::DisplayHelp),
         ("crossbar5 --version", ErrorKind::DisplayVersion),
@@ -174,16 +188,30 @@ fn help_tells_how_to_start(rt: HostRuntime) -> Result<(), Fail> {
     Ok(())
 }
 
+/// All that help says of the kinds.
+const OPTION_OF_KINDS: &str = "
+      --markers <KINDS>  The kind of each marker, marker 0 first, 1 to 48 letters:
+                         D for dial tone jobs
+                         C for completing jobs and releases
+                         X for all jobs [default: XX]
+";
+
+const WITHOUT_OPTIONS: &str = "Without a command
+it replays with the example plan and two markers for all jobs. The options of
+replay, --plan FILE and --markers KINDS, are told by 'crossbar5 replay --help'.
+";
+
 #[test]
 fn the_options_are_explained(rt: HostRuntime) -> Result<(), Fail> {
     let text = text_of(rt.alloc(), "crossbar5 replay --help")?;
     for part in [
         "      --plan <FILE>      The file with the office's plan [default: the example plan]\n",
-        "      --markers <KINDS>  The kind of each marker, marker 0 first, 1 to 48 letters:\n",
-        "                         X for all jobs [default: XX]\n",
+        OPTION_OF_KINDS,
     ] {
         assert!(rt; text.as_str().contains(part), "{part}");
     }
+    let text = text_of(rt.alloc(), "crossbar5 --help")?;
+    assert!(rt; text.as_str().contains(WITHOUT_OPTIONS), "{text}");
     Ok(())
 }
 

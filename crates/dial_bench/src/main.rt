@@ -2,53 +2,22 @@
 //! prints how many steps that took.
 #![tactic(auto)]
 
-ghost use Rattle.std.specs.Prelude.{◌≡◌, length};
-ghost use Rattle.xbar_equip.specs.Word.{word_count};
-ghost use Rattle.xbar_jobs.specs.Standing.{Stands};
-
+use lone_marker::serve;
 use std::io;
 use xbar_equip::{Len, WORD_COUNT};
-use xbar_jobs::{Program, Step};
 use xbar_office::Job;
 use xbar_plan::Plan;
 
 const JOBS: u32 = 20_000;
 
-/// The bound on the steps of an attempt that nothing puts off.
-const STEPS: u32 = 128;
-
-/// Line 3041 goes off hook, under this plan.
-fn dial_3041(plan: &Plan) -> Program
-    ensures { Stands plan.now result.attempt }
-{
-    xbar_plan::laws::every_plan_is_lawful(plan);
-    Program::new(Job::Dial(Len::new(3, 0, 21)))
-}
-
-/// Makes the job's steps on the words to its end, and answers how many they were.
-fn serve(plan: &Plan, words: &mut [u64]) -> u32
-    requires { length words.old ≡ word_count }
-    ensures { length words.new ≡ word_count }
-{
-    let mut program = dial_3041(plan);
-    for _made in 0..STEPS {
-        let step = program.next();
-        if step == Step::Finished {
-            break;
-        }
-        let answer = step.make(0, words);
-        program.take(plan, answer);
-    }
-    program.count()
-}
-
 fn main(rt: HostRuntime) -> io::Result<()> {
     let plan = Plan::example(rt.alloc())?;
+    let line = Len::new(3, 0, 21);
     let mut words = [0; WORD_COUNT];
     let mut steps: u64 = 0;
     for _job in 0..JOBS {
         words.fill(0);
-        steps = steps.saturating_add(u64::from(serve(&plan, &mut words)));
+        steps = steps.saturating_add(u64::from(serve(&plan, &mut words, Job::Dial(line))));
     }
     println!(rt; "{steps} steps")?;
     Ok(())

@@ -30,42 +30,57 @@ impl Family for Slots {
 
 /// Whatever up to 48 actors do, in whatever order their steps come, each job acts as if done whole at its turn.
 pub fn every_run_of_slots_is_lawful()
-    ensures { (count : ℕ) (moves : List (Move Job)) → count ≤ 48 → AreMoves slots moves → Lawful slots (run_of slots count moves) }
+    ensures { (count : ℕ) (moves : List (Move Job)) → count ≤ 48 → AreMoves slots moves →
+        Lawful slots (run_of slots count moves) }
 {
     laws::every_run_is_lawful::<Slots>();
 }
 
 /// No slot is given to two jobs at once: between two jobs that took a slot, by their turns, one gave it back.
 pub fn slots_are_taken_once()
-    ensures { (w : World slots) (before between later : List (RecordOf slots)) (r other : RecordOf slots) (slot : ℕ) → Lawful slots w → w.order ≡ before ++ r ∷ (between ++ other ∷ later) → Took slot r → Took slot other → IsGivenBack slot between }
+    ensures { (w : World slots) (before between later : List (RecordOf slots))
+        (r other : RecordOf slots) (slot : ℕ) → Lawful slots w →
+        w.order ≡ before ++ r ∷ (between ++ other ∷ later) → Took slot r → Took slot other →
+        IsGivenBack slot between }
 {
     laws::jobs_act_at_their_turns::<Slots>();
 }
 
 /// Where no bank's lock is held, the words tell which slots are taken after the turns so far.
 pub fn unheld_words_show_the_slots()
-    ensures { (w : World slots) (slot : ℕ) → Lawful slots w → ((bank : ℕ) → bank < 2 → holder_at slots w.words bank ≡ 0) → slot < 8 → after slots none_busy w.order slot ≡ (bit_at (slice_index w.words (slot / 4)) (slot % 4) == 1) }
+    ensures { (w : World slots) (slot : ℕ) → Lawful slots w →
+        ((bank : ℕ) → bank < 2 → holder_at slots w.words bank ≡ 0) → slot < 8 →
+        after slots none_busy w.order slot ≡ (bit_at (slice_index w.words (slot / 4))
+        (slot % 4) == 1) }
 {
     laws::jobs_act_at_their_turns::<Slots>();
 }
 
 /// An actor that is about to mark a slot finds it free, whatever the others do.
 pub fn slots_are_marked_free()
-    ensures { (w : World slots) (k number : ℕ) (a : AttemptOf slots) (slot : ℕ) → Lawful slots w → get_elem? w.actors k ≡ some (Does number a) → act a ≡ Make (Effect.Mark slot) → bit_at (slice_index w.words (slot / 4)) (slot % 4) ≡ 0 }
+    ensures { (w : World slots) (k number : ℕ) (a : AttemptOf slots) (slot : ℕ) → Lawful slots w →
+        get_elem? w.actors k ≡ some (Does number a) → act a ≡ Make (Effect.Mark slot) →
+        bit_at (slice_index w.words (slot / 4)) (slot % 4) ≡ 0 }
 {
     laws::words_are_their_holders::<Slots>();
 }
 
 /// A job that is never put off, and never has to try again, ends within 11 steps.
 pub fn steady_jobs_are_short()
-    ensures { (job : Job) (answers : List Answer) → IsJob job → AreSteady slots (begin slots job) answers → length answers ≤ 11 }
+    ensures { (job : Job) (answers : List Answer) → IsJob job →
+        AreSteady slots (begin slots job) answers → length answers ≤ 11 }
 {
     laws::steady_attempts_are_short::<Slots>();
 }
 
 /// An actor that is left alone ends its job within 13 steps, and one more for each lock that it held before.
 pub fn jobs_left_alone_end()
-    ensures { (w : World slots) (k number : ℕ) (a : AttemptOf slots) (count : ℕ) → Lawful slots w → get_elem? w.actors k ≡ some (Does number a) → ((j : ℕ) (m : ActorOf slots) → ¬ (j ≡ k) → get_elem? w.actors j ≡ some m → IsAside slots m) → 13 + length a.held ≤ count → (ended : ActorOf slots) × (get_elem? (after_steps slots k count w).actors k ≡ some ended) × IsFree slots ended }
+    ensures { (w : World slots) (k number : ℕ) (a : AttemptOf slots) (count : ℕ) → Lawful slots w →
+        get_elem? w.actors k ≡ some (Does number a) →
+        ((j : ℕ) (m : ActorOf slots) → ¬ (j ≡ k) → get_elem? w.actors j ≡ some m →
+        IsAside slots m) → 13 + length a.held ≤ count →
+        (ended : ActorOf slots) × (get_elem? (after_steps slots k count w).actors k ≡ some ended) ×
+        IsFree slots ended }
 {
     laws::actors_left_alone_end::<Slots>();
 }

@@ -55,11 +55,17 @@ module _ (O : System) where
   WalkFits Fits held (Err (Test word)) = IsUnder O held word
   WalkFits Fits held (Err (Seize lock)) = IsLock lock
 
-  module _ (one_lock : (a b : Lock) → O.same a b ≡ true → a ≡ b) {A : Type 0} (Fits : List Lock → A → Type 0) (seen : Seen Lock) (read : AreReadWords seen.readings) where
+  -- what was read in the words under what is held has 64 bits
+  abbrev pub HasReadWords : Seen Lock → Type 0
+  HasReadWords seen =
+      (word value : ℕ) → IsUnder O seen.held word →
+      value_read seen.readings word ≡ Some value → value < 2 ^ 64
+
+  module _ (one_lock : (a b : Lock) → O.same a b ≡ true → a ≡ b) {A : Type 0} (Fits : List Lock → A → Type 0) (seen : Seen Lock) (read : HasReadWords seen) where
     keeps_test : (word : ℕ) (script : ℕ → Script Lock A) (o : Option ℕ) → value_read seen.readings word ≡ o → IsUnder O seen.held word → ((value : ℕ) → value < 2 ^ 64 → WalkFits Fits seen.held (walk O.same seen (script value))) → WalkFits Fits seen.held (first_wanted (left_of_test script (λ value. left O.same seen (script value)) word o))
     unfolding walk left_of_test first_wanted
     keeps_test word script None is under later = under
-    keeps_test word script (Some value) is under later = later value (value_read-below seen.readings word value read is)
+    keeps_test word script (Some value) is under later = later value (read word value under is)
 
     keeps_seizing : (lock : Lock) (script : Script Lock A) (b : Bool) → IsLock lock → (b ≡ true → WalkFits Fits seen.held (walk O.same seen script)) → WalkFits Fits seen.held (first_wanted (left_of_seizing script (left O.same seen script) lock b))
     unfolding walk left_of_seizing first_wanted
@@ -70,11 +76,20 @@ module _ (O : System) where
     with_lock held lock among own c within = elim (in_either c held (lock ∷ []) within) [ inl front ↦ among c front | inr (inl e) ↦ subst (λ (x : Lock). IsIn x seen.held) (sym e) own | inr (inr none) ↦ absurd none ]
 
     -- a walk through a script that keeps to what is held comes to what fits
-    pub walk_keeps : (held : List Lock) (script : Script Lock A) → AreAmong held seen.held → KeepsTo O Fits held script → WalkFits Fits seen.held (walk O.same seen script)
+    pub walk_fits : (held : List Lock) (script : Script Lock A) → AreAmong held seen.held → KeepsTo O Fits held script → WalkFits Fits seen.held (walk O.same seen script)
     unfolding walk left first_wanted KeepsTo
-    walk_keeps held (Ends found) among keeps = record { some = held; among = among; fits = keeps }
-    walk_keeps held (TestThen word script) among keeps =
-        keeps_test word script (value_read seen.readings word) refl (under_more held seen.held word among keeps.0) (λ value below. walk_keeps held (script value) among (keeps.1 value below))
-    walk_keeps held (SeizeThen lock script) among keeps =
+    walk_fits held (Ends found) among keeps = record { some = held; among = among; fits = keeps }
+    walk_fits held (TestThen word script) among keeps =
+        keeps_test word script (value_read seen.readings word) refl (under_more held seen.held word among keeps.0) (λ value below. walk_fits held (script value) among (keeps.1 value below))
+    walk_fits held (SeizeThen lock script) among keeps =
         keeps_seizing lock script (is_held O.same seen.held lock) keeps.0
-        (λ own. walk_keeps (held ++ lock ∷ []) script (with_lock held lock among (held_in O.same one_lock seen.held lock own)) keeps.1)
+        (λ own. walk_fits (held ++ lock ∷ []) script (with_lock held lock among (held_in O.same one_lock seen.held lock own)) keeps.1)
+
+  -- and so does one over readings that all have 64 bits
+  pub walk_keeps : (one_lock : (a b : Lock) → O.same a b ≡ true → a ≡ b) {A : Type 0}
+      (Fits : List Lock → A → Type 0) (seen : Seen Lock) → AreReadWords seen.readings →
+      (held : List Lock) (script : Script Lock A) → AreAmong held seen.held → KeepsTo O Fits held script →
+      WalkFits Fits seen.held (walk O.same seen script)
+  walk_keeps one_lock Fits seen read held script among keeps =
+      walk_fits one_lock Fits seen (λ word value under is. value_read-below seen.readings word value read is)
+      held script among keeps

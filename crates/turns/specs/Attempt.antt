@@ -90,6 +90,26 @@ request_in Turns = None
 request_in GivesBack = None
 request_in (Operates turn) = None
 
+-- the lock that it is to request, or to try to seize
+abbrev pub asked_in : {Lock : Type 0} → Phase Lock ℕ → Option Lock
+asked_in (Requests lock) = Some lock
+asked_in (Seizes lock expected) = Some lock
+asked_in (Tests word) = None
+asked_in Turns = None
+asked_in (Withdraws lock) = None
+asked_in GivesBack = None
+asked_in (Operates turn) = None
+
+-- the number of its turn, once it has turned
+abbrev pub turn_in : {Lock : Type 0} → Phase Lock ℕ → Option ℕ
+turn_in (Operates turn) = Some turn
+turn_in (Requests lock) = None
+turn_in (Seizes lock expected) = None
+turn_in (Tests word) = None
+turn_in Turns = None
+turn_in (Withdraws lock) = None
+turn_in GivesBack = None
+
 -- the effects that are still to be made: none before its turn
 abbrev pub left_in : {Lock Effect : Type 0} → Phase Lock ℕ → List Effect → List Effect
 left_in (Operates turn) effects = effects

@@ -1,15 +1,16 @@
 -- what a marker is told of a connector that it asks for is true
-use Rattle.std.proofs.Common.{◌≡◌, ℕ, ◌+◌, ◌<◌, ◌%◌, Bool, true, false, List, [], ◌∷◌, bit_or, slice_index, refl, sym, ◌∙◌, ap, subst, arith, inl, inr}
+use Rattle.std.proofs.Common.{◌≡◌, ℕ, ◌+◌, ◌<◌, ◌%◌, Bool, true, false, List, [], ◌∷◌, bit_or, slice_index, refl, sym, ◌∙◌, ap, subst, arith, inl, inr, eq-eqb}
 use Rattle.std.specs.Int.{bit_at}
-use Rattle.std.specs.Prelude.{◌==◌, Option, Some, None, if◌then◌else◌, slice_get}
-use Rattle.std.proofs.lemmas.Bool.{eqb-true}
+use Rattle.std.specs.Prelude.{◌==◌, Option, Some, None, if◌then◌else◌}
+use Rattle.std.proofs.lemmas.Bool.{eqb-true, eqb-false}
 use Rattle.std.proofs.lemmas.Option.{same_Some}
 use Rattle.turns.specs.Attempt as generic
-use Rattle.turns.specs.Attempt.{act_in, change, closing_act, free_act, unless_put_off as told_by}
+use Rattle.turns.specs.Attempt.{act, act_in, asked_in, closing_act, free_act, unless_put_off as told_by}
 use Rattle.turns.specs.Law.{FitsIn}
+use Rattle.turns.specs.Runs.{is_rest}
 use Rattle.turns.specs.Sharing.{IsTrueOf}
 use Rattle.turns.specs.Sharings.{judged, preferring, request_bit}
-use Rattle.turns.specs.World.{Idle, Does, place}
+use Rattle.turns.specs.World.{Does, place}
 use Rattle.turns.specs.declared.answer.Answer.{Answer}
 use Rattle.turns.specs.declared.answer.Answer.TheVariants.{Asked, Seized, Held, Preferred, Again, Value, Turn, Done}
 use Rattle.turns.specs.declared.judgement.Judgement.{Judgement}
@@ -17,7 +18,7 @@ use Rattle.turns.specs.declared.judgement.Judgement.TheVariants as judgement
 use Rattle.turns.specs.declared.phase.Phase.TheVariants.{Requests, Seizes, Tests, Turns, Withdraws, GivesBack, Operates}
 use Rattle.turns.proofs.FirstRequests.{judged_true}
 use Rattle.turns.proofs.Lists.{there_below}
-use Rattle.turns.proofs.LockWords.{asked_holder, asked_requests}
+use Rattle.turns.proofs.LockWords.{asked_holder, asked_others, asked_own, asked_requests}
 use Rattle.xbar_equip.specs.Conn.{IsConn}
 use Rattle.xbar_equip.specs.declared.conn.Conn.{Conn}
 use Rattle.xbar_plan.specs.Tables.{Tables}
@@ -26,13 +27,14 @@ use Rattle.xbar_jobs.specs.Attempt.{Attempt, Phase, next_step}
 use Rattle.xbar_jobs.specs.Office.{office}
 use Rattle.xbar_jobs.specs.OnWords.{answer_of}
 use Rattle.xbar_jobs.specs.declared.effect.Effect.{Effect}
-use Rattle.xbar_core.specs.Exchange.{Exchange, IsLawfulExchange, Marker, Work, is_idle, world}
-use Rattle.xbar_core.specs.Holding.{AsksFor, HasRequested, Holds, IsAt, asked_in}
-use Rattle.xbar_core.specs.Moves.{conn_in, event_at, event_at_step, event_by, event_of, finished, moved_on, refused_by}
+use Rattle.xbar_core.specs.Exchange.{Exchange, IsLawfulExchange, world}
+use Rattle.xbar_core.specs.Holding.{AsksFor, HasRequested, Holds, IsAt}
+use Rattle.xbar_core.specs.Moves.{event_at_step, event_of, finished, moved_on, refused_by}
 use Rattle.xbar_core.specs.declared.event.Event.{Event}
 use Rattle.xbar_core.specs.declared.event.Event.TheVariants as event
 use Rattle.xbar_core.proofs.Actors.{actor_at}
 use Rattle.xbar_core.proofs.Connectors.{conn_word, tells_truth}
+use Rattle.xbar_core.proofs.Steps.{has_come}
 use Rattle.xbar_core.proofs.Worlds.{answer_is}
 
 -- the judgement by which an answer stops a marker, if it does
@@ -59,18 +61,15 @@ lower_stood k word j few lower set = elim (asked_requests k word j (omega arith)
   | inr stands ↦ eqb-true (bit_at word (8 + j)) 1 stands
 ]
 
--- what a phase asks for is what it is about
-conn_asked : (phase : Phase) (conn : Conn) → asked_in phase ≡ Some conn → conn_in phase ≡ Some conn
-conn_asked (Requests _) conn is = is
-conn_asked (Seizes _ expected) conn is = is
-conn_asked (Tests word) conn is = absurd cc
-conn_asked Turns conn is = absurd cc
-conn_asked (Withdraws _) conn is = absurd cc
-conn_asked GivesBack conn is = absurd cc
-conn_asked (Operates turn) conn is = absurd cc
+-- and each that stood before stands in it
+still_stands : (k word j : ℕ) → j < 48 → (bit_at word (8 + j) == 1) ≡ true → (bit_at (bit_or word (request_bit k)) (8 + j) == 1) ≡ true
+still_stands k word j few set = by (j == k) refl where
+  by : (own : Bool) → (j == k) ≡ own → (bit_at (bit_or word (request_bit k)) (8 + j) == 1) ≡ true
+  by true same = subst (λ (m : ℕ). (bit_at (bit_or word (request_bit k)) (8 + m) == 1) ≡ true) (sym (eqb-true j k same)) (asked_own k word)
+  by false other = asked_others k word j few (eqb-false j k other) set
 
--- a marker at this attempt asks for a connector, and is told this of a word that has the connector's holder, and of the requests of lower markers no others
-record IsJudged (e : Exchange) (k : ℕ) (a : Attempt) (j : Judgement) : Type 0 where
+-- a marker at this attempt asks for a connector, and is told this of a word that has the connector's holder and all requests for it, and of those of lower markers no others
+pub record IsJudged (e : Exchange) (k : ℕ) (a : Attempt) (j : Judgement) : Type 0 where
   pub conn : Conn
   pub asked : asked_in a.phase ≡ Some conn
   pub range : IsConn conn
@@ -78,10 +77,11 @@ record IsJudged (e : Exchange) (k : ℕ) (a : Attempt) (j : Judgement) : Type 0 
   pub judges : judged k word ≡ j
   pub holder : word % 64 ≡ conn_word e conn % 64
   pub lower : (other : ℕ) → other < k → (bit_at word (8 + other) == 1) ≡ true → bit_at (conn_word e conn) (8 + other) ≡ 1
+  pub all : (other : ℕ) → other < 48 → bit_at (conn_word e conn) (8 + other) ≡ 1 → (bit_at word (8 + other) == 1) ≡ true
 
 module _ (plan : Tables) (e : Exchange) (lawful : IsLawfulExchange plan e) (k number : ℕ) (a : Attempt) (at : IsAt e k number a) where
   -- there are 48 markers at most
-  few : k < 48
+  pub few : k < 48
   few = let below = there_below (world plan e).actors k (Does number a) (actor_at e k number a at) in let most = lawful.few in omega (arith, below, most)
 
   abbrev told_in : Phase → Answer
@@ -109,6 +109,7 @@ module _ (plan : Tables) (e : Exchange) (lawful : IsLawfulExchange plan e) (k nu
     judges = told_judged (Asked _) _ j refl told;
     holder = asked_holder k (conn_word e conn);
     lower = λ other less set. lower_stood k (conn_word e conn) other few less set;
+    all = λ other below set. still_stands k (conn_word e conn) other below (eq-eqb (bit_at (conn_word e conn) (8 + other)) 1 set);
   }
 
   judged_seizing : (conn : Conn) (expected : ℕ) (j : Judgement) → a.phase ≡ Seizes conn expected → stop (told_in (Seizes conn expected)) ≡ Some j → IsJudged e k a j
@@ -120,6 +121,7 @@ module _ (plan : Tables) (e : Exchange) (lawful : IsLawfulExchange plan e) (k nu
     judges = by (conn_word e conn == expected) told;
     holder = refl;
     lower = λ other less set. eqb-true (bit_at (conn_word e conn) (8 + other)) 1 set;
+    all = λ other below set. eq-eqb (bit_at (conn_word e conn) (8 + other)) 1 set;
   } where
     by : (same : Bool) → stop (if same then Seized else told_by (Again (conn_word e conn)) (judged k (conn_word e conn))) ≡ Some j → judged k (conn_word e conn) ≡ j
     by true stops = absurd cc
@@ -135,7 +137,7 @@ module _ (plan : Tables) (e : Exchange) (lawful : IsLawfulExchange plan e) (k nu
   judged_in (Operates turn) j is told = absurd (close_goes _ a.effects a.held j told)
 
   -- a marker that is stopped asked for a connector
-  judged_at : (answer : Answer) (j : Judgement) → answer_of k (next_step a) e.words ≡ answer → stop answer ≡ Some j → IsJudged e k a j
+  pub judged_at : (answer : Answer) (j : Judgement) → answer_of k (next_step a) e.words ≡ answer → stop answer ≡ Some j → IsJudged e k a j
   judged_at answer j is stops = judged_in a.phase j refl (ap stop (sym (answer_is plan k e.words a) ∙ is) ∙ stops)
 
   module _ (j : Judgement) (seen : IsJudged e k a j) where
@@ -147,10 +149,10 @@ module _ (plan : Tables) (e : Exchange) (lawful : IsLawfulExchange plan e) (k nu
     asks = record { number = number; attempt = a; at = at; asked = seen.asked }
 
   -- a marker that is refused a connector asks for it, and the one that is named holds it
-  pub is_refused : (holder : ℕ) (conn : Conn) → answer_of k (next_step a) e.words ≡ Held holder → conn_in a.phase ≡ Some conn → AsksFor e k conn × Holds e holder conn
+  pub is_refused : (holder : ℕ) (conn : Conn) → answer_of k (next_step a) e.words ≡ Held holder → asked_in a.phase ≡ Some conn → AsksFor e k conn × Holds e holder conn
   is_refused holder conn is asked =
       let seen = judged_at (Held holder) (judgement.Held holder) is refl in
-      let one : seen.conn ≡ conn = same_Some _ _ (sym (conn_asked a.phase seen.conn seen.asked) ∙ asked) in
+      let one : seen.conn ≡ conn = same_Some _ _ (sym seen.asked ∙ asked) in
       let names = true_of (judgement.Held holder) seen in
       let kept = seen.holder in
       subst (λ (c : Conn). AsksFor e k c × Holds e holder c) one
@@ -185,51 +187,29 @@ module _ (k number : ℕ) (a after : Attempt) where
   by_refusal told holder None conn ends = absurd cc
   by_refusal told holder (Some asked) conn ends = (cc, cc)
 
-  refused_answer : (answer : Answer) (holder : ℕ) (conn : Conn) → event_of k number a after answer ≡ event.Refused conn holder → (answer ≡ Held holder) × (conn_in a.phase ≡ Some conn)
-  refused_answer (Held told) holder conn ends = let same = by_refusal told holder (conn_in a.phase) conn ends in (ap Held same.0, same.1)
+  refused_answer : (answer : Answer) (holder : ℕ) (conn : Conn) → event_of k number a after answer ≡ event.Refused conn holder → (answer ≡ Held holder) × (asked_in a.phase ≡ Some conn)
+  refused_answer (Held told) holder conn ends = let same = by_refusal told holder (asked_in a.phase) conn ends in (ap Held same.0, same.1)
   refused_answer (Preferred other) holder conn ends = absurd cc
   refused_answer (Asked word) holder conn ends = absurd cc
   refused_answer Seized holder conn ends = absurd cc
   refused_answer (Again word) holder conn ends = absurd cc
   refused_answer (Value value) holder conn ends = absurd cc
   refused_answer (Turn turn) holder conn ends = absurd cc
-  refused_answer Done holder conn ends = absurd (done_goes (is_idle (Does number after)) (event.Refused conn holder) (λ r same. cc) (λ same. cc) ends)
+  refused_answer Done holder conn ends = absurd (done_goes (is_rest (act after)) (event.Refused conn holder) (λ r same. cc) (λ same. cc) ends)
 
   not_preferred : (told other : ℕ) (asked : Option Conn) → refused_by told asked ≡ event.Preferred other → ⊥
   not_preferred told other None ends = cc
   not_preferred told other (Some asked) ends = cc
 
-  preferred_answer : (answer : Answer) (other : ℕ) → event_of k number a after answer ≡ event.Preferred other → answer ≡ Preferred other
-  preferred_answer (Held told) other ends = absurd (not_preferred told other (conn_in a.phase) ends)
+  pub preferred_answer : (answer : Answer) (other : ℕ) → event_of k number a after answer ≡ event.Preferred other → answer ≡ Preferred other
+  preferred_answer (Held told) other ends = absurd (not_preferred told other (asked_in a.phase) ends)
   preferred_answer (Preferred told) other ends = cc
   preferred_answer (Asked word) other ends = absurd cc
   preferred_answer Seized other ends = absurd cc
   preferred_answer (Again word) other ends = absurd cc
   preferred_answer (Value value) other ends = absurd cc
   preferred_answer (Turn turn) other ends = absurd cc
-  preferred_answer Done other ends = absurd (done_goes (is_idle (Does number after)) (event.Preferred other) (λ r same. cc) (λ same. cc) ends)
-
--- what comes of a step that is one comes of its answer
-record HasCome (plan : Tables) (e : Exchange) (k : ℕ) (what : Event) : Type 0 where
-  pub number : ℕ
-  pub attempt : Attempt
-  pub at : IsAt e k number attempt
-  pub comes : event_of k number attempt (change (office plan) attempt (answer_of k (next_step attempt) e.words)) (answer_of k (next_step attempt) e.words) ≡ what
-
-module _ (plan : Tables) (e : Exchange) (k : ℕ) (what : Event) (busy : what ≡ event.Idle → ⊥) where
-  come_by : (m : Marker) (work : Work) → slice_get e.markers k ≡ Some m → m.work ≡ work → event_by plan k e.words work ≡ what → HasCome plan e k what
-  come_by m Idle there is ends = absurd (busy (sym ends))
-  come_by m (Does n a) there is ends = by (is_idle (Does n a)) ends where
-    by : (idle : Bool) → (if idle then event.Idle else event_of k n a (change (office plan) a (answer_of k (next_step a) e.words)) (answer_of k (next_step a) e.words)) ≡ what → HasCome plan e k what
-    by true comes = absurd (busy (sym comes))
-    by false comes = record { number = n; attempt = a; at = record { marker = m; there = there; work = is }; comes = comes }
-
-  come_at : (found : Option Marker) → slice_get e.markers k ≡ found → event_at plan k e.words found ≡ what → HasCome plan e k what
-  come_at None there ends = absurd (busy (sym ends))
-  come_at (Some m) there ends = come_by m m.work there refl ends
-
-  has_come : event_at_step plan k e ≡ what → HasCome plan e k what
-  has_come ends = come_at (slice_get e.markers k) refl ends
+  preferred_answer Done other ends = absurd (done_goes (is_rest (act after)) (event.Preferred other) (λ r same. cc) (λ same. cc) ends)
 
 -- a refusal tells the truth
 pub refusal_true : (plan : Tables) (e : Exchange) (k holder : ℕ) (conn : Conn) → IsLawfulExchange plan e → event_at_step plan k e ≡ event.Refused conn holder → AsksFor e k conn × Holds e holder conn

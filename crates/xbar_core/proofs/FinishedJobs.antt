@@ -1,11 +1,11 @@
 -- a job that finishes has its record at the place of its turn
 use Rattle.std.proofs.Common.{◌≡◌, ℕ, ◌^◌, ◌<◌, Bool, true, false, List, [], ◌∷◌, length, map, refl, sym, ◌∙◌, ap, subst}
-use Rattle.std.specs.Prelude.{Option, Some, None, if◌then◌else◌, option_map, slice_get}
+use Rattle.std.specs.Prelude.{Option, Some, None, option_map, slice_get, unwrap_or}
 use Rattle.std.proofs.lemmas.Option.{same_Some, slice_get-map}
-use Rattle.turns.specs.Attempt.{change, changed, freed, operated, rest_of}
+use Rattle.turns.specs.Attempt.{act, change, changed, freed, operated, rest_of, turn_in}
 use Rattle.turns.specs.Law.{FitsIn, IsRecorded}
+use Rattle.turns.specs.Runs.{is_rest}
 use Rattle.turns.specs.World as worlds
-use Rattle.turns.specs.World.{Idle, Does}
 use Rattle.turns.specs.declared.answer.Answer.{Answer}
 use Rattle.turns.specs.declared.answer.Answer.TheVariants.{Asked, Seized, Held, Preferred, Again, Value, Turn, Done}
 use Rattle.turns.specs.declared.phase.Phase.TheVariants.{Requests, Seizes, Tests, Turns, Withdraws, GivesBack, Operates}
@@ -16,17 +16,18 @@ use Rattle.xbar_office.specs.declared.job.Job.{Job}
 use Rattle.xbar_office.specs.declared.reply.Record.{Record}
 use Rattle.xbar_office.specs.declared.reply.Reply.{Reply}
 use Rattle.xbar_office.proofs.AuditedRecords.{turn_at}
-use Rattle.xbar_jobs.specs.Attempt.{Attempt, Phase, next_step}
+use Rattle.xbar_jobs.specs.Attempt.{Attempt, Phase}
 use Rattle.xbar_jobs.specs.Office.{office}
-use Rattle.xbar_jobs.specs.OnWords.{answer_of}
 use Rattle.xbar_jobs.specs.declared.effect.Effect.{Effect}
-use Rattle.xbar_core.specs.Exchange.{Exchange, IsLawfulExchange, Marker, Work, is_idle, turned, world}
+use Rattle.xbar_core.specs.AtWork.{told_of}
+use Rattle.xbar_core.specs.Exchange.{Exchange, IsLawfulExchange, turned, world}
 use Rattle.xbar_core.specs.Holding.{IsAt}
-use Rattle.xbar_core.specs.Moves.{event_at, event_at_step, event_by, event_of, finished, moved_on, own_record, record_of, refused_by, after_step}
+use Rattle.xbar_core.specs.Moves.{event_at_step, event_of, finished, moved_on, record_of, refused_by, after_step}
 use Rattle.xbar_core.specs.declared.event.Event.TheVariants as event
 use Rattle.xbar_core.proofs.Actors.{actor_at}
 use Rattle.xbar_core.proofs.Records.{records_legal}
-use Rattle.xbar_core.proofs.Steps.{step_adds}
+use Rattle.xbar_core.proofs.Jobs.{one_job, past_turn}
+use Rattle.xbar_core.proofs.Steps.{HasCome, has_come, step_adds}
 
 -- an attempt past its turn has come to this record
 record HasFinished (k number : ℕ) (after : Attempt) (r : Record) : Type 0 where
@@ -39,22 +40,17 @@ record HasFinished (k number : ℕ) (after : Attempt) (r : Record) : Type 0 wher
   pub job : r.job ≡ after.job
 
 module _ (k number : ℕ) (after : Attempt) (r : Record) where
-  by_reply : (turn : ℕ) (reply : Option Reply) → after.phase ≡ Operates turn → after.reply ≡ reply → finished (record_of turn k number after.job reply) ≡ event.Finished r → HasFinished k number after r
+  by_reply : (turn : ℕ) (reply : Option Reply) → after.phase ≡ Operates turn → after.reply ≡ reply → finished (record_of turn k number (record after { reply = reply })) ≡ event.Finished r → HasFinished k number after r
   by_reply turn None at replied e = absurd cc
   by_reply turn (Some reply) at replied e = record { turn = turn; phase = at; reply = cc; turn_is = cc; marker = cc; number_is = cc; job = cc }
 
-  by_phase : (phase : Phase) → after.phase ≡ phase → finished (own_record k number phase after) ≡ event.Finished r → HasFinished k number after r
-  by_phase (Requests conn) at e = absurd cc
-  by_phase (Seizes conn expected) at e = absurd cc
-  by_phase (Tests word) at e = absurd cc
-  by_phase Turns at e = absurd cc
-  by_phase (Withdraws conn) at e = absurd cc
-  by_phase GivesBack at e = absurd cc
-  by_phase (Operates turn) at e = by_reply turn after.reply at refl e
+  by_turn : (turned : Option ℕ) → turn_in after.phase ≡ turned → finished (unwrap_or (option_map (λ turn. record_of turn k number after) turned) []) ≡ event.Finished r → HasFinished k number after r
+  by_turn None at e = absurd cc
+  by_turn (Some turn) at e = by_reply turn after.reply (past_turn after.phase turn at) refl e
 
-  by_idle : (idle : Bool) → moved_on k number after idle ≡ event.Finished r → HasFinished k number after r
-  by_idle true e = by_phase after.phase refl e
-  by_idle false e = absurd cc
+  by_rest : (rest : Bool) → moved_on k number after rest ≡ event.Finished r → HasFinished k number after r
+  by_rest true e = by_turn (turn_in after.phase) refl e
+  by_rest false e = absurd cc
 
   by_refusal : (holder : ℕ) (conn : Option Conn) → refused_by holder conn ≡ event.Finished r → ⊥
   by_refusal holder None e = cc
@@ -73,7 +69,7 @@ module _ (k number : ℕ) (after : Attempt) (r : Record) where
   by_answer a (Again word) e = absurd cc
   by_answer a (Value value) e = absurd cc
   by_answer a (Turn turn) e = absurd cc
-  by_answer a Done e = record { told = refl; finished = by_idle (is_idle (Does number after)) e }
+  by_answer a Done e = record { told = refl; finished = by_rest (is_rest (act after)) e }
 
 -- the attempt after a step of which nothing was told is of the same job; past its turn it was so before, with the same reply
 record IsAfter (a after : Attempt) : Type 0 where
@@ -102,11 +98,10 @@ module _ (plan : Tables) where
   is_changed a (Operates turn) = is_operated a a.effects
 
   -- an attempt whose step finishes its job is past its turn
-  at_end : (k number : ℕ) (words : List ℕ) (a : Attempt) (r : Record) → (idle : Bool) → (if idle then event.Idle else event_of k number a (change (office plan) a (answer_of k (next_step a) words)) (answer_of k (next_step a) words)) ≡ event.Finished r → HasFinished k number a r
-  at_end k number words a r true e = absurd cc
-  at_end k number words a r false e =
-      let last = by_answer k number (change (office plan) a (answer_of k (next_step a) words)) r a (answer_of k (next_step a) words) e in
-      let is : IsAfter a (change (office plan) a (answer_of k (next_step a) words)) = subst (λ (answer : Answer). IsAfter a (change (office plan) a answer)) (sym last.told) (is_changed a a.phase) in
+  at_end : (k number : ℕ) (words : List ℕ) (a : Attempt) (r : Record) → event_of k number a (change (office plan) a (told_of k words a)) (told_of k words a) ≡ event.Finished r → HasFinished k number a r
+  at_end k number words a r e =
+      let last = by_answer k number (change (office plan) a (told_of k words a)) r a (told_of k words a) e in
+      let is : IsAfter a (change (office plan) a (told_of k words a)) = subst (λ (answer : Answer). IsAfter a (change (office plan) a answer)) (sym last.told) (is_changed a a.phase) in
       let ended = last.finished in
       let before = is.past ended.turn ended.phase in
       record { turn = ended.turn; phase = before.0; reply = sym before.1 ∙ ended.reply; turn_is = ended.turn_is; marker = ended.marker; number_is = ended.number_is; job = ended.job ∙ is.job }
@@ -114,25 +109,10 @@ module _ (plan : Tables) where
   -- what a marker finishes is the job of its number, under its own
   pub finishes : (e : Exchange) (k number : ℕ) (a : Attempt) (r : Record) → IsAt e k number a → event_at_step plan k e ≡ event.Finished r → (r.marker ≡ k) × (r.job_no ≡ number) × (r.job ≡ a.job)
   finishes e k number a r at ends =
-      let here = subst (λ (found : Option Marker). event_at plan k e.words found ≡ event.Finished r) at.there ends in
-      let ended = at_end k number e.words a r (is_idle (Does number a)) (subst (λ (work : Work). event_by plan k e.words work ≡ event.Finished r) at.work here) in
-      (ended.marker, ended.number_is, ended.job)
-
-  -- only a marker at an attempt finishes one
-  record Finishes (e : Exchange) (k : ℕ) (r : Record) : Type 0 where
-    pub number : ℕ
-    pub attempt : Attempt
-    pub at : IsAt e k number attempt
-    pub finished : HasFinished k number attempt r
-
-  by_work : (e : Exchange) (k : ℕ) (r : Record) (m : Marker) (work : Work) → slice_get e.markers k ≡ Some m → m.work ≡ work → event_by plan k e.words work ≡ event.Finished r → Finishes e k r
-  by_work e k r m Idle there is ends = absurd cc
-  by_work e k r m (Does number a) there is ends =
-      record { number = number; attempt = a; at = record { marker = m; there = there; work = is }; finished = at_end k number e.words a r (is_idle (Does number a)) ends }
-
-  by_marker : (e : Exchange) (k : ℕ) (r : Record) (found : Option Marker) → slice_get e.markers k ≡ found → event_at plan k e.words found ≡ event.Finished r → Finishes e k r
-  by_marker e k r None there ends = absurd cc
-  by_marker e k r (Some m) there ends = by_work e k r m m.work there refl ends
+      let come = has_come plan e k (event.Finished r) (λ same. cc) ends in
+      let ended = at_end k come.number e.words come.attempt r come.comes in
+      let one = one_job e k come.number number come.attempt a come.at at in
+      (ended.marker, ended.number_is ∙ one.0, ended.job ∙ ap (λ (b : Attempt). b.job) one.1)
 
 -- the record of a turn that stands at a place
 pub record IsTurn (records : List Record) (place : ℕ) (now : worlds.Record Job Reply) : Type 0 where
@@ -173,11 +153,13 @@ module _ (plan : Tables) (e : Exchange) (k : ℕ) (r : Record) (lawful : IsLawfu
       let found = turn_there e.records known.place known.recorded (slice_get e.records known.place) refl (sym (slice_get-map turned e.records known.place) ∙ known.stands) in
       (known.place, found.there ∙ ap Some (is_recorded plan (map turned e.records) k number a r ended known found.found found.turn))
 
-  -- a job that finishes has its record at the place of its turn
-  pub finished_at : length e.records < 2 ^ 64 → event_at_step plan k e ≡ event.Finished r → slice_get (after_step plan k e).records r.turn ≡ Some r
-  finished_at few ends =
-      let job = by_marker plan e k r (slice_get e.markers k) refl ends in
-      let recorded = finished_there job.number job.attempt job.at job.finished in
+  finished_by : length e.records < 2 ^ 64 → HasCome plan e k (event.Finished r) → slice_get (after_step plan k e).records r.turn ≡ Some r
+  finished_by few come =
+      let recorded = finished_there come.number come.attempt come.at (at_end plan k come.number e.words come.attempt r come.comes) in
       let place = turn_at e.records recorded.0 r (records_legal plan e lawful few).turns recorded.1 in
       let there : slice_get e.records r.turn ≡ Some r = ap (slice_get e.records) place ∙ recorded.1 in
-      ap (λ (records : List Record). slice_get records r.turn) (step_adds plan e k job.number job.attempt job.at) ∙ get_before e.records _ r.turn r there
+      ap (λ (records : List Record). slice_get records r.turn) (step_adds plan e k come.number come.attempt come.at) ∙ get_before e.records _ r.turn r there
+
+  -- a job that finishes has its record at the place of its turn
+  pub finished_at : length e.records < 2 ^ 64 → event_at_step plan k e ≡ event.Finished r → slice_get (after_step plan k e).records r.turn ≡ Some r
+  finished_at few ends = finished_by few (has_come plan e k (event.Finished r) (λ same. cc) ends)

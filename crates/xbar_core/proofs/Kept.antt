@@ -1,16 +1,17 @@
 -- what every office keeps that markers drive: it is lawful, its attempts stand where their jobs bring them, and there is room for the records to come
 use Rattle.std.proofs.Common.{◌≡◌, ◌≢◌, ℕ, zero, suc, ◌+◌, ◌<◌, ◌≤◌, ◌⊎◌, List, [], ◌∷◌, length, length-append, length-set, inl, inr, refl, sym, ◌∙◌, ap, subst, arith}
-use Rattle.std.specs.Prelude.{Option, Some, None, slice_get, slice_set}
+use Rattle.std.specs.Prelude.{Option, Some, None, is_some, if◌then◌else◌, slice_get, slice_set, true, false}
 use Rattle.std.proofs.lemmas.List.{length-map}
 use Rattle.std.proofs.lemmas.Option.{none-some, same_Some, slice_get_within}
 use Rattle.turns.specs.Attempt as generic
-use Rattle.turns.specs.Attempt.{Ask, Take, act, act_in, begin_with, change, changed, closing_act, forgotten, free_act, freed, operated, restarted_in}
+use Rattle.turns.specs.Attempt.{Ask, Take, act, act_in, begin_with, change, changed, closing_act, free_act, operated, restarted, restarted_in, turn_in, IsAnswerTo, Rest, forgotten, freed}
 use Rattle.turns.specs.World as worlds
-use Rattle.turns.specs.World.{Idle, Does, added_in}
+use Rattle.turns.specs.World.{Idle, Does, added_in, place}
+use Rattle.turns.specs.Runs.{is_rest}
 use Rattle.turns.specs.declared.answer.Answer.{Answer}
 use Rattle.turns.specs.declared.answer.Answer.TheVariants.{Value, Done}
 use Rattle.turns.specs.declared.phase.Phase.TheVariants.{Requests, Seizes, Tests, Turns, Withdraws, GivesBack, Operates}
-use mathlib.Core.Option.{some}
+use Rattle.turns.proofs.ExactWords.{answers_fit}
 use Rattle.turns.proofs.Lists.{one_or_two}
 use Rattle.xbar_equip.specs.declared.conn.Conn.{Conn}
 use Rattle.xbar_plan.specs.Tables.{Tables}
@@ -21,17 +22,21 @@ use Rattle.xbar_office.specs.declared.reply.Reply.{Reply}
 use Rattle.xbar_jobs.specs.Attempt.{Attempt, Phase}
 use Rattle.xbar_jobs.specs.Jobs.{first_conn}
 use Rattle.xbar_jobs.specs.Office.{office}
+use Rattle.xbar_jobs.specs.Standing.{Stands}
 use Rattle.xbar_jobs.specs.declared.effect.Effect.{Effect}
 use Rattle.xbar_jobs.proofs.AttemptStands.{stands_after, stands_again, stands_begun}
 use Rattle.xbar_core.specs.AtWork.{told_of}
 use Rattle.xbar_core.specs.Exchange.{Exchange, IsLawfulExchange, Marker, Work, fresh_exchange, turned}
-use Rattle.xbar_core.specs.Moves.{assigned_at, added_record, refusal, refusal_at, after_step, with_work, work_anew}
+use Rattle.xbar_core.specs.Holding.{IsAt}
+use Rattle.xbar_core.specs.Moves.{added_record, refusal, after_step, with_work, work_anew}
 use Rattle.xbar_core.specs.Standing.{HasRoom, IsExchange, StandsAt, waiting, waits, waits_in}
 use Rattle.xbar_core.specs.declared.kind.Kind.{Kind}
-use Rattle.xbar_core.proofs.Markers.{actor_there, marker_else, marker_set, waiting_most, waiting_set, waits_most}
+use Rattle.xbar_core.proofs.Actors.{actor_at}
+use Rattle.xbar_core.proofs.Jobs.{assigned_is, past_turn}
+use Rattle.xbar_core.proofs.Markers.{marker_else, marker_set, waiting_most, waiting_set, waits_most}
 use Rattle.xbar_core.proofs.Keeping.{KeepsRestarts, anew_keeps}
 use Rattle.xbar_core.proofs.StepCases.{step_cases}
-use Rattle.xbar_core.proofs.Worlds.{added_at, answer_is, found_by, lawful_assigned, lawful_opened, lawful_stepped, restarted_lawful}
+use Rattle.xbar_core.proofs.Worlds.{added_at, answer_is, found_by, lawful_assigned, lawful_opened, lawful_stepped, restarted_lawful, taken}
 
 module _ (plan : Tables) where
   abbrev pub AreStanding : List Marker → Type 0
@@ -47,11 +52,19 @@ module _ (plan : Tables) where
     by (inr two) = all j other (sym (marker_else markers k j m two) ∙ at)
 
   -- the job of a lawful office's marker is one
-  pub job_there : (e : Exchange) (k n : ℕ) (m : Marker) (a : Attempt) → IsLawfulExchange plan e → slice_get e.markers k ≡ Some m → m.work ≡ Does n a → IsJob a.job
-  job_there e k n m a law there at = (law.sound k n a (actor_there e.markers k m there ∙ ap some at)).job
+  job_there : (e : Exchange) (k n : ℕ) (a : Attempt) → IsLawfulExchange plan e → IsAt e k n a → IsJob a.job
+  job_there e k n a law at = (law.sound k n a (actor_at e k n a at)).job
 
-  pub stands_there : (e : Exchange) (k n : ℕ) (m : Marker) (a : Attempt) → IsExchange plan e → slice_get e.markers k ≡ Some m → m.work ≡ Does n a → StandsAt plan (Does n a)
-  stands_there e k n m a was there at = subst (StandsAt plan) at (was.stands k m there)
+  -- what it is told of its next step answers that step
+  told_fits : (e : Exchange) (k : ℕ) (a : Attempt) → IsLawfulExchange plan e → is_rest (act a) ≡ false →
+      IsAnswerTo (act a) (told_of k e.words a)
+  told_fits e k a law goes =
+      let acts : act a ≢ Rest = λ rests. let two : true ≡ false = ap is_rest (sym rests) ∙ goes in cc in
+      subst (λ (answer : Answer). IsAnswerTo (act a) answer) (sym (answer_is plan k e.words a))
+      (answers_fit (office plan) k (act a) (found_by plan e.words a) acts (law.are_words (place (office plan) (act a))))
+
+  pub stands_there : (e : Exchange) (k n : ℕ) (a : Attempt) → IsExchange plan e → IsAt e k n a → Stands plan a
+  stands_there e k n a was at = subst (StandsAt plan) at.work (was.stands k at.marker at.there)
 
   operated_waits : (a : Attempt) (turn : ℕ) (effects : List Effect) → a.phase ≡ Operates turn → waits_in (operated a effects).phase ≤ 0
   operated_waits a turn [] at = subst (λ (phase : Phase). waits_in phase ≤ 0) (sym at) (omega arith)
@@ -94,21 +107,21 @@ module _ (plan : Tables) where
         | inr made ↦
             let a = made.attempt in
             subst (λ (x : Exchange). AreStanding x.markers) (sym made.is)
-            (stands_set e.markers k _ made.marker made.there
-            (stands_after plan a (told_of k e.words a) laws (job_there e k made.number made.marker a was.lawful made.there made.at) (stands_there e k made.number made.marker a was made.there made.at)) was.stands)
+            (stands_set e.markers k _ made.at.marker made.at.there
+            (stands_after plan a (told_of k e.words a) laws (job_there e k made.number a was.lawful made.at) (told_fits e k a was.lawful made.goes) (stands_there e k made.number a was made.at)) was.stands)
       ]
 
     -- so does a marker that is to give back, and begins its job anew
     pub kept_restarted : (k : ℕ) → KeepsRestarts plan (IsExchange plan) k
-    kept_restarted k e n m a was there at = record {
-      lawful = restarted_lawful plan laws k e n m a was.lawful there at;
-      stands = stands_set e.markers k _ m there (stands_again plan a laws (job_there e k n m a was.lawful there at) (stands_there e k n m a was there at)) was.stands;
+    kept_restarted k e n a was at = record {
+      lawful = restarted_lawful plan laws k e n a was.lawful at;
+      stands = stands_set e.markers k _ at.marker at.there (stands_again plan a laws (job_there e k n a was.lawful at) (stands_there e k n a was at)) was.stands;
     }
 
     -- and a job that is assigned
     pub kept_assigned : (e : Exchange) (k n : ℕ) (m : Marker) (job : Job) → IsExchange plan e → IsJob job → slice_get e.markers k ≡ Some m → refusal e k job ≡ None → IsExchange plan (with_work k m (Does n (begin_with (first_conn job) job)) e)
     kept_assigned e k n m job was in_range there free = record {
-      lawful = subst (λ (found : Option Marker). IsLawfulExchange plan (assigned_at k n job found e)) there (lawful_assigned plan e k n job laws was.lawful in_range free);
+      lawful = subst (IsLawfulExchange plan) (assigned_is e k m there n job) (lawful_assigned plan e k n job laws was.lawful in_range free);
       stands = stands_set e.markers k _ m there (stands_begun plan job laws in_range) was.stands;
     }
 
@@ -120,28 +133,23 @@ module _ (plan : Tables) where
         let a = made.attempt in
         let after = change (office plan) a (told_of k e.words a) in
         let size = length-append e.records (added_record k made.number a (told_of k e.words a)) in
-        let one = waiting_set e.markers k (record made.marker { work = Does made.number after }) made.marker made.there in
-        let was = ap waits made.at in
+        let one = waiting_set e.markers k (record made.at.marker { work = Does made.number after }) made.at.marker made.at.there in
+        let was = ap waits made.at.work in
         let less = fewer k made.number e.words a in
         subst (λ (x : Exchange). HasRoom x room) (sym made.is) (omega (arith, size, one, was, less))
   ]
 
   -- and so does a marker that begins its job anew
-  freed_waits : (a : Attempt) (held : List Conn) → waits_in (freed (office plan) a held).phase ≤ 1
-  freed_waits a held = waits_most (freed (office plan) a held).phase
-
-  anew_waits_in : (a : Attempt) (phase : Phase) → a.phase ≡ phase → waits_in (restarted_in (office plan) phase a).phase ≤ waits_in phase
-  anew_waits_in a (Requests conn) at = freed_waits (forgotten a) a.held
-  anew_waits_in a (Seizes conn expected) at = omega arith
-  anew_waits_in a (Tests word) at = freed_waits (forgotten a) a.held
-  anew_waits_in a Turns at = freed_waits (forgotten a) a.held
-  anew_waits_in a (Withdraws conn) at = waits_most a.phase
-  anew_waits_in a GivesBack at = waits_most a.phase
-  anew_waits_in a (Operates turn) at = let same = ap waits_in at in omega (arith, same)
+  anew_at : (a : Attempt) (turned : Option ℕ) → turn_in a.phase ≡ turned → waits_in (restarted (office plan) a).phase ≤ waits_in a.phase
+  anew_at a None is =
+      let most = waits_most (restarted (office plan) a).phase in
+      let one : waits_in a.phase ≡ 1 = ap (λ (turned : Option ℕ). if is_some turned then 0 else 1) is in
+      omega (arith, most, one)
+  anew_at a (Some turn) is = let same = ap (λ (phase : Phase). waits_in (restarted_in (office plan) phase a).phase) (past_turn a.phase turn is) in omega (arith, same)
 
   anew_waits : (work : Work) → waits (work_anew plan work) ≤ waits work
   anew_waits Idle = omega arith
-  anew_waits (Does n a) = anew_waits_in a a.phase refl
+  anew_waits (Does n a) = anew_at a (turn_in a.phase) refl
 
   pub room_anew : (e : Exchange) (k room : ℕ) (m : Marker) → slice_get e.markers k ≡ Some m → HasRoom e room → HasRoom (with_work k m (work_anew plan m.work) e) room
   room_anew e k room m there fits =
@@ -179,7 +187,4 @@ room_assigned e k room m work fits =
 
 -- a job that is not refused goes to a marker that is there
 pub within_if_taken : (e : Exchange) (k : ℕ) (job : Job) → refusal e k job ≡ None → k < length e.markers
-within_if_taken e k job free = by (slice_get e.markers k) refl free where
-  by : (found : Option Marker) → slice_get e.markers k ≡ found → refusal_at found job ≡ None → k < length e.markers
-  by None there is = absurd cc
-  by (Some m) there is = slice_get_within e.markers k m there
+within_if_taken e k job free = let to = taken e k job free in slice_get_within e.markers k to.marker to.there

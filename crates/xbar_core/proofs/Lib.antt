@@ -1,4 +1,5 @@
 pub mod Markers
+pub mod Jobs
 pub mod Keeping
 pub mod StepCases
 pub mod Worlds
@@ -6,7 +7,6 @@ pub mod Kept
 pub mod Stepping
 pub mod Backing
 pub mod Ending
-pub mod Settles
 pub mod GivenBack
 pub mod Loops
 pub mod Actors
@@ -14,7 +14,6 @@ pub mod Records
 pub mod Steps
 pub mod Connectors
 pub mod AskedConnectors
-pub mod Holders
 pub mod KeptConnectors
 pub mod FinishedJobs
 pub mod Runs
@@ -31,3 +30,14 @@ pub mod LinkSides
 pub mod LeftEffects
 pub mod ClosedCrosspoints
 pub mod OneCall
+pub mod GrownRecords
+pub mod ToldEvents
+pub mod PastTurns
+pub mod WorldMoves
+pub mod FreedConnectors
+pub mod BegunJobs
+pub mod LeastRequests
+pub mod HeldWords
+pub mod Stages
+pub mod LawfulEnds
+pub mod SettledOffices

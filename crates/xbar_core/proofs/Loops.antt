@@ -7,8 +7,7 @@ use Rattle.xbar_core.specs.Moves.{given_back, after_step, steps}
 use Rattle.xbar_core.specs.Settling.{ended, ended_past_turn, for_each, settled}
 use Rattle.xbar_core.proofs.Ending.{steps_idle}
 use Rattle.xbar_core.proofs.Markers.{none_within}
-use Rattle.xbar_core.proofs.Keeping.{for_each_keeps}
-use Rattle.xbar_core.proofs.Settles.{count_back, count_end, count_past}
+use Rattle.xbar_core.proofs.Keeping.{count_back, count_end, count_past, for_each_keeps}
 use Rattle.xbar_core.proofs.StepCases.{step_count}
 
 -- some of a marker's steps were made, and the others lead to what all lead to

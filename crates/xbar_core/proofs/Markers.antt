@@ -1,11 +1,11 @@
 -- an office's markers as the actors of its world
-use Rattle.std.proofs.Common.{◌≡◌, ◌≢◌, ℕ, zero, suc, ◌+◌, ◌<◌, ◌≤◌, List, [], ◌∷◌, length, map, refl, sym, ap, arith}
-use Rattle.std.specs.Prelude.{Some, None, slice_get, slice_set}
+use Rattle.std.proofs.Common.{◌≡◌, ◌≢◌, ℕ, zero, suc, ◌+◌, ◌<◌, ◌≤◌, Bool, true, false, List, [], ◌∷◌, length, map, refl, sym, ap, arith}
+use Rattle.std.specs.Prelude.{Some, None, is_some, if◌then◌else◌, slice_get, slice_set}
 use Rattle.std.proofs.lemmas.Option.{none-some, same_Some}
 use mathlib.Core.Option.{some, some-injective, some-ne-none}
 use lib.ListN.{get_elem?}
+use Rattle.turns.specs.Attempt.{turn_in}
 use Rattle.turns.specs.World.{Idle, Does}
-use Rattle.turns.specs.declared.phase.Phase.TheVariants.{Requests, Seizes, Tests, Turns, Withdraws, GivesBack, Operates}
 use Rattle.xbar_jobs.specs.Attempt.{Phase}
 use Rattle.xbar_core.specs.Exchange.{Marker, Work}
 use Rattle.xbar_core.specs.Standing.{waiting, waits, waits_in}
@@ -72,13 +72,10 @@ marker_same (n ∷ markers) (suc k) m e = ap (λ (all : List Marker). n ∷ all)
 
 -- one turn at most is still to come of each marker
 pub waits_most : (phase : Phase) → waits_in phase ≤ 1
-waits_most (Requests conn) = omega arith
-waits_most (Seizes conn expected) = omega arith
-waits_most (Tests word) = omega arith
-waits_most Turns = omega arith
-waits_most (Withdraws conn) = omega arith
-waits_most GivesBack = omega arith
-waits_most (Operates turn) = omega arith
+waits_most phase = by (is_some (turn_in phase)) where
+  by : (turned : Bool) → (if turned then 0 else 1) ≤ 1
+  by true = omega arith
+  by false = omega arith
 
 waits_one : (work : Work) → waits work ≤ 1
 waits_one Idle = omega arith

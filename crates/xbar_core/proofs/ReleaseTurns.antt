@@ -1,6 +1,6 @@
 -- what a release has fixed at its turn is the opening of its paths, and each step past it makes the first effect that is left
 use Rattle.std.proofs.Common.{◌≡◌, ℕ, ◌<◌, false, List, [], ◌∷◌, length, slice_index, slice_set, sym, ◌∙◌, ap, subst}
-use Rattle.std.specs.Prelude.{Option, Some, slice_get}
+use Rattle.std.specs.Prelude.{Option, Some}
 use Rattle.turns.specs.Among.{IsIn}
 use Rattle.turns.specs.Attempt as generic
 use Rattle.turns.specs.Attempt.{HasDecided, Make, StandsIn, act, act_in, change, changed, closing_act, left_in, operated, read_in}
@@ -32,9 +32,8 @@ use Rattle.xbar_core.specs.Exchange.{Exchange, IsLawfulExchange, world}
 use Rattle.xbar_core.specs.Holding.{IsAt, completed}
 use Rattle.xbar_core.specs.Moves.{after_answer, after_step}
 use Rattle.xbar_core.proofs.Actors.{actor_at}
-use Rattle.xbar_core.proofs.Markers.{marker_set}
 use Rattle.xbar_core.proofs.Records.{completed_shows}
-use Rattle.xbar_core.proofs.StepCases.{step_made}
+use Rattle.xbar_core.proofs.StepCases.{gone_on, step_made}
 use Rattle.xbar_core.proofs.Worlds.{answer_is, words_are}
 
 module _ (plan : Tables) (laws : IsLawful plan) (e : Exchange) (lawful : IsLawfulExchange plan e) (k number : ℕ) (a : Attempt) (at : IsAt e k number a) (turns : a.phase ≡ Turns) where
@@ -78,7 +77,7 @@ module _ (plan : Tables) (e : Exchange) (k number turn : ℕ) (a : Attempt) (eff
   goes_on = ap (λ (next : Act). is_rest next) makes_first
 
   is_stepped : after_step plan k e ≡ after_answer plan k at.marker number a (told_of k e.words a) e
-  is_stepped = step_made plan e k number at.marker a at.there at.work goes_on
+  is_stepped = step_made plan e k number a at goes_on
 
   -- on its word, and on no other
   words_made : (after_step plan k e).words ≡ perform_all (office plan) e.words (effect ∷ [])
@@ -98,12 +97,10 @@ module _ (plan : Tables) (e : Exchange) (k number turn : ℕ) (a : Attempt) (eff
       ∙ ap (λ (phase : Phase). changed (office plan) a phase Done) past
       ∙ ap (operated a) left
 
-  now_at : IsAt (after_step plan k e) k number (record a { effects = effects })
-  now_at = record {
-    marker = record at.marker { work = Does number (change (office plan) a (told_of k e.words a)) };
-    there = ap (λ (x : Exchange). slice_get x.markers k) is_stepped ∙ marker_set e.markers k _ at.marker at.there;
-    work = ap (λ (b : Attempt). Does number b) others_left;
-  }
+  goes_to : IsAt (after_step plan k e) k number (record a { effects = effects })
+  goes_to =
+      subst (λ (b : Attempt). IsAt (after_step plan k e) k number b) others_left
+      (gone_on plan e k number a at goes_on)
 
   pub makes_one : ((after_step plan k e).words ≡ perform_all (office plan) e.words (effect ∷ [])) × IsAt (after_step plan k e) k number (record a { effects = effects })
-  makes_one = (words_made, now_at)
+  makes_one = (words_made, goes_to)

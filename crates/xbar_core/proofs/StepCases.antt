@@ -1,53 +1,64 @@
 -- a step changes nothing, or it is the next step of an attempt
-use Rattle.std.proofs.Common.{◌≡◌, ◌≢◌, ℕ, ◌⊎◌, Bool, true, false, length, length-set, inl, inr, refl, ap, ◌∙◌}
-use Rattle.std.specs.Prelude.{Option, Some, None, if◌then◌else◌, slice_get}
-use Rattle.turns.specs.Attempt.{act}
+use Rattle.std.proofs.Common.{◌≡◌, ◌≢◌, ℕ, ◌⊎◌, Bool, true, false, length, length-set, inl, inr, refl, sym, ap, subst, ◌∙◌}
+use Rattle.std.specs.Prelude.{if◌then◌else◌, slice_get}
+use Rattle.turns.specs.Attempt.{act, change}
 use Rattle.turns.specs.Runs.{is_rest}
-use Rattle.turns.specs.World.{Idle, Does}
+use Rattle.turns.specs.World.{Does}
+use Rattle.turns.specs.declared.answer.Answer.{Answer}
 use Rattle.xbar_plan.specs.Tables.{Tables}
 use Rattle.xbar_jobs.specs.Attempt.{Attempt}
+use Rattle.xbar_jobs.specs.Office.{office}
 use Rattle.xbar_core.specs.AtWork.{told_of}
-use Rattle.xbar_core.specs.Exchange.{Exchange, Marker, Work}
-use Rattle.xbar_core.specs.Moves.{after_answer, after_step, stepped_at, stepped_by}
-use Rattle.xbar_core.proofs.Markers.{marker_else}
+use Rattle.xbar_core.specs.Exchange.{Exchange, Marker}
+use Rattle.xbar_core.specs.Holding.{IsAt}
+use Rattle.xbar_core.specs.Moves.{after_answer, after_step}
+use Rattle.xbar_core.proofs.Jobs.{at_job_has, at_job_is}
+use Rattle.xbar_core.proofs.Markers.{marker_else, marker_set}
 
 -- marker k has a job, of which something is left, and the step makes this of the office
 pub record IsMade (plan : Tables) (e : Exchange) (k : ℕ) (after : Exchange) : Type 0 where
   pub number : ℕ
-  pub marker : Marker
   pub attempt : Attempt
-  pub there : slice_get e.markers k ≡ Some marker
-  pub at : marker.work ≡ Does number attempt
+  pub at : IsAt e k number attempt
   pub goes : is_rest (act attempt) ≡ false
-  pub is : after ≡ after_answer plan k marker number attempt (told_of k e.words attempt) e
+  pub is : after ≡ after_answer plan k at.marker number attempt (told_of k e.words attempt) e
 
 module _ (plan : Tables) (e : Exchange) (k : ℕ) where
   -- nothing is made by an idle marker
-  abbrev made_if : Marker → ℕ → Attempt → Bool → Exchange
-  made_if m n a idle = if idle then e else after_answer plan k m n a (told_of k e.words a) e
-
-  cases_by : (m : Marker) (work : Work) → slice_get e.markers k ≡ Some m → m.work ≡ work → (stepped_by plan k m work e ≡ e) ⊎ IsMade plan e k (stepped_by plan k m work e)
-  cases_by m Idle there at = inl refl
-  cases_by m (Does n a) there at = by (is_rest (act a)) refl where
-    by : (idle : Bool) → is_rest (act a) ≡ idle → (made_if m n a idle ≡ e) ⊎ IsMade plan e k (made_if m n a idle)
-    by true rest = inl refl
-    by false rest = inr (record { number = n; marker = m; attempt = a; there = there; at = at; goes = rest; is = refl })
-
-  cases_at : (found : Option Marker) → slice_get e.markers k ≡ found → (stepped_at plan k found e ≡ e) ⊎ IsMade plan e k (stepped_at plan k found e)
-  cases_at None there = inl refl
-  cases_at (Some m) there = cases_by m m.work there refl
+  abbrev pub made_if : Bool → Marker → ℕ → Attempt → Exchange
+  made_if idle m n a = if idle then e else after_answer plan k m n a (told_of k e.words a) e
 
   pub step_cases : (after_step plan k e ≡ e) ⊎ IsMade plan e k (after_step plan k e)
   unfolding after_step
-  step_cases = cases_at (slice_get e.markers k) refl
+  step_cases = at_job_has Cases e (λ m n a. made_if (is_rest (act a)) m n a) e k (inl refl) (λ n a at. by n a at (is_rest (act a)) refl) where
+    Cases : Exchange → Type 0
+    Cases after = (after ≡ e) ⊎ IsMade plan e k after
 
--- a step of an attempt of which something is left
-pub step_made : (plan : Tables) (e : Exchange) (k n : ℕ) (m : Marker) (a : Attempt) → slice_get e.markers k ≡ Some m → m.work ≡ Does n a → is_rest (act a) ≡ false → after_step plan k e ≡ after_answer plan k m n a (told_of k e.words a) e
-unfolding after_step
-step_made plan e k n m a there at goes =
-    ap (λ (found : Option Marker). stepped_at plan k found e) there
-    ∙ ap (λ (work : Work). stepped_by plan k m work e) at
-    ∙ ap (λ (idle : Bool). if idle then e else after_answer plan k m n a (told_of k e.words a) e) goes
+    by : (n : ℕ) (a : Attempt) (at : IsAt e k n a) (idle : Bool) → is_rest (act a) ≡ idle → Cases (made_if idle at.marker n a)
+    by n a at true rest = inl refl
+    by n a at false rest = inr (record { number = n; attempt = a; at = at; goes = rest; is = refl })
+
+  -- the step of an attempt
+  pub step_at : (n : ℕ) (a : Attempt) (at : IsAt e k n a) → after_step plan k e ≡ made_if (is_rest (act a)) at.marker n a
+  unfolding after_step
+  step_at n a at = at_job_is e (λ m i b. made_if (is_rest (act b)) m i b) e k n a at
+
+  -- and of one of which something is left
+  pub step_made : (n : ℕ) (a : Attempt) (at : IsAt e k n a) → is_rest (act a) ≡ false → after_step plan k e ≡ after_answer plan k at.marker n a (told_of k e.words a) e
+  step_made n a at goes = step_at n a at ∙ ap (λ (idle : Bool). made_if idle at.marker n a) goes
+
+-- and then it has gone on by its answer
+pub now_at : (plan : Tables) (e : Exchange) (k n : ℕ) (a : Attempt) (told : Answer) (at : IsAt e k n a) → IsAt (after_answer plan k at.marker n a told e) k n (change (office plan) a told)
+now_at plan e k n a told at = record {
+  marker = record at.marker { work = Does n (change (office plan) a told) };
+  there = marker_set e.markers k _ at.marker at.there;
+  work = refl;
+}
+
+pub gone_on : (plan : Tables) (e : Exchange) (k n : ℕ) (a : Attempt) → IsAt e k n a → is_rest (act a) ≡ false → IsAt (after_step plan k e) k n (change (office plan) a (told_of k e.words a))
+gone_on plan e k n a at goes =
+    let told = told_of k e.words a in
+    subst (λ (x : Exchange). IsAt x k n (change (office plan) a told)) (sym (step_made plan e k n a at goes)) (now_at plan e k n a told at)
 
 -- as many markers stay
 pub step_count : (plan : Tables) (e : Exchange) (k : ℕ) → length (after_step plan k e).markers ≡ length e.markers

@@ -1,6 +1,6 @@
 -- what a step of a marker comes to, part by part
 use Rattle.std.proofs.Common.{◌≡◌, ℕ, ◌<◌, Bool, true, false, List, ◌++◌, length, get_or, take, drop, refl, sym, ◌∙◌, ap, subst}
-use Rattle.std.specs.Prelude.{Option, Some, if◌then◌else◌, slice_get, slice_set}
+use Rattle.std.specs.Prelude.{Some, slice_get, slice_set}
 use Rattle.std.proofs.Math.Seq.{take-append_seam}
 use Rattle.std.proofs.lemmas.Option.{slice_get_read}
 use Rattle.turns.specs.Attempt.{act, change}
@@ -12,12 +12,13 @@ use Rattle.xbar_jobs.specs.Attempt.{counted, next_step, with_count}
 use Rattle.xbar_jobs.specs.Office.{office}
 use Rattle.xbar_jobs.specs.OnWords.{words_after}
 use Rattle.xbar_core.specs.AtWork.{told_of}
-use Rattle.xbar_core.specs.Exchange.{Exchange, Marker, Work as TheWork, is_idle}
-use Rattle.xbar_core.specs.Moves.{after_answer, event_at, event_at_step, event_by, added_record, after_step, stepped_at, stepped_by}
+use Rattle.xbar_core.specs.Exchange.{Exchange, Marker, Work as TheWork, at_marker, is_idle, on_job}
+use Rattle.xbar_core.specs.Moves.{event_at_step, event_by, added_record, after_step}
+use Rattle.xbar_core.specs.declared.event.Event.TheVariants as event
 use Rattle.xbar_core.specs.declared.kind.Kind.{Kind}
 use Rattle.xbar_core.specs.declared.work.Work.{Work}
 use Rattle.xbar_core.proofs.Markers.{marker_same}
-use Rattle.xbar_core.proofs.StepCases.{step_made}
+use Rattle.xbar_core.proofs.StepCases.{made_if, step_made}
 
 -- words that are written whole
 written : (words new : List ℕ) (len : ℕ) → len ≡ length words → length new ≡ length words → take len (new ++ drop (length new) words) ≡ new
@@ -38,10 +39,10 @@ module _ (plan : Tables) (e : Exchange) (k : ℕ) (m : Marker) (there : slice_ge
   -- an idle marker makes no step
   pub step_idle : is_idle m.work ≡ true → after_step plan k e ≡ e
   unfolding after_step
-  step_idle idle = ap (λ (found : Option Marker). stepped_at plan k found e) there ∙ by m.work idle where
-    by : (work : TheWork) → is_idle work ≡ true → stepped_by plan k m work e ≡ e
+  step_idle idle = ap (at_marker e (λ o. on_job e (λ n a. made_if plan e k (is_rest (act a)) o n a) o.work)) there ∙ by m.work idle where
+    by : (work : TheWork) → is_idle work ≡ true → on_job e (λ n a. made_if plan e k (is_rest (act a)) m n a) work ≡ e
     by Idle is = refl
-    by (Does n a) is = ap (λ (idle : Bool). if idle then e else after_answer plan k m n a (told_of k e.words a) e) is
+    by (Does n a) is = ap (λ (idle : Bool). made_if plan e k idle m n a) is
 
   pub step_rests : (after : Marker) → is_idle m.work ≡ true → after ≡ m → record { words = e.words; markers = slice_set e.markers k after; records = e.records } ≡ after_step plan k e
   step_rests after idle is =
@@ -51,7 +52,7 @@ module _ (plan : Tables) (e : Exchange) (k : ℕ) (m : Marker) (there : slice_ge
 
   -- what comes of a step is told by the marker's work
   pub event_there : event_by plan k e.words m.work ≡ event_at_step plan k e
-  event_there = ap (event_at plan k e.words) (sym there)
+  event_there = ap (at_marker event.Idle (λ o. event_by plan k e.words o.work)) (sym there)
 
   -- marker k is not idle: its word, its work and the records are as told
   pub step_goes : (kind : Kind) (work after : Work) (words : List ℕ) (records : List Record)
@@ -66,4 +67,4 @@ module _ (plan : Tables) (e : Exchange) (k : ℕ) (m : Marker) (there : slice_ge
       let told = told_of k e.words a in
       let was : Marker = record { kind = kind; work = Does work.job_no a } in
       (λ i. record { words = words_is i; markers = slice_set e.markers k (record { kind = kind; work = Does (after_is i).job_no (after_is i).program.attempt }); records = records_is i })
-      ∙ sym (step_made plan e k work.job_no was a (there ∙ ap Some at) refl goes)
+      ∙ sym (step_made plan e k work.job_no a (record { marker = was; there = there ∙ ap Some at; work = refl }) goes)

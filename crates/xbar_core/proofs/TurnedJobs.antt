@@ -1,9 +1,8 @@
 -- what a marker past its turn decided on words that show the set before its record, and what it has made of it
 use Rattle.std.proofs.Common.{◌≡◌, ℕ, zero, suc, List, [], ◌∷◌, ◌++◌, length, map, take, slice_index, refl, sym, ◌∙◌, ap, subst, arith}
-use Rattle.std.specs.Prelude.{Some, Ok, slice_get}
+use Rattle.std.specs.Prelude.{Some, slice_get}
 use Rattle.std.proofs.lemmas.Option.{slice_get-map}
 use Rattle.turns.specs.Among.{IsIn}
-use Rattle.turns.specs.Attempt.{HasTurned, StandsIn}
 use Rattle.turns.specs.Law.{FitsIn, IsOperating, IsRecorded, IsSound}
 use Rattle.turns.specs.Script.{run}
 use Rattle.turns.specs.System.{AreDue, AreUnder, IsUnder}
@@ -26,11 +25,12 @@ use Rattle.xbar_jobs.specs.Keeping.{AreEffects}
 use Rattle.xbar_jobs.specs.Office.{ShowsOffice, office}
 use Rattle.xbar_jobs.specs.declared.decision.Decision.{Decision}
 use Rattle.xbar_jobs.specs.declared.effect.Effect.{Effect}
-use Rattle.xbar_jobs.proofs.Covered.{walk_range}
+use Rattle.xbar_jobs.proofs.Covered.{run_range}
 use Rattle.xbar_jobs.proofs.OfficeSystem.{script_decides}
 use Rattle.xbar_core.specs.Exchange.{Exchange, IsLawfulExchange, turned, world}
 use Rattle.xbar_core.specs.Holding.{IsAt}
 use Rattle.xbar_core.specs.Links.{IsPastTurn}
+use Rattle.xbar_core.proofs.HeldWords.{past_turn}
 use Rattle.xbar_core.proofs.Actors.{actor_at}
 use Rattle.xbar_core.proofs.FinishedJobs.{IsTurn, turn_there}
 use Rattle.xbar_core.proofs.Records.{replies_legal}
@@ -107,27 +107,14 @@ module _ (plan : Tables) (laws : IsLawful plan) (e : Exchange) (lawful : IsLawfu
   -- the effects that are left are of the office
   left_range : AreEffects a.effects
   left_range effect within =
-      let stands : HasTurned (office plan) a = subst (StandsIn (office plan) a) past sound.stands in
-      let all = (walk_range plan stands.seen a.job (Ok stands.decision) laws sound.job (sym stands.come)).0 in
-      all effect (subst (IsIn effect) (sym stands.effects) (in_back effect stands.made a.effects within))
+      let all = run_range plan fits.decided.words a.job laws sound.job fits.decided.are_words in
+      all effect (subst (IsIn effect) (sym fits.decided.effects) (in_back effect fits.decided.made a.effects within))
 
   -- what a marker past its turn decided
   pub decided : Decided plan e k a
   decided = record {
     place = known.place;
-    past = record {
-      number = number;
-      at = at;
-      turn = turn;
-      past = past;
-      recorded = found.found;
-      stands = found.there;
-      turn_is = ap (λ (t : worlds.Record Job Reply). t.turn) found.turn ∙ known.turn_is;
-      marker = ap (λ (t : worlds.Record Job Reply). t.actor) found.turn ∙ known.actor;
-      number_is = ap (λ (t : worlds.Record Job Reply). t.number) found.turn ∙ known.number_is;
-      job = job_is;
-      reply = known.reply ∙ ap (λ (t : worlds.Record Job Reply). Some t.reply) (sym found.turn);
-    };
+    past = past_turn plan e k number turn a at past known found;
     job = sound.job;
     words = fits.decided.words;
     size = fits.decided.size;

@@ -1,13 +1,11 @@
 -- the moves of an office are moves of its world, so each of them is lawful
-use Rattle.std.proofs.Common.{◌≡◌, ℕ, ◌≤◌, Bool, true, false, List, [], ◌∷◌, ◌++◌, length, map, replicate, slice_index, refl, sym, ◌∙◌, ap, subst}
+use Rattle.std.proofs.Common.{◌≡◌, ℕ, ◌≤◌, Bool, true, false, List, [], ◌∷◌, ◌++◌, length, map, replicate, slice_index, inl, inr, refl, sym, ◌∙◌, ap, subst}
 use Rattle.std.specs.Prelude.{Option, Some, None, ◌==◌, if◌then◌else◌, slice_get, slice_set}
-use mathlib.Core.Option.{some}
 use Rattle.turns.specs.Attempt as generic
 use Rattle.turns.specs.Attempt.{act, act_in, begin_with, change, closing_act, free_act, request_in, restarted, unless_put_off as told_by}
 use Rattle.turns.specs.Law.{IsFree, Lawful}
-use Rattle.turns.specs.Runs.{is_rest}
 use Rattle.turns.specs.World as worlds
-use Rattle.turns.specs.World.{ActorOf, Idle, Does, World, added_in, becomes, moved, place}
+use Rattle.turns.specs.World.{Idle, Does, added_in, becomes, moved, place, with_actor}
 use Rattle.turns.specs.declared.answer.Answer.{Answer}
 use Rattle.turns.specs.declared.answer.Answer.TheVariants.{Asked, Seized, Again}
 use Rattle.turns.specs.declared.judgement.Judgement.{Judgement}
@@ -24,7 +22,6 @@ use Rattle.xbar_office.specs.declared.job.Job.{Job}
 use Rattle.xbar_office.specs.declared.reply.Record.{Record}
 use Rattle.xbar_office.specs.declared.reply.Reply.{Reply}
 use Rattle.xbar_jobs.specs.Attempt.{Attempt, Phase, next_step}
-use Rattle.xbar_jobs.specs.Jobs.{first_conn}
 use Rattle.xbar_jobs.specs.Office.{office}
 use Rattle.xbar_jobs.specs.OnWords as steps
 use Rattle.turns.specs.Operations.{applied}
@@ -35,11 +32,15 @@ use Rattle.xbar_jobs.proofs.OfficeSystem.{office_is}
 use Rattle.xbar_jobs.proofs.StepActs.{act_answer, act_operation, act_word}
 use Rattle.xbar_core.specs.Exchange.{Exchange, IsLawfulExchange, Marker, Work, is_idle, fresh_exchange, turned, world}
 use Rattle.xbar_core.specs.Kinds.{takes}
-use Rattle.xbar_core.specs.Moves.{after_answer, assigned, assigned_at, begun_anew, given_back, record_of, added_record, refusal, refusal_at, refusal_of, after_step, stepped_at, stepped_by}
+use Rattle.xbar_core.specs.Moves.{after_answer, assigned, begun_anew, given_back, record_of, added_record, refusal, refusal_of, after_step, with_work}
 use Rattle.xbar_core.specs.Settling.{settled}
-use Rattle.xbar_core.specs.declared.assign_fault.AssignFault.TheVariants.{NotIdle, WrongKind}
+use Rattle.xbar_core.specs.declared.assign_fault.AssignFault.{AssignFault}
+use Rattle.xbar_core.specs.declared.assign_fault.AssignFault.TheVariants.{NoMarker, NotIdle, WrongKind}
 use Rattle.xbar_core.specs.declared.kind.Kind.{Kind}
+use Rattle.xbar_core.proofs.Actors.{actor_at}
+use Rattle.xbar_core.proofs.Jobs.{assigned_is, at_marker_has}
 use Rattle.xbar_core.proofs.Markers.{actor_there, works, works_set}
+use Rattle.xbar_core.proofs.StepCases.{step_cases}
 use Rattle.xbar_core.proofs.Keeping.{KeepsRestarts, back_keeps, begun_keeps, settled_keeps}
 
 turned_more : (records more : List Record) → map turned (records ++ more) ≡ map turned records ++ map turned more
@@ -67,16 +68,16 @@ module _ (plan : Tables) where
   adds_closed k n found a [] held = adds_freed k n found a held
   adds_closed k n found a (effect ∷ effects) held = refl
 
-  of_reply : (k n found : ℕ) (job : Job) (reply : Option Reply) → map turned (record_of found k n job reply) ≡ worlds.turn_record (office plan) k n job reply found
-  of_reply k n found job None = refl
-  of_reply k n found job (Some reply) = refl
+  of_reply : (k n found : ℕ) (a : Attempt) (reply : Option Reply) → map turned (record_of found k n (record a { reply = reply })) ≡ worlds.turn_record (office plan) k n a.job reply found
+  of_reply k n found a None = refl
+  of_reply k n found a (Some reply) = refl
 
   -- a step adds the record that it adds in the world
   pub added_at : (k n found : ℕ) (a : Attempt) (phase : Phase) → map turned (added_record k n a (generic.answer_to (office plan) k (act_in phase a) found)) ≡ added_in (office plan) k n a phase found
   added_at k n found a (Requests conn) = ap (map turned) (adds_asked k n _ a _)
   added_at k n found a (Seizes conn expected) = ap (map turned) (adds_seized k n found a (found == expected) _)
   added_at k n found a (Tests word) = refl
-  added_at k n found a Turns = of_reply k n found a.job a.reply
+  added_at k n found a Turns = of_reply k n found a a.reply
   added_at k n found a (Withdraws conn) = refl
   added_at k n found a GivesBack = ap (map turned) (adds_freed k n found a a.held)
   added_at k n found a (Operates turn) = ap (map turned) (adds_closed k n found a a.effects a.held)
@@ -115,40 +116,28 @@ idle_free plan Idle e = tt
 idle_free plan (Does number a) e = rest_is (act a) e
 
 -- a job that is not refused goes to a marker that is there and idle
-pub refused_none : (m : Marker) (job : Job) → refusal_of m job ≡ None → is_idle m.work ≡ true
-refused_none m job e = by (is_idle m.work) refl e where
-  by : (idle : Bool) → is_idle m.work ≡ idle → (if idle then (if takes m.kind job then None else Some WrongKind) else Some NotIdle) ≡ None → is_idle m.work ≡ true
-  by true is none = is
-  by false is none = absurd cc
+pub record IsTaken (e : Exchange) (k : ℕ) : Type 0 where
+  pub marker : Marker
+  pub there : slice_get e.markers k ≡ Some marker
+  pub idle : is_idle marker.work ≡ true
 
-module _ (plan : Tables) (laws : IsLawful plan) where
-  work_lawful : (e : Exchange) (k n : ℕ) (m : Marker) (a : Attempt) → IsLawfulExchange plan e → slice_get e.markers k ≡ Some m → m.work ≡ Does n a → IsLawfulExchange plan (after_answer plan k m n a (answer_of k (next_step a) e.words) e)
-  work_lawful e k n m a law there at = subst (Lawful (office plan)) (moved_is plan e k n m a) (keeps (office plan) (office_is plan laws) (world plan e) law k n a (actor_there e.markers k m there ∙ ap some at))
+pub taken : (e : Exchange) (k : ℕ) (job : Job) → refusal e k job ≡ None → IsTaken e k
+taken e k job = at_marker_has Takes (Some NoMarker) (λ m. refusal_of m job) (slice_get e.markers k) (λ free. absurd cc) (λ m there. by m there (is_idle m.work) refl) where
+  Takes : Option AssignFault → Type 0
+  Takes why = why ≡ None → IsTaken e k
 
-  step_lawful : (e : Exchange) (k : ℕ) (m : Marker) (work : Work) → IsLawfulExchange plan e → slice_get e.markers k ≡ Some m → m.work ≡ work → IsLawfulExchange plan (stepped_by plan k m work e)
-  step_lawful e k m Idle law there at = law
-  step_lawful e k m (Does n a) law there at = by (is_rest (act a)) where
-    by : (idle : Bool) → IsLawfulExchange plan (if idle then e else after_answer plan k m n a (answer_of k (next_step a) e.words) e)
-    by true = law
-    by false = work_lawful e k n m a law there at
+  by : (m : Marker) → slice_get e.markers k ≡ Some m → (idle : Bool) → is_idle m.work ≡ idle → Takes (if idle then (if takes m.kind job then None else Some WrongKind) else Some NotIdle)
+  by m there true is free = record { marker = m; there = there; idle = is }
+  by m there false is free = absurd cc
 
-  stepped_lawful : (e : Exchange) (k : ℕ) (found : Option Marker) → IsLawfulExchange plan e → slice_get e.markers k ≡ found → IsLawfulExchange plan (stepped_at plan k found e)
-  stepped_lawful e k None law there = law
-  stepped_lawful e k (Some m) law there = step_lawful e k m m.work law there refl
+-- an office with a marker set is lawful where its world is
+set_lawful : (plan : Tables) (e : Exchange) (k : ℕ) (m : Marker) (work : Work) → Lawful (office plan) (with_actor (office plan) k work (world plan e)) → IsLawfulExchange plan (with_work k m work e)
+set_lawful plan e k m work law =
+    subst (λ (actors : List Work). Lawful (office plan) (record { words = e.words; actors = actors; order = map turned e.records })) (sym (works_set e.markers k (record m { work = work }))) law
 
-  assigned_lawful : (e : Exchange) (k n : ℕ) (job : Job) (found : Option Marker) → IsLawfulExchange plan e → IsJob job → slice_get e.markers k ≡ found → refusal_at found job ≡ None → IsLawfulExchange plan (assigned_at k n job found e)
-  assigned_lawful e k n job None law in_range there free = law
-  assigned_lawful e k n job (Some m) law in_range there free =
-      subst (λ (actors : List Work). Lawful (office plan) (record { words = e.words; actors = actors; order = map turned e.records }))
-      (sym (works_set e.markers k (record m { work = Does n (begin_with (first_conn job) job) })))
-      (assigns (office plan) (office_is plan laws) (world plan e) law k n m.work job (actor_there e.markers k m there) (idle_free plan m.work (refused_none m job free)) in_range)
-
-  -- a marker that is to give back begins its job anew
-  pub restarted_lawful : (k : ℕ) → KeepsRestarts plan (IsLawfulExchange plan) k
-  restarted_lawful k e n m a law there at =
-      subst (λ (actors : List Work). Lawful (office plan) (record { words = e.words; actors = actors; order = map turned e.records }))
-      (sym (works_set e.markers k (record m { work = Does n (restarted (office plan) a) })))
-      (gives_back (office plan) (office_is plan laws) (world plan e) law k n a (actor_there e.markers k m there ∙ ap some at))
+-- an attempt that begins anew
+pub restarted_lawful : (plan : Tables) → IsLawful plan → (k : ℕ) → KeepsRestarts plan (IsLawfulExchange plan) k
+restarted_lawful plan laws k e n a law at = set_lawful plan e k at.marker _ (gives_back (office plan) (office_is plan laws) (world plan e) law k n a (actor_at e k n a at))
 
 -- an office opens lawfully
 pub lawful_opened : (plan : Tables) (kinds : List Kind) → IsLawful plan → length kinds ≤ 48 → IsLawfulExchange plan (fresh_exchange kinds)
@@ -158,12 +147,20 @@ lawful_opened plan kinds laws few =
 
 -- a job that is not refused keeps the office lawful
 pub lawful_assigned : (plan : Tables) (e : Exchange) (k number : ℕ) (job : Job) → IsLawful plan → IsLawfulExchange plan e → IsJob job → refusal e k job ≡ None → IsLawfulExchange plan (assigned k number job e)
-lawful_assigned plan e k number job laws law in_range free = assigned_lawful plan laws e k number job (slice_get e.markers k) law in_range refl free
+lawful_assigned plan e k number job laws law in_range free =
+    let to = taken e k job free in
+    let goes = assigns (office plan) (office_is plan laws) (world plan e) law k number to.marker.work job (actor_there e.markers k to.marker to.there) (idle_free plan to.marker.work to.idle) in_range in
+    subst (IsLawfulExchange plan) (sym (assigned_is e k to.marker to.there number job)) (set_lawful plan e k to.marker _ goes)
 
 -- so does a step of a marker
 pub lawful_stepped : (plan : Tables) (e : Exchange) (k : ℕ) → IsLawful plan → IsLawfulExchange plan e → IsLawfulExchange plan (after_step plan k e)
-unfolding after_step
-lawful_stepped plan e k laws law = stepped_lawful plan laws e k (slice_get e.markers k) law refl
+lawful_stepped plan e k laws law = elim (step_cases plan e k) [
+  | inl same ↦ subst (IsLawfulExchange plan) (sym same) law
+  | inr words_after ↦
+      subst (IsLawfulExchange plan) (sym words_after.is)
+      (subst (Lawful (office plan)) (moved_is plan e k words_after.number words_after.at.marker words_after.attempt)
+      (keeps (office plan) (office_is plan laws) (world plan e) law k words_after.number words_after.attempt (actor_at e k words_after.number words_after.attempt words_after.at)))
+]
 
 -- so does a marker that is to begin its job anew
 pub lawful_begun_anew : (plan : Tables) (e : Exchange) (k : ℕ) → IsLawful plan → IsLawfulExchange plan e → IsLawfulExchange plan (begun_anew plan k e)

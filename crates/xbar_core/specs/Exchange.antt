@@ -1,4 +1,4 @@
-use Rattle.std.specs.Prelude.{ℕ, Bool, true, List, [], map, replicate}
+use Rattle.std.specs.Prelude.{ℕ, Bool, true, Option, Some, None, List, [], map, replicate}
 use Rattle.turns.specs.Law.{Lawful}
 use Rattle.turns.specs.World as worlds
 use Rattle.turns.specs.Attempt.{act}
@@ -9,6 +9,7 @@ use Rattle.xbar_plan.specs.Tables.{Tables}
 use Rattle.xbar_office.specs.declared.job.Job.{Job}
 use Rattle.xbar_office.specs.declared.reply.Record.{Record}
 use Rattle.xbar_office.specs.declared.reply.Reply.{Reply}
+use Rattle.xbar_jobs.specs.Attempt.{Attempt}
 use Rattle.xbar_jobs.specs.Office.{office}
 use Rattle.xbar_jobs.specs.declared.effect.Effect.{Effect}
 use Rattle.xbar_core.specs.declared.kind.Kind.{Kind}
@@ -26,7 +27,18 @@ pub record Marker : Type 0 where
   pub kind : Kind
   pub work : Work
 
--- an office of many markers: its words, its markers in the order of their numbers, and the records of the jobs that have turned, in turn order
+-- something of a marker, if there is one of the number
+abbrev pub at_marker {ℓ} : {A : Type ℓ} → A → (Marker → A) → Option Marker → A
+at_marker otherwise of_marker None = otherwise
+at_marker otherwise of_marker (Some m) = of_marker m
+
+-- something of a marker's job, if it has one
+abbrev pub on_job {ℓ} : {A : Type ℓ} → A → (ℕ → Attempt → A) → Work → A
+on_job otherwise of_job worlds.Idle = otherwise
+on_job otherwise of_job (worlds.Does number a) = of_job number a
+
+-- an office of many markers: its words, its markers in the order of their numbers, and the records
+-- of the jobs that have turned, in turn order
 pub record Exchange : Type 0 where
   pub words : List ℕ
   pub markers : List Marker
@@ -34,15 +46,29 @@ pub record Exchange : Type 0 where
 
 -- an office opens with all words 0 and all markers idle
 abbrev pub fresh_exchange : List Kind → Exchange
-fresh_exchange kinds = record { words = replicate word_count 0; markers = map (λ kind. record { kind = kind; work = worlds.Idle }) kinds; records = [] }
+fresh_exchange kinds = record {
+  words = replicate word_count 0;
+  markers = map (λ kind. record { kind = kind; work = worlds.Idle }) kinds;
+  records = [];
+}
 
 -- the record of a turn, as any system of jobs has it
 abbrev pub turned : Record → worlds.Record Job Reply
-turned r = record { turn = r.turn; actor = r.marker; number = r.job_no; job = r.job; reply = r.reply }
+turned r = record {
+  turn = r.turn;
+  actor = r.marker;
+  number = r.job_no;
+  job = r.job;
+  reply = r.reply;
+}
 
 -- the office as a world of actors at the jobs of its plan
 abbrev pub world : (plan : Tables) → Exchange → worlds.World (office plan)
-world plan e = record { words = e.words; actors = map (λ m. m.work) e.markers; order = map turned e.records }
+world plan e = record {
+  words = e.words;
+  actors = map (λ m. m.work) e.markers;
+  order = map turned e.records;
+}
 
 -- an office that its plan's markers can come to
 abbrev pub IsLawfulExchange : Tables → Exchange → Type 0

@@ -1,13 +1,12 @@
-use Rattle.std.specs.Prelude.{◌≡◌, ◌↔◌, ℕ, ◌+◌, ◌<◌, ◌≤◌, ◌%◌, ◌⊎◌, Option, Some, None, List, slice_get}
+use Rattle.std.specs.Prelude.{◌≡◌, ◌↔◌, ℕ, ◌+◌, ◌<◌, ◌≤◌, ◌%◌, ◌⊎◌, Some, List, slice_get}
 use Rattle.std.specs.Int.{bit_at}
 use Rattle.turns.specs.Among.{IsIn}
-use Rattle.turns.specs.Attempt.{request_in}
+use Rattle.turns.specs.Attempt.{asked_in, request_in}
 use Rattle.turns.specs.World as worlds
 use Rattle.turns.specs.World.{Does}
-use Rattle.turns.specs.declared.phase.Phase.TheVariants.{Requests, Seizes, Tests, Turns, Withdraws, GivesBack, Operates}
 use Rattle.xbar_equip.specs.declared.conn.Conn.{Conn}
 use Rattle.xbar_plan.specs.Tables.{Tables}
-use Rattle.xbar_jobs.specs.Attempt.{Attempt, Phase}
+use Rattle.xbar_jobs.specs.Attempt.{Attempt}
 use Rattle.xbar_jobs.specs.Office.{office}
 use Rattle.xbar_core.specs.Exchange.{Exchange, Marker, world}
 
@@ -31,16 +30,6 @@ pub record HasRequested (e : Exchange) (k : ℕ) (conn : Conn) : Type 0 where
   pub at : IsAt e k number attempt
   pub request : request_in attempt.phase ≡ Some conn
 
--- the connector that a marker in this phase is to request, or to try to seize
-abbrev pub asked_in : Phase → Option Conn
-asked_in (Requests conn) = Some conn
-asked_in (Seizes conn expected) = Some conn
-asked_in (Tests word) = None
-asked_in Turns = None
-asked_in (Withdraws conn) = None
-asked_in GivesBack = None
-asked_in (Operates turn) = None
-
 -- marker k requests a connector by its next step, or tries to seize it
 pub record AsksFor (e : Exchange) (k : ℕ) (conn : Conn) : Type 0 where
   pub number : ℕ
@@ -48,7 +37,8 @@ pub record AsksFor (e : Exchange) (k : ℕ) (conn : Conn) : Type 0 where
   pub at : IsAt e k number attempt
   pub asked : asked_in attempt.phase ≡ Some conn
 
--- a connector's word: in its lowest six bits one more than the number of the marker that holds it, and 0 where none does; bit 8 + k where marker k has requested it; no other bits
+-- a connector's word: in its lowest six bits one more than the number of the marker that holds it,
+-- and 0 where none does; bit 8 + k where marker k has requested it; no other bits
 pub record TellsTruth (e : Exchange) (conn : Conn) (word : ℕ) : Type 0 where
   pub holder : (k : ℕ) → (word % 64 ≡ k + 1) ↔ Holds e k conn
   pub free : ((k : ℕ) → ¬ Holds e k conn) → word % 64 ≡ 0

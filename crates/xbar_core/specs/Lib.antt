@@ -11,3 +11,4 @@ pub mod Runs
 pub mod Holding
 pub mod Links
 pub mod AtWork
+pub mod Ends

@@ -26,7 +26,8 @@ pub record Joint : Type 0 where
   pub crosspoint : Crosspoint
   pub link : Link
 
--- what the four crosspoints of a path join: the line to the line link, that to the junctor, that to the trunk link, and that to the place
+-- what the four crosspoints of a path join: the line to the line link, that to the junctor, that to
+-- the trunk link, and that to the place
 abbrev pub joints : Path → List Joint
 joints path =
     let line = crosspoint_at (LineSwitch path.line.frame path.line.switch) path.channel path.line.x in
@@ -53,7 +54,8 @@ pub record IsClosed (words : List ℕ) (c : Crosspoint) : Type 0 where
   pub closed : 0 < c.value
   pub held : held_at words c.word c.field ≡ c.value
 
--- marker k is past its turn; the record of its job stands at this place, with its turn, marker, number, job and reply
+-- marker k is past its turn; the record of its job stands at this place, with its turn, marker,
+-- number, job and reply
 pub record IsPastTurn (e : Exchange) (k place : ℕ) (a : Attempt) : Type 0 where
   pub number : ℕ
   pub at : IsAt e k number a
@@ -67,7 +69,8 @@ pub record IsPastTurn (e : Exchange) (k place : ℕ) (a : Attempt) : Type 0 wher
   pub job : recorded.job ≡ a.job
   pub reply : a.reply ≡ Some recorded.reply
 
--- a marker past its turn takes a path out, which was in the set before its record and is not after it, and still has this crosspoint of the path to open
+-- a marker past its turn takes a path out, which was in the set before its record and is not after
+-- it, and still has this crosspoint of the path to open
 pub record HasToOpen (plan : Tables) (e : Exchange) (path : Path) (c : Crosspoint) : Type 0 where
   pub k : ℕ
   pub place : ℕ
@@ -77,13 +80,16 @@ pub record HasToOpen (plan : Tables) (e : Exchange) (path : Path) (c : Crosspoin
   pub gone : ¬ IsIn path (after plan (take (suc place) e.records))
   pub left : IsIn (Open c) attempt.effects
 
--- a crosspoint belongs to a path that has it: one of the set after all records, or one that is taken out and is to be opened there
+-- a crosspoint belongs to a path that has it: one of the set after all records, or one that is
+-- taken out and is to be opened there
 pub record BelongsTo (plan : Tables) (e : Exchange) (path : Path) (c : Crosspoint) : Type 0 where
   pub has : IsIn c (crosspoints path)
   pub why : IsIn path (after plan e.records) ⊎ HasToOpen plan e path c
 
--- what a marker past its turn has left is the end of what a release of these paths opens, crosspoint by crosspoint and then the member's bit, and each of it is closed when its turn comes
-pub record OpensItsOwn (plan : Tables) (own : Path) (other : Option Path) (words : List ℕ) (effects : List Effect) : Type 0 where
+-- what a marker past its turn has left is the end of what a release of these paths opens,
+-- crosspoint by crosspoint and then the member's bit, and each of it is closed when its turn comes
+pub record OpensItsOwn (plan : Tables) (own : Path) (other : Option Path)
+    (words : List ℕ) (effects : List Effect) : Type 0 where
   pub found : MemberPlace
   pub here : member_place plan own.place ≡ Some found
   pub made : List Effect

@@ -9,7 +9,9 @@ use Rattle.xbar_core.specs.declared.kind.Kind.{Kind}
 use Rattle.std.specs.Prelude.{Option, None, Some}
 use Rattle.xbar_core.specs.declared.assign_fault.AssignFault.{AssignFault}
 
--- what may happen in an office: a job is assigned to a marker under a number, a marker makes its next step, is to begin its job anew, or gives back all that it holds at once, or the office settles
+-- what may happen in an office: a job is assigned to a marker under a number, a marker makes its
+-- next step, is to begin its job anew, or gives back all that it holds at once, or the office
+-- settles
 pub data Move : Type 0 where
   Assigns : ℕ → ℕ → Job → Move
   Steps : ℕ → Move

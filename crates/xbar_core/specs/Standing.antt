@@ -1,15 +1,13 @@
-use Rattle.std.specs.Prelude.{◌≡◌, ℕ, ◌+◌, ◌≤◌, Some, List, [], ◌∷◌, length, slice_get, ⊤}
-use Rattle.turns.specs.World.{Idle, Does}
-use Rattle.turns.specs.declared.phase.Phase.TheVariants.{Requests, Seizes, Tests, Turns, Withdraws, GivesBack, Operates}
+use Rattle.std.specs.Prelude.{◌≡◌, ℕ, ◌+◌, ◌≤◌, Some, is_some, List, [], ◌∷◌, length, slice_get, ⊤, if◌then◌else◌}
+use Rattle.turns.specs.Attempt.{turn_in}
 use Rattle.xbar_plan.specs.Tables.{Tables}
 use Rattle.xbar_jobs.specs.Attempt.{Phase}
 use Rattle.xbar_jobs.specs.Standing.{Stands}
-use Rattle.xbar_core.specs.Exchange.{Exchange, IsLawfulExchange, Marker, Work}
+use Rattle.xbar_core.specs.Exchange.{Exchange, IsLawfulExchange, Marker, Work, on_job}
 
 -- a marker's attempt stands where its job brings it
 abbrev pub StandsAt : Tables → Work → Type 0
-StandsAt plan Idle = ⊤
-StandsAt plan (Does number a) = Stands plan a
+StandsAt plan work = on_job ⊤ (λ number a. Stands plan a) work
 
 -- what every office keeps that markers drive
 pub record IsExchange (plan : Tables) (e : Exchange) : Type 0 where
@@ -18,17 +16,10 @@ pub record IsExchange (plan : Tables) (e : Exchange) : Type 0 where
 
 -- a job whose turn is still to come
 abbrev pub waits_in : Phase → ℕ
-waits_in (Requests conn) = 1
-waits_in (Seizes conn expected) = 1
-waits_in (Tests word) = 1
-waits_in Turns = 1
-waits_in (Withdraws conn) = 1
-waits_in GivesBack = 1
-waits_in (Operates turn) = 0
+waits_in phase = if is_some (turn_in phase) then 0 else 1
 
 abbrev pub waits : Work → ℕ
-waits Idle = 0
-waits (Does number a) = waits_in a.phase
+waits work = on_job 0 (λ number a. waits_in a.phase) work
 
 -- how many markers have a job whose turn is still to come
 unfoldable pub waiting : List Marker → ℕ

@@ -4,9 +4,10 @@ ghost use Rattle.std.specs.Prelude.{◌≡◌, ◌↔◌, ◌<◌, ◌≤◌, �
 ghost use Rattle.turns.specs.World.{Idle};
 ghost use Rattle.xbar_equip.specs.Word.{word_count};
 ghost use Rattle.xbar_office.specs.Legal.{IsJob};
-ghost use Rattle.xbar_core.specs.AtWork.{IsBackingAt, left_at};
+ghost use Rattle.xbar_core.specs.AtWork.{IsBackingAt};
+ghost use Rattle.xbar_core.specs.Ends.{Settles};
 ghost use Rattle.xbar_core.specs.Exchange.{IsLawfulExchange, Marker as TheMarker, is_idle as is_idle_work, fresh_exchange};
-ghost use Rattle.xbar_core.specs.Moves.{assigned, begun_anew, event_at_step, given_at, given_back, refusal, after_step, steps};
+ghost use Rattle.xbar_core.specs.Moves.{assigned, begun_anew, event_at_step, frees_left, given_at, given_back, refusal, after_step, steps};
 ghost use Rattle.xbar_core.specs.Settling.{ended, ended_past_turn, for_each, settled};
 
 use crate::assign_fault::AssignFault;
@@ -26,7 +27,7 @@ pub const MOST_MARKERS: usize = 48;
 
 /// A marker that no other is in the way of has no more steps to its end: two to withdraw and to try
 /// again, 19 frees, and the 114 of the job anew.
-const MOST_STEPS_ALONE: u32 = 135;
+const MOST_STEPS_ALONE: u32 = 134;
 
 /// An office of 1 to 48 markers, on words of its own.
 #[derive(Debug, Drop)]
@@ -43,14 +44,23 @@ impl<'p> Model for Exchange<'p> {
 
     ghost Value = { OfPlan };
 
-    ghost view = { λ a. record { plan = a.plan.now; exchange = record { words = a.words.items; markers = a.markers.items; records = a.records.items } } };
+    ghost view = { λ a. record {
+      plan = a.plan.now;
+      exchange =
+          record { words = a.words.items; markers = a.markers.items; records = a.records.items };
+    } };
 
-    ghost invariant = { λ a. IsExchange a.plan.now (record { words = a.words.items; markers = a.markers.items; records = a.records.items }) × HasRoom (record { words = a.words.items; markers = a.markers.items; records = a.records.items }) a.records.cap };
+    ghost invariant = { λ a. IsExchange a.plan.now
+        (record { words = a.words.items; markers = a.markers.items; records = a.records.items })
+        × HasRoom
+        (record { words = a.words.items; markers = a.markers.items; records = a.records.items })
+        a.records.cap };
 }
 
 /// Idle markers of these kinds.
 fn markers_of(alloc: Global, kinds: &[Kind]) -> Result<Vec<Marker>, AllocError>
-    ensures { IfOk result (λ markers. markers.items ≡ map (λ kind. record { kind = kind; work = Idle }) kinds.now) }
+    ensures { IfOk result
+        (λ markers. markers.items ≡ map (λ kind. record { kind = kind; work = Idle }) kinds.now) }
 {
     kinds.iter().map(|kind| Marker::new(*kind)).collect(alloc)
 }
@@ -58,12 +68,15 @@ fn markers_of(alloc: Global, kinds: &[Kind]) -> Result<Vec<Marker>, AllocError>
 impl<'p> Exchange<'p> {
     /// Opens an office with no path, whose markers are idle and of these kinds.
     pub fn open(alloc: Global, plan: &'p Plan, kinds: &[Kind]) -> Result<Self, OpenFault>
-        ensures ok { IfOk result (λ exchange. exchange ≡ record { plan = plan.now; exchange = fresh_exchange kinds.now }) }
-        ensures markers { (result ≡ Err OpenFault.Markers) ↔ ¬ ((0 < length kinds.now) × (length kinds.now ≤ 48)) }
+        ensures ok { IfOk result
+            (λ exchange. exchange ≡ record { plan = plan.now; exchange = fresh_exchange kinds.now }) }
+        ensures markers { (result ≡ Err OpenFault.Markers)
+            ↔ ¬ ((0 < length kinds.now) × (length kinds.now ≤ 48)) }
     {
         if kinds.is_empty() || kinds.len() > MOST_MARKERS {
             return Err(OpenFault::Markers);
         }
+        // Called for its clauses alone.
         xbar_plan::laws::every_plan_is_lawful(plan);
         let markers = markers_of(alloc, kinds)?;
         Ok(Exchange {
@@ -116,7 +129,8 @@ impl<'p> Exchange<'p> {
     /// What jobs the marker takes.
     pub fn kind(&self, marker: u32) -> Kind
         requires { marker < length self.now.exchange.markers }
-        ensures { (m : TheMarker) → slice_get self.now.exchange.markers marker ≡ Some m → result ≡ m.kind }
+        ensures { (m : TheMarker) → slice_get self.now.exchange.markers marker ≡ Some m →
+            result ≡ m.kind }
     {
         self.marker(marker).kind()
     }
@@ -124,7 +138,8 @@ impl<'p> Exchange<'p> {
     /// Whether the marker can be assigned a job: it has none, or nothing is left of it.
     pub fn is_idle(&self, marker: u32) -> bool
         requires { marker < length self.now.exchange.markers }
-        ensures { (m : TheMarker) → slice_get self.now.exchange.markers marker ≡ Some m → result ≡ is_idle_work m.work }
+        ensures { (m : TheMarker) → slice_get self.now.exchange.markers marker ≡ Some m →
+            result ≡ is_idle_work m.work }
     {
         self.marker(marker).is_idle()
     }
@@ -140,17 +155,21 @@ impl<'p> Exchange<'p> {
         }
     }
 
-    /// Assigns a job to a marker under a number, and takes the memory for the records of all turns that are to
-    /// come. Where it is refused nothing changes.
+    /// Assigns a job to a marker under a number, and takes the memory for the records of all turns
+    /// that are to come. Where it is refused nothing changes.
     pub fn assign(&mut self, marker: u32, job_no: u32, job: Job) -> Result<(), AssignFault>
         requires { IsJob job }
-        ensures ok { OnOk result ((refusal self.old.exchange marker job ≡ None) × (self.new ≡ record self.old { exchange = assigned marker job_no job self.old.exchange })) }
+        ensures ok { OnOk result ((refusal self.old.exchange marker job ≡ None)
+            × (self.new
+            ≡ record self.old { exchange = assigned marker job_no job self.old.exchange })) }
         ensures err { OnErr result (self.new ≡ self.old) }
-        ensures why { IfErr result (λ fault. (refusal self.old.exchange marker job ≡ Some fault) ⊎ ((fault ≡ AssignFault.Memory) × (refusal self.old.exchange marker job ≡ None))) }
+        ensures why { IfErr result (λ fault. (refusal self.old.exchange marker job ≡ Some fault)
+            ⊎ ((fault ≡ AssignFault.Memory) × (refusal self.old.exchange marker job ≡ None))) }
     {
         if let Some(fault) = self.refuses(marker, &job) {
             return Err(fault);
         }
+        // Called for its clauses alone.
         xbar_plan::laws::every_plan_is_lawful(self.plan);
         // Each marker has one turn to come at most.
         self.records.reserve(self.markers.len())?;
@@ -161,9 +180,11 @@ impl<'p> Exchange<'p> {
     /// Makes the marker's next step, and tells what came of it. An idle marker makes none.
     pub fn step(&mut self, marker: u32) -> Event
         requires { marker < length self.old.exchange.markers }
-        ensures step { self.new ≡ record self.old { exchange = after_step self.old.plan marker self.old.exchange } }
+        ensures step { self.new
+            ≡ record self.old { exchange = after_step self.old.plan marker self.old.exchange } }
         ensures event { result ≡ event_at_step self.old.plan marker self.old.exchange }
     {
+        // Called for its clauses alone.
         xbar_plan::laws::every_plan_is_lawful(self.plan);
         self.markers[marker as usize].step(
             self.plan,
@@ -176,8 +197,10 @@ impl<'p> Exchange<'p> {
     /// The marker is to begin its job anew, unless it is past its turn.
     fn restart(&mut self, marker: u32)
         requires { marker < length self.old.exchange.markers }
-        ensures { self.new ≡ record self.old { exchange = begun_anew self.old.plan marker self.old.exchange } }
+        ensures { self.new
+            ≡ record self.old { exchange = begun_anew self.old.plan marker self.old.exchange } }
     {
+        // Called for its clauses alone.
         xbar_plan::laws::every_plan_is_lawful(self.plan);
         self.markers[marker as usize].restart();
     }
@@ -186,7 +209,10 @@ impl<'p> Exchange<'p> {
     fn give_up(&mut self, marker: u32)
         requires within { marker < length self.old.exchange.markers }
         requires backs { IsBackingAt (slice_get self.old.exchange.markers marker) }
-        ensures { self.new ≡ record self.old { exchange = steps self.old.plan marker (left_at (slice_get self.old.exchange.markers marker)) self.old.exchange } }
+        ensures { self.new ≡ record self.old {
+          exchange =
+              steps self.old.plan marker (frees_left self.old.exchange marker) self.old.exchange;
+        } }
     {
         while self.marker(marker).is_giving_up() {
             let _moved = self.step(marker);
@@ -196,8 +222,9 @@ impl<'p> Exchange<'p> {
     /// Has the marker give back what it holds, if it is not past its turn; it keeps its job.
     pub fn give_back(&mut self, marker: u32) -> Given
         requires { marker < length self.old.exchange.markers }
-        ensures back { self.new ≡ record self.old { exchange = given_back self.old.plan marker self.old.exchange } }
-        ensures given { result ≡ given_at (slice_get self.old.exchange.markers marker) }
+        ensures back { self.new
+            ≡ record self.old { exchange = given_back self.old.plan marker self.old.exchange } }
+        ensures given { result ≡ given_at self.old.exchange marker }
     {
         let given = self.marker(marker).given();
         if let Given::Given = given {
@@ -210,7 +237,8 @@ impl<'p> Exchange<'p> {
     /// Makes so many steps of the marker. They end at once where it is idle.
     pub fn steps(&mut self, marker: u32, count: u32)
         requires { marker < length self.old.exchange.markers }
-        ensures { self.new ≡ record self.old { exchange = steps self.old.plan marker count self.old.exchange } }
+        ensures { self.new
+            ≡ record self.old { exchange = steps self.old.plan marker count self.old.exchange } }
     {
         for _made in 0..count {
             if self.is_idle(marker) {
@@ -223,7 +251,8 @@ impl<'p> Exchange<'p> {
     /// Brings the marker to the end of its job, if no other is in its way.
     fn end(&mut self, marker: u32)
         requires { marker < length self.old.exchange.markers }
-        ensures { self.new ≡ record self.old { exchange = ended self.old.plan marker self.old.exchange } }
+        ensures { self.new
+            ≡ record self.old { exchange = ended self.old.plan marker self.old.exchange } }
     {
         self.steps(marker, MOST_STEPS_ALONE);
     }
@@ -231,7 +260,9 @@ impl<'p> Exchange<'p> {
     /// The marker, if it is past its turn, comes to the end of its job.
     fn end_past_turn(&mut self, marker: u32)
         requires { marker < length self.old.exchange.markers }
-        ensures { self.new ≡ record self.old { exchange = ended_past_turn self.old.plan marker self.old.exchange } }
+        ensures { self.new ≡ record self.old {
+          exchange = ended_past_turn self.old.plan marker self.old.exchange;
+        } }
     {
         if self.marker(marker).is_past_turn() {
             self.end(marker);
@@ -239,7 +270,11 @@ impl<'p> Exchange<'p> {
     }
 
     fn end_all_past_turn(&mut self)
-        ensures { self.new ≡ record self.old { exchange = for_each (ended_past_turn self.old.plan) (length self.old.exchange.markers) self.old.exchange } }
+        ensures { self.new ≡ record self.old {
+          exchange =
+              for_each (ended_past_turn self.old.plan) (length self.old.exchange.markers)
+              self.old.exchange;
+        } }
     {
         for marker in 0..self.marker_count() {
             self.end_past_turn(marker);
@@ -247,7 +282,11 @@ impl<'p> Exchange<'p> {
     }
 
     fn give_back_all(&mut self)
-        ensures { self.new ≡ record self.old { exchange = for_each (given_back self.old.plan) (length self.old.exchange.markers) self.old.exchange } }
+        ensures { self.new ≡ record self.old {
+          exchange =
+              for_each (given_back self.old.plan) (length self.old.exchange.markers)
+              self.old.exchange;
+        } }
     {
         for marker in 0..self.marker_count() {
             let _given = self.give_back(marker);
@@ -255,7 +294,11 @@ impl<'p> Exchange<'p> {
     }
 
     fn end_all(&mut self)
-        ensures { self.new ≡ record self.old { exchange = for_each (ended self.old.plan) (length self.old.exchange.markers) self.old.exchange } }
+        ensures { self.new ≡ record self.old {
+          exchange =
+              for_each (ended self.old.plan) (length self.old.exchange.markers)
+              self.old.exchange;
+        } }
     {
         for marker in 0..self.marker_count() {
             self.end(marker);
@@ -265,9 +308,13 @@ impl<'p> Exchange<'p> {
     /// Brings every job to its end: in the order of their numbers the markers past their turn come to
     /// their end, then all others give back, and then each of them does its job alone.
     pub fn settle(&mut self)
-        ensures settled { self.new ≡ record self.old { exchange = settled self.old.plan self.old.exchange } }
-        ensures idle { (k : ℕ) (m : TheMarker) → slice_get self.new.exchange.markers k ≡ Some m → is_idle_work m.work ≡ true }
+        ensures settled { self.new
+            ≡ record self.old { exchange = settled self.old.plan self.old.exchange } }
+        ensures settles { Settles self.old.plan self.old.exchange self.new.exchange }
+        ensures idle { (k : ℕ) (m : TheMarker) → slice_get self.new.exchange.markers k ≡ Some m →
+            is_idle_work m.work ≡ true }
     {
+        // Called for its clauses alone.
         xbar_plan::laws::every_plan_is_lawful(self.plan);
         self.end_all_past_turn();
         self.give_back_all();

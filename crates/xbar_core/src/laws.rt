@@ -1,10 +1,11 @@
 //! What holds of every office of many markers, whatever moves its markers make in whatever order. Each
 //! function does nothing: its contract is the law.
 
-ghost use Rattle.std.specs.Prelude.{◌≡◌, ◌↔◌, ◌+◌, ◌<◌, ◌≤◌, ◌^◌, ◌%◌, ◌∷◌, ◌++◌, ◌≢◌, ℕ, List, [], Option, Some, None, true, length, slice_get, slice_index};
+ghost use Rattle.std.specs.Prelude.{◌≡◌, ◌↔◌, ◌+◌, ◌<◌, ◌≤◌, ◌⊎◌, ◌^◌, ◌%◌, ◌∷◌, ◌++◌, ◌≢◌, ℕ, List, [], Option, Some, None, true, length, slice_get, slice_index};
 ghost use Rattle.turns.specs.Among.{IsIn};
-ghost use Rattle.turns.specs.Attempt.{Free, IsSeizing, Make, act, change, read_in};
+ghost use Rattle.turns.specs.Attempt.{Free, IsSeizing, Make, act, begin_with, change, read_in};
 ghost use Rattle.turns.specs.System.{perform_all};
+ghost use Rattle.turns.specs.World as worlds;
 ghost use Rattle.turns.specs.declared.answer.Answer.{Answer};
 ghost use Rattle.turns.specs.declared.phase.Phase.{Phase};
 ghost use Rattle.turns.specs.declared.reading.Reading.{Reading};
@@ -24,15 +25,17 @@ ghost use Rattle.xbar_office.specs.declared.reply.Card.{Card};
 ghost use Rattle.xbar_office.specs.declared.reply.End.TheVariants.{Released};
 ghost use Rattle.xbar_office.specs.declared.reply.Record.{Record};
 ghost use Rattle.xbar_jobs.specs.Attempt.{Attempt, next_step};
+ghost use Rattle.xbar_jobs.specs.Jobs.{first_conn};
 ghost use Rattle.xbar_jobs.specs.Office.{Protects, ShowsOffice, office};
 ghost use Rattle.xbar_jobs.specs.OnWords.{answer_of, step_word};
 ghost use Rattle.xbar_jobs.specs.Opening.{ReleasesJust};
 ghost use Rattle.xbar_jobs.specs.declared.effect.Effect.{Effect};
-ghost use Rattle.xbar_core.specs.Exchange.{Exchange, IsLawfulExchange, Marker, is_idle, fresh_exchange};
+ghost use Rattle.xbar_core.specs.Ends.{ComesToEnd, Settles, own_steps};
+ghost use Rattle.xbar_core.specs.Exchange.{Exchange, IsLawfulExchange, Marker, is_idle, fresh_exchange, world};
 ghost use Rattle.xbar_core.specs.Holding.{AsksFor, HasRequested, Holds, IsAt, TellsTruth, completed};
 ghost use Rattle.xbar_core.specs.Links.{BelongsTo, IsAtLink, IsClosed, IsPastTurn, OpensItsOwn};
 ghost use Rattle.xbar_core.specs.Moves.{assigned, begun_anew, event_at_step, given_at, given_back, added_record, refusal, after_step};
-ghost use Rattle.xbar_core.specs.Runs.{AreMoves, Move, run_of};
+ghost use Rattle.xbar_core.specs.Runs.{AreMoves, Move, after_move, run_from, run_of};
 ghost use Rattle.xbar_core.specs.Settling.{settled};
 ghost use Rattle.xbar_core.specs.declared.event.Event.{Event};
 ghost use Rattle.xbar_core.specs.declared.given.Given.{Given};
@@ -41,18 +44,28 @@ ghost use Rattle.xbar_core.specs.declared.kind.Kind.{Kind};
 /// An office opens lawfully, and each assignment, each step of a marker, each beginning anew, each give back
 /// and each settling keeps it so. A step adds the record of its turn, if it is one, at the end.
 pub fn every_move_keeps_the_law()
-    ensures opens { (plan : Tables) (kinds : List Kind) → IsLawful plan → length kinds ≤ 48 → IsLawfulExchange plan (fresh_exchange kinds) }
-    ensures assigns { (plan : Tables) (e : Exchange) (k number : ℕ) (job : Job) → IsLawful plan → IsLawfulExchange plan e → IsJob job → refusal e k job ≡ None → IsLawfulExchange plan (assigned k number job e) }
-    ensures steps { (plan : Tables) (e : Exchange) (k : ℕ) → IsLawful plan → IsLawfulExchange plan e → IsLawfulExchange plan (after_step plan k e) }
-    ensures begins_anew { (plan : Tables) (e : Exchange) (k : ℕ) → IsLawful plan → IsLawfulExchange plan e → IsLawfulExchange plan (begun_anew plan k e) }
-    ensures gives_back { (plan : Tables) (e : Exchange) (k : ℕ) → IsLawful plan → IsLawfulExchange plan e → IsLawfulExchange plan (given_back plan k e) }
-    ensures settles { (plan : Tables) (e : Exchange) → IsLawful plan → IsLawfulExchange plan e → IsLawfulExchange plan (settled plan e) }
-    ensures adds { (plan : Tables) (e : Exchange) (k number : ℕ) (a : Attempt) → IsAt e k number a → (after_step plan k e).records ≡ e.records ++ added_record k number a (answer_of k (next_step a) e.words) }
+    ensures opens { (plan : Tables) (kinds : List Kind) → IsLawful plan → length kinds ≤ 48 →
+        IsLawfulExchange plan (fresh_exchange kinds) }
+    ensures assigns { (plan : Tables) (e : Exchange) (k number : ℕ) (job : Job) →
+        IsLawful plan → IsLawfulExchange plan e → IsJob job → refusal e k job ≡ None →
+        IsLawfulExchange plan (assigned k number job e) }
+    ensures steps { (plan : Tables) (e : Exchange) (k : ℕ) →
+        IsLawful plan → IsLawfulExchange plan e → IsLawfulExchange plan (after_step plan k e) }
+    ensures begins_anew { (plan : Tables) (e : Exchange) (k : ℕ) →
+        IsLawful plan → IsLawfulExchange plan e → IsLawfulExchange plan (begun_anew plan k e) }
+    ensures gives_back { (plan : Tables) (e : Exchange) (k : ℕ) →
+        IsLawful plan → IsLawfulExchange plan e → IsLawfulExchange plan (given_back plan k e) }
+    ensures settles { (plan : Tables) (e : Exchange) → IsLawful plan → IsLawfulExchange plan e →
+        IsLawfulExchange plan (settled plan e) }
+    ensures adds { (plan : Tables) (e : Exchange) (k number : ℕ) (a : Attempt) → IsAt e k number a →
+        (after_step plan k e).records
+        ≡ e.records ++ added_record k number a (answer_of k (next_step a) e.words) }
 {}
 
 /// Whatever moves any markers make, in whatever order, the office that they come to is lawful.
 pub fn every_run_is_lawful()
-    ensures { (plan : Tables) (kinds : List Kind) (moves : List Move) → IsLawful plan → length kinds ≤ 48 → AreMoves moves → IsLawfulExchange plan (run_of plan kinds moves) }
+    ensures { (plan : Tables) (kinds : List Kind) (moves : List Move) → IsLawful plan →
+        length kinds ≤ 48 → AreMoves moves → IsLawfulExchange plan (run_of plan kinds moves) }
 {}
 
 /// Jobs act at one step: the records are those of the one-marker office, which does the jobs whole, one
@@ -61,70 +74,123 @@ pub fn every_run_is_lawful()
 /// where no connector is held, as where all markers are idle. Turn numbers are counted modulo 2^64, so they
 /// are places only in shorter lists.
 pub fn jobs_act_at_their_turns()
-    ensures jobs { (plan : Tables) (e : Exchange) → IsLawfulExchange plan e → AreJobs (jobs_of e.records) }
-    ensures replies { (plan : Tables) (e : Exchange) → IsLawfulExchange plan e → HaveReplies plan [] e.records }
-    ensures legal { (plan : Tables) (e : Exchange) → IsLawfulExchange plan e → length e.records < 2 ^ 64 → IsLegal plan e.records }
-    ensures counted { (plan : Tables) (e : Exchange) → IsLawfulExchange plan e → slice_index e.words (word_number TurnWord) ≡ length e.records % 2 ^ 64 }
-    ensures shows { (plan : Tables) (e : Exchange) → IsLawfulExchange plan e → ShowsOffice plan (completed plan e) (after plan e.records) }
-    ensures made { (plan : Tables) (e : Exchange) → IsLawfulExchange plan e → ((k number turn : ℕ) (a : Attempt) → IsAt e k number a → a.phase ≡ Phase.Operates turn → a.effects ≡ []) → ShowsOffice plan e.words (after plan e.records) }
-    ensures free { (plan : Tables) (e : Exchange) → IsLawful plan → IsLawfulExchange plan e → ((k : ℕ) (conn : Conn) → ¬ Holds e k conn) → ShowsOffice plan e.words (after plan e.records) }
-    ensures idle { (plan : Tables) (e : Exchange) → IsLawful plan → IsLawfulExchange plan e → ((k : ℕ) (m : Marker) → slice_get e.markers k ≡ Some m → is_idle m.work ≡ true) → ShowsOffice plan e.words (after plan e.records) }
+    ensures jobs { (plan : Tables) (e : Exchange) → IsLawfulExchange plan e →
+        AreJobs (jobs_of e.records) }
+    ensures replies { (plan : Tables) (e : Exchange) → IsLawfulExchange plan e →
+        HaveReplies plan [] e.records }
+    ensures legal { (plan : Tables) (e : Exchange) → IsLawfulExchange plan e →
+        length e.records < 2 ^ 64 → IsLegal plan e.records }
+    ensures counted { (plan : Tables) (e : Exchange) → IsLawfulExchange plan e →
+        slice_index e.words (word_number TurnWord) ≡ length e.records % 2 ^ 64 }
+    ensures shows { (plan : Tables) (e : Exchange) → IsLawfulExchange plan e →
+        ShowsOffice plan (completed plan e) (after plan e.records) }
+    ensures made { (plan : Tables) (e : Exchange) → IsLawfulExchange plan e →
+        ((k number turn : ℕ) (a : Attempt) → IsAt e k number a → a.phase ≡ Phase.Operates turn →
+        a.effects ≡ []) → ShowsOffice plan e.words (after plan e.records) }
+    ensures free { (plan : Tables) (e : Exchange) → IsLawfulExchange plan e →
+        ((k : ℕ) (conn : Conn) → ¬ Holds e k conn) →
+        ShowsOffice plan e.words (after plan e.records) }
+    ensures idle { (plan : Tables) (e : Exchange) → IsLawfulExchange plan e →
+        ((k : ℕ) (m : Marker) → slice_get e.markers k ≡ Some m → is_idle m.work ≡ true) →
+        ShowsOffice plan e.words (after plan e.records) }
 {}
 
 /// A connector's word tells who holds it and whose request for it stands.
 pub fn connectors_tell_the_truth()
-    ensures { (plan : Tables) (e : Exchange) (conn : Conn) → IsLawfulExchange plan e → IsConn conn → TellsTruth e conn (slice_index e.words (word_number (ConnWord conn))) }
+    ensures { (plan : Tables) (e : Exchange) (conn : Conn) → IsLawfulExchange plan e → IsConn conn →
+        TellsTruth e conn (slice_index e.words (word_number (ConnWord conn))) }
 {}
 
 /// A protected word is tested or changed by the holder of its connector alone. What a marker has read
-/// before its turn is still what the words have.
+/// before its turn is still what the words have. A step that frees a connector changes none.
 pub fn words_are_their_holders()
-    ensures alone { (plan : Tables) (e : Exchange) (k number : ℕ) (a : Attempt) (conn : Conn) → IsLawful plan → IsLawfulExchange plan e → IsAt e k number a → Protects conn (step_word (next_step a)) → IsIn conn a.held }
-    ensures spared { (plan : Tables) (e : Exchange) (k n : ℕ) (conn : Conn) → IsLawful plan → IsLawfulExchange plan e → Protects conn n → ¬ Holds e k conn → slice_index (after_step plan k e).words n ≡ slice_index e.words n }
-    ensures read { (plan : Tables) (e : Exchange) (k number : ℕ) (a : Attempt) (r : Reading ℕ) → IsLawfulExchange plan e → IsAt e k number a → IsIn r (read_in a.phase a.readings) → slice_index e.words r.word ≡ r.value }
+    ensures alone { (plan : Tables) (e : Exchange) (k number : ℕ) (a : Attempt) (conn : Conn) →
+        IsLawfulExchange plan e → IsAt e k number a → Protects conn (step_word (next_step a)) →
+        IsIn conn a.held }
+    ensures spared { (plan : Tables) (e : Exchange) (k n : ℕ) (conn : Conn) →
+        IsLawfulExchange plan e → Protects conn n → ¬ Holds e k conn →
+        slice_index (after_step plan k e).words n ≡ slice_index e.words n }
+    ensures read { (plan : Tables) (e : Exchange) (k number : ℕ) (a : Attempt) (r : Reading ℕ) →
+        IsLawfulExchange plan e → IsAt e k number a → IsIn r (read_in a.phase a.readings) →
+        slice_index e.words r.word ≡ r.value }
+    ensures frees { (plan : Tables) (e : Exchange) (k number n : ℕ) (a : Attempt) (conn : Conn)
+        → IsAt e k number a → act a ≡ Free conn → n < 416
+        → slice_index (after_step plan k e).words n ≡ slice_index e.words n }
 {}
 
 /// No connector is requested or seized past the turn, and no effect comes before it. A marker keeps each
-/// connector that it has seized until it frees it, past its turn only once no effect is left.
+/// connector that it has seized until it frees it: in giving back, or past its turn once no effect is left.
 pub fn attempts_keep_their_order()
-    ensures seizes { (a : Attempt) (turn : ℕ) → a.phase ≡ Phase.Operates turn → ¬ IsSeizing (act a) }
-    ensures effects { (a : Attempt) (effect : Effect) → act a ≡ Make effect → (turn : ℕ) × (a.phase ≡ Phase.Operates turn) }
-    ensures keeps { (plan : Tables) (a : Attempt) (answer : Answer) (conn : Conn) → IsIn conn a.held → act a ≢ Free conn → IsIn conn (change (office plan) a answer).held }
-    ensures frees { (a : Attempt) (turn : ℕ) (conn : Conn) → a.phase ≡ Phase.Operates turn → act a ≡ Free conn → a.effects ≡ [] }
+    ensures seizes { (a : Attempt) (turn : ℕ) → a.phase ≡ Phase.Operates turn →
+        ¬ IsSeizing (act a) }
+    ensures effects { (a : Attempt) (effect : Effect) → act a ≡ Make effect →
+        (turn : ℕ) × (a.phase ≡ Phase.Operates turn) }
+    ensures keeps { (plan : Tables) (a : Attempt) (answer : Answer) (conn : Conn) →
+        IsIn conn a.held → act a ≢ Free conn → IsIn conn (change (office plan) a answer).held }
+    ensures frees { (a : Attempt) (conn : Conn) → act a ≡ Free conn
+        → (a.phase ≡ Phase.GivesBack)
+        ⊎ ((turn : ℕ) × (a.phase ≡ Phase.Operates turn) × (a.effects ≡ [])) }
 {}
 
 /// A job past its turn has its record in the order, with its turn, marker, number, job and reply, whether it
 /// has finished or not; a job that finishes has it at the place of its turn.
 pub fn turned_jobs_are_recorded()
-    ensures turned { (plan : Tables) (e : Exchange) (k number turn : ℕ) (a : Attempt) → IsLawful plan → IsLawfulExchange plan e → IsAt e k number a → a.phase ≡ Phase.Operates turn → (place : ℕ) × IsPastTurn e k place a }
-    ensures place { (plan : Tables) (e : Exchange) (k : ℕ) (r : Record) → IsLawful plan → IsLawfulExchange plan e → length e.records < 2 ^ 64 → event_at_step plan k e ≡ Event.Finished r → slice_get (after_step plan k e).records r.turn ≡ Some r }
-    ensures job { (plan : Tables) (e : Exchange) (k number : ℕ) (a : Attempt) (r : Record) → IsAt e k number a → event_at_step plan k e ≡ Event.Finished r → (r.marker ≡ k) × (r.job_no ≡ number) × (r.job ≡ a.job) }
+    ensures turned { (plan : Tables) (e : Exchange) (k number turn : ℕ) (a : Attempt) →
+        IsLawfulExchange plan e → IsAt e k number a → a.phase ≡ Phase.Operates turn →
+        (place : ℕ) × IsPastTurn e k place a }
+    ensures place { (plan : Tables) (e : Exchange) (k : ℕ) (r : Record) → IsLawfulExchange plan e →
+        length e.records < 2 ^ 64 → event_at_step plan k e ≡ Event.Finished r →
+        slice_get (after_step plan k e).records r.turn ≡ Some r }
+    ensures job { (plan : Tables) (e : Exchange) (k number : ℕ) (a : Attempt) (r : Record) →
+        IsAt e k number a → event_at_step plan k e ≡ Event.Finished r →
+        (r.marker ≡ k) × (r.job_no ≡ number) × (r.job ≡ a.job) }
 {}
 
 /// A marker that gives back, as it may up to its turn, holds no connector afterwards and has no request
-/// standing. Whether it does or not, it still has its job, under its number, and no record, no other marker
-/// and no protected word changes.
+/// standing, and is at its job's very beginning. Whether it does or not, it still has its job, under its
+/// number, and no record, no other marker and no protected word changes.
 pub fn giving_back_frees_all()
-    ensures free { (plan : Tables) (e : Exchange) (k : ℕ) (conn : Conn) → given_at (slice_get e.markers k) ≡ Given.Given → (¬ Holds (given_back plan k e) k conn) × (¬ HasRequested (given_back plan k e) k conn) }
-    ensures job { (plan : Tables) (e : Exchange) (k number : ℕ) (a : Attempt) → IsAt e k number a → (b : Attempt) × IsAt (given_back plan k e) k number b × (b.job ≡ a.job) }
-    ensures records { (plan : Tables) (e : Exchange) (k : ℕ) → (given_back plan k e).records ≡ e.records }
-    ensures others { (plan : Tables) (e : Exchange) (k j : ℕ) → j ≢ k → slice_get (given_back plan k e).markers j ≡ slice_get e.markers j }
-    ensures words { (plan : Tables) (e : Exchange) (k n : ℕ) → n < 416 → slice_index (given_back plan k e).words n ≡ slice_index e.words n }
+    ensures free { (plan : Tables) (e : Exchange) (k : ℕ) (conn : Conn) →
+        given_at e k ≡ Given.Given →
+        (¬ Holds (given_back plan k e) k conn) × (¬ HasRequested (given_back plan k e) k conn) }
+    ensures job { (plan : Tables) (e : Exchange) (k number : ℕ) (a : Attempt) → IsAt e k number a →
+        (b : Attempt) × IsAt (given_back plan k e) k number b × (b.job ≡ a.job) }
+    ensures records { (plan : Tables) (e : Exchange) (k : ℕ) →
+        (given_back plan k e).records ≡ e.records }
+    ensures others { (plan : Tables) (e : Exchange) (k j : ℕ) → j ≢ k →
+        slice_get (given_back plan k e).markers j ≡ slice_get e.markers j }
+    ensures words { (plan : Tables) (e : Exchange) (k n : ℕ) → n < 416 →
+        slice_index (given_back plan k e).words n ≡ slice_index e.words n }
+    ensures begins { (plan : Tables) (e : Exchange) (k number : ℕ) (a : Attempt)
+        → given_at e k ≡ Given.Given → IsAt e k number a
+        → IsAt (given_back plan k e) k number (begin_with (first_conn a.job) a.job) }
 {}
 
 /// A marker is refused a connector that another holds, the one that is named; and another is preferred
-/// that has a lower number and has requested the connector, which nobody holds.
+/// that has a lower number and has requested the connector, which nobody holds: of those the lowest.
 pub fn events_tell_the_truth()
-    ensures refused { (plan : Tables) (e : Exchange) (k holder : ℕ) (conn : Conn) → IsLawfulExchange plan e → event_at_step plan k e ≡ Event.Refused conn holder → AsksFor e k conn × Holds e holder conn }
-    ensures preferred { (plan : Tables) (e : Exchange) (k other : ℕ) → IsLawfulExchange plan e → event_at_step plan k e ≡ Event.Preferred other → (conn : Conn) × AsksFor e k conn × (other < k) × HasRequested e other conn × ((j : ℕ) → ¬ Holds e j conn) }
+    ensures refused { (plan : Tables) (e : Exchange) (k holder : ℕ) (conn : Conn) →
+        IsLawfulExchange plan e → event_at_step plan k e ≡ Event.Refused conn holder →
+        AsksFor e k conn × Holds e holder conn }
+    ensures preferred { (plan : Tables) (e : Exchange) (k other : ℕ) →
+        IsLawfulExchange plan e → event_at_step plan k e ≡ Event.Preferred other →
+        (conn : Conn) × AsksFor e k conn × (other < k)
+        × HasRequested e other conn × ((j : ℕ) → ¬ Holds e j conn) }
+    ensures least { (plan : Tables) (e : Exchange) (k other : ℕ) → IsLawfulExchange plan e
+        → event_at_step plan k e ≡ Event.Preferred other
+        → (conn : Conn) → AsksFor e k conn → (j : ℕ) → j < other → ¬ HasRequested e j conn }
 {}
 
 /// No link ever carries two calls. At each moment, half-done jobs included, each closed crosspoint belongs
 /// to a path: one of the set after all records, or one that a marker past its turn takes out and has still
 /// to open there. All closed crosspoints at one link belong to one path.
 pub fn no_link_carries_two_calls()
-    ensures belongs { (plan : Tables) (e : Exchange) (c : Crosspoint) → IsLawful plan → IsLawfulExchange plan e → IsClosed e.words c → (path : Path) × BelongsTo plan e path c }
-    ensures one { (plan : Tables) (e : Exchange) (link : Link) (c : Crosspoint) → IsLawful plan → IsLawfulExchange plan e → IsClosed e.words c → IsAtLink link c → (path : Path) × ((d : Crosspoint) → IsClosed e.words d → IsAtLink link d → BelongsTo plan e path d) }
+    ensures belongs { (plan : Tables) (e : Exchange) (c : Crosspoint) → IsLawful plan →
+        IsLawfulExchange plan e → IsClosed e.words c → (path : Path) × BelongsTo plan e path c }
+    ensures one { (plan : Tables) (e : Exchange) (link : Link) (c : Crosspoint) →
+        IsLawful plan → IsLawfulExchange plan e → IsClosed e.words c → IsAtLink link c →
+        (path : Path)
+        × ((d : Crosspoint) → IsClosed e.words d → IsAtLink link d → BelongsTo plan e path d) }
 {}
 
 /// A release opens exactly its own crosspoints: what is fixed at its turn is the opening of the paths that
@@ -132,7 +198,69 @@ pub fn no_link_carries_two_calls()
 /// when its turn comes, and nothing else; each step makes the first of what is left; and up to its end what
 /// is left is the end of it.
 pub fn a_release_opens_its_own_crosspoints()
-    ensures turn { (plan : Tables) (e : Exchange) (k number : ℕ) (a : Attempt) (line : Line) (own : Path) (other : Option Path) (cards : List Card) → IsLawful plan → IsLawfulExchange plan e → IsAt e k number a → a.phase ≡ Phase.Turns → a.job ≡ Release line → a.reply ≡ Some (record { end = Released own other; cards = cards }) → ReleasesJust plan own other (completed plan e) a.effects }
-    ensures each { (plan : Tables) (e : Exchange) (k number turn : ℕ) (a : Attempt) (effect : Effect) (effects : List Effect) → IsAt e k number a → a.phase ≡ Phase.Operates turn → a.effects ≡ effect ∷ effects → ((after_step plan k e).words ≡ perform_all (office plan) e.words (effect ∷ [])) × IsAt (after_step plan k e) k number (record a { effects = effects }) }
-    ensures left { (plan : Tables) (e : Exchange) (k number turn : ℕ) (a : Attempt) (line : Line) (own : Path) (other : Option Path) (cards : List Card) → IsLawful plan → IsLawfulExchange plan e → IsAt e k number a → a.phase ≡ Phase.Operates turn → a.job ≡ Release line → a.reply ≡ Some (record { end = Released own other; cards = cards }) → OpensItsOwn plan own other e.words a.effects }
+    ensures turn { (plan : Tables) (e : Exchange) (k number : ℕ) (a : Attempt)
+        (line : Line) (own : Path) (other : Option Path) (cards : List Card) →
+        IsLawful plan → IsLawfulExchange plan e → IsAt e k number a → a.phase ≡ Phase.Turns →
+        a.job ≡ Release line → a.reply ≡ Some (record { end = Released own other; cards = cards }) →
+        ReleasesJust plan own other (completed plan e) a.effects }
+    ensures each { (plan : Tables) (e : Exchange) (k number turn : ℕ) (a : Attempt)
+        (effect : Effect) (effects : List Effect) →
+        IsAt e k number a → a.phase ≡ Phase.Operates turn → a.effects ≡ effect ∷ effects →
+        ((after_step plan k e).words ≡ perform_all (office plan) e.words (effect ∷ []))
+        × IsAt (after_step plan k e) k number (record a { effects = effects }) }
+    ensures left { (plan : Tables) (e : Exchange) (k number turn : ℕ) (a : Attempt)
+        (line : Line) (own : Path) (other : Option Path) (cards : List Card) →
+        IsLawful plan → IsLawfulExchange plan e →
+        IsAt e k number a → a.phase ≡ Phase.Operates turn → a.job ≡ Release line →
+        a.reply ≡ Some (record { end = Released own other; cards = cards }) →
+        OpensItsOwn plan own other e.words a.effects }
+{}
+
+/// Whatever moves are made, the records before them begin the records after them.
+pub fn records_only_grow()
+    ensures moved { (plan : Tables) (e : Exchange) (move : Move)
+        → (later : List Record) × ((after_move plan e move).records ≡ e.records ++ later) }
+    ensures run { (plan : Tables) (e : Exchange) (moves : List Move)
+        → (later : List Record) × ((run_from plan e moves).records ≡ e.records ++ later) }
+{}
+
+/// A job past its turn comes to its end within as many steps of its marker as it has effects and connectors
+/// left, whatever other moves come in between. The step that frees its last connector tells its record.
+pub fn jobs_past_their_turns_end()
+    ensures ends { (plan : Tables) (e : Exchange) (moves : List Move) (k number turn : ℕ)
+        (a : Attempt) → IsAt e k number a → a.phase ≡ Phase.Operates turn
+        → length a.effects + length a.held ≤ own_steps k moves
+        → ComesToEnd plan e moves k number turn a.job }
+    ensures told { (plan : Tables) (e : Exchange) (k number turn : ℕ) (a : Attempt) (conn : Conn)
+        → IsLawfulExchange plan e → IsAt e k number a → a.phase ≡ Phase.Operates turn
+        → a.effects ≡ [] → a.held ≡ conn ∷ []
+        → (r : Record) × (event_at_step plan k e ≡ Event.Finished r) }
+{}
+
+/// An office that settles brings each job to its end: in the order of their numbers the markers past their
+/// turn run to their end, then all others give back, and then each runs to its end. There is but one office
+/// that this leads to.
+pub fn settling_ends_all_jobs()
+    ensures settles { (plan : Tables) (e : Exchange) → IsLawful plan → IsLawfulExchange plan e
+        → Settles plan e (settled plan e) }
+    ensures one { (plan : Tables) (e other : Exchange) → Settles plan e other
+        → IsLawful plan → IsLawfulExchange plan e → other ≡ settled plan e }
+    ensures same { (plan : Tables) (e one other : Exchange)
+        → Settles plan e one → Settles plan e other → one ≡ other }
+{}
+
+/// A move of the office is that move of its world: a step, if a marker that gives back holds something
+/// still, as each does in a lawful office; to begin a job anew; and to be assigned one.
+pub fn moves_are_those_of_its_world()
+    ensures steps { (plan : Tables) (e : Exchange) (k number : ℕ) (a : Attempt) → IsAt e k number a
+        → (a.phase ≡ Phase.GivesBack → a.held ≢ [])
+        → world plan (after_step plan k e) ≡ worlds.moved (office plan) k number a (world plan e) }
+    ensures holds { (plan : Tables) (e : Exchange) (k number : ℕ) (a : Attempt)
+        → IsLawfulExchange plan e → IsAt e k number a → a.phase ≡ Phase.GivesBack → a.held ≢ [] }
+    ensures begins_anew { (plan : Tables) (e : Exchange) (k number : ℕ) (a : Attempt)
+        → IsAt e k number a → world plan (begun_anew plan k e)
+        ≡ worlds.given_back (office plan) k number a (world plan e) }
+    ensures assigns { (plan : Tables) (e : Exchange) (k number : ℕ) (job : Job)
+        → world plan (assigned k number job e)
+        ≡ worlds.assigned (office plan) k number job (world plan e) }
 {}

@@ -109,14 +109,16 @@ impl Marker {
     /// It has this job from now on, under a number, and is at its beginning.
     pub fn begin(&mut self, job_no: u32, job: Job)
         requires { IsJob job }
-        ensures { self.new ≡ record self.old { work = Does job_no (begin_with (first_conn job) job) } }
+        ensures { self.new
+            ≡ record self.old { work = Does job_no (begin_with (first_conn job) job) } }
     {
         self.work = Some(Work::begin(job_no, job));
     }
 
     /// Begins its job anew, once all that it holds is given back. Past the turn nothing changes.
     pub fn restart(&mut self)
-        ensures { (plan : Tables) → self.new ≡ record self.old { work = work_anew plan self.old.work } }
+        ensures { (plan : Tables) →
+            self.new ≡ record self.old { work = work_anew plan self.old.work } }
     {
         if let Some(work) = &mut self.work {
             work.restart();
@@ -136,7 +138,14 @@ impl Marker {
         requires number { number < 48 }
         requires words { length words.old ≡ word_count }
         requires room { length records.old.items + waits self.old.work ≤ vec_capacity records.old }
-        ensures step { (markers : List TheMarker) → slice_get markers number ≡ Some self.old → record { words = words.new; markers = slice_set markers number self.new; records = records.new.items } ≡ after_step plan.now number (record { words = words.old; markers = markers; records = records.old.items }) }
+        ensures step { (markers : List TheMarker) → slice_get markers number ≡ Some self.old →
+            record {
+              words = words.new;
+              markers = slice_set markers number self.new;
+              records = records.new.items;
+            }
+            ≡ after_step plan.now number
+            (record { words = words.old; markers = markers; records = records.old.items }) }
         ensures room { vec_capacity records.old ≤ vec_capacity records.new }
         ensures event { result ≡ event_by plan.now number words.old self.old.work }
     {

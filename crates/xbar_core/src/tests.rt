@@ -4,7 +4,7 @@ use super::*;
 use std::alloc::Global;
 use std::process::Abort;
 use std::test::Fail;
-use xbar_equip::{Conn, Dialled, Len};
+use xbar_equip::Conn;
 use xbar_match::{count_closed, count_paths};
 use xbar_office::{Job, audit};
 use xbar_plan::Plan;
@@ -29,44 +29,12 @@ const CONNECTORS: usize = 416;
 
 const TURNS: usize = 452;
 
-/// Twelve registers on two trunk link frames, and two trunks to another office.
-const MANY_REGISTERS: &str = "version = 1
-groups = [
-  \"REG register 410 411 412 413 414 415 416 417 418 419 420 500\",
-  \"INTRA intra 600-601 700-711\",
-  \"OUTA outgoing 800\",
-  \"OUTB outgoing 801 902\",
-]
-numbers = [\"0001 3041\", \"0002 3052\", \"0003 1000\", \"0004 3100\"]
-codes = [\"234 INTRA\", \"555 OUTA OUTB\"]
-faults = []
-";
-
-fn line(rt: &impl Abort, text: &str) -> Len {
-    let Ok(line) = Len::parse(text.as_bytes()) else {
-        panic!(rt; "{text} is no line");
-    };
-    line
-}
-
-fn dialled(rt: &impl Abort, text: &str) -> Dialled {
-    let Ok(dialled) = Dialled::parse(text.as_bytes()) else {
-        panic!(rt; "{text} are no digits");
-    };
-    dialled
-}
-
 /// A job by its text: `D 3041`, `C 3041 5551234` or `R 3041`.
 fn job(rt: &impl Abort, text: &str) -> Job {
-    let mut parts = text.split(' ');
-    let kind = parts.next().unwrap_or("");
-    let line = line(rt, parts.next().unwrap_or(""));
-    match kind {
-        "D" => Job::Dial(line),
-        "C" => Job::Complete(line, dialled(rt, parts.next().unwrap_or(""))),
-        "R" => Job::Release(line),
-        _ => panic!(rt; "{text} is no job"),
-    }
+    let Some(job) = test_plans::job(text) else {
+        panic!(rt; "{text} is no job");
+    };
+    job
 }
 
 /// Two markers that take all jobs.

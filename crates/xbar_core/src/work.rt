@@ -1,14 +1,15 @@
-ghost use Rattle.std.specs.Prelude.{◌≡◌, ◌+◌, ◌<◌, ◌≤◌, ◌++◌, false, is_some, length, option_to_list, vec_capacity};
-ghost use Rattle.turns.specs.Attempt.{act, change, restarted};
+ghost use Rattle.std.specs.Prelude.{◌≡◌, ◌+◌, ◌<◌, ◌≤◌, ◌++◌, ℕ, false, is_some, length, option_to_list, vec_capacity};
+ghost use Rattle.turns.specs.Attempt.{act, change, restarted, turn_in};
 ghost use Rattle.turns.specs.Runs.{is_rest};
+ghost use Rattle.turns.specs.declared.phase.Phase.{Phase};
 ghost use Rattle.xbar_equip.specs.Word.{word_count};
 ghost use Rattle.xbar_office.specs.Legal.{IsJob};
 ghost use Rattle.xbar_plan.specs.Tables.{Tables};
-ghost use Rattle.xbar_jobs.specs.Attempt.{Attempt, counted, fresh, next_step, turn_in, with_count};
+ghost use Rattle.xbar_jobs.specs.Attempt.{Attempt, counted, fresh, next_step, with_count};
 ghost use Rattle.xbar_jobs.specs.Office.{office};
 ghost use Rattle.xbar_jobs.specs.OnWords.{words_after};
 ghost use Rattle.xbar_jobs.specs.Standing.{Stands};
-ghost use Rattle.xbar_core.specs.AtWork.{conn_asked, entered, gives_up, told_of};
+ghost use Rattle.xbar_core.specs.AtWork.{conn_asked, gives_up, told_of};
 ghost use Rattle.xbar_core.specs.Moves.{event_of, own_record, added_record, refused_by};
 ghost use Rattle.xbar_core.specs.Standing.{waits_in};
 
@@ -29,11 +30,9 @@ fn refused(step: Step, holder: u32) -> Event
     ensures { result ≡ refused_by holder (conn_asked step) }
 {
     match step {
-        Step::Request(conn) | Step::Seize(conn, _) | Step::Withdraw(conn) => Event::Refused {
-            conn,
-            holder,
-        },
-        Step::Test(_)
+        Step::Request(conn) | Step::Seize(conn, _) => Event::Refused { conn, holder },
+        Step::Withdraw(_)
+        | Step::Test(_)
         | Step::Turn
         | Step::Close(_, _)
         | Step::Open(_, _)
@@ -86,14 +85,18 @@ impl Work {
 
     /// Begins the job anew, once all that it holds is given back. Past the turn nothing changes.
     pub fn restart(&mut self)
-        ensures { (plan : Tables) → self.new ≡ record self.old { program = with_count self.old.program.count (restarted (office plan) self.old.program.attempt) } }
+        ensures { (plan : Tables) → self.new ≡ record self.old {
+          program = with_count self.old.program.count
+              (restarted (office plan) self.old.program.attempt);
+        } }
     {
         self.program.restart();
     }
 
     /// The job's record, once it has turned.
     fn record(&self, marker: u32) -> Option<Record>
-        ensures { option_to_list result ≡ own_record marker self.now.job_no self.now.program.attempt.phase self.now.program.attempt }
+        ensures { option_to_list result
+            ≡ own_record marker self.now.job_no self.now.program.attempt }
     {
         let turn = self.program.turn()?;
         let reply = self.program.reply()?;
@@ -106,10 +109,15 @@ impl Work {
         })
     }
 
-    /// Adds the record of the turn, if that is what was made.
+    /// Adds the record of the turn that the job has just taken, if that is what it did.
     fn enter(&self, marker: u32, answer: Answer, records: &mut Vec<Record>)
-        requires { length records.old.items + length (entered answer (own_record marker self.now.job_no self.now.program.attempt.phase self.now.program.attempt)) ≤ vec_capacity records.old }
-        ensures records { records.new.items ≡ records.old.items ++ entered answer (own_record marker self.now.job_no self.now.program.attempt.phase self.now.program.attempt) }
+        requires turned { (turn : ℕ) → answer ≡ Answer.Turn turn →
+            self.now.program.attempt.phase ≡ Phase.Operates turn }
+        requires room { length records.old.items
+            + length (added_record marker self.now.job_no self.now.program.attempt answer)
+            ≤ vec_capacity records.old }
+        ensures records { records.new.items
+            ≡ records.old.items ++ added_record marker self.now.job_no self.now.program.attempt answer }
         ensures room { vec_capacity records.old ≤ vec_capacity records.new }
     {
         if let Answer::Turn(_) = answer {
@@ -121,7 +129,8 @@ impl Work {
 
     /// What came of a step that was answered so.
     fn event(&self, marker: u32, step: Step, answer: Answer) -> Event
-        ensures { (a : Attempt) → step ≡ next_step a → result ≡ event_of marker self.now.job_no a self.now.program.attempt answer }
+        ensures { (a : Attempt) → step ≡ next_step a →
+            result ≡ event_of marker self.now.job_no a self.now.program.attempt answer }
     {
         match answer {
             Answer::Held(holder) => refused(step, holder),
@@ -156,12 +165,22 @@ impl Work {
         requires goes_on { is_rest (act self.old.program.attempt) ≡ false }
         requires marker { marker < 48 }
         requires words { length words.old ≡ word_count }
-        requires room { length records.old.items + waits_in self.old.program.attempt.phase ≤ vec_capacity records.old }
-        ensures work { self.new ≡ record self.old { program = with_count (counted self.old.program.count) (change (office plan.now) self.old.program.attempt (told_of marker words.old self.old.program.attempt)) } }
+        requires room { length records.old.items + waits_in self.old.program.attempt.phase
+            ≤ vec_capacity records.old }
+        ensures work { self.new ≡ record self.old {
+          program = with_count (counted self.old.program.count)
+              (change (office plan.now) self.old.program.attempt
+              (told_of marker words.old self.old.program.attempt));
+        } }
         ensures words { words.new ≡ words_after marker (next_step self.old.program.attempt) words.old }
-        ensures records { records.new.items ≡ records.old.items ++ added_record marker self.old.job_no self.old.program.attempt (told_of marker words.old self.old.program.attempt) }
+        ensures records { records.new.items ≡ records.old.items
+            ++ added_record marker self.old.job_no self.old.program.attempt
+            (told_of marker words.old self.old.program.attempt) }
         ensures room { vec_capacity records.old ≤ vec_capacity records.new }
-        ensures event { result ≡ event_of marker self.old.job_no self.old.program.attempt (change (office plan.now) self.old.program.attempt (told_of marker words.old self.old.program.attempt)) (told_of marker words.old self.old.program.attempt) }
+        ensures event { result ≡ event_of marker self.old.job_no self.old.program.attempt
+            (change (office plan.now) self.old.program.attempt
+            (told_of marker words.old self.old.program.attempt))
+            (told_of marker words.old self.old.program.attempt) }
     {
         let step = self.program.next();
         let answer = step.make(marker, words);

@@ -8,7 +8,8 @@ use std::{fmt, str};
 pub fn pad_ascii<W: fmt::Write>(f: &mut fmt::Formatter<W>, text: &[u8]) -> fmt::Result
     requires { IsAscii text.now }
     ensures writes { DisplaysOnOk W.write_str_gives f.old result (Some text.now) f.new }
-    ensures styled { DisplaysStyledOnOk W.write_str_gives f.old result (Some (styled_text (formatter_spec f.old) text.now)) f.new }
+    ensures styled { DisplaysStyledOnOk W.write_str_gives f.old result
+        (Some (styled_text (formatter_spec f.old) text.now)) f.new }
 {
     let Ok(text) = str::from_utf8(text) else {
         unreachable!();

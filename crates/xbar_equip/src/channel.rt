@@ -41,9 +41,12 @@ impl Channel {
 
     /// Reads one digit, as `7`.
     pub fn parse(text: &[u8]) -> Result<Self, EquipFault>
-        ensures reads { (channel : ℕ) → IsChannel channel → text.now ≡ channel_text channel → result ≡ Ok channel }
-        ensures only { IfOk result (λ channel. IsChannel channel × (text.now ≡ channel_text channel)) }
-        ensures fault { MatchResult result (λ _. digits_fault 1 text.now ≡ None) (λ fault. digits_fault 1 text.now ≡ Some fault) }
+        ensures reads { (channel : ℕ) → IsChannel channel → text.now ≡ channel_text channel →
+            result ≡ Ok channel }
+        ensures only { IfOk result (λ channel. IsChannel channel ×
+            (text.now ≡ channel_text channel)) }
+        ensures fault { MatchResult result (λ _. digits_fault 1 text.now ≡ None)
+            (λ fault. digits_fault 1 text.now ≡ Some fault) }
     {
         let &[number] = text else {
             return Err(EquipFault::Length);

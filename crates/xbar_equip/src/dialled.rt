@@ -41,9 +41,12 @@ impl Dialled {
 
     /// Reads seven digits, as `5551234`.
     pub fn parse(text: &[u8]) -> Result<Self, EquipFault>
-        ensures reads { (dialled : ℕ) → IsDialled dialled → text.now ≡ dialled_text dialled → result ≡ Ok dialled }
-        ensures only { IfOk result (λ dialled. IsDialled dialled × (text.now ≡ dialled_text dialled)) }
-        ensures fault { MatchResult result (λ _. digits_fault 7 text.now ≡ None) (λ fault. digits_fault 7 text.now ≡ Some fault) }
+        ensures reads { (dialled : ℕ) → IsDialled dialled → text.now ≡ dialled_text dialled →
+            result ≡ Ok dialled }
+        ensures only { IfOk result (λ dialled. IsDialled dialled ×
+            (text.now ≡ dialled_text dialled)) }
+        ensures fault { MatchResult result (λ _. digits_fault 7 text.now ≡ None)
+            (λ fault. digits_fault 7 text.now ≡ Some fault) }
     {
         if text.len() != 7 {
             return Err(EquipFault::Length);

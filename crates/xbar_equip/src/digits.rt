@@ -6,8 +6,10 @@ use crate::fault::EquipFault;
 
 /// The value of a digit's byte.
 pub fn digit_value(byte: u8) -> Result<u8, EquipFault>
-    ensures value { MatchResult result (λ value. (value < 10) × (byte ≡ digit value)) (λ fault. fault ≡ EquipFault.NotDigit) }
-    ensures fault { MatchResult result (λ _. IsTrue (is_ascii_digit byte)) (λ _. IsTrue (not (is_ascii_digit byte))) }
+    ensures value { MatchResult result (λ value. (value < 10) × (byte ≡ digit value))
+        (λ fault. fault ≡ EquipFault.NotDigit) }
+    ensures fault { MatchResult result (λ _. IsTrue (is_ascii_digit byte))
+        (λ _. IsTrue (not (is_ascii_digit byte))) }
 {
     if byte.is_ascii_digit() {
         Ok(byte - b'0')
@@ -19,8 +21,10 @@ pub fn digit_value(byte: u8) -> Result<u8, EquipFault>
 /// The number that digits write, the highest digit first.
 pub fn number(text: &[u8]) -> Result<u32, EquipFault>
     requires { length text.now ≤ 9 }
-    ensures value { MatchResult result (λ number. (number < 10 ^ length text.now) × (text.now ≡ digits (length text.now) number)) (λ fault. fault ≡ EquipFault.NotDigit) }
-    ensures fault { MatchResult result (λ _. IsTrue (are_digits text.now)) (λ _. IsTrue (not (are_digits text.now))) }
+    ensures value { MatchResult result (λ number. (number < 10 ^ length text.now) ×
+        (text.now ≡ digits (length text.now) number)) (λ fault. fault ≡ EquipFault.NotDigit) }
+    ensures fault { MatchResult result (λ _. IsTrue (are_digits text.now))
+        (λ _. IsTrue (not (are_digits text.now))) }
 {
     let mut number = 0;
     for byte in text {

@@ -41,9 +41,11 @@ impl DirNo {
 
     /// Reads four digits, as `0042`.
     pub fn parse(text: &[u8]) -> Result<Self, EquipFault>
-        ensures reads { (dir_no : ℕ) → IsDirNo dir_no → text.now ≡ dir_no_text dir_no → result ≡ Ok dir_no }
+        ensures reads { (dir_no : ℕ) → IsDirNo dir_no → text.now ≡ dir_no_text dir_no →
+            result ≡ Ok dir_no }
         ensures only { IfOk result (λ dir_no. IsDirNo dir_no × (text.now ≡ dir_no_text dir_no)) }
-        ensures fault { MatchResult result (λ _. digits_fault 4 text.now ≡ None) (λ fault. digits_fault 4 text.now ≡ Some fault) }
+        ensures fault { MatchResult result (λ _. digits_fault 4 text.now ≡ None)
+            (λ fault. digits_fault 4 text.now ≡ Some fault) }
     {
         if text.len() != 4 {
             return Err(EquipFault::Length);

@@ -54,37 +54,46 @@ pub fn equality_tests_are_equality()
 
 /// A line, a place or a link is idle exactly where no path of the set has it.
 pub fn idle_is_in_no_path()
-    ensures idle { (has : Path → Bool) (paths : List Path) → (is_idle has paths ≡ true) ↔ ((path : Path) → IsIn path paths → has path ≡ false) }
+    ensures idle { (has : Path → Bool) (paths : List Path) → (is_idle has paths ≡ true) ↔
+        ((path : Path) → IsIn path paths → has path ≡ false) }
     ensures line { (line : Line) (path : Path) → (has_line line path ≡ true) ↔ (path.line ≡ line) }
-    ensures place { (place : TrunkPlace) (path : Path) → (has_place place path ≡ true) ↔ (path.place ≡ place) }
-    ensures link { (link : TheLink) (path : Path) → (has_link link path ≡ true) ↔ ((line_link path ≡ link) ⊎ (junctor path ≡ link) ⊎ (trunk_link path ≡ link)) }
+    ensures place { (place : TrunkPlace) (path : Path) → (has_place place path ≡ true) ↔
+        (path.place ≡ place) }
+    ensures link { (link : TheLink) (path : Path) → (has_link link path ≡ true) ↔
+        ((line_link path ≡ link) ⊎ (junctor path ≡ link) ⊎ (trunk_link path ≡ link)) }
 {}
 
 /// The channel test answers the first channel in its order whose three links are idle.
 pub fn channel_test_finds_the_first_idle_channel()
-    ensures { (paths : List Path) (line : Line) (place : TrunkPlace) (start : ℕ) → IsFirstIdleChannel paths line place start (channel_test paths line place start) }
+    ensures { (paths : List Path) (line : Line) (place : TrunkPlace) (start : ℕ) →
+        IsFirstIdleChannel paths line place start (channel_test paths line place start) }
 {}
 
 /// Paths with crosspoints at one field of one word share a part.
 pub fn paths_that_meet_share_a_part()
-    ensures { (p q : Path) (c d : Crosspoint) → IsPath p → IsPath q → IsIn c (crosspoints p) → IsIn d (crosspoints q) → c.word ≡ d.word → c.field ≡ d.field → SharesPart p q }
+    ensures { (p q : Path) (c d : Crosspoint) → IsPath p → IsPath q → IsIn c (crosspoints p) →
+        IsIn d (crosspoints q) → c.word ≡ d.word → c.field ≡ d.field → SharesPart p q }
 {}
 
 /// A path added to a set is in it, with those that were there.
 pub fn with_path_adds_the_path()
     ensures set { (paths : List Path) (path : Path) → IsSet paths → IsSet (with_path paths path) }
-    ensures paths { (paths : List Path) (path other : Path) → IsIn other (with_path paths path) ↔ ((other ≡ path) ⊎ IsIn other paths) }
+    ensures paths { (paths : List Path) (path other : Path) → IsIn other (with_path paths path) ↔
+        ((other ≡ path) ⊎ IsIn other paths) }
 {}
 
 /// A path removed from a set is no longer in it, and the others are.
 pub fn without_path_removes_the_path()
-    ensures set { (paths : List Path) (path : Path) → IsSet paths → IsSet (without_path paths path) }
-    ensures paths { (paths : List Path) (path other : Path) → IsSet paths → IsIn other (without_path paths path) ↔ (IsIn other paths × (other ≢ path)) }
+    ensures set { (paths : List Path) (path : Path) → IsSet paths →
+        IsSet (without_path paths path) }
+    ensures paths { (paths : List Path) (path other : Path) → IsSet paths →
+        IsIn other (without_path paths path) ↔ (IsIn other paths × (other ≢ path)) }
 {}
 
 /// Two sets with the same paths are one list.
 pub fn sets_with_the_same_paths_are_one()
-    ensures { (a b : List Path) → IsSet a → IsSet b → ((path : Path) → IsIn path a ↔ IsIn path b) → a ≡ b }
+    ensures { (a b : List Path) → IsSet a → IsSet b → ((path : Path) → IsIn path a ↔ IsIn path b) →
+        a ≡ b }
 {}
 
 /// A line's numbers lie in their ranges.

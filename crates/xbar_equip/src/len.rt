@@ -48,7 +48,8 @@ impl Len {
     pub fn parse(text: &[u8]) -> Result<Self, EquipFault>
         ensures reads { (line : Line) → IsLine line → text.now ≡ line_text line → result ≡ Ok line }
         ensures only { IfOk result (λ line. IsLine line × (text.now ≡ line_text line)) }
-        ensures fault { MatchResult result (λ _. line_fault text.now ≡ None) (λ fault. line_fault text.now ≡ Some fault) }
+        ensures fault { MatchResult result (λ _. line_fault text.now ≡ None)
+            (λ fault. line_fault text.now ≡ Some fault) }
     {
         let &[frame, switch, group, file] = text else {
             return Err(EquipFault::Length);

@@ -37,7 +37,12 @@ impl Model for Link {
 
     ghost view = { λ a. record { kind = a.kind; frame = a.frame; at = a.at; channel = a.channel } };
 
-    ghost invariant = { λ a. IsLink (record { kind = a.kind; frame = a.frame; at = a.at; channel = a.channel }) };
+    ghost invariant = { λ a. IsLink (record {
+      kind = a.kind;
+      frame = a.frame;
+      at = a.at;
+      channel = a.channel;
+    }) };
 
     ghost inverse = { λ link. record { kind = link.kind; frame = link.frame; at = link.at; channel = link.channel } };
 }
@@ -61,9 +66,11 @@ impl Link {
 
     /// Reads two letters and three digits, as `JU340`.
     pub fn parse(text: &[u8]) -> Result<Self, EquipFault>
-        ensures reads { (link : TheLink) → IsLink link → text.now ≡ link_text link → result ≡ Ok link }
+        ensures reads { (link : TheLink) → IsLink link → text.now ≡ link_text link →
+            result ≡ Ok link }
         ensures only { IfOk result (λ link. IsLink link × (text.now ≡ link_text link)) }
-        ensures fault { MatchResult result (λ _. link_fault text.now ≡ None) (λ fault. link_fault text.now ≡ Some fault) }
+        ensures fault { MatchResult result (λ _. link_fault text.now ≡ None)
+            (λ fault. link_fault text.now ≡ Some fault) }
     {
         let &[first, second, frame, at, channel] = text else {
             return Err(EquipFault::Length);

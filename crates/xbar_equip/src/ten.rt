@@ -26,7 +26,11 @@ impl Model for Ten {
 
     ghost view = { λ a. record { frame = a.frame; switch = a.switch; appearance = a.appearance } };
 
-    ghost invariant = { λ a. IsTrunkPlace (record { frame = a.frame; switch = a.switch; appearance = a.appearance }) };
+    ghost invariant = { λ a. IsTrunkPlace (record {
+      frame = a.frame;
+      switch = a.switch;
+      appearance = a.appearance;
+    }) };
 
     ghost inverse = { λ place. record { frame = place.frame; switch = place.switch; appearance = place.appearance } };
 }
@@ -48,9 +52,11 @@ impl Ten {
 
     /// Reads three digits, as `417`.
     pub fn parse(text: &[u8]) -> Result<Self, EquipFault>
-        ensures reads { (place : TrunkPlace) → IsTrunkPlace place → text.now ≡ place_text place → result ≡ Ok place }
+        ensures reads { (place : TrunkPlace) → IsTrunkPlace place → text.now ≡ place_text place →
+            result ≡ Ok place }
         ensures only { IfOk result (λ place. IsTrunkPlace place × (text.now ≡ place_text place)) }
-        ensures fault { MatchResult result (λ _. digits_fault 3 text.now ≡ None) (λ fault. digits_fault 3 text.now ≡ Some fault) }
+        ensures fault { MatchResult result (λ _. digits_fault 3 text.now ≡ None)
+            (λ fault. digits_fault 3 text.now ≡ Some fault) }
     {
         let &[frame, switch, appearance] = text else {
             return Err(EquipFault::Length);

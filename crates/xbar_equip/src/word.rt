@@ -125,7 +125,8 @@ pub fn turn_word() -> WordNo
 /// The connector that a marker holds whenever it reads or changes the word. The connectors' own
 /// words and the turn word have none.
 pub fn protects(word: WordNo) -> Option<Conn>
-    ensures exact { (named : Word) → IsWord named → word ≡ word_number named → result ≡ protector named }
+    ensures exact { (named : Word) → IsWord named → word ≡ word_number named →
+        result ≡ protector named }
     ensures range { IfSome result IsConn }
 {
     let number = word.number();

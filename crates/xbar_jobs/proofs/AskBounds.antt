@@ -10,7 +10,7 @@ asks_more tests seizings most_tests most_seizings (Ends found) fewer fewer_seizi
 asks_more zero seizings most_tests most_seizings (TestThen word script) fewer fewer_seizings asks = absurd asks
 asks_more (suc tests) seizings zero most_seizings (TestThen word script) fewer fewer_seizings asks = absurd (omega arith)
 asks_more (suc tests) seizings (suc most_tests) most_seizings (TestThen word script) fewer fewer_seizings asks =
-    λ value. asks_more tests seizings most_tests most_seizings (script value) (omega arith) fewer_seizings (asks value)
+    λ value fits. asks_more tests seizings most_tests most_seizings (script value) (omega arith) fewer_seizings (asks value fits)
 asks_more tests zero most_tests most_seizings (SeizeThen conn script) fewer fewer_seizings asks = absurd asks
 asks_more tests (suc seizings) most_tests zero (SeizeThen conn script) fewer fewer_seizings asks = absurd (omega arith)
 asks_more tests (suc seizings) most_tests (suc most_seizings) (SeizeThen conn script) fewer fewer_seizings asks =
@@ -24,7 +24,7 @@ asks_bind tests seizings more_tests more_seizings all_tests all_seizings (Ends f
 asks_bind zero seizings more_tests more_seizings all_tests all_seizings (TestThen word script) next sum sum_seizings asks later = absurd asks
 asks_bind (suc tests) seizings more_tests more_seizings zero all_seizings (TestThen word script) next sum sum_seizings asks later = absurd (omega arith)
 asks_bind (suc tests) seizings more_tests more_seizings (suc all_tests) all_seizings (TestThen word script) next sum sum_seizings asks later =
-    λ value. asks_bind tests seizings more_tests more_seizings all_tests all_seizings (script value) next (omega arith) sum_seizings (asks value) later
+    λ value fits. asks_bind tests seizings more_tests more_seizings all_tests all_seizings (script value) next (omega arith) sum_seizings (asks value fits) later
 asks_bind tests zero more_tests more_seizings all_tests all_seizings (SeizeThen conn script) next sum sum_seizings asks later = absurd asks
 asks_bind tests (suc seizings) more_tests more_seizings all_tests zero (SeizeThen conn script) next sum sum_seizings asks later = absurd (omega arith)
 asks_bind tests (suc seizings) more_tests more_seizings all_tests (suc all_seizings) (SeizeThen conn script) next sum sum_seizings asks later =

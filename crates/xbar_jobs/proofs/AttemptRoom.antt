@@ -1,8 +1,9 @@
 -- an attempt has room for what is left of its script
-use Rattle.std.proofs.Common.{◌≡◌, ℕ, ◌+◌, ◌-◌, ◌<◌, ◌≤◌, List, [], ◌∷◌, ◌++◌, length, length-append, inl, inr, refl, sym, ◌∙◌, ap, subst, arith}
+use Rattle.std.proofs.Common.{◌≡◌, ℕ, ◌+◌, ◌-◌, ◌<◌, List, [], ◌∷◌, ◌++◌, length, length-append, inl, inr, refl, sym, ◌∙◌, ap, subst, arith, ◌^◌}
 use Rattle.std.specs.Prelude.{None, Result, Ok, Err}
-use Rattle.turns.specs.Attempt.{StandsIn, begin_with, change, changed, come_to, forgotten, freed, goes_on, operated, rest_of, restarted, restarted_in, seen_of}
+use Rattle.turns.specs.Attempt.{IsAnswerTo, StandsIn, act, act_in, begin_with, change, changed, come_to, forgotten, freed, goes_on, operated, rest_of, restarted, restarted_in, seen_of}
 use Rattle.turns.specs.Script.{AsksAtMost, left, value_read, walk}
+use Rattle.turns.specs.Seen.{AreReadWords}
 use Rattle.turns.specs.declared.answer.Answer.{Answer}
 use Rattle.turns.specs.declared.answer.Answer.TheVariants.{Asked, Seized, Held, Preferred, Again, Value, Turn, Done}
 use Rattle.turns.specs.declared.phase.Phase.TheVariants.{Requests, Seizes, Tests, Turns, Withdraws, GivesBack, Operates}
@@ -10,6 +11,7 @@ use Rattle.turns.specs.declared.reading.Reading.{Reading}
 use Rattle.turns.specs.declared.wanted.Wanted.TheVariants.{Seize, Test}
 use Rattle.turns.proofs.Lists.{in_more}
 use Rattle.turns.proofs.Room.{Grows, held_last, held_before, read_last, read_before, left_asks, seized_at, read_at}
+use Rattle.turns.proofs.Words.{read_more}
 use Rattle.xbar_equip.specs.Conn.{IsConn, conn_eq}
 use Rattle.xbar_equip.specs.declared.conn.Conn.{Conn}
 use Rattle.xbar_equip.proofs.PathTests.{conn_eq-itself}
@@ -20,7 +22,7 @@ use Rattle.xbar_jobs.specs.Attempt.{Attempt, Phase}
 use Rattle.xbar_jobs.specs.Jobs.{first_conn, script}
 use Rattle.xbar_jobs.specs.Office.{office}
 use Rattle.xbar_jobs.specs.Script.{Seen, Wanted}
-use Rattle.xbar_jobs.specs.Standing.{AreConns, HasRoom, HasRoomIn, IsPhase, most_readings, most_held}
+use Rattle.xbar_jobs.specs.Standing.{AreConns, HasRoom, HasRoomIn, IsPhase, most_readings, most_seizings}
 use Rattle.xbar_jobs.specs.declared.decision.Decision.{Decision}
 use Rattle.xbar_jobs.specs.declared.effect.Effect.{Effect}
 use Rattle.xbar_jobs.proofs.JobBounds.{script_asks}
@@ -31,35 +33,35 @@ pub record RoomAfter (Room : Type 0) (length most : ℕ) : Type 0 where
   pub fits : length < most
   pub room : Room
 
-pub room_seized : (plan : Tables) (a : Attempt) (conn : Conn) → come_to (office plan) a ≡ Err (Seize conn) → HasRoom plan a → RoomAfter (HasRoom plan (record a { held = a.held ++ conn ∷ [] })) (length a.held) most_held
+pub room_seized : (plan : Tables) (a : Attempt) (conn : Conn) → AreReadWords a.readings → come_to (office plan) a ≡ Err (Seize conn) → HasRoom plan a → RoomAfter (HasRoom plan (record a { held = a.held ++ conn ∷ [] })) (length a.held) most_seizings
 unfolding walk
-room_seized plan a conn come fits =
+room_seized plan a conn read come fits =
     let more : Seen = record { held = a.held ++ conn ∷ []; readings = a.readings } in
     let grows : Grows conn_eq conn_eq-itself (seen_of a) more = record { held = λ c e. held_before conn_eq conn_eq-itself a.held conn c e; readings = λ word value e. e } in
-    let room = seized_at conn_eq conn_eq-itself (seen_of a) more conn (most_readings - length a.readings) (most_held - length a.held) (script plan a.job) (left conn_eq (seen_of a) (script plan a.job)) grows (held_last conn_eq conn_eq-itself a.held conn) refl come fits in
+    let room = seized_at conn_eq conn_eq-itself (seen_of a) more conn (most_readings - length a.readings) (most_seizings - length a.held) (script plan a.job) (left conn_eq (seen_of a) (script plan a.job)) grows read (held_last conn_eq conn_eq-itself a.held conn) refl come fits in
     let size : length (a.held ++ conn ∷ []) ≡ length a.held + 1 = length-append a.held (conn ∷ []) in
-    let rest : room.rest ≡ most_held - length (a.held ++ conn ∷ []) = omega (arith, room.one, size) in
+    let rest : room.rest ≡ most_seizings - length (a.held ++ conn ∷ []) = omega (arith, room.one, size) in
     record {
       fits = omega (arith, room.one);
       room = subst (λ (n : ℕ). AsksAtMost (most_readings - length a.readings) n (left conn_eq more (script plan a.job))) rest room.asks;
     }
 
-pub room_read : (plan : Tables) (a : Attempt) (reading : Reading ℕ) → come_to (office plan) a ≡ Err (Test reading.word) → HasRoom plan a → RoomAfter (HasRoom plan (record a { readings = a.readings ++ reading ∷ [] })) (length a.readings) most_readings
+pub room_read : (plan : Tables) (a : Attempt) (reading : Reading ℕ) → AreReadWords a.readings → reading.value < 2 ^ 64 → come_to (office plan) a ≡ Err (Test reading.word) → HasRoom plan a → RoomAfter (HasRoom plan (record a { readings = a.readings ++ reading ∷ [] })) (length a.readings) most_readings
 unfolding walk
-room_read plan a reading come fits =
+room_read plan a reading read below come fits =
     let more : Seen = record { held = a.held; readings = a.readings ++ reading ∷ [] } in
     let grows : Grows conn_eq conn_eq-itself (seen_of a) more = record { held = λ c e. e; readings = λ word value e. read_before conn_eq conn_eq-itself a.readings reading word value e } in
-    let room = read_at conn_eq conn_eq-itself (seen_of a) more reading.word (most_readings - length a.readings) (most_held - length a.held) (script plan a.job) (left conn_eq (seen_of a) (script plan a.job)) grows (read_last conn_eq conn_eq-itself a.readings reading) refl come fits in
+    let room = read_at conn_eq conn_eq-itself (seen_of a) more reading.word (most_readings - length a.readings) (most_seizings - length a.held) (script plan a.job) (left conn_eq (seen_of a) (script plan a.job)) grows (read_more a.readings reading read below) (read_last conn_eq conn_eq-itself a.readings reading) refl come fits in
     let size : length (a.readings ++ reading ∷ []) ≡ length a.readings + 1 = length-append a.readings (reading ∷ []) in
     let rest : room.rest ≡ most_readings - length (a.readings ++ reading ∷ []) = omega (arith, room.one, size) in
     record {
       fits = omega (arith, room.one);
-      room = subst (λ (n : ℕ). AsksAtMost n (most_held - length a.held) (left conn_eq more (script plan a.job))) rest room.asks;
+      room = subst (λ (n : ℕ). AsksAtMost n (most_seizings - length a.held) (left conn_eq more (script plan a.job))) rest room.asks;
     }
 
 -- one that has just begun has room for all of its script
 pub room_begin : (plan : Tables) (job : Job) → IsLawful plan → HasRoom plan (begin_with (first_conn job) job)
-room_begin plan job laws = left_asks conn_eq conn_eq-itself (record { held = []; readings = [] }) most_readings most_held (script plan job) (script_asks plan job laws)
+room_begin plan job laws = left_asks conn_eq conn_eq-itself (record { held = []; readings = [] }) most_readings most_seizings (script plan job) (λ reading none. absurd none) (script_asks plan job laws)
 
 room_freed : (plan : Tables) (a : Attempt) (held : List Conn) → IsLawful plan → HasRoomIn plan (freed (office plan) a held) (freed (office plan) a held).phase
 room_freed plan a [] laws = room_begin plan a.job laws
@@ -76,79 +78,27 @@ room_operated plan a turn [] at = subst (λ (phase : Phase). HasRoomIn plan (ope
 room_operated plan a turn (effect ∷ effects) at = subst (λ (phase : Phase). HasRoomIn plan (operated a (effect ∷ effects)) phase) (sym at) tt
 
 -- whatever comes of its step, an attempt that stands where its script brings it has room again
-room_changed : (plan : Tables) (a : Attempt) (phase : Phase) (answer : Answer) → IsLawful plan → a.phase ≡ phase → HasRoomIn plan a a.phase → StandsIn (office plan) a phase → HasRoomIn plan a phase → HasRoomIn plan (changed (office plan) a phase answer) (changed (office plan) a phase answer).phase
-room_changed plan a (Requests conn) (Asked told) laws at all stands room = room
-room_changed plan a (Requests conn) (Held holder) laws at all stands room = tt
-room_changed plan a (Requests conn) (Preferred other) laws at all stands room = tt
-room_changed plan a (Seizes conn expected) Seized laws at all stands room =
+room_changed : (plan : Tables) (a : Attempt) (phase : Phase) (answer : Answer) → IsLawful plan → AreReadWords a.readings → IsAnswerTo (act_in phase a) answer → a.phase ≡ phase → HasRoomIn plan a a.phase → StandsIn (office plan) a phase → HasRoomIn plan a phase → HasRoomIn plan (changed (office plan) a phase answer) (changed (office plan) a phase answer).phase
+room_changed plan a (Requests conn) (Asked told) laws read fits at all stands room = room
+room_changed plan a (Requests conn) (Held holder) laws read fits at all stands room = tt
+room_changed plan a (Requests conn) (Preferred other) laws read fits at all stands room = tt
+room_changed plan a (Seizes conn expected) Seized laws read fits at all stands room =
     let more : Attempt = record a { held = a.held ++ conn ∷ [] } in
-    room_on plan more (come_to (office plan) more) (room_seized plan a conn stands room).room
-room_changed plan a (Seizes conn expected) (Held holder) laws at all stands room = tt
-room_changed plan a (Seizes conn expected) (Preferred other) laws at all stands room = tt
-room_changed plan a (Seizes conn expected) (Again told) laws at all stands room = room
-room_changed plan a (Tests word) (Value value) laws at all stands room =
+    room_on plan more (come_to (office plan) more) (room_seized plan a conn read stands room).room
+room_changed plan a (Seizes conn expected) (Held holder) laws read fits at all stands room = tt
+room_changed plan a (Seizes conn expected) (Preferred other) laws read fits at all stands room = tt
+room_changed plan a (Seizes conn expected) (Again told) laws read fits at all stands room = room
+room_changed plan a (Tests word) (Value value) laws read fits at all stands room =
     let more : Attempt = record a { readings = a.readings ++ record { word = word; value = value } ∷ [] } in
-    room_on plan more (come_to (office plan) more) (room_read plan a (record { word = word; value = value }) stands room).room
-room_changed plan a Turns (Turn number) laws at all stands room = tt
-room_changed plan a (Withdraws conn) Done laws at all stands room = room_freed plan a a.held laws
-room_changed plan a GivesBack Done laws at all stands room = room_freed plan a (rest_of a.held) laws
-room_changed plan a (Operates turn) Done laws at all stands room = room_operated plan a turn a.effects at
-room_changed plan a _ _ laws at all stands room = all
+    room_on plan more (come_to (office plan) more) (room_read plan a (record { word = word; value = value }) read fits stands room).room
+room_changed plan a Turns (Turn number) laws read fits at all stands room = tt
+room_changed plan a (Withdraws conn) Done laws read fits at all stands room = room_freed plan a a.held laws
+room_changed plan a GivesBack Done laws read fits at all stands room = room_freed plan a (rest_of a.held) laws
+room_changed plan a (Operates turn) Done laws read fits at all stands room = room_operated plan a turn a.effects at
+room_changed plan a _ _ laws read fits at all stands room = all
 
-pub room_change : (plan : Tables) (a : Attempt) (answer : Answer) → IsLawful plan → StandsIn (office plan) a a.phase → HasRoomIn plan a a.phase → HasRoomIn plan (change (office plan) a answer) (change (office plan) a answer).phase
-room_change plan a answer laws stands room = room_changed plan a a.phase answer laws refl room stands room
-
--- nor does it ever hold more than the most
-few_on : (plan : Tables) (a : Attempt) (found : Result Decision Wanted) → length a.held ≤ most_held → length (goes_on (office plan) a found).held ≤ most_held
-few_on plan a (Ok decision) few = few
-few_on plan a (Err (Seize conn)) few = few
-few_on plan a (Err (Test word)) few = few
-
-few_freed : (plan : Tables) (a : Attempt) (held : List Conn) → length held ≤ most_held → length (freed (office plan) a held).held ≤ most_held
-few_freed plan a [] few = omega arith
-few_freed plan a (conn ∷ held) few = few
-
-fewer_rest : (held : List Conn) → length held ≤ most_held → length (rest_of held) ≤ most_held
-fewer_rest [] few = few
-fewer_rest (conn ∷ held) few = omega arith
-
-few_operated : (a : Attempt) (effects : List Effect) → length a.held ≤ most_held → length (operated a effects).held ≤ most_held
-few_operated a [] few = fewer_rest a.held few
-few_operated a (effect ∷ effects) few = few
-
-few_changed : (plan : Tables) (a : Attempt) (phase : Phase) (answer : Answer) → StandsIn (office plan) a phase → HasRoomIn plan a phase → length a.held ≤ most_held → length (changed (office plan) a phase answer).held ≤ most_held
-few_changed plan a (Requests conn) (Held holder) stands room few = few
-few_changed plan a (Requests conn) (Preferred other) stands room few = few
-few_changed plan a (Seizes conn expected) Seized stands room few =
-    let more : Attempt = record a { held = a.held ++ conn ∷ [] } in
-    let fits = (room_seized plan a conn stands room).fits in
-    let one : length (a.held ++ conn ∷ []) ≡ length a.held + 1 = length-append a.held (conn ∷ []) in
-    few_on plan more (come_to (office plan) more) (omega (arith, fits, one))
-few_changed plan a (Seizes conn expected) (Held holder) stands room few = few
-few_changed plan a (Seizes conn expected) (Preferred other) stands room few = few
-few_changed plan a (Tests word) (Value value) stands room few =
-    let more : Attempt = record a { readings = a.readings ++ record { word = word; value = value } ∷ [] } in
-    few_on plan more (come_to (office plan) more) few
-few_changed plan a Turns (Turn number) stands room few = few
-few_changed plan a (Withdraws conn) Done stands room few = few_freed plan a a.held few
-few_changed plan a GivesBack Done stands room few = few_freed plan a (rest_of a.held) (fewer_rest a.held few)
-few_changed plan a (Operates turn) Done stands room few = few_operated a a.effects few
-few_changed plan a _ _ stands room few = few
-
-pub few_change : (plan : Tables) (a : Attempt) (answer : Answer) → StandsIn (office plan) a a.phase → HasRoomIn plan a a.phase → length a.held ≤ most_held → length (change (office plan) a answer).held ≤ most_held
-few_change plan a answer stands room few = few_changed plan a a.phase answer stands room few
-
-few_restarted_in : (plan : Tables) (a : Attempt) (phase : Phase) → length a.held ≤ most_held → length (restarted_in (office plan) phase a).held ≤ most_held
-few_restarted_in plan a (Requests conn) few = few_freed plan (forgotten a) a.held few
-few_restarted_in plan a (Seizes conn expected) few = few
-few_restarted_in plan a (Tests word) few = few_freed plan (forgotten a) a.held few
-few_restarted_in plan a Turns few = few_freed plan (forgotten a) a.held few
-few_restarted_in plan a (Withdraws conn) few = few
-few_restarted_in plan a GivesBack few = few
-few_restarted_in plan a (Operates turn) few = few
-
-pub few_restarted : (plan : Tables) (a : Attempt) → length a.held ≤ most_held → length (restarted (office plan) a).held ≤ most_held
-few_restarted plan a few = few_restarted_in plan a a.phase few
+pub room_change : (plan : Tables) (a : Attempt) (answer : Answer) → IsLawful plan → AreReadWords a.readings → IsAnswerTo (act a) answer → StandsIn (office plan) a a.phase → HasRoomIn plan a a.phase → HasRoomIn plan (change (office plan) a answer) (change (office plan) a answer).phase
+room_change plan a answer laws read fits stands room = room_changed plan a a.phase answer laws read fits refl room stands room
 
 -- and so has one that restarts room
 room_restarted_in : (plan : Tables) (a : Attempt) (phase : Phase) → IsLawful plan → HasRoomIn plan a a.phase → HasRoomIn plan (restarted_in (office plan) phase a) (restarted_in (office plan) phase a).phase
@@ -163,14 +113,10 @@ room_restarted_in plan a (Operates turn) laws all = all
 pub room_restarted : (plan : Tables) (a : Attempt) → IsLawful plan → HasRoomIn plan a a.phase → HasRoomIn plan (restarted (office plan) a) (restarted (office plan) a).phase
 room_restarted plan a laws all = room_restarted_in plan a a.phase laws all
 
--- in its phase, an attempt has come as far as to want what the phase says, and has room for it
-pub come_to_seize : (plan : Tables) (a : Attempt) (conn : Conn) (expected : ℕ) → a.phase ≡ Seizes conn expected → StandsIn (office plan) a a.phase → HasRoomIn plan a a.phase → RoomAfter (HasRoom plan (record a { held = a.held ++ conn ∷ [] })) (length a.held) most_held
-come_to_seize plan a conn expected e stands room =
-    room_seized plan a conn (subst (λ (phase : Phase). StandsIn (office plan) a phase) e stands) (subst (λ (phase : Phase). HasRoomIn plan a phase) e room)
-
-pub come_to_test : (plan : Tables) (a : Attempt) (word value : ℕ) → a.phase ≡ Tests word → StandsIn (office plan) a a.phase → HasRoomIn plan a a.phase → RoomAfter (HasRoom plan (record a { readings = a.readings ++ record { word = word; value = value } ∷ [] })) (length a.readings) most_readings
-come_to_test plan a word value e stands room =
-    room_read plan a (record { word = word; value = value }) (subst (λ (phase : Phase). StandsIn (office plan) a phase) e stands) (subst (λ (phase : Phase). HasRoomIn plan a phase) e room)
+-- in its phase, an attempt has come as far as to want to read what the phase says, and has room for it
+pub come_to_test : (plan : Tables) (a : Attempt) (word value : ℕ) → AreReadWords a.readings → value < 2 ^ 64 → a.phase ≡ Tests word → StandsIn (office plan) a a.phase → HasRoomIn plan a a.phase → RoomAfter (HasRoom plan (record a { readings = a.readings ++ record { word = word; value = value } ∷ [] })) (length a.readings) most_readings
+come_to_test plan a word value read below e stands room =
+    room_read plan a (record { word = word; value = value }) read below (subst (λ (phase : Phase). StandsIn (office plan) a phase) e stands) (subst (λ (phase : Phase). HasRoomIn plan a phase) e room)
 
 -- and what it is to read was not read
 pub unread_to_test : (plan : Tables) (a : Attempt) (word : ℕ) → a.phase ≡ Tests word → StandsIn (office plan) a a.phase → value_read a.readings word ≡ None

@@ -22,6 +22,7 @@ use Rattle.xbar_jobs.specs.declared.decision.Decision.{Decision}
 use Rattle.xbar_jobs.specs.declared.leave.Leave.{Leave}
 use Rattle.xbar_jobs.specs.declared.party.Party.{Party}
 use Rattle.xbar_jobs.proofs.AskBounds.{asks_bind, asks_more}
+use Rattle.xbar_jobs.proofs.FittingEffects.{leave_words}
 use Rattle.xbar_jobs.proofs.TrialBounds.{connect_asks}
 use Rattle.xbar_jobs.proofs.TracingBounds.{approach_asks, trace_asks}
 
@@ -75,7 +76,7 @@ module _ (plan : Tables) (laws : IsLawful plan) where
   call_asks calling dialled None few = tt
   call_asks calling dialled (Some groups) few = call_by_asks plan calling groups few laws dialled (leads_inside plan groups)
 
-  route_few : (code : ℕ) → IfSome (route_of plan code) (λ groups. length groups ≤ 4)
+  pub route_few : (code : ℕ) → IfSome (route_of plan code) (λ groups. length groups ≤ 4)
   route_few code = of (route_of plan code) refl where
     of : (found : Option (List ℕ)) → route_of plan code ≡ found → IfSome found (λ groups. length groups ≤ 4)
     of None is = tt
@@ -88,7 +89,7 @@ module _ (plan : Tables) (laws : IsLawful plan) where
       let after : Party = party_after (leave_effects leave) calling in
       let made_call : Script Decision = as_if_made (leave_effects leave) (call plan after dialled (route_of plan (code_of dialled))) in
       asks_bind 38 16 0 0 38 16 made_call (λ decision. Ends (leaving leave decision)) refl refl
-      (asks_read_with (value_after (leave_effects leave)) 38 16 _ (call_asks after dialled (route_of plan (code_of dialled)) (route_few (code_of dialled)))) (λ decision. tt)
+      (asks_read_with (value_after (leave_effects leave)) 38 16 _ (leave_words plan leave) (call_asks after dialled (route_of plan (code_of dialled)) (route_few (code_of dialled)))) (λ decision. tt)
 
   from_asks : (calling : Party) (dialled : ℕ) (own : Path) (found : Option MemberPlace) → AsksAtMost 38 17 (call_from plan calling dialled own found)
   unfolding AsksAtMost call_from

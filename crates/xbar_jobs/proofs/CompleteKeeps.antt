@@ -28,6 +28,7 @@ use Rattle.xbar_jobs.specs.Tracing.{approach, channel_of, trace}
 use Rattle.xbar_jobs.specs.declared.leave.Leave.{Leave}
 use Rattle.xbar_jobs.specs.declared.party.Party.{Party}
 use Rattle.xbar_jobs.proofs.ConnectKeeps.{connect_keeps}
+use Rattle.xbar_jobs.proofs.FittingEffects.{leave_words}
 use Rattle.xbar_jobs.proofs.HeldEffects.{IsHeldIfAny, IsHeldLeave, IsHeldPath, IsTaking, IsWellCovered, leave_held, leaving_covered, line_held, path_held, refused_takes, taking_covered}
 use Rattle.xbar_jobs.proofs.HeldWords.{keeps_then, one_more}
 use Rattle.xbar_jobs.proofs.TracingKeeps.{HoldsLine, approach_keeps, trace_keeps}
@@ -110,7 +111,7 @@ module _ (plan : Tables) (laws : IsLawful plan) where
   leaving_keeps held calling dialled leave alone line let_go =
       let after : Party = party_after (leave_effects leave) calling in
       keeps_then plan IsTaking (IsWellCovered plan) held _ _
-      (keeps_read_with (office plan) IsTaking held (value_after (leave_effects leave)) _ (call_keeps held after dialled (route_of plan (code_of dialled)) line (route_there (code_of dialled))))
+      (keeps_read_with (office plan) IsTaking held (value_after (leave_effects leave)) _ (leave_words plan leave) (call_keeps held after dialled (route_of plan (code_of dialled)) line (route_there (code_of dialled))))
       (λ conns decision still taking. leaving_covered plan conns leave decision alone (leave_held held conns still leave let_go) taking)
 
   -- the register's group is seized first

@@ -59,7 +59,7 @@ module _ (plan : Tables) (laws : IsLawful plan) where
         below,
         (
           group_under plan more group own below,
-          λ word. idle_keeps more group word (find_trunk plan groups) (first_clear (trunks_of plan group word)) below own (find_keeps more groups (λ k number is. there (suc k) number is)),
+          λ word fits. idle_keeps more group word (find_trunk plan groups) (first_clear (trunks_of plan group word)) below own (find_keeps more groups (λ k number is. there (suc k) number is)),
         ),
       )
 

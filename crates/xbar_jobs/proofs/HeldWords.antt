@@ -38,7 +38,7 @@ module _ (plan : Tables) where
   pub stays_held : {A : Type 0} (Fits : List Conn → A → Type 0) (own held : List Conn) (script : Script A) → AreAmong own held → KeepsTo (office plan) Fits held script → KeepsTo (office plan) (λ conns found. AreAmong own conns × Fits conns found) held script
   unfolding KeepsTo
   stays_held Fits own held (Ends found) among keeps = (among, keeps)
-  stays_held Fits own held (TestThen word script) among keeps = (keeps.0, λ value. stays_held Fits own held (script value) among (keeps.1 value))
+  stays_held Fits own held (TestThen word script) among keeps = (keeps.0, λ value fits. stays_held Fits own held (script value) among (keeps.1 value fits))
   stays_held Fits own held (SeizeThen conn script) among keeps = (keeps.0, stays_held Fits own (held ++ conn ∷ []) script (λ c within. one_more held conn c (among c within)) keeps.1)
 
   -- a script and then another, which goes on with what the first one found, and with what was held before it

@@ -20,7 +20,7 @@ use Rattle.xbar_jobs.specs.Jobs.{dial_steps, script, serve_idle_line}
 use Rattle.xbar_jobs.specs.Office.{office}
 use Rattle.xbar_jobs.specs.Releasing.{release_from, release_member, release_steps, trace_other}
 use Rattle.xbar_jobs.specs.Script.{Script}
-use Rattle.xbar_jobs.specs.Standing.{most_effects, most_held, most_readings}
+use Rattle.xbar_jobs.specs.Standing.{most_effects, most_seizings, most_readings}
 use Rattle.xbar_jobs.specs.Tracing.{approach, channel_of, trace}
 use Rattle.xbar_jobs.specs.declared.party.Party.{Party}
 use Rattle.xbar_jobs.proofs.AskBounds.{asks_bind, asks_more}
@@ -64,21 +64,21 @@ module _ (plan : Tables) where
       (λ party. asks_bind 3 1 4 2 7 3 (trace party) _ refl refl (trace_asks party) (λ own. release_from_asks own))
 
 -- no job's script has more than 42 tests and 19 seizings
-pub script_asks : (plan : Tables) (job : Job) → IsLawful plan → AsksAtMost most_readings most_held (script plan job)
+pub script_asks : (plan : Tables) (job : Job) → IsLawful plan → AsksAtMost most_readings most_seizings (script plan job)
 unfolding script
 script_asks plan (Dial line) laws = asks_more 26 4 42 19 (dial_steps plan line) (omega arith) (omega arith) (dial_asks plan line)
 script_asks plan (Complete line dialled) laws = complete_asks plan laws line dialled
 script_asks plan (Release line) laws = asks_more 8 4 42 19 (release_steps plan line) (omega arith) (omega arith) (release_asks plan line)
 
 -- what fits wherever a script ends holds of its ends
-ends_as_kept : (plan : Tables) {A : Type 0} (Fits : List Conn → A → Type 0) (Has : A → Type 0) (held : List Conn) (script : Script A) → ((conns : List Conn) (found : A) → Fits conns found → Has found) → KeepsTo (office plan) Fits held script → EndsIn Has script
+pub ends_as_kept : (plan : Tables) {A : Type 0} (Fits : List Conn → A → Type 0) (Has : A → Type 0) (held : List Conn) (script : Script A) → ((conns : List Conn) (found : A) → Fits conns found → Has found) → KeepsTo (office plan) Fits held script → EndsIn Has script
 unfolding EndsIn KeepsTo
 ends_as_kept plan Fits Has held (Ends found) has keeps = has held found keeps
-ends_as_kept plan Fits Has held (TestThen word script) has keeps = λ value. ends_as_kept plan Fits Has held (script value) has (keeps.1 value)
+ends_as_kept plan Fits Has held (TestThen word script) has keeps = λ value fits. ends_as_kept plan Fits Has held (script value) has (keeps.1 value fits)
 ends_as_kept plan Fits Has held (SeizeThen conn script) has keeps = ends_as_kept plan Fits Has (held ++ conn ∷ []) script has keeps.1
 
 -- a job tests and seizes no more than there is room for, and has no more effects
-pub jobs_bounded : (plan : Tables) → IsLawful plan → AreBounded (office plan) most_readings most_held most_effects
+pub jobs_bounded : (plan : Tables) → IsLawful plan → AreBounded (office plan) most_readings most_seizings most_effects
 jobs_bounded plan laws = record {
   asks = λ job in_range. script_asks plan job laws;
   effects = λ job in_range. ends_as_kept plan (IsWellCovered plan) (λ decision. length (effects decision) ≤ most_effects) [] (script plan job) (λ held decision good. good.few) (job_keeps plan laws job in_range);

@@ -1,5 +1,5 @@
 -- what an attempt does past its turn is what the one-marker office does
-use Rattle.std.proofs.Common.{◌≡◌, ℕ, List, [], ◌∷◌, sym, ◌∙◌, ap, subst, refl, arith}
+use Rattle.std.proofs.Common.{◌≡◌, ℕ, ◌<◌, ◌^◌, List, [], ◌∷◌, sym, ◌∙◌, ap, subst, refl, arith}
 use Rattle.std.specs.Prelude.{Some}
 use Rattle.turns.specs.Attempt.{HasDecided, IsAnswerTo, StandsIn, act, act_in, change, changed, closing_act, free_act, seen_of}
 use Rattle.turns.specs.Script.{run}
@@ -7,7 +7,8 @@ use Rattle.turns.specs.System.{AreDue, AreUnder, perform_all}
 use Rattle.turns.specs.declared.answer.Answer.{Answer}
 use Rattle.turns.specs.declared.answer.Answer.TheVariants.{Turn}
 use Rattle.turns.specs.declared.phase.Phase.TheVariants.{Requests, Seizes, Tests, Turns, Withdraws, GivesBack, Operates}
-use Rattle.turns.proofs.Walks.{walk_run}
+use Rattle.turns.proofs.Keeping.{HasReadWords}
+use Rattle.turns.proofs.Walks.{read_value, walk_run}
 use Rattle.xbar_equip.specs.Conn.{conn_eq}
 use Rattle.xbar_equip.specs.declared.conn.Conn.{Conn}
 use Rattle.xbar_plan.specs.Tables.{Tables}
@@ -23,6 +24,7 @@ use Rattle.xbar_jobs.specs.declared.effect.Effect.{Effect}
 use Rattle.xbar_jobs.proofs.Covered.{decided_under}
 use Rattle.xbar_jobs.proofs.DialDecides.{DecidesOn}
 use Rattle.xbar_jobs.proofs.OfficeSystem.{script_decides}
+use Rattle.xbar_jobs.proofs.ShownWords.{shown_below}
 
 -- an attempt that has decided does as the one-marker office does
 pub decided_does : (plan : Tables) (a : Attempt) → IsLawful plan → IsJob a.job → HasDecided (office plan) a → DoesAsOffice plan a
@@ -31,11 +33,14 @@ decided_does plan a laws in_range stands words paths size shows read =
     let ends : run words (script plan a.job) ≡ decision = walk_run conn_eq words (seen_of a) (script plan a.job) decision read stands.come in
     let decides = subst (λ (d : Decision). DecidesOn plan words d (whole plan paths a.job)) ends (script_decides plan words paths a.job laws (omega arith) shows in_range) in
     let same = sym stands.effects in
+    let fits : HasReadWords (office plan) (seen_of a) = λ word value under is.
+    subst (λ (n : ℕ). n < 2 ^ 64) (read_value words a.readings word value read is)
+    (shown_below plan laws paths words shows under.lock word under.protects) in
     record {
       reply = stands.reply ∙ ap Some decides.reply;
       shows = subst (λ (all : List Effect). ShowsOffice plan (perform_all (office plan) words all) (whole plan paths a.job).paths) same decides.shows;
       due = subst (λ (all : List Effect). AreDue (office plan) words all) same decides.due;
-      under = subst (λ (all : List Effect). AreUnder (office plan) a.held all) same (decided_under plan (seen_of a) a.job decision laws in_range stands.come);
+      under = subst (λ (all : List Effect). AreUnder (office plan) a.held all) same (decided_under plan (seen_of a) a.job decision laws in_range fits stands.come);
     }
 
 no_turn_of_free : (held : List Conn) (number : ℕ) → IsAnswerTo {Effect = Effect} (free_act held) (Turn number) → ⊥

@@ -8,6 +8,7 @@ pub mod TriedGroups
 pub mod HuntedLines
 pub mod HeldWords
 pub mod HeldEffects
+pub mod FittingEffects
 pub mod TracingKeeps
 pub mod TrialKeeps
 pub mod ConnectKeeps
@@ -19,11 +20,16 @@ pub mod TracingBounds
 pub mod TrialBounds
 pub mod CompleteBounds
 pub mod JobBounds
+pub mod OtherBounds
+pub mod JobOthers
 pub mod Covered
 pub mod ReadOnce
 pub mod AttemptRoom
+pub mod FewConns
+pub mod HoldsFew
 pub mod JunctorRows
 pub mod BusyMembers
+pub mod ShownWords
 pub mod TakenMembers
 pub mod SameChoice
 pub mod TestedJunctors
@@ -47,4 +53,5 @@ pub mod OpenedWords
 pub mod OfficeSystem
 pub mod JobTurns
 pub mod AttemptStands
+pub mod Counts
 pub mod StepActs

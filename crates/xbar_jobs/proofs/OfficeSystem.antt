@@ -9,6 +9,7 @@ use Rattle.turns.proofs.Keeping.{keeps_map}
 use Rattle.turns.specs.Sharing.{IsUnused}
 use Rattle.turns.specs.Sharings.{preferring}
 use Rattle.turns.proofs.Preferring.{preferring_is, zero_unused}
+use Rattle.turns.proofs.Words.{zeros_below}
 use Rattle.xbar_equip.specs.Conn.{IsConn}
 use Rattle.xbar_equip.specs.Word.{Word, IsWord, word_number, protector, LineSwitch, LineJunctor, TrunkSwitch, TrunkJunctor, GroupWord, ConnWord, TurnWord}
 use Rattle.xbar_equip.specs.declared.conn.Conn.{Conn}
@@ -32,6 +33,7 @@ use Rattle.xbar_jobs.specs.Tracing.{approach}
 use Rattle.xbar_jobs.proofs.CompleteDecides.{complete_decides}
 use Rattle.xbar_jobs.proofs.Covered.{protected_below}
 use Rattle.xbar_jobs.proofs.DialDecides.{DecidesOn, dial_decides}
+use Rattle.xbar_jobs.proofs.FittingEffects.{may_make}
 use Rattle.xbar_jobs.proofs.JobKeeps.{script_keeps}
 use Rattle.xbar_jobs.proofs.ReleaseDecides.{release_decides}
 use Rattle.xbar_jobs.proofs.OpenedWords.{shows_opened}
@@ -108,12 +110,13 @@ script_decides plan words paths (Release line) laws size shows in_range = releas
 -- and it keeps to what it holds
 keeps_under : (plan : Tables) (job : Job) → IsLawful plan → IsJob job → KeepsTo (office plan) (DecidesUnder (office plan)) [] (script plan job)
 keeps_under plan job laws in_range =
-    keeps_map (office plan) (IsCovered plan) (DecidesUnder (office plan)) [] (script plan job) (λ conns decision covered. covered.under) (script_keeps plan job laws in_range)
+    keeps_map (office plan) (IsCovered plan) (DecidesUnder (office plan)) [] (script plan job) (λ conns decision covered. may_make plan conns decision covered) (script_keeps plan job laws in_range)
 
 -- the words that the office opens on are all 0
 opens_on : (plan : Tables) → IsInitial (office plan)
 opens_on plan = record {
   initial_length = length-replicate {A = ℕ} 453 0;
+  are_words = zeros_below 453;
   shows = shows_opened plan;
   unused = λ conn is. let range = conn_range conn is in
       subst (IsUnused preferring) (sym (get_or-replicate 453 (word_number (ConnWord conn)) 0 0 (omega arith))) zero_unused;
@@ -127,7 +130,7 @@ office_is plan laws = record {
   words = words_apart plan;
   first = λ job in_range. first_seized plan job;
   keeps = λ job in_range. keeps_under plan job laws in_range;
-  decides = λ job words paths in_range size shows. script_decides plan words paths job laws (omega arith) shows in_range;
+  decides = λ job words paths in_range size are shows. script_decides plan words paths job laws (omega arith) shows in_range;
   looks = looks plan;
   opens = opens_on plan;
 }

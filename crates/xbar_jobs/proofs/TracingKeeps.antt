@@ -55,7 +55,7 @@ module _ (plan : Tables) where
   unfolding KeepsTo approach ◌>>=◌
   approach_keeps held line range =
       let own : IsIn (Llf line.frame) (held ++ Llf line.frame ∷ []) = in_last (Llf line.frame) held in
-      (range.frame, (line_switch_under plan _ line.frame line.switch own range.frame range.switch, λ word. record { range = range; own = own }))
+      (range.frame, (line_switch_under plan _ line.frame line.switch own range.frame range.switch, λ word fits. record { range = range; own = own }))
 
   -- a line's path, from the line's switch on
   module _ (line : Line) (channel : ℕ) (below : channel < 10) where
@@ -64,7 +64,7 @@ module _ (plan : Tables) where
     trace_at_keeps held frame None line_own in_frame own in_switch = tt
     trace_at_keeps held frame (Some switch) line_own in_frame own in_switch = (
       trunk_switch_under plan held frame switch own in_frame in_switch,
-      λ word. of (place_at_field Other word channel) (place_below Other word channel),
+      λ word fits. of (place_at_field Other word channel) (place_below Other word channel),
     ) where
       of : (found : Option ℕ) → IfSome found (λ a. a < 10) → IsHeldIfAny held (option_map (λ appearance. path_by line (record { frame = frame; switch = switch; appearance = appearance }) channel) found)
       of None range = tt
@@ -84,7 +84,7 @@ module _ (plan : Tables) where
           in_frame,
           (
             trunk_junctor_under plan more frame channel own in_frame below,
-            λ word. trace_at_keeps more frame (place_at_field Other word line.frame) still in_frame own (place_below Other word line.frame),
+            λ word fits. trace_at_keeps more frame (place_at_field Other word line.frame) still in_frame own (place_below Other word line.frame),
           ),
         )
 
@@ -93,7 +93,7 @@ module _ (plan : Tables) where
   trace_by_keeps held line None own below = tt
   trace_by_keeps held line (Some channel) own below = (
     line_junctor_under plan held line.frame channel own.own own.range.frame below,
-    λ word. trace_to_keeps line channel below held (field_at_place Other word line.switch) own (field_below Other word line.switch),
+    λ word fits. trace_to_keeps line channel below held (field_at_place Other word line.switch) own (field_below Other word line.switch),
   )
 
   -- with the line held, its path may be traced, and is held then
@@ -108,7 +108,7 @@ module _ (plan : Tables) where
     trace_back_at_keeps held frame None place_own in_frame own in_switch = tt
     trace_back_at_keeps held frame (Some switch) place_own in_frame own in_switch = (
       line_switch_under plan held frame switch own in_frame in_switch,
-      λ word. of (place_at_field LineShape word channel) (place_below LineShape word channel),
+      λ word fits. of (place_at_field LineShape word channel) (place_below LineShape word channel),
     ) where
       of : (found : Option ℕ) → IfSome found (λ x. x < 30) → IsHeldIfAny held (option_map (λ x. path_by (record { frame = frame; switch = switch; x = x }) place channel) found)
       of None range = tt
@@ -128,7 +128,7 @@ module _ (plan : Tables) where
           in_frame,
           (
             line_junctor_under plan more frame channel own in_frame below,
-            λ word. trace_back_at_keeps more frame (place_at_field Other word place.frame) still in_frame own (place_below Other word place.frame),
+            λ word fits. trace_back_at_keeps more frame (place_at_field Other word place.frame) still in_frame own (place_below Other word place.frame),
           ),
         )
 
@@ -137,7 +137,7 @@ module _ (plan : Tables) where
   trace_back_by_keeps held place None own below = tt
   trace_back_by_keeps held place (Some channel) own below = (
     trunk_junctor_under plan held place.frame channel own.own own.range.frame below,
-    λ word. trace_back_to_keeps place channel below held (field_at_place Other word place.switch) own (field_below Other word place.switch),
+    λ word fits. trace_back_to_keeps place channel below held (field_at_place Other word place.switch) own (field_below Other word place.switch),
   )
 
   -- with the place's frame held, so may the place's path
@@ -145,5 +145,5 @@ module _ (plan : Tables) where
   unfolding KeepsTo trace_back ◌>>=◌
   trace_back_keeps held place own = (
     trunk_switch_under plan held place.frame place.switch own.own own.range.frame own.range.switch,
-    λ word. trace_back_by_keeps held place (field_at_place Other word place.appearance) own (field_below Other word place.appearance),
+    λ word fits. trace_back_by_keeps held place (field_at_place Other word place.appearance) own (field_below Other word place.appearance),
   )

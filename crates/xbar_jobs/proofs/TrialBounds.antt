@@ -26,7 +26,7 @@ junctors_ask : (frame channel count : ℕ) → AsksAtMost count 0 (test_junctors
 unfolding AsksAtMost test_junctors ◌>>=◌
 junctors_ask frame channel zero = tt
 junctors_ask frame channel (suc count) =
-    λ word. asks_bind count 0 0 0 count 0 (test_junctors frame (channel + 1) count) (λ words. Ends (word ∷ words)) (omega arith) refl (junctors_ask frame (channel + 1) count) (λ words. tt)
+    λ word fits. asks_bind count 0 0 0 count 0 (test_junctors frame (channel + 1) count) (λ words. Ends (word ∷ words)) (omega arith) refl (junctors_ask frame (channel + 1) count) (λ words. tt)
 
 -- a side has ten of them
 side_asks : (party : Party) → AsksAtMost 10 0 (test_side party)
@@ -47,7 +47,7 @@ sides_ask parties =
 -- a member is reached with two tests and one seizing
 place_asks : (place : TrunkPlace) → AsksAtMost 1 0 (test_place place)
 unfolding AsksAtMost test_place ◌>>=◌
-place_asks place = λ word. tt
+place_asks place = λ word fits. tt
 
 second_asks : (second : Option TrunkPlace) → AsksAtMost 1 0 (test_second second)
 unfolding AsksAtMost test_second
@@ -104,7 +104,7 @@ idle_asks group word count next (Some first) asks = tt
 find_asks : (plan : Tables) (groups : List ℕ) → AsksAtMost (length groups) (length groups) (find_trunk plan groups)
 unfolding AsksAtMost find_trunk ◌>>=◌
 find_asks plan [] = tt
-find_asks plan (group ∷ groups) = λ word. idle_asks group word (length groups) (find_trunk plan groups) (first_clear (trunks_of plan group word)) (find_asks plan groups)
+find_asks plan (group ∷ groups) = λ word fits. idle_asks group word (length groups) (find_trunk plan groups) (first_clear (trunks_of plan group word)) (find_asks plan groups)
 
 try_asks : (plan : Tables) (aim : Aim) (parties : CallParties) (idle : Option IdleGroup) → AsksAtMost 24 2 (try_trunk plan aim parties idle)
 unfolding AsksAtMost try_trunk

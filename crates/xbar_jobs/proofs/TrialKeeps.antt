@@ -143,7 +143,7 @@ module _ (plan : Tables) where
   junctors_keep held frame channel zero own below range = tt
   junctors_keep held frame channel (suc count) own below range = (
     line_junctor_under plan held frame channel own below (omega arith),
-    λ word. keeps_then plan Anything Anything held (test_junctors frame (channel + 1) count) (λ words. Ends (word ∷ words)) (junctors_keep held frame (channel + 1) count own below (omega arith)) (λ conns words among any. tt),
+    λ word fits. keeps_then plan Anything Anything held (test_junctors frame (channel + 1) count) (λ words. Ends (word ∷ words)) (junctors_keep held frame (channel + 1) count own below (omega arith)) (λ conns words among any. tt),
   )
 
   side_keeps : (held : List Conn) (party : Party) → IsHeldLine held party.line → KeepsTo (office plan) HoldsSide held (test_side party)
@@ -170,7 +170,7 @@ module _ (plan : Tables) where
 
   place_keeps : (held : List Conn) (place : TrunkPlace) → IsHeldPlace held place → KeepsTo (office plan) HoldsReached held (test_place place)
   unfolding KeepsTo test_place ◌>>=◌
-  place_keeps held place own = (trunk_switch_under plan held place.frame place.switch own.own own.range.frame own.range.switch, λ word. own)
+  place_keeps held place own = (trunk_switch_under plan held place.frame place.switch own.own own.range.frame own.range.switch, λ word fits. own)
 
   second_keeps : (held : List Conn) (second : Option TrunkPlace) → IfSome second (λ place. IsHeldPlace held place) → KeepsTo (office plan) HoldsSecond held (test_second second)
   unfolding KeepsTo test_second

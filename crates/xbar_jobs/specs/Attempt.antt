@@ -1,4 +1,4 @@
-use Rattle.std.specs.Prelude.{ℕ, ◌+◌, ◌-◌, ◌^◌, ◌==◌, Option, Some, None, List, [], ◌∷◌, if◌then◌else◌}
+use Rattle.std.specs.Prelude.{ℕ, ◌+◌, ◌-◌, ◌^◌, ◌==◌, Some, List, [], ◌∷◌, if◌then◌else◌}
 use Rattle.turns.specs.Attempt as generic
 use Rattle.turns.specs.Attempt.{Rest, Ask, Take, Leave, Free, Look, Turn, Make, begin_with}
 use Rattle.turns.specs.declared.phase.Phase as phases
@@ -80,13 +80,3 @@ step_of (Make effect) = effect_step effect
 -- an attempt's next step
 abbrev pub next_step : Attempt → Step
 next_step a = step_of (generic.act a)
-
--- the number of the turn, once it is taken
-abbrev pub turn_in : Phase → Option ℕ
-turn_in (Operates turn) = Some turn
-turn_in (Requests conn) = None
-turn_in (Seizes conn expected) = None
-turn_in (Tests word) = None
-turn_in Turns = None
-turn_in (Withdraws conn) = None
-turn_in GivesBack = None

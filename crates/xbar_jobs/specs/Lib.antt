@@ -22,7 +22,9 @@ pub mod Jobs
 pub mod Attempt
 pub mod Office
 pub mod Keeping
+pub mod Others
 pub mod Standing
+pub mod Counting
 pub mod Turning
 pub mod Opening
 pub mod OnWords

@@ -1,7 +1,8 @@
-use Rattle.std.specs.Prelude.{◌≡◌, ◌<◌, ◌≤◌, ◌-◌, ℕ, Option, Some, IsSome, List, length, ⊤}
-use Rattle.turns.specs.Among.{IsIn}
+use Rattle.std.specs.Prelude.{◌≡◌, ◌<◌, ◌≤◌, ◌+◌, ◌-◌, ℕ, Option, Some, IsSome, List, length, ⊤}
+use Rattle.turns.specs.Among.{IsIn, AreDistinct}
 use Rattle.turns.specs.Attempt as generic
 use Rattle.turns.specs.Script.{AsksAtMost, left, value_read}
+use Rattle.turns.specs.Seen.{AreReadWords}
 use Rattle.turns.specs.declared.phase.Phase.TheVariants.{Requests, Seizes, Tests, Turns, Withdraws, GivesBack, Operates}
 use Rattle.turns.specs.declared.reading.Reading.{Reading}
 use Rattle.xbar_equip.specs.Conn.{IsConn, conn_eq}
@@ -14,13 +15,22 @@ use Rattle.xbar_jobs.specs.Attempt.{Attempt, Phase}
 use Rattle.xbar_jobs.specs.Jobs.{script}
 use Rattle.xbar_jobs.specs.Keeping.{AreEffects}
 use Rattle.xbar_jobs.specs.Office.{office}
+use Rattle.xbar_jobs.specs.Others.{SeizesOthers, others_in}
 
 -- an attempt never reads more words, and never holds more connectors
 abbrev pub most_readings : ℕ
 most_readings = 42
 
 abbrev pub most_held : ℕ
-most_held = 19
+most_held = 18
+
+-- nor more of them besides line link frames, of which there are ten
+abbrev pub most_others : ℕ
+most_others = 8
+
+-- nor does a script have more seizings, where one of a connector that is held already counts too
+abbrev pub most_seizings : ℕ
+most_seizings = 19
 
 -- nor does a job ever have more effects
 abbrev pub most_effects : ℕ
@@ -67,7 +77,9 @@ pub record IsAttempt (a : Attempt) : Type 0 where
 
 -- the attempt has room for what is left of its script
 abbrev pub HasRoom : Tables → Attempt → Type 0
-HasRoom plan a = AsksAtMost (most_readings - length a.readings) (most_held - length a.held) (left conn_eq (generic.seen_of a) (script plan a.job))
+HasRoom plan a =
+    AsksAtMost (most_readings - length a.readings) (most_seizings - length a.held)
+    (left conn_eq (generic.seen_of a) (script plan a.job))
 
 -- it needs room only as long as it goes through its script
 abbrev pub HasRoomIn : Tables → Attempt → Phase → Type 0
@@ -79,8 +91,30 @@ HasRoomIn plan a (Withdraws conn) = ⊤
 HasRoomIn plan a GivesBack = ⊤
 HasRoomIn plan a (Operates turn) = ⊤
 
--- an attempt stands where its job brings it under this plan, with room for what it will come by
+-- the attempt holds connectors of the office, none of them twice; and besides line link frames no more than
+-- leave room for those that its script may still seize
+pub record HoldsFew (plan : Tables) (a : Attempt) : Type 0 where
+  pub conns : AreConns a.held
+  pub distinct : AreDistinct a.held
+  pub more : ℕ
+  pub fits : others_in a.held + more ≤ most_others
+  pub seizes : SeizesOthers more (left conn_eq (generic.seen_of a) (script plan a.job))
+
+-- that too is needed only as long as it goes through its script
+abbrev pub HoldsFewIn : Tables → Attempt → Phase → Type 0
+HoldsFewIn plan a (Requests conn) = HoldsFew plan a
+HoldsFewIn plan a (Seizes conn expected) = HoldsFew plan a
+HoldsFewIn plan a (Tests word) = HoldsFew plan a
+HoldsFewIn plan a Turns = ⊤
+HoldsFewIn plan a (Withdraws conn) = ⊤
+HoldsFewIn plan a GivesBack = ⊤
+HoldsFewIn plan a (Operates turn) = ⊤
+
+-- an attempt stands where its job brings it under this plan, by values of 64 bits, with room for what it
+-- will come by
 pub record Stands (plan : Tables) (a : Attempt) : Type 0 where
   pub comes : generic.Stands (office plan) a
+  pub read : AreReadWords a.readings
   pub few : length a.held ≤ most_held
+  pub holds : HoldsFewIn plan a a.phase
   pub room : HasRoomIn plan a a.phase

@@ -14,8 +14,8 @@ use xbar_equip::Conn;
 use xbar_office::{Job, Reply};
 use xbar_plan::Plan;
 
-/// Room for the connectors of an attempt: a job seizes 18 at most, and the bound that is proved is 19.
-const MOST_HELD: usize = 19;
+/// Room for the connectors of an attempt: the ten line link frames, and eight others.
+const MOST_HELD: usize = 18;
 
 /// What a marker knows of its job since it last began it.
 #[derive(Debug, Drop)]
@@ -34,20 +34,35 @@ impl Model for Attempt {
 
     ghost Value = { Attempt };
 
-    ghost view = { λ a. record { job = a.job; readings = a.readings; held = a.held.items; phase = a.phase; reply = a.reply; effects = a.effects.items } };
+    ghost view = { λ a. record {
+      job = a.job;
+      readings = a.readings;
+      held = a.held.items;
+      phase = a.phase;
+      reply = a.reply;
+      effects = a.effects.items;
+    } };
 
-    ghost invariant = { λ a. IsAttempt (record { job = a.job; readings = a.readings; held = a.held.items; phase = a.phase; reply = a.reply; effects = a.effects.items }) };
+    ghost invariant = { λ a. IsAttempt (record {
+      job = a.job;
+      readings = a.readings;
+      held = a.held.items;
+      phase = a.phase;
+      reply = a.reply;
+      effects = a.effects.items;
+    }) };
 }
 
 impl Attempt {
     ghost use Rattle.std.specs.Prelude.{ℕ, None, Err, is_some, if◌then◌else◌};
-    ghost use Rattle.turns.specs.Attempt.{act, begin_with, change, closing_act, free_act, changed, forgotten, freed, goes_on, operated, put_off as put_off_by, reply_in, rest_of, restarted, walks_on, IsAnswerTo};
+    ghost use Rattle.turns.specs.Attempt.{act, begin_with, change, closing_act, free_act, changed, forgotten, freed, goes_on, operated, put_off as put_off_by, reply_in, rest_of, restarted, turn_in, walks_on, IsAnswerTo};
+    ghost use Rattle.turns.specs.Seen.{AreReadWords};
     ghost use Rattle.xbar_plan.specs.Lawful.{IsLawful};
     ghost use Rattle.xbar_plan.specs.Tables.{Tables};
     ghost use Rattle.xbar_equip.specs.Conn.{IsConn};
     ghost use Rattle.xbar_equip.specs.Word.{word_count};
     ghost use Rattle.xbar_office.specs.Legal.{IsJob};
-    ghost use Rattle.xbar_jobs.specs.Attempt.{count_in, decided, next_step, step_of, turn_in};
+    ghost use Rattle.xbar_jobs.specs.Attempt.{count_in, decided, next_step, step_of};
     ghost use Rattle.xbar_jobs.specs.Closing.{effects as effects_of};
     ghost use Rattle.xbar_jobs.specs.Jobs.{first_conn as first_conn_of};
     ghost use Rattle.xbar_jobs.specs.Keeping.{AreEffects, IsWanted};
@@ -143,7 +158,8 @@ impl Attempt {
 
     /// Whether nothing was done yet.
     pub fn is_fresh(&self) -> bool
-        ensures { (count : ℕ) → count_in self.now.phase self.now.held count ≡ (if result then 0 else count) }
+        ensures { (count : ℕ)
+            → count_in self.now.phase self.now.held count ≡ (if result then 0 else count) }
     {
         matches!(self.phase, Phase::Requests(_)) && self.held.is_empty()
     }
@@ -188,7 +204,8 @@ impl Attempt {
 
     /// Gives up before the turn.
     fn give_up(&mut self)
-        ensures { (plan : Tables) → self.new ≡ freed (office plan) (forgotten self.old) self.old.held }
+        ensures { (plan : Tables)
+            → self.new ≡ freed (office plan) (forgotten self.old) self.old.held }
     {
         if self.held.is_empty() {
             self.begin_anew();
@@ -239,6 +256,7 @@ impl Attempt {
 
     /// Goes through the job with what was come by, as far as it goes.
     fn walk_on(&mut self, plan: &Plan)
+        requires { AreReadWords self.old.readings }
         ensures { self.new ≡ walks_on (office plan.now) self.old }
     {
         let gathered = Gathered {
@@ -252,7 +270,8 @@ impl Attempt {
     }
 
     fn asked(&mut self, word: u64)
-        ensures { (plan : Tables) → self.new ≡ changed (office plan) self.old self.old.phase (Answer.Asked word) }
+        ensures { (plan : Tables)
+            → self.new ≡ changed (office plan) self.old self.old.phase (Answer.Asked word) }
     {
         let phase = self.phase;
         if let Phase::Requests(conn) = phase {
@@ -261,7 +280,8 @@ impl Attempt {
     }
 
     fn told_again(&mut self, word: u64)
-        ensures { (plan : Tables) → self.new ≡ changed (office plan) self.old self.old.phase (Answer.Again word) }
+        ensures { (plan : Tables)
+            → self.new ≡ changed (office plan) self.old self.old.phase (Answer.Again word) }
     {
         let phase = self.phase;
         if let Phase::Seizes(conn, _) = phase {
@@ -270,8 +290,10 @@ impl Attempt {
     }
 
     fn refused(&mut self)
-        ensures held { (plan : Tables) (holder : ℕ) → self.new ≡ changed (office plan) self.old self.old.phase (Answer.Held holder) }
-        ensures preferred { (plan : Tables) (other : ℕ) → self.new ≡ changed (office plan) self.old self.old.phase (Answer.Preferred other) }
+        ensures held { (plan : Tables) (holder : ℕ)
+            → self.new ≡ changed (office plan) self.old self.old.phase (Answer.Held holder) }
+        ensures preferred { (plan : Tables) (other : ℕ)
+            → self.new ≡ changed (office plan) self.old self.old.phase (Answer.Preferred other) }
     {
         let phase = self.phase;
         match phase {
@@ -298,7 +320,8 @@ impl Attempt {
 
     fn read(&mut self, plan: &Plan, value: u64)
         requires { Stands plan.now self.old }
-        ensures { self.new ≡ changed (office plan.now) self.old self.old.phase (Answer.Value value) }
+        ensures { self.new
+            ≡ changed (office plan.now) self.old self.old.phase (Answer.Value value) }
     {
         let phase = self.phase;
         if let Phase::Tests(word) = phase {
@@ -311,7 +334,8 @@ impl Attempt {
     }
 
     fn turned(&mut self, number: u64)
-        ensures { (plan : Tables) → self.new ≡ changed (office plan) self.old self.old.phase (Answer.Turn number) }
+        ensures { (plan : Tables)
+            → self.new ≡ changed (office plan) self.old self.old.phase (Answer.Turn number) }
     {
         let phase = self.phase;
         if phase == Phase::Turns {
@@ -320,7 +344,8 @@ impl Attempt {
     }
 
     fn done(&mut self)
-        ensures { (plan : Tables) → self.new ≡ changed (office plan) self.old self.old.phase Answer.Done }
+        ensures { (plan : Tables)
+            → self.new ≡ changed (office plan) self.old self.old.phase Answer.Done }
     {
         let phase = self.phase;
         match phase {

@@ -70,7 +70,8 @@ fn call_number(
     number: DirNo,
 ) -> Result<Decision, Wanted>
     requires { AreGroups plan.now groups.now }
-    ensures { result ≡ walk seen.now (call_number_script plan.now calling.now groups.now (lines_of plan.now number)) }
+    ensures { result ≡ walk seen.now
+        (call_number_script plan.now calling.now groups.now (lines_of plan.now number)) }
 {
     let Some(lines) = plan.stations(number) else {
         return Ok(Decision::refused(End::VacantNumber));
@@ -82,8 +83,10 @@ fn call_number(
 /// A call by the groups that the dialled code leads to: inside the office its number counts too.
 #[tactic(auto, using(turns::proofs::Walks::walk_end), unfolding(crate::specs::Completing::call, crate::specs::Completing::call_by))]
 fn call(plan: &Plan, seen: &Seen, calling: &Party, dialled: Dialled) -> Result<Decision, Wanted>
-    ensures { result ≡ walk seen.now (call_script plan.now calling.now dialled (route_of plan.now (code_of dialled))) }
+    ensures { result ≡ walk seen.now
+        (call_script plan.now calling.now dialled (route_of plan.now (code_of dialled))) }
 {
+    // Called for its clauses alone.
     xbar_plan::laws::codes_lead_to_trunks();
     let Some(groups) = plan.route(dialled.code()) else {
         return Ok(Decision::refused(End::VacantCode));
@@ -110,7 +113,7 @@ fn call_without(
     requires index { leave.index < 40 }
     ensures { result ≡ walk gathered.now (call_without_script plan.now calling.now dialled leave) }
 {
-    Seen::new(gathered).seize(Conn::Group(leave.group))?;
+    Seen::new(gathered).require_held(Conn::Group(leave.group))?;
     let mut effects = Effects::new();
     leave.add_effects(&mut effects);
     let effects = effects.as_slice();
@@ -124,6 +127,7 @@ fn register_at(plan: &Plan, own: &Path) -> Option<MemberPlace>
     ensures register { result ≡ register_at_of plan.now own.now }
     ensures range { IfSome result (λ found. (found.group < 16) × (found.index < 40)) }
 {
+    // Called for its clauses alone.
     xbar_plan::laws::member_places_are_in_range();
     let found = plan.member_of(own.place)?;
     if found.group == plan.register_group() {
@@ -142,7 +146,8 @@ fn complete_from(
     dialled: Dialled,
     own: &Option<Path>,
 ) -> Result<Decision, Wanted>
-    ensures { result ≡ walk gathered.now (complete_from_script plan.now calling.now dialled own.now) }
+    ensures { result ≡ walk gathered.now
+        (complete_from_script plan.now calling.now dialled own.now) }
 {
     let Some(own) = own else {
         return Ok(Decision::refused(End::NoRegister));

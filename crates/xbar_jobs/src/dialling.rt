@@ -26,6 +26,7 @@ fn serve_idle_line(
     if channel.is_some() {
         return Ok(Decision::refused(End::LineBusy));
     }
+    // Called for its clauses alone.
     xbar_plan::laws::one_group_has_registers();
     let parties = CallParties::alone(calling);
     let groups = [plan.register_group()];

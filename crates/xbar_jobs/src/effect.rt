@@ -31,7 +31,8 @@ impl Default for Effect {
 /// The bits that a close sets.
 fn close_bits_of(crosspoint: &Crosspoint) -> u64
     requires { IsCrosspoint crosspoint.now }
-    ensures { result ≡ close_bits_by (shape_by crosspoint.now.word) crosspoint.now.field (crosspoint.now.value - 1) }
+    ensures { result ≡ close_bits_by (shape_by crosspoint.now.word) crosspoint.now.field
+        (crosspoint.now.value - 1) }
 {
     let shape = shape_at(crosspoint.word.number());
     close_bits(shape, crosspoint.field, crosspoint.value - 1)

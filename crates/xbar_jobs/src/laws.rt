@@ -23,15 +23,17 @@ ghost use Rattle.xbar_office.specs.declared.job.Job.{Job};
 ghost use Rattle.xbar_office.specs.declared.job.Job.TheVariants.{Release};
 ghost use Rattle.xbar_office.specs.declared.reply.Card.{Card};
 ghost use Rattle.xbar_office.specs.declared.reply.End.TheVariants.{Released};
-ghost use Rattle.xbar_jobs.specs.Attempt.{Act, Attempt, step_of};
+ghost use Rattle.xbar_jobs.specs.Attempt.{Act, Attempt, fresh, step_of};
+ghost use Rattle.xbar_jobs.specs.Counting.{AreAnswers, after_answers};
 ghost use Rattle.xbar_jobs.specs.Jobs.{script};
 ghost use Rattle.xbar_jobs.specs.Keeping.{IsCovered};
 ghost use Rattle.xbar_jobs.specs.Office.{ShowsOffice, office};
 ghost use Rattle.xbar_jobs.specs.OnWords.{step_answer, operation, step_word};
 ghost use Rattle.xbar_jobs.specs.Opening.{ReleasesJust};
+ghost use Rattle.xbar_jobs.specs.Others.{SeizesOthers};
 ghost use Rattle.xbar_jobs.specs.Script.{Script, Seen, walk};
 ghost use Rattle.xbar_jobs.specs.declared.decision.Decision.{Decision};
-ghost use Rattle.xbar_jobs.specs.Standing.{most_effects, most_held, most_readings, most_steps};
+ghost use Rattle.xbar_jobs.specs.Standing.{Stands, most_effects, most_held, most_others, most_readings, most_seizings, most_steps};
 ghost use Rattle.xbar_jobs.specs.Turning.{DoesAsOffice};
 ghost use Rattle.xbar_equip.specs.declared.conn.Conn.{Conn};
 
@@ -46,13 +48,16 @@ pub fn the_office_is_a_system()
 /// A job's script tests only words whose connectors it has seized by then, and its effects are
 /// on such words.
 pub fn scripts_keep_to_what_they_hold()
-    ensures { (plan : Tables) (job : Job) → IsLawful plan → IsJob job → KeepsTo (office plan) (IsCovered plan) [] (script plan job) }
+    ensures { (plan : Tables) (job : Job) → IsLawful plan → IsJob job
+        → KeepsTo (office plan) (IsCovered plan) [] (script plan job) }
 {}
 
 /// What a walk wants is neither held nor read by then.
 pub fn walks_want_what_is_not_there()
-    ensures conn { (seen : Seen) (script : Script Decision) (conn : Conn) → walk seen script ≡ Err (Wanted.Seize conn) → ¬ IsIn conn seen.held }
-    ensures word { (seen : Seen) (script : Script Decision) (word : ℕ) → walk seen script ≡ Err (Wanted.Test word) → value_read seen.readings word ≡ None }
+    ensures conn { (seen : Seen) (script : Script Decision) (conn : Conn)
+        → walk seen script ≡ Err (Wanted.Seize conn) → ¬ IsIn conn seen.held }
+    ensures word { (seen : Seen) (script : Script Decision) (word : ℕ)
+        → walk seen script ≡ Err (Wanted.Test word) → value_read seen.readings word ≡ None }
 {}
 
 /// A step's word, its operation there and its answer are those of the marker's act.
@@ -60,25 +65,31 @@ pub fn steps_do_what_their_acts_do()
     ensures word { (plan : Tables) (act : Act) → step_word (step_of act) ≡ place (office plan) act }
     ensures operation { (plan : Tables) (marker : ℕ) (act : Act) →
         operation marker (step_of act) ≡ act_operation (office plan) marker act }
-    ensures answer { (plan : Tables) (marker : ℕ) (act : Act) (found : ℕ) → step_answer marker (step_of act) found ≡ told_of (office plan) marker act found }
+    ensures answer { (plan : Tables) (marker : ℕ) (act : Act) (found : ℕ)
+        → step_answer marker (step_of act) found ≡ told_of (office plan) marker act found }
 {}
 
 /// Past the turn what is held is freed last: once no effect is left.
 pub fn frees_come_last()
-    ensures { (a : Attempt) (turn : ℕ) (conn : Conn) → a.phase ≡ Phase.Operates turn → act a ≡ Free conn → a.effects ≡ [] }
+    ensures { (a : Attempt) (turn : ℕ) (conn : Conn) → a.phase ≡ Phase.Operates turn
+        → act a ≡ Free conn → a.effects ≡ [] }
 {}
 
 /// Whatever words show: an attempt that has read them and decided has the one-marker
 /// office's reply, and effects that lead to words that show that office's paths.
 pub fn decisions_are_the_one_marker_offices()
-    ensures { (plan : Tables) (a : Attempt) → IsLawful plan → IsJob a.job → HasDecided (office plan) a → DoesAsOffice plan a }
+    ensures { (plan : Tables) (a : Attempt) → IsLawful plan → IsJob a.job
+        → HasDecided (office plan) a → DoesAsOffice plan a }
 {}
 
 /// From its turn on a releasing marker opens just the crosspoints of the call that its reply names, each
 /// of which is closed, and clears its member's bit; nothing else changes.
 pub fn a_release_opens_just_its_call()
-    ensures { (plan : Tables) (a : Attempt) (line : Line) (own : Path) (other : Option Path) (words : List ℕ) (paths : List Path) → IsLawful plan → IsLine line → a.job ≡ Release line → HasDecided (office plan) a
-        → (cards : List Card) → a.reply ≡ Some (record { end = Released own other; cards = cards }) → length words ≡ 453 → ShowsOffice plan words paths → AreReadFrom words a.readings
+    ensures { (plan : Tables) (a : Attempt) (line : Line) (own : Path) (other : Option Path)
+        (words : List ℕ) (paths : List Path)
+        → IsLawful plan → IsLine line → a.job ≡ Release line → HasDecided (office plan) a
+        → (cards : List Card) → a.reply ≡ Some (record { end = Released own other; cards = cards })
+        → length words ≡ 453 → ShowsOffice plan words paths → AreReadFrom words a.readings
         → ReleasesJust plan own other words a.effects }
 {}
 
@@ -86,8 +97,12 @@ pub fn a_release_opens_just_its_call()
 /// restarted, or is anywhere else on its way, does so once what it holds is freed and its request is
 /// withdrawn.
 pub fn steady_attempts_are_short()
-    ensures fresh { (plan : Tables) (job : Job) (answers : List Answer) → IsLawful plan → IsJob job → AreSteady (office plan) (begin (office plan) job) answers → length answers ≤ most_steps }
-    ensures anywhere { (plan : Tables) (w : World (office plan)) (k number : ℕ) (a : Attempt) (answers : List Answer) → IsLawful plan → Lawful (office plan) w → get_elem? w.actors k ≡ some (Does number a) → AreSteady (office plan) a answers → length answers ≤ 1 + length a.held + most_steps }
+    ensures fresh { (plan : Tables) (job : Job) (answers : List Answer) → IsLawful plan → IsJob job
+        → AreSteady (office plan) (begin (office plan) job) answers → length answers ≤ most_steps }
+    ensures anywhere { (plan : Tables) (w : World (office plan)) (k number : ℕ) (a : Attempt)
+        (answers : List Answer) → IsLawful plan → Lawful (office plan) w
+        → get_elem? w.actors k ≡ some (Does number a)
+        → AreSteady (office plan) a answers → length answers ≤ 1 + length a.held + most_steps }
 {
     the_office_is_a_system();
     jobs_are_bounded();
@@ -96,5 +111,30 @@ pub fn steady_attempts_are_short()
 
 /// How much each job asks for at most: so many tests, seizings and effects.
 pub fn jobs_are_bounded()
-    ensures { (plan : Tables) → IsLawful plan → AreBounded (office plan) most_readings most_held most_effects }
+    ensures { (plan : Tables) → IsLawful plan
+        → AreBounded (office plan) most_readings most_seizings most_effects }
 {}
+
+/// Whatever an attempt is told, it holds no more than 18 connectors: each of the ten line link frames
+/// once, and eight others, since no script seizes more others.
+pub fn jobs_hold_few_connectors()
+    ensures others { (plan : Tables) (job : Job) → IsLawful plan
+        → SeizesOthers most_others (script plan job) }
+    ensures stands { (plan : Tables) (a : Attempt) → Stands plan a → length a.held ≤ most_held }
+    ensures told { (plan : Tables) (job : Job) (answers : List Answer) → IsLawful plan → IsJob job
+        → AreAnswers plan (fresh job).attempt answers
+        → length (after_answers plan (fresh job) answers).attempt.held ≤ most_held }
+{}
+
+/// An attempt that is never put off and never tries a seizing again counts the steps that it took, and
+/// so to 128 at most.
+pub fn counts_are_steps()
+    ensures count { (plan : Tables) (job : Job) (answers : List Answer) → IsLawful plan → IsJob job
+        → AreSteady (office plan) (begin (office plan) job) answers
+        → (after_answers plan (fresh job) answers).count ≡ length answers }
+    ensures bound { (plan : Tables) (job : Job) (answers : List Answer) → IsLawful plan → IsJob job
+        → AreSteady (office plan) (begin (office plan) job) answers
+        → (after_answers plan (fresh job) answers).count ≤ most_steps }
+{
+    steady_attempts_are_short();
+}

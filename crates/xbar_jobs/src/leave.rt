@@ -36,8 +36,10 @@ impl Leave {
     pub fn add_effects(&self, effects: &mut Effects)
         requires { array_vec_len effects.old + length (leave_effects self.now) ≤ 14 }
         ensures effects { effects.new.items ≡ effects.old.items ++ leave_effects self.now }
-        ensures len { array_vec_len effects.new ≡ array_vec_len effects.old + length (leave_effects self.now) }
-        ensures range { self.now.group < 16 → self.now.index < 40 → AreEffects (leave_effects self.now) }
+        ensures len { array_vec_len effects.new
+            ≡ array_vec_len effects.old + length (leave_effects self.now) }
+        ensures range { self.now.group < 16 → self.now.index < 40
+            → AreEffects (leave_effects self.now) }
     {
         open_path(effects, &self.own);
         if let Some(other) = &self.other {

@@ -25,12 +25,13 @@ impl Model for Program {
 
 impl Program {
     ghost use Rattle.std.specs.Prelude.{ℕ};
-    ghost use Rattle.turns.specs.Attempt.{act, change, reply_in, restarted, IsAnswerTo};
+    ghost use Rattle.turns.specs.Attempt.{act, change, reply_in, restarted, turn_in, IsAnswerTo};
     ghost use Rattle.xbar_equip.specs.Word.{word_count};
     ghost use Rattle.xbar_office.specs.Legal.{IsJob};
     ghost use Rattle.xbar_plan.specs.Lawful.{IsLawful};
     ghost use Rattle.xbar_plan.specs.Tables.{Tables};
-    ghost use Rattle.xbar_jobs.specs.Attempt.{counted, fresh, next_step, turn_in, with_count};
+    ghost use Rattle.xbar_jobs.specs.Attempt.{counted, fresh, next_step, with_count};
+    ghost use Rattle.xbar_jobs.specs.Counting.{after_answer};
     ghost use Rattle.xbar_jobs.specs.Office.{office};
     ghost use Rattle.xbar_jobs.specs.OnWords.{step_word};
     ghost use Rattle.xbar_jobs.specs.Standing.{Stands};
@@ -55,6 +56,7 @@ impl Program {
         ensures word { step_word result < word_count }
     {
         let step = self.attempt.next();
+        // Called for its clauses alone.
         let _word = step.word();
         step
     }
@@ -74,7 +76,8 @@ impl Program {
 
     /// How the job ended; known from its turn on.
     pub fn reply(&self) -> Option<&Reply>
-        ensures reply { option_copied result ≡ reply_in self.now.attempt.phase self.now.attempt.reply }
+        ensures reply { option_copied result
+            ≡ reply_in self.now.attempt.phase self.now.attempt.reply }
         ensures known { is_some result ≡ is_some (turn_in self.now.attempt.phase) }
     {
         self.attempt.reply()
@@ -91,10 +94,12 @@ impl Program {
     pub fn take(&mut self, plan: &Plan, answer: Answer)
         requires answer { IsAnswerTo (act self.old.attempt) answer }
         requires plan { Stands plan.now self.old.attempt }
-        ensures change { self.new ≡ with_count (counted self.old.count) (change (office plan.now) self.old.attempt answer) }
+        ensures change { self.new ≡ after_answer plan.now self.old answer }
         ensures plan { Stands plan.now self.new.attempt }
-        ensures turn { (number : ℕ) → answer ≡ Answer.Turn number → DoesAsOffice plan.now self.new.attempt }
+        ensures turn { (number : ℕ) → answer ≡ Answer.Turn number
+            → DoesAsOffice plan.now self.new.attempt }
     {
+        // Called for their clauses alone.
         xbar_plan::laws::every_plan_is_lawful(plan);
         let _job = self.attempt.job();
         self.attempt.take(plan, answer);
@@ -107,9 +112,12 @@ impl Program {
 
     /// Begins anew, once all that is held is given back. Past the turn nothing changes.
     pub fn restart(&mut self)
-        ensures change { (plan : Tables) → self.new ≡ with_count self.old.count (restarted (office plan) self.old.attempt) }
-        ensures plan { (plan : Tables) → IsLawful plan → Stands plan self.old.attempt → Stands plan self.new.attempt }
+        ensures change { (plan : Tables)
+            → self.new ≡ with_count self.old.count (restarted (office plan) self.old.attempt) }
+        ensures plan { (plan : Tables) → IsLawful plan → Stands plan self.old.attempt
+            → Stands plan self.new.attempt }
     {
+        // Called for its clauses alone.
         let _job = self.attempt.job();
         self.attempt.restart();
         if self.attempt.is_fresh() {

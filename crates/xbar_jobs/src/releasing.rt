@@ -36,7 +36,7 @@ fn release_from(plan: &Plan, seen: &Seen, own: &Option<Path>) -> Result<Decision
     let Some(found) = plan.member_of(own.place) else {
         return Ok(Decision::refused(End::NoCall));
     };
-    seen.seize(Conn::Group(found.group))?;
+    seen.require_held(Conn::Group(found.group))?;
     let other = trace_other(seen, found.other)?;
     Ok(Decision::released(Leave::of(own, &other, &found)))
 }

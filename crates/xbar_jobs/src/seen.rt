@@ -34,7 +34,10 @@ impl<'a, 'm> Model for Seen<'a, 'm> {
 
     ghost Value = { Seen };
 
-    ghost view = { λ a. record { held = a.held.now; readings = changed_readings (made_by a.made.now) a.readings.now } };
+    ghost view = { λ a. record {
+      held = a.held.now;
+      readings = changed_readings (made_by a.made.now) a.readings.now;
+    } };
 
     ghost invariant = { λ a. AreEffects a.made.now };
 }
@@ -71,7 +74,10 @@ impl<'a, 'm> Seen<'a, 'm> {
     /// Each word is read as these effects will leave it.
     pub fn as_if_made(gathered: &Gathered<'a>, made: &'m [Effect]) -> Self
         requires { AreEffects made.now }
-        ensures { result ≡ record { held = gathered.now.held; readings = changed_readings (made_by made.now) gathered.now.readings } }
+        ensures { result ≡ record {
+          held = gathered.now.held;
+          readings = changed_readings (made_by made.now) gathered.now.readings;
+        } }
     {
         Seen {
             held: gathered.held,
@@ -84,7 +90,7 @@ impl<'a, 'm> Seen<'a, 'm> {
 
     /// Goes on where the connector is held.
     #[tactic(auto, unfolding(turns::specs::Script::walk, turns::specs::Script::left, turns::specs::Script::left_of_seizing, turns::specs::Script::first_wanted))]
-    pub fn seize(&self, conn: Conn) -> Result<(), Wanted>
+    pub fn require_held(&self, conn: Conn) -> Result<(), Wanted>
         ensures { result ≡ walk self.now (seize_script conn) }
     {
         if is_held(self.held, conn, &self.held_place) {
@@ -96,7 +102,7 @@ impl<'a, 'm> Seen<'a, 'm> {
 
     /// Goes on with the word's value where it was read.
     #[tactic(auto, unfolding(turns::specs::Script::walk, turns::specs::Script::left, turns::specs::Script::left_of_test, turns::specs::Script::first_wanted))]
-    pub fn test(&self, word: WordNo) -> Result<u64, Wanted>
+    pub fn value_of(&self, word: WordNo) -> Result<u64, Wanted>
         ensures { result ≡ walk self.now (TestThen word Ends) }
     {
         let value = self

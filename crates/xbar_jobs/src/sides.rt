@@ -54,7 +54,7 @@ fn test_junctors(seen: &Seen, frame: u8) -> Result<[u64; 10], Wanted>
 {
     let mut words = [0; 10];
     for channel in 0..10 {
-        words[usize::from(channel)] = seen.test(line_junctor(frame, channel))?;
+        words[usize::from(channel)] = seen.value_of(line_junctor(frame, channel))?;
     }
     Ok(words)
 }

@@ -112,7 +112,8 @@ impl Step {
         requires words { length words.old ≡ word_count }
         ensures words { words.new ≡ words_after marker self.now words.old }
         ensures answer { result ≡ answer_of marker self.now words.old }
-        ensures kind { (act : Act) → self.now ≡ step_of act → self.now ≢ Step.Finished → IsAnswerTo act result }
+        ensures kind { (act : Act) → self.now ≡ step_of act → self.now ≢ Step.Finished
+            → IsAnswerTo act result }
     {
         let place = usize::from(self.word().number());
         let found = words[place];

@@ -17,8 +17,8 @@ use xbar_match::{find_number, line_place_of, place_of};
 pub fn approach(seen: &Seen, line: Len) -> Result<Party, Wanted>
     ensures { result ≡ walk seen.now (approach_script line) }
 {
-    seen.seize(Conn::Llf(line.frame()))?;
-    let word = seen.test(line_switch(line.frame(), line.switch()))?;
+    seen.require_held(Conn::Llf(line.frame()))?;
+    let word = seen.value_of(line_switch(line.frame(), line.switch()))?;
     Ok(Party { line, word })
 }
 
@@ -38,7 +38,7 @@ fn trace_at(
     let Some(switch) = switch else {
         return Ok(None);
     };
-    let word = seen.test(trunk_switch(frame, switch))?;
+    let word = seen.value_of(trunk_switch(frame, switch))?;
     match place_of(word, channel) {
         None => Ok(None),
         Some(appearance) => Ok(Some(Path {
@@ -58,8 +58,8 @@ fn trace_to(seen: &Seen, line: Len, channel: u8, frame: Option<u8>) -> Result<Op
     let Some(frame) = frame else {
         return Ok(None);
     };
-    seen.seize(Conn::Tlf(frame))?;
-    let word = seen.test(trunk_junctor(frame, channel))?;
+    seen.require_held(Conn::Tlf(frame))?;
+    let word = seen.value_of(trunk_junctor(frame, channel))?;
     trace_at(seen, line, channel, frame, place_of(word, line.frame()))
 }
 
@@ -71,7 +71,7 @@ fn trace_by(seen: &Seen, line: Len, channel: Option<u8>) -> Result<Option<Path>,
     let Some(channel) = channel else {
         return Ok(None);
     };
-    let word = seen.test(line_junctor(line.frame(), channel))?;
+    let word = seen.value_of(line_junctor(line.frame(), channel))?;
     trace_to(seen, line, channel, find_number(word, line.switch()))
 }
 
@@ -100,7 +100,7 @@ fn trace_back_at(
     let Some(switch) = switch else {
         return Ok(None);
     };
-    let word = seen.test(line_switch(frame, switch))?;
+    let word = seen.value_of(line_switch(frame, switch))?;
     match line_place_of(word, channel) {
         None => Ok(None),
         Some(x) => Ok(Some(Path {
@@ -125,8 +125,8 @@ fn trace_back_to(
     let Some(frame) = frame else {
         return Ok(None);
     };
-    seen.seize(Conn::Llf(frame))?;
-    let word = seen.test(line_junctor(frame, channel))?;
+    seen.require_held(Conn::Llf(frame))?;
+    let word = seen.value_of(line_junctor(frame, channel))?;
     trace_back_at(seen, place, channel, frame, place_of(word, place.frame()))
 }
 
@@ -138,7 +138,7 @@ fn trace_back_by(seen: &Seen, place: Ten, channel: Option<u8>) -> Result<Option<
     let Some(channel) = channel else {
         return Ok(None);
     };
-    let word = seen.test(trunk_junctor(place.frame(), channel))?;
+    let word = seen.value_of(trunk_junctor(place.frame(), channel))?;
     trace_back_to(seen, place, channel, find_number(word, place.switch()))
 }
 
@@ -147,6 +147,6 @@ fn trace_back_by(seen: &Seen, place: Ten, channel: Option<u8>) -> Result<Option<
 pub fn trace_back(seen: &Seen, place: Ten) -> Result<Option<Path>, Wanted>
     ensures { result ≡ walk seen.now (trace_back_script place) }
 {
-    let word = seen.test(trunk_switch(place.frame(), place.switch()))?;
+    let word = seen.value_of(trunk_switch(place.frame(), place.switch()))?;
     trace_back_by(seen, place, find_number(word, place.appearance()))
 }

@@ -23,7 +23,8 @@ fn trial_end(
     second: Option<Reached>,
 ) -> TrialEnd
     requires { start < 10 }
-    ensures { result ≡ trial_end_of plan.now sides.now start (record { first = first; second = second }) }
+    ensures { result ≡ trial_end_of plan.now sides.now start
+        (record { first = first; second = second }) }
 {
     TrialEnd::of(plan, sides.join(start, &Trunk { first, second }))
 }
@@ -39,7 +40,8 @@ fn second_trial(
 ) -> Result<Trials, Wanted>
     requires index { index < 40 }
     requires cards { length cards ≤ 1 }
-    ensures { result ≡ walk seen.now (second_trial_steps plan.now sides.now cards index member.now) }
+    ensures { result ≡ walk seen.now
+        (second_trial_steps plan.now sides.now cards index member.now) }
 {
     let trunk = reach(seen, member)?;
     let end = trial_end(plan, sides, 5, trunk.first, trunk.second);
@@ -58,7 +60,8 @@ fn second_trial_at(
     requires index { index < length trunks.now.members }
     requires size { length trunks.now.members ≤ 40 }
     requires cards { length cards ≤ 1 }
-    ensures { result ≡ walk seen.now (second_trial_at_script plan.now sides.now trunks.now cards index) }
+    ensures { result ≡ walk seen.now
+        (second_trial_at_script plan.now sides.now trunks.now cards index) }
 {
     let member = &trunks.members[index];
     second_trial(plan, seen, sides, cards, index, member)
@@ -99,7 +102,8 @@ fn first_trial(
 ) -> Result<Trials, Wanted>
     requires index { first < length trunks.now.members }
     requires size { length trunks.now.members ≤ 40 }
-    ensures { result ≡ walk seen.now (first_trial_steps plan.now parties.now trunks.now first member.now) }
+    ensures { result ≡ walk seen.now
+        (first_trial_steps plan.now parties.now trunks.now first member.now) }
 {
     let trunk = reach(seen, member)?;
     let sides = Sides::test(seen, parties)?;

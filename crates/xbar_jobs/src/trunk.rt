@@ -45,7 +45,7 @@ pub struct Trunk {
 fn test_place(seen: &Seen, place: Ten) -> Result<Reached, Wanted>
     ensures { result ≡ walk seen.now (test_place_script place) }
 {
-    let word = seen.test(trunk_switch(place.frame(), place.switch()))?;
+    let word = seen.value_of(trunk_switch(place.frame(), place.switch()))?;
     Ok(Reached { place, word })
 }
 
@@ -64,7 +64,7 @@ fn test_second(seen: &Seen, place: Option<Ten>) -> Result<Option<Reached>, Wante
 pub fn reach(seen: &Seen, member: &Member) -> Result<Trunk, Wanted>
     ensures { result ≡ walk seen.now (reach_script member.now) }
 {
-    seen.seize(Conn::Tlf(member.first.frame()))?;
+    seen.require_held(Conn::Tlf(member.first.frame()))?;
     let first = test_place(seen, member.first)?;
     let second = test_second(seen, member.second)?;
     Ok(Trunk { first, second })

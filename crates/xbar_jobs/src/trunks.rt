@@ -77,6 +77,7 @@ pub fn trunks_of(plan: &Plan, group: u8, word: u64) -> Trunks<'_>
     ensures trunks { result ≡ trunks_by plan.now group word }
     ensures size { length result.members ≤ 40 }
 {
+    // Called for its clauses alone.
     xbar_plan::laws::groups_have_members();
     Trunks {
         members: plan.group(group).members(),
@@ -90,12 +91,13 @@ pub fn find_trunk(plan: &Plan, seen: &Seen, groups: &[u8]) -> Result<Option<Idle
     ensures walk { result ≡ walk seen.now (find_trunk_script plan.now groups.now) }
     ensures range { IfOk result (λ found. IfSome found (λ idle. IsOfPlan plan.now idle)) }
 {
+    // Called for their clauses alone.
     xbar_plan::laws::every_plan_is_lawful(plan);
     xbar_plan::laws::groups_have_members();
     for group in groups {
         let group = *group;
-        seen.seize(Conn::Group(group))?;
-        let word = seen.test(group_word(group))?;
+        seen.require_held(Conn::Group(group))?;
+        let word = seen.value_of(group_word(group))?;
         let trunks = trunks_of(plan, group, word);
         if let Some(first) = first_clear(word, trunks.members.len()) {
             return Ok(Some(IdleGroup {

@@ -5,6 +5,7 @@ ghost use Rattle.xbar_office.specs.Legal.{IsJob};
 ghost use Rattle.xbar_jobs.specs.Jobs.{IsDial, script, first_conn as first_conn_of, job_line};
 ghost use Rattle.xbar_jobs.specs.Script.{walk as walk_of};
 ghost use Rattle.turns.specs.Script.{value_read};
+ghost use Rattle.turns.specs.Seen.{AreReadWords};
 ghost use Rattle.xbar_jobs.specs.Sides.{IsNextJunctor};
 ghost use Rattle.xbar_jobs.specs.Standing.{most_effects};
 
@@ -67,10 +68,14 @@ pub fn next_in_row(job: &Job, readings: &Readings, word: WordNo) -> Option<WordN
 
 /// Goes through a job with what an attempt has come by: to its decision, or to what it wants first.
 pub fn walk(plan: &Plan, gathered: &Gathered, job: &Job) -> Result<Decision, Wanted>
-    requires { IsJob job.now }
+    requires job { IsJob job.now }
+    requires read { AreReadWords gathered.now.readings }
     ensures walk { result ≡ walk_of gathered.now (script plan.now job.now) }
-    ensures range { MatchResult result (λ decision. AreEffects (effects decision) × (length (effects decision) ≤ most_effects)) (λ wanted. IsWanted wanted) }
+    ensures range { MatchResult result
+        (λ decision. AreEffects (effects decision) × (length (effects decision) ≤ most_effects))
+        (λ wanted. IsWanted wanted) }
 {
+    // Called for its clauses alone.
     xbar_plan::laws::every_plan_is_lawful(plan);
     follow(plan, gathered, job)
 }

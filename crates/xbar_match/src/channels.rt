@@ -58,7 +58,8 @@ pub fn match_channel(
 ) -> Option<Channel>
     requires frame { t < 10 }
     requires start { start < 10 }
-    ensures fields { result ≡ first_open_channel (match_words line_word junctor_words.now trunk_word) t start }
+    ensures fields { result ≡ first_open_channel
+        (match_words line_word junctor_words.now trunk_word) t start }
     ensures links { (paths : List Path) (line : Line) (place : TrunkPlace) → place.frame ≡ t
         → ShowsLinks (match_words line_word junctor_words.now trunk_word) paths line place
         → result ≡ channel_test paths line place start }

@@ -61,7 +61,8 @@ fn count_switch_fields(words: &[u64]) -> u16
 pub fn count_paths(words: &[u64]) -> u16
     requires { length words.now ≡ word_count }
     ensures exact { result ≡ closed_line_fields words.now }
-    ensures shown { (paths : List Path) → ShowsPaths words.now paths → AreInRange paths → AreApart paths → IsSet paths
+    ensures shown { (paths : List Path) → ShowsPaths words.now paths → AreInRange paths →
+        AreApart paths → IsSet paths
         → result ≡ length paths }
 {
     count_line_fields(words)
@@ -71,7 +72,8 @@ pub fn count_paths(words: &[u64]) -> u16
 pub fn count_closed(words: &[u64]) -> u16
     requires { length words.now ≡ word_count }
     ensures exact { result ≡ closed_switch_fields words.now }
-    ensures shown { (paths : List Path) → ShowsPaths words.now paths → AreInRange paths → AreApart paths → IsSet paths
+    ensures shown { (paths : List Path) → ShowsPaths words.now paths → AreInRange paths →
+        AreApart paths → IsSet paths
         → result ≡ 4 * length paths }
 {
     count_switch_fields(words)

@@ -58,7 +58,8 @@ fn follow_back(words: &[u64], place: Ten) -> Option<Path>
 pub fn trace(words: &[u64], line: Len) -> Option<Path>
     requires { length words.now ≡ word_count }
     ensures exact { result ≡ traced words.now line }
-    ensures shown { (paths : List Path) → ShowsPaths words.now paths → AreInRange paths → AreApart paths
+    ensures shown { (paths : List Path) → ShowsPaths words.now paths → AreInRange paths →
+        AreApart paths
         → result ≡ find (has_line line) paths }
     ensures range { IfSome result IsPath }
 {
@@ -69,7 +70,8 @@ pub fn trace(words: &[u64], line: Len) -> Option<Path>
 pub fn trace_back(words: &[u64], place: Ten) -> Option<Path>
     requires { length words.now ≡ word_count }
     ensures exact { result ≡ traced_back words.now place }
-    ensures shown { (paths : List Path) → ShowsPaths words.now paths → AreInRange paths → AreApart paths
+    ensures shown { (paths : List Path) → ShowsPaths words.now paths → AreInRange paths →
+        AreApart paths
         → result ≡ find (has_place place) paths }
     ensures range { IfSome result IsPath }
 {

@@ -1,6 +1,7 @@
 -- a completing job of a line that has a register
 use Rattle.std.proofs.Common.{◌≡◌, ℕ, ◌+◌, true, List, length, refl, sym, ◌∙◌, ap, subst}
 use Rattle.std.specs.Prelude.{Option, Some, None}
+use Rattle.xbar_equip.specs.Among.{IsIn}
 use Rattle.xbar_equip.specs.Dialled.{code_of}
 use Rattle.xbar_equip.specs.Len.{Line, IsLine}
 use Rattle.xbar_equip.specs.Paths.{has_line, is_idle, with_path, without_path}
@@ -43,20 +44,47 @@ module _ (plan : Tables) (paths : List Path) (line : Line) (dialled : ℕ) (own 
   pub lawful-call : IsLawfulSet plan (call plan (without_path paths own) line dialled (route_of plan (code_of dialled))).paths
   lawful-call = adds.lawful rest_lawful
 
-  -- the reply tells what is added to the set without the register's path
-  pub paths-by_reply : (reply : Reply) (added : Option CallPaths) → reply ≡ (call plan (without_path paths own) line dialled (route_of plan (code_of dialled))).reply → added ≡ added_by reply.end → with_added (without_path paths own) added ≡ (complete plan paths line dialled).paths
-  paths-by_reply reply added same is_added =
-      (adds-by_reply plan rest (call plan rest line dialled (route_of plan (code_of dialled))) adds reply added same is_added).0 ∙ ap (λ (d : Done). d.paths) (sym complete-is_call)
+-- a completing job up to its call: the line's register path is taken out, and the reply is the call's on what is left
+pub record IsCalling (plan : Tables) (paths : List Path) (line : Line) (dialled : ℕ) (own : Path) (left : List Path) (told : Reply) : Type 0 where
+  pub laws : IsLawful plan
+  pub lawful : IsLawfulSet plan paths
+  pub in_range : IsLine line
+  pub register : register_path plan paths line ≡ Some own
+  pub rest : left ≡ without_path paths own
+  pub reply : told ≡ (call plan (without_path paths own) line dialled (route_of plan (code_of dialled))).reply
 
-  pub length-by_reply : (reply : Reply) (added : Option CallPaths) → reply ≡ (call plan (without_path paths own) line dialled (route_of plan (code_of dialled))).reply → added ≡ added_by reply.end → length (complete plan paths line dialled).paths ≡ length (without_path paths own) + added_count added
-  length-by_reply reply added same is_added =
-      ap (λ (d : Done). length d.paths) complete-is_call ∙ (adds-by_reply plan rest (call plan rest line dialled (route_of plan (code_of dialled))) adds reply added same is_added).1
+-- `seen` and `left` are what was read of the set before the path was taken out and after
+pub calling : {plan : Tables} {paths seen taken left : List Path} {line : Line} {dialled : ℕ} {found : Option Path} {own : Path} {told : Reply} → IsLawful plan → IsLawfulSet plan paths → IsLine line → seen ≡ paths → found ≡ register_path plan seen line → found ≡ Some own → taken ≡ without_path paths own → left ≡ taken → told ≡ (call plan left line dialled (route_of plan (code_of dialled))).reply → IsCalling plan paths line dialled own left told
+calling {plan} {paths} {seen} {taken} {left} {line} {dialled} laws lawful in_range read finds is takes reads_again tells =
+    let rest : left ≡ without_path paths _ = reads_again ∙ takes in
+    record {
+      laws = laws;
+      lawful = lawful;
+      in_range = in_range;
+      register = ap (λ (p : List Path). register_path plan p line) (sym read) ∙ sym finds ∙ is;
+      rest = rest;
+      reply = tells ∙ ap (λ (p : List Path). (call plan p line dialled (route_of plan (code_of dialled))).reply) rest;
+    }
 
-  pub length-rest : length paths ≡ length (without_path paths own) + 1
-  length-rest = length-without paths own lawful.orderly.set is.within
+module _ {plan : Tables} {paths left : List Path} {line : Line} {dialled : ℕ} {own : Path} {told : Reply} (is : IsCalling plan paths line dialled own left told) where
+  within : IsIn own paths
+  within = (register_path-is plan paths line own is.register).within
+
+  pub length-left : length paths ≡ length left + 1
+  length-left = length-without paths own is.lawful.orderly.set within ∙ ap (λ (p : List Path). length p + 1) (sym is.rest)
 
   pub put_back : with_path (without_path paths own) own ≡ paths
-  put_back = with-without paths own lawful.orderly.set is.within
+  put_back = with-without paths own is.lawful.orderly.set within
+
+  -- the reply tells what is added to what is left
+  pub adds-by_told : (added : Option CallPaths) → added ≡ added_by told.end → (with_added left added ≡ (complete plan paths line dialled).paths) × (length (complete plan paths line dialled).paths ≡ length left + added_count added)
+  adds-by_told added is_added =
+      let called = call plan (without_path paths own) line dialled (route_of plan (code_of dialled)) in
+      let whole : complete plan paths line dialled ≡ called = complete-is_call plan paths line dialled own is.laws is.lawful is.in_range is.register in
+      let by = adds-by_reply plan (without_path paths own) called (adds plan paths line dialled own is.laws is.lawful is.in_range is.register) told added is.reply is_added in (
+        ap (λ (p : List Path). with_added p added) is.rest ∙ by.0 ∙ ap (λ (d : Done). d.paths) (sym whole),
+        ap (λ (d : Done). length d.paths) whole ∙ by.1 ∙ ap (λ (p : List Path). length p + added_count added) (sym is.rest),
+      )
 
 -- a completing job leaves a lawful set
 pub lawful-complete : (plan : Tables) (paths : List Path) (line : Line) (dialled : ℕ) → IsLawful plan → IsLawfulSet plan paths → IsLine line → IsLawfulSet plan (complete plan paths line dialled).paths

@@ -13,7 +13,8 @@ use xbar_plan::Plan;
 
 /// The first place whose record hasn't the turn of its place.
 fn first_wrong_turn(records: &[Record]) -> Option<usize>
-    ensures { MatchOption result (HaveTurns 0 records.now) (λ place. IsFirstWrongTurn records.now place) }
+    ensures { MatchOption result (HaveTurns 0 records.now)
+        (λ place. IsFirstWrongTurn records.now place) }
 {
     for (place, record) in records.iter().enumerate() {
         if record.turn != place as u64 {
@@ -26,7 +27,9 @@ fn first_wrong_turn(records: &[Record]) -> Option<usize>
 /// Does the jobs of the records whole, and compares the replies.
 fn replay<'p>(alloc: Global, plan: &'p Plan, records: &[Record]) -> Result<Office<'p>, AuditFault>
     requires { HaveTurns 0 records.now }
-    ensures { MatchResult result (λ office. IsLegal plan.now records.now × (office ≡ record { plan = plan.now; paths = after plan.now records.now })) (λ fault. IsFaultOf plan.now records.now fault) }
+    ensures { MatchResult result (λ office. IsLegal plan.now records.now ×
+        (office ≡ record { plan = plan.now; paths = after plan.now records.now }))
+        (λ fault. IsFaultOf plan.now records.now fault) }
 {
     let mut office = Office::open(alloc, plan);
     for record in records {
@@ -46,7 +49,8 @@ pub fn audit<'p>(
     plan: &'p Plan,
     records: &[Record],
 ) -> Result<Office<'p>, AuditFault>
-    ensures legal { IfOk result (λ office. IsLegal plan.now records.now × (office ≡ record { plan = plan.now; paths = after plan.now records.now })) }
+    ensures legal { IfOk result (λ office. IsLegal plan.now records.now ×
+        (office ≡ record { plan = plan.now; paths = after plan.now records.now })) }
     ensures fault { IfErr result (IsFaultOf plan.now records.now) }
 {
     if let Some(place) = first_wrong_turn(records) {

@@ -29,7 +29,8 @@ fn connect(plan: &Plan, paths: &[Path], parties: &Parties, groups: &[u8]) -> Rep
 
 fn call_number(plan: &Plan, paths: &[Path], calling: Len, groups: &[u8], number: DirNo) -> Reply
     requires { AreGroups plan.now groups.now }
-    ensures { result ≡ (call_number_of plan.now paths.now calling groups.now (lines_of plan.now number)).reply }
+    ensures { result ≡ (call_number_of plan.now paths.now calling groups.now
+        (lines_of plan.now number)).reply }
 {
     let Some(lines) = plan.stations(number) else {
         return Reply::plain(End::VacantNumber);
@@ -43,7 +44,8 @@ fn call_number(plan: &Plan, paths: &[Path], calling: Len, groups: &[u8], number:
 
 /// The reply to a call on the set of paths that its line's register is no longer in.
 pub fn call(plan: &Plan, paths: &[Path], calling: Len, dialled: Dialled) -> Reply
-    ensures { result ≡ (call_of plan.now paths.now calling dialled (route_of plan.now (code_of dialled))).reply }
+    ensures { result ≡ (call_of plan.now paths.now calling dialled
+        (route_of plan.now (code_of dialled))).reply }
 {
     every_plan_is_lawful(plan);
     codes_lead_to_trunks();

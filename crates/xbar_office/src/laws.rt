@@ -48,52 +48,85 @@ pub fn job_is_in_range(job: &Job)
 /// An office begins with a lawful set, and whatever jobs it does, its set stays lawful.
 pub fn jobs_leave_lawful_sets()
     ensures empty { (plan : Tables) → IsLawfulSet plan [] }
-    ensures job { (plan : Tables) (paths : List Path) (job : JobOf) → IsLawful plan → IsLawfulSet plan paths → IsJob job → IsLawfulSet plan (whole plan paths job).paths }
-    ensures jobs { (plan : Tables) (paths : List Path) (jobs : List JobOf) → IsLawful plan → IsLawfulSet plan paths → AreJobs jobs → IsLawfulSet plan (after_jobs plan paths jobs) }
+    ensures job { (plan : Tables) (paths : List Path) (job : JobOf) → IsLawful plan →
+        IsLawfulSet plan paths → IsJob job → IsLawfulSet plan (whole plan paths job).paths }
+    ensures jobs { (plan : Tables) (paths : List Path) (jobs : List JobOf) → IsLawful plan →
+        IsLawfulSet plan paths → AreJobs jobs → IsLawfulSet plan (after_jobs plan paths jobs) }
 {}
 
 /// In a lawful set no line, no place and no link is in two paths; so it is after jobs, and after a
 /// legal list of records.
 pub fn no_part_is_in_two_paths()
-    ensures set { (plan : Tables) (paths : List Path) → IsLawfulSet plan paths → (p q : Path) → IsIn p paths → IsIn q paths → SharesPart p q → p ≡ q }
-    ensures jobs { (plan : Tables) (jobs : List JobOf) → IsLawful plan → AreJobs jobs → (p q : Path) → IsIn p (after_jobs plan [] jobs) → IsIn q (after_jobs plan [] jobs) → SharesPart p q → p ≡ q }
-    ensures records { (plan : Tables) (records : List Record) → IsLawful plan → IsLegal plan records → (p q : Path) → IsIn p (after plan records) → IsIn q (after plan records) → SharesPart p q → p ≡ q }
+    ensures set { (plan : Tables) (paths : List Path) → IsLawfulSet plan paths → (p q : Path) →
+        IsIn p paths → IsIn q paths → SharesPart p q → p ≡ q }
+    ensures jobs { (plan : Tables) (jobs : List JobOf) → IsLawful plan → AreJobs jobs →
+        (p q : Path) → IsIn p (after_jobs plan [] jobs) → IsIn q (after_jobs plan [] jobs) →
+        SharesPart p q → p ≡ q }
+    ensures records { (plan : Tables) (records : List Record) → IsLawful plan →
+        IsLegal plan records → (p q : Path) → IsIn p (after plan records) →
+        IsIn q (after plan records) → SharesPart p q → p ≡ q }
 {}
 
 /// The set after legal records is lawful.
 pub fn legal_records_leave_a_lawful_set()
-    ensures { (plan : Tables) (records : List Record) → IsLawful plan → IsLegal plan records → IsLawfulSet plan (after plan records) }
+    ensures { (plan : Tables) (records : List Record) → IsLawful plan → IsLegal plan records →
+        IsLawfulSet plan (after plan records) }
 {}
 
 /// Legal records stay legal with one that has the next turn and the right reply, and the set after
 /// them is what its job leaves of the set before.
 pub fn one_record_more_is_legal()
     ensures empty { (plan : Tables) → IsLegal plan [] }
-    ensures legal { (plan : Tables) (records : List Record) (last : Record) → IsLegal plan records → IsJob last.job → last.turn ≡ length records → last.reply ≡ (whole plan (after plan records) last.job).reply → IsLegal plan (records ++ last ∷ []) }
-    ensures after { (plan : Tables) (records : List Record) (last : Record) → after plan (records ++ last ∷ []) ≡ (whole plan (after plan records) last.job).paths }
+    ensures legal { (plan : Tables) (records : List Record) (last : Record) → IsLegal plan records →
+        IsJob last.job → last.turn ≡ length records →
+        last.reply ≡ (whole plan (after plan records) last.job).reply →
+        IsLegal plan (records ++ last ∷ []) }
+    ensures after { (plan : Tables) (records : List Record) (last : Record) →
+        after plan (records ++ last ∷ []) ≡ (whole plan (after plan records) last.job).paths }
 {}
 
 /// Legal records have no fault, but that an audit may be refused memory.
 pub fn legal_records_have_no_fault()
-    ensures { (plan : Tables) (records : List Record) (fault : AuditFaultOf) → IsLegal plan records → IsFaultOf plan records fault → fault ≡ Memory }
+    ensures { (plan : Tables) (records : List Record) (fault : AuditFaultOf) →
+        IsLegal plan records → IsFaultOf plan records fault → fault ≡ Memory }
 {}
 
 /// A completing job whose line had a register gives it back at every end: where the end names no
 /// path, just the register's path has gone, and the line is idle.
 pub fn a_completing_job_gives_its_register_back()
-    ensures set { (plan : Tables) (paths : List Path) (line : Line) (dialled : ℕ) (own : Path) → IsLawful plan → IsLawfulSet plan paths → IsLine line → register_path plan paths line ≡ Some own → added_by (whole plan paths (Complete line dialled)).reply.end ≡ None → (whole plan paths (Complete line dialled)).paths ≡ without_path paths own }
-    ensures line { (plan : Tables) (paths : List Path) (line : Line) (dialled : ℕ) (own : Path) → IsLawful plan → IsLawfulSet plan paths → IsLine line → register_path plan paths line ≡ Some own → added_by (whole plan paths (Complete line dialled)).reply.end ≡ None → is_idle (has_line line) (whole plan paths (Complete line dialled)).paths ≡ true }
+    ensures set { (plan : Tables) (paths : List Path) (line : Line) (dialled : ℕ) (own : Path) →
+        IsLawful plan → IsLawfulSet plan paths → IsLine line →
+        register_path plan paths line ≡ Some own →
+        added_by (whole plan paths (Complete line dialled)).reply.end ≡ None →
+        (whole plan paths (Complete line dialled)).paths ≡ without_path paths own }
+    ensures line { (plan : Tables) (paths : List Path) (line : Line) (dialled : ℕ) (own : Path) →
+        IsLawful plan → IsLawfulSet plan paths → IsLine line →
+        register_path plan paths line ≡ Some own →
+        added_by (whole plan paths (Complete line dialled)).reply.end ≡ None →
+        is_idle (has_line line) (whole plan paths (Complete line dialled)).paths ≡ true }
 {}
 
 /// A call joins the line that dialled, and inside the office another line, never that line itself.
 pub fn a_call_never_gets_a_path_to_its_own_line()
-    ensures calling { (plan : Tables) (paths : List Path) (line : Line) (dialled : ℕ) (calling : Path) (called : Option Path) (trial : ℕ) → (whole plan paths (Complete line dialled)).reply.end ≡ Connected calling called trial → calling.line ≡ line }
-    ensures called { (plan : Tables) (paths : List Path) (line : Line) (dialled : ℕ) → IsLawful plan → IsLawfulSet plan paths → IsLine line → (calling called : Path) (trial : ℕ) → (whole plan paths (Complete line dialled)).reply.end ≡ Connected calling (Some called) trial → called.line ≢ calling.line }
+    ensures calling { (plan : Tables) (paths : List Path) (line : Line) (dialled : ℕ)
+        (calling : Path) (called : Option Path) (trial : ℕ) →
+        (whole plan paths (Complete line dialled)).reply.end ≡ Connected calling called trial →
+        calling.line ≡ line }
+    ensures called { (plan : Tables) (paths : List Path) (line : Line) (dialled : ℕ) →
+        IsLawful plan → IsLawfulSet plan paths → IsLine line → (calling called : Path) (trial : ℕ) →
+        (whole plan paths (Complete line dialled)).reply.end ≡
+        Connected calling (Some called) trial → called.line ≢ calling.line }
 {}
 
 /// A release takes out the line's own path and the other one that it names, and leaves exactly the
 /// others.
 pub fn a_release_leaves_all_other_paths()
-    ensures others { (plan : Tables) (paths : List Path) (line : Line) (own : Path) (other : Option Path) → IsLawfulSet plan paths → (whole plan paths (Release line)).reply.end ≡ Released own other → (path : Path) → IsIn path (whole plan paths (Release line)).paths ↔ (IsIn path paths × (path ≢ own) × (other ≢ Some path)) }
-    ensures own { (plan : Tables) (paths : List Path) (line : Line) (own : Path) (other : Option Path) → (whole plan paths (Release line)).reply.end ≡ Released own other → IsIn own paths × (own.line ≡ line) }
+    ensures others { (plan : Tables) (paths : List Path) (line : Line) (own : Path)
+        (other : Option Path) → IsLawfulSet plan paths →
+        (whole plan paths (Release line)).reply.end ≡ Released own other → (path : Path) →
+        IsIn path (whole plan paths (Release line)).paths ↔
+        (IsIn path paths × (path ≢ own) × (other ≢ Some path)) }
+    ensures own { (plan : Tables) (paths : List Path) (line : Line) (own : Path)
+        (other : Option Path) → (whole plan paths (Release line)).reply.end ≡ Released own other →
+        IsIn own paths × (own.line ≡ line) }
 {}

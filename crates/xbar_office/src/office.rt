@@ -44,10 +44,15 @@ impl<'p> Office<'p> {
 
     /// Does a job.
     pub fn whole(&mut self, job: Job) -> Result<Reply, AllocError>
-        ensures reply { IfOk result (λ reply. reply ≡ (whole_of self.old.plan self.old.paths job).reply) }
-        ensures ok { OnOk result (self.new ≡ record self.old { paths = (whole_of self.old.plan self.old.paths job).paths }) }
+        ensures reply { IfOk result (λ reply.
+            reply ≡ (whole_of self.old.plan self.old.paths job).reply) }
+        ensures ok { OnOk result (self.new ≡ record self.old {
+          paths =
+              (whole_of self.old.plan self.old.paths job).paths;
+        }) }
         ensures err { OnErr result (self.new ≡ self.old) }
-        ensures memory { OnErr result (length self.old.paths < length (whole_of self.old.plan self.old.paths job).paths) }
+        ensures memory { OnErr result (length self.old.paths < length
+            (whole_of self.old.plan self.old.paths job).paths) }
     {
         job_is_in_range(&job);
         every_plan_is_lawful(self.plan);

@@ -23,6 +23,7 @@ pub fn members(plan: &Plan, group: u8) -> &[Member]
     ensures members { result.now ≡ members_of plan.now group }
     ensures size { length result.now ≤ 40 }
 {
+    // Called for its clauses alone.
     xbar_plan::laws::groups_have_members();
     plan.group(group).members()
 }
@@ -57,7 +58,8 @@ pub fn idle_trunk(plan: &Plan, paths: &[Path], groups: &[u8]) -> Option<IdleTrun
     requires { AreGroups plan.now groups.now }
     ensures trunk { result ≡ idle_trunk_of plan.now paths.now groups.now }
     ensures group { IfSome result (λ trunk. trunk.group < length plan.now.groups) }
-    ensures first { IfSome result (λ trunk. trunk.first < length (members_of plan.now trunk.group)) }
+    ensures first { IfSome result (λ trunk. trunk.first < length
+        (members_of plan.now trunk.group)) }
 {
     for group in groups {
         if let Some(first) = first_idle(paths, members(plan, *group)) {

@@ -83,7 +83,8 @@ pub fn find_path(
     start: u8,
 ) -> Option<Path>
     requires { start < 10 }
-    ensures { result ≡ option_map (path_by line place) (channel_test (with_chosen paths.now chosen.now) line place start) }
+    ensures { result ≡ option_map (path_by line place)
+        (channel_test (with_chosen paths.now chosen.now) line place start) }
 {
     for turn in 0..10 {
         let path = Path {
@@ -100,7 +101,9 @@ pub fn find_path(
 
 /// Where a path is to be put into the set; nowhere, if it is there already.
 fn place_for(paths: &[Path], path: &Path) -> Option<usize>
-    ensures { MatchOption result (with_path paths.now path.now ≡ paths.now) (λ at. (at ≤ length paths.now) × (with_path paths.now path.now ≡ insert_at paths.now at path.now)) }
+    ensures { MatchOption result (with_path paths.now path.now ≡ paths.now)
+        (λ at. (at ≤ length paths.now) × (with_path paths.now path.now ≡
+        insert_at paths.now at path.now)) }
 {
     for (at, other) in paths.iter().enumerate() {
         match path.cmp(other) {
@@ -138,8 +141,10 @@ fn insert_call(paths: &mut Vec<Path>, call: &CallPaths)
 pub fn add(paths: &mut Vec<Path>, call: &Option<CallPaths>) -> Result<(), AllocError>
     ensures ok { OnOk result (paths.new.items ≡ with_added paths.old.items call.now) }
     ensures err { OnErr result (paths.new.items ≡ paths.old.items) }
-    ensures room { OnErr result ((vec_len paths.new ≡ vec_len paths.old) × (vec_capacity paths.new ≡ vec_capacity paths.old)) }
-    ensures full { OnErr result (vec_capacity paths.old < vec_len paths.old + added_count call.now) }
+    ensures room { OnErr result ((vec_len paths.new ≡ vec_len paths.old) ×
+        (vec_capacity paths.new ≡ vec_capacity paths.old)) }
+    ensures full { OnErr result
+        (vec_capacity paths.old < vec_len paths.old + added_count call.now) }
 {
     if let Some(call) = call {
         paths.reserve(call.count())?;
@@ -150,7 +155,9 @@ pub fn add(paths: &mut Vec<Path>, call: &Option<CallPaths>) -> Result<(), AllocE
 
 /// Where a path stands in the set.
 fn place_in(paths: &[Path], path: &Path) -> Option<usize>
-    ensures { MatchOption result (without_path paths.now path.now ≡ paths.now) (λ at. (at < length paths.now) × (without_path paths.now path.now ≡ remove_at paths.now at)) }
+    ensures { MatchOption result (without_path paths.now path.now ≡ paths.now)
+        (λ at. (at < length paths.now) × (without_path paths.now path.now ≡
+        remove_at paths.now at)) }
 {
     for (at, other) in paths.iter().enumerate() {
         match path.cmp(other) {

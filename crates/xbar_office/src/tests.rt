@@ -1,4 +1,5 @@
 mod audits;
+mod large;
 mod memory;
 mod plans;
 mod rows;

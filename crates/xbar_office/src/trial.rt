@@ -2,7 +2,7 @@
 
 ghost use Rattle.std.specs.Prelude.{◌≡◌, ◌<◌, find};
 ghost use Rattle.xbar_plan.specs.Tables.{is_faulty};
-ghost use Rattle.xbar_office.specs.Trial.{called_leg as called_leg_of, with_called as with_called_of, matched as matched_of, links, called_links, end_of_chosen as tested_of, trial as trial_of};
+ghost use Rattle.xbar_office.specs.Trial.{called_leg as called_leg_of, with_called as with_called_of, matched as matched_of, links, called_links, end_of_chosen as end_of_chosen_by, trial as trial_of};
 
 use crate::sets::find_path;
 use xbar_equip::{Len, Link, Path, Ten};
@@ -112,8 +112,8 @@ fn first_faulty_called(plan: &Plan, called: &Option<Path>) -> Option<Link>
     }
 }
 
-fn tested(plan: &Plan, call: &CallPaths) -> TrialEnd
-    ensures { result ≡ tested_of plan.now call.now }
+fn end_of_chosen(plan: &Plan, call: &CallPaths) -> TrialEnd
+    ensures { result ≡ end_of_chosen_by plan.now call.now }
 {
     if let Some(link) = first_faulty(plan, &call.calling) {
         return TrialEnd::Faulty(link);
@@ -133,7 +133,7 @@ impl TrialEnd {
     {
         match found {
             None => TrialEnd::NoChannel,
-            Some(call) => tested(plan, &call),
+            Some(call) => end_of_chosen(plan, &call),
         }
     }
 }

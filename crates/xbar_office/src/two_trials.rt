@@ -44,7 +44,11 @@ impl Trials {
 
     /// The first trial chose these paths, so there is no second one.
     pub fn first(index: u8, paths: &CallPaths) -> Self
-        ensures { result ≡ record { choice = Some (record { trial = 1; index = index; paths = paths.now }); cards = [] } }
+        ensures { result ≡ record {
+          choice = Some
+              (record { trial = 1; index = index; paths = paths.now });
+          cards = [];
+        } }
     {
         let choice = Choice {
             trial: 1,

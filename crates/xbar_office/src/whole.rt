@@ -23,7 +23,8 @@ pub fn dial(plan: &Plan, paths: &mut Vec<Path>, line: Len) -> Result<Reply, Allo
     ensures reply { IfOk result (λ reply. reply ≡ (dial_of plan.now paths.old.items line).reply) }
     ensures ok { OnOk result (paths.new.items ≡ (dial_of plan.now paths.old.items line).paths) }
     ensures err { OnErr result (paths.new.items ≡ paths.old.items) }
-    ensures memory { OnErr result (length paths.old.items < length (dial_of plan.now paths.old.items line).paths) }
+    ensures memory { OnErr result (length paths.old.items < length
+        (dial_of plan.now paths.old.items line).paths) }
 {
     line_is_in_range(line);
     every_plan_is_lawful(plan);
@@ -40,10 +41,13 @@ pub fn complete(
     dialled: Dialled,
 ) -> Result<Reply, AllocError>
     requires { IsLawfulSet plan.now paths.old.items }
-    ensures reply { IfOk result (λ reply. reply ≡ (complete_of plan.now paths.old.items line dialled).reply) }
-    ensures ok { OnOk result (paths.new.items ≡ (complete_of plan.now paths.old.items line dialled).paths) }
+    ensures reply { IfOk result (λ reply. reply ≡
+        (complete_of plan.now paths.old.items line dialled).reply) }
+    ensures ok { OnOk result (paths.new.items ≡
+        (complete_of plan.now paths.old.items line dialled).paths) }
     ensures err { OnErr result (paths.new.items ≡ paths.old.items) }
-    ensures memory { OnErr result (length paths.old.items < length (complete_of plan.now paths.old.items line dialled).paths) }
+    ensures memory { OnErr result (length paths.old.items < length
+        (complete_of plan.now paths.old.items line dialled).paths) }
 {
     line_is_in_range(line);
     every_plan_is_lawful(plan);

@@ -1,8 +1,8 @@
 use Rattle.std.proofs.Common.{◌≡◌, ℕ, true, List, [], ◌∷◌, length, map, refl, ◌∙◌, ap}
-use Rattle.std.specs.Prelude.{Option, Some, Ok, option_map, ◌&&◌, nat_lt}
+use Rattle.std.specs.Prelude.{Option, Some, Ok, option_map, option_and_then, ◌&&◌, nat_lt}
 use Rattle.std.specs.List.{list_all}
 use Rattle.std.specs.Str.{IsUtf8}
-use Rattle.toml.specs.Data.{Data}
+use Rattle.toml.specs.Data.{Data, Members}
 use Rattle.toml.specs.Parse.{parse_document}
 use Rattle.xbar_equip.specs.Len.{is_line}
 use Rattle.xbar_equip.specs.Ten.{is_trunk_place}
@@ -12,7 +12,7 @@ use Rattle.xbar_plan.specs.Group.{TrunkGroup}
 use Rattle.xbar_plan.specs.Tables.{Tables, Station, Route}
 use Rattle.xbar_plan.specs.Lawful.{IsLawful, fault_in, is_well_formed_group, group_places}
 use Rattle.xbar_plan.specs.Texts.{read_all, group_of, station_of, code_entry_of, fault_of, route_of_entry}
-use Rattle.xbar_plan.specs.Document.{Four, Entries, texts_of, lists_of, entries_of, tables_of_entries, unless_faulty, plan_of_entries, plan_of_document, plan_of}
+use Rattle.xbar_plan.specs.Document.{Four, Entries, texts_of, lists_of, entries_of, tables_of_entries, unless_faulty, plan_of_entries, plan_of_document, plan_of, version_of, version_in}
 use Rattle.xbar_plan.specs.Written.{array_of, group_text, station_text, route_text, document_in_version_2}
 use Rattle.xbar_plan.specs.declared.fault.PlanFault.{PlanFault}
 use Rattle.xbar_plan.specs.declared.read.version.Version.TheVariants.{Two}
@@ -91,3 +91,8 @@ document-back plan lawful =
 pub bytes-back : (bytes : List ℕ) (plan : Tables) → IsLawful plan → IsUtf8 bytes → parse_document bytes ≡ Some (document_in_version_2 plan) → plan_of bytes ≡ Ok plan
 bytes-back bytes plan lawful text parsed =
     bytes_read bytes (document_in_version_2 plan) (document-some bytes (document_in_version_2 plan) text parsed) ∙ document-back plan lawful
+
+-- and they are a document in version 2
+pub version-back : (bytes : List ℕ) (plan : Tables) → IsUtf8 bytes → parse_document bytes ≡ Some (document_in_version_2 plan) → version_in bytes ≡ Some Two
+version-back bytes plan text parsed =
+    ap (λ (o : Option Members). option_and_then version_of o) (document-some bytes (document_in_version_2 plan) text parsed)

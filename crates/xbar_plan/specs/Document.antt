@@ -119,6 +119,10 @@ plan_of_document document = needs fault.Version (version_of document) (plan_of_v
 unfoldable pub document_of : List ℕ → Option Members
 document_of bytes = if is_utf8 bytes then parse_document bytes else None
 
+-- the version of the document that bytes are, if they are one that has a version
+abbrev pub version_in : List ℕ → Option Version
+version_in bytes = option_and_then version_of (document_of bytes)
+
 -- the first stage. What bytes hold: a plan's tables, or the least fault
 unfoldable pub plan_of : List ℕ → Result Tables PlanFault
 plan_of bytes = needs fault.NotToml (document_of bytes) plan_of_document

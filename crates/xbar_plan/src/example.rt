@@ -31,7 +31,11 @@ fn group(
     kind: GroupKind,
     members: Vec<Member>,
 ) -> Result<Group, AllocError>
-    ensures { IfOk result (λ group. group ≡ record { name = name.now; kind = kind; members = members.items }) }
+    ensures { IfOk result (λ group. group ≡ record {
+      name = name.now;
+      kind = kind;
+      members = members.items;
+    }) }
 {
     Ok(Group::new(String::from_str(alloc, name)?, kind, members))
 }

@@ -70,7 +70,11 @@ impl Model for Group {
 
     ghost Value = { TrunkGroup };
 
-    ghost view = { λ a. record { name = string_bytes a.name; kind = a.kind; members = a.members.items } };
+    ghost view = { λ a. record {
+      name = string_bytes a.name;
+      kind = a.kind;
+      members = a.members.items;
+    } };
 }
 
 impl Group {
@@ -80,7 +84,11 @@ impl Group {
 
     /// A group of this name and kind, with its members in the order in which they are tried.
     pub fn new(name: String, kind: GroupKind, members: Vec<Member>) -> Self
-        ensures { result ≡ record { name = string_bytes name; kind = kind; members = members.items } }
+        ensures { result ≡ record {
+          name = string_bytes name;
+          kind = kind;
+          members = members.items;
+        } }
     {
         Group {
             name,

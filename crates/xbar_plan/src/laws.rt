@@ -25,76 +25,130 @@ pub fn every_plan_is_lawful(plan: &Plan)
 
 /// There are 1 to 16 groups of 1 to 40 members.
 pub fn groups_have_members()
-    ensures groups { (plan : Tables) → IsLawful plan → (0 < length plan.groups) × (length plan.groups ≤ 16) }
-    ensures members { (plan : Tables) → IsLawful plan → (number : ℕ) (group : TrunkGroup) → slice_get plan.groups number ≡ Some group → (0 < length group.members) × (length group.members ≤ 40) }
-    ensures numbers { (plan : Tables) → IsLawful plan → (number index : ℕ) (member : Member) → member_at plan number index ≡ Some member → (number < 16) × (index < 40) }
+    ensures groups { (plan : Tables) → IsLawful plan →
+        (0 < length plan.groups) × (length plan.groups ≤ 16) }
+    ensures members { (plan : Tables) → IsLawful plan → (number : ℕ) (group : TrunkGroup) →
+        slice_get plan.groups number ≡ Some group →
+        (0 < length group.members) × (length group.members ≤ 40) }
+    ensures numbers { (plan : Tables) → IsLawful plan → (number index : ℕ) (member : Member) →
+        member_at plan number index ≡ Some member → (number < 16) × (index < 40) }
 {}
 
 /// Where a member stands is a trunk place.
 pub fn places_are_in_range()
-    ensures { (plan : Tables) → IsLawful plan → (number index : ℕ) (member : Member) → member_at plan number index ≡ Some member → (place : TrunkPlace) → stands_at member place ≡ true → IsTrunkPlace place }
+    ensures { (plan : Tables) → IsLawful plan → (number index : ℕ) (member : Member) →
+        member_at plan number index ≡ Some member → (place : TrunkPlace) →
+        stands_at member place ≡ true → IsTrunkPlace place }
 {}
 
 /// Two members that stand at one place are one.
 pub fn one_member_stands_at_a_place()
-    ensures { (plan : Tables) → IsLawful plan → (number index number' index' : ℕ) (member member' : Member) (place : TrunkPlace) → member_at plan number index ≡ Some member → member_at plan number' index' ≡ Some member' → stands_at member place ≡ true → stands_at member' place ≡ true → (number ≡ number') × (index ≡ index') }
+    ensures { (plan : Tables) → IsLawful plan →
+        (number index number' index' : ℕ) (member member' : Member) (place : TrunkPlace) →
+        member_at plan number index ≡ Some member → member_at plan number' index' ≡ Some member' →
+        stands_at member place ≡ true → stands_at member' place ≡ true →
+        (number ≡ number') × (index ≡ index') }
 {}
 
 /// An intra member, and no other, has two places, which are on one trunk link frame.
 pub fn intra_members_are_pairs()
-    ensures intra { (plan : Tables) → IsLawful plan → (number index : ℕ) (group : TrunkGroup) (member : Member) → slice_get plan.groups number ≡ Some group → member_at plan number index ≡ Some member → is_some member.second ≡ is_intra group }
-    ensures frame { (plan : Tables) → IsLawful plan → (number index : ℕ) (member : Member) (second : TrunkPlace) → member_at plan number index ≡ Some member → member.second ≡ Some second → second.frame ≡ member.first.frame }
-    ensures apart { (plan : Tables) → IsLawful plan → (number index : ℕ) (member : Member) (second : TrunkPlace) → member_at plan number index ≡ Some member → member.second ≡ Some second → second ≢ member.first }
+    ensures intra { (plan : Tables) → IsLawful plan →
+        (number index : ℕ) (group : TrunkGroup) (member : Member) →
+        slice_get plan.groups number ≡ Some group → member_at plan number index ≡ Some member →
+        is_some member.second ≡ is_intra group }
+    ensures frame { (plan : Tables) → IsLawful plan →
+        (number index : ℕ) (member : Member) (second : TrunkPlace) →
+        member_at plan number index ≡ Some member → member.second ≡ Some second →
+        second.frame ≡ member.first.frame }
+    ensures apart { (plan : Tables) → IsLawful plan →
+        (number index : ℕ) (member : Member) (second : TrunkPlace) →
+        member_at plan number index ≡ Some member → member.second ≡ Some second →
+        second ≢ member.first }
 {}
 
 /// Each place of a pair is seen from the other one, and a single member's place has none beside it.
 pub fn places_of_a_pair_see_each_other()
-    ensures paired { (plan : Tables) → IsLawful plan → (number index : ℕ) (member : Member) (place : TrunkPlace) → member_at plan number index ≡ Some member → stands_at member place ≡ true → is_some (other_place member place) ≡ is_some member.second }
-    ensures stands { (plan : Tables) → IsLawful plan → (number index : ℕ) (member : Member) (place other : TrunkPlace) → member_at plan number index ≡ Some member → stands_at member place ≡ true → other_place member place ≡ Some other → stands_at member other ≡ true }
-    ensures apart { (plan : Tables) → IsLawful plan → (number index : ℕ) (member : Member) (place other : TrunkPlace) → member_at plan number index ≡ Some member → stands_at member place ≡ true → other_place member place ≡ Some other → other ≢ place }
-    ensures frame { (plan : Tables) → IsLawful plan → (number index : ℕ) (member : Member) (place other : TrunkPlace) → member_at plan number index ≡ Some member → stands_at member place ≡ true → other_place member place ≡ Some other → other.frame ≡ place.frame }
-    ensures back { (plan : Tables) → IsLawful plan → (number index : ℕ) (member : Member) (place other : TrunkPlace) → member_at plan number index ≡ Some member → stands_at member place ≡ true → other_place member place ≡ Some other → other_place member other ≡ Some place }
+    ensures paired { (plan : Tables) → IsLawful plan →
+        (number index : ℕ) (member : Member) (place : TrunkPlace) →
+        member_at plan number index ≡ Some member → stands_at member place ≡ true →
+        is_some (other_place member place) ≡ is_some member.second }
+    ensures stands { (plan : Tables) → IsLawful plan →
+        (number index : ℕ) (member : Member) (place other : TrunkPlace) →
+        member_at plan number index ≡ Some member → stands_at member place ≡ true →
+        other_place member place ≡ Some other → stands_at member other ≡ true }
+    ensures apart { (plan : Tables) → IsLawful plan →
+        (number index : ℕ) (member : Member) (place other : TrunkPlace) →
+        member_at plan number index ≡ Some member → stands_at member place ≡ true →
+        other_place member place ≡ Some other → other ≢ place }
+    ensures frame { (plan : Tables) → IsLawful plan →
+        (number index : ℕ) (member : Member) (place other : TrunkPlace) →
+        member_at plan number index ≡ Some member → stands_at member place ≡ true →
+        other_place member place ≡ Some other → other.frame ≡ place.frame }
+    ensures back { (plan : Tables) → IsLawful plan →
+        (number index : ℕ) (member : Member) (place other : TrunkPlace) →
+        member_at plan number index ≡ Some member → stands_at member place ≡ true →
+        other_place member place ≡ Some other → other_place member other ≡ Some place }
 {}
 
 /// `member_of` answers with a member that stands at the place, and with none only where none does.
 pub fn member_places_are_of_members()
-    ensures { (plan : Tables) (place : TrunkPlace) → IsMemberPlace plan place (member_place plan place) }
+    ensures { (plan : Tables) (place : TrunkPlace) →
+        IsMemberPlace plan place (member_place plan place) }
 {}
 
 /// What `member_of` answers in a lawful plan is in range: the group, the member, and the other place.
 pub fn member_places_are_in_range()
-    ensures numbers { (plan : Tables) → IsLawful plan → (place : TrunkPlace) (found : MemberPlace) → member_place plan place ≡ Some found → (found.group < 16) × (found.index < 40) }
-    ensures place { (plan : Tables) → IsLawful plan → (place : TrunkPlace) (found : MemberPlace) → member_place plan place ≡ Some found → IsTrunkPlace place }
-    ensures other { (plan : Tables) → IsLawful plan → (place other : TrunkPlace) (found : MemberPlace) → member_place plan place ≡ Some found → found.other ≡ Some other → IsTrunkPlace other }
+    ensures numbers { (plan : Tables) → IsLawful plan → (place : TrunkPlace) (found : MemberPlace) →
+        member_place plan place ≡ Some found → (found.group < 16) × (found.index < 40) }
+    ensures place { (plan : Tables) → IsLawful plan → (place : TrunkPlace) (found : MemberPlace) →
+        member_place plan place ≡ Some found → IsTrunkPlace place }
+    ensures other { (plan : Tables) → IsLawful plan →
+        (place other : TrunkPlace) (found : MemberPlace) → member_place plan place ≡ Some found →
+        found.other ≡ Some other → IsTrunkPlace other }
 {}
 
 /// Only one answer fits the question which member stands at a place.
 pub fn one_answer_fits_a_place()
-    ensures { (plan : Tables) → IsLawful plan → (place : TrunkPlace) (found found' : Option MemberPlace) → IsMemberPlace plan place found → IsMemberPlace plan place found' → found ≡ found' }
+    ensures { (plan : Tables) → IsLawful plan →
+        (place : TrunkPlace) (found found' : Option MemberPlace) → IsMemberPlace plan place found →
+        IsMemberPlace plan place found' → found ≡ found' }
 {}
 
 /// The register group is there and has registers, and no other group has.
 pub fn one_group_has_registers()
-    ensures there { (plan : Tables) → IsLawful plan → (group : TrunkGroup) × (slice_get plan.groups (register_group plan) ≡ Some group) × (is_register group ≡ true) }
-    ensures only { (plan : Tables) → IsLawful plan → (number : ℕ) (group : TrunkGroup) → slice_get plan.groups number ≡ Some group → is_register group ≡ true → number ≡ register_group plan }
+    ensures there { (plan : Tables) → IsLawful plan →
+        (group : TrunkGroup) × (slice_get plan.groups (register_group plan) ≡ Some group) ×
+        (is_register group ≡ true) }
+    ensures only { (plan : Tables) → IsLawful plan → (number : ℕ) (group : TrunkGroup) →
+        slice_get plan.groups number ≡ Some group → is_register group ≡ true →
+        number ≡ register_group plan }
 {}
 
 /// A directory number that is in use has 1 to 10 lines.
 pub fn numbers_have_lines()
-    ensures count { (plan : Tables) → IsLawful plan → (number : ℕ) (lines : List Line) → lines_of plan number ≡ Some lines → (0 < length lines) × (length lines ≤ 10) }
-    ensures range { (plan : Tables) → IsLawful plan → (number : ℕ) (lines : List Line) → lines_of plan number ≡ Some lines → (k : ℕ) (line : Line) → slice_get lines k ≡ Some line → IsLine line }
+    ensures count { (plan : Tables) → IsLawful plan → (number : ℕ) (lines : List Line) →
+        lines_of plan number ≡ Some lines → (0 < length lines) × (length lines ≤ 10) }
+    ensures range { (plan : Tables) → IsLawful plan → (number : ℕ) (lines : List Line) →
+        lines_of plan number ≡ Some lines → (k : ℕ) (line : Line) → slice_get lines k ≡ Some line →
+        IsLine line }
 {}
 
 /// A code that is in use leads to 1 to 4 groups, all of them intra or all of them outgoing.
 pub fn codes_lead_to_trunks()
-    ensures count { (plan : Tables) → IsLawful plan → (code : ℕ) (groups : List ℕ) → route_of plan code ≡ Some groups → (0 < length groups) × (length groups ≤ 4) }
-    ensures range { (plan : Tables) → IsLawful plan → (code : ℕ) (groups : List ℕ) → route_of plan code ≡ Some groups → (k number : ℕ) → slice_get groups k ≡ Some number → number < length plan.groups }
-    ensures kind { (plan : Tables) → IsLawful plan → (code : ℕ) (groups : List ℕ) → route_of plan code ≡ Some groups → LeadsOnlyTo is_intra plan groups ⊎ LeadsOnlyTo is_outgoing plan groups }
+    ensures count { (plan : Tables) → IsLawful plan → (code : ℕ) (groups : List ℕ) →
+        route_of plan code ≡ Some groups → (0 < length groups) × (length groups ≤ 4) }
+    ensures range { (plan : Tables) → IsLawful plan → (code : ℕ) (groups : List ℕ) →
+        route_of plan code ≡ Some groups → (k number : ℕ) → slice_get groups k ≡ Some number →
+        number < length plan.groups }
+    ensures kind { (plan : Tables) → IsLawful plan → (code : ℕ) (groups : List ℕ) →
+        route_of plan code ≡ Some groups → LeadsOnlyTo is_intra plan groups ⊎
+        LeadsOnlyTo is_outgoing plan groups }
 {}
 
 /// What is listed as out of order is a link.
 pub fn faults_are_links()
-    ensures { (plan : Tables) → IsLawful plan → (link : Link) → is_faulty plan link ≡ true → IsLink link }
+    ensures { (plan : Tables) → IsLawful plan → (link : Link) → is_faulty plan link ≡ true →
+        IsLink link }
 {}
 
 /// Tables are lawful exactly where no test of tables tells a fault.
@@ -105,10 +159,12 @@ pub fn lawful_tables_have_no_fault()
 /// Of two documents that differ in `version` alone, 1 and 2, the second is accepted where the first
 /// is, with the same tables.
 pub fn version_1_reads_the_same_as_version_2()
-    ensures { (one two : Members) (tables : Tables) → DifferInVersion one two → plan_of_document one ≡ Ok tables → plan_of_document two ≡ Ok tables }
+    ensures { (one two : Members) (tables : Tables) → DifferInVersion one two →
+        plan_of_document one ≡ Ok tables → plan_of_document two ≡ Ok tables }
 {}
 
 /// Lawful tables are those of their own document in version 2.
 pub fn lawful_tables_read_back()
-    ensures { (plan : Tables) → IsLawful plan → plan_of_document (document_in_version_2 plan) ≡ Ok plan }
+    ensures { (plan : Tables) → IsLawful plan →
+        plan_of_document (document_in_version_2 plan) ≡ Ok plan }
 {}

@@ -26,17 +26,28 @@ impl Model for Plan {
 
     ghost Value = { Tables };
 
-    ghost view = { λ a. record { groups = a.groups.items; stations = a.stations.items; routes = a.routes.items; faults = a.faults.items } };
+    ghost view = { λ a. record {
+      groups = a.groups.items;
+      stations = a.stations.items;
+      routes = a.routes.items;
+      faults = a.faults.items;
+    } };
 
-    ghost invariant = { λ a. IsLawful (record { groups = a.groups.items; stations = a.stations.items; routes = a.routes.items; faults = a.faults.items }) };
+    ghost invariant = { λ a. IsLawful (record {
+      groups = a.groups.items;
+      stations = a.stations.items;
+      routes = a.routes.items;
+      faults = a.faults.items;
+    }) };
 }
 
 impl Plan {
     ghost use Rattle.std.specs.Prelude.{slice_get, Some, Ok};
     ghost use Rattle.xbar_plan.specs.Tables.{Tables, lines_of, route_of, register_group as register_group_of, is_faulty, member_place};
     ghost use Rattle.xbar_plan.specs.Lawful.{IsLawful, IsPlanOf};
-    ghost use Rattle.xbar_plan.specs.Document.{IsReading, plan_of};
+    ghost use Rattle.xbar_plan.specs.Document.{IsReading, plan_of, version_in};
     ghost use Rattle.xbar_plan.specs.Example.{example as the_example};
+    ghost use Rattle.xbar_plan.specs.declared.read.version.Version.TheVariants.{Two};
 
     /// Makes a plan of tables that are known to be lawful.
     pub fn new(
@@ -45,8 +56,18 @@ impl Plan {
         routes: Vec<Route>,
         faults: Vec<Link>,
     ) -> Self
-        requires { IsLawful (record { groups = groups.items; stations = stations.items; routes = routes.items; faults = faults.items }) }
-        ensures { result ≡ record { groups = groups.items; stations = stations.items; routes = routes.items; faults = faults.items } }
+        requires { IsLawful (record {
+          groups = groups.items;
+          stations = stations.items;
+          routes = routes.items;
+          faults = faults.items;
+        }) }
+        ensures { result ≡ record {
+          groups = groups.items;
+          stations = stations.items;
+          routes = routes.items;
+          faults = faults.items;
+        } }
     {
         Plan {
             groups,
@@ -64,7 +85,12 @@ impl Plan {
         routes: Vec<Route>,
         faults: Vec<Link>,
     ) -> Result<Self, PlanFault>
-        ensures { IsPlanOf (record { groups = groups.items; stations = stations.items; routes = routes.items; faults = faults.items }) result }
+        ensures { IsPlanOf (record {
+          groups = groups.items;
+          stations = stations.items;
+          routes = routes.items;
+          faults = faults.items;
+        }) result }
     {
         match lawful::fault_in(alloc, &groups, &stations, &routes, &faults)? {
             None => Ok(Plan::new(groups, stations, routes, faults)),
@@ -96,7 +122,8 @@ impl Plan {
 
     /// A TOML text of the plan in version 2 of its form, which reads back as the same plan.
     pub fn version_2(&self, alloc: Global) -> Result<Vec<u8>, AllocError>
-        ensures { IfOk result (λ text. plan_of text.items ≡ Ok self.now) }
+        ensures version { IfOk result (λ text. version_in text.items ≡ Some Two) }
+        ensures tables { IfOk result (λ text. plan_of text.items ≡ Ok self.now) }
     {
         write::version_2(
             alloc,

@@ -28,7 +28,7 @@ const CODES: usize = 3;
 const FAULTS: usize = 4;
 
 /// The fault of a document, if it has one.
-fn told(alloc: Global, lines: Lines) -> Result<Option<PlanFault>, AllocError> {
+fn fault_of(alloc: Global, lines: Lines) -> Result<Option<PlanFault>, AllocError> {
     let text = document(alloc, lines)?;
     Ok(Plan::read(alloc, text.as_bytes()).err())
 }
@@ -91,7 +91,11 @@ fn each_has(
     lines: &[&'static str],
 ) -> Result<(), Fail> {
     for line in lines {
-        assert_eq!(rt; told(alloc, changed(EXAMPLE, at, *line))?, fault, "{line}");
+        assert_eq!(rt;
+            fault_of(alloc, changed(EXAMPLE, at, *line))?,
+            fault,
+            "{line}"
+        );
     }
     Ok(())
 }
@@ -120,9 +124,19 @@ fn faults_of_the_document_are_told(rt: HostRuntime) -> Result<(), Fail> {
         "version = true",
     ];
     each_has(&rt, alloc, Some(PlanFault::Version), VERSION, &versions)?;
-    each_has(&rt, alloc, Some(PlanFault::KeyMissing), FAULTS, &[""])?;
+    for at in [GROUPS, NUMBERS, CODES, FAULTS] {
+        each_has(&rt, alloc, Some(PlanFault::KeyMissing), at, &["# none"])?;
+    }
     let not_texts = Some(PlanFault::NotTexts);
     each_has(&rt, alloc, not_texts, GROUPS, &["groups = 5"])?;
+    each_has(
+        &rt,
+        alloc,
+        not_texts,
+        NUMBERS,
+        &["numbers = [[\"0001 3041\"]]"],
+    )?;
+    each_has(&rt, alloc, not_texts, CODES, &["codes = \"234 INTRA\""])?;
     each_has(&rt, alloc, not_texts, FAULTS, &["faults = [1]"])
 }
 
@@ -172,7 +186,22 @@ fn faults_of_tables_are_told(rt: HostRuntime) -> Result<(), Fail> {
             CODES,
             r#"codes = ["555 OUTA OUTA OUTB OUTB OUTA"]"#,
         ),
+        (
+            PlanFault::GroupTwice,
+            GROUPS,
+            r#"groups = ["REG register 417", "INTRA intra 600-601", "OUTA outgoing 800", "OUTB outgoing 801", "OUTA outgoing 902"]"#,
+        ),
         (PlanFault::RegisterGroups, GROUPS, "groups = []"),
+        (
+            PlanFault::PlaceTwice,
+            GROUPS,
+            r#"groups = ["REG register 417", "INTRA intra 600-601", "OUTA outgoing 800 417", "OUTB outgoing 801"]"#,
+        ),
+        (
+            PlanFault::PairApart,
+            GROUPS,
+            r#"groups = ["REG register 417", "INTRA intra 600-701", "OUTA outgoing 800", "OUTB outgoing 801"]"#,
+        ),
         (
             PlanFault::NumberTwice,
             NUMBERS,
@@ -208,7 +237,7 @@ fn lesser_is_told(
 ) -> Result<(), Fail> {
     for (fault, (at, line), (other, more)) in rows {
         let lines = changed(changed(EXAMPLE, *at, *line), *other, *more);
-        assert_eq!(rt; told(alloc, lines)?, Some(*fault), "{line}");
+        assert_eq!(rt; fault_of(alloc, lines)?, Some(*fault), "{line}");
     }
     Ok(())
 }
@@ -286,7 +315,7 @@ fn second_version_has_one_to_ten_lines_a_number(rt: HostRuntime) -> Result<(), F
         ),
     ];
     for (fault, line) in rows {
-        assert_eq!(rt; told(alloc, changed(second, 2, line))?, fault, "{line}");
+        assert_eq!(rt; fault_of(alloc, changed(second, 2, line))?, fault, "{line}");
     }
     Ok(())
 }
@@ -346,6 +375,42 @@ fn limits_are_the_last_that_are_taken(rt: HostRuntime) -> Result<(), Fail> {
             fault,
             "{groups} {members} {numbers} {codes} {faults}"
         );
+    }
+    Ok(())
+}
+
+/// Each of 3,000 numbers is one of the plan that is read, and no other is.
+#[test]
+fn three_thousand_numbers_are_read(rt: HostRuntime) -> Result<(), Fail> {
+    let alloc = rt.alloc();
+    let text = sized(alloc, 2, 2, 3000, 1, 0)?;
+    let Ok(plan) = Plan::read(alloc, text.as_bytes()) else {
+        return Err("it is lawful".into());
+    };
+    let line = [Len::new(3, 0, 21)];
+    for number in 0..10_000 {
+        let lines = plan.stations(DirNo::new(number));
+        let wanted = if number < 3000 {
+            Some(line.as_slice())
+        } else {
+            None
+        };
+        assert!(rt; lines == wanted, "{number}");
+    }
+    Ok(())
+}
+
+/// In a plan of the largest size a code that stands twice is told as that, wherever it stands.
+#[test]
+fn a_code_that_stands_twice_is_told(rt: HostRuntime) -> Result<(), Fail> {
+    let alloc = rt.alloc();
+    for (from, to) in [("000", "001"), ("063", "000"), ("063", "062")] {
+        let text = sized(alloc, 16, 40, 3000, 64, 100)?;
+        let from = format!(in alloc; "\"{from} G1\"")?;
+        let to = format!(in alloc; "\"{to} G1\"")?;
+        let text = text.as_str().replace(alloc, from.as_str(), to.as_str())?;
+        let fault = Plan::read(alloc, text.as_bytes()).err();
+        assert_eq!(rt; fault, Some(PlanFault::CodeTwice), "{to}");
     }
     Ok(())
 }

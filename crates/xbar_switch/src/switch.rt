@@ -65,7 +65,8 @@ impl Switch {
         ensures succeeds { IsOk result ↔ (IsSome self.old.selection × (field_at self.old v ≡ 0)) }
 
         // A hold with nothing selected is reported as such, even on a closed field.
-        ensures nothing_selected { (result ≡ Err SwitchFault.NothingSelected) ↔ IsNone self.old.selection }
+        ensures nothing_selected { (result ≡ Err SwitchFault.NothingSelected) ↔
+            IsNone self.old.selection }
         ensures already_held { (result ≡ Err SwitchFault.AlreadyHeld)
             ↔ (IsSome self.old.selection × (0 < field_at self.old v)) }
         ensures err { OnErr result (self.new ≡ self.old) }

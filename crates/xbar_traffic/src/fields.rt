@@ -16,7 +16,8 @@ pub struct Fields<'r> {
 
 impl<'r> Fields<'r> {
     pub fn of(row: &'r ByteRecord) -> Option<Self>
-        ensures { MatchOption result (length (fields_of row.now) ≢ 5) (λ fields. fields_of row.now ≡ five_fields fields) }
+        ensures { MatchOption result (length (fields_of row.now) ≢ 5)
+            (λ fields. fields_of row.now ≡ five_fields fields) }
     {
         if row.len() != 5 {
             return None;

@@ -10,16 +10,23 @@ ghost use Rattle.xbar_traffic.specs.declared.row.Row.{Row};
 
 /// Records are one traffic, and no other.
 pub fn records_are_one_traffic()
-    ensures rows { (mode : Mode) (records : List (List (List ℕ))) (rows rows' : List Row) (fault fault' : Option RowFault) → IsTrafficOf mode records rows fault → IsTrafficOf mode records rows' fault' → rows ≡ rows' }
-    ensures fault { (mode : Mode) (records : List (List (List ℕ))) (rows rows' : List Row) (fault fault' : Option RowFault) → IsTrafficOf mode records rows fault → IsTrafficOf mode records rows' fault' → fault ≡ fault' }
+    ensures rows { (mode : Mode) (records : List (List (List ℕ))) (rows rows' : List Row)
+        (fault fault' : Option RowFault) → IsTrafficOf mode records rows fault →
+        IsTrafficOf mode records rows' fault' → rows ≡ rows' }
+    ensures fault { (mode : Mode) (records : List (List (List ℕ))) (rows rows' : List Row)
+        (fault fault' : Option RowFault) → IsTrafficOf mode records rows fault →
+        IsTrafficOf mode records rows' fault' → fault ≡ fault' }
 {}
 
 /// The numbers of all rows are in range, and so are their lines and digits.
 pub fn rows_are_in_range()
-    ensures { (mode : Mode) (records : List (List (List ℕ))) (rows : List Row) (fault : Option RowFault) → IsTrafficOf mode records rows fault → All IsRow rows }
+    ensures { (mode : Mode) (records : List (List (List ℕ))) (rows : List Row)
+        (fault : Option RowFault) → IsTrafficOf mode records rows fault → All IsRow rows }
 {}
 
 /// All rows are of the mode for which they were read.
 pub fn rows_are_of_their_mode()
-    ensures { (mode : Mode) (records : List (List (List ℕ))) (rows : List Row) (fault : Option RowFault) → IsTrafficOf mode records rows fault → All (λ row. mode_of row ≡ mode) rows }
+    ensures { (mode : Mode) (records : List (List (List ℕ))) (rows : List Row)
+        (fault : Option RowFault) → IsTrafficOf mode records rows fault →
+        All (λ row. mode_of row ≡ mode) rows }
 {}

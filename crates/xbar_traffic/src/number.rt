@@ -5,7 +5,8 @@ use std::str;
 
 /// The number from 0 to `limit` that a text writes in decimal digits, with no leading zero.
 pub fn read_number(text: &[u8], limit: u32) -> Option<u32>
-    ensures reads { (number : ℕ) → number ≤ limit → text.now ≡ decimal number → result ≡ Some number }
+    ensures reads { (number : ℕ) → number ≤ limit → text.now ≡ decimal number →
+        result ≡ Some number }
     ensures only { IfSome result (λ number. (number ≤ limit) × (text.now ≡ decimal number)) }
 {
     if !begins_plainly(text) {
@@ -28,7 +29,8 @@ fn begins_plainly(text: &[u8]) -> bool
 
 fn parse(text: &[u8]) -> Option<u32>
     requires { BeginsPlainly text.now }
-    ensures reads { (number : ℕ) → number < 2 ^ 32 → text.now ≡ decimal number → result ≡ Some number }
+    ensures reads { (number : ℕ) → number < 2 ^ 32 → text.now ≡ decimal number →
+        result ≡ Some number }
     ensures only { IfSome result (λ number. text.now ≡ decimal number) }
 {
     match str::from_utf8(text) {

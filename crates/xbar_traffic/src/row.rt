@@ -90,7 +90,8 @@ impl Row {
     }
 
     fn assign(marker: &[u8], job_no: &[u8], kind: &[u8], args: &[u8]) -> Result<Row, RowFault>
-        ensures { IsReadAs Mode.Replay (codes "J" ∷ marker.now ∷ job_no.now ∷ kind.now ∷ args.now ∷ []) result }
+        ensures { IsReadAs Mode.Replay
+            (codes "J" ∷ marker.now ∷ job_no.now ∷ kind.now ∷ args.now ∷ []) result }
     {
         let job = read_job(kind, args)?;
         let marker = read_number(marker, MARKER_LIMIT).ok_or(RowFault::Malformed)?;
@@ -103,7 +104,8 @@ impl Row {
     }
 
     fn steps(marker: &[u8], count: &[u8], fourth: &[u8], fifth: &[u8]) -> Result<Row, RowFault>
-        ensures { IsReadAs Mode.Replay (codes "S" ∷ marker.now ∷ count.now ∷ fourth.now ∷ fifth.now ∷ []) result }
+        ensures { IsReadAs Mode.Replay
+            (codes "S" ∷ marker.now ∷ count.now ∷ fourth.now ∷ fifth.now ∷ []) result }
     {
         if !fourth.is_empty() || !fifth.is_empty() {
             return Err(RowFault::Malformed);
@@ -114,7 +116,8 @@ impl Row {
     }
 
     fn call(call_no: &[u8], line: &[u8], dialled: &[u8], hold: &[u8]) -> Result<Row, RowFault>
-        ensures { IsReadAs Mode.Live (codes "C" ∷ call_no.now ∷ line.now ∷ dialled.now ∷ hold.now ∷ []) result }
+        ensures { IsReadAs Mode.Live
+            (codes "C" ∷ call_no.now ∷ line.now ∷ dialled.now ∷ hold.now ∷ []) result }
     {
         let call_no = read_number(call_no, NUMBER_LIMIT).ok_or(RowFault::Malformed)?;
         let line = read_line(line)?;
@@ -154,27 +157,36 @@ fn read_complete(args: &[u8]) -> Result<Job, RowFault>
 
 /// The four bytes before a space, and what stands after it.
 fn split_after_line(text: &[u8]) -> Option<(&[u8], &[u8])>
-    ensures { MatchOption result ((line rest : List ℕ) → length line ≡ 4 → text.now ≢ line ++ (codes " " ++ rest)) (λ parts. (length parts.0.now ≡ 4) × (text.now ≡ parts.0.now ++ (codes " " ++ parts.1.now))) }
+    ensures { MatchOption result ((line rest : List ℕ) → length line ≡ 4 →
+        text.now ≢ line ++ (codes " " ++ rest))
+        (λ parts. (length parts.0.now ≡ 4) × (text.now ≡ parts.0.now ++
+        (codes " " ++ parts.1.now))) }
 {
     let (line, rest) = text.split_at_checked(4)?;
     Some((line, rest.strip_prefix(b" ")?))
 }
 
 fn read_line(text: &[u8]) -> Result<Len, RowFault>
-    ensures { MatchResult result (λ line. IsLine line × (text.now ≡ line_text line)) (λ fault. ((line : Line) → IsLine line → text.now ≢ line_text line) × (fault ≡ RowFault.Malformed)) }
+    ensures { MatchResult result (λ line. IsLine line × (text.now ≡ line_text line))
+        (λ fault. ((line : Line) → IsLine line → text.now ≢ line_text line) ×
+        (fault ≡ RowFault.Malformed)) }
 {
     Len::parse(text).map_err(|_| RowFault::Malformed)
 }
 
 fn read_dialled(text: &[u8]) -> Result<Dialled, RowFault>
-    ensures { MatchResult result (λ dialled. IsDialled dialled × (text.now ≡ dialled_text dialled)) (λ fault. ((dialled : ℕ) → IsDialled dialled → text.now ≢ dialled_text dialled) × (fault ≡ RowFault.Malformed)) }
+    ensures { MatchResult result (λ dialled. IsDialled dialled × (text.now ≡ dialled_text dialled))
+        (λ fault. ((dialled : ℕ) → IsDialled dialled → text.now ≢ dialled_text dialled) ×
+        (fault ≡ RowFault.Malformed)) }
 {
     Dialled::parse(text).map_err(|_| RowFault::Malformed)
 }
 
 /// Whether the call is released once it is connected.
 fn read_release(text: &[u8]) -> Result<bool, RowFault>
-    ensures { MatchResult result (λ release. text.now ≡ hold_letter release) (λ fault. ((release : Bool) → text.now ≢ hold_letter release) × (fault ≡ RowFault.Malformed)) }
+    ensures { MatchResult result (λ release. text.now ≡ hold_letter release)
+        (λ fault. ((release : Bool) → text.now ≢ hold_letter release) ×
+        (fault ≡ RowFault.Malformed)) }
 {
     match text {
         b"K" => Ok(false),

@@ -23,7 +23,8 @@ pub struct Traffic {
 impl Traffic {
     /// Reads the bytes of a whole traffic, whose rows are to be of this mode.
     pub fn read(alloc: Global, mode: Mode, bytes: &[u8]) -> Result<Traffic, AllocError>
-        ensures { IfOk result (λ traffic. IsTrafficOf mode (records default_config (strip_bom bytes.now)) traffic.rows.items traffic.fault) }
+        ensures { IfOk result (λ traffic. IsTrafficOf mode
+            (records default_config (strip_bom bytes.now)) traffic.rows.items traffic.fault) }
     {
         let reader = ReaderBuilder::new()
             .has_headers(false)
@@ -50,7 +51,8 @@ impl Traffic {
 
     /// The fault that comes after all rows, with the number of its row.
     pub fn refusal(&self) -> Option<TrafficFault>
-        ensures { result ≡ option_map (λ fault. record { row = vec_len self.now.rows + 1; fault = fault }) self.now.fault }
+        ensures { result ≡ option_map (λ fault.
+            record { row = vec_len self.now.rows + 1; fault = fault }) self.now.fault }
     {
         let row = self.rows.len() as u64 + 1;
         self.fault.map(|fault| TrafficFault { row, fault })
@@ -63,8 +65,11 @@ fn judge(
     row: &ByteRecord,
     numbers: &mut BTreeSet<u32>,
 ) -> Result<Result<Row, RowFault>, AllocError>
-    ensures judged { IfOk result (λ judged. IsJudgedAs mode (contains nat_cmp numbers.old) (fields_of row.now) judged) }
-    ensures numbers { IfOk result (λ judged. IfOk judged (λ row. (number : ℕ) → contains nat_cmp numbers.new number ≡ (contains nat_cmp numbers.old number || has_number number row))) }
+    ensures judged { IfOk result (λ judged. IsJudgedAs mode (contains nat_cmp numbers.old)
+        (fields_of row.now) judged) }
+    ensures numbers { IfOk result (λ judged. IfOk judged
+        (λ row. (number : ℕ) → contains nat_cmp numbers.new number ≡
+        (contains nat_cmp numbers.old number || has_number number row))) }
 {
     let row = match Row::read(mode, row) {
         Ok(row) => row,

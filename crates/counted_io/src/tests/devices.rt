@@ -1,7 +1,8 @@
-use super::fakes::{Endless, FailAt, Still, Stuck};
+use super::fakes::{Still, Stuck};
 use crate::{Counted, ReadFault, Sink, Source, WriteFault, read_all, write_all};
 use std::io::{Read, Write};
 use std::test::Fail;
+use test_devices::{Endless, FailAt};
 
 #[test]
 fn texts_of_faults(rt: HostRuntime) -> Result<(), Fail> {
@@ -9,22 +10,13 @@ fn texts_of_faults(rt: HostRuntime) -> Result<(), Fail> {
         (ReadFault::Memory, "memory ran out"),
         (ReadFault::Device, "a read failed"),
         (ReadFault::Long, "the input is too long"),
-        (
-            ReadFault::Stalled,
-            "the device gave errors without end that it did not count",
-        ),
     ] {
         assert_eq!(rt; fault.to_string(rt.alloc())?.as_str(), want);
     }
-    for (fault, want) in [
-        (WriteFault::Device, "a write failed"),
-        (
-            WriteFault::Stalled,
-            "the device gave errors without end that it did not count",
-        ),
-    ] {
-        assert_eq!(rt; fault.to_string(rt.alloc())?.as_str(), want);
-    }
+    assert_eq!(rt;
+        WriteFault::Device.to_string(rt.alloc())?.as_str(),
+        "a write failed"
+    );
     Ok(())
 }
 
@@ -93,14 +85,31 @@ fn only_reads_since_the_beginning_make_an_input_long(rt: HostRuntime) -> Result<
 }
 
 #[test]
-fn an_error_that_is_not_counted_is_none(rt: HostRuntime) -> Result<(), Fail> {
+fn an_earlier_failure_is_none_of_this_call(rt: HostRuntime) -> Result<(), Fail> {
     let text = b"all of it\n";
-    for calls in 0..2 {
-        let mut source = Still::new(FailAt::new(calls, text.as_slice()));
-        let read = read_all(rt.alloc(), &mut source)?;
-        assert_eq!(rt; read.as_slice(), text.as_slice(), "after {calls}");
-    }
+    let mut source = Counted::new(FailAt::new(0, text.as_slice()));
+    assert!(rt; source.read(&mut [0; 2]).is_err());
+    let read = read_all(rt.alloc(), &mut source)?;
+    assert_eq!(rt; read.as_slice(), text.as_slice());
+    assert_eq!(rt; source.failures(), 1);
+    let mut sink = Counted::new(FailAt::new(0, Vec::new(rt.alloc())));
+    assert!(rt; sink.flush().is_err());
+    write_all(&mut sink, text)?;
+    assert_eq!(rt; sink.failures(), 1);
+    assert_eq!(rt; sink.into_inner().inner.as_slice(), text.as_slice());
     Ok(())
+}
+
+#[test]
+fn an_error_is_told_where_the_count_can_not_rise(rt: HostRuntime) {
+    for calls in 0..2 {
+        let mut source = Still::new(FailAt::new(calls, b"all of it\n".as_slice()));
+        let fault = read_all(rt.alloc(), &mut source).err();
+        assert_eq!(rt; fault, Some(ReadFault::Device), "after {calls}");
+        let mut sink = Still::new(FailAt::new(calls, Vec::new(rt.alloc())));
+        let written = write_all(&mut sink, b"8 bytes\n");
+        assert_eq!(rt; written, Err(WriteFault::Device), "after {calls}");
+    }
 }
 
 #[test]
@@ -162,18 +171,6 @@ fn a_failed_write_or_flush(rt: HostRuntime) {
         assert_eq!(rt; written, Err(WriteFault::Device), "after {calls}");
         assert_eq!(rt; sink.failures(), 1);
     }
-}
-
-#[test]
-fn writes_on_after_what_is_not_counted(rt: HostRuntime) -> Result<(), Fail> {
-    // One write, and then the flush.
-    for calls in 0..2 {
-        let mut sink = Still::new(FailAt::new(calls, Vec::new(rt.alloc())));
-        write_all(&mut sink, b"8 bytes\n")?;
-        let taken = sink.inner.inner.as_slice();
-        assert_eq!(rt; taken, b"8 bytes\n".as_slice(), "after {calls}");
-    }
-    Ok(())
 }
 
 #[test]

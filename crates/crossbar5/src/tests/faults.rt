@@ -1,68 +1,7 @@
 //! Reads and writes that fail, and traffic without end.
 
 use super::*;
-use std::io;
-use std::io::{ErrorKind, Read, Write};
-
-/// Passes some calls, and fails the one that follows.
-#[derive(Drop)]
-struct FailAt<T> {
-    inner: T,
-    calls: Option<u32>,
-}
-
-impl<T> FailAt<T> {
-    fn new(calls: u32, inner: T) -> Self {
-        FailAt {
-            inner,
-            calls: Some(calls),
-        }
-    }
-
-    fn pass(&mut self) -> io::Result<()> {
-        let Some(calls) = self.calls else {
-            return Ok(());
-        };
-        self.calls = calls.checked_sub(1);
-        match self.calls {
-            Some(_) => Ok(()),
-            None => Err(io::Error::new(ErrorKind::Other, "the device failed")),
-        }
-    }
-}
-
-impl<T: Read> Read for FailAt<T> {
-    fn read(&mut self, buf: &mut [u8]) -> io::Result<usize> {
-        self.pass()?;
-        self.inner.read(buf)
-    }
-}
-
-impl<T: Write> Write for FailAt<T> {
-    fn write(&mut self, buf: &[u8]) -> io::Result<usize> {
-        self.pass()?;
-        self.inner.write(buf)
-    }
-
-    fn flush(&mut self) -> io::Result<()> {
-        self.pass()?;
-        self.inner.flush()
-    }
-}
-
-/// Gives a byte at each read, without end.
-#[derive(Drop)]
-struct Endless;
-
-impl Read for Endless {
-    fn read(&mut self, buf: &mut [u8]) -> io::Result<usize> {
-        let Some(first) = buf.first_mut() else {
-            return Ok(0);
-        };
-        *first = b'x';
-        Ok(1)
-    }
-}
+use test_devices::{Call, Endless, FailAt, Recorder};
 
 #[test]
 fn a_failed_read_leaves_nothing_written(rt: HostRuntime) -> Result<(), Fail> {
@@ -88,6 +27,37 @@ fn a_failed_write_or_flush_is_told(rt: HostRuntime) -> Result<(), Fail> {
         assert_eq!(rt; ended, Err(EngineFault::Device), "after {calls}");
         assert_eq!(rt; sink.failures(), 1);
     }
+    Ok(())
+}
+
+#[test]
+fn output_goes_out_in_one_write_and_one_flush(rt: HostRuntime) -> Result<(), Fail> {
+    let plan = plan_with(rt.alloc(), "")?;
+    let mut source = Counted::new(Recorder::new(rt.alloc(), FIRST.as_bytes()));
+    let mut sink = Counted::new(Recorder::new(rt.alloc(), Vec::new(rt.alloc())));
+    let ended = run_replay(rt.alloc(), plan.as_bytes(), &TWO, &mut source, &mut sink);
+    assert_eq!(rt; ended, Ok(Status::Fine));
+    // The second read finds the end.
+    let reads = [Call::Read(512); 2];
+    assert_eq!(rt; source.get_ref().calls.as_slice(), reads.as_slice());
+    let writes = [Call::Write(FIRST_TEXT.len()), Call::Flush];
+    assert_eq!(rt; sink.get_ref().calls.as_slice(), writes.as_slice());
+    Ok(())
+}
+
+/// What failed at a device before a replay is no failure of the replay.
+#[test]
+fn an_earlier_failure_is_none_of_the_replay(rt: HostRuntime) -> Result<(), Fail> {
+    let plan = plan_with(rt.alloc(), "")?;
+    let mut source = Counted::new(FailAt::new(0, FIRST.as_bytes()));
+    assert!(rt; source.read_and_count(&mut [0; 2]).is_err());
+    let mut sink = Counted::new(FailAt::new(0, Vec::new(rt.alloc())));
+    assert!(rt; sink.flush_and_count().is_err());
+    let ended = run_replay(rt.alloc(), plan.as_bytes(), &TWO, &mut source, &mut sink);
+    assert_eq!(rt; ended, Ok(Status::Fine));
+    assert_eq!(rt; (source.failures(), sink.failures()), (1, 1));
+    let written = sink.into_inner().inner;
+    assert_eq!(rt; written.as_slice(), FIRST_TEXT.as_bytes());
     Ok(())
 }
 

@@ -15,14 +15,7 @@ fn faulty_links_are_met(rt: HostRuntime) -> Result<(), Fail> {
         ),
     ] {
         let plan = plan_with(rt.alloc(), faults)?;
-        check_replay(
-            &rt,
-            rt.alloc(),
-            &plan,
-            &TWO,
-            FIRST.as_bytes(),
-            (text, Status::Fine),
-        )?;
+        check_done(&rt, rt.alloc(), &plan, FIRST, text)?;
     }
     Ok(())
 }
@@ -43,14 +36,7 @@ fn the_next_idle_line_is_called(rt: HostRuntime) -> Result<(), Fail> {
     let text = "0,1,0,D,3052,-,DIALTONE,1,3052-0-417,-\n\
 1,2,0,D,3041,-,DIALTONE,1,3041-1-418,-\n\
 2,3,0,C,3041,2340002,CONNECTED,1,3041-1-600,3100-0-601\nPATHS,3\nCLOSED,12\n";
-    check_replay(
-        &rt,
-        rt.alloc(),
-        HUNTING,
-        &TWO,
-        traffic.as_bytes(),
-        (text, Status::Fine),
-    )
+    check_done(&rt, rt.alloc(), HUNTING, traffic, text)
 }
 
 #[test]

@@ -120,6 +120,20 @@ fn the_text_of_records(rt: HostRuntime) -> Result<(), Fail> {
     Ok(())
 }
 
+#[test]
+fn the_text_of_many_records(rt: HostRuntime) -> Result<(), Fail> {
+    let mut records = Vec::new(rt.alloc());
+    for turn in 0..100_001 {
+        records.push(record(turn, 7, plain(End::LineBusy)))?;
+    }
+    let text = report(rt.alloc(), &records, 0, 0)?;
+    // The turns have 488,896 digits, and each line has 29 bytes more.
+    assert_eq!(rt; text.len(), 3_388_942);
+    let last = b"\n100000,7,0,D,3041,-,LINEBUSY,-,-,-\nPATHS,0\nCLOSED,0\n";
+    assert!(rt; text.ends_with(last));
+    Ok(())
+}
+
 /// The end of a call by the path 3041-0-600.
 fn connected_end(called: Option<Path>, trial: u8) -> End {
     End::Connected {

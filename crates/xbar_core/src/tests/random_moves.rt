@@ -3,26 +3,7 @@
 use super::*;
 use rand::RngExt;
 use rand_pcg::Pcg32;
-
-const LINES: [&str; 7] = ["3041", "3052", "1000", "3100", "2000", "3020", "3011"];
-
-const DIGITS: [&str; 7] = [
-    "5551234", "2340001", "2340002", "2340003", "2340004", "9990000", "2349999",
-];
-
-fn choose<'a>(numbers: &mut Pcg32, texts: &[&'a str; 7]) -> &'a str {
-    texts[numbers.random_range(0..7usize)]
-}
-
-/// A job of any kind; completing jobs are the most frequent, since many of them end early.
-fn some_job(rt: &impl Abort, numbers: &mut Pcg32) -> Job {
-    let line = line(rt, choose(numbers, &LINES));
-    match numbers.random_range(0..4u32) {
-        0 => Job::Dial(line),
-        1 => Job::Release(line),
-        _ => Job::Complete(line, dialled(rt, choose(numbers, &DIGITS))),
-    }
-}
+use test_plans::{MANY_REGISTERS, some_job};
 
 fn some_kind(numbers: &mut Pcg32) -> Kind {
     match numbers.random_range(0..4u32) {
@@ -39,7 +20,8 @@ fn make_a_move(rt: &impl Abort, numbers: &mut Pcg32, office: &mut Exchange) {
         0 => {
             // A busy marker, or one of another kind, refuses it.
             let job_no = numbers.random_range(0..10_000u32);
-            let _assigned = office.assign(marker, job_no, some_job(rt, numbers));
+            let job = some_job(numbers.random(), numbers.random(), numbers.random());
+            let _assigned = office.assign(marker, job_no, job);
         }
         1 => {
             if numbers.random_range(0..8u32) == 0 {

@@ -4,6 +4,7 @@ ghost use Rattle.std.specs.Prelude.{◌≡◌, length};
 ghost use Rattle.xbar_equip.specs.Word.{word_count};
 
 use super::*;
+use test_plans::MANY_REGISTERS;
 
 /// Jobs one after another, each with its end and its steps where these are known.
 type Jobs<'a> = &'a [(&'a str, &'a str, Option<u32>)];

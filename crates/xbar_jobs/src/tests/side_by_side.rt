@@ -4,6 +4,7 @@ ghost use Rattle.std.specs.Prelude.{◌≡◌, length};
 ghost use Rattle.xbar_equip.specs.Word.{word_count};
 
 use super::*;
+use test_plans::{MANY_REGISTERS, some_job};
 use xbar_office::Office;
 
 /// Some numbers, each from the last.
@@ -13,34 +14,12 @@ struct Numbers {
 }
 
 impl Numbers {
-    /// A number below this one.
-    fn below(&mut self, limit: u64) -> u64 {
+    fn next(&mut self) -> u32 {
         self.last = self
             .last
             .wrapping_mul(6364136223846793005)
             .wrapping_add(1442695040888963407);
-        (self.last >> 33) % limit.max(1)
-    }
-}
-
-const LINES: [&str; 6] = ["3041", "3052", "1000", "3100", "2000", "3020"];
-
-const DIGITS: [&str; 7] = [
-    "5551234", "2340001", "2340002", "2340003", "2340004", "9990000", "2349999",
-];
-
-fn choose<'a>(numbers: &mut Numbers, texts: &[&'a str]) -> &'a str {
-    let chosen = numbers.below(texts.len() as u64) as usize;
-    texts.get(chosen).copied().unwrap_or("")
-}
-
-/// A job of any kind; completing jobs are the most frequent, since many of them end early.
-fn some_job(rt: &impl Abort, numbers: &mut Numbers) -> Job {
-    let line = line(rt, choose(numbers, &LINES));
-    match numbers.below(4) {
-        0 => Job::Dial(line),
-        1 => Job::Release(line),
-        _ => Job::Complete(line, dialled(rt, choose(numbers, &DIGITS))),
+        (self.last >> 33) as u32
     }
 }
 
@@ -84,13 +63,13 @@ fn go_side_by_side(rt: &impl Abort, alloc: Global, plan: &Plan, seed: u64) -> Re
     let mut office = Office::open(alloc, plan);
     let mut words = [0; WORD_COUNT];
     for _made in 0..60 {
-        let job = some_job(rt, &mut numbers);
+        let job = some_job(numbers.next(), numbers.next(), numbers.next());
         let mut program = begin(plan, job);
         steps(&mut program, plan, 0, &mut words, 128);
         let reply = office.whole(job)?;
         assert_eq!(rt;
             end_of(rt, alloc, &program)?,
-            told(alloc, &reply)?,
+            reply_text(alloc, &reply)?,
             "{job:?}"
         );
         check_shown(rt, alloc, plan, &office, &words)?;

@@ -10,13 +10,13 @@ use std::test::Fail;
 /// A job's kind, line and digits, and the text of its reply.
 type Line<'a> = (u8, &'a [u8], &'a [u8], &'a str);
 
-/// A plan, jobs in it, and the paths that stand after them.
+/// A plan, jobs in it, in parts that cases share, and the paths that stand after them.
 #[derive(Clone, Copy)]
 struct Case<'a> {
     registers: &'a [Places<'a>],
     second: &'a [&'a [u8]],
     faults: &'a [&'a [u8]],
-    jobs: &'a [Line<'a>],
+    jobs: &'a [&'a [Line<'a>]],
     paths: usize,
 }
 
@@ -46,7 +46,7 @@ const HUNTED: &[&[u8]] = &[b"3052", b"3100"];
 fn run(rt: &impl Abort, alloc: Global, case: &Case<'_>) -> Result<(), Fail> {
     let plan = plan(alloc, case.registers, case.second, case.faults)?;
     let mut office = Office::open(alloc, &plan);
-    for (kind, line, digits, wanted) in case.jobs {
+    for (kind, line, digits, wanted) in case.jobs.iter().copied().flatten() {
         let reply = office.whole(job(*kind, line, digits)?)?;
         assert_eq!(rt; text(alloc, &reply)?.as_str(), *wanted);
     }
@@ -62,7 +62,7 @@ fn run_all(rt: &impl Abort, alloc: Global, cases: &[Case<'_>]) -> Result<(), Fai
 }
 
 /// Ten lines of one line switch get all of its line links.
-const TEN_LINKS: [Line; 12] = [
+const TEN_LINES: &[Line] = &[
     (b'D', b"3000", b"", "DIALTONE,1,3000-0-410,-"),
     (b'D', b"3001", b"", "DIALTONE,1,3001-1-411,-"),
     (b'D', b"3002", b"", "DIALTONE,1,3002-2-412,-"),
@@ -73,39 +73,31 @@ const TEN_LINKS: [Line; 12] = [
     (b'D', b"3012", b"", "DIALTONE,1,3012-7-417,-"),
     (b'D', b"3013", b"", "DIALTONE,1,3013-8-418,-"),
     (b'D', b"3014", b"", "DIALTONE,1,3014-9-419,-"),
+];
+
+/// So the next line of the switch finds none, and a line of the ten is still joined to a trunk.
+const NO_LINK: &[Line] = &[
     (b'D', b"3020", b"", "NOPATH,-,-,-"),
     (b'C', b"3003", b"5551234", "CONNECTED,1,3003-3-800,-"),
 ];
 
-/// They get all junctors between two frames, so a line on another switch finds no channel to the
-/// next register there.
-const TEN_JUNCTORS: [Line; 11] = [
-    (b'D', b"3000", b"", "DIALTONE,1,3000-0-410,-"),
-    (b'D', b"3001", b"", "DIALTONE,1,3001-1-411,-"),
-    (b'D', b"3002", b"", "DIALTONE,1,3002-2-412,-"),
-    (b'D', b"3003", b"", "DIALTONE,1,3003-3-413,-"),
-    (b'D', b"3004", b"", "DIALTONE,1,3004-4-414,-"),
-    (b'D', b"3010", b"", "DIALTONE,1,3010-5-415,-"),
-    (b'D', b"3011", b"", "DIALTONE,1,3011-6-416,-"),
-    (b'D', b"3012", b"", "DIALTONE,1,3012-7-417,-"),
-    (b'D', b"3013", b"", "DIALTONE,1,3013-8-418,-"),
-    (b'D', b"3014", b"", "DIALTONE,1,3014-9-419,-"),
-    (b'D', b"3100", b"", "DIALTONE,2,3100-5-500,-"),
-];
+/// The ten have all junctors between two frames too, so a line on another switch finds no channel
+/// to the next register there.
+const NO_JUNCTOR: &[Line] = &[(b'D', b"3100", b"", "DIALTONE,2,3100-5-500,-")];
 
-const BUSY: [Line; 3] = [
+const BUSY: &[Line] = &[
     (b'D', b"3041", b"", "DIALTONE,1,3041-0-417,-"),
     (b'D', b"3041", b"", "LINEBUSY,-,-,-"),
     (b'D', b"1000", b"", "REGISTERSBUSY,-,-,-"),
 ];
 
-const FAULTY_ONCE: [Line; 1] = [(b'D', b"3041", b"", "DIALTONE,2,3041-5-418,-;1,JU340")];
+const FAULTY_ONCE: &[Line] = &[(b'D', b"3041", b"", "DIALTONE,2,3041-5-418,-;1,JU340")];
 
-const FAULTY_TWICE: [Line; 1] = [(b'D', b"3041", b"", "TROUBLE,-,-,-;1,JU340;2,JU345")];
+const FAULTY_TWICE: &[Line] = &[(b'D', b"3041", b"", "TROUBLE,-,-,-;1,JU340;2,JU345")];
 
-const FAULTY_SAME: [Line; 1] = [(b'D', b"3041", b"", "DIALTONE,2,3041-5-417,-;1,JU340")];
+const FAULTY_SAME: &[Line] = &[(b'D', b"3041", b"", "DIALTONE,2,3041-5-417,-;1,JU340")];
 
-const ROUTES: [Line; 8] = [
+const ROUTES: &[Line] = &[
     (b'D', b"3041", b"", "DIALTONE,1,3041-0-417,-"),
     (b'C', b"3041", b"5551234", "CONNECTED,1,3041-0-800,-"),
     (b'D', b"3052", b"", "DIALTONE,1,3052-1-417,-"),
@@ -117,7 +109,7 @@ const ROUTES: [Line; 8] = [
 ];
 
 /// The called line is the calling one, and then a line that has a register.
-const CALLED_BUSY: [Line; 5] = [
+const CALLED_BUSY: &[Line] = &[
     (b'D', b"3052", b"", "DIALTONE,1,3052-0-417,-"),
     (b'D', b"3041", b"", "DIALTONE,1,3041-1-418,-"),
     (b'C', b"3041", b"2340001", "CALLEDBUSY,-,-,-"),
@@ -125,7 +117,7 @@ const CALLED_BUSY: [Line; 5] = [
     (b'C', b"3041", b"2340002", "CALLEDBUSY,-,-,-"),
 ];
 
-const INSIDE: [Line; 4] = [
+const INSIDE: &[Line] = &[
     (b'D', b"3041", b"", "DIALTONE,1,3041-0-417,-"),
     (
         b'C',
@@ -142,7 +134,7 @@ const INSIDE: [Line; 4] = [
     ),
 ];
 
-const VACANT: [Line; 5] = [
+const VACANT: &[Line] = &[
     (b'D', b"3041", b"", "DIALTONE,1,3041-0-417,-"),
     (b'C', b"3041", b"9990000", "VACANTCODE,-,-,-"),
     (b'D', b"3041", b"", "DIALTONE,1,3041-0-417,-"),
@@ -150,7 +142,7 @@ const VACANT: [Line; 5] = [
     (b'C', b"3041", b"5551234", "NOREGISTER,-,-,-"),
 ];
 
-const HUNTING: [Line; 5] = [
+const HUNTING: &[Line] = &[
     (b'D', b"3052", b"", "DIALTONE,1,3052-0-417,-"),
     (b'D', b"3041", b"", "DIALTONE,1,3041-1-418,-"),
     (
@@ -164,7 +156,7 @@ const HUNTING: [Line; 5] = [
 ];
 
 /// A line that calls its own number gets another line of it.
-const OWN_NUMBER: [Line; 2] = [
+const OWN_NUMBER: &[Line] = &[
     (b'D', b"3052", b"", "DIALTONE,1,3052-0-417,-"),
     (
         b'C',
@@ -174,7 +166,7 @@ const OWN_NUMBER: [Line; 2] = [
     ),
 ];
 
-const RELEASED_INSIDE: [Line; 5] = [
+const RELEASED_INSIDE: &[Line] = &[
     (b'D', b"3041", b"", "DIALTONE,1,3041-0-417,-"),
     (
         b'C',
@@ -187,7 +179,7 @@ const RELEASED_INSIDE: [Line; 5] = [
     (b'R', b"3041", b"", "NOCALL,-,-,-"),
 ];
 
-const RELEASED_OUTSIDE: [Line; 3] = [
+const RELEASED_OUTSIDE: &[Line] = &[
     (b'D', b"3041", b"", "DIALTONE,1,3041-0-417,-"),
     (b'C', b"3041", b"5551234", "CONNECTED,1,3041-0-800,-"),
     (b'R', b"3041", b"", "RELEASED,-,3041-0-800,-"),
@@ -203,12 +195,12 @@ fn registers_are_found(rt: HostRuntime) -> Result<(), Fail> {
         paths,
     };
     let cases = [
-        plain(ONE, &[], &BUSY, 1),
-        plain(TWELVE, &[], &TEN_LINKS, 10),
-        plain(TWELVE, &[], &TEN_JUNCTORS, 11),
-        plain(THREE, &[b"JU340"], &FAULTY_ONCE, 1),
-        plain(THREE, &[b"JU340", b"JU345"], &FAULTY_TWICE, 0),
-        plain(ONE, &[b"JU340"], &FAULTY_SAME, 1),
+        plain(ONE, &[], &[BUSY], 1),
+        plain(TWELVE, &[], &[TEN_LINES, NO_LINK], 10),
+        plain(TWELVE, &[], &[TEN_LINES, NO_JUNCTOR], 11),
+        plain(THREE, &[b"JU340"], &[FAULTY_ONCE], 1),
+        plain(THREE, &[b"JU340", b"JU345"], &[FAULTY_TWICE], 0),
+        plain(ONE, &[b"JU340"], &[FAULTY_SAME], 1),
     ];
     run_all(&rt, rt.alloc(), &cases)
 }
@@ -223,12 +215,12 @@ fn calls_are_completed(rt: HostRuntime) -> Result<(), Fail> {
         paths,
     };
     let cases = [
-        plain(SECOND, &ROUTES, 3),
-        plain(SECOND, &CALLED_BUSY, 1),
-        plain(SECOND, &INSIDE, 4),
-        plain(SECOND, &VACANT, 0),
-        plain(HUNTED, &HUNTING, 3),
-        plain(HUNTED, &OWN_NUMBER, 2),
+        plain(SECOND, &[ROUTES], 3),
+        plain(SECOND, &[CALLED_BUSY], 1),
+        plain(SECOND, &[INSIDE], 4),
+        plain(SECOND, &[VACANT], 0),
+        plain(HUNTED, &[HUNTING], 3),
+        plain(HUNTED, &[OWN_NUMBER], 2),
     ];
     run_all(&rt, rt.alloc(), &cases)
 }
@@ -242,6 +234,6 @@ fn calls_are_released(rt: HostRuntime) -> Result<(), Fail> {
         jobs,
         paths,
     };
-    let cases = [plain(&RELEASED_INSIDE, 1), plain(&RELEASED_OUTSIDE, 0)];
+    let cases = [plain(&[RELEASED_INSIDE], 1), plain(&[RELEASED_OUTSIDE], 0)];
     run_all(&rt, rt.alloc(), &cases)
 }

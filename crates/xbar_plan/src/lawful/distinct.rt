@@ -35,7 +35,8 @@ pub fn are_numbers_distinct(alloc: Global, numbers: &[u16]) -> Result<bool, Allo
 }
 
 fn numbers_of(alloc: Global, stations: &[Station]) -> Result<Vec<u16>, AllocError>
-    ensures { IfOk result (λ numbers. numbers.items ≡ map (λ station. station.number) stations.now) }
+    ensures { IfOk result (λ numbers. numbers.items ≡
+        map (λ station. station.number) stations.now) }
 {
     stations
         .iter()

@@ -71,6 +71,7 @@ fn know_stations(stations: &[Station])
     ensures lines { IsTrue (list_all (λ station. list_all is_line station.lines) stations.now) }
 {
     for station in stations {
+        // Called for their clauses alone.
         let _number = station.number().number();
         xbar_equip::laws::lines_are_in_range(station.lines());
     }
@@ -84,11 +85,19 @@ fn are_in_range(
     routes: &[Route],
     faults: &[Link],
 ) -> Result<bool, AllocError>
-    ensures { IfOk result (λ holds. holds ≡ are_tables_in_range (record { groups = groups.now; stations = stations.now; routes = routes.now; faults = faults.now })) }
+    ensures { IfOk result (λ holds. holds ≡ are_tables_in_range
+        (record {
+          groups = groups.now;
+          stations = stations.now;
+          routes = routes.now;
+          faults = faults.now;
+        })) }
 {
     let places = places_of(alloc, groups)?;
+    // Called for its clauses alone.
     xbar_equip::laws::places_are_in_range(&places);
     know_stations(stations);
+    // Called for its clauses alone.
     xbar_equip::laws::links_are_in_range(faults);
     Ok(have_three_digits(routes))
 }
@@ -100,7 +109,13 @@ pub fn are_well_formed(
     routes: &[Route],
     faults: &[Link],
 ) -> Result<bool, AllocError>
-    ensures { IfOk result (λ holds. holds ≡ are_tables_well_formed (record { groups = groups.now; stations = stations.now; routes = routes.now; faults = faults.now })) }
+    ensures { IfOk result (λ holds. holds ≡ are_tables_well_formed
+        (record {
+          groups = groups.now;
+          stations = stations.now;
+          routes = routes.now;
+          faults = faults.now;
+        })) }
 {
     let in_range = are_in_range(alloc, groups, stations, routes, faults)?;
     Ok(are_well_formed_groups(groups) && in_range)

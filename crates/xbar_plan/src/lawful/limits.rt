@@ -58,7 +58,13 @@ pub fn are_within_limits(
     routes: &[Route],
     faults: &[Link],
 ) -> bool
-    ensures { result ≡ are_tables_within_limits (record { groups = groups.now; stations = stations.now; routes = routes.now; faults = faults.now }) }
+    ensures { result ≡ are_tables_within_limits
+        (record {
+          groups = groups.now;
+          stations = stations.now;
+          routes = routes.now;
+          faults = faults.now;
+        }) }
 {
     are_groups_within_limits(groups)
         && are_stations_within_limits(stations)

@@ -27,7 +27,13 @@ pub fn fault_in(
     routes: &[Route],
     faults: &[Link],
 ) -> Result<Option<PlanFault>, AllocError>
-    ensures { IfOk result (λ fault. fault ≡ fault_of_tables (record { groups = groups.now; stations = stations.now; routes = routes.now; faults = faults.now })) }
+    ensures { IfOk result (λ fault. fault ≡ fault_of_tables
+        (record {
+          groups = groups.now;
+          stations = stations.now;
+          routes = routes.now;
+          faults = faults.now;
+        })) }
 {
     let fault = if !forms::are_well_formed(alloc, groups, stations, routes, faults)? {
         PlanFault::Malformed

@@ -37,6 +37,7 @@ pub fn places_of(alloc: Global, groups: &[Group]) -> Result<Vec<Ten>, AllocError
 fn number_of(place: Ten) -> u16
     ensures { result ≡ place_number place }
 {
+    // Called for its clauses alone.
     xbar_equip::laws::place_is_in_range(place);
     100 * u16::from(place.frame()) + 10 * u16::from(place.switch()) + u16::from(place.appearance())
 }
@@ -51,6 +52,7 @@ pub fn are_places_distinct(alloc: Global, groups: &[Group]) -> Result<bool, Allo
     ensures { IfOk result (λ distinct. distinct ≡ are_places_apart groups.now) }
 {
     let places = places_of(alloc, groups)?;
+    // Called for its clauses alone.
     xbar_equip::laws::places_are_in_range(&places);
     let numbers = numbers_of(alloc, &places)?;
     are_numbers_distinct(alloc, &numbers)

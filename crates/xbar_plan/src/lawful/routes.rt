@@ -15,7 +15,8 @@ fn is_known(count: usize, route: &Route) -> bool
 }
 
 pub fn are_groups_known(count: usize, routes: &[Route]) -> bool
-    ensures { result ≡ list_all (λ route. list_all (λ group. nat_lt group count) route.groups) routes.now }
+    ensures { result ≡ list_all (λ route. list_all
+        (λ group. nat_lt group count) route.groups) routes.now }
 {
     routes.iter().all(|route| is_known(count, route))
 }

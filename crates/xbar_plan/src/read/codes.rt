@@ -29,7 +29,8 @@ impl Model for CodeEntry {
 
 #[tactic(auto, using(crate::proofs::ReadAll::read_whole))]
 fn read_names(alloc: Global, parts: &[&[u8]]) -> Result<Vec<String>, PlanFault>
-    ensures { IsReadAs (λ names. map string_bytes names.items) (read_all (λ part. name_of part.now) parts.now) result }
+    ensures { IsReadAs (λ names. map string_bytes names.items)
+        (read_all (λ part. name_of part.now) parts.now) result }
 {
     let mut names = Vec::with_capacity(alloc, parts.len())?;
     for part in parts {
@@ -40,7 +41,8 @@ fn read_names(alloc: Global, parts: &[&[u8]]) -> Result<Vec<String>, PlanFault>
 }
 
 fn read_coded(alloc: Global, code: &[u8], names: &[&[u8]]) -> Result<CodeEntry, PlanFault>
-    ensures { IsReadAs (λ entry. entry) (code_entry_of_parts (code.now ∷ map (λ part. part.now) names.now)) result }
+    ensures { IsReadAs (λ entry. entry) (code_entry_of_parts
+        (code.now ∷ map (λ part. part.now) names.now)) result }
 {
     let Some(code) = read_code(code) else {
         return Err(PlanFault::Malformed);
@@ -50,7 +52,8 @@ fn read_coded(alloc: Global, code: &[u8], names: &[&[u8]]) -> Result<CodeEntry, 
 }
 
 fn read_entry_parts(alloc: Global, parts: &[&[u8]]) -> Result<CodeEntry, PlanFault>
-    ensures { IsReadAs (λ entry. entry) (code_entry_of_parts (map (λ part. part.now) parts.now)) result }
+    ensures { IsReadAs (λ entry. entry) (code_entry_of_parts
+        (map (λ part. part.now) parts.now)) result }
 {
     match parts.split_first() {
         Some((code, names)) => read_coded(alloc, code, names),
@@ -67,7 +70,8 @@ fn read_entry(alloc: Global, text: &[u8]) -> Result<CodeEntry, PlanFault>
 
 #[tactic(auto, using(crate::proofs::ReadAll::read_whole))]
 pub fn read_entries(alloc: Global, texts: &[&[u8]]) -> Result<Vec<CodeEntry>, PlanFault>
-    ensures { IsReadAs (λ entries. entries.items) (read_all (λ text. code_entry_of text.now) texts.now) result }
+    ensures { IsReadAs (λ entries. entries.items)
+        (read_all (λ text. code_entry_of text.now) texts.now) result }
 {
     let mut entries = Vec::with_capacity(alloc, texts.len())?;
     for text in texts {
@@ -92,7 +96,8 @@ fn number_of(groups: &[Group], name: &str) -> u8
 }
 
 fn numbers_of(alloc: Global, groups: &[Group], names: &[String]) -> Result<Vec<u8>, AllocError>
-    ensures { IfOk result (λ numbers. numbers.items ≡ map (λ name. capped_number groups.now (string_bytes name)) names.now) }
+    ensures { IfOk result (λ numbers. numbers.items ≡
+        map (λ name. capped_number groups.now (string_bytes name)) names.now) }
 {
     let mut numbers = Vec::with_capacity(alloc, names.len())?;
     for name in names {

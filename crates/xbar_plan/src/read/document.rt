@@ -29,7 +29,8 @@ pub fn parse(alloc: Global, bytes: &[u8]) -> Result<Table, PlanFault>
 }
 
 fn value_at<'d>(document: &'d Table, key: &str) -> Option<&'d Value>
-    ensures { option_map (λ value. view value.now) result ≡ get_member key.now (table_view document.now) }
+    ensures { option_map (λ value. view value.now) result ≡
+        get_member key.now (table_view document.now) }
 {
     document.get(key)
 }
@@ -55,7 +56,12 @@ pub struct Values<'d> {
 }
 
 pub fn values_of(document: &Table) -> Option<Values<'_>>
-    ensures { option_map (λ values. record { groups = view values.groups.now; numbers = view values.numbers.now; codes = view values.codes.now; faults = view values.faults.now }) result ≡ values_of_document (table_view document.now) }
+    ensures { option_map (λ values. record {
+      groups = view values.groups.now;
+      numbers = view values.numbers.now;
+      codes = view values.codes.now;
+      faults = view values.faults.now;
+    }) result ≡ values_of_document (table_view document.now) }
 {
     let groups = value_at(document, "groups")?;
     let numbers = value_at(document, "numbers")?;
@@ -71,7 +77,8 @@ pub fn values_of(document: &Table) -> Option<Values<'_>>
 
 #[tactic(auto, using(crate::proofs::ReadAll::read_whole))]
 fn texts_of_array(alloc: Global, items: &[Value]) -> Result<Vec<&[u8]>, PlanFault>
-    ensures { IsStage PlanFault.NotTexts (λ texts. map (λ text. text.now) texts.items) (texts_of_items (items_view items.now)) result }
+    ensures { IsStage PlanFault.NotTexts (λ texts. map (λ text. text.now) texts.items)
+        (texts_of_items (items_view items.now)) result }
 {
     let mut texts = Vec::with_capacity(alloc, items.len())?;
     for item in items {
@@ -85,7 +92,8 @@ fn texts_of_array(alloc: Global, items: &[Value]) -> Result<Vec<&[u8]>, PlanFaul
 
 /// The texts of a value, if it is an array of texts.
 pub fn texts_of(alloc: Global, value: &Value) -> Result<Vec<&[u8]>, PlanFault>
-    ensures { IsStage PlanFault.NotTexts (λ texts. map (λ text. text.now) texts.items) (texts_of_value (view value.now)) result }
+    ensures { IsStage PlanFault.NotTexts (λ texts. map (λ text. text.now) texts.items)
+        (texts_of_value (view value.now)) result }
 {
     match value.as_array() {
         Some(items) => texts_of_array(alloc, items),

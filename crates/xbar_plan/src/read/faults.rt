@@ -9,7 +9,8 @@ use xbar_equip::Link;
 
 #[tactic(auto, using(crate::proofs::ReadAll::read_whole))]
 pub fn read_faults(alloc: Global, texts: &[&[u8]]) -> Result<Vec<Link>, PlanFault>
-    ensures { IsReadAs (λ links. links.items) (read_all (λ text. fault_of text.now) texts.now) result }
+    ensures { IsReadAs (λ links. links.items)
+        (read_all (λ text. fault_of text.now) texts.now) result }
 {
     let mut links = Vec::with_capacity(alloc, texts.len())?;
     for text in texts {

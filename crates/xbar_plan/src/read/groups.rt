@@ -46,7 +46,8 @@ fn read_member(kind: GroupKind, text: &[u8]) -> Option<Member>
 
 #[tactic(auto, using(crate::proofs::ReadAll::read_whole))]
 fn read_members(alloc: Global, kind: GroupKind, parts: &[&[u8]]) -> Result<Vec<Member>, PlanFault>
-    ensures { IsReadAs (λ members. members.items) (read_all (λ part. member_of_text kind part.now) parts.now) result }
+    ensures { IsReadAs (λ members. members.items)
+        (read_all (λ part. member_of_text kind part.now) parts.now) result }
 {
     let mut members = Vec::with_capacity(alloc, parts.len())?;
     for part in parts {
@@ -91,7 +92,8 @@ fn read_named(
     kind: &[u8],
     members: &[&[u8]],
 ) -> Result<Group, PlanFault>
-    ensures { IsReadAs (λ group. group) (group_of_parts (name.now ∷ kind.now ∷ map (λ part. part.now) members.now)) result }
+    ensures { IsReadAs (λ group. group) (group_of_parts
+        (name.now ∷ kind.now ∷ map (λ part. part.now) members.now)) result }
 {
     let name = read_name(alloc, name)?;
     let Some(kind) = read_kind(kind) else {
@@ -122,7 +124,8 @@ fn read_group(alloc: Global, text: &[u8]) -> Result<Group, PlanFault>
 
 #[tactic(auto, using(crate::proofs::ReadAll::read_whole))]
 pub fn read_groups(alloc: Global, texts: &[&[u8]]) -> Result<Vec<Group>, PlanFault>
-    ensures { IsReadAs (λ groups. groups.items) (read_all (λ text. group_of text.now) texts.now) result }
+    ensures { IsReadAs (λ groups. groups.items)
+        (read_all (λ text. group_of text.now) texts.now) result }
 {
     let mut groups = Vec::with_capacity(alloc, texts.len())?;
     for text in texts {

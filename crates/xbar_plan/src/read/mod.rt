@@ -50,7 +50,13 @@ fn read_version(alloc: Global, document: &Table, version: Version) -> Result<Pla
 }
 
 fn read_values(alloc: Global, version: Version, values: &Values<'_>) -> Result<Plan, PlanFault>
-    ensures { IsReading (plan_of_values version (record { groups = view values.now.groups.now; numbers = view values.now.numbers.now; codes = view values.now.codes.now; faults = view values.now.faults.now })) result }
+    ensures { IsReading (plan_of_values version
+        (record {
+          groups = view values.now.groups.now;
+          numbers = view values.now.numbers.now;
+          codes = view values.now.codes.now;
+          faults = view values.now.faults.now;
+        })) result }
 {
     let groups = document::texts_of(alloc, values.groups)?;
     let numbers = document::texts_of(alloc, values.numbers)?;
@@ -67,7 +73,13 @@ fn read_lists(
     codes: &[&[u8]],
     faults: &[&[u8]],
 ) -> Result<Plan, PlanFault>
-    ensures { IsReading (plan_of_lists version (record { groups = map (λ text. text.now) groups.now; numbers = map (λ text. text.now) numbers.now; codes = map (λ text. text.now) codes.now; faults = map (λ text. text.now) faults.now })) result }
+    ensures { IsReading (plan_of_lists version
+        (record {
+          groups = map (λ text. text.now) groups.now;
+          numbers = map (λ text. text.now) numbers.now;
+          codes = map (λ text. text.now) codes.now;
+          faults = map (λ text. text.now) faults.now;
+        })) result }
 {
     let groups = groups::read_groups(alloc, groups)?;
     let stations = numbers::read_stations(alloc, version, numbers)?;
@@ -83,7 +95,12 @@ fn plan_of_entries(
     codes: &[CodeEntry],
     faults: Vec<Link>,
 ) -> Result<Plan, PlanFault>
-    ensures { IsReading (plan_of_items (record { groups = groups.items; stations = stations.items; codes = codes.now; faults = faults.items })) result }
+    ensures { IsReading (plan_of_items (record {
+      groups = groups.items;
+      stations = stations.items;
+      codes = codes.now;
+      faults = faults.items;
+    })) result }
 {
     let routes = codes::routes_of(alloc, &groups, codes)?;
     Plan::try_new(alloc, groups, stations, routes, faults)

@@ -12,7 +12,8 @@ use xbar_equip::Len;
 
 #[tactic(auto, using(crate::proofs::ReadAll::read_whole))]
 fn read_lines(alloc: Global, parts: &[&[u8]]) -> Result<Vec<Len>, PlanFault>
-    ensures { IsReadAs (λ lines. lines.items) (read_all (λ part. line_of part.now) parts.now) result }
+    ensures { IsReadAs (λ lines. lines.items)
+        (read_all (λ part. line_of part.now) parts.now) result }
 {
     let mut lines = Vec::with_capacity(alloc, parts.len())?;
     for part in parts {
@@ -39,7 +40,8 @@ fn read_numbered(
     number: &[u8],
     lines: &[&[u8]],
 ) -> Result<Station, PlanFault>
-    ensures { IsReadAs (λ station. station) (station_of_parts version (number.now ∷ map (λ part. part.now) lines.now)) result }
+    ensures { IsReadAs (λ station. station) (station_of_parts version
+        (number.now ∷ map (λ part. part.now) lines.now)) result }
 {
     if !is_line_count(version, lines.len()) {
         return Err(PlanFault::Malformed);
@@ -56,7 +58,8 @@ fn read_station_parts(
     version: Version,
     parts: &[&[u8]],
 ) -> Result<Station, PlanFault>
-    ensures { IsReadAs (λ station. station) (station_of_parts version (map (λ part. part.now) parts.now)) result }
+    ensures { IsReadAs (λ station. station) (station_of_parts version
+        (map (λ part. part.now) parts.now)) result }
 {
     match parts {
         [number, lines @ ..] => read_numbered(alloc, version, number, lines),
@@ -77,7 +80,8 @@ pub fn read_stations(
     version: Version,
     texts: &[&[u8]],
 ) -> Result<Vec<Station>, PlanFault>
-    ensures { IsReadAs (λ stations. stations.items) (read_all (λ text. station_of version text.now) texts.now) result }
+    ensures { IsReadAs (λ stations. stations.items)
+        (read_all (λ text. station_of version text.now) texts.now) result }
 {
     let mut stations = Vec::with_capacity(alloc, texts.len())?;
     for text in texts {

@@ -23,7 +23,8 @@ pub fn split_parts<'t>(alloc: Global, text: &'t [u8]) -> Result<Vec<&'t [u8]>, A
 /// What stands before a text's first space, and what follows it.
 #[tactic(auto, using(crate::proofs::Parts::parts_none, crate::proofs::Parts::first_part))]
 fn split_first_part(text: &[u8]) -> Option<(&[u8], &[u8])>
-    ensures { MatchOption result (parts text.now ≡ text.now ∷ []) (λ split. IsFirstPart text.now split.0.now split.1.now) }
+    ensures { MatchOption result (parts text.now ≡ text.now ∷ [])
+        (λ split. IsFirstPart text.now split.0.now split.1.now) }
 {
     let end = first_space(text)?;
     Some((&text[..end], &text[end + 1..]))

@@ -2,13 +2,14 @@
 
 mod texts;
 
-ghost use Rattle.std.specs.Prelude.{◌≡◌, Ok, IfOk, OnOk, IsTrue, map};
+ghost use Rattle.std.specs.Prelude.{◌≡◌, Ok, IfOk, OnOk, IsTrue, Some, map};
 ghost use Rattle.xbar_equip.specs.Link.{link_text as text_of_link};
 ghost use Rattle.toml.specs.Data.{member, is_before};
 ghost use Rattle.toml.specs.View.{view, table_view};
-ghost use Rattle.xbar_plan.specs.Document.{plan_of};
+ghost use Rattle.xbar_plan.specs.Document.{plan_of, version_in};
 ghost use Rattle.xbar_plan.specs.Lawful.{IsLawful};
 ghost use Rattle.xbar_plan.specs.Written.{array_of, group_text as text_of_group, station_text as text_of_station, route_text as text_of_route, document_in_version_2};
+ghost use Rattle.xbar_plan.specs.declared.read.version.Version.TheVariants.{Two};
 
 use crate::group::Group;
 use crate::route::Route;
@@ -39,7 +40,8 @@ fn numbers_value(alloc: Global, stations: &[Station]) -> Result<Value, AllocErro
 }
 
 fn codes_value(alloc: Global, groups: &[Group], routes: &[Route]) -> Result<Value, AllocError>
-    ensures { IfOk result (λ value. view value ≡ array_of (map (text_of_route groups.now) routes.now)) }
+    ensures { IfOk result (λ value. view value ≡
+        array_of (map (text_of_route groups.now) routes.now)) }
 {
     let mut texts = Vec::with_capacity(alloc, routes.len())?;
     for route in routes {
@@ -61,7 +63,8 @@ fn faults_value(alloc: Global, faults: &[Link]) -> Result<Value, AllocError>
 /// Puts a value before all others of a document.
 fn put_first(alloc: Global, document: &mut Table, key: &str, value: Value) -> Result<(), AllocError>
     requires { IsTrue (is_before key.now (table_view document.old)) }
-    ensures { OnOk result (table_view document.new ≡ member key.now (view value) (table_view document.old)) }
+    ensures { OnOk result (table_view document.new ≡
+        member key.now (view value) (table_view document.old)) }
 {
     let key = String::from_str(alloc, key)?;
     document.insert(key, value)?;
@@ -76,7 +79,13 @@ fn document_of(
     routes: &[Route],
     faults: &[Link],
 ) -> Result<Table, AllocError>
-    ensures { IfOk result (λ document. table_view document ≡ document_in_version_2 (record { groups = groups.now; stations = stations.now; routes = routes.now; faults = faults.now })) }
+    ensures { IfOk result (λ document. table_view document ≡
+        document_in_version_2 (record {
+          groups = groups.now;
+          stations = stations.now;
+          routes = routes.now;
+          faults = faults.now;
+        })) }
 {
     let mut document = Table::new(alloc);
     put_first(alloc, &mut document, "version", Value::from(2_i64))?;
@@ -105,8 +114,20 @@ pub fn version_2(
     routes: &[Route],
     faults: &[Link],
 ) -> Result<Vec<u8>, AllocError>
-    requires { IsLawful (record { groups = groups.now; stations = stations.now; routes = routes.now; faults = faults.now }) }
-    ensures { IfOk result (λ text. plan_of text.items ≡ Ok (record { groups = groups.now; stations = stations.now; routes = routes.now; faults = faults.now })) }
+    requires { IsLawful (record {
+      groups = groups.now;
+      stations = stations.now;
+      routes = routes.now;
+      faults = faults.now;
+    }) }
+    ensures version { IfOk result (λ text. version_in text.items ≡ Some Two) }
+    ensures tables { IfOk result (λ text. plan_of text.items ≡
+        Ok (record {
+          groups = groups.now;
+          stations = stations.now;
+          routes = routes.now;
+          faults = faults.now;
+        })) }
 {
     let document = document_of(alloc, groups, stations, routes, faults)?;
     match toml::table_to_string_pretty(alloc, &document) {

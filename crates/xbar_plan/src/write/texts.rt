@@ -23,7 +23,8 @@ fn kind_name(kind: GroupKind) -> &'static str
 }
 
 fn add_member(text: &mut String, member: Member) -> Result<(), AllocError>
-    ensures { OnOk result (string_bytes text.new ≡ string_bytes text.old ++ 32 ∷ member_text member) }
+    ensures { OnOk result (string_bytes text.new ≡ string_bytes text.old ++
+        32 ∷ member_text member) }
 {
     let first = member.first;
     write!(text, " {first}")?;
@@ -34,7 +35,8 @@ fn add_member(text: &mut String, member: Member) -> Result<(), AllocError>
 }
 
 fn add_members(text: &mut String, members: &[Member]) -> Result<(), AllocError>
-    ensures { OnOk result (string_bytes text.new ≡ string_bytes text.old ++ flat_map (λ member. 32 ∷ member_text member) members.now) }
+    ensures { OnOk result (string_bytes text.new ≡ string_bytes text.old ++
+        flat_map (λ member. 32 ∷ member_text member) members.now) }
 {
     for member in members {
         add_member(text, *member)?;
@@ -55,7 +57,8 @@ pub fn group_text(alloc: Global, group: &Group) -> Result<String, AllocError>
 }
 
 fn add_lines(text: &mut String, lines: &[Len]) -> Result<(), AllocError>
-    ensures { OnOk result (string_bytes text.new ≡ string_bytes text.old ++ flat_map (λ line. 32 ∷ line_text line) lines.now) }
+    ensures { OnOk result (string_bytes text.new ≡ string_bytes text.old ++
+        flat_map (λ line. 32 ∷ line_text line) lines.now) }
 {
     for line in lines {
         write!(text, " {line}")?;
@@ -102,7 +105,8 @@ fn name_of(groups: &[Group], number: u8) -> &str
 }
 
 fn add_names(text: &mut String, groups: &[Group], numbers: &[u8]) -> Result<(), AllocError>
-    ensures { OnOk result (string_bytes text.new ≡ string_bytes text.old ++ flat_map (λ number. 32 ∷ name_at groups.now number) numbers.now) }
+    ensures { OnOk result (string_bytes text.new ≡ string_bytes text.old ++
+        flat_map (λ number. 32 ∷ name_at groups.now number) numbers.now) }
 {
     for number in numbers {
         let name = name_of(groups, *number);

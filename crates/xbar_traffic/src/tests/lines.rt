@@ -1,4 +1,4 @@
-//! The lines of faults that no row has by itself.
+//! The codes of faults, and the lines of those that no row has by itself.
 
 use super::*;
 
@@ -17,6 +17,28 @@ fn marker_faults_are_told(rt: HostRuntime) -> Result<(), Fail> {
         let fault = RowFault::Marker(why);
         let text = TrafficFault { row, fault }.text(rt.alloc())?;
         assert_eq!(rt; text.as_str(), wanted);
+    }
+    Ok(())
+}
+
+#[test]
+fn faults_print_their_codes(rt: HostRuntime) -> Result<(), Fail> {
+    for (fault, wanted) in [
+        (RowFault::Unreadable, "T1"),
+        (RowFault::UnknownKind, "T2"),
+        (RowFault::Malformed, "T3"),
+        (RowFault::NumberTwice, "T4"),
+        (RowFault::Marker(MarkerFault::NoMarker), "T5"),
+        (RowFault::OtherMode, "T6"),
+    ] {
+        assert_eq!(rt; fault.to_string(rt.alloc())?.as_str(), wanted);
+    }
+    for (fault, wanted) in [
+        (MarkerFault::NoMarker, "C1"),
+        (MarkerFault::NotIdle, "C2"),
+        (MarkerFault::WrongKind, "C3"),
+    ] {
+        assert_eq!(rt; fault.to_string(rt.alloc())?.as_str(), wanted);
     }
     Ok(())
 }

@@ -139,3 +139,32 @@ fn cut_traffic_is_told(rt: HostRuntime) -> Result<(), Fail> {
     }
     Ok(())
 }
+
+/// Every job number there is, and some rows of steps behind them.
+#[test]
+fn many_rows_are_read(rt: HostRuntime) -> Result<(), Fail> {
+    let mut text = String::new(rt.alloc());
+    for job_no in 0..10_000 {
+        write!(text, "J,0,{job_no},D,3041\n")?;
+    }
+    for _row in 0..500 {
+        text.push_str("S,0,9999,,\n")?;
+    }
+    check_told(
+        &rt,
+        rt.alloc(),
+        Mode::Replay,
+        text.as_bytes(),
+        10_500,
+        "none",
+    )?;
+    text.push_str("J,0,0,D,3041\n")?;
+    check_told(
+        &rt,
+        rt.alloc(),
+        Mode::Replay,
+        text.as_bytes(),
+        10_500,
+        "FAULT,T4,10501\n",
+    )
+}

@@ -1,5 +1,4 @@
 use Rattle.std.proofs.Common.{ℕ, ◌<◌, ◌^◌, ◌∙◌, length, sym, ap, subst}
-use Rattle.xbar_plan.specs.Lawful.{IsLawful}
 use Rattle.xbar_core.specs.Exchange.{OfPlan}
 use Rattle.crossbar5.specs.Run.{IsOneHistory}
 use Rattle.crossbar5.proofs.SettledHistory.{settled_history}
@@ -14,4 +13,4 @@ returns-clause-history c =
     subst (λ (o : OfPlan). IsOneHistory o.plan o.exchange) c.settle.ensures.settled
     (settled_history now.plan now.exchange (ap length (sym c.words.ensures.words) ∙ c.words.ensures.count) few c.settle.ensures.idle
     (laws.legal now.plan now.exchange lawful) (laws.counted now.plan now.exchange lawful)
-    (laws.idle now.plan now.exchange (subst IsLawful c.plan.ensures c.every_plan_is_lawful.ensures) lawful c.settle.ensures.idle))
+    (laws.idle now.plan now.exchange lawful c.settle.ensures.idle))

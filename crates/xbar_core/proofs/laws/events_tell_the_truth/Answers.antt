@@ -1,4 +1,5 @@
 use Rattle.xbar_core.proofs.AskedConnectors.{preference_true, refusal_true}
+use Rattle.xbar_core.proofs.LeastRequests.{preferred_least}
 use Rattle.xbar_core.proofs.laws.events_tell_the_truth.Goals as goal
 
 pub returns-clause-refused : goal.returns-clause-refused
@@ -6,3 +7,6 @@ returns-clause-refused c = refusal_true
 
 pub returns-clause-preferred : goal.returns-clause-preferred
 returns-clause-preferred c = preference_true
+
+pub returns-clause-least : goal.returns-clause-least
+returns-clause-least c = preferred_least

@@ -1,4 +1,5 @@
 use Rattle.xbar_core.proofs.GivenBack.{frees_all, job_stays, others_stay, records_stay, words_stay}
+use Rattle.xbar_core.proofs.BegunJobs.{given_back_begins}
 use Rattle.xbar_core.proofs.laws.giving_back_frees_all.Goals as goal
 
 pub returns-clause-free : goal.returns-clause-free
@@ -15,3 +16,6 @@ returns-clause-others c = λ plan e k j other. others_stay plan e k j other
 
 pub returns-clause-words : goal.returns-clause-words
 returns-clause-words c = λ plan e k n below. words_stay plan e k n below
+
+pub returns-clause-begins : goal.returns-clause-begins
+returns-clause-begins c = given_back_begins

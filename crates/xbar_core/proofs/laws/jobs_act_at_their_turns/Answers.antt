@@ -1,5 +1,5 @@
 use Rattle.std.proofs.Common.{[]}
-use Rattle.xbar_core.proofs.Holders.{words_show}
+use Rattle.xbar_core.proofs.HeldWords.{free_shows}
 use Rattle.xbar_core.proofs.IdleMarkers.{idle_show}
 use Rattle.xbar_core.proofs.MadeEffects.{made_show}
 use Rattle.xbar_core.proofs.Records.{completed_shows, counts, jobs_legal, records_legal, replies_legal}
@@ -24,7 +24,7 @@ pub returns-clause-made : goal.returns-clause-made
 returns-clause-made c = λ plan e lawful none. made_show plan e lawful none
 
 pub returns-clause-free : goal.returns-clause-free
-returns-clause-free c = words_show
+returns-clause-free c = λ plan e lawful free. free_shows plan e lawful free
 
 pub returns-clause-idle : goal.returns-clause-idle
-returns-clause-idle c = λ plan e laws lawful idle. idle_show plan e lawful idle
+returns-clause-idle c = λ plan e lawful idle. idle_show plan e lawful idle

@@ -9,7 +9,7 @@ loop-channel-init c = record { size = refl; so_far = sym (then_none _) }
 
 pub loop-channel-preserved : goal.loop-channel-preserved
 loop-channel-preserved c =
-    let read = ap (λ (number : ℕ). walk c.args.seen.now (TestThen number Ends)) (sym c.line_junctor.ensures) ∙ sym c.test.ensures ∙ c.in_ok-words.was in
+    let read = ap (λ (number : ℕ). walk c.args.seen.now (TestThen number Ends)) (sym c.line_junctor.ensures) ∙ sym c.value_of.ensures ∙ c.in_ok-words.was in
     one_more_read c.args.seen.now c.args.frame c.loop-channel.channel c.loop-channel.words c.from.result c.in_ok-words.field-0 (omega arith) c.loop-channel.invariant (omega arith) read
 
 pub returns : goal.returns

@@ -7,10 +7,10 @@ use Rattle.xbar_jobs.specs.Trunks.{Trunks, first_clear, is_bit_clear, trunks_of}
 use Rattle.xbar_jobs.proofs.TriedGroups.{busy_passed, idle_taken, none_tried, seizing_stops, testing_stops}
 use Rattle.xbar_jobs.proofs.trunks.find_trunk.Goals as goal
 
-pub returns-in_err-seize-clause-walk : goal.returns-in_err-seize-clause-walk
-returns-in_err-seize-clause-walk c =
-    let wanted : c.from_residual.result ≡ Err c.in_err-seize.field-0.0 = search rules in
-    wanted ∙ sym (seizing_stops c.args.plan.now c.args.seen.now c.args.groups.now c.loop-group.group-index c.loop-group-test.true _ (sym c.seize.ensures ∙ c.in_err-seize.was)) ∙ c.loop-group.invariant
+pub returns-in_err-require_held-clause-walk : goal.returns-in_err-require_held-clause-walk
+returns-in_err-require_held-clause-walk c =
+    let wanted : c.from_residual.result ≡ Err c.in_err-require_held.field-0.0 = search rules in
+    wanted ∙ sym (seizing_stops c.args.plan.now c.args.seen.now c.args.groups.now c.loop-group.group-index c.loop-group-test.true _ (sym c.require_held.ensures ∙ c.in_err-require_held.was)) ∙ c.loop-group.invariant
 
 pub group_word-requires : goal.group_word-requires
 group_word-requires c =
@@ -20,8 +20,8 @@ group_word-requires c =
 pub returns-in_err-word-clause-walk : goal.returns-in_err-word-clause-walk
 returns-in_err-word-clause-walk c =
     let wanted : c.from_residual-in_err-word.result ≡ Err c.in_err-word.field-0.0 = search rules in
-    let read = ap (λ (number : ℕ). walk c.args.seen.now (TestThen number Ends)) (sym c.group_word.ensures) ∙ sym c.test.ensures ∙ c.in_err-word.was in
-    wanted ∙ sym (testing_stops c.args.plan.now c.args.seen.now c.args.groups.now c.loop-group.group-index c.loop-group-test.true _ (sym c.seize.ensures ∙ c.in_ok-seize.was) _ read) ∙ c.loop-group.invariant
+    let read = ap (λ (number : ℕ). walk c.args.seen.now (TestThen number Ends)) (sym c.group_word.ensures) ∙ sym c.value_of.ensures ∙ c.in_err-word.was in
+    wanted ∙ sym (testing_stops c.args.plan.now c.args.seen.now c.args.groups.now c.loop-group.group-index c.loop-group-test.true _ (sym c.require_held.ensures ∙ c.in_ok-require_held.was) _ read) ∙ c.loop-group.invariant
 
 pub trunks_of-trunks-requires : goal.trunks_of-trunks-requires
 trunks_of-trunks-requires c = c.requires c.loop-group.group-index _ (slice_get-get_or c.args.groups.now c.loop-group.group-index 0 c.loop-group-test.true)
@@ -30,8 +30,8 @@ pub returns-in-Some-clause-walk : goal.returns-in-Some-clause-walk
 returns-in-Some-clause-walk c =
     let first : c.first_clear.result ≡ first_clear (trunks_of c.args.plan.now (slice_index c.args.groups.now c.loop-group.group-index) c.in_ok-word.word) =
     c.first_clear.ensures.first ∙ ap (λ (trunks : Trunks). first_below (is_bit_clear c.in_ok-word.word) (length trunks.members)) (c.trunks.view_is ∙ c.trunks_of-trunks.ensures.trunks) in
-    let read = ap (λ (number : ℕ). walk c.args.seen.now (TestThen number Ends)) (sym c.group_word.ensures) ∙ sym c.test.ensures ∙ c.in_ok-word.was in
-    sym (idle_taken c.args.plan.now c.args.seen.now c.args.groups.now c.loop-group.group-index c.loop-group-test.true _ (sym c.seize.ensures ∙ c.in_ok-seize.was) _ read _ first _ c.in-Some.is) ∙ c.loop-group.invariant
+    let read = ap (λ (number : ℕ). walk c.args.seen.now (TestThen number Ends)) (sym c.group_word.ensures) ∙ sym c.value_of.ensures ∙ c.in_ok-word.was in
+    sym (idle_taken c.args.plan.now c.args.seen.now c.args.groups.now c.loop-group.group-index c.loop-group-test.true _ (sym c.require_held.ensures ∙ c.in_ok-require_held.was) _ read _ first _ c.in-Some.is) ∙ c.loop-group.invariant
 
 pub returns-in-Some-clause-range : goal.returns-in-Some-clause-range
 returns-in-Some-clause-range c = record {
@@ -44,8 +44,8 @@ loop-group-preserved c =
     let first : c.first_clear.result ≡ first_clear (trunks_of c.args.plan.now (slice_index c.args.groups.now c.loop-group.group-index) c.in_ok-word.word) =
     c.first_clear.ensures.first ∙ ap (λ (trunks : Trunks). first_below (is_bit_clear c.in_ok-word.word) (length trunks.members)) (c.trunks.view_is ∙ c.trunks_of-trunks.ensures.trunks) in
     let none : c.first_clear.result ≡ None = search rules in
-    let read = ap (λ (number : ℕ). walk c.args.seen.now (TestThen number Ends)) (sym c.group_word.ensures) ∙ sym c.test.ensures ∙ c.in_ok-word.was in
-    sym (busy_passed c.args.plan.now c.args.seen.now c.args.groups.now c.loop-group.group-index c.loop-group-test.true _ (sym c.seize.ensures ∙ c.in_ok-seize.was) _ read _ first none) ∙ c.loop-group.invariant
+    let read = ap (λ (number : ℕ). walk c.args.seen.now (TestThen number Ends)) (sym c.group_word.ensures) ∙ sym c.value_of.ensures ∙ c.in_ok-word.was in
+    sym (busy_passed c.args.plan.now c.args.seen.now c.args.groups.now c.loop-group.group-index c.loop-group-test.true _ (sym c.require_held.ensures ∙ c.in_ok-require_held.was) _ read _ first none) ∙ c.loop-group.invariant
 
 pub returns-clause-walk : goal.returns-clause-walk
 returns-clause-walk c = sym (none_tried c.args.plan.now c.args.seen.now c.args.groups.now c.loop-group.group-index c.loop-group-test.false) ∙ c.loop-group.invariant

@@ -6,7 +6,7 @@ use Rattle.toml.specs.Parse.{parse_document}
 use Rattle.toml.specs.View.{table_view}
 use Rattle.xbar_plan.specs.Tables.{Tables}
 use Rattle.xbar_plan.specs.Written.{document_in_version_2}
-use Rattle.xbar_plan.proofs.WrittenPlan.{bytes-back}
+use Rattle.xbar_plan.proofs.WrittenPlan.{bytes-back, version-back}
 use Rattle.xbar_plan.proofs.WrittenText.{bytes_are_text, document_is_shallow}
 use Rattle.xbar_plan.proofs.write.version_2.Goals as goal
 
@@ -18,4 +18,7 @@ returns-in-Ok c =
     let parsed : parse_document c.into_bytes.result.items ≡ Some (document_in_version_2 plan) =
     ap parse_document bytes ∙ c.in-Ok.ensures.reads_back shallow ∙ ap (λ (ms : Members). Some ms) c.in_ok-document.ensures in
     let text : IsUtf8 c.into_bytes.result.items = rw bytes (bytes_are_text c.in-Ok.text) in
-    bytes-back c.into_bytes.result.items plan c.requires text parsed
+    record {
+      version = version-back c.into_bytes.result.items plan text parsed;
+      tables = bytes-back c.into_bytes.result.items plan c.requires text parsed;
+    }

@@ -3,8 +3,9 @@ use Rattle.turns.specs.Attempt.{begin_with}
 use Rattle.turns.specs.World.{Does}
 use Rattle.xbar_jobs.specs.Jobs.{first_conn}
 use Rattle.xbar_core.specs.Exchange.{Exchange, OfPlan}
-use Rattle.xbar_core.specs.Moves.{assigned, assigned_at, refusal}
+use Rattle.xbar_core.specs.Moves.{assigned, refusal}
 use Rattle.xbar_core.specs.Standing.{HasRoom, IsExchange}
+use Rattle.xbar_core.proofs.Jobs.{assigned_is}
 use Rattle.xbar_core.proofs.Kept.{kept_assigned, room_assigned, within_if_taken}
 use Rattle.xbar_core.proofs.Stepping.{marker_read}
 use Rattle.xbar_core.proofs.exchange.Exchange.assign.Goals as goal
@@ -32,6 +33,6 @@ returns-clause-ok c =
     let there = marker_read e.markers k c.index_mut.result.now (within_if_taken e k c.args.job free) c.index_mut.ensures.value in (
       sym c.in_default.ensures,
       (λ i. record { plan = plan; exchange = record { words = e.words; markers = slice_set e.markers k (c.begin.ensures i); records = c.reserve.ensures.items i } })
-          ∙ ap (λ found. record { plan = plan; exchange = assigned_at k c.args.job_no c.args.job found e }) (sym there)
+          ∙ ap (λ (x : Exchange). record { plan = plan; exchange = x }) (sym (assigned_is e k c.index_mut.result.now there c.args.job_no c.args.job))
           ∙ ap (λ (o : OfPlan). record { plan = o.plan; exchange = assigned k c.args.job_no c.args.job o.exchange }) c.self.view_is,
     )

@@ -1,25 +1,28 @@
-use Rattle.std.proofs.Common.{◌≡◌, sym, ◌∙◌, ap}
-use Rattle.std.specs.Prelude.{slice_get}
-use Rattle.xbar_core.specs.AtWork.{left_at}
+use Rattle.std.proofs.Common.{◌≡◌, ℕ, sym, ◌∙◌, ap}
 use Rattle.xbar_core.specs.Exchange.{Exchange, OfPlan}
-use Rattle.xbar_core.specs.Moves.{given_at, given_by, steps}
-use Rattle.xbar_core.specs.declared.given.Given.TheVariants.{Given}
-use Rattle.xbar_core.proofs.Backing.{back_goes, back_rests}
+use Rattle.xbar_core.specs.Moves.{begun_anew, frees_left, given_at, steps}
+use Rattle.xbar_core.proofs.Backing.{anew, back_goes, back_rests}
+use Rattle.xbar_core.proofs.Jobs.{given_is}
 use Rattle.xbar_core.proofs.exchange.Exchange.give_back.Goals as goal
 
 pub returns-in-Given-clause-back : goal.returns-in-Given-clause-back
 returns-in-Given-clause-back c =
     let plan = c.args.self.now.plan in
     let e = c.args.self.now.exchange in
-    let gives = sym c.in-Given.ensures in
+    let k = c.args.marker in
+    let gives = given_is e k c.marker.result.now c.marker.ensures ∙ sym c.in-Given.ensures in
     c.give_up.ensures
-    ∙ ap (λ (o : OfPlan). record { plan = o.plan; exchange = steps o.plan c.args.marker (left_at (slice_get o.exchange.markers c.args.marker)) o.exchange }) c.restart.ensures
-    ∙ ap (λ (x : Exchange). record { plan = plan; exchange = x }) (sym (back_goes plan e c.args.marker c.marker.result.now c.marker.ensures gives))
+    ∙ ap (λ (o : OfPlan). record { plan = o.plan; exchange = steps o.plan k (frees_left o.exchange k) o.exchange }) c.restart.ensures
+    ∙ ap (λ (count : ℕ). record { plan = plan; exchange = steps plan k count (begun_anew plan k e) }) (anew plan e k gives).1
+    ∙ ap (λ (x : Exchange). record { plan = plan; exchange = x }) (sym (back_goes plan e k gives))
 
 pub returns-in_default : goal.returns-in_default
 returns-in_default c =
-    let not : ¬ (given_by c.marker.result.now.work ≡ Given) = λ gives. c.in_default.not-Given (c.given-given.ensures ∙ gives) in
+    let plan = c.args.self.now.plan in
+    let e = c.args.self.now.exchange in
+    let k = c.args.marker in
+    let is : c.given-given.result ≡ given_at e k = c.given-given.ensures ∙ sym (given_is e k c.marker.result.now c.marker.ensures) in
     record {
-      back = ap (λ (x : Exchange). record { plan = c.args.self.now.plan; exchange = x }) (sym (back_rests c.args.self.now.plan c.args.self.now.exchange c.args.marker c.marker.result.now c.marker.ensures not));
-      given = c.given-given.ensures ∙ ap given_at (sym c.marker.ensures);
+      back = ap (λ (x : Exchange). record { plan = plan; exchange = x }) (sym (back_rests plan e k (λ gives. c.in_default.not-Given (is ∙ gives))));
+      given = is;
     }

@@ -1,5 +1,4 @@
-use Rattle.std.specs.Prelude.{slice_get}
-use Rattle.xbar_core.specs.AtWork.{left_at}
+use Rattle.xbar_core.specs.Moves.{frees_left}
 use Rattle.xbar_core.proofs.Backing.{IsGivingUp}
 use Rattle.xbar_core.proofs.exchange.Exchange.give_up.Given as goal
 
@@ -7,4 +6,4 @@ abbrev pub invariant-loop-self : goal.invariant-loop-self
 invariant-loop-self l = IsGivingUp l.initial.self l.self l.marker
 
 abbrev pub decreases-loop-self : goal.decreases-loop-self
-decreases-loop-self l = left_at (slice_get l.self.exchange.markers l.marker)
+decreases-loop-self l = frees_left l.self.exchange l.marker

@@ -2,7 +2,7 @@ use Rattle.std.proofs.Common.{◌<◌, length, slice_set, sym, ◌∙◌, ap, su
 use Rattle.xbar_core.specs.Exchange.{Exchange, OfPlan}
 use Rattle.xbar_core.specs.Moves.{begun_anew}
 use Rattle.xbar_core.specs.Standing.{HasRoom, IsExchange}
-use Rattle.xbar_core.proofs.Backing.{begun_is}
+use Rattle.xbar_core.proofs.Jobs.{begun_is}
 use Rattle.xbar_core.proofs.Kept.{kept_anew, room_anew}
 use Rattle.xbar_core.proofs.Stepping.{marker_read}
 use Rattle.xbar_core.proofs.exchange.Exchange.restart.Goals as goal
@@ -27,5 +27,5 @@ returns c =
     let m = c.index_mut.result.now in
     let there = marker_read e.markers k m within c.index_mut.ensures.value in
     ap (λ after. record { plan = plan; exchange = record e { markers = slice_set e.markers k after } }) (c.restart.ensures plan)
-    ∙ ap (λ x. record { plan = plan; exchange = x }) (sym (begun_is plan e k m there))
+    ∙ ap (λ x. record { plan = plan; exchange = x }) (sym (begun_is e k m there plan))
     ∙ ap (λ (o : OfPlan). record { plan = o.plan; exchange = begun_anew o.plan k o.exchange }) c.self.view_is

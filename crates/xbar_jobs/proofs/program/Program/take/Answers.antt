@@ -11,7 +11,8 @@ pub returns-clause-plan : goal.returns-clause-plan
 returns-clause-plan c =
     let same = ap (λ (a : Counted). a.attempt) (sym c.self.view_is) in
     let stands = subst (λ (a : Attempt). Stands c.args.plan.now a) same c.requires.plan in
-    subst (λ (a : Attempt). Stands c.args.plan.now a) (sym c.take.ensures) (stands_after c.args.plan.now c.self.inside.attempt c.args.answer c.every_plan_is_lawful.ensures c.job-job.ensures.range stands)
+    let fits = subst (λ (a : Attempt). IsAnswerTo (act a) c.args.answer) same c.requires.answer in
+    subst (λ (a : Attempt). Stands c.args.plan.now a) (sym c.take.ensures) (stands_after c.args.plan.now c.self.inside.attempt c.args.answer c.every_plan_is_lawful.ensures c.job-job.ensures.range fits stands)
 
 pub returns-clause-turn : goal.returns-clause-turn
 returns-clause-turn c =

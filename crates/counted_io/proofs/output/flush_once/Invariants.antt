@@ -1,6 +1,0 @@
--- A flush that failed appended nothing.
-use Rattle.std.specs.Io.KnownBytes.{Keeps}
-use Rattle.counted_io.proofs.output.flush_once.Given as goal
-
-abbrev pub invariant-loop : goal.invariant-loop
-invariant-loop g l = Keeps (g.W.Write.contents l.initial.sink) (g.W.Write.contents l.sink)

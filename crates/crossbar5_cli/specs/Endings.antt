@@ -1,0 +1,39 @@
+use Rattle.std.specs.Prelude.{ℕ, List, Option, Some, None, Result, Ok, Err, codes}
+use Rattle.crossbar5.specs.declared.status.Status.{Status}
+use Rattle.crossbar5.specs.declared.status.Status.TheVariants.{Fine, PlanRefused, TrafficRefused}
+use Rattle.crossbar5.specs.declared.engine_fault.EngineFault.{EngineFault}
+use Rattle.crossbar5.specs.declared.engine_fault.EngineFault.TheVariants.{Markers, Memory, Device, Long}
+use Rattle.crossbar5_cli.specs.declared.ending.Ending.{Ending}
+use Rattle.crossbar5_cli.specs.declared.ending.Ending.TheVariants.{Answered, Told, Refused, NotText, Failed}
+use Rattle.crossbar5_cli.specs.declared.stream.Stream.{Stream}
+use Rattle.crossbar5_cli.specs.declared.stream.Stream.TheVariants.{Errors}
+
+-- how a run ends whose replay was answered so
+abbrev pub ending_of : Result Status EngineFault → Ending
+ending_of (Ok status) = Answered status
+ending_of (Err fault) = Failed fault
+
+-- the exit status of each ending
+abbrev pub exit_of : Ending → ℕ
+exit_of (Answered Fine) = 0
+exit_of (Answered PlanRefused) = 3
+exit_of (Answered TrafficRefused) = 4
+exit_of Told = 0
+exit_of Refused = 2
+exit_of NotText = 2
+exit_of (Failed Markers) = 2
+exit_of (Failed Long) = 4
+exit_of (Failed Memory) = 5
+exit_of (Failed Device) = 6
+
+-- the line that the program itself writes, and where. With the other endings the engine's text is
+-- written by then, or clap's
+abbrev pub line_of : Ending → Option (Stream × List ℕ)
+line_of (Answered _) = None
+line_of Told = None
+line_of Refused = None
+line_of NotText = Some (Errors, codes "error: a word of the command line is not UTF-8 text")
+line_of (Failed Markers) = Some (Errors, codes "FAULT,MARKERS")
+line_of (Failed Long) = Some (Errors, codes "FAULT,LONG")
+line_of (Failed Memory) = Some (Errors, codes "FAULT,MEMORY")
+line_of (Failed Device) = Some (Errors, codes "FAULT,DEVICE")

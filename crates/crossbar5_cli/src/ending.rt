@@ -1,0 +1,81 @@
+ghost use Rattle.std.specs.Prelude.{◌≡◌, option_map};
+ghost use Rattle.crossbar5_cli.specs.Endings.{ending_of as ending_of_answer, exit_of, line_of};
+ghost use Rattle.crossbar5.specs.declared.engine_fault.EngineFault.TheVariants.{Memory};
+ghost use Rattle.crossbar5_cli.specs.declared.ending.Ending.TheVariants.{Failed};
+
+use crate::stream::Stream;
+use crossbar5::{EngineFault, Status};
+use std::alloc::AllocError;
+
+/// How a run of the program ends.
+#[derive(Clone, Copy, Debug, PartialEq, Eq)]
+pub enum Ending {
+    /// The engine's text is written whole.
+    Answered(Status),
+    /// Help or the version is written.
+    Told,
+    /// The words of the command line are refused.
+    Refused,
+    /// A word of the command line is not UTF-8 text.
+    NotText,
+    /// Something is wrong with the markers, a device, memory or the length of what was read.
+    Failed(EngineFault),
+}
+
+/// How a run ends whose replay was answered so.
+pub fn ending_of(answer: Result<Status, EngineFault>) -> Ending
+    ensures { result ≡ ending_of_answer answer }
+{
+    match answer {
+        Ok(status) => Ending::Answered(status),
+        Err(fault) => Ending::Failed(fault),
+    }
+}
+
+impl From<AllocError> for Ending {
+    ghost from_gives = { λ _ ending. ending ≡ Failed Memory };
+
+    fn from(_error: AllocError) -> Self {
+        Ending::Failed(EngineFault::Memory)
+    }
+}
+
+impl Ending {
+    /// The exit status.
+    pub fn status(self) -> u8
+        ensures { result ≡ exit_of self }
+    {
+        match self {
+            Ending::Answered(status) => match status {
+                Status::Fine => 0,
+                Status::PlanRefused => 3,
+                Status::TrafficRefused => 4,
+            },
+            Ending::Told => 0,
+            Ending::Refused | Ending::NotText => 2,
+            Ending::Failed(fault) => match fault {
+                EngineFault::Markers => 2,
+                EngineFault::Long => 4,
+                EngineFault::Memory => 5,
+                EngineFault::Device => 6,
+            },
+        }
+    }
+
+    /// The line that is still to be written, and where.
+    pub fn line(self) -> Option<(Stream, &'static str)>
+        ensures { option_map (λ told. (told.0, told.1.now)) result ≡ line_of self }
+    {
+        let line = match self {
+            Ending::Answered(_) | Ending::Told | Ending::Refused => return None,
+            Ending::NotText => "error: a word of the command line is not UTF-8 text",
+            Ending::Failed(fault) => match fault {
+                EngineFault::Markers => "FAULT,MARKERS",
+                EngineFault::Long => "FAULT,LONG",
+                EngineFault::Memory => "FAULT,MEMORY",
+                EngineFault::Device => "FAULT,DEVICE",
+            },
+        };
+        Some((Stream::Errors, line))
+    }
+}

@@ -1,0 +1,56 @@
+ghost use Rattle.std.specs.Prelude.{◌≡◌, [], vec_items};
+
+use std::alloc::Global;
+use std::io;
+use std::io::{Read, Write};
+
+/// A call of a reader or writer, with the length of the buffer that came with it.
+#[derive(Clone, Copy, Debug, PartialEq, Eq)]
+pub enum Call {
+    Read(usize),
+    Write(usize),
+    Flush,
+}
+
+/// Passes each call on, and keeps which there were, in order.
+#[derive(Debug, Drop)]
+pub struct Recorder<T> {
+    pub inner: T,
+    pub calls: Vec<Call>,
+}
+
+impl<T> Recorder<T> {
+    /// No call was made yet.
+    pub fn new(alloc: Global, inner: T) -> Self
+        ensures inner { result.inner ≡ inner }
+        ensures calls { vec_items result.calls ≡ [] }
+    {
+        Recorder {
+            inner,
+            calls: Vec::new(alloc),
+        }
+    }
+}
+
+impl<T: Read> Read for Recorder<T> {
+    ghost remaining = { λ device. T.remaining device.inner };
+
+    fn read(&mut self, buf: &mut [u8]) -> io::Result<usize> {
+        self.calls.push(Call::Read(buf.len()))?;
+        self.inner.read(buf)
+    }
+}
+
+impl<T: Write> Write for Recorder<T> {
+    ghost contents = { λ device. T.contents device.inner };
+
+    fn write(&mut self, buf: &[u8]) -> io::Result<usize> {
+        self.calls.push(Call::Write(buf.len()))?;
+        self.inner.write(buf)
+    }
+
+    fn flush(&mut self) -> io::Result<()> {
+        self.calls.push(Call::Flush)?;
+        self.inner.flush()
+    }
+}

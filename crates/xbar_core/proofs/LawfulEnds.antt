@@ -1,0 +1,133 @@
+-- in a lawful office a marker past its turn has little left, and one that no other is in the way of comes to its end
+use Rattle.std.proofs.Common.{◌≡◌, ℕ, zero, suc, ◌-◌, ◌<◌, ◌≤◌, Bool, true, false, List, [], ◌∷◌, ◌++◌, length, length-append, map, inl, inr, refl, sym, ◌∙◌, ap, subst, arith, eqb}
+use Rattle.std.specs.List.{AllByRecursion, IsDistinct, list_any}
+use Rattle.std.specs.Prelude.{◌||◌}
+use Rattle.std.proofs.lemmas.Bool.{eqb-true}
+use Rattle.std.proofs.lemmas.List.{length-map}
+use Rattle.std.proofs.lemmas.Map.Steps.{length-le_from_distinct_below}
+use mathlib.Core.Option.{some}
+use lib.ListN.{get_elem?}
+use Rattle.turns.specs.Among.{AreDistinct, IsIn}
+use Rattle.turns.specs.Attempt.{act}
+use Rattle.turns.specs.Bounds as bounds
+use Rattle.turns.specs.Law.{FitsIn, IsOperating, IsSound}
+use Rattle.turns.specs.Runs as runs
+use Rattle.turns.specs.Script.{run}
+use Rattle.turns.specs.Runs.{is_rest}
+use Rattle.turns.specs.World.{ActorOf, Does, World}
+use Rattle.turns.specs.declared.phase.Phase.TheVariants.{Operates}
+use Rattle.turns.proofs.AloneEnds.{alone_ends}
+use Rattle.turns.proofs.Moving.{keeps}
+use Rattle.turns.proofs.Words.{run_ends}
+use Rattle.xbar_equip.specs.Conn.{IsConn}
+use Rattle.xbar_equip.specs.Word.{ConnWord, word_number}
+use Rattle.xbar_equip.specs.declared.conn.Conn.{Conn}
+use Rattle.xbar_equip.proofs.WordNumbers.{conn_range, distinct_conns}
+use Rattle.xbar_plan.specs.Tables.{Tables}
+use Rattle.xbar_plan.specs.Lawful.{IsLawful}
+use Rattle.xbar_jobs.specs.Attempt.{Attempt, Phase}
+use Rattle.xbar_jobs.specs.Closing.{effects as effects_of}
+use Rattle.xbar_jobs.specs.Office.{office}
+use Rattle.xbar_jobs.specs.Standing.{most_effects, most_readings, most_seizings}
+use Rattle.xbar_jobs.specs.declared.decision.Decision.{Decision}
+use Rattle.xbar_jobs.specs.declared.effect.Effect.{Effect}
+use Rattle.xbar_jobs.proofs.JobBounds.{jobs_bounded}
+use Rattle.xbar_jobs.proofs.OfficeSystem.{office_is}
+use Rattle.xbar_core.specs.Exchange.{Exchange, IsLawfulExchange, is_idle, world}
+use Rattle.xbar_core.specs.Holding.{IsAt}
+use Rattle.xbar_core.specs.Moves.{after_step, steps}
+use Rattle.xbar_core.specs.Settling.{most_steps_alone}
+use Rattle.xbar_core.proofs.Actors.{actor_at}
+use Rattle.xbar_core.proofs.Ending.{IsIdleAt, free_idle, past_ends}
+use Rattle.xbar_core.proofs.Markers.{marker_there}
+use Rattle.xbar_core.proofs.StepCases.{gone_on}
+use Rattle.xbar_core.proofs.Stepping.{step_idle}
+use Rattle.xbar_core.proofs.WorldMoves.{has_to_give, steps_in_world}
+use Rattle.xbar_core.proofs.Worlds.{lawful_stepped}
+
+-- the place of a connector's word among such words
+abbrev place_of : Conn → ℕ
+place_of conn = word_number (ConnWord conn) - 416
+
+one_place : (a b : Conn) → IsConn a → IsConn b → place_of a ≡ place_of b → a ≡ b
+one_place a b range other same = let this = conn_range a range in let that = conn_range b other in distinct_conns a b range other (omega (arith, this, that, same))
+
+-- connectors of which none stands twice have places of which none does
+apart_places : (conn : Conn) (conns : List Conn) → IsConn conn → ((c : Conn) → IsIn c conns → IsConn c) → ¬ IsIn conn conns → AllByRecursion (λ n. eqb (place_of conn) n ≡ false) (map place_of conns)
+apart_places conn [] range all apart = tt
+apart_places conn (first ∷ conns) range all apart = (by (eqb (place_of conn) (place_of first)) refl, apart_places conn conns range (λ c within. all c (inr within)) (λ within. apart (inr within))) where
+  by : (same : Bool) → eqb (place_of conn) (place_of first) ≡ same → eqb (place_of conn) (place_of first) ≡ false
+  by false is = is
+  by true is = absurd (apart (inl (one_place conn first range (all first (inl refl)) (eqb-true _ _ is))))
+
+distinct_places : (conns : List Conn) → ((c : Conn) → IsIn c conns → IsConn c) → AreDistinct conns → IsDistinct eqb (map place_of conns)
+unfolding IsDistinct
+distinct_places [] all apart = tt
+distinct_places (conn ∷ conns) all apart = (apart_places conn conns (all conn (inl refl)) (λ c within. all c (inr within)) apart.0, distinct_places conns (λ c within. all c (inr within)) apart.1)
+
+places_below : (conns : List Conn) (n : ℕ) → ((c : Conn) → IsIn c conns → IsConn c) → list_any (eqb n) (map place_of conns) ≡ true → n < 36
+places_below [] n all among = absurd cc
+places_below (conn ∷ conns) n all among = by (eqb n (place_of conn)) refl among (λ later. places_below conns n (λ c within. all c (inr within)) later) where
+  by : (here : Bool) → eqb n (place_of conn) ≡ here → (here || list_any (eqb n) (map place_of conns)) ≡ true → (list_any (eqb n) (map place_of conns) ≡ true → n < 36) → n < 36
+  by true is found later = let range = conn_range conn (all conn (inl refl)) in let same = eqb-true n (place_of conn) is in omega (arith, range, same)
+  by false is found later = later found
+
+-- so there are no more than there are connectors
+few_conns : (conns : List Conn) → ((c : Conn) → IsIn c conns → IsConn c) → AreDistinct conns → length conns ≤ 36
+few_conns conns all apart =
+    let few = length-le_from_distinct_below (map place_of conns) 36 (distinct_places conns all apart) (λ n among. places_below conns n all among) in
+    let size = length-map conns place_of in
+    omega (arith, few, size)
+
+module _ (plan : Tables) (laws : IsLawful plan) (e : Exchange) (lawful : IsLawfulExchange plan e) (k number : ℕ) (a : Attempt) (at : IsAt e k number a) where
+  sound : IsSound (office plan) (world plan e) k number a
+  sound = lawful.sound k number a (actor_at e k number a at)
+
+  -- past its turn a marker has no more effects left than its job has
+  few_left : (turn : ℕ) → a.phase ≡ Operates turn → length a.effects ≤ most_effects
+  few_left turn past =
+      let fits : IsOperating (office plan) e.words (world plan e).order k number turn a = subst (λ (p : Phase). FitsIn (office plan) (world plan e) k number a p) past sound.fits in
+      let decision : Decision = run fits.decided.words ((office plan).script a.job) in
+      let few = run_ends (λ (d : Decision). length (effects_of d) ≤ most_effects) fits.decided.words ((office plan).script a.job) fits.decided.are_words ((jobs_bounded plan laws).effects a.job sound.job) in
+      let all : length (effects_of decision) ≡ length (fits.decided.made ++ a.effects) = ap (length {A = Effect}) fits.decided.effects in
+      let size = length-append fits.decided.made a.effects in
+      omega (arith, few, all, size)
+
+  -- so it ends within the steps that settling makes
+  pub past_idle : (turn : ℕ) → a.phase ≡ Operates turn → IsIdleAt (steps plan k most_steps_alone e) k
+  past_idle turn past =
+      let left = few_left turn past in
+      let held = few_conns a.held (λ c within. (sound.held c within).there) sound.distinct in
+      past_ends plan k turn number most_steps_alone e a at past (omega (arith, left, held))
+
+module _ (plan : Tables) where
+  -- a marker at an attempt stays at one
+  next_at : (e : Exchange) (k number : ℕ) (a : Attempt) → IsAt e k number a → (b : Attempt) × IsAt (after_step plan k e) k number b
+  next_at e k number a at = by (is_rest (act a)) refl where
+    by : (rest : Bool) → is_rest (act a) ≡ rest → (b : Attempt) × IsAt (after_step plan k e) k number b
+    by true rests = (a, subst (λ (x : Exchange). IsAt x k number a) (sym (step_idle plan e k at.marker at.there (ap is_idle at.work ∙ rests))) at)
+    by false goes = (_, gone_on plan e k number a at goes)
+
+  module _ (laws : IsLawful plan) where
+    -- its steps are those of its world
+    steps_same : (count : ℕ) (e : Exchange) (k number : ℕ) (a : Attempt) → IsLawfulExchange plan e → IsAt e k number a → world plan (steps plan k count e) ≡ bounds.after_steps (office plan) k count (world plan e)
+    unfolding steps
+    steps_same zero e k number a lawful at = refl
+    steps_same (suc count) e k number a lawful at =
+        let next = next_at e k number a at in
+        let actor : get_elem? (world plan e).actors k ≡ some (Does number a) = actor_at e k number a at in
+        let one : world plan (after_step plan k e) ≡ runs.stepped_at (office plan) k (get_elem? (world plan e).actors k) (world plan e) =
+        steps_in_world plan e k number a at (has_to_give plan e k number a at lawful) ∙ ap (λ o. runs.stepped_at (office plan) k o (world plan e)) (sym actor) in
+        steps_same count (after_step plan k e) k number next.0 (lawful_stepped plan e k laws lawful) next.1
+        ∙ ap (bounds.after_steps (office plan) k count) one
+
+    -- one that holds nothing, with no other in its way, comes to its end
+    pub aside_idle : (e : Exchange) (k number : ℕ) (a : Attempt) → IsLawfulExchange plan e → IsAt e k number a → a.held ≡ []
+        → ((j : ℕ) (other : ActorOf (office plan)) → ¬ (j ≡ k) → get_elem? (world plan e).actors j ≡ some other → bounds.IsAside (office plan) other) → IsIdleAt (steps plan k most_steps_alone e) k
+    aside_idle e k number a lawful at bare aside =
+        let none : length a.held ≡ 0 = ap (length {A = Conn}) bare in
+        let end = alone_ends (office plan) (office_is plan laws) most_readings most_seizings most_effects (jobs_bounded plan laws)
+        (λ w j n b now stands. keeps (office plan) (office_is plan laws) w now j n b stands) k number (world plan e) a most_steps_alone lawful (actor_at e k number a at) aside (omega (arith, none)) in
+        let there = ap (λ (w : World (office plan)). get_elem? w.actors k) (steps_same most_steps_alone e k number a lawful at) ∙ end.1 in
+        let found = marker_there (steps plan k most_steps_alone e).markers k end.0 there in
+        record { marker = found.marker; there = found.there; idle = ap is_idle found.at ∙ free_idle plan end.0 end.2 }
