@@ -4,3 +4,4 @@ pub mod SlotsSystem
 pub mod TakenOnce
 pub mod SlotBounds
 pub mod RunByHand
+mod JobWalks

@@ -2,3 +2,6 @@ pub mod Slots
 pub mod System
 pub mod Taken
 pub mod WorkedRun
+pub mod Few
+pub mod Come
+pub mod Programs

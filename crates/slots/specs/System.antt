@@ -2,7 +2,7 @@ use Rattle.std.specs.Prelude.{◌≡◌, ℕ, ◌+◌, ◌-◌, ◌*◌, ◌/◌
 use Rattle.std.specs.Int.{bit_at}
 use Rattle.turns.specs.Script.{Script, Ends, TestThen, SeizeThen}
 use Rattle.turns.specs.Sharings.{preferring}
-use Rattle.turns.specs.System.{System}
+use Rattle.turns.specs.System.{System, SystemOver, system_of}
 use Rattle.turns.specs.declared.operation.Operation.{Operation}
 use Rattle.turns.specs.declared.operation.Operation.TheVariants.{Or, And}
 use Rattle.slots.specs.Slots.{Busy, none_busy, lowest_free, whole}
@@ -81,22 +81,19 @@ IsJob Take = ⊤
 IsJob TakeBoth = ⊤
 IsJob (Give slot) = slot < 8
 
-abbrev pub slots : System
-slots = record {
-  Job = Job;
+-- the slots as a system, over the types of its locks, jobs, replies and effects
+abbrev pub slots_over : SystemOver ℕ Job (List ℕ) Effect
+slots_over = record {
   IsJob = IsJob;
   State = Busy;
-  Reply = List ℕ;
   whole = whole;
   opening = none_busy;
   initial = replicate 5 0;
-  Lock = ℕ;
   IsLock = λ bank. bank < 2;
   same = λ a b. a == b;
   Decision = Decision;
   first = first_lock;
   script = script;
-  Effect = Effect;
   reply_of = reply_of;
   effects_of = effects_of;
   effect_word = λ effect. slot_of effect / 4;
@@ -109,3 +106,6 @@ slots = record {
   turn_word = 4;
   Shows = Shows;
 }
+
+abbrev pub slots : System
+slots = system_of slots_over

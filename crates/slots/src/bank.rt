@@ -1,6 +1,6 @@
 //! A bank's word: bit `slot % 4` is set where the slot is taken.
 
-ghost use Rattle.std.specs.Prelude.{◌≡◌, ◌<◌, ◌==◌, ◌%◌, not};
+ghost use Rattle.std.specs.Prelude.{◌≡◌, ◌<◌, ◌==◌, ◌%◌, not, IfSome};
 ghost use Rattle.std.specs.Int.{bit_at};
 ghost use Rattle.slots.specs.System.{free_in};
 
@@ -13,7 +13,8 @@ fn is_free(word: u64, slot: u32) -> bool
 /// The lowest free slot of bank 0 or 1, by the bank's word.
 pub fn lowest_free(bank: u32, word: u64) -> Option<u32>
     requires { bank < 2 }
-    ensures { result ≡ free_in bank word }
+    ensures free { result ≡ free_in bank word }
+    ensures there { IfSome result (λ slot. slot < 8) }
 {
     for slot in 4 * bank..4 * bank + 4 {
         if is_free(word, slot) {

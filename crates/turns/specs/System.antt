@@ -11,26 +11,23 @@ pub record Whole (State Reply : Type 0) : Type 0 where
   pub state : State
   pub reply : Reply
 
--- a system of jobs: what they do one after another, what they do step by step, and the words that they do it on
-pub record System : Type 1 where
+-- a system of jobs, over the types of its locks, jobs, replies and effects: what the jobs do one after
+-- another, what they do step by step, and the words that they do it on
+pub record SystemOver (Lock Job Reply Effect : Type 0) : Type 1 where
   -- the jobs one after another, from the opening state on
-  pub Job : Type 0
   pub IsJob : Job → Type 0
   pub State : Type 0
-  pub Reply : Type 0
   pub whole : State → Job → Whole State Reply
   pub opening : State
   -- the words that it opens on
   pub initial : List ℕ
   -- the jobs step by step: the lock that a job seizes first, and what it does until it decides
-  pub Lock : Type 0
   pub IsLock : Lock → Type 0
   pub same : Lock → Lock → Bool
   pub Decision : Type 0
   pub first : Job → Lock
   pub script : Job → Script Lock Decision
   -- a decision's reply, and its effects in their order
-  pub Effect : Type 0
   pub reply_of : Decision → Reply
   pub effects_of : Decision → List Effect
   -- an effect's word, the operation that makes it there, and the number that it must find
@@ -45,6 +42,20 @@ pub record System : Type 1 where
   pub turn_word : ℕ
   -- these words show this state
   pub Shows : List ℕ → State → Type 0
+
+-- a system of jobs, with its types beside it
+pub record System : Type 1 where
+  pub Lock : Type 0
+  pub Job : Type 0
+  pub Reply : Type 0
+  pub Effect : Type 0
+  pub over : SystemOver Lock Job Reply Effect
+  pub open over use *
+
+-- the system over types that are known
+abbrev pub system_of : {Lock Job Reply Effect : Type 0} → SystemOver Lock Job Reply Effect → System
+system_of {Lock} {Job} {Reply} {Effect} over =
+    record { Lock = Lock; Job = Job; Reply = Reply; Effect = Effect; over = over }
 
 -- each of these numbers fits a word
 abbrev pub AreWords : List ℕ → Type 0

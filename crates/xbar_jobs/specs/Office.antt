@@ -15,7 +15,7 @@ use Rattle.xbar_office.specs.Whole.{whole}
 use Rattle.xbar_office.specs.declared.job.Job.{Job}
 use Rattle.xbar_office.specs.declared.reply.Reply.{Reply}
 use Rattle.turns.specs.Sharings.{preferring}
-use Rattle.turns.specs.System.{System}
+use Rattle.turns.specs.System.{System, SystemOver, system_of}
 use Rattle.xbar_jobs.specs.Closing.{IsDue, effects as effects_of, effect_word, operation_of}
 use Rattle.xbar_jobs.specs.Jobs.{first_conn, script}
 use Rattle.xbar_jobs.specs.declared.decision.Decision.{Decision}
@@ -43,22 +43,18 @@ pub record Protects (conn : Conn) (number : ℕ) : Type 0 where
   pub protects : protector word ≡ Some conn
 
 -- the office under a plan: its jobs one after another and step by step, and its words
-abbrev pub office : Tables → System
-office plan = record {
-  Job = Job;
+abbrev pub office_over : Tables → SystemOver Conn Job Reply Effect
+office_over plan = record {
   IsJob = IsJob;
   State = List Path;
-  Reply = Reply;
   whole = λ paths job. record { state = (whole plan paths job).paths; reply = (whole plan paths job).reply };
   opening = [];
   initial = replicate word_count 0;
-  Lock = Conn;
   IsLock = IsConn;
   same = conn_eq;
   Decision = Decision;
   first = first_conn;
   script = script plan;
-  Effect = Effect;
   reply_of = λ decision. decision.reply;
   effects_of = effects_of;
   effect_word = effect_word;
@@ -71,3 +67,6 @@ office plan = record {
   turn_word = word_number TurnWord;
   Shows = ShowsOffice plan;
 }
+
+abbrev pub office : Tables → System
+office plan = system_of (office_over plan)

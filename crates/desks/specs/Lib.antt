@@ -1,0 +1,8 @@
+pub mod Parts
+pub mod Kept
+pub mod Rule
+pub mod Outcomes
+pub mod Views
+pub mod Codes
+pub mod Desks
+pub mod Met

@@ -1,0 +1,121 @@
+ghost use Rattle.std.specs.Prelude.{◌≡◌, ℕ};
+ghost use Rattle.turns.specs.Law.{IsLegal};
+ghost use Rattle.turns.specs.Runs.{is_free};
+ghost use Rattle.turns.specs.System.{system_of};
+ghost use Rattle.desks.specs.Desks.{HasAdvanced, HasGivenBack, assigned_if};
+ghost use Rattle.desks.specs.Views.{IsDeskOf};
+
+use crate::jobs::Jobs;
+use crate::progress::Progress;
+use crate::room::Room;
+use crate::rule::Systems;
+use crate::steps::{Knows, free_all, step, tell};
+use atomic_table::Seat;
+use std::marker::Model;
+use std::snapshot::Snapshot;
+use turns::laws;
+
+/// One actor, which a thread owns.
+#[derive(Drop)]
+pub struct Desk<F: Jobs> {
+    pub(crate) setting: Snapshot<F::Setting>,
+    pub(crate) seat: Seat<(), Knows<F>>,
+    pub(crate) number: u32,
+    pub(crate) doing: Option<(u64, F::Program)>,
+}
+
+impl<F: Jobs> Model for Desk<F> {
+    ghost use Rattle.std.specs.Prelude.{IfSome};
+    ghost use Rattle.turns.specs.System.{system_of};
+    ghost use Rattle.desks.specs.Codes.{desk_code};
+    ghost use Rattle.desks.specs.Desks.{IsSeated, actor_of, seen_in};
+    ghost use Rattle.desks.specs.Views.{DeskView};
+
+    ghost Value = { DeskView F.Setting F.Lock F.Job F.Reply F.Effect };
+
+    ghost coded = { desk_code F.Setting.code F.Lock.code F.Job.code F.Reply.code F.Effect.code };
+
+    ghost view = { λ d. record { table = d.seat.table_id; setting = d.setting.value; number = d.number; actor = actor_of F.attempt d.doing; seen = seen_in d.seat.me.0 } };
+
+    ghost invariant = { λ d. F.IsSetting d.setting.value × IsSeated (system_of (F.system d.setting.value)) d.number d.seat.me (actor_of F.attempt d.doing) × IfSome d.doing (λ doing. F.Stands d.setting.value doing.1) };
+}
+
+impl<F: Jobs> Desk<F> {
+    /// Which of the room's actors it is, from 0 on.
+    pub fn number(&self) -> u32
+        ensures number { result ≡ self.now.number }
+        ensures legal { let O = system_of (F.system self.now.setting) in IsLegal O 0 O.opening self.now.seen }
+    {
+        self.number
+    }
+
+    /// Whether it may be assigned a job: it has none, or has ended its job.
+    pub fn is_idle(&self) -> bool
+        ensures { result ≡ is_free (system_of (F.system self.now.setting)) self.now.actor }
+    {
+        match &self.doing {
+            Some((_, program)) => F::rests(program),
+            None => true,
+        }
+    }
+
+    /// Assigns a job under a number to an actor that is free, and says whether it was.
+    pub fn assign(&mut self, number: u64, job: F::Job) -> bool
+        requires job { (F.system self.old.setting).IsJob job }
+        ensures free { result ≡ is_free (system_of (F.system self.old.setting)) self.old.actor }
+        ensures assigned { self.new ≡ record (self.old) { actor = assigned_if (system_of (F.system self.old.setting)) result number job self.old.actor } }
+    {
+        laws::every_move_keeps_the_law::<Systems<F>>();
+        if !self.is_idle() {
+            return false;
+        }
+        self.doing = Some((number, F::begin(&self.setting, job)));
+        true
+    }
+
+    /// Makes the next step of its job, one atomic operation, and tells what came of it.
+    pub fn advance(&mut self, room: &Room<F>, setting: &F::Setting) -> Progress<F::Job, F::Reply>
+        requires { IsDeskOf self.old room.now setting.now }
+        ensures same { self.new ≡ record (self.old) { actor = self.new.actor; seen = self.new.seen } }
+        ensures advanced { HasAdvanced (system_of (F.system setting.now)) self.old.number self.old.actor self.new.actor self.old.seen self.new.seen result }
+    {
+        let Some((number, program)) = &mut self.doing else {
+            return Progress::Idle;
+        };
+        if F::rests(program) {
+            return Progress::Idle;
+        }
+        let shared = &room.table.shared;
+        let answer = step::<F>(
+            shared,
+            setting,
+            &mut self.seat,
+            self.number,
+            *number,
+            program,
+        );
+        tell::<F>(setting, &self.seat, answer, self.number, *number, program)
+    }
+    /// Withdraws its request and frees what it holds, each by one atomic operation, and begins its job anew.
+    /// Past its turn it changes nothing.
+    pub fn give_back(&mut self, room: &Room<F>, setting: &F::Setting)
+        requires { IsDeskOf self.old room.now setting.now }
+        ensures same { self.new ≡ record (self.old) { actor = self.new.actor; seen = self.new.seen } }
+        ensures given_back { HasGivenBack (system_of (F.system setting.now)) self.old.number self.old.actor self.new.actor self.old.seen self.new.seen }
+    {
+        laws::every_move_keeps_the_law::<Systems<F>>();
+        let Some((number, program)) = &mut self.doing else {
+            return;
+        };
+        F::restart(setting, program);
+        let shared = &room.table.shared;
+        free_all::<F>(
+            shared,
+            setting,
+            &mut self.seat,
+            self.number,
+            *number,
+            program,
+        );
+    }
+}

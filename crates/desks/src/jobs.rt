@@ -1,0 +1,97 @@
+ghost use Rattle.std.specs.Prelude.{◌≡◌, ◌≢◌, ◌<◌, IfOk};
+
+use std::alloc::{AllocError, Global};
+use std::snapshot::Snapshot;
+use turns::{Answer, Operation};
+
+/// Jobs that actors do on shared words, as `turns` has them, and the program that an actor does a job with.
+///
+/// Each function is exact by the law's own words, so that whoever writes one proves nothing of threads.
+pub trait Jobs {
+    ghost use Rattle.turns.specs.Attempt.{Attempt, Rest, act, answer_to, begin, next, restarted};
+    ghost use Rattle.turns.specs.Runs.{is_rest};
+    ghost use Rattle.turns.specs.System.{IsSystem, SystemOver, system_of};
+    ghost use Rattle.turns.specs.World.{operation as operation_of, place as place_of};
+    ghost use Rattle.desks.specs.Outcomes.{is_given_up, outcome_of};
+
+    /// What tells the systems of a family apart, as a plan.
+    type Setting;
+
+    type Lock;
+
+    type Job: Drop;
+
+    type Reply: Drop;
+
+    type Effect;
+    /// An actor's attempt at a job.
+    type Program: Drop;
+
+    ghost system: { Self.Setting → SystemOver Self.Lock Self.Job Self.Reply Self.Effect };
+
+    ghost IsSetting: { Self.Setting → Type 0 };
+
+    ghost attempt: { Self.Program → Attempt Self.Lock Self.Job Self.Reply Self.Effect };
+
+    // What a program keeps under a setting.
+    ghost Stands: { Self.Setting → Self.Program → Type 0 };
+
+    /// A desk holds no borrow of the setting, only a snapshot.
+    fn begin(setting: &Snapshot<Self::Setting>, job: Self::Job) -> Self::Program
+        requires setting { IsSetting setting.now.value }
+        requires job { (system setting.now.value).IsJob job }
+        ensures begins { attempt result ≡ begin (system_of (system setting.now.value)) job }
+        ensures stands { Stands setting.now.value result };
+
+    /// How many words there are.
+    fn size(setting: &Self::Setting) -> usize
+        ensures { result ≡ (system setting.now).size };
+
+    /// The words that it opens on.
+    fn initial(alloc: Global, setting: &Self::Setting) -> Result<Vec<u64>, AllocError>
+        ensures { IfOk result (λ words. words.items ≡ (system setting.now).initial) };
+
+    /// The number of the word that counts turns.
+    fn turn_word(setting: &Self::Setting) -> usize
+        ensures { result ≡ (system setting.now).turn_word };
+
+    /// Whether its job is done, and it holds nothing.
+    fn rests(program: &Self::Program) -> bool
+        ensures { result ≡ is_rest (act (attempt program.now)) };
+
+    /// Whether it was given up, and has a request to withdraw or locks to free.
+    fn is_given_up(program: &Self::Program) -> bool
+        ensures { result ≡ is_given_up (attempt program.now).phase };
+
+    /// Past its turn, the turn's number, its job and its reply.
+    fn outcome(program: &Self::Program) -> Option<(u64, Self::Job, Self::Reply)>
+        ensures { result ≡ outcome_of (attempt program.now) };
+
+    /// The number of the word that its next step is made on.
+    fn place(setting: &Self::Setting, program: &Self::Program) -> usize
+        requires { Stands setting.now program.now }
+        ensures place { result ≡ place_of (system_of (system setting.now)) (act (attempt program.now)) }
+        ensures there { result < (system setting.now).size };
+
+    /// The operation that makes its next step.
+    fn operation(setting: &Self::Setting, actor: u32, program: &Self::Program) -> Operation
+        requires actor { actor < (system setting.now).sharing.most }
+        ensures { result ≡ operation_of (system_of (system setting.now)) actor (act (attempt program.now)) };
+
+    /// Tells it the number that its next step found.
+    fn take(setting: &Self::Setting, actor: u32, program: &mut Self::Program, found: u64) -> Answer
+        requires actor { actor < (system setting.now).sharing.most }
+        requires stands { Stands setting.now program.old }
+        requires goes_on { act (attempt program.old) ≢ Rest }
+        ensures next { attempt program.new ≡ next (system_of (system setting.now)) actor (attempt program.old) found }
+        ensures answer { result ≡ answer_to (system_of (system setting.now)) actor (act (attempt program.old)) found }
+        ensures stands { Stands setting.now program.new };
+
+    /// Begins anew, once all that it holds is given back. Past the turn nothing changes.
+    fn restart(setting: &Self::Setting, program: &mut Self::Program)
+        requires { Stands setting.now program.old }
+        ensures restarts { attempt program.new ≡ restarted (system_of (system setting.now)) (attempt program.old) }
+        ensures stands { Stands setting.now program.new };
+
+    ghost is_system: { (setting : Self.Setting) → IsSetting setting → IsSystem (system_of (system setting)) };
+}

@@ -1,0 +1,20 @@
+//! Actors of a system of jobs, each a desk that a thread owns, on words that the threads share.
+#![tactic(auto)]
+
+pub use desk::Desk;
+pub use jobs::Jobs;
+pub use meeting::meet;
+pub use progress::{Progress, Told};
+pub use room::Room;
+pub use shutting::{shut, shut_all};
+pub use view::View;
+
+mod desk;
+mod jobs;
+mod meeting;
+mod progress;
+mod room;
+mod rule;
+mod shutting;
+mod steps;
+mod view;

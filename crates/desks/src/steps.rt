@@ -1,0 +1,154 @@
+ghost use Rattle.std.specs.Prelude.{◌≡◌, ◌≢◌, ◌<◌, ℕ};
+ghost use Rattle.atomic_table.specs.Table.{Allows};
+ghost use Rattle.turns.specs.Attempt.{Rest, act};
+ghost use Rattle.turns.specs.World.{Does, becomes, place as place_of};
+ghost use Rattle.turns.specs.Law.{IsLegal};
+ghost use Rattle.desks.specs.Desks.{FreesAll, HasStepped, IsProgress, IsSeated, seen_in};
+ghost use Rattle.desks.specs.Kept.{HasEnded};
+ghost use Rattle.turns.specs.Operations.{applied};
+ghost use Rattle.desks.specs.Rule.{Rule};
+ghost use Rattle.turns.specs.System.{system_of};
+
+use crate::jobs::Jobs;
+use crate::progress::{Progress, Told as ToldRecord};
+use crate::rule::{Key, Rules, Systems, Telling, Told};
+use crate::view::View;
+use atomic_table::{Seat, Shared};
+use std::marker::Brand;
+use turns::{Answer, Operation, laws};
+
+pub type Knows<F> = View<
+    <F as Jobs>::Lock,
+    <F as Jobs>::Job,
+    <F as Jobs>::Reply,
+    <F as Jobs>::Effect,
+>;
+
+pub type Words<F> = Shared<(), Knows<F>, Key<<F as Jobs>::Setting>, Rules<F>>;
+
+fn operate<F: Jobs, T: Told<Knows<F>>>(
+    shared: &Words<F>,
+    seat: &mut Seat<(), Knows<F>>,
+    place: usize,
+    operation: Operation,
+) -> u64
+    requires table { seat.old.table_id ≡ shared.now.table_id }
+    requires place { place < shared.now.table_id.words }
+    requires allowed { Allows (Rule (system_of (F.system shared.now.key.setting.value)) shared.now.key.count) shared.now.table_id.slots seat.old.id seat.old.me place (λ n. applied operation n) (λ n me. (me.1 ≡ seat.old.me.1) × T.then seat.old.me.0 n me.0) }
+    ensures same { (seat.new.table_id ≡ seat.old.table_id) × (seat.new.id ≡ seat.old.id) × (seat.new.me.1 ≡ seat.old.me.1) }
+    ensures told { T.then seat.old.me.0 result seat.new.me.0 }
+{
+    match operation {
+        Operation::Load => shared.load::<Telling<T>>(seat, place),
+        Operation::Or(bits) => shared.fetch_or::<Telling<T>>(seat, place, bits),
+        Operation::And(mask) => shared.fetch_and::<Telling<T>>(seat, place, mask),
+        Operation::Add(more) => shared.fetch_add::<Telling<T>>(seat, place, more),
+        Operation::CompareExchange { expected, new } => shared.compare_exchange::<Telling<T>>(
+            seat, place, expected, new,
+        ),
+    }
+}
+
+/// Makes the atomic operation of a program's next step, and gives the number found. The job's number is for the proof.
+fn make<F: Jobs, T: Told<Knows<F>>>(
+    shared: &Words<F>,
+    setting: &F::Setting,
+    seat: &mut Seat<(), Knows<F>>,
+    actor: u32,
+    _number: u64,
+    program: &F::Program,
+) -> u64
+    requires table { seat.old.table_id ≡ shared.now.table_id }
+    requires words { shared.now.table_id.words ≡ (F.system setting.now).size }
+    requires setting { shared.now.key.setting.value ≡ setting.now }
+    requires actor { actor < (F.system setting.now).sharing.most }
+    requires stands { F.Stands setting.now program.now }
+    requires allowed { (i : ℕ) (f : ℕ → ℕ) → i ≡ place_of (system_of (F.system setting.now)) (act (F.attempt program.now)) → ((n : ℕ) → f n ≡ becomes (system_of (F.system setting.now)) actor (act (F.attempt program.now)) n) → Allows (Rule (system_of (F.system setting.now)) shared.now.key.count) shared.now.table_id.slots seat.old.id seat.old.me i f (λ n me. (me.1 ≡ seat.old.me.1) × T.then seat.old.me.0 n me.0) }
+    ensures same { (seat.new.table_id ≡ seat.old.table_id) × (seat.new.id ≡ seat.old.id) × (seat.new.me.1 ≡ seat.old.me.1) }
+    ensures told { T.then seat.old.me.0 result seat.new.me.0 }
+{
+    let place = F::place(setting, program);
+    let operation = F::operation(setting, actor, program);
+    operate::<F, T>(shared, seat, place, operation)
+}
+
+/// A desk's next step.
+pub(crate) fn step<F: Jobs>(
+    shared: &Words<F>,
+    setting: &F::Setting,
+    seat: &mut Seat<(), Knows<F>>,
+    actor: u32,
+    number: u64,
+    program: &mut F::Program,
+) -> Answer
+    requires table { seat.old.table_id ≡ shared.now.table_id }
+    requires words { shared.now.table_id.words ≡ (F.system setting.now).size }
+    requires key { shared.now.key.setting.value ≡ setting.now }
+    requires setting { F.IsSetting setting.now }
+    requires stands { F.Stands setting.now program.old }
+    requires seated { IsSeated (system_of (F.system setting.now)) actor seat.old.me (Does number (F.attempt program.old)) }
+    requires goes_on { act (F.attempt program.old) ≢ Rest }
+    ensures same { seat.new.table_id ≡ seat.old.table_id }
+    ensures stands { F.Stands setting.now program.new }
+    ensures stepped { HasStepped (system_of (F.system setting.now)) actor (Does number (F.attempt program.old)) (Does number (F.attempt program.new)) (seen_in seat.old.me.0) (seen_in seat.new.me.0) result }
+    ensures ended { act (F.attempt program.new) ≡ Rest → HasEnded (system_of (F.system setting.now)) (seen_in seat.new.me.0) actor number (F.attempt program.new) }
+    ensures seated { IsSeated (system_of (F.system setting.now)) actor seat.new.me (Does number (F.attempt program.new)) }
+{
+    laws::every_move_keeps_the_law::<Systems<F>>();
+    laws::put_off_actors_are_told_by_whom::<Systems<F>>();
+    let found = make::<F, Brand>(shared, setting, seat, actor, number, program);
+    F::take(setting, actor, program, found)
+}
+
+/// Steps on while what was held is given back: its request is withdrawn, and its locks are freed.
+pub(crate) fn free_all<F: Jobs>(
+    shared: &Words<F>,
+    setting: &F::Setting,
+    seat: &mut Seat<(), Knows<F>>,
+    actor: u32,
+    number: u64,
+    program: &mut F::Program,
+)
+    requires table { seat.old.table_id ≡ shared.now.table_id }
+    requires words { shared.now.table_id.words ≡ (F.system setting.now).size }
+    requires key { shared.now.key.setting.value ≡ setting.now }
+    requires setting { F.IsSetting setting.now }
+    requires stands { F.Stands setting.now program.old }
+    requires seated { IsSeated (system_of (F.system setting.now)) actor seat.old.me (Does number (F.attempt program.old)) }
+    ensures same { seat.new.table_id ≡ seat.old.table_id }
+    ensures stands { F.Stands setting.now program.new }
+    ensures freed { FreesAll (system_of (F.system setting.now)) actor number (F.attempt program.old) (F.attempt program.new) (seen_in seat.old.me.0) (seen_in seat.new.me.0) }
+    ensures seated { IsSeated (system_of (F.system setting.now)) actor seat.new.me (Does number (F.attempt program.new)) }
+{
+    while F::is_given_up(program) {
+        step::<F>(shared, setting, seat, actor, number, program);
+    }
+}
+
+/// What a step has come to: where it was the last of its job, the job's record.
+pub(crate) fn tell<F: Jobs>(
+    _setting: &F::Setting,
+    seat: &Seat<(), Knows<F>>,
+    answer: Answer,
+    actor: u32,
+    number: u64,
+    program: &F::Program,
+) -> Progress<F::Job, F::Reply>
+    requires legal { let O = system_of (F.system _setting.now) in IsLegal O 0 O.opening (seen_in seat.now.me.0) }
+    requires ended { act (F.attempt program.now) ≡ Rest → HasEnded (system_of (F.system _setting.now)) (seen_in seat.now.me.0) actor number (F.attempt program.now) }
+    ensures { IsProgress (system_of (F.system _setting.now)) actor (Does number (F.attempt program.now)) (seen_in seat.now.me.0) answer result }
+{
+    if !F::rests(program) {
+        return Progress::Moved(answer);
+    }
+    match F::outcome(program) {
+        Some((turn, job, reply)) => Progress::Finished(ToldRecord {
+            turn,
+            actor,
+            number,
+            job,
+            reply,
+        }),
+        None => unreachable!(),
+    }
+}

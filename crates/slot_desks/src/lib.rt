@@ -1,0 +1,9 @@
+//! The slots as jobs that desks do, on words that threads share.
+#![tactic(auto)]
+
+pub use jobs::SlotJobs;
+
+pub mod driving;
+mod jobs;
+#[cfg(test)]
+mod tests;
