@@ -12,13 +12,12 @@ use crate::rule::Systems;
 use crate::steps::{Knows, free_all, step, tell};
 use atomic_table::Seat;
 use std::marker::Model;
-use std::snapshot::Snapshot;
 use turns::laws;
 
-/// One actor, which a thread owns.
+/// One actor, which a thread owns. It is `Send` where its program is, and what it keeps of its setting.
 #[derive(Drop)]
 pub struct Desk<F: Jobs> {
-    pub(crate) setting: Snapshot<F::Setting>,
+    pub(crate) setting: F::Kept,
     pub(crate) seat: Seat<(), Knows<F>>,
     pub(crate) number: u32,
     pub(crate) doing: Option<(u64, F::Program)>,
@@ -35,9 +34,9 @@ impl<F: Jobs> Model for Desk<F> {
 
     ghost coded = { desk_code F.Setting.code F.Lock.code F.Job.code F.Reply.code F.Effect.code };
 
-    ghost view = { λ d. record { table = d.seat.table_id; setting = d.setting.value; number = d.number; actor = actor_of F.attempt d.doing; seen = seen_in d.seat.me.0 } };
+    ghost view = { λ d. record { table = d.seat.table_id; setting = F.kept d.setting; number = d.number; actor = actor_of F.attempt d.doing; seen = seen_in d.seat.me.0 } };
 
-    ghost invariant = { λ d. F.IsSetting d.setting.value × IsSeated (system_of (F.system d.setting.value)) d.number d.seat.me (actor_of F.attempt d.doing) × IfSome d.doing (λ doing. F.Stands d.setting.value doing.1) };
+    ghost invariant = { λ d. F.IsSetting (F.kept d.setting) × IsSeated (system_of (F.system (F.kept d.setting))) d.number d.seat.me (actor_of F.attempt d.doing) × IfSome d.doing (λ doing. F.Stands (F.kept d.setting) doing.1) };
 }
 
 impl<F: Jobs> Desk<F> {

@@ -1,7 +1,6 @@
 ghost use Rattle.std.specs.Prelude.{◌≡◌, ◌≢◌, ◌<◌, IfOk};
 
 use std::alloc::{AllocError, Global};
-use std::snapshot::Snapshot;
 use turns::{Answer, Operation};
 
 /// Jobs that actors do on shared words, as `turns` has them, and the program that an actor does a job with.
@@ -17,6 +16,10 @@ pub trait Jobs {
     /// What tells the systems of a family apart, as a plan.
     type Setting;
 
+    /// What a desk keeps of its setting: a `Snapshot` of it, or a small setting itself. It is a type of the
+    /// implementor's, since `Send` is derived for no struct of which a `Snapshot` itself is a field.
+    type Kept: Drop;
+
     type Lock;
 
     type Job: Drop;
@@ -27,6 +30,8 @@ pub trait Jobs {
     /// An actor's attempt at a job.
     type Program: Drop;
 
+    ghost kept: { Self.Kept → Self.Setting };
+
     ghost system: { Self.Setting → SystemOver Self.Lock Self.Job Self.Reply Self.Effect };
 
     ghost IsSetting: { Self.Setting → Type 0 };
@@ -36,12 +41,15 @@ pub trait Jobs {
     // What a program keeps under a setting.
     ghost Stands: { Self.Setting → Self.Program → Type 0 };
 
-    /// A desk holds no borrow of the setting, only a snapshot.
-    fn begin(setting: &Snapshot<Self::Setting>, job: Self::Job) -> Self::Program
-        requires setting { IsSetting setting.now.value }
-        requires job { (system setting.now.value).IsJob job }
-        ensures begins { attempt result ≡ begin (system_of (system setting.now.value)) job }
-        ensures stands { Stands setting.now.value result };
+    fn keep(setting: &Self::Setting) -> Self::Kept
+        ensures { kept result ≡ setting.now };
+
+    /// A desk holds no borrow of the setting, only what it keeps of it.
+    fn begin(setting: &Self::Kept, job: Self::Job) -> Self::Program
+        requires setting { IsSetting (kept setting.now) }
+        requires job { (system (kept setting.now)).IsJob job }
+        ensures begins { attempt result ≡ begin (system_of (system (kept setting.now))) job }
+        ensures stands { Stands (kept setting.now) result };
 
     /// How many words there are.
     fn size(setting: &Self::Setting) -> usize

@@ -48,7 +48,7 @@ fn deal<F: Jobs>(
     for number in 0..count {
         let one = shared.split_seat::<Parted>(&mut seat);
         desks.push_reserved(Desk {
-            setting: Snapshot::of(setting),
+            setting: F::keep(setting),
             seat: one,
             number,
             doing: None,

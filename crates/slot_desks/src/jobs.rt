@@ -1,7 +1,6 @@
 use desks::Jobs;
 use slots::{Effect, Job, Program, Taken};
 use std::alloc::{AllocError, Global};
-use std::snapshot::Snapshot;
 use turns::{Answer, Operation, Phase};
 
 /// The slots as jobs that desks do.
@@ -14,6 +13,8 @@ impl Jobs for SlotJobs {
 
     type Setting = ();
 
+    type Kept = ();
+
     type Lock = u32;
 
     type Job = Job;
@@ -24,6 +25,8 @@ impl Jobs for SlotJobs {
 
     type Program = Program;
 
+    ghost kept = { λ unit. unit };
+
     ghost system = { λ _. slots_over };
 
     ghost IsSetting = { λ _. Unit {0} };
@@ -32,7 +35,9 @@ impl Jobs for SlotJobs {
 
     ghost Stands = { λ _ program. Keeps program };
 
-    fn begin(_setting: &Snapshot<()>, job: Job) -> Program {
+    fn keep(_setting: &()) {}
+
+    fn begin(_setting: &(), job: Job) -> Program {
         Program::new(job)
     }
 

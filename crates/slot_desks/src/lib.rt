@@ -3,6 +3,7 @@
 
 pub use jobs::SlotJobs;
 
+pub mod crossing;
 pub mod driving;
 mod jobs;
 #[cfg(test)]

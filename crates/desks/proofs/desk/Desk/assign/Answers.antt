@@ -10,7 +10,7 @@ use Rattle.desks.proofs.desk.Desk.assign.Goals as goal
 pub invariant_of-self : goal.invariant_of-self
 invariant_of-self g c =
     let desk = c.self.inside in
-    let setting = c.self.inside.setting.value in
+    let setting = g.F.Jobs.kept c.self.inside.setting in
     let O = system_of (g.F.Jobs.system setting) in
     let now = actor_of g.F.Jobs.attempt desk.doing in
     let free = subst (λ d. is_free (system_of (g.F.Jobs.system d.setting)) d.actor ≡ true) (sym c.self.view_is) (sym c.is_idle.ensures ∙ c.if-not-is_idle.false) in
