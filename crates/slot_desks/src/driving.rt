@@ -9,6 +9,7 @@ ghost use Rattle.slots.specs.System.{IsJob, slots};
 use crate::jobs::SlotJobs;
 use desks::{Desk, Progress, Room, Told};
 use slots::{Job, Taken, UpToTwo};
+use std::thread;
 
 /// The desks of slots, and what they tell of jobs that have ended.
 pub type SlotRoom = Room<SlotJobs>;
@@ -16,6 +17,16 @@ pub type SlotRoom = Room<SlotJobs>;
 pub type SlotDesk = Desk<SlotJobs>;
 
 pub type SlotTold = Told<Job, Taken>;
+
+/// How often a desk begins a job anew before it gives up.
+const TRIES: u32 = 1_000_000;
+
+/// A desk at work, and the records of the jobs that it has done.
+#[derive(Drop)]
+pub struct Shift {
+    pub desk: SlotDesk,
+    pub log: Vec<SlotTold>,
+}
 
 /// Makes the desk's steps until its job has ended, or so many of them.
 pub fn finish(room: &SlotRoom, desk: &mut SlotDesk, most: u32) -> Option<SlotTold>
@@ -33,82 +44,82 @@ pub fn finish(room: &SlotRoom, desk: &mut SlotDesk, most: u32) -> Option<SlotTol
     None
 }
 
-/// Does one job, and gives its record if it has ended within so many steps.
-pub fn work(
-    room: &SlotRoom,
-    desk: &mut SlotDesk,
-    number: u64,
-    job: Job,
-    most: u32,
-) -> Option<SlotTold>
-    requires desk { IsDeskOf desk.old room.now tt }
-    requires job { IsJob job }
-    ensures desk { IsDeskOf desk.new room.now tt }
-    ensures number { desk.new.number ≡ desk.old.number }
-{
-    if !desk.assign(number, job) {
-        return None;
-    }
-    finish(room, desk, most)
-}
-
-fn give(
-    room: &SlotRoom,
-    desk: &mut SlotDesk,
-    number: u64,
-    slot: u32,
-    most: u32,
-    log: &mut Vec<SlotTold>,
-)
+/// Makes the desk's steps until its job has ended. Each time that it has not within `patience` steps, the desk
+/// gives back what it holds, so that no desk waits for it, and lets other threads run.
+fn persist(room: &SlotRoom, desk: &mut SlotDesk, patience: u32) -> Option<SlotTold>
     requires { IsDeskOf desk.old room.now tt }
     ensures desk { IsDeskOf desk.new room.now tt }
     ensures number { desk.new.number ≡ desk.old.number }
 {
-    if slot >= 8 {
-        return;
+    for _ in 0..TRIES {
+        if let Some(told) = finish(room, desk, patience) {
+            return Some(told);
+        }
+        desk.give_back(room, &());
+        thread::yield_now();
     }
-    let Some(told) = work(room, desk, number, Job::Give(slot), most) else {
-        return;
-    };
-    if log.push(told).is_err() {
-        return;
+    None
+}
+
+/// Does one job, and logs its record.
+fn work(room: &SlotRoom, shift: &mut Shift, number: u64, job: Job) -> Option<UpToTwo<u32>>
+    requires desk { IsDeskOf shift.old.desk room.now tt }
+    requires job { IsJob job }
+    ensures desk { IsDeskOf shift.new.desk room.now tt }
+    ensures number { shift.new.desk.number ≡ shift.old.desk.number }
+{
+    if !shift.desk.assign(number, job) {
+        return None;
+    }
+    // Each desk waits for a while of its own, lest two keep in step.
+    let patience = 30 + 7 * (shift.desk.number() % 8);
+    let told = persist(room, &mut shift.desk, patience)?;
+    let taken = told.reply.slots();
+    match shift.log.push(told) {
+        Ok(()) => Some(taken),
+        Err(_) => None,
+    }
+}
+
+fn give(room: &SlotRoom, shift: &mut Shift, number: u64, slot: u32) -> Option<UpToTwo<u32>>
+    requires { IsDeskOf shift.old.desk room.now tt }
+    ensures desk { IsDeskOf shift.new.desk room.now tt }
+    ensures number { shift.new.desk.number ≡ shift.old.desk.number }
+{
+    if slot < 8 {
+        work(room, shift, number, Job::Give(slot))
+    } else {
+        None
     }
 }
 
 /// Gives back the slots that a job took.
-pub fn give_each(
+fn give_each(
     room: &SlotRoom,
-    desk: &mut SlotDesk,
+    shift: &mut Shift,
     number: u64,
     taken: UpToTwo<u32>,
-    most: u32,
-    log: &mut Vec<SlotTold>,
-)
-    requires { IsDeskOf desk.old room.now tt }
-    ensures desk { IsDeskOf desk.new room.now tt }
-    ensures number { desk.new.number ≡ desk.old.number }
+) -> Option<UpToTwo<u32>>
+    requires { IsDeskOf shift.old.desk room.now tt }
+    ensures desk { IsDeskOf shift.new.desk room.now tt }
+    ensures number { shift.new.desk.number ≡ shift.old.desk.number }
 {
     match taken {
-        UpToTwo::Empty => {}
-        UpToTwo::One(slot) => give(room, desk, number, slot, most, log),
+        UpToTwo::Empty => None,
+        UpToTwo::One(slot) => give(room, shift, number, slot),
         UpToTwo::Two(slot, other) => {
-            give(room, desk, number, slot, most, log);
-            give(room, desk, number, other, most, log);
+            give(room, shift, number, slot)?;
+            give(room, shift, number, other)
         }
     }
 }
 
-/// Takes slots and gives them back, so many times, each job within so many steps, and logs their records.
-pub fn take_and_give(
-    room: &SlotRoom,
-    mut desk: SlotDesk,
-    rounds: u32,
-    most: u32,
-    mut log: Vec<SlotTold>,
-) -> (SlotDesk, Vec<SlotTold>)
-    requires { IsDeskOf desk room.now tt }
-    ensures desk { IsDeskOf result.0 room.now tt }
-    ensures number { result.0.number ≡ desk.number }
+/// Takes slots and gives them back, so many times, and then takes a slot that it keeps. A desk that does not
+/// come to an end of a job stays at it.
+pub fn take_and_give(room: &SlotRoom, mut shift: Shift, rounds: u64) -> Shift
+    requires { IsDeskOf shift.desk room.now tt }
+    ensures desk { IsDeskOf result.desk room.now tt }
+    ensures number { result.desk.number ≡ shift.desk.number }
 {
     for round in 0..rounds {
         let job = if round % 2 == 0 {
@@ -116,16 +127,12 @@ pub fn take_and_give(
         } else {
             Job::TakeBoth
         };
-        let Some(told) = work(room, &mut desk, u64::from(round), job, most) else {
-            break;
-        };
-        let taken = told.reply.slots();
-        if log.push(told).is_err() {
-            break;
+        if let Some(taken) = work(room, &mut shift, round, job) {
+            give_each(room, &mut shift, round, taken);
         }
-        give_each(room, &mut desk, u64::from(round), taken, most, &mut log);
     }
-    (desk, log)
+    work(room, &mut shift, rounds, Job::Take);
+    shift
 }
 
 /// The last of the desks that a room opened with.

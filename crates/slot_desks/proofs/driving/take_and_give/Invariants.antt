@@ -4,6 +4,6 @@ use Rattle.slot_desks.proofs.driving.take_and_give.Given as goal
 
 abbrev pub invariant-loop-round : goal.invariant-loop-round
 invariant-loop-round l = record {
-  desk : IsDeskOf l.desk l.room tt;
-  number : l.desk.number ≡ l.fn.desk.number;
+  desk : IsDeskOf l.shift.desk l.room tt;
+  number : l.shift.desk.number ≡ l.fn.shift.desk.number;
 }
