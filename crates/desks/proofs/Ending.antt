@@ -2,17 +2,14 @@ use Rattle.std.proofs.Common.{◌≡◌, ◌≢◌, ℕ, zero, suc, ◌+◌, ◌
 use Rattle.std.specs.Prelude.{Option, Some, None, slice_get, ◌==◌, if◌then◌else◌}
 use Rattle.turns.specs.Among.{IsIn}
 use Rattle.turns.specs.System.{System}
-use Rattle.turns.specs.Attempt.{Act, AttemptOf, Rest, Ask, Take, Leave, Free, Look, Turn as TakesTurn, Make, StandsIn, act_in, answer_to, free_act}
+use Rattle.turns.specs.Attempt.{Act, AttemptOf, Rest, Ask, Take, Leave, Free, Look, Turn as TakesTurn, Make, StandsIn, act_in, free_act}
 use Rattle.turns.specs.World.{World, ActorOf, Does, RecordOf}
 use Rattle.turns.specs.Law.{FitsIn, IsLegal}
 use Rattle.turns.specs.Runs.{is_rest}
-use Rattle.turns.specs.PutOff.{IsPutOffBy}
 use Rattle.turns.specs.declared.answer.Answer.{Answer}
-use Rattle.turns.specs.declared.answer.Answer.TheVariants.{Asked, Seized, Held, Preferred, Again, Value, Turn, Done}
-use Rattle.turns.specs.declared.judgement.Judgement.TheVariants as judgement
 use Rattle.turns.specs.declared.phase.Phase.{Phase}
 use Rattle.turns.specs.declared.phase.Phase.TheVariants.{Requests, Seizes, Tests, Turns, Withdraws, GivesBack, Operates}
-use Rattle.desks.specs.Desks.{HasAdvanced, HasStepped, IsProgress, IsTold, NamesWhom}
+use Rattle.desks.specs.Desks.{HasAdvanced, HasStepped, IsProgress, IsTold}
 use Rattle.desks.specs.declared.progress.Progress.{Progress}
 use Rattle.desks.specs.declared.progress.Progress.TheVariants as progress
 use Rattle.desks.specs.Kept.{HasEnded}
@@ -45,19 +42,6 @@ module _ (O : System) where
   to_free_in a (Withdraws lock) stands e = absurd cc
   to_free_in a GivesBack stands e = stands
   to_free_in a (Operates turn) stands e = absurd cc
-
-  -- who puts an actor off is told by the law
-  pub names_whom : (k : ℕ) (step : Act Lock Effect) (found : ℕ) → ((holder : ℕ) → answer_to O k step found ≡ Held holder → IsPutOffBy O k step found (judgement.Held holder))
-      → ((other : ℕ) → answer_to O k step found ≡ Preferred other → IsPutOffBy O k step found (judgement.Preferred other))
-      → (answer : Answer) → answer ≡ answer_to O k step found → NamesWhom O k step found answer
-  names_whom k step found held preferred (Asked word) e = tt
-  names_whom k step found held preferred Seized e = tt
-  names_whom k step found held preferred (Held holder) e = held holder (sym e)
-  names_whom k step found held preferred (Preferred other) e = preferred other (sym e)
-  names_whom k step found held preferred (Again word) e = tt
-  names_whom k step found held preferred (Value value) e = tt
-  names_whom k step found held preferred (Turn number) e = tt
-  names_whom k step found held preferred Done e = tt
 
   -- the record at a place of a legal order has that place as its turn
   turn_at : (i : ℕ) (state : O.State) (order : List (RecordOf O)) (place : ℕ) (r : RecordOf O) → IsLegal O i state order → slice_get order place ≡ Some r → r.turn ≡ (i + place) % 2 ^ 64

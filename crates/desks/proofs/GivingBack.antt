@@ -7,6 +7,7 @@ use Rattle.turns.specs.declared.phase.Phase.TheVariants.{Requests, Seizes, Tests
 use Rattle.turns.specs.World.{ActorOf, Does, RecordOf}
 use Rattle.turns.specs.declared.answer.Answer.{Answer}
 use Rattle.desks.specs.Desks.{FreesAll, HasFreed, HasMade, HasStepped, HasToFree}
+use Rattle.desks.specs.Kept.{number_found}
 use Rattle.desks.specs.Outcomes.{ComesBackTo, back_left, begun_anew, is_given_up}
 
 module _ (O : System) where
@@ -109,7 +110,8 @@ module _ (O : System) where
   pub goes_back_stepped : (k number : ℕ) (a b : AttemptOf O) (seen seen_after : List (RecordOf O)) (answer : Answer) → HasStepped O k (Does number a) (Does number b) seen seen_after answer → is_given_up a.phase ≡ true → HasToFree O (Does number a) → GoesBack a.phase a b
   goes_back_stepped k number a b seen seen_after answer stepped up some =
       let same : a ≡ stepped.attempt = same_attempt number stepped.number a stepped.attempt (Does number a) refl stepped.before_is in
-      goes_back k stepped.found a b up some (same_attempt number stepped.number b _ (Does number b) refl stepped.after_is ∙ ap (λ (x : AttemptOf O). next O k x stepped.found) (sym same))
+      let found = number_found O stepped.world stepped.attempt in
+      goes_back k found a b up some (same_attempt number stepped.number b _ (Does number b) refl stepped.after_is ∙ ap (λ (x : AttemptOf O). next O k x found) (sym same))
 
   -- one more step of those that were made
   pub made_more : (k number count most : ℕ) (first a b : AttemptOf O) (seen between seen_after : List (RecordOf O)) (answer : Answer) → count + back_left a.phase a.held ≤ most → HasMade O k count (Does number first) (Does number a) seen between → HasStepped O k (Does number a) (Does number b) between seen_after answer → GoesBack a.phase a b

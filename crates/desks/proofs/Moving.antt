@@ -122,7 +122,18 @@ module _ (O : System) where
       }
 
       pub told_moved : HasMoved O k number a seen found (after kept.order found ∷ [])
-      told_moved = record { order = kept.order; begins = fit.begins; own_is = fit.own_is; view_is = refl; legal = law.legal; ended = ended_in O (record { words = slice_set words (place O (act a)) (becomes O k (act a) found); actors = actors; order = order }) k number (next O k a found) (next O k a found).phase refl sound.stands sound.fits; to_free = λ gives. to_free_in O (next O k a found) (next O k a found).phase sound.stands gives } where
+      told_moved = record {
+        world = with_actor O k (Does number a) now;
+        lawful = follows now kept.lawful fit.there;
+        there = set_here kept.actors k (Does number a) there;
+        begins = fit.begins;
+        own_is = fit.own_is;
+        found_is = refl;
+        view_is = refl;
+        legal = law.legal;
+        ended = ended_in O (record { words = slice_set words (place O (act a)) (becomes O k (act a) found); actors = actors; order = order }) k number (next O k a found) (next O k a found).phase refl sound.stands sound.fits;
+        to_free = λ gives. to_free_in O (next O k a found) (next O k a found).phase sound.stands gives;
+      } where
         sound : IsSound O (record { words = slice_set words (place O (act a)) (becomes O k (act a) found); actors = actors; order = order }) k number (next O k a found)
         sound = law.sound k number (next O k a found) (own_fits found refl).there
 

@@ -1,17 +1,17 @@
-use Rattle.std.proofs.Common.{◌≡◌, ℕ, zero, suc, true, set, List, [], ◌∷◌, ◌++◌, sym, refl, ap, subst, ◌∙◌}
+use Rattle.std.proofs.Common.{◌≡◌, ℕ, zero, suc, true, set, List, [], ◌∷◌, sym, refl, ap, subst, ◌∙◌}
 use mathlib.Core.Option.{some}
 use lib.ListN.{get_elem?}
 use Rattle.atomic_table.specs.Table.{Allows, Me, State}
 use Rattle.atomic_table.proofs.Lists.{set_again, set_here}
 use Rattle.turns.specs.System.{System, IsSystem}
 use Rattle.turns.specs.Attempt.{Rest, AttemptOf, act, answer_to, next}
-use Rattle.turns.specs.World.{World, ActorOf, RecordOf, Idle, Does, moved, place, becomes, added_in, with_actor}
+use Rattle.turns.specs.World.{World, ActorOf, RecordOf, Idle, Does, moved, place, becomes, with_actor}
 use Rattle.turns.specs.Law.{IsFree, Lawful}
 use Rattle.turns.specs.Runs.{is_free}
 use Rattle.desks.specs.Kept.{PartOf, Follows, HasEnded, HasMoved}
 use Rattle.turns.specs.declared.answer.Answer.{Answer}
 use Rattle.desks.specs.Rule.{Rule}
-use Rattle.desks.specs.Desks.{HasStepped, HasToFree, IsSeated, NamesWhom, seen_in}
+use Rattle.desks.specs.Desks.{HasStepped, HasToFree, IsSeated, seen_in}
 use Rattle.desks.proofs.Lookups.{there_below}
 use Rattle.desks.proofs.Moving.{allows}
 use Rattle.desks.proofs.Ending.{rest_is}
@@ -38,48 +38,46 @@ module _ (O : System) where
       subst (λ (m : Me (Unit {0}) (List (PartOf O))). Allows (Rule O count) slots id m i f (λ n after. (after.1 ≡ m.1) × HasMoved O k number a seen n after.0)) (sym seated.me_is)
       (allows O system moves k number a seated.before seen seated.follows count slots id i f at does)
 
+  -- what a seat has seen of its own step
+  seen_after : (k number : ℕ) (a : AttemptOf O) (seen : List (RecordOf O)) (me_after : Me (Unit {0}) (List (PartOf O))) (found : ℕ) → (step : HasMoved O k number a seen found me_after.0) → seen_in me_after.0 ≡ (moved O k number a step.world).order
+  seen_after k number a seen me_after found step = ap seen_in step.view_is
+
   pub seated_after : (k number : ℕ) (a after : AttemptOf O) (me me_after : Me (Unit {0}) (List (PartOf O))) (found : ℕ) → IsSeated O k me (Does number a) → HasMoved O k number a (seen_in me.0) found me_after.0 → me_after.1 ≡ me.1 → after ≡ next O k a found → IsSeated O k me_after (Does number after)
-  seated_after k number a after me me_after found seated moved none is =
-      let seen : seen_in me_after.0 ≡ moved.order ++ added_in O k number a a.phase found = ap seen_in moved.view_is in
+  seated_after k number a after me me_after found seated step none is =
+      let seen = seen_after k number a (seen_in me.0) me_after found step in
       let m : ActorOf O = Does number (next O k a found) in
-      let view : me_after.0 ≡ record { number = k; actor = m; seen = seen_in me_after.0 } ∷ [] = moved.view_is ∙ ap (λ (s : List (RecordOf O)). record { number = k; actor = m; seen = s } ∷ []) (sym seen) in
+      let view : me_after.0 ≡ record { number = k; actor = m; seen = seen_in me_after.0 } ∷ [] = step.view_is ∙ ap (λ (s : List (RecordOf O)). record { number = k; actor = m; seen = s } ∷ []) (sym seen) in
       let empty : me_after.1 ≡ [] = none ∙ ap (λ (x : Me (Unit {0}) (List (PartOf O))). x.1) seated.me_is in
       record {
         few = seated.few;
         before = m;
         me_is = λ j. (view j, empty j);
         follows = subst (λ (b : AttemptOf O). Follows O k m (Does number b)) (sym is) (follows_itself k m);
-        legal = rw seen moved.legal;
-        to_free = subst (λ (b : AttemptOf O). HasToFree O (Does number b)) (sym is) moved.to_free;
+        legal = rw seen step.legal;
+        to_free = subst (λ (b : AttemptOf O). HasToFree O (Does number b)) (sym is) step.to_free;
       }
-
-  seen_after : (k number : ℕ) (a : AttemptOf O) (seen : List (RecordOf O)) (me_after : Me (Unit {0}) (List (PartOf O))) (found : ℕ) → (moved : HasMoved O k number a seen found me_after.0) → seen_in me_after.0 ≡ moved.order ++ added_in O k number a a.phase found
-  seen_after k number a seen me_after found moved = ap seen_in moved.view_is
 
   -- a step by what the seat tells of it
-  pub stepped_by : (k number : ℕ) (a after : AttemptOf O) (me me_after : Me (Unit {0}) (List (PartOf O))) (found : ℕ) (answer : Answer) → HasMoved O k number a (seen_in me.0) found me_after.0 → after ≡ next O k a found → answer ≡ answer_to O k (act a) found → NamesWhom O k (act a) found answer → HasStepped O k (Does number a) (Does number after) (seen_in me.0) (seen_in me_after.0) answer
-  stepped_by k number a after me me_after found answer moved is told names =
-      let seen = seen_after k number a (seen_in me.0) me_after found moved in
-      record {
-        number = number;
-        attempt = a;
-        found = found;
-        before_is = refl;
-        after_is = ap (λ (b : AttemptOf O). Does number b) is;
-        answer_is = told;
-        names_whom = names;
-        order = moved.order;
-        begins = moved.begins;
-        own_is = moved.own_is;
-        seen_is = seen;
-        legal = rw seen moved.legal;
-      }
+  pub stepped_by : (k number : ℕ) (a after : AttemptOf O) (me me_after : Me (Unit {0}) (List (PartOf O))) (found : ℕ) (answer : Answer) → HasMoved O k number a (seen_in me.0) found me_after.0 → after ≡ next O k a found → answer ≡ answer_to O k (act a) found → HasStepped O k (Does number a) (Does number after) (seen_in me.0) (seen_in me_after.0) answer
+  stepped_by k number a after me me_after found answer step is told = record {
+    number = number;
+    attempt = a;
+    before_is = refl;
+    world = step.world;
+    lawful = step.lawful;
+    there = step.there;
+    begins = step.begins;
+    own_is = step.own_is;
+    answer_is = told ∙ ap (answer_to O k (act a)) step.found_is;
+    after_is = ap (λ (b : AttemptOf O). Does number b) (is ∙ ap (next O k a) step.found_is);
+    seen_is = seen_after k number a (seen_in me.0) me_after found step;
+  }
 
   -- and the job's end
   pub ended_after : (k number : ℕ) (a after : AttemptOf O) (me me_after : Me (Unit {0}) (List (PartOf O))) (found : ℕ) → HasMoved O k number a (seen_in me.0) found me_after.0 → after ≡ next O k a found → act after ≡ Rest → HasEnded O (seen_in me_after.0) k number after
-  ended_after k number a after me me_after found moved is rests =
-      let seen = seen_after k number a (seen_in me.0) me_after found moved in
-      rw (seen, is) (moved.ended (subst (λ (b : AttemptOf O). act b ≡ Rest) is rests))
+  ended_after k number a after me me_after found step is rests =
+      let seen = seen_after k number a (seen_in me.0) me_after found step in
+      rw (seen, is) (step.ended (subst (λ (b : AttemptOf O). act b ≡ Rest) is rests))
 
   -- what an actor is after one more change follows what the first one follows
   pub follows_on : (k : ℕ) (before now later : ActorOf O) → Follows O k before now → ((w : World O) → Lawful O w → get_elem? w.actors k ≡ some now → Lawful O (with_actor O k later w)) → Follows O k before later

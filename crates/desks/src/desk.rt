@@ -1,7 +1,8 @@
-ghost use Rattle.std.specs.Prelude.{◌≡◌, ℕ};
+ghost use Rattle.std.specs.Prelude.{◌≡◌, ℕ, MatchOption};
 ghost use Rattle.turns.specs.Law.{IsLegal};
 ghost use Rattle.turns.specs.Runs.{is_free};
 ghost use Rattle.turns.specs.System.{system_of};
+ghost use Rattle.turns.specs.World.{Idle, Does};
 ghost use Rattle.desks.specs.Desks.{HasAdvanced, HasGivenBack, assigned_if};
 ghost use Rattle.desks.specs.Views.{IsDeskOf};
 
@@ -58,6 +59,17 @@ impl<F: Jobs> Desk<F> {
         }
     }
 
+    /// The number of its job and how far it is with that, if it was ever assigned one.
+    pub fn doing(&self) -> Option<(u64, &F::Program)>
+        ensures { MatchOption result (self.now.actor ≡ Idle)
+            (λ doing. self.now.actor ≡ Does doing.0 (F.attempt doing.1.now)) }
+    {
+        match &self.doing {
+            Some((number, program)) => Some((*number, program)),
+            None => None,
+        }
+    }
+
     /// Assigns a job under a number to an actor that is free, and says whether it was.
     pub fn assign(&mut self, number: u64, job: F::Job) -> bool
         requires job { (F.system self.old.setting).IsJob job }
@@ -95,6 +107,7 @@ impl<F: Jobs> Desk<F> {
         );
         tell::<F>(setting, &self.seat, answer, self.number, *number, program)
     }
+
     /// Withdraws its request and frees what it holds, each by one atomic operation, and begins its job anew.
     /// Past its turn it changes nothing.
     pub fn give_back(&mut self, room: &Room<F>, setting: &F::Setting)

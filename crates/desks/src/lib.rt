@@ -11,6 +11,7 @@ pub use view::View;
 
 mod desk;
 mod jobs;
+pub mod laws;
 mod meeting;
 mod progress;
 mod room;

@@ -95,7 +95,6 @@ pub(crate) fn step<F: Jobs>(
     ensures seated { IsSeated (system_of (F.system setting.now)) actor seat.new.me (Does number (F.attempt program.new)) }
 {
     laws::every_move_keeps_the_law::<Systems<F>>();
-    laws::put_off_actors_are_told_by_whom::<Systems<F>>();
     let found = make::<F, Brand>(shared, setting, seat, actor, number, program);
     F::take(setting, actor, program, found)
 }

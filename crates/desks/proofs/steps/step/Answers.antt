@@ -1,6 +1,4 @@
 use Rattle.turns.specs.System.{system_of}
-use Rattle.turns.specs.Attempt.{act}
-use Rattle.desks.proofs.Ending.{names_whom}
 use Rattle.desks.proofs.Seating.{allows_seated, ended_after, seated_after, stepped_by}
 use Rattle.desks.proofs.steps.step.Goals as goal
 
@@ -13,11 +11,7 @@ make-found-requires-clause-allowed g c i f at does =
 
 pub returns-clause-stepped : goal.returns-clause-stepped
 returns-clause-stepped g c =
-    let O = system_of (g.F.Jobs.system c.args.setting.now) in
-    let a = g.F.Jobs.attempt c.args.program.now in
-    let told = c.put_off_actors_are_told_by_whom.ensures in
-    stepped_by O c.args.actor c.args.number a _ c.args.seat.now.me c.make-found.new.seat.me c.make-found.result _ c.make-found.ensures.told c.take.ensures.next c.take.ensures.answer
-    (names_whom O c.args.actor (act a) c.make-found.result (λ holder e. told.held c.args.setting.now c.args.actor a c.make-found.result holder e) (λ other e. told.preferred c.args.setting.now c.args.actor a c.make-found.result other e) _ c.take.ensures.answer)
+    stepped_by (system_of (g.F.Jobs.system c.args.setting.now)) c.args.actor c.args.number (g.F.Jobs.attempt c.args.program.now) _ c.args.seat.now.me c.make-found.new.seat.me c.make-found.result _ c.make-found.ensures.told c.take.ensures.next c.take.ensures.answer
 
 pub returns-clause-ended : goal.returns-clause-ended
 returns-clause-ended g c rests =
