@@ -5,7 +5,8 @@ use Rattle.turns.specs.declared.phase.Phase.{Phase}
 use Rattle.turns.specs.declared.phase.Phase.TheVariants.{Requests, Seizes, Tests, Turns, Withdraws, GivesBack, Operates}
 
 -- past its turn, an attempt has the turn's number, its job and its reply
-abbrev pub outcome_in : {Lock Job Reply : Type 0} → Phase Lock ℕ → Job → Option Reply → Option (ℕ × Job × Reply)
+abbrev pub outcome_in : {Lock Job Reply : Type 0} → Phase Lock ℕ → Job → Option Reply
+    → Option (ℕ × Job × Reply)
 outcome_in (Operates turn) job (Some reply) = Some (turn, job, reply)
 outcome_in (Operates turn) job None = None
 outcome_in (Requests lock) job reply = None
@@ -15,7 +16,8 @@ outcome_in Turns job reply = None
 outcome_in (Withdraws lock) job reply = None
 outcome_in GivesBack job reply = None
 
-abbrev pub outcome_of : {Lock Job Reply Effect : Type 0} → Attempt Lock Job Reply Effect → Option (ℕ × Job × Reply)
+abbrev pub outcome_of : {Lock Job Reply Effect : Type 0} → Attempt Lock Job Reply Effect
+    → Option (ℕ × Job × Reply)
 outcome_of a = outcome_in a.phase a.job a.reply
 
 -- whether an attempt was given up: its request is to be withdrawn, or what it holds is to be freed
@@ -39,7 +41,8 @@ back_left Turns held = 0
 back_left (Operates turn) held = 0
 
 module _ (O : System) where
-  -- what an attempt is once it has given back: its job from the beginning, or past its turn the attempt itself
+  -- what an attempt is once it has given back: its job from the beginning, or past its turn the
+  -- attempt itself
   abbrev pub begun_anew : Phase O.Lock ℕ → AttemptOf O → AttemptOf O
   begun_anew (Operates turn) a = a
   begun_anew (Requests lock) a = begin O a.job

@@ -15,7 +15,8 @@ use atomic_table::Seat;
 use std::marker::Model;
 use turns::laws;
 
-/// One actor, which a thread owns. It is `Send` where its program is, and what it keeps of its setting.
+/// One actor, which a thread owns. It is `Send` where its program is, and what it keeps of its
+/// setting.
 #[derive(Drop)]
 pub struct Desk<F: Jobs> {
     pub(crate) setting: F::Kept,
@@ -35,16 +36,26 @@ impl<F: Jobs> Model for Desk<F> {
 
     ghost coded = { desk_code F.Setting.code F.Lock.code F.Job.code F.Reply.code F.Effect.code };
 
-    ghost view = { λ d. record { table = d.seat.table_id; setting = F.kept d.setting; number = d.number; actor = actor_of F.attempt d.doing; seen = seen_in d.seat.me.0 } };
+    ghost view = { λ d. record {
+      table = d.seat.table_id;
+      setting = F.kept d.setting;
+      number = d.number;
+      actor = actor_of F.attempt d.doing;
+      seen = seen_in d.seat.me.0;
+    } };
 
-    ghost invariant = { λ d. F.IsSetting (F.kept d.setting) × IsSeated (system_of (F.system (F.kept d.setting))) d.number d.seat.me (actor_of F.attempt d.doing) × IfSome d.doing (λ doing. F.Stands (F.kept d.setting) doing.1) };
+    ghost invariant = { λ d. F.IsSetting (F.kept d.setting)
+        × IsSeated (system_of (F.system (F.kept d.setting))) d.number d.seat.me
+        (actor_of F.attempt d.doing)
+        × IfSome d.doing (λ doing. F.Stands (F.kept d.setting) doing.1) };
 }
 
 impl<F: Jobs> Desk<F> {
     /// Which of the room's actors it is, from 0 on.
     pub fn number(&self) -> u32
         ensures number { result ≡ self.now.number }
-        ensures legal { let O = system_of (F.system self.now.setting) in IsLegal O 0 O.opening self.now.seen }
+        ensures legal { let O = system_of (F.system self.now.setting) in
+            IsLegal O 0 O.opening self.now.seen }
     {
         self.number
     }
@@ -74,7 +85,11 @@ impl<F: Jobs> Desk<F> {
     pub fn assign(&mut self, number: u64, job: F::Job) -> bool
         requires job { (F.system self.old.setting).IsJob job }
         ensures free { result ≡ is_free (system_of (F.system self.old.setting)) self.old.actor }
-        ensures assigned { self.new ≡ record (self.old) { actor = assigned_if (system_of (F.system self.old.setting)) result number job self.old.actor } }
+        ensures assigned { self.new
+            ≡ record (self.old) {
+              actor = assigned_if (system_of (F.system self.old.setting))
+                  result number job self.old.actor;
+            } }
     {
         laws::every_move_keeps_the_law::<Systems<F>>();
         if !self.is_idle() {
@@ -87,8 +102,10 @@ impl<F: Jobs> Desk<F> {
     /// Makes the next step of its job, one atomic operation, and tells what came of it.
     pub fn advance(&mut self, room: &Room<F>, setting: &F::Setting) -> Progress<F::Job, F::Reply>
         requires { IsDeskOf self.old room.now setting.now }
-        ensures same { self.new ≡ record (self.old) { actor = self.new.actor; seen = self.new.seen } }
-        ensures advanced { HasAdvanced (system_of (F.system setting.now)) self.old.number self.old.actor self.new.actor self.old.seen self.new.seen result }
+        ensures same { self.new
+            ≡ record (self.old) { actor = self.new.actor; seen = self.new.seen } }
+        ensures advanced { HasAdvanced (system_of (F.system setting.now)) self.old.number
+            self.old.actor self.new.actor self.old.seen self.new.seen result }
     {
         let Some((number, program)) = &mut self.doing else {
             return Progress::Idle;
@@ -108,12 +125,14 @@ impl<F: Jobs> Desk<F> {
         tell::<F>(setting, &self.seat, answer, self.number, *number, program)
     }
 
-    /// Withdraws its request and frees what it holds, each by one atomic operation, and begins its job anew.
-    /// Past its turn it changes nothing.
+    /// Withdraws its request and frees what it holds, each by one atomic operation, and begins its
+    /// job anew. Past its turn it changes nothing.
     pub fn give_back(&mut self, room: &Room<F>, setting: &F::Setting)
         requires { IsDeskOf self.old room.now setting.now }
-        ensures same { self.new ≡ record (self.old) { actor = self.new.actor; seen = self.new.seen } }
-        ensures given_back { HasGivenBack (system_of (F.system setting.now)) self.old.number self.old.actor self.new.actor self.old.seen self.new.seen }
+        ensures same { self.new
+            ≡ record (self.old) { actor = self.new.actor; seen = self.new.seen } }
+        ensures given_back { HasGivenBack (system_of (F.system setting.now)) self.old.number
+            self.old.actor self.new.actor self.old.seen self.new.seen }
     {
         laws::every_move_keeps_the_law::<Systems<F>>();
         let Some((number, program)) = &mut self.doing else {

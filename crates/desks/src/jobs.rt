@@ -3,9 +3,11 @@ ghost use Rattle.std.specs.Prelude.{◌≡◌, ◌≢◌, ◌<◌, IfOk};
 use std::alloc::{AllocError, Global};
 use turns::{Answer, Operation};
 
-/// Jobs that actors do on shared words, as `turns` has them, and the program that an actor does a job with.
+/// Jobs that actors do on shared words, as `turns` has them, and the program that an actor does a
+/// job with.
 ///
-/// Each function is exact by the law's own words, so that whoever writes one proves nothing of threads.
+/// Each function is exact by the law's own words, so that whoever writes one proves nothing of
+/// threads.
 pub trait Jobs {
     ghost use Rattle.turns.specs.Attempt.{Attempt, Rest, act, answer_to, begin, next, restarted};
     ghost use Rattle.turns.specs.Runs.{is_rest};
@@ -16,8 +18,9 @@ pub trait Jobs {
     /// What tells the systems of a family apart, as a plan.
     type Setting;
 
-    /// What a desk keeps of its setting: a `Snapshot` of it, or a small setting itself. It is a type of the
-    /// implementor's, since `Send` is derived for no struct of which a `Snapshot` itself is a field.
+    /// What a desk keeps of its setting: a `Snapshot` of it, or a small setting itself. It is a
+    /// type of the implementor's, since `Send` is derived for no struct of which a `Snapshot`
+    /// itself is a field.
     type Kept: Drop;
 
     type Lock;
@@ -78,28 +81,34 @@ pub trait Jobs {
     /// The number of the word that its next step is made on.
     fn place(setting: &Self::Setting, program: &Self::Program) -> usize
         requires { Stands setting.now program.now }
-        ensures place { result ≡ place_of (system_of (system setting.now)) (act (attempt program.now)) }
+        ensures place { result
+            ≡ place_of (system_of (system setting.now)) (act (attempt program.now)) }
         ensures there { result < (system setting.now).size };
 
     /// The operation that makes its next step.
     fn operation(setting: &Self::Setting, actor: u32, program: &Self::Program) -> Operation
         requires actor { actor < (system setting.now).sharing.most }
-        ensures { result ≡ operation_of (system_of (system setting.now)) actor (act (attempt program.now)) };
+        ensures { result
+            ≡ operation_of (system_of (system setting.now)) actor (act (attempt program.now)) };
 
     /// Tells it the number that its next step found.
     fn take(setting: &Self::Setting, actor: u32, program: &mut Self::Program, found: u64) -> Answer
         requires actor { actor < (system setting.now).sharing.most }
         requires stands { Stands setting.now program.old }
         requires goes_on { act (attempt program.old) ≢ Rest }
-        ensures next { attempt program.new ≡ next (system_of (system setting.now)) actor (attempt program.old) found }
-        ensures answer { result ≡ answer_to (system_of (system setting.now)) actor (act (attempt program.old)) found }
+        ensures next { attempt program.new
+            ≡ next (system_of (system setting.now)) actor (attempt program.old) found }
+        ensures answer { result
+            ≡ answer_to (system_of (system setting.now)) actor (act (attempt program.old)) found }
         ensures stands { Stands setting.now program.new };
 
     /// Begins anew, once all that it holds is given back. Past the turn nothing changes.
     fn restart(setting: &Self::Setting, program: &mut Self::Program)
         requires { Stands setting.now program.old }
-        ensures restarts { attempt program.new ≡ restarted (system_of (system setting.now)) (attempt program.old) }
+        ensures restarts { attempt program.new
+            ≡ restarted (system_of (system setting.now)) (attempt program.old) }
         ensures stands { Stands setting.now program.new };
 
-    ghost is_system: { (setting : Self.Setting) → IsSetting setting → IsSystem (system_of (system setting)) };
+    ghost is_system: { (setting : Self.Setting) → IsSetting setting
+        → IsSystem (system_of (system setting)) };
 }

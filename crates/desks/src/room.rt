@@ -25,9 +25,15 @@ impl<F: Jobs> Model for Room<F> {
 
     ghost Value = { RoomView F.Setting };
 
-    ghost view = { λ room. record { table = room.table.shared.table_id; setting = room.table.shared.key.setting.value; count = room.table.shared.key.count } };
+    ghost view = { λ room. record {
+      table = room.table.shared.table_id;
+      setting = room.table.shared.key.setting.value;
+      count = room.table.shared.key.count;
+    } };
 
-    ghost invariant = { λ room. F.IsSetting room.table.shared.key.setting.value × (room.table.shared.table_id.words ≡ (F.system room.table.shared.key.setting.value).size) × (room.table.shared.table_id.slots ≡ 0) };
+    ghost invariant = { λ room. F.IsSetting room.table.shared.key.setting.value
+        × (room.table.shared.table_id.words ≡ (F.system room.table.shared.key.setting.value).size)
+        × (room.table.shared.table_id.slots ≡ 0) };
 }
 
 /// Gives each of the actors that a seat knows a desk of its own.
@@ -43,7 +49,8 @@ fn deal<F: Jobs>(
     requires room { (shared.now.key.setting.value ≡ setting.now) × (0 < shared.now.table_id.words) }
     requires seat { (seat.table_id ≡ shared.now.table_id) × (seat.me ≡ (idle_parts 0 count, [])) }
     requires none { (desks.old.items ≡ []) × (count ≤ vec_capacity desks.old) }
-    ensures { AreNew desks.new.items (record { table = shared.now.table_id; setting = setting.now; count = count }) }
+    ensures { AreNew desks.new.items
+        (record { table = shared.now.table_id; setting = setting.now; count = count }) }
 {
     for number in 0..count {
         let one = shared.split_seat::<Parted>(&mut seat);

@@ -46,10 +46,15 @@ fn gather<F: Jobs>(
     mut desks: Vec<Desk<F>>,
 ) -> Option<Seat<(), Knows<F>>>
     requires room { (shared.now.key.setting.value ≡ setting.now) × (0 < shared.now.table_id.words) }
-    requires desks { AreIdle (system_of (F.system setting.now)) shared.now.table_id setting.now desks.items }
-    ensures table { IfSome result (λ seat. (seat.table_id ≡ shared.now.table_id) × (seat.me.1 ≡ [])) }
+    requires desks { AreIdle (system_of (F.system setting.now)) shared.now.table_id setting.now
+        desks.items }
+    ensures table { IfSome result
+        (λ seat. (seat.table_id ≡ shared.now.table_id) × (seat.me.1 ≡ [])) }
     ensures rest { IfSome result (λ seat. AllRest (system_of (F.system setting.now)) seat.me.0) }
-    ensures told { IfSome result (λ seat. (i : ℕ) → IfSome (slice_get desks.items i) (λ d. Tells (system_of (F.system setting.now)) seat.me.0 i d.seen)) }
+    ensures told { IfSome result
+        (λ seat. (i : ℕ)
+        → IfSome (slice_get desks.items i)
+        (λ d. Tells (system_of (F.system setting.now)) seat.me.0 i d.seen)) }
     ensures none { IfNone result (vec_len desks ≡ 0) }
 {
     let Some(last) = desks.pop() else {
@@ -62,8 +67,8 @@ fn gather<F: Jobs>(
     Some(seat)
 }
 
-/// Shuts the room with all of its desks, which are idle and each at the place of its number, and gives its
-/// words. For want of memory all are handed back.
+/// Shuts the room with all of its desks, which are idle and each at the place of its number, and
+/// gives its words. For want of memory all are handed back.
 pub fn shut_all<F: Jobs>(
     alloc: Global,
     room: Room<F>,
@@ -92,7 +97,8 @@ pub fn shut_all<F: Jobs>(
     Ok(words)
 }
 
-/// Shuts the room with one of its desks, and gives its words. For want of memory both are handed back.
+/// Shuts the room with one of its desks, and gives its words. For want of memory both are handed
+/// back.
 pub fn shut<F: Jobs>(
     alloc: Global,
     room: Room<F>,

@@ -34,8 +34,12 @@ fn operate<F: Jobs, T: Told<Knows<F>>>(
 ) -> u64
     requires table { seat.old.table_id ≡ shared.now.table_id }
     requires place { place < shared.now.table_id.words }
-    requires allowed { Allows (Rule (system_of (F.system shared.now.key.setting.value)) shared.now.key.count) shared.now.table_id.slots seat.old.id seat.old.me place (λ n. applied operation n) (λ n me. (me.1 ≡ seat.old.me.1) × T.then seat.old.me.0 n me.0) }
-    ensures same { (seat.new.table_id ≡ seat.old.table_id) × (seat.new.id ≡ seat.old.id) × (seat.new.me.1 ≡ seat.old.me.1) }
+    requires allowed { Allows
+        (Rule (system_of (F.system shared.now.key.setting.value)) shared.now.key.count)
+        shared.now.table_id.slots seat.old.id seat.old.me place (λ n. applied operation n)
+        (λ n me. (me.1 ≡ seat.old.me.1) × T.then seat.old.me.0 n me.0) }
+    ensures same { (seat.new.table_id ≡ seat.old.table_id) × (seat.new.id ≡ seat.old.id)
+        × (seat.new.me.1 ≡ seat.old.me.1) }
     ensures told { T.then seat.old.me.0 result seat.new.me.0 }
 {
     match operation {
@@ -49,7 +53,8 @@ fn operate<F: Jobs, T: Told<Knows<F>>>(
     }
 }
 
-/// Makes the atomic operation of a program's next step, and gives the number found. The job's number is for the proof.
+/// Makes the atomic operation of a program's next step, and gives the number found. The job's
+/// number is for the proof.
 fn make<F: Jobs, T: Told<Knows<F>>>(
     shared: &Words<F>,
     setting: &F::Setting,
@@ -63,8 +68,15 @@ fn make<F: Jobs, T: Told<Knows<F>>>(
     requires setting { shared.now.key.setting.value ≡ setting.now }
     requires actor { actor < (F.system setting.now).sharing.most }
     requires stands { F.Stands setting.now program.now }
-    requires allowed { (i : ℕ) (f : ℕ → ℕ) → i ≡ place_of (system_of (F.system setting.now)) (act (F.attempt program.now)) → ((n : ℕ) → f n ≡ becomes (system_of (F.system setting.now)) actor (act (F.attempt program.now)) n) → Allows (Rule (system_of (F.system setting.now)) shared.now.key.count) shared.now.table_id.slots seat.old.id seat.old.me i f (λ n me. (me.1 ≡ seat.old.me.1) × T.then seat.old.me.0 n me.0) }
-    ensures same { (seat.new.table_id ≡ seat.old.table_id) × (seat.new.id ≡ seat.old.id) × (seat.new.me.1 ≡ seat.old.me.1) }
+    requires allowed { (i : ℕ) (f : ℕ → ℕ)
+        → i ≡ place_of (system_of (F.system setting.now)) (act (F.attempt program.now))
+        → ((n : ℕ)
+        → f n ≡ becomes (system_of (F.system setting.now)) actor (act (F.attempt program.now)) n)
+        → Allows (Rule (system_of (F.system setting.now)) shared.now.key.count)
+        shared.now.table_id.slots seat.old.id seat.old.me i f
+        (λ n me. (me.1 ≡ seat.old.me.1) × T.then seat.old.me.0 n me.0) }
+    ensures same { (seat.new.table_id ≡ seat.old.table_id) × (seat.new.id ≡ seat.old.id)
+        × (seat.new.me.1 ≡ seat.old.me.1) }
     ensures told { T.then seat.old.me.0 result seat.new.me.0 }
 {
     let place = F::place(setting, program);
@@ -86,13 +98,19 @@ pub(crate) fn step<F: Jobs>(
     requires key { shared.now.key.setting.value ≡ setting.now }
     requires setting { F.IsSetting setting.now }
     requires stands { F.Stands setting.now program.old }
-    requires seated { IsSeated (system_of (F.system setting.now)) actor seat.old.me (Does number (F.attempt program.old)) }
+    requires seated { IsSeated (system_of (F.system setting.now)) actor seat.old.me
+        (Does number (F.attempt program.old)) }
     requires goes_on { act (F.attempt program.old) ≢ Rest }
     ensures same { seat.new.table_id ≡ seat.old.table_id }
     ensures stands { F.Stands setting.now program.new }
-    ensures stepped { HasStepped (system_of (F.system setting.now)) actor (Does number (F.attempt program.old)) (Does number (F.attempt program.new)) (seen_in seat.old.me.0) (seen_in seat.new.me.0) result }
-    ensures ended { act (F.attempt program.new) ≡ Rest → HasEnded (system_of (F.system setting.now)) (seen_in seat.new.me.0) actor number (F.attempt program.new) }
-    ensures seated { IsSeated (system_of (F.system setting.now)) actor seat.new.me (Does number (F.attempt program.new)) }
+    ensures stepped { HasStepped (system_of (F.system setting.now)) actor
+        (Does number (F.attempt program.old)) (Does number (F.attempt program.new))
+        (seen_in seat.old.me.0) (seen_in seat.new.me.0) result }
+    ensures ended { act (F.attempt program.new) ≡ Rest
+        → HasEnded (system_of (F.system setting.now)) (seen_in seat.new.me.0) actor number
+        (F.attempt program.new) }
+    ensures seated { IsSeated (system_of (F.system setting.now)) actor seat.new.me
+        (Does number (F.attempt program.new)) }
 {
     laws::every_move_keeps_the_law::<Systems<F>>();
     let found = make::<F, Brand>(shared, setting, seat, actor, number, program);
@@ -113,11 +131,15 @@ pub(crate) fn free_all<F: Jobs>(
     requires key { shared.now.key.setting.value ≡ setting.now }
     requires setting { F.IsSetting setting.now }
     requires stands { F.Stands setting.now program.old }
-    requires seated { IsSeated (system_of (F.system setting.now)) actor seat.old.me (Does number (F.attempt program.old)) }
+    requires seated { IsSeated (system_of (F.system setting.now)) actor seat.old.me
+        (Does number (F.attempt program.old)) }
     ensures same { seat.new.table_id ≡ seat.old.table_id }
     ensures stands { F.Stands setting.now program.new }
-    ensures freed { FreesAll (system_of (F.system setting.now)) actor number (F.attempt program.old) (F.attempt program.new) (seen_in seat.old.me.0) (seen_in seat.new.me.0) }
-    ensures seated { IsSeated (system_of (F.system setting.now)) actor seat.new.me (Does number (F.attempt program.new)) }
+    ensures freed { FreesAll (system_of (F.system setting.now)) actor number
+        (F.attempt program.old) (F.attempt program.new) (seen_in seat.old.me.0)
+        (seen_in seat.new.me.0) }
+    ensures seated { IsSeated (system_of (F.system setting.now)) actor seat.new.me
+        (Does number (F.attempt program.new)) }
 {
     while F::is_given_up(program) {
         step::<F>(shared, setting, seat, actor, number, program);
@@ -133,9 +155,13 @@ pub(crate) fn tell<F: Jobs>(
     number: u64,
     program: &F::Program,
 ) -> Progress<F::Job, F::Reply>
-    requires legal { let O = system_of (F.system _setting.now) in IsLegal O 0 O.opening (seen_in seat.now.me.0) }
-    requires ended { act (F.attempt program.now) ≡ Rest → HasEnded (system_of (F.system _setting.now)) (seen_in seat.now.me.0) actor number (F.attempt program.now) }
-    ensures { IsProgress (system_of (F.system _setting.now)) actor (Does number (F.attempt program.now)) (seen_in seat.now.me.0) answer result }
+    requires legal { let O = system_of (F.system _setting.now) in
+        IsLegal O 0 O.opening (seen_in seat.now.me.0) }
+    requires ended { act (F.attempt program.now) ≡ Rest
+        → HasEnded (system_of (F.system _setting.now)) (seen_in seat.now.me.0) actor number
+        (F.attempt program.now) }
+    ensures { IsProgress (system_of (F.system _setting.now)) actor
+        (Does number (F.attempt program.now)) (seen_in seat.now.me.0) answer result }
 {
     if !F::rests(program) {
         return Progress::Moved(answer);

@@ -4,5 +4,6 @@ use Rattle.slots.specs.declared.effect.Effect.{Effect}
 use Rattle.slots.specs.declared.job.Job.{Job}
 
 -- desks of slots that have just opened, each at the place of its number
-abbrev pub AreNewDesks : RoomView (Unit {0}) → List (DeskView (Unit {0}) ℕ Job (List ℕ) Effect) → Type 0
+abbrev pub AreNewDesks : RoomView (Unit {0}) → List (DeskView (Unit {0}) ℕ Job (List ℕ) Effect)
+    → Type 0
 AreNewDesks room desks = (i : ℕ) → IfSome (slice_get desks i) (λ desk. desk ≡ new_desk room i)

@@ -44,8 +44,9 @@ pub fn finish(room: &SlotRoom, desk: &mut SlotDesk, most: u32) -> Option<SlotTol
     None
 }
 
-/// Makes the desk's steps until its job has ended. Each time that it has not within `patience` steps, the desk
-/// gives back what it holds, so that no desk waits for it, and lets other threads run.
+/// Makes the desk's steps until its job has ended. Each time that it has not within `patience`
+/// steps, the desk gives back what it holds, so that no desk waits for it, and lets other threads
+/// run.
 fn persist(room: &SlotRoom, desk: &mut SlotDesk, patience: u32) -> Option<SlotTold>
     requires { IsDeskOf desk.old room.now tt }
     ensures desk { IsDeskOf desk.new room.now tt }
@@ -114,8 +115,8 @@ fn give_each(
     }
 }
 
-/// Takes slots and gives them back, so many times, and then takes a slot that it keeps. A desk that does not
-/// come to an end of a job stays at it.
+/// Takes slots and gives them back, so many times, and then takes a slot that it keeps. A desk that
+/// does not come to an end of a job stays at it.
 pub fn take_and_give(room: &SlotRoom, mut shift: Shift, rounds: u64) -> Shift
     requires { IsDeskOf shift.desk room.now tt }
     ensures desk { IsDeskOf result.desk room.now tt }
@@ -182,8 +183,9 @@ fn go_on(room: &SlotRoom, desk: &mut SlotDesk, number: u64, log: &mut Vec<SlotTo
     }
 }
 
-/// Two desks at work in turn, so many steps of the one, and twice as many of the other. Were there as
-/// many, each step of the one would change the word that the other expects, and neither would come far.
+/// Two desks at work in turn, so many steps of the one, and twice as many of the other. Were there
+/// as many, each step of the one would change the word that the other expects, and neither would
+/// come far.
 pub fn in_turn(
     room: &SlotRoom,
     one: &mut SlotDesk,

@@ -49,8 +49,8 @@ fn at_turn(logs: &[Vec<SlotTold>], turn: u64) -> Option<(Job, UpToTwo<u32>)> {
     None
 }
 
-/// The busy slots after all records, if these are the jobs of turns from 0 on, each with the reply of that
-/// job done alone on the slots that those before it leave.
+/// The busy slots after all records, if these are the jobs of turns from 0 on, each with the reply
+/// of that job done alone on the slots that those before it leave.
 fn after_all(logs: &[Vec<SlotTold>], count: u64) -> Option<u64> {
     let mut busy = 0;
     for turn in 0..count {

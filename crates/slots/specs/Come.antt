@@ -3,7 +3,8 @@ use Rattle.turns.specs.declared.wanted.Wanted.{Wanted}
 use Rattle.turns.specs.declared.wanted.Wanted.TheVariants.{Seize, Test}
 use Rattle.slots.specs.System.{Decision, Takes, Gives, free_in}
 
--- what a job comes to, by whether it holds the lower and the upper bank's lock, and what it has read in them
+-- what a job comes to, by whether it holds the lower and the upper bank's lock, and what it has
+-- read in them
 abbrev pub Come : Type 0
 Come = Result Decision (Wanted ℕ ℕ)
 

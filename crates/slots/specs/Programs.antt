@@ -67,7 +67,8 @@ AreOnSlots Empty = ⊤
 AreOnSlots (One first) = slot_of first < 8
 AreOnSlots (Two first second) = (slot_of first < 8) × (slot_of second < 8)
 
--- what is wanted next is a bank or a word that is not held or read yet, and what is chosen are slots
+-- what is wanted next is a bank or a word that is not held or read yet, and what is chosen are
+-- slots
 abbrev pub IsNext : UpToTwo ℕ → UpToTwo (Reading ℕ) → Result Choice (Wanted ℕ ℕ) → Type 0
 IsNext held readings (Ok (choice.Takes slots)) = AreSlots slots
 IsNext held readings (Ok (choice.Gives slot)) = slot < 8

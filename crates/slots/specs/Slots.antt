@@ -23,7 +23,8 @@ with_slots busy (slot ∷ slots) = with_slots (with_slot busy slot) slots
 -- the lowest free slot among `count` of them from this one on
 abbrev pub lowest_free : Busy → ℕ → ℕ → Option ℕ
 lowest_free busy slot zero = None
-lowest_free busy slot (suc count) = if busy slot then lowest_free busy (suc slot) count else Some slot
+lowest_free busy slot (suc count) =
+    if busy slot then lowest_free busy (suc slot) count else Some slot
 
 -- one slot of each bank, or none
 abbrev pub both_of : Option ℕ → Option ℕ → List ℕ

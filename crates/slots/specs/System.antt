@@ -11,9 +11,11 @@ use Rattle.slots.specs.declared.effect.Effect.TheVariants.{Mark, Clear}
 use Rattle.slots.specs.declared.job.Job.{Job}
 use Rattle.slots.specs.declared.job.Job.TheVariants.{Take, TakeBoth, Give}
 
--- the words: 0 and 1 have a bit for each slot of the two banks, 2 and 3 are the banks' locks, 4 is the turn word
+-- the words: 0 and 1 have a bit for each slot of the two banks, 2 and 3 are the banks' locks, 4 is
+-- the turn word
 pub record Shows (words : List ℕ) (busy : Busy) : Type 0 where
-  pub bits : (slot : ℕ) → slot < 8 → busy slot ≡ (bit_at (slice_index words (slot / 4)) (slot % 4) == 1)
+  pub bits : (slot : ℕ) → slot < 8
+      → busy slot ≡ (bit_at (slice_index words (slot / 4)) (slot % 4) == 1)
 
 -- a bank's lock protects the bank's word
 abbrev pub Protects : ℕ → ℕ → Type 0
@@ -62,12 +64,18 @@ both_or_none (Some lower) None = Ends (Takes [])
 both_or_none None upper = Ends (Takes [])
 
 abbrev pub and_upper : Option ℕ → Script ℕ Decision
-and_upper (Some lower) = SeizeThen 1 (TestThen 1 (λ word. both_or_none (Some lower) (free_in 1 word)))
+and_upper (Some lower) =
+    SeizeThen 1 (TestThen 1 (λ word. both_or_none (Some lower) (free_in 1 word)))
 and_upper None = Ends (Takes [])
 
 -- what a job does, step by step
 abbrev pub script : Job → Script ℕ Decision
-script Take = SeizeThen 0 (TestThen 0 (λ lower. taken_or (free_in 0 lower) (SeizeThen 1 (TestThen 1 (λ upper. taken_or (free_in 1 upper) (Ends (Takes [])))))))
+script Take =
+    SeizeThen 0
+    (TestThen 0
+    (λ lower.
+    taken_or (free_in 0 lower)
+    (SeizeThen 1 (TestThen 1 (λ upper. taken_or (free_in 1 upper) (Ends (Takes [])))))))
 script TakeBoth = SeizeThen 0 (TestThen 0 (λ lower. and_upper (free_in 0 lower)))
 script (Give slot) = SeizeThen (slot / 4) (Ends (Gives slot))
 

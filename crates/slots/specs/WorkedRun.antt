@@ -5,7 +5,8 @@ use Rattle.slots.specs.System.{slots}
 use Rattle.slots.specs.declared.job.Job.{Job}
 use Rattle.slots.specs.declared.job.Job.TheVariants.{Take, TakeBoth}
 
--- actor 0 takes a slot while actor 1 wants one of each bank: actor 1 is put off twice, by preference and by a hold, and begins anew
+-- actor 0 takes a slot while actor 1 wants one of each bank: actor 1 is put off twice, by
+-- preference and by a hold, and begins anew
 abbrev pub two_at_once : List (Move Job)
 two_at_once =
     Assigns 0 1 Take ∷ Assigns 1 2 TakeBoth ∷
@@ -16,7 +17,8 @@ two_at_once =
     -- actor 0 tests, takes its turn; actor 1 withdraws; actor 0 marks slot 0 and frees the bank
     Steps 0 ∷ Steps 0 ∷ Steps 1 ∷ Steps 0 ∷ Steps 0 ∷
     -- actor 1 takes one slot of each bank
-    Steps 1 ∷ Steps 1 ∷ Steps 1 ∷ Steps 1 ∷ Steps 1 ∷ Steps 1 ∷ Steps 1 ∷ Steps 1 ∷ Steps 1 ∷ Steps 1 ∷ Steps 1 ∷ []
+    Steps 1 ∷ Steps 1 ∷ Steps 1 ∷ Steps 1 ∷ Steps 1 ∷ Steps 1 ∷ Steps 1 ∷ Steps 1 ∷ Steps 1
+    ∷ Steps 1 ∷ Steps 1 ∷ []
 
 -- the world after it
 abbrev pub worked : World slots

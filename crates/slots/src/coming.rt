@@ -54,7 +54,9 @@ fn read(readings: UpToTwo<Reading<usize>>, word: usize) -> Option<u64>
 }
 
 fn take(held: UpToTwo<u32>, readings: UpToTwo<Reading<usize>>) -> Come
-    ensures come { walked result ≡ take_come (is_held slots.same (list_of held) 0) (value_read (list_of readings) 0) (is_held slots.same (list_of held) 1) (value_read (list_of readings) 1) }
+    ensures come { walked result
+        ≡ take_come (is_held slots.same (list_of held) 0) (value_read (list_of readings) 0)
+        (is_held slots.same (list_of held) 1) (value_read (list_of readings) 1) }
     ensures next { IsNext held readings result }
 {
     if !holds(held, 0) {
@@ -79,7 +81,9 @@ fn take(held: UpToTwo<u32>, readings: UpToTwo<Reading<usize>>) -> Come
 }
 
 fn take_both(held: UpToTwo<u32>, readings: UpToTwo<Reading<usize>>) -> Come
-    ensures come { walked result ≡ both_come (is_held slots.same (list_of held) 0) (value_read (list_of readings) 0) (is_held slots.same (list_of held) 1) (value_read (list_of readings) 1) }
+    ensures come { walked result
+        ≡ both_come (is_held slots.same (list_of held) 0) (value_read (list_of readings) 0)
+        (is_held slots.same (list_of held) 1) (value_read (list_of readings) 1) }
     ensures next { IsNext held readings result }
 {
     if !holds(held, 0) {

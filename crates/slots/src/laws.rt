@@ -28,7 +28,8 @@ impl Family for Slots {
     ghost system = { λ setting. slots };
 }
 
-/// Whatever up to 48 actors do, in whatever order their steps come, each job acts as if done whole at its turn.
+/// Whatever up to 48 actors do, in whatever order their steps come, each job acts as if done whole
+/// at its turn.
 pub fn every_run_of_slots_is_lawful()
     ensures { (count : ℕ) (moves : List (Move Job)) → count ≤ 48 → AreMoves slots moves →
         Lawful slots (run_of slots count moves) }
@@ -36,7 +37,8 @@ pub fn every_run_of_slots_is_lawful()
     laws::every_run_is_lawful::<Slots>();
 }
 
-/// No slot is given to two jobs at once: between two jobs that took a slot, by their turns, one gave it back.
+/// No slot is given to two jobs at once: between two jobs that took a slot, by their turns, one
+/// gave it back.
 pub fn slots_are_taken_once()
     ensures { (w : World slots) (before between later : List (RecordOf slots))
         (r other : RecordOf slots) (slot : ℕ) → Lawful slots w →
@@ -73,7 +75,8 @@ pub fn steady_jobs_are_short()
     laws::steady_attempts_are_short::<Slots>();
 }
 
-/// An actor that is left alone ends its job within 13 steps, and one more for each lock that it held before.
+/// An actor that is left alone ends its job within 13 steps, and one more for each lock that it
+/// held before.
 pub fn jobs_left_alone_end()
     ensures { (w : World slots) (k number : ℕ) (a : AttemptOf slots) (count : ℕ) → Lawful slots w →
         get_elem? w.actors k ≡ some (Does number a) →
@@ -85,8 +88,8 @@ pub fn jobs_left_alone_end()
     laws::actors_left_alone_end::<Slots>();
 }
 
-/// A run of two actors by hand: the words are the busy bits 11 and 1, two free locks, and two turns; slot 0
-/// went to the one actor, slots 1 and 4 to the other.
+/// A run of two actors by hand: the words are the busy bits 11 and 1, two free locks, and two
+/// turns; slot 0 went to the one actor, slots 1 and 4 to the other.
 pub fn two_actors_take_slots()
     ensures words { worked.words ≡ 3 ∷ 1 ∷ 0 ∷ 0 ∷ 2 ∷ [] }
     ensures replies { replies worked.order ≡ (0 ∷ []) ∷ (1 ∷ 4 ∷ []) ∷ [] }

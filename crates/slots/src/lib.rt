@@ -1,7 +1,7 @@
 //! An allocator of eight slots that many actors share, as an example of a system of jobs.
 //!
-//! The slots stand in two banks of four, and each bank has a word of busy bits under a lock of its own.
-//! A job takes the lowest free slot, takes one of each bank at once, or gives one back.
+//! The slots stand in two banks of four, and each bank has a word of busy bits under a lock of its
+//! own. A job takes the lowest free slot, takes one of each bank at once, or gives one back.
 #![tactic(auto)]
 
 pub use choice::Choice;
