@@ -20,6 +20,4 @@ mod report_text;
 mod rows;
 mod run;
 mod status;
-#[cfg(test)]
-mod tests;
 mod written;

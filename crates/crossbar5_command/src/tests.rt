@@ -86,52 +86,55 @@ fn refused(alloc: Global, line: &str) -> Result<clap::Error, Fail> {
     }
 }
 
+/// Lines of words that clap refuses, each with the kind of its error.
+const REFUSED: &[(&str, ErrorKind)] = &[
+    ("crossbar5 live", ErrorKind::InvalidSubcommand),
+    ("crossbar5 Replay", ErrorKind::InvalidSubcommand),
+    ("crossbar5 help", ErrorKind::InvalidSubcommand),
+    ("crossbar5 ", ErrorKind::InvalidSubcommand),
+    ("crossbar5 -- replay", ErrorKind::UnknownArgument),
+    ("crossbar5 --plan a.toml", ErrorKind::UnknownArgument),
+    ("crossbar5 --markers XX", ErrorKind::UnknownArgument),
+    ("crossbar5 --plan a.toml replay", ErrorKind::UnknownArgument),
+    ("crossbar5 replay stray", ErrorKind::UnknownArgument),
+    ("crossbar5 replay replay", ErrorKind::UnknownArgument),
+    (
+        "crossbar5 replay --plan a stray",
+        ErrorKind::UnknownArgument,
+    ),
+    ("crossbar5 replay --plans a", ErrorKind::UnknownArgument),
+    ("crossbar5 replay --version", ErrorKind::UnknownArgument),
+    ("crossbar5 replay --plan -x", ErrorKind::UnknownArgument),
+    (
+        "crossbar5 replay --plan a --markers D b c d e f g h",
+        ErrorKind::UnknownArgument,
+    ),
+    (
+        "crossbar5 a b c d e f g h i j k l m n o p",
+        ErrorKind::InvalidSubcommand,
+    ),
+    ("crossbar5 replay --plan", ErrorKind::InvalidValue),
+    ("crossbar5 replay --markers", ErrorKind::InvalidValue),
+    (
+        "crossbar5 replay --plan --markers X",
+        ErrorKind::InvalidValue,
+    ),
+    ("crossbar5 replay --plan --", ErrorKind::InvalidValue),
+    (
+        "crossbar5 replay --plan a --plan b",
+        ErrorKind::ArgumentConflict,
+    ),
+    (
+        "crossbar5 replay --markers D --markers=C",
+        ErrorKind::ArgumentConflict,
+    ),
+];
+
 #[test]
 fn other_words_are_refused(rt: HostRuntime) -> Result<(), Fail> {
-    for (line, kind) in [
-        ("crossbar5 live", ErrorKind::InvalidSubcommand),
-        ("crossbar5 Replay", ErrorKind::InvalidSubcommand),
-        ("crossbar5 help", ErrorKind::InvalidSubcommand),
-        ("crossbar5 ", ErrorKind::InvalidSubcommand),
-        ("crossbar5 -- replay", ErrorKind::UnknownArgument),
-        ("crossbar5 --plan a.toml", ErrorKind::UnknownArgument),
-        ("crossbar5 --markers XX", ErrorKind::UnknownArgument),
-        ("crossbar5 --plan a.toml replay", ErrorKind::UnknownArgument),
-        ("crossbar5 replay stray", ErrorKind::UnknownArgument),
-        ("crossbar5 replay replay", ErrorKind::UnknownArgument),
-        (
-            "crossbar5 replay --plan a stray",
-            ErrorKind::UnknownArgument,
-        ),
-        ("crossbar5 replay --plans a", ErrorKind::UnknownArgument),
-        ("crossbar5 replay --version", ErrorKind::UnknownArgument),
-        ("crossbar5 replay --plan -x", ErrorKind::UnknownArgument),
-        (
-            "crossbar5 replay --plan a --markers D b c d e f g h",
-            ErrorKind::UnknownArgument,
-        ),
-        (
-            "crossbar5 a b c d e f g h i j k l m n o p",
-            ErrorKind::InvalidSubcommand,
-        ),
-        ("crossbar5 replay --plan", ErrorKind::InvalidValue),
-        ("crossbar5 replay --markers", ErrorKind::InvalidValue),
-        (
-            "crossbar5 replay --plan --markers X",
-            ErrorKind::InvalidValue,
-        ),
-        ("crossbar5 replay --plan --", ErrorKind::InvalidValue),
-        (
-            "crossbar5 replay --plan a --plan b",
-            ErrorKind::ArgumentConflict,
-        ),
-        (
-            "crossbar5 replay --markers D --markers=C",
-            ErrorKind::ArgumentConflict,
-        ),
-    ] {
+    for (line, kind) in REFUSED {
         let error = refused(rt.alloc(), line)?;
-        assert_eq!(rt; error.kind(), kind, "{line}");
+        assert_eq!(rt; error.kind(), *kind, "{line}");
         assert!(rt; error.use_stderr() && error.exit_code() == 2, "{line}");
     }
     Ok(())

@@ -23,21 +23,3 @@ pub fn lowest_free(bank: u32, word: u64) -> Option<u32>
     }
     None
 }
-
-#[cfg(test)]
-mod tests {
-    use super::*;
-
-    #[test]
-    fn finds_the_lowest_free_slot(rt: HostRuntime) {
-        for (bank, word, want) in [
-            (0, 0b0000, Some(0)),
-            (0, 0b0101, Some(1)),
-            (0, 0b1111, None),
-            (1, 0b0000, Some(4)),
-            (1, 0b0111, Some(7)),
-        ] {
-            assert_eq!(rt; lowest_free(bank, word), want, "bank {bank}, word {word}");
-        }
-    }
-}

@@ -23,20 +23,3 @@ impl Effect {
         }
     }
 }
-
-#[cfg(test)]
-mod tests {
-    use super::*;
-
-    #[test]
-    fn changes_one_bit(rt: HostRuntime) {
-        for (effect, found, want) in [
-            (Effect::Mark(0), 0b0000, 0b0001),
-            (Effect::Mark(5), 0b0001, 0b0011),
-            (Effect::Clear(5), 0b0011, 0b0001),
-            (Effect::Clear(7), 0b0111, 0b0111),
-        ] {
-            assert_eq!(rt; effect.operation().apply(found), want, "word {found}");
-        }
-    }
-}

@@ -60,38 +60,3 @@ impl Judgement {
         }
     }
 }
-
-#[cfg(test)]
-mod tests {
-    use super::*;
-
-    #[test]
-    fn judges_a_word(rt: HostRuntime) {
-        let both = 1 << (8 + 2) | 1 << (8 + 5);
-        for (actor, word, want) in [
-            (0, 0, Judgement::Free),
-            (0, 3, Judgement::Held(2)),
-            (2, both, Judgement::Free),
-            (5, both, Judgement::Preferred(2)),
-            (5, both | 48, Judgement::Held(47)),
-        ] {
-            assert_eq!(rt;
-                Judgement::of(actor, word),
-                want,
-                "actor {actor}, word {word}"
-            );
-        }
-    }
-
-    #[test]
-    fn judges_a_plain_word(rt: HostRuntime) {
-        for (word, want) in [
-            (0, Judgement::Free),
-            (1, Judgement::Held(0)),
-            (64, Judgement::Held(63)),
-            (1 << 32, Judgement::Held(u32::MAX)),
-        ] {
-            assert_eq!(rt; Judgement::plain(word), want, "word {word}");
-        }
-    }
-}

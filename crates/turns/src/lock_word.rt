@@ -43,18 +43,3 @@ pub fn freed(word: u64) -> u64
 {
     word & !63
 }
-
-#[cfg(test)]
-mod tests {
-    use super::*;
-
-    #[test]
-    fn passes_a_lock_on(rt: HostRuntime) {
-        let asked = asked_by(3, asked_by(0, 0));
-        assert_eq!(rt; asked, 0b1001 << 8);
-        let taken = taken_by(0, asked);
-        assert_eq!(rt; taken, 0b1000 << 8 | 1);
-        assert_eq!(rt; freed(taken), 0b1000 << 8);
-        assert_eq!(rt; withdrawn_by(3, taken), 1);
-    }
-}

@@ -16,6 +16,4 @@ mod kind;
 pub mod laws;
 mod marker;
 mod open_fault;
-#[cfg(test)]
-mod tests;
 mod work;

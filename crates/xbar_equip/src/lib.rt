@@ -29,6 +29,4 @@ mod len;
 mod link;
 mod path;
 mod ten;
-#[cfg(test)]
-mod tests;
 mod word;

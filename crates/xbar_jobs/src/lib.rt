@@ -27,8 +27,6 @@ mod seen;
 mod sides;
 mod step;
 mod take;
-#[cfg(test)]
-mod tests;
 mod tracing;
 mod trials;
 mod trunk;

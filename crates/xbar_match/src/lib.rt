@@ -16,7 +16,5 @@ mod counts;
 mod effects;
 mod fields;
 pub mod laws;
-#[cfg(test)]
-mod tests;
 mod traces;
 mod words;

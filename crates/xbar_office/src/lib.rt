@@ -27,8 +27,6 @@ mod reply;
 mod route;
 mod sets;
 mod standing;
-#[cfg(test)]
-mod tests;
 mod trial;
 mod two_trials;
 mod whole;

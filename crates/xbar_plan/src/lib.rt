@@ -13,16 +13,8 @@ mod fault;
 mod group;
 mod lawful;
 pub mod laws;
-#[cfg(test)]
-mod memory_tests;
 mod plan;
 mod read;
-#[cfg(test)]
-mod reading_tests;
 mod route;
 mod station;
-#[cfg(test)]
-mod tests;
 mod write;
-#[cfg(test)]
-mod writing_tests;

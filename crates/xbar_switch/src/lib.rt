@@ -14,6 +14,4 @@ mod fault;
 pub mod laws;
 mod shape;
 mod switch;
-#[cfg(test)]
-mod tests;
 mod word;

@@ -13,6 +13,4 @@ pub mod laws;
 mod mode;
 mod number;
 mod row;
-#[cfg(test)]
-mod tests;
 mod traffic;

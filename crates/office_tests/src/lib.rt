@@ -1,0 +1,15 @@
+//! Tests of the crates from the equipment up to the one-marker office, by values from outside.
+#![tactic(auto)]
+
+#[cfg(test)]
+mod equip;
+#[cfg(test)]
+mod fixtures;
+#[cfg(test)]
+mod matching;
+#[cfg(test)]
+mod office;
+#[cfg(test)]
+mod plan;
+#[cfg(test)]
+mod switch;

@@ -1,0 +1,30 @@
+//! Where memory is refused. Each of these tests passes whichever allocation is refused.
+
+use super::writing::answer_the_same;
+use xbar_plan::{Plan, PlanFault};
+
+/// The text of `Plan::example`, as the formats have it.
+const EXAMPLE: &str = r#"version = 1
+groups = [
+  "REG register 417 418 509",
+  "INTRA intra 600-601 700-711",
+  "OUTA outgoing 800",
+  "OUTB outgoing 801 902",
+]
+numbers = ["0001 3041", "0002 3052", "0003 1000", "0004 3100"]
+codes = ["234 INTRA", "555 OUTA OUTB"]
+faults = []
+"#;
+
+#[test]
+fn a_plan_is_refused_for_memory_or_read_right(rt: HostRuntime) {
+    let alloc = rt.alloc();
+    match Plan::read(alloc, EXAMPLE.as_bytes()) {
+        Err(fault) => assert_eq!(rt; fault, PlanFault::Memory),
+        Ok(plan) => {
+            if let Ok(example) = Plan::example(alloc) {
+                assert!(rt; answer_the_same(&plan, &example));
+            }
+        }
+    }
+}

@@ -1,0 +1,7 @@
+//! Tests of the rows of traffic and of the engine, by texts that were worked out outside.
+#![tactic(auto)]
+
+#[cfg(test)]
+mod engine;
+#[cfg(test)]
+mod traffic;

@@ -1,5 +1,0 @@
-use Rattle.xbar_jobs.specs.Standing.{Stands}
-use Rattle.xbar_jobs.proofs.tests.vectors.makes.Given as goal
-
-abbrev pub invariant-loop-next : goal.invariant-loop-next
-invariant-loop-next g l = Stands l.plan l.program.attempt
