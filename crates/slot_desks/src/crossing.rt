@@ -15,7 +15,8 @@ pub fn on_two_threads<R: Threads>(
     requires one { IsDeskOf one.desk room.now tt }
     requires other { IsDeskOf other.desk room.now tt }
     ensures one { IsDeskOf result.0.desk room.now tt × (result.0.desk.number ≡ one.desk.number) }
-    ensures other { IsDeskOf result.1.desk room.now tt × (result.1.desk.number ≡ other.desk.number) }
+    ensures other { IsDeskOf result.1.desk room.now tt
+        × (result.1.desk.number ≡ other.desk.number) }
 {
     join(
         rt,
@@ -36,8 +37,10 @@ pub fn on_four_threads<R: Threads + Sync>(
     requires others { IsDeskOf others.0.desk room.now tt × IsDeskOf others.1.desk room.now tt }
     ensures ones { IsDeskOf result.0.0.desk room.now tt × IsDeskOf result.0.1.desk room.now tt }
     ensures others { IsDeskOf result.1.0.desk room.now tt × IsDeskOf result.1.1.desk room.now tt }
-    ensures numbers { (result.0.0.desk.number ≡ ones.0.desk.number) × (result.0.1.desk.number ≡ ones.1.desk.number) }
-    ensures other_numbers { (result.1.0.desk.number ≡ others.0.desk.number) × (result.1.1.desk.number ≡ others.1.desk.number) }
+    ensures numbers { (result.0.0.desk.number ≡ ones.0.desk.number)
+        × (result.0.1.desk.number ≡ ones.1.desk.number) }
+    ensures other_numbers { (result.1.0.desk.number ≡ others.0.desk.number)
+        × (result.1.1.desk.number ≡ others.1.desk.number) }
 {
     join(
         rt,
