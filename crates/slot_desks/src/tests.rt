@@ -108,7 +108,9 @@ fn shut_four(
     requires count { room.count ≡ 4 }
     requires ones { IsDeskOf ones.0 room tt × IsDeskOf ones.1 room tt }
     requires others { IsDeskOf others.0 room tt × IsDeskOf others.1 room tt }
-    requires numbers { (ones.0.number ≡ 0) × (ones.1.number ≡ 1) × (others.0.number ≡ 2)
+    requires numbers { (ones.0.number ≡ 0)
+        × (ones.1.number ≡ 1)
+        × (others.0.number ≡ 2)
         × (others.1.number ≡ 3) }
 {
     let (zero, one) = ones;
