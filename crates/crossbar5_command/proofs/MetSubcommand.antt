@@ -1,6 +1,6 @@
 -- What is asked by the matches of a subcommand.
 use Rattle.std.proofs.Common.{◌≡◌, ◌∙◌, ap, refl, sym, subst, cond, Bool, true, false, true≢false, List, [], ◌∷◌, Option, Some, None}
-use Rattle.std.specs.Prelude.{◌≢◌, Box, IfSome, IsSome, is_some, option_and_then, option_map, unwrap_or}
+use Rattle.std.specs.Prelude.{Box, IfSome, IsSome, is_some, option_and_then, option_map, unwrap_or}
 use Rattle.std.specs.Borrow.{Bor}
 use Rattle.std.specs.Box.{box_value}
 use Rattle.std.specs.Str.{bytes_eq}
@@ -44,10 +44,10 @@ met_asked name m options ask name_is rows_is asked =
     by_parts name (rows_of (found_of options.now)) ask (subcommand_rows_of m) (sym (name_of_rows (out-ArgMatches m).subcommand) ∙ name_is) rows_is
     (same_values name _ _ ask (first_value-rows (found_of options.now)) asked)
 
--- none of the subcommands has the name
+-- none of the subcommands has the name: `subcommand_matches` gave nothing for each
 abbrev pub AreOthers : List Subcommand → Option Text → Type 0
 AreOthers [] name = Unit {0}
-AreOthers (s ∷ rest) name = (name ≢ Some s.name) × AreOthers rest name
+AreOthers (s ∷ rest) name = (name ≡ Some s.name → false ≡ true) × AreOthers rest name
 
 none_met : (subs : List Subcommand) (met : Option (Text × List Row)) → IfSome met (λ p. IsSome (subcommand_named subs p.0))
     → AreOthers subs (option_map (λ p. p.0) met) → met ≡ None
@@ -57,7 +57,7 @@ none_met (s ∷ rest) (Some p) known others = go (bytes_eq s.name p.0) refl know
   where
     go : (same : Bool) → bytes_eq s.name p.0 ≡ same → IsSome (cond same (Some s) (subcommand_named rest p.0))
         → (IsSome (subcommand_named rest p.0) → Some p ≡ None) → Some p ≡ None
-    go true same known later = absurd (others.0 (ap Some (sym ((bytes_eq-Decides s.name p.0).0 same))))
+    go true same known later = absurd (true≢false (sym (others.0 (ap Some (sym ((bytes_eq-Decides s.name p.0).0 same))))))
     go false differs known later = later known
 
 -- where no other was met, what is asked is a replay
@@ -65,10 +65,10 @@ pub replay_asked : (m : ArgMatches) (options : Option (Bor ArgMatches)) (ask : A
     → (IsSome options → subcommand_name_of m ≡ Some replay.name) × (subcommand_name_of m ≡ Some replay.name → IsSome options)
     → IfSome options (λ q. option_map (λ p. p.1) (subcommand_rows_of m) ≡ Some (rows_of (found_of q.now)))
     → IfSome (subcommand_rows_of m) (λ met. IsSome (subcommand_named subcommands met.0))
-    → (subcommand_name_of m ≢ Some replay.name → AreOthers subcommands (subcommand_name_of m))
+    → ((subcommand_name_of m ≡ Some replay.name → false ≡ true) → AreOthers subcommands (subcommand_name_of m))
     → IsAskWith replay.name (values_in options) ask → IsAskOf (subcommand_rows_of m) ask
 replay_asked m (Some options) ask found rows known others asked = met_asked replay.name m options ask (found.0 refl) rows asked
 replay_asked m None ask found rows known others asked =
     let none = none_met subcommands (subcommand_rows_of m) known
-    (subst (AreOthers subcommands) (name_of_rows (out-ArgMatches m).subcommand) (others (λ is. true≢false (sym (found.1 is))))) in
+    (subst (AreOthers subcommands) (name_of_rows (out-ArgMatches m).subcommand) (others found.1)) in
     subst (λ met. IsAskOf met ask) (sym none) asked
