@@ -1,0 +1,5 @@
+pub mod Offices
+pub mod Steps
+pub mod Finishing
+pub mod ToldSteps
+pub mod GivenBack
