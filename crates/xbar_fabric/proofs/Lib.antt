@@ -3,3 +3,4 @@ pub mod Steps
 pub mod Finishing
 pub mod ToldSteps
 pub mod GivenBack
+pub mod NewDesks

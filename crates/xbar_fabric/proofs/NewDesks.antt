@@ -1,0 +1,48 @@
+-- the desks of an opening, one more at a time
+use Rattle.std.proofs.Common.{◌≡◌, ℕ, suc, ◌+◌, ◌<◌, List, [], ◌∷◌, ◌++◌, length, get_or, drop, drop-cons, map, refl, sym, ap, subst, ◌∙◌, arith, append_assoc}
+use Rattle.std.specs.Prelude.{IfSome, slice_get}
+use Rattle.desks.specs.Views as views
+use Rattle.turns.specs.World.{Idle}
+use Rattle.xbar_equip.specs.declared.conn.Conn.{Conn}
+use Rattle.xbar_plan.specs.Tables.{Tables}
+use Rattle.xbar_office.specs.declared.job.Job.{Job}
+use Rattle.xbar_office.specs.declared.reply.Reply.{Reply}
+use Rattle.xbar_jobs.specs.declared.effect.Effect.{Effect}
+use Rattle.xbar_core.specs.declared.kind.Kind.{Kind}
+use Rattle.xbar_core.specs.declared.kind.Kind.TheVariants.{Dial}
+use Rattle.xbar_fabric.specs.Views.{DeskView, FabricView, new_desks}
+use Rattle.xbar_fabric.proofs.Steps.{view_at}
+
+-- the office's words as those of a room
+abbrev pub fabric_of : views.RoomView Tables → FabricView
+fabric_of room = record { table = room.table; plan = room.setting; count = room.count }
+
+-- a desk of a room, and those of a room that has just opened, from number n on
+abbrev pub RoomDesk : Type 0
+RoomDesk = views.DeskView Tables Conn Job Reply Effect
+
+abbrev pub AreFrom : views.RoomView Tables → ℕ → List RoomDesk → Type 0
+AreFrom room n desks = (j : ℕ) → IfSome (slice_get desks j) (λ (d : RoomDesk). d ≡ views.new_desk room (n + j))
+
+pub first_new : (room : views.RoomView Tables) (n : ℕ) (desk : RoomDesk) (desks : List RoomDesk) → AreFrom room n (desk ∷ desks) → desk ≡ views.new_desk room n
+first_new room n desk desks are = let none : n + 0 ≡ n = omega arith in subst (λ (i : ℕ). desk ≡ views.new_desk room i) none (are 0)
+
+pub later_new : (room : views.RoomView Tables) (n : ℕ) (desk : RoomDesk) (desks : List RoomDesk) → AreFrom room n (desk ∷ desks) → AreFrom room (n + 1) desks
+later_new room n desk desks are j =
+    let next : n + suc j ≡ n + 1 + j = omega arith in
+    subst (λ (i : ℕ). IfSome (slice_get desks j) (λ (d : RoomDesk). d ≡ views.new_desk room i)) next (are (suc j))
+
+pub built_more : (room : views.RoomView Tables) (kinds : List Kind) (i : ℕ) (desk : views.DeskView Tables Conn Job Reply Effect) (all more : List DeskView) → i < length kinds → desk ≡ views.new_desk room i
+    → more ≡ all ++ view_at (get_or kinds i Dial) desk ∷ [] → all ++ new_desks (fabric_of room) i (drop i kinds) ≡ new_desks (fabric_of room) 0 kinds
+    → more ++ new_desks (fabric_of room) (i + 1) (drop (i + 1) kinds) ≡ new_desks (fabric_of room) 0 kinds
+built_more room kinds i desk all more within new pushed built =
+    let kind : Kind = get_or kinds i Dial in
+    let next : i + 1 ≡ suc i = omega arith in
+    let rest : List DeskView = new_desks (fabric_of room) (suc i) (drop (suc i) kinds) in
+    let here : drop i kinds ≡ get_or kinds i Dial ∷ drop (suc i) kinds = drop-cons kinds i Dial within in
+    ap (λ (n : ℕ). more ++ new_desks (fabric_of room) n (drop n kinds)) next
+    ∙ ap (λ (l : List DeskView). l ++ rest) pushed
+    ∙ append_assoc all (view_at kind desk ∷ []) rest
+    ∙ ap (λ d. all ++ view_at kind d ∷ rest) new
+    ∙ ap (λ (l : List Kind). all ++ new_desks (fabric_of room) i l) (sym here)
+    ∙ built
