@@ -1,5 +1,5 @@
 -- a desk that gives back
-use Rattle.std.proofs.Common.{◌≡◌, ℕ, zero, suc, Bool, true, false, refl, sym, ◌∙◌, ap, subst}
+use Rattle.std.proofs.Common.{◌≡◌, ℕ, zero, suc, Bool, true, false, refl, ◌∙◌, ap}
 use Rattle.std.specs.Prelude.{is_some, if◌then◌else◌}
 use Rattle.atomic_table.specs.Seated.{TableId}
 use Rattle.turns.specs.Attempt.{act, begin_with, change, turn_in}
@@ -17,7 +17,6 @@ use Rattle.xbar_core.specs.Moves.{event_of, given_by}
 use Rattle.xbar_core.specs.declared.given.Given.TheVariants as given
 use Rattle.xbar_core.specs.declared.kind.Kind.{Kind}
 use Rattle.xbar_fabric.specs.Advances.{HasGivenBack, HasMade}
-use Rattle.xbar_fabric.specs.Views.{HasJobNo}
 use Rattle.xbar_fabric.proofs.Offices.{Order}
 use Rattle.xbar_fabric.proofs.Steps.{desk_at, has_stepped}
 
@@ -31,11 +30,11 @@ module _ (plan : Tables) (table : TableId) (kind : Kind) (k : ℕ) where
   has_made : (count : ℕ) (before after : Work) (seen seen_after : Order) → desks.HasMade (office plan) k count before after seen seen_after → HasMade count (desk_at table plan kind k before seen) (desk_at table plan kind k after seen_after)
   has_made zero before after seen seen_after made = λ i. desk_at table plan kind k (made.0 i) (made.1 i)
   has_made (suc count) before after seen seen_after (between, seen_between, answer, made, step) = (
-      desk_at table plan kind k between seen_between,
-      event_of k step.number step.attempt (change (office plan) step.attempt answer) answer,
-      has_made count before between seen seen_between made,
-      has_stepped plan kind k between after seen_between seen_after answer step table _ refl,
-    )
+    desk_at table plan kind k between seen_between,
+    event_of k step.number step.attempt (change (office plan) step.attempt answer) answer,
+    has_made count before between seen seen_between made,
+    has_stepped plan kind k between after seen_between seen_after answer step table _ refl,
+  )
 
   -- what has given back before its turn is at the beginning of its job
   begins_anew : (a : Attempt) (phase : Phase) → is_some (turn_in phase) ≡ false → begun_anew (office plan) phase a ≡ begin_with (first_conn a.job) a.job

@@ -4,3 +4,5 @@ pub mod Finishing
 pub mod ToldSteps
 pub mod GivenBack
 pub mod NewDesks
+pub mod Meets
+pub mod AllDesks

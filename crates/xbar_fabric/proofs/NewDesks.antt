@@ -1,26 +1,17 @@
 -- the desks of an opening, one more at a time
-use Rattle.std.proofs.Common.{◌≡◌, ℕ, suc, ◌+◌, ◌<◌, List, [], ◌∷◌, ◌++◌, length, get_or, drop, drop-cons, map, refl, sym, ap, subst, ◌∙◌, arith, append_assoc}
+use Rattle.std.proofs.Common.{◌≡◌, ℕ, suc, ◌+◌, ◌<◌, List, [], ◌∷◌, ◌++◌, length, get_or, drop, drop-cons, sym, ap, subst, ◌∙◌, arith, append_assoc}
 use Rattle.std.specs.Prelude.{IfSome, slice_get}
 use Rattle.desks.specs.Views as views
-use Rattle.turns.specs.World.{Idle}
-use Rattle.xbar_equip.specs.declared.conn.Conn.{Conn}
 use Rattle.xbar_plan.specs.Tables.{Tables}
-use Rattle.xbar_office.specs.declared.job.Job.{Job}
-use Rattle.xbar_office.specs.declared.reply.Reply.{Reply}
-use Rattle.xbar_jobs.specs.declared.effect.Effect.{Effect}
 use Rattle.xbar_core.specs.declared.kind.Kind.{Kind}
 use Rattle.xbar_core.specs.declared.kind.Kind.TheVariants.{Dial}
-use Rattle.xbar_fabric.specs.Views.{DeskView, FabricView, new_desks}
-use Rattle.xbar_fabric.proofs.Steps.{view_at}
+use Rattle.xbar_fabric.specs.Views.{DeskView, FabricView, RoomDesk, new_desks, view_at}
 
 -- the office's words as those of a room
 abbrev pub fabric_of : views.RoomView Tables → FabricView
 fabric_of room = record { table = room.table; plan = room.setting; count = room.count }
 
--- a desk of a room, and those of a room that has just opened, from number n on
-abbrev pub RoomDesk : Type 0
-RoomDesk = views.DeskView Tables Conn Job Reply Effect
-
+-- the desks of a room that has just opened, from number n on
 abbrev pub AreFrom : views.RoomView Tables → ℕ → List RoomDesk → Type 0
 AreFrom room n desks = (j : ℕ) → IfSome (slice_get desks j) (λ (d : RoomDesk). d ≡ views.new_desk room (n + j))
 
@@ -32,7 +23,7 @@ later_new room n desk desks are j =
     let next : n + suc j ≡ n + 1 + j = omega arith in
     subst (λ (i : ℕ). IfSome (slice_get desks j) (λ (d : RoomDesk). d ≡ views.new_desk room i)) next (are (suc j))
 
-pub built_more : (room : views.RoomView Tables) (kinds : List Kind) (i : ℕ) (desk : views.DeskView Tables Conn Job Reply Effect) (all more : List DeskView) → i < length kinds → desk ≡ views.new_desk room i
+pub built_more : (room : views.RoomView Tables) (kinds : List Kind) (i : ℕ) (desk : RoomDesk) (all more : List DeskView) → i < length kinds → desk ≡ views.new_desk room i
     → more ≡ all ++ view_at (get_or kinds i Dial) desk ∷ [] → all ++ new_desks (fabric_of room) i (drop i kinds) ≡ new_desks (fabric_of room) 0 kinds
     → more ++ new_desks (fabric_of room) (i + 1) (drop (i + 1) kinds) ≡ new_desks (fabric_of room) 0 kinds
 built_more room kinds i desk all more within new pushed built =

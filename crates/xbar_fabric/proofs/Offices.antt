@@ -88,6 +88,10 @@ module _ (plan : Tables) where
   works_of kind [] = refl
   works_of kind (work ∷ actors) = ap (λ (all : List Work). work ∷ all) (works_of kind actors)
 
+  pub length-made : (kind : Kind) (actors : List Work) → length (map (marker_at kind) actors) ≡ length actors
+  length-made kind [] = refl
+  length-made kind (work ∷ actors) = ap suc (length-made kind actors)
+
   pub marker_made : (kind : Kind) (actors : List Work) (k : ℕ) (work : Work) → get_elem? actors k ≡ some work → slice_get (map (marker_at kind) actors) k ≡ Some (marker_at kind work)
   marker_made kind [] k work there = absurd (some-ne-none work (sym there))
   marker_made kind (x ∷ actors) zero work there = ap (λ (w : Work). Some (marker_at kind w)) (some-injective x work there)

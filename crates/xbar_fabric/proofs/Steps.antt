@@ -30,7 +30,7 @@ use Rattle.xbar_core.proofs.StepCases.{step_made}
 use Rattle.xbar_core.proofs.Stepping.{event_there}
 use Rattle.xbar_core.proofs.WorldMoves.{has_to_give, steps_in_world}
 use Rattle.xbar_fabric.specs.Advances.{HasStepped}
-use Rattle.xbar_fabric.specs.Views.{DeskView, entered}
+use Rattle.xbar_fabric.specs.Views.{DeskView, entered, view_at}
 use Rattle.xbar_fabric.proofs.Offices.{Order, begins_entered, entered_turned, is_lawful, marker_at, marker_made, office_of, own_same, world_is}
 
 busy_act : (x : Act) → x ≢ Rest → is_rest x ≡ false
@@ -54,9 +54,11 @@ desk_at table plan kind k work seen = record {
   seen = map entered seen;
 }
 
--- and by the desk below it
-abbrev pub view_at : Kind → views.DeskView Tables Conn Job Reply Effect → DeskView
-view_at kind d = desk_at d.table d.setting kind d.number d.actor d.seen
+-- a desk of which only what it has seen is another
+pub seen_only : (desk after : views.DeskView Tables Conn Job Reply Effect) → after ≡ record desk { seen = after.seen } → after ≡ record desk { actor = after.actor; seen = after.seen }
+seen_only desk after same =
+    let actor : desk.actor ≡ after.actor = sym (ap (λ (d : views.DeskView Tables Conn Job Reply Effect). d.actor) same) in
+    same ∙ (λ i. record desk { actor = actor i; seen = after.seen })
 
 -- what holds of two desks by their parts holds of them as they are seen
 pub as_seen : (Has : DeskView → DeskView → Type 0) (plan : Tables) (kind : Kind) (desk after : views.DeskView Tables Conn Job Reply Effect) (now : DeskView) → desk.setting ≡ plan → after ≡ record desk { actor = after.actor; seen = after.seen } → view_at kind desk ≡ now
@@ -64,7 +66,7 @@ pub as_seen : (Has : DeskView → DeskView → Type 0) (plan : Tables) (kind : K
 as_seen Has plan kind desk after now setting same is has =
     let old_is : desk_at desk.table plan kind desk.number desk.actor desk.seen ≡ now = ap (λ (p : Tables). desk_at desk.table p kind desk.number desk.actor desk.seen) (sym setting) ∙ is in
     let new_is : desk_at desk.table plan kind desk.number after.actor after.seen ≡ view_at kind after =
-        ap (λ (p : Tables). desk_at desk.table p kind desk.number after.actor after.seen) (sym setting) ∙ ap (view_at kind) (sym same) in
+    ap (λ (p : Tables). desk_at desk.table p kind desk.number after.actor after.seen) (sym setting) ∙ ap (view_at kind) (sym same) in
     subst (Has now) new_is (subst (λ (d : DeskView). Has d (desk_at desk.table plan kind desk.number after.actor after.seen)) old_is has)
 
 module _ (plan : Tables) (kind : Kind) (k : ℕ) (before after : Work) (seen seen_after : Order) (answer : Answer)

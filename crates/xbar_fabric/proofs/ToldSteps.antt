@@ -155,7 +155,7 @@ module _ (plan : Tables) (table : TableId) (kind : Kind) (k : ℕ) (before after
           let reply : next_attempt.reply ≡ Some told.reply = ap (λ (a : Attempt). a.reply) same.1 ∙ is_told.reply in
           let job : next_attempt.job ≡ told.job = ap (λ (a : Attempt). a.job) same.1 ∙ is_told.job in
           let record_is : entered told ≡ record { turn = told.turn; marker = k; job_no = step.number; job = next_attempt.job; reply = told.reply } =
-              λ i. record { turn = told.turn; marker = is_told.actor i; job_no = (sym same.0) i; job = (sym job) i; reply = told.reply } in
+          λ i. record { turn = told.turn; marker = is_told.actor i; job_no = (sym same.0) i; job = (sym job) i; reply = told.reply } in
           ap event.Finished record_is
           ∙ sym (told_at_end k step.number told.turn next_attempt told.reply phase reply rests_now)
           ∙ sym (ap (event_of k step.number step.attempt next_attempt) answer_done)

@@ -4,3 +4,4 @@ pub mod Views
 pub mod Histories
 pub mod Advances
 pub mod Meetings
+pub mod Between

@@ -1,12 +1,15 @@
-use Rattle.std.specs.Prelude.{◌≡◌, ℕ, suc, ◌==◌, ◌<◌, ◌^◌, Some, List, [], ◌∷◌, slice_get, if◌then◌else◌, ⊤}
+use Rattle.std.specs.Prelude.{◌≡◌, ℕ, suc, ◌==◌, ◌<◌, ◌^◌, Some, List, [], ◌∷◌, slice_get, if◌then◌else◌, map, ⊤}
 use Rattle.atomic_table.specs.Seated.{TableId}
 use Rattle.desks.specs.Parts.{Begins}
+use Rattle.desks.specs.Views as desks
 use Rattle.turns.specs.World as worlds
 use Rattle.turns.specs.World.{Idle}
+use Rattle.xbar_equip.specs.declared.conn.Conn.{Conn}
 use Rattle.xbar_plan.specs.Tables.{Tables}
 use Rattle.xbar_office.specs.declared.job.Job.{Job}
 use Rattle.xbar_office.specs.declared.reply.Record.{Record}
 use Rattle.xbar_office.specs.declared.reply.Reply.{Reply}
+use Rattle.xbar_jobs.specs.declared.effect.Effect.{Effect}
 use Rattle.xbar_core.specs.Exchange.{Exchange, IsLawfulExchange, Marker, Work, on_job}
 use Rattle.xbar_core.specs.declared.kind.Kind.{Kind}
 
@@ -37,6 +40,27 @@ entered r = record { turn = r.turn; marker = r.actor; job_no = r.number; job = r
 -- the number of a marker's job has 32 bits
 abbrev pub HasJobNo : Work → Type 0
 HasJobNo work = on_job ⊤ (λ number a. number < 2 ^ 32) work
+
+-- a desk of the jobs that actors do, which knows no kind
+abbrev pub RoomDesk : Type 0
+RoomDesk = desks.DeskView Tables Conn Job Reply Effect
+
+-- the desk that it is with this kind
+abbrev pub view_at : Kind → RoomDesk → DeskView
+view_at kind d = record {
+  table = d.table;
+  plan = d.setting;
+  marker = d.number;
+  kind = kind;
+  work = d.actor;
+  seen = map entered d.seen;
+}
+
+-- these desks with their kinds, one by one, are those
+abbrev pub AreBelow : List RoomDesk → List DeskView → Type 0
+AreBelow [] [] = ⊤
+AreBelow (d ∷ below) (desk ∷ others) = (view_at desk.kind d ≡ desk) × AreBelow below others
+AreBelow _ _ = ⊥
 
 -- a desk of these shared words
 pub record IsDeskOf (desk : DeskView) (fabric : FabricView) : Type 0 where

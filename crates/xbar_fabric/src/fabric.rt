@@ -18,14 +18,14 @@ pub struct Fabric<'p> {
 }
 
 impl<'p> Model for Fabric<'p> {
-    ghost use Rattle.std.specs.Prelude.{◌≡◌};
+    ghost use Rattle.std.specs.Prelude.{◌≡◌, ◌<◌};
     ghost use Rattle.xbar_fabric.specs.Views.{FabricView};
 
     ghost Value = { FabricView };
 
     ghost view = { λ f. record { table = f.room.table; plan = f.plan.now; count = f.room.count } };
 
-    ghost invariant = { λ f. f.room.setting ≡ f.plan.now };
+    ghost invariant = { λ f. (f.room.setting ≡ f.plan.now) × (0 < f.room.count) };
 }
 
 /// Gives each of a room's new desks its kind.

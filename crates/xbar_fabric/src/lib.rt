@@ -3,9 +3,14 @@
 
 pub use desk::Desk;
 pub use fabric::Fabric;
+pub use meeting::meet;
+pub use shutting::{ShutAllFault, ShutFault, shut, shut_all};
 pub use xbar_core::{AssignFault, Event as Progress, Given, Kind, OpenFault};
 
 mod advancing;
 mod desk;
 mod fabric;
+pub mod laws;
+mod meeting;
 mod office;
+mod shutting;
