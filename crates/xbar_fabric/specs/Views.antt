@@ -1,4 +1,4 @@
-use Rattle.std.specs.Prelude.{◌≡◌, ℕ, suc, ◌==◌, ◌<◌, ◌^◌, Some, List, [], ◌∷◌, slice_get, if◌then◌else◌, map, ⊤}
+use Rattle.std.specs.Prelude.{◌≡◌, ℕ, suc, ◌==◌, ◌<◌, ◌^◌, Some, IfSome, List, [], ◌∷◌, slice_get, if◌then◌else◌, map, ⊤}
 use Rattle.atomic_table.specs.Seated.{TableId}
 use Rattle.desks.specs.Parts.{Begins}
 use Rattle.desks.specs.Views as desks
@@ -66,6 +66,10 @@ AreBelow _ _ = ⊥
 pub record IsDeskOf (desk : DeskView) (fabric : FabricView) : Type 0 where
   pub table_is : desk.table ≡ fabric.table
   pub plan_is : desk.plan ≡ fabric.plan
+
+-- all of them are desks of these shared words
+abbrev pub AreDesksOf : List DeskView → FabricView → Type 0
+AreDesksOf desks fabric = (k : ℕ) → IfSome (slice_get desks k) (λ desk. IsDeskOf desk fabric)
 
 -- the desks of shared words that have just opened, from marker k on: idle, of these kinds, and with nothing seen
 abbrev pub new_desks : FabricView → ℕ → List Kind → List DeskView

@@ -1,6 +1,7 @@
 ghost use Rattle.std.specs.Prelude.{◌≡◌, ◌≤◌, ◌<◌, ◌↔◌, Err, IfOk, [], length, vec_capacity};
 ghost use Rattle.desks.specs.Views.{AreNew};
-ghost use Rattle.xbar_fabric.specs.Views.{new_desks};
+ghost use Rattle.xbar_fabric.specs.Meetings.{AreAllIdle};
+ghost use Rattle.xbar_fabric.specs.Views.{AreDesksOf, new_desks};
 
 use crate::desk::Desk;
 use crate::office::Office;
@@ -48,6 +49,7 @@ fn assort(room: &Room<Office>, rest: Vec<desks::Desk<Office>>, kinds: &[Kind], a
 
 impl<'p> Fabric<'p> {
     /// Opens the shared words with all of them 0, and an idle desk of each of these kinds: desk `k` is marker `k`.
+    #[tactic(auto, using(crate::proofs::NewDesks::new_are_theirs))]
     pub fn open(
         alloc: Global,
         plan: &'p Plan,
@@ -56,6 +58,8 @@ impl<'p> Fabric<'p> {
         ensures fabric { IfOk result
             (λ opened. (opened.0.plan ≡ plan.now) × (opened.0.count ≡ length kinds.now)) }
         ensures desks { IfOk result (λ opened. opened.1.items ≡ new_desks opened.0 0 kinds.now) }
+        ensures theirs { IfOk result (λ opened. AreDesksOf opened.1.items opened.0) }
+        ensures idle { IfOk result (λ opened. AreAllIdle opened.1.items opened.0) }
         ensures markers { (result ≡ Err OpenFault.Markers)
             ↔ ¬ ((0 < length kinds.now) × (length kinds.now ≤ 48)) }
     {

@@ -14,3 +14,5 @@ pub mod laws;
 mod meeting;
 mod office;
 mod shutting;
+#[cfg(test)]
+mod tests;
