@@ -13,8 +13,8 @@ use crate::jobs::Jobs;
 use crate::rule::Systems;
 use turns::{Answer, Judgement};
 
-/// A step leaves a lawful world, and what the desk has seen by then is legal. Where the step puts it off,
-/// the lock's own word said so, as the step left it.
+/// A step leaves a lawful world, and what the desk has seen by then is legal. Where the step puts
+/// it off, the lock's own word said so, as the step left it.
 pub fn steps_are_lawful_moves<F: Jobs>()
     ensures lawful { (setting : F.Setting) → F.IsSetting setting →
         let O = system_of (F.system setting) in

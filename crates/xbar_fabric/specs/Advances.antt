@@ -12,8 +12,8 @@ use Rattle.xbar_core.specs.declared.event.Event.TheVariants.{Idle, Finished}
 use Rattle.xbar_fabric.specs.Histories.{IsTold}
 use Rattle.xbar_fabric.specs.Views.{DeskView, IsAmid, marker_of}
 
--- the desk's marker made its next step in an office amid which the desk stood: the desk is at what the marker
--- is at then, and has seen all records by then; this is what came of the step
+-- the desk's marker made its next step in an office amid which the desk stood: the desk is at what
+-- the marker is at then, and has seen all records by then; this is what came of the step
 pub record HasStepped (before after : DeskView) (event : Event) : Type 0 where
   pub office : Exchange
   pub amid : IsAmid before office
@@ -23,8 +23,9 @@ pub record HasStepped (before after : DeskView) (event : Event) : Type 0 where
   pub seen_is : after.seen ≡ (after_step before.plan before.marker office).records
   pub event_is : event ≡ event_at_step before.plan before.marker office
 
--- what came of an advance: no step of an idle desk, and any other's marker's next step; it has seen what it had
--- seen, and more; and a record is told of the step after which nothing is left of the job
+-- what came of an advance: no step of an idle desk, and any other's marker's next step; it has seen
+-- what it had seen, and more; and a record is told of the step after which nothing is left of the
+-- job
 pub record HasAdvanced (before after : DeskView) (event : Event) : Type 0 where
   pub idle : is_idle before.work ≡ true → (after ≡ before) × (event ≡ Idle)
   pub stepped : is_idle before.work ≡ false → HasStepped before after event
@@ -36,14 +37,16 @@ pub record HasAdvanced (before after : DeskView) (event : Event) : Type 0 where
 abbrev pub HasMade : ℕ → DeskView → DeskView → Type 0
 HasMade zero before after = after ≡ before
 HasMade (suc count) before after =
-    (between : DeskView) × (event : Event) × HasMade count before between × HasStepped between after event
+    (between : DeskView) × (event : Event)
+    × HasMade count before between × HasStepped between after event
 
 -- a marker at the very beginning of its job
 abbrev pub at_beginning : Work → Work
-at_beginning work = on_job worlds.Idle (λ number a. Does number (begin_with (first_conn a.job) a.job)) work
+at_beginning work =
+    on_job worlds.Idle (λ number a. Does number (begin_with (first_conn a.job) a.job)) work
 
--- the desk gave back: its marker was to begin its job anew, and made so many steps, one at most for each
--- connector that it held and one for its request; it is at the very beginning of its job now
+-- the desk gave back: its marker was to begin its job anew, and made so many steps, one at most for
+-- each connector that it held and one for its request; it is at the very beginning of its job now
 pub record HasGivenBack (before after : DeskView) : Type 0 where
   pub count : ℕ
   pub few : count ≤ on_job 0 (λ number a. 1 + length a.held) before.work

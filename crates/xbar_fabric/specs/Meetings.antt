@@ -12,8 +12,8 @@ use Rattle.xbar_core.specs.Exchange.{is_idle}
 use Rattle.xbar_fabric.specs.Histories.{IsHistory}
 use Rattle.xbar_fabric.specs.Views.{DeskView, FabricView, IsDeskOf, mine, own}
 
--- two desks have met: both have seen one history now, which begins with what each had seen, and in which each
--- has no other records of its own
+-- two desks have met: both have seen one history now, which begins with what each had seen, and in
+-- which each has no other records of its own
 pub record HaveMet (one other one_after other_after : DeskView) : Type 0 where
   pub history : IsHistory one.plan one_after.seen
   pub same : other_after.seen ≡ one_after.seen
@@ -26,15 +26,16 @@ pub record HaveMet (one other one_after other_after : DeskView) : Type 0 where
 abbrev pub IsFree : List ℕ → Conn → Type 0
 IsFree words conn = slice_index words (word_number (ConnWord conn)) % 64 ≡ 0
 
--- the words of shared words that were shut, after these records: the turn word counts them, and where no
--- connector is held the words show the set after them
+-- the words of shared words that were shut, after these records: the turn word counts them, and
+-- where no connector is held the words show the set after them
 pub record AreWordsAfter (plan : Tables) (records : List Record) (words : List ℕ) : Type 0 where
   pub count : length words ≡ word_count
   pub counted : slice_index words (word_number TurnWord) ≡ length records % 2 ^ 64
-  pub shows : ((conn : Conn) → IsConn conn → IsFree words conn) → ShowsOffice plan words (after plan records)
+  pub shows : ((conn : Conn) → IsConn conn → IsFree words conn)
+      → ShowsOffice plan words (after plan records)
 
--- shared words were shut with this desk: the words are those after a history that begins with what the desk had
--- seen, and in which its marker has no other records
+-- shared words were shut with this desk: the words are those after a history that begins with what
+-- the desk had seen, and in which its marker has no other records
 pub record IsShut (desk : DeskView) (words : List ℕ) : Type 0 where
   pub records : List Record
   pub history : IsHistory desk.plan records
@@ -48,8 +49,9 @@ pub record AreAllIdle (desks : List DeskView) (fabric : FabricView) : Type 0 whe
   pub each : (k : ℕ) → IfSome (slice_get desks k)
       (λ desk. IsDeskOf desk fabric × (desk.marker ≡ k) × (is_idle desk.work ≡ true))
 
--- shared words were shut with all their desks: no connector is held, the words show the set after a history that
--- begins with what each desk had seen, and its records are those of the desks' own turns and no others
+-- shared words were shut with all their desks: no connector is held, the words show the set after a
+-- history that begins with what each desk had seen, and its records are those of the desks' own
+-- turns and no others
 pub record HasClosed (plan : Tables) (desks : List DeskView) (words : List ℕ) : Type 0 where
   pub records : List Record
   pub history : IsHistory plan records

@@ -13,14 +13,15 @@ use Rattle.xbar_jobs.specs.declared.effect.Effect.{Effect}
 use Rattle.xbar_core.specs.Exchange.{Exchange, IsLawfulExchange, Marker, Work, on_job}
 use Rattle.xbar_core.specs.declared.kind.Kind.{Kind}
 
--- shared words as their callers see them: their table, their plan, and how many desks they opened with
+-- shared words as their callers see them: their table, their plan, and how many desks they opened
+-- with
 pub record FabricView : Type 0 where
   pub table : TableId
   pub plan : Tables
   pub count : ℕ
 
--- a desk as its callers see it: its table and plan, which marker it is, of what kind and at what work, and
--- the records that it has seen
+-- a desk as its callers see it: its table and plan, which marker it is, of what kind and at what
+-- work, and the records that it has seen
 pub record DeskView : Type 0 where
   pub table : TableId
   pub plan : Tables
@@ -35,7 +36,13 @@ marker_of desk = record { kind = desk.kind; work = desk.work }
 
 -- a turn of any system of jobs, as the record of a job
 abbrev pub entered : worlds.Record Job Reply → Record
-entered r = record { turn = r.turn; marker = r.actor; job_no = r.number; job = r.job; reply = r.reply }
+entered r = record {
+  turn = r.turn;
+  marker = r.actor;
+  job_no = r.number;
+  job = r.job;
+  reply = r.reply;
+}
 
 -- the number of a marker's job has 32 bits
 abbrev pub HasJobNo : Work → Type 0
@@ -71,7 +78,8 @@ pub record IsDeskOf (desk : DeskView) (fabric : FabricView) : Type 0 where
 abbrev pub AreDesksOf : List DeskView → FabricView → Type 0
 AreDesksOf desks fabric = (k : ℕ) → IfSome (slice_get desks k) (λ desk. IsDeskOf desk fabric)
 
--- the desks of shared words that have just opened, from marker k on: idle, of these kinds, and with nothing seen
+-- the desks of shared words that have just opened, from marker k on: idle, of these kinds, and with
+-- nothing seen
 abbrev pub new_desks : FabricView → ℕ → List Kind → List DeskView
 new_desks fabric k [] = []
 new_desks fabric k (kind ∷ kinds) = record {
@@ -92,8 +100,9 @@ own k (r ∷ records) = if r.marker == k then r ∷ own k records else own k rec
 abbrev pub mine : DeskView → List Record
 mine desk = own desk.marker desk.seen
 
--- an office that its plan's markers can come to, amid which a desk stands: this marker is as the desk has it,
--- the records begin with what the desk has seen, and of the marker's own there are no others
+-- an office that its plan's markers can come to, amid which a desk stands: this marker is as the
+-- desk has it, the records begin with what the desk has seen, and of the marker's own there are no
+-- others
 pub record IsAmid (desk : DeskView) (e : Exchange) : Type 0 where
   pub lawful : IsLawfulExchange desk.plan e
   pub there : slice_get e.markers desk.marker ≡ Some (marker_of desk)

@@ -65,8 +65,8 @@ fn record_of(told: Told<Job, Reply>) -> Record
 }
 
 impl Desk {
-    /// Makes its marker's next step, one atomic operation on the shared words, and tells what came of it. An
-    /// idle marker makes none. It always succeeds, and takes no memory.
+    /// Makes its marker's next step, one atomic operation on the shared words, and tells what came
+    /// of it. An idle marker makes none. It always succeeds, and takes no memory.
     pub fn advance(&mut self, fabric: &Fabric) -> Event
         requires { IsDeskOf self.old fabric.now }
         ensures same { self.new ≡ record (self.old) { work = self.new.work; seen = self.new.seen } }
@@ -85,8 +85,8 @@ impl Desk {
         }
     }
 
-    /// Has its marker give back what it holds, if it is not past its turn: it withdraws its request and frees
-    /// its connectors, each by one atomic operation. It keeps its job.
+    /// Has its marker give back what it holds, if it is not past its turn: it withdraws its request
+    /// and frees its connectors, each by one atomic operation. It keeps its job.
     pub fn give_back(&mut self, fabric: &Fabric) -> Given
         requires { IsDeskOf self.old fabric.now }
         ensures same { self.new ≡ record (self.old) { work = self.new.work; seen = self.new.seen } }

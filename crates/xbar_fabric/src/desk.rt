@@ -87,8 +87,8 @@ impl Desk {
         }
     }
 
-    /// Assigns it a job under a number, or tells the first reason why not, `NotIdle` before `WrongKind`. It
-    /// takes no memory.
+    /// Assigns it a job under a number, or tells the first reason why not, `NotIdle` before
+    /// `WrongKind`. It takes no memory.
     pub fn assign(&mut self, job_no: u32, job: Job) -> Result<(), AssignFault>
         requires { IsJob job }
         ensures { MatchResult result

@@ -48,7 +48,8 @@ fn assort(room: &Room<Office>, rest: Vec<desks::Desk<Office>>, kinds: &[Kind], a
 }
 
 impl<'p> Fabric<'p> {
-    /// Opens the shared words with all of them 0, and an idle desk of each of these kinds: desk `k` is marker `k`.
+    /// Opens the shared words with all of them 0, and an idle desk of each of these kinds: desk `k`
+    /// is marker `k`.
     #[tactic(auto, using(crate::proofs::NewDesks::new_are_theirs))]
     pub fn open(
         alloc: Global,

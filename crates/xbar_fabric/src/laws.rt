@@ -1,5 +1,5 @@
-//! What holds between any two steps of threads, and of each step. The functions do nothing: their contracts are
-//! the laws.
+//! What holds between any two steps of threads, and of each step. The functions do nothing: their
+//! contracts are the laws.
 
 ghost use Rattle.std.specs.Prelude.{◌≡◌, ◌<◌, ℕ, List, Option, Some};
 ghost use Rattle.turns.specs.declared.phase.Phase.{Phase};
@@ -24,9 +24,10 @@ ghost use Rattle.xbar_fabric.specs.Views.{DeskView};
 use turns::Phase;
 use xbar_core::Event;
 
-/// Whatever the table of shared words keeps between any two steps, there is an office with these words. In each
-/// such office, half-done jobs included, each closed crosspoint belongs to a path, all closed crosspoints at one
-/// link to one path, and a marker past its turn that releases a call has left to open just what its reply names.
+/// Whatever the table of shared words keeps between any two steps, there is an office with these
+/// words. In each such office, half-done jobs included, each closed crosspoint belongs to a path,
+/// all closed crosspoints at one link to one path, and a marker past its turn that releases a call
+/// has left to open just what its reply names.
 pub fn between_steps_there_is_an_office()
     ensures office { (plan : Tables) (count : ℕ) (words : List ℕ) (known : List (Known plan)) →
         Keeps plan count words known → (e : Exchange) × IsOfficeOn plan count words e }
@@ -48,8 +49,9 @@ pub fn between_steps_there_is_an_office()
     xbar_core::laws::a_release_opens_its_own_crosspoints();
 }
 
-/// In the office in which a step was made, who refuses a desk holds the connector that it asks for, and who is
-/// preferred to it has requested that connector, which nobody holds: of those that have, the lowest.
+/// In the office in which a step was made, who refuses a desk holds the connector that it asks for,
+/// and who is preferred to it has requested that connector, which nobody holds: of those that have,
+/// the lowest.
 pub fn steps_tell_the_truth()
     ensures refused { (before after : DeskView) (conn : Conn) (holder : ℕ)
         → (step : HasStepped before after (Event.Refused conn holder))

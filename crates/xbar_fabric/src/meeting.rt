@@ -5,7 +5,8 @@ ghost use Rattle.xbar_fabric.specs.Views.{IsDeskOf};
 use crate::desk::Desk;
 use crate::fabric::Fabric;
 
-/// Two desks meet, by one look at the turn word: both have seen what both had seen, and all turns so far.
+/// Two desks meet, by one look at the turn word: both have seen what both had seen, and all turns
+/// so far.
 pub fn meet(fabric: &Fabric, one: &mut Desk, other: &mut Desk)
     requires one { IsDeskOf one.old fabric.now }
     requires other { IsDeskOf other.old fabric.now }

@@ -15,7 +15,8 @@ pub struct ShutFault<'p> {
     pub desk: Desk,
 }
 
-/// Shuts the shared words with one of their desks, and gives all 453, each at the place of its number.
+/// Shuts the shared words with one of their desks, and gives all 453, each at the place of its
+/// number.
 pub fn shut<'p>(alloc: Global, fabric: Fabric<'p>, desk: Desk) -> Result<Vec<u64>, ShutFault<'p>>
     requires { IsDeskOf desk fabric }
     ensures { MatchResult result
@@ -52,8 +53,8 @@ fn take_apart(desks: Vec<Desk>, rest: &mut Vec<desks::Desk<Office>>)
     }
 }
 
-/// Shuts the shared words with all of their desks, each idle and at the place of its marker, and gives all 453
-/// words, each at the place of its number.
+/// Shuts the shared words with all of their desks, each idle and at the place of its marker, and
+/// gives all 453 words, each at the place of its number.
 pub fn shut_all<'p>(
     alloc: Global,
     fabric: Fabric<'p>,

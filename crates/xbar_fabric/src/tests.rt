@@ -76,7 +76,8 @@ impl<'p> TwoDesks<'p> {
         Ok(TwoDesks { fabric, zero, one })
     }
 
-    /// Desk 0 is assigned the first of these jobs under number 1, desk 1 the other one under number 2.
+    /// Desk 0 is assigned the first of these jobs under number 1, desk 1 the other one under number
+    /// 2.
     fn with_jobs(
         rt: &impl Abort,
         alloc: Global,

@@ -2,8 +2,8 @@
 
 use super::*;
 
-/// Steps of markers come to this, one after another, and each leaves this in the connector of frame 3: the words
-/// are those of an office that is opened anew for each number of steps.
+/// Steps of markers come to this, one after another, and each leaves this in the connector of frame
+/// 3: the words are those of an office that is opened anew for each number of steps.
 fn comes_to(rt: &impl Abort, alloc: Global, wanted: &[(u32, Progress, u64)]) -> Result<(), Fail> {
     let plan = Plan::example(alloc)?;
     for last in 0..wanted.len() {

@@ -40,12 +40,17 @@ fn a_busy_desk_is_told_before_a_wrong_kind(rt: HostRuntime) -> Result<(), Fail> 
     let Some(mut desk) = last_desk(&fabric, &mut desks) else {
         return Err("there is a desk".into());
     };
-    let release = job(&rt, "R 3041");
-    assert_eq!(&rt; desk.assign(1, release), Err(AssignFault::WrongKind));
+    assert_eq!(&rt;
+        desk.assign(1, job(&rt, "R 3041")),
+        Err(AssignFault::WrongKind)
+    );
     assert_eq!(&rt; desk.assign(1, job(&rt, "D 3041")), Ok(()));
     assert!(&rt; !desk.is_idle());
     assert_eq!(&rt; desk.kind(), Kind::Dial);
-    assert_eq!(&rt; desk.assign(2, release), Err(AssignFault::NotIdle));
+    assert_eq!(&rt;
+        desk.assign(2, job(&rt, "R 3041")),
+        Err(AssignFault::NotIdle)
+    );
     Ok(())
 }
 
