@@ -1,4 +1,4 @@
-use Rattle.std.proofs.Common.{◌≡◌, ℕ, zero, suc, true, set, List, [], ◌∷◌, sym, refl, ap, subst, ◌∙◌}
+use Rattle.std.proofs.Common.{◌≡◌, ◌≢◌, ℕ, zero, suc, true, set, List, [], ◌∷◌, sym, refl, ap, subst, ◌∙◌}
 use mathlib.Core.Option.{some}
 use lib.ListN.{get_elem?}
 use Rattle.atomic_table.specs.Table.{Allows, Me, State}
@@ -58,11 +58,12 @@ module _ (O : System) where
       }
 
   -- a step by what the seat tells of it
-  pub stepped_by : (k number : ℕ) (a after : AttemptOf O) (me me_after : Me (Unit {0}) (List (PartOf O))) (found : ℕ) (answer : Answer) → HasMoved O k number a (seen_in me.0) found me_after.0 → after ≡ next O k a found → answer ≡ answer_to O k (act a) found → HasStepped O k (Does number a) (Does number after) (seen_in me.0) (seen_in me_after.0) answer
-  stepped_by k number a after me me_after found answer step is told = record {
+  pub stepped_by : (k number : ℕ) (a after : AttemptOf O) (me me_after : Me (Unit {0}) (List (PartOf O))) (found : ℕ) (answer : Answer) → HasMoved O k number a (seen_in me.0) found me_after.0 → after ≡ next O k a found → answer ≡ answer_to O k (act a) found → act a ≢ Rest → HasStepped O k (Does number a) (Does number after) (seen_in me.0) (seen_in me_after.0) answer
+  stepped_by k number a after me me_after found answer step is told goes_on = record {
     number = number;
     attempt = a;
     before_is = refl;
+    goes_on = goes_on;
     world = step.world;
     lawful = step.lawful;
     there = step.there;

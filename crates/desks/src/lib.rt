@@ -6,7 +6,7 @@ pub use jobs::Jobs;
 pub use meeting::meet;
 pub use progress::{Progress, Told};
 pub use room::Room;
-pub use shutting::{shut, shut_all};
+pub use shutting::{shut, shut_all, shut_all_into};
 pub use view::View;
 
 mod desk;

@@ -46,15 +46,10 @@ fn gather<F: Jobs>(
     mut desks: Vec<Desk<F>>,
 ) -> Option<Seat<(), Knows<F>>>
     requires room { (shared.now.key.setting.value ≡ setting.now) × (0 < shared.now.table_id.words) }
-    requires desks { AreIdle (system_of (F.system setting.now)) shared.now.table_id setting.now
-        desks.items }
-    ensures table { IfSome result
-        (λ seat. (seat.table_id ≡ shared.now.table_id) × (seat.me.1 ≡ [])) }
+    requires desks { AreIdle (system_of (F.system setting.now)) shared.now.table_id setting.now desks.items }
+    ensures table { IfSome result (λ seat. (seat.table_id ≡ shared.now.table_id) × (seat.me.1 ≡ [])) }
     ensures rest { IfSome result (λ seat. AllRest (system_of (F.system setting.now)) seat.me.0) }
-    ensures told { IfSome result
-        (λ seat. (i : ℕ)
-        → IfSome (slice_get desks.items i)
-        (λ d. Tells (system_of (F.system setting.now)) seat.me.0 i d.seen)) }
+    ensures told { IfSome result (λ seat. (i : ℕ) → IfSome (slice_get desks.items i) (λ d. Tells (system_of (F.system setting.now)) seat.me.0 i d.seen)) }
     ensures none { IfNone result (vec_len desks ≡ 0) }
 {
     let Some(last) = desks.pop() else {
@@ -67,8 +62,34 @@ fn gather<F: Jobs>(
     Some(seat)
 }
 
-/// Shuts the room with all of its desks, which are idle and each at the place of its number, and
-/// gives its words. For want of memory all are handed back.
+/// Shuts the room with all of its desks, which are idle and each at the place of its number, and puts its words
+/// where there is room for them.
+pub fn shut_all_into<F: Jobs>(
+    mut words: Vec<u64>,
+    room: Room<F>,
+    setting: &F::Setting,
+    desks: Vec<Desk<F>>,
+) -> Vec<u64>
+    requires memory { (words.items ≡ []) × ((F.system setting.now).size ≤ vec_capacity words) }
+    requires setting { room.setting ≡ setting.now }
+    requires all { (vec_len desks ≡ room.count) × (0 < vec_len desks) }
+    requires desks { AreIdle (system_of (F.system setting.now)) room.table setting.now desks.items }
+    ensures { HasClosed (system_of (F.system setting.now)) desks.items result.items }
+{
+    laws::jobs_act_at_their_turns::<Systems<F>>();
+    laws::lock_words_tell_the_truth::<Systems<F>>();
+    let Some(seat) = gather::<F>(&room.table.shared, setting, desks) else {
+        unreachable!()
+    };
+    let Room { table } = room;
+    let closed = table.close_with(seat);
+    copy_words(&closed, &mut words);
+    closed.free();
+    words
+}
+
+/// Shuts the room with all of its desks, which are idle and each at the place of its number, and gives its
+/// words. For want of memory all are handed back.
 pub fn shut_all<F: Jobs>(
     alloc: Global,
     room: Room<F>,
@@ -82,23 +103,13 @@ pub fn shut_all<F: Jobs>(
         (λ words. HasClosed (system_of (F.system setting.now)) desks.items words.items)
         (λ back. (back.0 ≡ room) × (back.1 ≡ desks)) }
 {
-    laws::jobs_act_at_their_turns::<Systems<F>>();
-    laws::lock_words_tell_the_truth::<Systems<F>>();
-    let Ok(mut words) = Vec::with_capacity(alloc, F::size(setting)) else {
-        return Err((room, desks));
-    };
-    let Some(seat) = gather::<F>(&room.table.shared, setting, desks) else {
-        unreachable!()
-    };
-    let Room { table } = room;
-    let closed = table.close_with(seat);
-    copy_words(&closed, &mut words);
-    closed.free();
-    Ok(words)
+    match Vec::with_capacity(alloc, F::size(setting)) {
+        Ok(words) => Ok(shut_all_into(words, room, setting, desks)),
+        Err(_) => Err((room, desks)),
+    }
 }
 
-/// Shuts the room with one of its desks, and gives its words. For want of memory both are handed
-/// back.
+/// Shuts the room with one of its desks, and gives its words. For want of memory both are handed back.
 pub fn shut<F: Jobs>(
     alloc: Global,
     room: Room<F>,

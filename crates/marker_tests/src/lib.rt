@@ -1,8 +1,11 @@
-//! Tests of markers: of one, whose job is made of steps, and of many in one office.
+//! Tests of markers: of one, whose job is made of steps, of many in one office, and of desks on
+//! shared words.
 #![tactic(auto)]
 
 #[cfg(test)]
 mod exchange;
+#[cfg(test)]
+mod fabric;
 #[cfg(test)]
 mod fixtures;
 #[cfg(test)]

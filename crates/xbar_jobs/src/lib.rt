@@ -2,6 +2,7 @@
 //! makes each step that it asks for, and tells it what came of it.
 #![tactic(auto)]
 
+pub use effect::Effect;
 pub use offices::Offices;
 pub use program::Program;
 pub use step::Step;

@@ -11,7 +11,7 @@ make-found-requires-clause-allowed g c i f at does =
 
 pub returns-clause-stepped : goal.returns-clause-stepped
 returns-clause-stepped g c =
-    stepped_by (system_of (g.F.Jobs.system c.args.setting.now)) c.args.actor c.args.number (g.F.Jobs.attempt c.args.program.now) _ c.args.seat.now.me c.make-found.new.seat.me c.make-found.result _ c.make-found.ensures.told c.take.ensures.next c.take.ensures.answer
+    stepped_by (system_of (g.F.Jobs.system c.args.setting.now)) c.args.actor c.args.number (g.F.Jobs.attempt c.args.program.now) _ c.args.seat.now.me c.make-found.new.seat.me c.make-found.result _ c.make-found.ensures.told c.take.ensures.next c.take.ensures.answer c.requires.goes_on
 
 pub returns-clause-ended : goal.returns-clause-ended
 returns-clause-ended g c rests =

@@ -5,7 +5,7 @@ use Rattle.desks.specs.Rule.{Rule}
 use Rattle.turns.specs.System.{system_of}
 use Rattle.desks.proofs.Dealing.{some_words}
 use Rattle.desks.proofs.Resting.{has_closed}
-use Rattle.desks.proofs.shutting.shut_all.Goals as goal
+use Rattle.desks.proofs.shutting.shut_all_into.Goals as goal
 
 pub gather-requires-clause-room : goal.gather-requires-clause-room
 gather-requires-clause-room g c =

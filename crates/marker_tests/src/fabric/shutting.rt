@@ -1,0 +1,93 @@
+//! Shared words that are shut with all of their desks, and jobs that are refused.
+
+use super::*;
+use xbar_match::{count_closed, count_paths};
+use xbar_office::audit;
+
+#[test]
+fn new_desks_are_shut_together(rt: HostRuntime) -> Result<(), Fail> {
+    let alloc = rt.alloc();
+    let plan = Plan::example(alloc)?;
+    let (fabric, desks) = Fabric::open(alloc, &plan, &[Kind::Dial; 48])?;
+    let Ok(words) = shut_all(alloc, fabric, desks) else {
+        return Err("there is memory for the words".into());
+    };
+    assert_eq!(&rt; words.len(), 453);
+    assert!(&rt; words.iter().all(|word| *word == 0));
+    Ok(())
+}
+
+#[test]
+fn only_1_to_48_desks_are_opened(rt: HostRuntime) -> Result<(), Fail> {
+    let alloc = rt.alloc();
+    let plan = Plan::example(alloc)?;
+    let Err(fault) = Fabric::open(alloc, &plan, &[Kind::Dial; 49]) else {
+        return Err("there are no 49 desks".into());
+    };
+    assert_eq!(&rt; fault, OpenFault::Markers);
+    let Err(fault) = Fabric::open(alloc, &plan, &[]) else {
+        return Err("there is a desk".into());
+    };
+    assert_eq!(&rt; fault, OpenFault::Markers);
+    Ok(())
+}
+
+#[test]
+fn a_busy_desk_is_told_before_a_wrong_kind(rt: HostRuntime) -> Result<(), Fail> {
+    let alloc = rt.alloc();
+    let plan = Plan::example(alloc)?;
+    let (fabric, mut desks) = Fabric::open(alloc, &plan, &[Kind::Dial])?;
+    let Some(mut desk) = last_desk(&fabric, &mut desks) else {
+        return Err("there is a desk".into());
+    };
+    assert_eq!(&rt;
+        desk.assign(1, job(&rt, "R 3041")),
+        Err(AssignFault::WrongKind)
+    );
+    assert_eq!(&rt; desk.assign(1, job(&rt, "D 3041")), Ok(()));
+    assert!(&rt; !desk.is_idle());
+    assert_eq!(&rt; desk.kind(), Kind::Dial);
+    assert_eq!(&rt;
+        desk.assign(2, job(&rt, "R 3041")),
+        Err(AssignFault::NotIdle)
+    );
+    Ok(())
+}
+
+/// Desk 0 does a job to its end, and its record is told.
+fn done(
+    rt: &impl Abort,
+    office: &mut TwoDesks,
+    job_no: u32,
+    text: &str,
+    log: &mut Vec<xbar_office::Record>,
+) -> Result<(), Fail> {
+    office.assign(rt, 0, job_no, text);
+    for _made in 0..128 {
+        if let Progress::Finished(record) = office.step(0) {
+            log.push(record)?;
+            return Ok(());
+        }
+    }
+    Err("the job comes to its end".into())
+}
+
+#[test]
+fn records_that_are_told_are_a_history(rt: HostRuntime) -> Result<(), Fail> {
+    let alloc = rt.alloc();
+    let plan = Plan::example(alloc)?;
+    let mut office = TwoDesks::open(alloc, &plan)?;
+    let mut log = Vec::new(alloc);
+    let jobs = ["D 3041", "C 3041 2340004", "D 1000", "R 3100", "D 3100"];
+    for (job_no, text) in (1..).zip(&jobs) {
+        done(&rt, &mut office, job_no, text, &mut log)?;
+    }
+    assert_eq!(&rt; office.step(0), Progress::Idle);
+    let words = office.words(alloc)?;
+    let after = audit(alloc, &plan, log.as_slice())?;
+    let paths = after.paths().len();
+    assert_eq!(&rt; usize::from(count_paths(words.as_slice())), paths);
+    assert_eq!(&rt; usize::from(count_closed(words.as_slice())), 4 * paths);
+    assert_eq!(&rt; word(&rt, words.as_slice(), TURNS), 5);
+    Ok(())
+}

@@ -1,0 +1,52 @@
+-- what desks below have seen of a meeting and a shutting, as records, sets of paths and connectors
+use Rattle.std.proofs.Common.{◌≡◌, ℕ, ◌%◌, ◌^◌, List, [], length, map, sym, ◌∙◌, ap, subst}
+use Rattle.std.specs.Prelude.{slice_index}
+use Rattle.atomic_table.specs.Seated.{TableId}
+use Rattle.turns.specs.World as worlds
+use Rattle.desks.specs.Met as desks
+use Rattle.xbar_equip.specs.Conn.{IsConn}
+use Rattle.xbar_equip.specs.Word.{TurnWord, word_number}
+use Rattle.xbar_equip.specs.declared.conn.Conn.{Conn}
+use Rattle.xbar_plan.specs.Tables.{Tables}
+use Rattle.xbar_office.specs.Legal.{after}
+use Rattle.xbar_jobs.specs.Office.{ShowsOffice, office}
+use Rattle.xbar_core.specs.Exchange.{Work}
+use Rattle.xbar_core.specs.declared.kind.Kind.{Kind}
+use Rattle.xbar_core.proofs.Records.{after_same}
+use Rattle.xbar_fabric.specs.Meetings.{AreWordsAfter, HaveMet, IsFree, IsShut}
+use Rattle.xbar_fabric.specs.Views.{entered}
+use Rattle.xbar_fabric.proofs.Offices.{Order, begins_entered, is_history, length-entered, own_same, turned_entered}
+use Rattle.xbar_fabric.proofs.Steps.{desk_at}
+
+module _ (plan : Tables) where
+  -- the set after an order is that after its records
+  pub after_entered : (order : Order) → worlds.after (office plan) [] order ≡ after plan (map entered order)
+  after_entered order = ap (worlds.after (office plan) []) (sym (turned_entered order)) ∙ after_same plan [] (map entered order)
+
+  pub have_met : (t u : TableId) (kind other_kind : Kind) (i j : ℕ) (w v w_after v_after : Work) (one other one_after other_after : Order) → desks.HaveMet (office plan) i j one other one_after other_after
+      → HaveMet (desk_at t plan kind i w one) (desk_at u plan other_kind j v other) (desk_at t plan kind i w_after one_after) (desk_at u plan other_kind j v_after other_after)
+  have_met t u kind other_kind i j w v w_after v_after one other one_after other_after met = record {
+    history = is_history plan one_after (rw met.same met.legal);
+    same = ap (map entered) (sym met.same);
+    one_begins = begins_entered one one_after (rw met.same met.one_begins);
+    other_begins = begins_entered other other_after met.other_begins;
+    one_mine = own_same i one one_after (rw met.same met.one_own);
+    other_mine = own_same j other other_after met.other_own;
+  }
+
+  pub words_after : (order : Order) (words : List ℕ) → length words ≡ 453 → slice_index words (word_number TurnWord) ≡ length order % 2 ^ 64
+      → (((conn : Conn) → IsConn conn → IsFree words conn) → ShowsOffice plan words (worlds.after (office plan) [] order)) → AreWordsAfter plan (map entered order) words
+  words_after order words size counted shows = record {
+    count = size;
+    counted = counted ∙ ap (λ (n : ℕ). n % 2 ^ 64) (sym (length-entered order));
+    shows = λ free. subst (ShowsOffice plan words) (after_entered order) (shows free);
+  }
+
+  pub is_shut : (t : TableId) (kind : Kind) (k : ℕ) (work : Work) (seen : Order) (words : List ℕ) → desks.IsShut (office plan) k seen words → IsShut (desk_at t plan kind k work seen) words
+  is_shut t kind k work seen words shut = record {
+    records = map entered shut.order;
+    history = is_history plan shut.order shut.legal;
+    begins = begins_entered seen shut.order shut.begins;
+    own_is = own_same k seen shut.order shut.own_is;
+    words_are = words_after shut.order words shut.size shut.counted shut.shows;
+  }

@@ -1,0 +1,138 @@
+-- a desk's step is its marker's step in an office
+use Rattle.std.proofs.Common.{◌≡◌, ◌≢◌, ℕ, Bool, false, map, refl, sym, ◌∙◌, ap, subst}
+use Rattle.std.specs.Prelude.{Some, if◌then◌else◌, slice_get, slice_index}
+use Rattle.turns.specs.Attempt.{Rest, Ask, Take, Leave, Free, Look, Turn, Make, act, answer_to, change}
+use Rattle.turns.specs.Runs.{is_rest}
+use Rattle.turns.specs.World.{World, Does, moved}
+use Rattle.turns.specs.declared.answer.Answer.{Answer}
+use Rattle.desks.specs.Desks as desks
+use Rattle.desks.specs.Kept.{number_found}
+use Rattle.atomic_table.specs.Seated.{TableId}
+use Rattle.desks.specs.Views as views
+use Rattle.xbar_equip.specs.declared.conn.Conn.{Conn}
+use Rattle.xbar_plan.specs.Tables.{Tables}
+use Rattle.xbar_office.specs.declared.job.Job.{Job}
+use Rattle.xbar_office.specs.declared.reply.Reply.{Reply}
+use Rattle.xbar_jobs.specs.declared.effect.Effect.{Effect}
+use Rattle.xbar_jobs.specs.Attempt.{Act, Attempt, next_step}
+use Rattle.xbar_jobs.specs.Office.{office}
+use Rattle.xbar_jobs.specs.OnWords.{step_answer}
+use Rattle.xbar_jobs.proofs.StepActs.{act_answer, act_word}
+use Rattle.xbar_core.specs.AtWork.{told_of}
+use Rattle.xbar_core.specs.Exchange.{Exchange, IsLawfulExchange, Work, world}
+use Rattle.xbar_core.specs.Holding.{IsAt}
+use Rattle.xbar_core.specs.Moves.{after_step, event_at_step, event_by, event_of}
+use Rattle.xbar_core.specs.declared.event.Event.{Event}
+use Rattle.xbar_core.specs.declared.event.Event.TheVariants as event
+use Rattle.xbar_core.specs.declared.kind.Kind.{Kind}
+use Rattle.xbar_core.proofs.Markers.{marker_set}
+use Rattle.xbar_core.proofs.StepCases.{step_made}
+use Rattle.xbar_core.proofs.Stepping.{event_there}
+use Rattle.xbar_core.proofs.WorldMoves.{has_to_give, steps_in_world}
+use Rattle.xbar_fabric.specs.Advances.{HasStepped}
+use Rattle.xbar_fabric.specs.Views.{DeskView, entered, view_at}
+use Rattle.xbar_fabric.proofs.Offices.{Order, begins_entered, entered_turned, is_lawful, marker_at, marker_made, office_of, own_same, world_is}
+
+busy_act : (x : Act) → x ≢ Rest → is_rest x ≡ false
+busy_act Rest goes = absurd (goes refl)
+busy_act (Ask conn) goes = refl
+busy_act (Take conn expected) goes = refl
+busy_act (Leave conn) goes = refl
+busy_act (Free conn) goes = refl
+busy_act (Look word) goes = refl
+busy_act Turn goes = refl
+busy_act (Make effect) goes = refl
+
+-- a desk by its parts
+abbrev pub desk_at : TableId → Tables → Kind → ℕ → Work → Order → DeskView
+desk_at table plan kind k work seen = record {
+  table = table;
+  plan = plan;
+  marker = k;
+  kind = kind;
+  work = work;
+  seen = map entered seen;
+}
+
+-- a desk of which only what it has seen is another
+pub seen_only : (desk after : views.DeskView Tables Conn Job Reply Effect) → after ≡ record desk { seen = after.seen } → after ≡ record desk { actor = after.actor; seen = after.seen }
+seen_only desk after same =
+    let actor : desk.actor ≡ after.actor = sym (ap (λ (d : views.DeskView Tables Conn Job Reply Effect). d.actor) same) in
+    same ∙ (λ i. record desk { actor = actor i; seen = after.seen })
+
+-- what holds of two desks by their parts holds of them as they are seen
+pub as_seen : (Has : DeskView → DeskView → Type 0) (plan : Tables) (kind : Kind) (desk after : views.DeskView Tables Conn Job Reply Effect) (now : DeskView) → desk.setting ≡ plan → after ≡ record desk { actor = after.actor; seen = after.seen } → view_at kind desk ≡ now
+    → Has (desk_at desk.table plan kind desk.number desk.actor desk.seen) (desk_at desk.table plan kind desk.number after.actor after.seen) → Has now (view_at kind after)
+as_seen Has plan kind desk after now setting same is has =
+    let old_is : desk_at desk.table plan kind desk.number desk.actor desk.seen ≡ now = ap (λ (p : Tables). desk_at desk.table p kind desk.number desk.actor desk.seen) (sym setting) ∙ is in
+    let new_is : desk_at desk.table plan kind desk.number after.actor after.seen ≡ view_at kind after =
+    ap (λ (p : Tables). desk_at desk.table p kind desk.number after.actor after.seen) (sym setting) ∙ ap (view_at kind) (sym same) in
+    subst (Has now) new_is (subst (λ (d : DeskView). Has d (desk_at desk.table plan kind desk.number after.actor after.seen)) old_is has)
+
+module _ (plan : Tables) (kind : Kind) (k : ℕ) (before after : Work) (seen seen_after : Order) (answer : Answer)
+    (step : desks.HasStepped (office plan) k before after seen seen_after answer) where
+  abbrev pub e : Exchange
+  e = office_of plan kind step.world
+
+  abbrev pub a : Attempt
+  a = step.attempt
+
+  pub lawful : IsLawfulExchange plan e
+  lawful = is_lawful plan kind step.world step.lawful
+
+  abbrev pub at : IsAt e k step.number a
+  at = record {
+    marker = marker_at kind before;
+    there = marker_made plan kind step.world.actors k before step.there;
+    work = step.before_is;
+  }
+
+  pub goes_on_at : is_rest (act a) ≡ false
+  goes_on_at = busy_act (act a) step.goes_on
+
+  answered : told_of k e.words a ≡ answer_to (office plan) k (act a) (number_found (office plan) step.world a)
+  answered = ap (λ (n : ℕ). step_answer k (next_step a) (slice_index step.world.words n)) (act_word plan (act a)) ∙ act_answer plan k (act a) (number_found (office plan) step.world a)
+
+  pub told : told_of k e.words a ≡ answer
+  told = answered ∙ sym step.answer_is
+
+  after_is : Does step.number (change (office plan) a (told_of k e.words a)) ≡ after
+  after_is = ap (λ (t : Answer). Does step.number (change (office plan) a t)) answered ∙ sym step.after_is
+
+  there_after : slice_get (after_step plan k e).markers k ≡ Some (marker_at kind after)
+  there_after =
+      ap (λ (x : Exchange). slice_get x.markers k) (step_made plan e k step.number a at goes_on_at)
+      ∙ marker_set e.markers k _ at.marker at.there
+      ∙ ap (λ (work : Work). Some (marker_at kind work)) after_is
+
+  order_is : seen_after ≡ (world plan (after_step plan k e)).order
+  order_is =
+      step.seen_is
+      ∙ ap (λ (w : World (office plan)). (moved (office plan) k step.number a w).order) (sym (world_is plan kind step.world))
+      ∙ ap (λ (w : World (office plan)). w.order) (sym (steps_in_world plan e k step.number a at (has_to_give plan e k step.number a at lawful)))
+
+  pub seen_is : map entered seen_after ≡ (after_step plan k e).records
+  seen_is = ap (map entered) order_is ∙ entered_turned (after_step plan k e).records
+
+  pub came : event_at_step plan k e ≡ event_of k step.number a (change (office plan) a answer) answer
+  came =
+      sym (event_there plan e k at.marker at.there)
+      ∙ ap (event_by plan k e.words) step.before_is
+      ∙ ap (λ (idle : Bool). if idle then event.Idle else event_of k step.number a (change (office plan) a (told_of k e.words a)) (told_of k e.words a)) goes_on_at
+      ∙ ap (λ (t : Answer). event_of k step.number a (change (office plan) a t) t) told
+
+  -- the step, with what comes of it
+  pub has_stepped : (table : TableId) (what : Event) → what ≡ event_of k step.number a (change (office plan) a answer) answer → HasStepped (desk_at table plan kind k before seen) (desk_at table plan kind k after seen_after) what
+  has_stepped table what is = record {
+    office = e;
+    amid = record {
+      lawful = lawful;
+      there = at.there;
+      begins = begins_entered seen step.world.order step.begins;
+      own_is = own_same k seen step.world.order step.own_is;
+    };
+    same = refl;
+    there = there_after;
+    seen_is = seen_is;
+    event_is = is ∙ sym came;
+  }

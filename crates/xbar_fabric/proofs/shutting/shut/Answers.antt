@@ -1,0 +1,16 @@
+use Rattle.std.proofs.Common.{◌≡◌, refl, sym, ap, ◌∙◌}
+use Rattle.xbar_fabric.specs.Meetings.{IsShut}
+use Rattle.xbar_fabric.specs.Views.{DeskView}
+use Rattle.xbar_fabric.proofs.Meets.{is_shut}
+use Rattle.xbar_fabric.proofs.Steps.{as_seen}
+use Rattle.xbar_fabric.proofs.shutting.shut.Goals as goal
+
+pub returns-in-Ok : goal.returns-in-Ok
+returns-in-Ok c =
+    let plan = c.fabric.inside.plan.now in
+    let desk = c.desk.inside.desk in
+    let kind = c.desk.inside.kind in
+    let words = c.in-Ok.words.items in
+    let setting : c.desk.inside.desk.setting ≡ c.fabric.inside.plan.now = ap (λ d. d.plan) c.desk.view_is ∙ c.requires.plan_is ∙ sym (ap (λ f. f.plan) c.fabric.view_is) in
+    as_seen (λ (old _ : DeskView). IsShut old words) plan kind desk desk c.args.desk setting refl c.desk.view_is
+    (is_shut plan desk.table kind desk.number desk.actor desk.seen words c.in-Ok.ensures)

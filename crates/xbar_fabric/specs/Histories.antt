@@ -1,0 +1,22 @@
+use Rattle.std.specs.Prelude.{◌≡◌, ◌<◌, ◌^◌, Some, List, [], length, slice_get}
+use Rattle.turns.specs.Among.{IsIn}
+use Rattle.xbar_plan.specs.Tables.{Tables}
+use Rattle.xbar_office.specs.Legal.{AreJobs, HaveReplies, IsLegal, jobs_of}
+use Rattle.xbar_office.specs.declared.reply.Record.{Record}
+use Rattle.xbar_core.specs.Exchange.{on_job}
+use Rattle.xbar_fabric.specs.Views.{DeskView, mine}
+
+-- records of jobs that there are, with the replies of the one-marker office, which does them whole,
+-- one after another; where there are fewer than turn numbers tell apart, they are legal
+pub record IsHistory (plan : Tables) (records : List Record) : Type 0 where
+  pub jobs : AreJobs (jobs_of records)
+  pub replies : HaveReplies plan [] records
+  pub legal : length records < 2 ^ 64 → IsLegal plan records
+
+-- the record that a desk is told when its job ends: of its marker, and of the job that was assigned
+-- to it, under its number; among its own, and at the place of its turn
+pub record IsTold (before after : DeskView) (r : Record) : Type 0 where
+  pub marker : r.marker ≡ before.marker
+  pub job : on_job ⊥ (λ number a. (r.job_no ≡ number) × (r.job ≡ a.job)) before.work
+  pub within : IsIn r (mine after)
+  pub stands : length after.seen < 2 ^ 64 → slice_get after.seen r.turn ≡ Some r

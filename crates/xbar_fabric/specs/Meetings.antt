@@ -1,0 +1,63 @@
+use Rattle.std.specs.Prelude.{◌≡◌, ℕ, ◌<◌, ◌%◌, ◌^◌, List, length, slice_get, slice_index, IfSome, true}
+use Rattle.turns.specs.Among.{IsIn}
+use Rattle.desks.specs.Parts.{Begins}
+use Rattle.xbar_equip.specs.Conn.{IsConn}
+use Rattle.xbar_equip.specs.Word.{ConnWord, TurnWord, word_count, word_number}
+use Rattle.xbar_equip.specs.declared.conn.Conn.{Conn}
+use Rattle.xbar_plan.specs.Tables.{Tables}
+use Rattle.xbar_office.specs.Legal.{after}
+use Rattle.xbar_office.specs.declared.reply.Record.{Record}
+use Rattle.xbar_jobs.specs.Office.{ShowsOffice}
+use Rattle.xbar_core.specs.Exchange.{is_idle}
+use Rattle.xbar_fabric.specs.Histories.{IsHistory}
+use Rattle.xbar_fabric.specs.Views.{DeskView, FabricView, IsDeskOf, mine, own}
+
+-- two desks have met: both have seen one history now, which begins with what each had seen, and in
+-- which each has no other records of its own
+pub record HaveMet (one other one_after other_after : DeskView) : Type 0 where
+  pub history : IsHistory one.plan one_after.seen
+  pub same : other_after.seen ≡ one_after.seen
+  pub one_begins : Begins one.seen one_after.seen
+  pub other_begins : Begins other.seen other_after.seen
+  pub one_mine : mine one_after ≡ mine one
+  pub other_mine : mine other_after ≡ mine other
+
+-- no marker holds the connector, by its word
+abbrev pub IsFree : List ℕ → Conn → Type 0
+IsFree words conn = slice_index words (word_number (ConnWord conn)) % 64 ≡ 0
+
+-- the words of shared words that were shut, after these records: the turn word counts them, and
+-- where no connector is held the words show the set after them
+pub record AreWordsAfter (plan : Tables) (records : List Record) (words : List ℕ) : Type 0 where
+  pub count : length words ≡ word_count
+  pub counted : slice_index words (word_number TurnWord) ≡ length records % 2 ^ 64
+  pub shows : ((conn : Conn) → IsConn conn → IsFree words conn)
+      → ShowsOffice plan words (after plan records)
+
+-- shared words were shut with this desk: the words are those after a history that begins with what
+-- the desk had seen, and in which its marker has no other records
+pub record IsShut (desk : DeskView) (words : List ℕ) : Type 0 where
+  pub records : List Record
+  pub history : IsHistory desk.plan records
+  pub begins : Begins desk.seen records
+  pub own_is : own desk.marker records ≡ mine desk
+  pub words_are : AreWordsAfter desk.plan records words
+
+-- all desks of shared words, each idle and at the place of its marker
+pub record AreAllIdle (desks : List DeskView) (fabric : FabricView) : Type 0 where
+  pub count : length desks ≡ fabric.count
+  pub each : (k : ℕ) → IfSome (slice_get desks k)
+      (λ desk. IsDeskOf desk fabric × (desk.marker ≡ k) × (is_idle desk.work ≡ true))
+
+-- shared words were shut with all their desks: no connector is held, the words show the set after a
+-- history that begins with what each desk had seen, and its records are those of the desks' own
+-- turns and no others
+pub record HasClosed (plan : Tables) (desks : List DeskView) (words : List ℕ) : Type 0 where
+  pub records : List Record
+  pub history : IsHistory plan records
+  pub theirs : (r : Record) → IsIn r records → r.marker < length desks
+  pub each : (k : ℕ) → IfSome (slice_get desks k)
+      (λ desk. Begins desk.seen records × (own k records ≡ own k desk.seen))
+  pub words_are : AreWordsAfter plan records words
+  pub free : (conn : Conn) → IsConn conn → IsFree words conn
+  pub shows : ShowsOffice plan words (after plan records)

@@ -1,0 +1,103 @@
+//! A desk's steps: one at a time, or so many as give back what its marker holds.
+
+ghost use Rattle.std.specs.Prelude.{◌≡◌, ◌≢◌, ◌<◌, ◌^◌, ℕ, false};
+ghost use Rattle.turns.specs.Attempt.{act};
+ghost use Rattle.turns.specs.Runs.{is_rest};
+ghost use Rattle.desks.specs.Desks.{told_record};
+ghost use Rattle.xbar_jobs.specs.Attempt.{Attempt, next_step};
+ghost use Rattle.xbar_core.specs.AtWork.{conn_asked};
+ghost use Rattle.xbar_core.specs.Moves.{event_of, given_by, refused_by};
+ghost use Rattle.xbar_fabric.specs.Advances.{HasAdvanced, HasGivenBack};
+ghost use Rattle.xbar_fabric.specs.Views.{IsDeskOf, entered};
+
+use crate::desk::Desk;
+use crate::fabric::Fabric;
+use desks::Told;
+use xbar_core::{Event, Given};
+use xbar_jobs::{Answer, Step};
+use xbar_office::{Job, Record, Reply};
+
+/// What came of a step that found its connector held.
+fn refused(step: Step, holder: u32) -> Event
+    ensures { result ≡ refused_by holder (conn_asked step) }
+{
+    match step {
+        Step::Request(conn) | Step::Seize(conn, _) => Event::Refused { conn, holder },
+        Step::Withdraw(_)
+        | Step::Test(_)
+        | Step::Turn
+        | Step::Close(_, _)
+        | Step::Open(_, _)
+        | Step::Free(_)
+        | Step::Finished => Event::Moved,
+    }
+}
+
+/// What came of a step that was answered so, after which something is left of the job.
+fn moved(step: Step, answer: Answer) -> Event
+    ensures { (k number : ℕ) (a after : Attempt) → step ≡ next_step a →
+        is_rest (act after) ≡ false → result ≡ event_of k number a after answer }
+{
+    match answer {
+        Answer::Held(holder) => refused(step, holder),
+        Answer::Preferred(other) => Event::Preferred(other),
+        Answer::Asked(_)
+        | Answer::Seized
+        | Answer::Again(_)
+        | Answer::Value(_)
+        | Answer::Turn(_)
+        | Answer::Done => Event::Moved,
+    }
+}
+
+/// A job's record, as the office has it.
+fn record_of(told: Told<Job, Reply>) -> Record
+    requires { told.number < 2 ^ 32 }
+    ensures { result ≡ entered (told_record told) }
+{
+    Record {
+        turn: told.turn,
+        marker: told.actor,
+        job_no: told.number as u32,
+        job: told.job,
+        reply: told.reply,
+    }
+}
+
+impl Desk {
+    /// Makes its marker's next step, one atomic operation on the shared words, and tells what came
+    /// of it. An idle marker makes none. It always succeeds, and takes no memory.
+    pub fn advance(&mut self, fabric: &Fabric) -> Event
+        requires { IsDeskOf self.old fabric.now }
+        ensures same { self.new ≡ record (self.old) { work = self.new.work; seen = self.new.seen } }
+        ensures advanced { HasAdvanced self.old self.new result }
+    {
+        // Called for its clauses alone.
+        xbar_plan::laws::every_plan_is_lawful(fabric.plan);
+        let Some((_, program)) = self.desk.doing() else {
+            return Event::Idle;
+        };
+        let step = program.next();
+        match self.desk.advance(&fabric.room, fabric.plan) {
+            desks::Progress::Idle => Event::Idle,
+            desks::Progress::Moved(answer) => moved(step, answer),
+            desks::Progress::Finished(told) => Event::Finished(record_of(told)),
+        }
+    }
+
+    /// Has its marker give back what it holds, if it is not past its turn: it withdraws its request
+    /// and frees its connectors, each by one atomic operation. It keeps its job.
+    pub fn give_back(&mut self, fabric: &Fabric) -> Given
+        requires { IsDeskOf self.old fabric.now }
+        ensures same { self.new ≡ record (self.old) { work = self.new.work; seen = self.new.seen } }
+        ensures given { result ≡ given_by self.old.work }
+        ensures kept { result ≢ Given.Given → self.new ≡ self.old }
+        ensures back { result ≡ Given.Given → HasGivenBack self.old self.new }
+    {
+        let given = self.given();
+        if let Given::Given = given {
+            self.desk.give_back(&fabric.room, fabric.plan);
+        }
+        given
+    }
+}

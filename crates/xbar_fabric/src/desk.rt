@@ -1,0 +1,105 @@
+ghost use Rattle.std.specs.Prelude.{◌≡◌, OnOk, OnErr, Some, None, MatchResult, true, false};
+ghost use Rattle.turns.specs.Attempt.{begin_with};
+ghost use Rattle.turns.specs.World.{Does};
+ghost use Rattle.xbar_office.specs.Legal.{IsJob};
+ghost use Rattle.xbar_jobs.specs.Jobs.{first_conn};
+ghost use Rattle.xbar_core.specs.Exchange.{is_idle as is_idle_work};
+ghost use Rattle.xbar_core.specs.Moves.{given_by, refusal_of};
+ghost use Rattle.xbar_fabric.specs.Histories.{IsHistory};
+ghost use Rattle.xbar_fabric.specs.Views.{marker_of};
+
+use crate::office::Office;
+use std::marker::Model;
+use xbar_core::{AssignFault, Given, Kind};
+use xbar_office::Job;
+
+/// A marker, which a thread owns. It holds no borrow, and has a fixed size.
+#[derive(Drop)]
+pub struct Desk {
+    pub(crate) desk: desks::Desk<Office>,
+    pub(crate) kind: Kind,
+}
+
+impl Model for Desk {
+    ghost use Rattle.std.specs.Prelude.{map};
+    ghost use Rattle.xbar_fabric.specs.Views.{DeskView, HasJobNo, entered};
+
+    ghost Value = { DeskView };
+
+    ghost view = { λ d. record {
+      table = d.desk.table;
+      plan = d.desk.setting;
+      marker = d.desk.number;
+      kind = d.kind;
+      work = d.desk.actor;
+      seen = map entered d.desk.seen;
+    } };
+
+    ghost invariant = { λ d. HasJobNo d.desk.actor };
+}
+
+impl Desk {
+    /// Which of the office's markers it is, from 0 on.
+    pub fn marker(&self) -> u32
+        ensures marker { result ≡ self.now.marker }
+        ensures history { IsHistory self.now.plan self.now.seen }
+    {
+        self.desk.number()
+    }
+
+    /// What jobs it takes.
+    pub fn kind(&self) -> Kind
+        ensures { result ≡ self.now.kind }
+    {
+        self.kind
+    }
+
+    /// Whether it may be assigned a job: it has none, or nothing is left of it.
+    pub fn is_idle(&self) -> bool
+        ensures { result ≡ is_idle_work self.now.work }
+    {
+        self.desk.is_idle()
+    }
+
+    /// What comes of asking its marker to give back.
+    pub(crate) fn given(&self) -> Given
+        ensures { result ≡ given_by self.now.work }
+    {
+        if self.is_idle() {
+            return Given::Idle;
+        }
+        match self.desk.doing() {
+            Some((_, program)) if program.turn().is_some() => Given::PastTurn,
+            _ => Given::Given,
+        }
+    }
+
+    /// Why it can't be assigned the job.
+    fn refuses(&self, job: &Job) -> Option<AssignFault>
+        ensures { result ≡ refusal_of (marker_of self.now) job.now }
+    {
+        if !self.is_idle() {
+            Some(AssignFault::NotIdle)
+        } else if self.kind.takes(job) {
+            None
+        } else {
+            Some(AssignFault::WrongKind)
+        }
+    }
+
+    /// Assigns it a job under a number, or tells the first reason why not, `NotIdle` before
+    /// `WrongKind`. It takes no memory.
+    pub fn assign(&mut self, job_no: u32, job: Job) -> Result<(), AssignFault>
+        requires { IsJob job }
+        ensures { MatchResult result
+            (λ _. (refusal_of (marker_of self.old) job ≡ None) × (self.new
+            ≡ record (self.old) { work = Does job_no (begin_with (first_conn job) job) }))
+            (λ fault. (refusal_of (marker_of self.old) job ≡ Some fault) × (self.new ≡ self.old)) }
+    {
+        if let Some(fault) = self.refuses(&job) {
+            return Err(fault);
+        }
+        self.desk.assign(u64::from(job_no), job);
+        Ok(())
+    }
+}

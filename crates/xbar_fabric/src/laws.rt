@@ -1,0 +1,69 @@
+//! What holds between any two steps of threads, and of each step. The functions do nothing: their
+//! contracts are the laws.
+
+ghost use Rattle.std.specs.Prelude.{◌≡◌, ◌<◌, ℕ, List, Option, Some};
+ghost use Rattle.turns.specs.declared.phase.Phase.{Phase};
+ghost use Rattle.xbar_equip.specs.declared.conn.Conn.{Conn};
+ghost use Rattle.xbar_equip.specs.Len.{Line};
+ghost use Rattle.xbar_equip.specs.Link.{Link};
+ghost use Rattle.xbar_equip.specs.declared.crosspoint.Crosspoint.{Crosspoint};
+ghost use Rattle.xbar_equip.specs.declared.path.Path.{Path};
+ghost use Rattle.xbar_plan.specs.Lawful.{IsLawful};
+ghost use Rattle.xbar_plan.specs.Tables.{Tables};
+ghost use Rattle.xbar_office.specs.declared.job.Job.TheVariants.{Release};
+ghost use Rattle.xbar_office.specs.declared.reply.Card.{Card};
+ghost use Rattle.xbar_office.specs.declared.reply.End.TheVariants.{Released};
+ghost use Rattle.xbar_jobs.specs.Attempt.{Attempt};
+ghost use Rattle.xbar_core.specs.Exchange.{Exchange};
+ghost use Rattle.xbar_core.specs.Holding.{AsksFor, HasRequested, Holds, IsAt};
+ghost use Rattle.xbar_core.specs.Links.{BelongsTo, IsAtLink, IsClosed, OpensItsOwn};
+ghost use Rattle.xbar_fabric.specs.Advances.{HasStepped};
+ghost use Rattle.xbar_fabric.specs.Between.{IsOfficeOn, Keeps, Known};
+ghost use Rattle.xbar_fabric.specs.Views.{DeskView};
+
+use turns::Phase;
+use xbar_core::Event;
+
+/// Whatever the table of shared words keeps between any two steps, there is an office with these
+/// words. In each such office, half-done jobs included, each closed crosspoint belongs to a path,
+/// all closed crosspoints at one link to one path, and a marker past its turn that releases a call
+/// has left to open just what its reply names.
+pub fn between_steps_there_is_an_office()
+    ensures office { (plan : Tables) (count : ℕ) (words : List ℕ) (known : List (Known plan)) →
+        Keeps plan count words known → (e : Exchange) × IsOfficeOn plan count words e }
+    ensures belongs { (plan : Tables) (count : ℕ) (words : List ℕ) (e : Exchange)
+        (c : Crosspoint) → IsLawful plan → IsOfficeOn plan count words e → IsClosed words c →
+        (path : Path) × BelongsTo plan e path c }
+    ensures one_call { (plan : Tables) (count : ℕ) (words : List ℕ) (e : Exchange) (link : Link)
+        (c : Crosspoint) → IsLawful plan → IsOfficeOn plan count words e → IsClosed words c →
+        IsAtLink link c → (path : Path)
+        × ((d : Crosspoint) → IsClosed words d → IsAtLink link d → BelongsTo plan e path d) }
+    ensures release { (plan : Tables) (count : ℕ) (words : List ℕ) (e : Exchange)
+        (k number turn : ℕ) (a : Attempt) (line : Line) (own : Path) (other : Option Path)
+        (cards : List Card) → IsLawful plan → IsOfficeOn plan count words e → IsAt e k number a →
+        a.phase ≡ Phase.Operates turn → a.job ≡ Release line →
+        a.reply ≡ Some (record { end = Released own other; cards = cards }) →
+        OpensItsOwn plan own other words a.effects }
+{
+    xbar_core::laws::no_link_carries_two_calls();
+    xbar_core::laws::a_release_opens_its_own_crosspoints();
+}
+
+/// In the office in which a step was made, who refuses a desk holds the connector that it asks for,
+/// and who is preferred to it has requested that connector, which nobody holds: of those that have,
+/// the lowest.
+pub fn steps_tell_the_truth()
+    ensures refused { (before after : DeskView) (conn : Conn) (holder : ℕ)
+        → (step : HasStepped before after (Event.Refused conn holder))
+        → AsksFor step.office before.marker conn × Holds step.office holder conn }
+    ensures preferred { (before after : DeskView) (other : ℕ)
+        → (step : HasStepped before after (Event.Preferred other))
+        → (conn : Conn) × AsksFor step.office before.marker conn × (other < before.marker)
+        × HasRequested step.office other conn × ((j : ℕ) → ¬ Holds step.office j conn) }
+    ensures least { (before after : DeskView) (other : ℕ)
+        → (step : HasStepped before after (Event.Preferred other)) → (conn : Conn)
+        → AsksFor step.office before.marker conn → (j : ℕ) → j < other
+        → ¬ HasRequested step.office j conn }
+{
+    xbar_core::laws::events_tell_the_truth();
+}

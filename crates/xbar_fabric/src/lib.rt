@@ -1,0 +1,16 @@
+//! The office on words that threads share: each marker is a desk that a thread owns.
+#![tactic(auto)]
+
+pub use desk::Desk;
+pub use fabric::Fabric;
+pub use meeting::meet;
+pub use shutting::{ShutAllFault, ShutFault, shut, shut_all};
+pub use xbar_core::{AssignFault, Event as Progress, Given, Kind, OpenFault};
+
+mod advancing;
+mod desk;
+mod fabric;
+pub mod laws;
+mod meeting;
+mod office;
+mod shutting;
