@@ -1,4 +1,4 @@
-use Rattle.std.specs.Prelude.{ℕ, Option, List, [], ◌∷◌, ◌++◌, codes, decimal, flat_map}
+use Rattle.std.specs.Prelude.{ℕ, Option, Some, None, List, [], ◌∷◌, ◌++◌, codes, decimal, flat_map, map}
 use Rattle.std.specs.List.{join_with_byte}
 use Rattle.std.specs.Option.{option_map_or}
 use Rattle.xbar_equip.specs.Dialled.{dialled_text}
@@ -6,14 +6,14 @@ use Rattle.xbar_equip.specs.Len.{line_text}
 use Rattle.xbar_equip.specs.Link.{link_text}
 use Rattle.xbar_equip.specs.Path.{path_text}
 use Rattle.xbar_equip.specs.declared.path.Path.{Path}
-use Rattle.xbar_plan.specs.Fault.{fault_text}
-use Rattle.xbar_plan.specs.declared.fault.PlanFault.{PlanFault}
 use Rattle.xbar_office.specs.declared.job.Job.{Job}
 use Rattle.xbar_office.specs.declared.job.Job.TheVariants.{Dial, Complete, Release}
 use Rattle.xbar_office.specs.declared.reply.Card.{Card}
 use Rattle.xbar_office.specs.declared.reply.End.{End}
 use Rattle.xbar_office.specs.declared.reply.End.TheVariants.{DialTone, Connected, Released, CalledBusy, LineBusy, RegistersBusy, TrunksBusy, NoPath, Trouble, VacantCode, VacantNumber, NoRegister, NoCall}
 use Rattle.xbar_office.specs.declared.reply.Record.{Record}
+use Rattle.xbar_report.specs.declared.counts.Counts.{Counts}
+use Rattle.xbar_report.specs.declared.trouble_line.TroubleLine.{TroubleLine}
 
 -- fields, parted by commas
 abbrev pub fields : List (List ℕ) → List ℕ
@@ -62,21 +62,38 @@ abbrev pub record_line : Record → List ℕ
 record_line r = line_with (decimal r.turn ∷ decimal r.job_no ∷ decimal r.marker ∷ job_fields r.job ∷ end_fields r.reply.end ∷ [])
 
 -- the line of a trouble card: turn, job number, trial, link
-abbrev pub card_line : Record → Card → List ℕ
-card_line r card = line_with (codes "TROUBLE" ∷ decimal r.turn ∷ decimal r.job_no ∷ decimal card.trial ∷ link_text card.link ∷ [])
+abbrev pub trouble_line : TroubleLine → List ℕ
+trouble_line t = line_with (codes "TROUBLE" ∷ decimal t.turn ∷ decimal t.job_no ∷ decimal t.card.trial ∷ link_text t.card.link ∷ [])
 
--- the lines of a record's cards, in the order of trials
+-- a card of a record, with the record's turn and job number
+abbrev pub trouble_of : Record → Card → TroubleLine
+trouble_of r card = record { turn = r.turn; job_no = r.job_no; card = card }
+
+-- a record's cards, in their order
+abbrev pub troubles_of : Record → List TroubleLine
+troubles_of r = map (trouble_of r) r.reply.cards
+
+-- the lines of a record's cards, in their order
 abbrev pub card_lines : Record → List ℕ
-card_lines r = flat_map (card_line r) r.reply.cards
+card_lines r = flat_map trouble_line (troubles_of r)
 
--- the two lines with the numbers of paths and of closed crosspoints
-abbrev pub count_lines : ℕ → ℕ → List ℕ
-count_lines paths closed = line_with (codes "PATHS" ∷ decimal paths ∷ []) ++ line_with (codes "CLOSED" ∷ decimal closed ∷ [])
+-- the line with the number of paths
+abbrev pub paths_line : ℕ → List ℕ
+paths_line paths = line_with (codes "PATHS" ∷ decimal paths ∷ [])
 
--- what is written of a run: the lines of all records, then those of all cards, then the counts
+-- the line with the number of closed crosspoints
+abbrev pub closed_line : ℕ → List ℕ
+closed_line closed = line_with (codes "CLOSED" ∷ decimal closed ∷ [])
+
+-- the two lines of counts, if there are any
+abbrev pub count_lines : Option Counts → List ℕ
+count_lines None = []
+count_lines (Some counts) = paths_line counts.paths ++ closed_line counts.closed
+
+-- the text of records, with counts or without: the lines of all records, then those of all cards, then the counts
+abbrev pub records_text : List Record → Option Counts → List ℕ
+records_text records counts = flat_map record_line records ++ flat_map card_lines records ++ count_lines counts
+
+-- what is written of a run with these records, which leaves so many paths and closed crosspoints
 abbrev pub report_text : List Record → ℕ → ℕ → List ℕ
-report_text records paths closed = flat_map record_line records ++ flat_map card_lines records ++ count_lines paths closed
-
--- the line that tells why a plan is refused
-abbrev pub plan_fault_line : PlanFault → List ℕ
-plan_fault_line fault = line_with (codes "FAULT" ∷ fault_text fault ∷ [])
+report_text records paths closed = records_text records (Some (record { paths = paths; closed = closed }))

@@ -1,5 +1,5 @@
 ghost use Rattle.std.specs.Prelude.{Some};
-ghost use Rattle.crossbar5.specs.Report.{path_field};
+ghost use Rattle.xbar_report.specs.Text.{path_field};
 
 use std::fmt;
 use xbar_equip::Path;

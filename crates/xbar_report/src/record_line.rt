@@ -1,5 +1,5 @@
 ghost use Rattle.std.specs.Prelude.{Some};
-ghost use Rattle.crossbar5.specs.Report.{record_line};
+ghost use Rattle.xbar_report.specs.Text.{record_line};
 
 use crate::end_fields::EndFields;
 use crate::job_fields::JobFields;

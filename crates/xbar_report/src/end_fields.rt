@@ -1,5 +1,5 @@
 ghost use Rattle.std.specs.Prelude.{Some};
-ghost use Rattle.crossbar5.specs.Report.{end_fields};
+ghost use Rattle.xbar_report.specs.Text.{end_fields};
 
 use crate::path_field::PathField;
 use std::fmt;

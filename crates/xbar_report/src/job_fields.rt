@@ -1,5 +1,5 @@
 ghost use Rattle.std.specs.Prelude.{Some};
-ghost use Rattle.crossbar5.specs.Report.{job_fields};
+ghost use Rattle.xbar_report.specs.Text.{job_fields};
 
 use std::fmt;
 use xbar_office::Job;

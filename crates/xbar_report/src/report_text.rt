@@ -1,8 +1,8 @@
 ghost use Rattle.std.specs.Prelude.{◌≡◌, ◌++◌, IfOk, OnOk, flat_map, string_bytes};
-ghost use Rattle.crossbar5.specs.Report.{record_line, card_lines, count_lines, report_text};
+ghost use Rattle.xbar_report.specs.Text.{record_line, card_lines, report_text};
 
-use crate::card_line::CardLine;
 use crate::record_line::RecordLine;
+use crate::trouble_line::TroubleLine;
 use std::alloc::{AllocError, Global};
 use xbar_office::Record;
 
@@ -46,9 +46,10 @@ fn add_cards_of(text: &mut String, owner: &Record) -> Result<(), AllocError>
     ensures { OnOk result (string_bytes text.new ≡ string_bytes text.old ++ card_lines owner.now) }
 {
     for card in owner.reply.cards.as_slice() {
-        let line = CardLine {
-            record: owner,
-            card,
+        let line = TroubleLine {
+            turn: owner.turn,
+            job_no: owner.job_no,
+            card: *card,
         };
         write!(text, "{line}")?;
     }

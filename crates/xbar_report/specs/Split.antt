@@ -1,0 +1,6 @@
+use Rattle.std.specs.Prelude.{◌≡◌, ◌==◌, ℕ, not, true, List}
+use Rattle.std.specs.List.{list_all}
+
+-- none of the bytes is this one
+abbrev pub Lacks : ℕ → List ℕ → Type 0
+Lacks byte bytes = list_all (λ b. not (b == byte)) bytes ≡ true

@@ -1,0 +1,20 @@
+//! The text of a run's records: written, and read back.
+#![tactic(auto)]
+
+pub use counts::Counts;
+pub use read_fault::ReadFault;
+pub use report_text::report;
+pub use trouble_line::TroubleLine;
+
+mod counts;
+mod end_fields;
+mod job_fields;
+mod line;
+mod path_field;
+mod read_fault;
+mod record_line;
+mod report_text;
+mod split;
+#[cfg(test)]
+mod tests;
+mod trouble_line;
