@@ -3,6 +3,10 @@ pub use Rattle.xbar_office.specs.Audit
 pub mod Text
 pub mod Ranges
 pub mod Sheet
+pub mod Reading
 pub mod Split
 pub mod Line
-pub mod Reading
+pub mod Bare
+pub mod Parts
+pub mod Draft
+pub mod Dealt

@@ -77,13 +77,17 @@ troubles_of r = map (trouble_of r) r.reply.cards
 abbrev pub card_lines : Record → List ℕ
 card_lines r = flat_map trouble_line (troubles_of r)
 
+-- a line with a count: its name and the number
+abbrev pub count_line : List ℕ → ℕ → List ℕ
+count_line name count = line_with (name ∷ decimal count ∷ [])
+
 -- the line with the number of paths
 abbrev pub paths_line : ℕ → List ℕ
-paths_line paths = line_with (codes "PATHS" ∷ decimal paths ∷ [])
+paths_line paths = count_line (codes "PATHS") paths
 
 -- the line with the number of closed crosspoints
 abbrev pub closed_line : ℕ → List ℕ
-closed_line closed = line_with (codes "CLOSED" ∷ decimal closed ∷ [])
+closed_line closed = count_line (codes "CLOSED") closed
 
 -- the two lines of counts, if there are any
 abbrev pub count_lines : Option Counts → List ℕ

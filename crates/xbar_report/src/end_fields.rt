@@ -1,4 +1,5 @@
-ghost use Rattle.std.specs.Prelude.{Some};
+ghost use Rattle.std.specs.Prelude.{◌≡◌, Some};
+ghost use Rattle.xbar_report.specs.Parts.{end_name};
 ghost use Rattle.xbar_report.specs.Text.{end_fields};
 
 use crate::path_field::PathField;
@@ -13,24 +14,37 @@ impl fmt::Display for EndFields<'_> {
     ghost output = { λ fields. Some (end_fields fields.0.now) };
 
     fn fmt<W: fmt::Write>(&self, f: &mut fmt::Formatter<W>) -> fmt::Result {
+        let name = name_of(self.0);
         match self.0 {
-            End::DialTone { path, trial } => write!(f, "DIALTONE,{trial},{path},-"),
+            End::DialTone { path, trial } => write!(f, "{name},{trial},{path},-"),
             End::Connected {
                 calling,
                 called,
                 trial,
-            } => write!(f, "CONNECTED,{trial},{calling},{}", PathField(called)),
-            End::Released { own, other } => write!(f, "RELEASED,-,{own},{}", PathField(other)),
-            End::CalledBusy => f.write_str("CALLEDBUSY,-,-,-"),
-            End::LineBusy => f.write_str("LINEBUSY,-,-,-"),
-            End::RegistersBusy => f.write_str("REGISTERSBUSY,-,-,-"),
-            End::TrunksBusy => f.write_str("TRUNKSBUSY,-,-,-"),
-            End::NoPath => f.write_str("NOPATH,-,-,-"),
-            End::Trouble => f.write_str("TROUBLE,-,-,-"),
-            End::VacantCode => f.write_str("VACANTCODE,-,-,-"),
-            End::VacantNumber => f.write_str("VACANTNUMBER,-,-,-"),
-            End::NoRegister => f.write_str("NOREGISTER,-,-,-"),
-            End::NoCall => f.write_str("NOCALL,-,-,-"),
+            } => write!(f, "{name},{trial},{calling},{}", PathField(called)),
+            End::Released { own, other } => write!(f, "{name},-,{own},{}", PathField(other)),
+            _ => write!(f, "{name},-,-,-"),
         }
+    }
+}
+
+/// The name of an end.
+pub fn name_of(end: &End) -> &'static str
+    ensures { result.now ≡ end_name end.now }
+{
+    match end {
+        End::DialTone { .. } => "DIALTONE",
+        End::Connected { .. } => "CONNECTED",
+        End::Released { .. } => "RELEASED",
+        End::CalledBusy => "CALLEDBUSY",
+        End::LineBusy => "LINEBUSY",
+        End::RegistersBusy => "REGISTERSBUSY",
+        End::TrunksBusy => "TRUNKSBUSY",
+        End::NoPath => "NOPATH",
+        End::Trouble => "TROUBLE",
+        End::VacantCode => "VACANTCODE",
+        End::VacantNumber => "VACANTNUMBER",
+        End::NoRegister => "NOREGISTER",
+        End::NoCall => "NOCALL",
     }
 }

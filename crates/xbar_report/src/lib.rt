@@ -2,15 +2,22 @@
 #![tactic(auto)]
 
 pub use counts::Counts;
+pub use reading::{Report, read};
 pub use read_fault::ReadFault;
 pub use report_text::report;
 pub use trouble_line::TroubleLine;
 
 mod counts;
+mod deal;
+mod draft;
 mod end_fields;
+mod fields;
 mod job_fields;
 mod line;
+mod number;
 mod path_field;
+mod ranges;
+mod reading;
 mod read_fault;
 mod record_line;
 mod report_text;

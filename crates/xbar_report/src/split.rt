@@ -1,7 +1,7 @@
 //! Texts taken apart at a byte.
 
 ghost use Rattle.std.specs.Prelude.{◌≡◌, ◌++◌, ◌==◌, ◌∷◌, List, ℕ, IfNone, IfSome, IsSomeAnd, position};
-ghost use Rattle.xbar_report.specs.Split.{Lacks};
+ghost use Rattle.xbar_report.specs.Split.{IsWholeLine, Lacks};
 
 /// What stands before the first byte `end` of a text, and what stands behind it.
 pub fn split_at_byte(text: &[u8], end: u8) -> Option<(&[u8], &[u8])>
@@ -20,4 +20,14 @@ fn place_of(text: &[u8], byte: u8) -> Option<usize>
     ensures { result ≡ position (λ b. b == byte) text.now }
 {
     text.iter().position(|b| *b == byte)
+}
+
+/// The first line of a text, with the byte that ends it, and what stands behind it.
+pub fn first_line(text: &[u8]) -> Option<(&[u8], &[u8])>
+    ensures line { IfSome result (λ parts. IsWholeLine parts.0.now ×
+        (text.now ≡ parts.0.now ++ parts.1.now)) }
+    ensures none { IfNone result (Lacks 10 text.now) }
+{
+    let place = place_of(text, b'\n')?;
+    Some(text.split_at(place + 1))
 }

@@ -1,1 +1,3 @@
 mod reports;
+mod rows;
+mod spoiled;
