@@ -35,8 +35,8 @@ digit_unlike byte d low = ap not (ne_eqb (digit d) byte (λ e. omega arith))
 more_digit : (byte d : ℕ) (rest : List ℕ) → byte < 48 → Lacks byte rest → Lacks byte (digit d ∷ rest)
 more_digit byte d rest low lacks = more byte (digit d) rest (digit_unlike byte d low) lacks
 
-own : IsNumeralModel (AllDigits 10) (digits_value 10)
-own = numerals_by_value (AllDigits 10) tells_digits
+digits_by_value : IsNumeralModel (AllDigits 10) (digits_value 10)
+digits_by_value = numerals_by_value (AllDigits 10) tells_digits
 
 comma_unlike : (x : ℕ) (b : Bool) → (x == 44) ≡ b → digit_value x < 10 → not b ≡ true
 comma_unlike x true e h = absurd (let s : digit_value 44 < 10 = subst (λ (y : ℕ). digit_value y < 10) (eqb-true x 44 e) h in omega (arith, s))
@@ -56,10 +56,10 @@ digits_have_no_end (x ∷ text) h = more 10 x text (end_unlike x (x == 10) refl 
 
 -- a number's text has neither a comma nor the end of a line
 pub decimal_has_no_comma : (n : ℕ) → n < 2 ^ 64 → Lacks 44 (decimal n)
-decimal_has_no_comma n h = digits_have_no_comma (decimal n) (digits_decimal own n h)
+decimal_has_no_comma n h = digits_have_no_comma (decimal n) (digits_decimal digits_by_value n h)
 
 pub decimal_has_no_end : (n : ℕ) → n < 2 ^ 64 → Lacks 10 (decimal n)
-decimal_has_no_end n h = digits_have_no_end (decimal n) (digits_decimal own n h)
+decimal_has_no_end n h = digits_have_no_end (decimal n) (digits_decimal digits_by_value n h)
 
 -- `Lacks` as a record, so that its text is found from the goal
 record IsFree (byte : ℕ) (text : List ℕ) : Type 0 where
