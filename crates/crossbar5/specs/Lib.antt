@@ -4,9 +4,10 @@ pub use Rattle.xbar_jobs.specs.Office
 pub use Rattle.xbar_core.specs.Exchange
 pub use Rattle.xbar_traffic.specs.Traffic
 pub use Rattle.xbar_traffic.specs.Fault
+pub use Rattle.xbar_report.specs.Text
 pub use Rattle.counted_io.specs.Counts
 pub mod Faults
 pub mod Kinds
-pub mod Report
+pub mod PlanRefusal
 pub mod Rows
 pub mod Run

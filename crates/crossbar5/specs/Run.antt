@@ -19,8 +19,9 @@ use Rattle.xbar_traffic.specs.declared.fault.RowFault.TheVariants.{Marker as AtM
 use Rattle.xbar_traffic.specs.declared.fault.TrafficFault.{TrafficFault}
 use Rattle.xbar_traffic.specs.declared.mode.Mode.TheVariants.{Replay}
 use Rattle.xbar_traffic.specs.declared.row.Row.{Row}
+use Rattle.xbar_report.specs.Text.{report_text}
 use Rattle.crossbar5.specs.Faults.{IsMarkerCount}
-use Rattle.crossbar5.specs.Report.{plan_fault_line, report_text}
+use Rattle.crossbar5.specs.PlanRefusal.{plan_fault_line}
 use Rattle.crossbar5.specs.Rows.{done, row_fault}
 use Rattle.crossbar5.specs.declared.status.Status.{Status}
 use Rattle.crossbar5.specs.declared.status.Status.TheVariants.{Fine, PlanRefused, TrafficRefused}

@@ -8,7 +8,6 @@ ghost use Rattle.xbar_traffic.specs.declared.mode.Mode.{Mode};
 ghost use Rattle.crossbar5.specs.Faults.{IsMarkerCount};
 ghost use Rattle.crossbar5.specs.Run.{IsOneHistory, IsWrittenOf, Leaves, LeavesOneHistory, RefusesTraffic, outcome};
 
-use crate::report_text::report;
 use crate::rows::do_row;
 use crate::status::Status;
 use crate::written::Written;
@@ -16,6 +15,7 @@ use std::alloc::{AllocError, Global};
 use xbar_core::{Exchange, Kind, OpenFault};
 use xbar_match::{count_closed, count_paths};
 use xbar_plan::Plan;
+use xbar_report::report;
 use xbar_traffic::{RowFault, Traffic, TrafficFault};
 
 /// Opens an office; how many markers it has is known to be in range.

@@ -13,7 +13,6 @@ mod meetings;
 mod memory;
 mod plans;
 mod replays;
-mod reports;
 
 /// The example plan, as a text with these faulty links.
 fn plan_with(alloc: Global, faults: &str) -> Result<String, AllocError> {

@@ -1,7 +1,10 @@
-//! Tests of the rows of traffic and of the engine, by texts that were worked out outside.
+//! Tests of the rows of traffic, of the text of a run, and of the engine, by texts that were worked
+//! out outside.
 #![tactic(auto)]
 
 #[cfg(test)]
 mod engine;
+#[cfg(test)]
+mod report;
 #[cfg(test)]
 mod traffic;

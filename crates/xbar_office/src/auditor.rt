@@ -11,8 +11,8 @@ use crate::reply::Record;
 use std::alloc::Global;
 use xbar_plan::Plan;
 
-/// The first place whose record hasn't the turn of its place.
-fn first_wrong_turn(records: &[Record]) -> Option<usize>
+/// The first place, counted from 0, whose record hasn't the turn of its place.
+pub fn first_wrong_turn(records: &[Record]) -> Option<usize>
     ensures { MatchOption result (HaveTurns 0 records.now)
         (λ place. IsFirstWrongTurn records.now place) }
 {

@@ -4,7 +4,7 @@
 
 pub use aim::Aim;
 pub use audit_fault::AuditFault;
-pub use auditor::audit;
+pub use auditor::{audit, first_wrong_turn};
 pub use cards::Cards;
 pub use job::Job;
 pub use office::Office;

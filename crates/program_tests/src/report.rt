@@ -1,0 +1,5 @@
+//! The text of a run: written, and read back.
+
+mod rows;
+mod spoiled;
+mod texts;

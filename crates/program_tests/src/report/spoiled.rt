@@ -1,0 +1,119 @@
+//! Texts that are no report's, and what is wrong with them.
+
+use std::alloc::Global;
+use std::process::Abort;
+use std::test::Fail;
+use xbar_report::{ReadFault, read};
+
+/// A text of two records, the first with two cards, and counts.
+const RIGHT: &str = "0,1,0,D,3041,-,TROUBLE,-,-,-\n\
+    1,2,1,D,3052,-,DIALTONE,2,3052-5-418,-\n\
+    TROUBLE,0,1,1,JU340\n\
+    TROUBLE,0,1,2,JU345\n\
+    TROUBLE,1,2,1,LL301\n\
+    PATHS,1\n\
+    CLOSED,4\n";
+
+/// The fault of a text.
+fn fault_of(alloc: Global, text: &str) -> Option<ReadFault> {
+    read(alloc, text.as_bytes()).err()
+}
+
+/// The right text with each old part, which stands in it once, replaced by the new one, and the line that
+/// is told.
+const SPOILED: [(&str, &str, usize); 42] = [
+    ("0,1,0,D,3041", "x,1,0,D,3041", 1),
+    ("0,1,0,D,3041", "00,1,0,D,3041", 1),
+    ("0,1,0,D,3041", "+0,1,0,D,3041", 1),
+    ("0,1,0,D,3041", ",1,0,D,3041", 1),
+    ("0,1,0,D,3041", " 0,1,0,D,3041", 1),
+    ("0,1,0,D,3041", "18446744073709551616,1,0,D,3041", 1),
+    ("0,1,0,D,3041", "0,4294967296,0,D,3041", 1),
+    ("0,1,0,D,3041", "0,01,0,D,3041", 1),
+    ("0,1,0,D,3041", "0,1,4294967296,D,3041", 1),
+    ("0,1,0,D,3041", "0,1,0,E,3041", 1),
+    ("0,1,0,D,3041", "0,1,0,d,3041", 1),
+    ("0,1,0,D,3041", "0,1,0,C,3041", 1),
+    ("0,1,0,D,3041", "0,1,0,D,3045", 1),
+    ("0,1,0,D,3041,-", "0,1,0,D,3041,2340004", 1),
+    ("TROUBLE,-,-,-", "TROUBLE,-,-", 1),
+    ("TROUBLE,-,-,-", "TROUBLE,-,-,-,-", 1),
+    ("TROUBLE,-,-,-", "TROUBLE,1,-,-", 1),
+    ("TROUBLE,-,-,-", "TROUBLES,-,-,-", 1),
+    ("TROUBLE,-,-,-\n", "TROUBLE,-,-,-\r\n", 1),
+    ("TROUBLE,-,-,-\n", "TROUBLE,-,-,-\n\n", 2),
+    ("DIALTONE,2,", "DIALTONE,02,", 2),
+    ("DIALTONE,2,", "DIALTONE,256,", 2),
+    ("DIALTONE,2,", "DIALTONE,-,", 2),
+    ("3052-5-418,-", "3052-5-418,3052-5-418", 2),
+    ("3052-5-418,-", "3052_5_418,-", 2),
+    ("3052-5-418,-", "3052-5-4180,-", 2),
+    ("3052-5-418,-", "-,-", 2),
+    ("TROUBLE,0,1,1,JU340", "TROUBLE,0,1,1,JX340", 3),
+    ("TROUBLE,0,1,1,JU340", "TROUBLE,0,1,1,JU340,", 3),
+    ("TROUBLE,0,1,1,JU340\n", "TROUBLE,0,1,1,JU340\n2,3,0,D,1000,-,LINEBUSY,-,-,-\n", 4),
+    ("TROUBLE,0,1,1,JU340", "TROUBLE,0,7,1,JU340", 3),
+    ("TROUBLE,1,2,1,LL301\n", "TROUBLE,2,3,1,LL301\n", 5),
+    ("TROUBLE,1,2,1,LL301\n", "TROUBLE,1,2,1,LL301\nTROUBLE,2,3,1,LL301\n", 6),
+    ("TROUBLE,1,2,1,LL301\n", "TROUBLE,1,2,1,LL301\nTROUBLE,0,1,1,JU340\n", 6),
+    ("TROUBLE,0,1,2,JU345\n", "TROUBLE,0,1,2,JU345\nTROUBLE,0,1,2,JU345\n", 5),
+    ("PATHS,1\n", "", 6),
+    ("PATHS,1\n", "PATHS,65536\n", 6),
+    ("PATHS,1\n", "PATHS,1\nPATHS,1\n", 7),
+    ("CLOSED,4\n", "", 7),
+    ("CLOSED,4\n", "CLOSED,4", 7),
+    ("CLOSED,4\n", "CLOSED,4\n\n", 8),
+    ("CLOSED,4\n", "CLOSED,4\nTROUBLE,1,2,2,LL301\n", 8),
+];
+
+/// The right text with its part `old` replaced by `new`.
+fn spoiled(alloc: Global, old: &str, new: &str) -> Result<String, Fail> {
+    let (front, rest) = RIGHT.split_once(old).unwrap_or((RIGHT, ""));
+    Ok(format!(in alloc; "{front}{new}{rest}")?)
+}
+
+#[test]
+fn the_right_text_is_read(rt: HostRuntime) -> Result<(), Fail> {
+    assert_eq!(rt; fault_of(rt.alloc(), RIGHT), None);
+    assert_eq!(rt; fault_of(rt.alloc(), ""), None);
+    assert_eq!(rt; fault_of(rt.alloc(), "PATHS,0\nCLOSED,0\n"), None);
+    Ok(())
+}
+
+#[test]
+fn a_spoiled_text_is_refused_at_its_line(rt: HostRuntime) -> Result<(), Fail> {
+    for (old, new, number) in SPOILED {
+        let text = spoiled(rt.alloc(), old, new)?;
+        let fault = fault_of(rt.alloc(), &text);
+        assert_eq!(rt; (text.as_str(), fault), (text.as_str(), Some(ReadFault::Line { number })));
+    }
+    Ok(())
+}
+
+#[test]
+fn lines_behind_their_place_are_refused(rt: HostRuntime) -> Result<(), Fail> {
+    let texts = [
+        ("\n", 1),
+        ("CLOSED,0\nPATHS,0\n", 1),
+        ("PATHS,0\n", 2),
+        ("PATHS,0\n0,1,0,D,3041,-,NOPATH,-,-,-\n", 2),
+        ("TROUBLE,0,1,1,JU340\n0,1,0,D,3041,-,TROUBLE,-,-,-\n", 2),
+        ("TROUBLE,0,1,1,JU340\n", 1),
+        ("0,1,0,D,3041,-,NOPATH,-,-,-", 1),
+        ("TROUBLE", 1),
+    ];
+    for (text, number) in texts {
+        let fault = fault_of(rt.alloc(), text);
+        assert_eq!(rt; (text, fault), (text, Some(ReadFault::Line { number })));
+    }
+    Ok(())
+}
+
+#[test]
+fn a_wrong_turn_is_told_before_whose_the_cards_are(rt: HostRuntime) -> Result<(), Fail> {
+    let text = spoiled(rt.alloc(), "1,2,1,D,3052", "2,2,1,D,3052")?;
+    assert_eq!(rt; fault_of(rt.alloc(), &text), Some(ReadFault::Turns { place: 1 }));
+    let text = spoiled(rt.alloc(), "0,1,0,D", "1,1,0,D")?;
+    assert_eq!(rt; fault_of(rt.alloc(), &text), Some(ReadFault::Turns { place: 0 }));
+    Ok(())
+}

@@ -1,0 +1,12 @@
+pub mod Splits
+pub mod LineFields
+pub mod LineKinds
+pub mod Lines
+pub mod Sheets
+pub mod Order
+pub mod Stray
+pub mod Deals
+pub mod Reports
+pub mod Uniques
+pub mod StrayCards
+pub mod ReadBack

@@ -1,0 +1,220 @@
+use Rattle.std.proofs.Common.{◌≡◌, ◌<◌, ◌≤◌, ◌+◌, ◌-◌, ℕ, zero, suc, Bool, true, false, cond, List, [], ◌∷◌, ◌++◌, length, map, take, drop, refl, sym, ap, subst, ◌∙◌, arith, append_assoc}
+use Rattle.std.specs.Prelude.{◌==◌, ◌&&◌, Option, Some, None, flat_map}
+use Rattle.std.specs.List.{AllByRecursion}
+use Rattle.std.proofs.lemmas.List.{append-nil, length-append, length-map, length-take, length-drop, take_at, drop_at, take-append-drop}
+use borrow.Author.Tests.{ne_eqb}
+use Rattle.xbar_office.specs.Legal.{HaveTurns}
+use Rattle.xbar_office.specs.declared.reply.Card.{Card}
+use Rattle.xbar_office.specs.declared.reply.Record.{Record as TheRecord}
+use Rattle.xbar_report.specs.Bare.{bare_line, bare_record}
+use Rattle.xbar_report.specs.Dealt.{belongs, own_of, own_count_of, with_cards, dealt, left_of}
+use Rattle.xbar_report.specs.Draft.{AreTextsOf, IsReadAs}
+use Rattle.xbar_report.specs.Line.{IsLine, line_text, lines_of_sheet, lines_of_counts}
+use Rattle.xbar_report.specs.Ranges.{IsCard, IsRecord, IsTroubleLine}
+use Rattle.xbar_report.specs.Reading.{lines}
+use Rattle.xbar_report.specs.Sheet.{Sheet, sheet_text, IsSheet, IsReport}
+use Rattle.xbar_report.specs.Text.{record_line, trouble_line, card_lines, count_lines, records_text, trouble_of, troubles_of}
+use Rattle.xbar_report.specs.declared.counts.Counts.{Counts}
+use Rattle.xbar_report.specs.declared.line.Line.{Line}
+use Rattle.xbar_report.specs.declared.line.Line.TheVariants.{Record, Trouble, Paths, Closed}
+use Rattle.xbar_report.specs.declared.trouble_line.TroubleLine.{TroubleLine}
+use Rattle.xbar_report.proofs.Reports.{own_belongs, own_le}
+use Rattle.xbar_report.proofs.Sheets.{all_append, lines_of_text, sheet_range, texts_only}
+
+-- the records among lines, the cards, the counts
+
+abbrev records_in : List Line → List TheRecord
+records_in [] = []
+records_in (Record r ∷ ls) = r ∷ records_in ls
+records_in (Trouble t ∷ ls) = records_in ls
+records_in (Paths n ∷ ls) = records_in ls
+records_in (Closed n ∷ ls) = records_in ls
+
+abbrev cards_in : List Line → List TroubleLine
+cards_in [] = []
+cards_in (Record r ∷ ls) = cards_in ls
+cards_in (Trouble t ∷ ls) = t ∷ cards_in ls
+cards_in (Paths n ∷ ls) = cards_in ls
+cards_in (Closed n ∷ ls) = cards_in ls
+
+abbrev numbers_in : List Line → List ℕ
+numbers_in [] = []
+numbers_in (Record r ∷ ls) = numbers_in ls
+numbers_in (Trouble t ∷ ls) = numbers_in ls
+numbers_in (Paths n ∷ ls) = n ∷ numbers_in ls
+numbers_in (Closed n ∷ ls) = n ∷ numbers_in ls
+
+records_in-bare : (ls : List Line) → records_in (map bare_line ls) ≡ map bare_record (records_in ls)
+records_in-bare [] = refl
+records_in-bare (Record r ∷ ls) = ap (λ (rs : List TheRecord). bare_record r ∷ rs) (records_in-bare ls)
+records_in-bare (Trouble t ∷ ls) = records_in-bare ls
+records_in-bare (Paths n ∷ ls) = records_in-bare ls
+records_in-bare (Closed n ∷ ls) = records_in-bare ls
+
+cards_in-bare : (ls : List Line) → cards_in (map bare_line ls) ≡ cards_in ls
+cards_in-bare [] = refl
+cards_in-bare (Record r ∷ ls) = cards_in-bare ls
+cards_in-bare (Trouble t ∷ ls) = ap (λ (cs : List TroubleLine). t ∷ cs) (cards_in-bare ls)
+cards_in-bare (Paths n ∷ ls) = cards_in-bare ls
+cards_in-bare (Closed n ∷ ls) = cards_in-bare ls
+
+numbers_in-bare : (ls : List Line) → numbers_in (map bare_line ls) ≡ numbers_in ls
+numbers_in-bare [] = refl
+numbers_in-bare (Record r ∷ ls) = numbers_in-bare ls
+numbers_in-bare (Trouble t ∷ ls) = numbers_in-bare ls
+numbers_in-bare (Paths n ∷ ls) = ap (λ (ns : List ℕ). n ∷ ns) (numbers_in-bare ls)
+numbers_in-bare (Closed n ∷ ls) = ap (λ (ns : List ℕ). n ∷ ns) (numbers_in-bare ls)
+
+no_records : (cs : List TroubleLine) (counts : Option Counts) → records_in (map Trouble cs ++ lines_of_counts counts) ≡ []
+no_records [] None = refl
+no_records [] (Some counts) = refl
+no_records (t ∷ cs) counts = no_records cs counts
+
+records_of_lines : (rs : List TheRecord) (cs : List TroubleLine) (counts : Option Counts) → records_in (map Record rs ++ (map Trouble cs ++ lines_of_counts counts)) ≡ rs
+records_of_lines [] cs counts = no_records cs counts
+records_of_lines (r ∷ rs) cs counts = ap (λ (more : List TheRecord). r ∷ more) (records_of_lines rs cs counts)
+
+no_cards : (counts : Option Counts) → cards_in (lines_of_counts counts) ≡ []
+no_cards None = refl
+no_cards (Some counts) = refl
+
+cards_behind : (cs : List TroubleLine) (counts : Option Counts) → cards_in (map Trouble cs ++ lines_of_counts counts) ≡ cs
+cards_behind [] counts = no_cards counts
+cards_behind (t ∷ cs) counts = ap (λ (more : List TroubleLine). t ∷ more) (cards_behind cs counts)
+
+cards_of_lines : (rs : List TheRecord) (cs : List TroubleLine) (counts : Option Counts) → cards_in (map Record rs ++ (map Trouble cs ++ lines_of_counts counts)) ≡ cs
+cards_of_lines [] cs counts = cards_behind cs counts
+cards_of_lines (r ∷ rs) cs counts = cards_of_lines rs cs counts
+
+numbers_behind : (cs : List TroubleLine) (counts : Option Counts) → numbers_in (map Trouble cs ++ lines_of_counts counts) ≡ numbers_in (lines_of_counts counts)
+numbers_behind [] counts = refl
+numbers_behind (t ∷ cs) counts = numbers_behind cs counts
+
+numbers_of_lines : (rs : List TheRecord) (cs : List TroubleLine) (counts : Option Counts)
+    → numbers_in (map Record rs ++ (map Trouble cs ++ lines_of_counts counts)) ≡ numbers_in (lines_of_counts counts)
+numbers_of_lines [] cs counts = numbers_behind cs counts
+numbers_of_lines (r ∷ rs) cs counts = numbers_of_lines rs cs counts
+
+same_counts : (a b : Option Counts) → numbers_in (lines_of_counts a) ≡ numbers_in (lines_of_counts b) → a ≡ b
+same_counts None None e = refl
+same_counts None (Some b) e = cc
+same_counts (Some a) None e = cc
+same_counts (Some a) (Some b) e =
+    let paths : a.paths ≡ b.paths = cc in
+    let closed : a.closed ≡ b.closed = cc in
+    λ i. Some (record { paths = paths i; closed = closed i })
+
+pub regrouped : (s : Sheet) → lines_of_sheet s ≡ map Record s.records ++ (map Trouble s.cards ++ lines_of_counts s.counts)
+regrouped s = append_assoc (map Record s.records) (map Trouble s.cards) (lines_of_counts s.counts)
+
+-- what sheets show the same lines
+pub record IsSameSheet (s s' : Sheet) : Type 0 where
+  pub records : s.records ≡ map bare_record s'.records
+  pub cards : s.cards ≡ s'.cards
+  pub counts : s.counts ≡ s'.counts
+
+same_sheet : (s s' : Sheet) → map bare_line (lines_of_sheet s') ≡ lines_of_sheet s → IsSameSheet s s'
+same_sheet s s' e =
+    let theirs : List Line = map Record s'.records ++ (map Trouble s'.cards ++ lines_of_counts s'.counts) in
+    let all : map bare_line theirs ≡ map Record s.records ++ (map Trouble s.cards ++ lines_of_counts s.counts) =
+      sym (ap (map bare_line) (regrouped s')) ∙ e ∙ regrouped s in
+    record {
+      records = sym (records_of_lines s.records s.cards s.counts) ∙ sym (ap records_in all) ∙ records_in-bare theirs ∙ ap (map bare_record) (records_of_lines s'.records s'.cards s'.counts);
+      cards = sym (cards_of_lines s.records s.cards s.counts) ∙ sym (ap cards_in all) ∙ cards_in-bare theirs ∙ cards_of_lines s'.records s'.cards s'.counts;
+      counts = same_counts s.counts s'.counts
+        (sym (numbers_of_lines s.records s.cards s.counts) ∙ sym (ap numbers_in all) ∙ numbers_in-bare theirs ∙ numbers_of_lines s'.records s'.cards s'.counts);
+    }
+
+-- a text was read as the only sheet that has it, but for cards of records
+pub only_sheet : (text : List ℕ) (s s' : Sheet) → IsReadAs text s → IsSheet s' → text ≡ sheet_text s' → IsSameSheet s s'
+only_sheet text s s' read range is =
+    same_sheet s s' (texts_only (lines text) (lines_of_sheet s) (lines_of_sheet s') read (sheet_range s' range) (ap lines is ∙ lines_of_text s' range))
+
+-- a report's text is that of a sheet whose cards are those of the records
+abbrev pub sheet_of : List TheRecord → Option Counts → Sheet
+sheet_of rs counts = record { records = rs; cards = flat_map troubles_of rs; counts = counts }
+
+flat_map-append : {A B : Type 0} (f : A → List B) (xs ys : List A) → flat_map f (xs ++ ys) ≡ flat_map f xs ++ flat_map f ys
+flat_map-append f [] ys = refl
+flat_map-append f (x ∷ xs) ys = ap (λ (rest : List _). f x ++ rest) (flat_map-append f xs ys) ∙ sym (append_assoc (f x) (flat_map f xs) (flat_map f ys))
+
+cards_text : (rs : List TheRecord) → flat_map trouble_line (flat_map troubles_of rs) ≡ flat_map card_lines rs
+cards_text [] = refl
+cards_text (r ∷ rs) = flat_map-append trouble_line (troubles_of r) (flat_map troubles_of rs) ∙ ap (λ (more : List ℕ). card_lines r ++ more) (cards_text rs)
+
+pub report_text_is : (rs : List TheRecord) (counts : Option Counts) → sheet_text (sheet_of rs counts) ≡ records_text rs counts
+report_text_is rs counts = ap (λ (middle : List ℕ). flat_map record_line rs ++ middle ++ count_lines counts) (cards_text rs)
+
+own_range : (r : TheRecord) (cards : List Card) → IsRecord r → AllByRecursion IsCard cards → AllByRecursion IsTroubleLine (map (trouble_of r) cards)
+own_range r [] h h2 = tt
+own_range r (card ∷ cards) h h2 = (record { turn = h.turn; job_no = h.job_no; card = h2.0 }, own_range r cards h h2.1)
+
+cards_range : (rs : List TheRecord) → AllByRecursion IsRecord rs → AllByRecursion IsTroubleLine (flat_map troubles_of rs)
+cards_range [] h = tt
+cards_range (r ∷ rs) h = all_append IsTroubleLine (troubles_of r) (flat_map troubles_of rs) (own_range r r.reply.cards h.0 h.0.cards) (cards_range rs h.1)
+
+pub report_range : (rs : List TheRecord) (counts : Option Counts) → IsReport rs counts → IsSheet (sheet_of rs counts)
+report_range rs counts h = record { records = h.ranges; cards = cards_range rs h.ranges; counts = h.fits }
+
+-- cards of later records
+
+own_turns : (turn : ℕ) (r : TheRecord) (cards : List Card) → turn ≤ r.turn → AllByRecursion (λ t. turn ≤ t.turn) (map (trouble_of r) cards)
+own_turns turn r [] h = tt
+own_turns turn r (card ∷ cards) h = (h, own_turns turn r cards h)
+
+lower : (low high : ℕ) (cards : List TroubleLine) → low ≤ high → AllByRecursion (λ t. high ≤ t.turn) cards → AllByRecursion (λ t. low ≤ t.turn) cards
+lower low high [] h h2 = tt
+lower low high (t ∷ cards) h h2 = (let here = h2.0 in omega (arith, here, h), lower low high cards h h2.1)
+
+pub later_turns : (turn : ℕ) (rs : List TheRecord) → HaveTurns turn rs → AllByRecursion (λ t. turn ≤ t.turn) (flat_map troubles_of rs)
+later_turns turn [] h = tt
+later_turns turn (r ∷ rs) h =
+    all_append (λ t. turn ≤ t.turn) (troubles_of r) (flat_map troubles_of rs) (own_turns turn r r.reply.cards (let e = h.0 in omega (arith, e)))
+    (lower turn (turn + 1) (flat_map troubles_of rs) (omega arith) (later_turns (turn + 1) rs h.1))
+
+-- the first card belongs to another record
+abbrev pub BeginsOtherwise : TheRecord → List TroubleLine → Type 0
+BeginsOtherwise r [] = Unit {0}
+BeginsOtherwise r (t ∷ cards) = belongs r t ≡ false
+
+pub otherwise : (turn : ℕ) (r : TheRecord) (cards : List TroubleLine) → r.turn ≡ turn → AllByRecursion (λ t. turn + 1 ≤ t.turn) cards → BeginsOtherwise r cards
+otherwise turn r [] is later = tt
+otherwise turn r (t ∷ cards) is later =
+    ap (λ (b : Bool). b && t.job_no == r.job_no) (ne_eqb t.turn r.turn (λ e. let h = later.0 in omega (arith, e, is, h)))
+
+pub own_step : (most : ℕ) (r : TheRecord) (t : TroubleLine) (cards : List TroubleLine) → belongs r t ≡ true → own_of (suc most) r (t ∷ cards) ≡ suc (own_of most r cards)
+own_step most r t cards h = ap (λ (b : Bool). cond b (suc (own_of most r cards)) 0) h
+
+own_stop : (most : ℕ) (r : TheRecord) (cards : List TroubleLine) → BeginsOtherwise r cards → own_of most r cards ≡ 0
+own_stop zero r cards h = refl
+own_stop (suc most) r [] h = refl
+own_stop (suc most) r (t ∷ cards) h = ap (λ (b : Bool). cond b (suc (own_of most r cards)) 0) h
+
+-- a record takes its own cards, and no more where another's follow
+pub own_exact : (most : ℕ) (r : TheRecord) (own : List Card) (rest : List TroubleLine) → length own ≤ most → BeginsOtherwise r rest → own_of most r (map (trouble_of r) own ++ rest) ≡ length own
+own_exact most r [] rest few h = own_stop most r rest h
+own_exact zero r (card ∷ own) rest few h = absurd (omega arith)
+own_exact (suc most) r (card ∷ own) rest few h =
+    own_step most r (trouble_of r card) (map (trouble_of r) own ++ rest) (own_belongs r card) ∙ ap suc (own_exact most r own rest (omega arith) h)
+
+cards_again : (r : TheRecord) (cards : List Card) → map (λ t. t.card) (map (trouble_of r) cards) ≡ cards
+cards_again r [] = refl
+cards_again r (card ∷ cards) = ap (λ (more : List Card). card ∷ more) (cards_again r cards)
+
+-- records take their own cards, and none is left
+pub own_dealt : (turn : ℕ) (rs : List TheRecord) → HaveTurns turn rs → AllByRecursion IsRecord rs
+    → (dealt (map bare_record rs) (flat_map troubles_of rs) ≡ rs) × (left_of (map bare_record rs) (flat_map troubles_of rs) ≡ [])
+unfolding dealt left_of
+own_dealt turn [] h range = (refl, refl)
+own_dealt turn (r ∷ rs) h range =
+    let own = troubles_of r in
+    let rest = flat_map troubles_of rs in
+    let later = own_dealt (turn + 1) rs h.1 range.1 in
+    let k : own_count_of (bare_record r) (own ++ rest) ≡ length r.reply.cards = own_exact 2 r r.reply.cards rest range.0.few (otherwise turn r rest h.0 (later_turns (turn + 1) rs h.1)) in
+    let size : length own ≡ own_count_of (bare_record r) (own ++ rest) = length-map r.reply.cards (trouble_of r) ∙ sym k in
+    let taken : take (own_count_of (bare_record r) (own ++ rest)) (own ++ rest) ≡ own = take_at own rest _ size in
+    let gone : drop (own_count_of (bare_record r) (own ++ rest)) (own ++ rest) ≡ rest = drop_at own rest _ size in
+    let first : with_cards (bare_record r) (take (own_count_of (bare_record r) (own ++ rest)) (own ++ rest)) ≡ r =
+      ap (with_cards (bare_record r)) taken ∙ ap (λ (cards : List Card). record r { reply = record r.reply { cards = cards } }) (cards_again r r.reply.cards) in
+    let more = ap (dealt (map bare_record rs)) gone ∙ later.0 in
+    (cc, ap (left_of (map bare_record rs)) gone ∙ later.1)

@@ -1,0 +1,12 @@
+use Rattle.std.proofs.Common.{◌∙◌, rules}
+use Rattle.std.specs.Str.{bytes_eq}
+use Rattle.std.proofs.lemmas.Iterator.{YieldsList-from_slice}
+use Rattle.std.proofs.lemmas.Iterator.Search.{find_from_yields_List}
+use borrow.Author.Tests.{tests}
+use Rattle.xbar_report.specs.Parts.{end_name}
+use Rattle.xbar_report.proofs.fields.end_named.Goals as goal
+
+pub returns : goal.returns
+returns c =
+    c.copied.ensures ∙ find_from_yields_List (λ end. bytes_eq (end_name end) c.args.name.now) _ _ c.find.result c.find.ensures.ran
+    (YieldsList-from_slice c.args.ends.now c.iter.ensures.rest) (λ x b q k. search (rules, tests))

@@ -1,0 +1,11 @@
+use Rattle.std.proofs.Common.{◌≡◌, ◌+◌, ◌≤◌, ◌++◌, List, ℕ, length}
+use Rattle.xbar_report.specs.Draft.{AreTextsOf, draft_lines}
+use Rattle.xbar_report.specs.Reading.{lines}
+use Rattle.xbar_report.proofs.Stray.{IsReadSoFar}
+use Rattle.xbar_report.proofs.reading.read_lines.Given as goal
+
+abbrev pub invariant-loop-line : goal.invariant-loop-line
+invariant-loop-line l = IsReadSoFar l.text l.rest l.number (draft_lines l.draft)
+
+abbrev pub decreases-loop-line : goal.decreases-loop-line
+decreases-loop-line l = length l.rest

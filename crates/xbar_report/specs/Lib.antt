@@ -1,0 +1,12 @@
+pub use Rattle.xbar_office.specs.Legal
+pub use Rattle.xbar_office.specs.Audit
+pub mod Text
+pub mod Ranges
+pub mod Sheet
+pub mod Reading
+pub mod Split
+pub mod Line
+pub mod Bare
+pub mod Parts
+pub mod Draft
+pub mod Dealt

@@ -1,0 +1,31 @@
+use Rattle.std.specs.Prelude.{◌≡◌, ◌⊎◌, ◌==◌, ℕ, ◌-◌, List, [], ◌∷◌, take, if◌then◌else◌, ⊤}
+use Rattle.std.specs.List.{onto_first}
+use Rattle.xbar_office.specs.Audit.{IsFirstWrongTurn}
+use Rattle.xbar_office.specs.Legal.{HaveTurns}
+use Rattle.xbar_report.specs.Sheet.{Sheet, sheet_text, IsSheet, IsSheetText, IsReportText}
+use Rattle.xbar_report.specs.declared.read_fault.ReadFault.{ReadFault}
+use Rattle.xbar_report.specs.declared.read_fault.ReadFault.TheVariants.{Line, Turns, Memory}
+
+-- the lines of a text, each with the byte that ends it; the last may lack it
+unfoldable pub lines : List ℕ → List (List ℕ)
+lines [] = []
+lines (b ∷ text) = if b == 10 then (b ∷ []) ∷ lines text else onto_first b (lines text)
+
+-- two texts have the same first lines, so many as are asked for, or all
+abbrev pub HaveSameLines : ℕ → List ℕ → List ℕ → Type 0
+HaveSameLines count a b = take count (lines a) ≡ take count (lines b)
+
+-- the first line, counted from 1, at which a text leaves all texts of a kind: some has the lines before it, and none has it too
+pub record IsFirstStrayLine (IsOfKind : List ℕ → Type 0) (text : List ℕ) (number : ℕ) : Type 0 where
+  pub before : (other : List ℕ) × IsOfKind other × HaveSameLines (number - 1) other text
+  pub here : (other : List ℕ) → IsOfKind other → ¬ HaveSameLines number other text
+
+-- a text is that of a sheet whose records have the turns from 0 on
+abbrev pub HasTurns : List ℕ → Type 0
+HasTurns text = (s : Sheet) × IsSheet s × (text ≡ sheet_text s) × HaveTurns 0 s.records
+
+-- what is wrong with a text that is no report's: the lines are looked at first, each by itself, then the turns, then whose the cards are
+abbrev pub IsFaultOf : List ℕ → ReadFault → Type 0
+IsFaultOf text (Line number) = IsFirstStrayLine IsSheetText text number ⊎ (HasTurns text × IsFirstStrayLine IsReportText text number)
+IsFaultOf text (Turns place) = (s : Sheet) × IsSheet s × (text ≡ sheet_text s) × IsFirstWrongTurn s.records place
+IsFaultOf text Memory = ⊤

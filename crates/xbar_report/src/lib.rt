@@ -1,0 +1,25 @@
+//! The text of a run's records: written, and read back.
+#![tactic(auto)]
+
+pub use counts::Counts;
+pub use reading::{Report, read};
+pub use read_fault::ReadFault;
+pub use report_text::report;
+pub use trouble_line::TroubleLine;
+
+mod counts;
+mod deal;
+mod draft;
+mod end_fields;
+mod fields;
+mod job_fields;
+mod line;
+mod number;
+mod path_field;
+mod ranges;
+mod reading;
+mod read_fault;
+mod record_line;
+mod report_text;
+mod split;
+mod trouble_line;

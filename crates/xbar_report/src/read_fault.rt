@@ -1,0 +1,36 @@
+ghost use Rattle.std.specs.Prelude.{◌≡◌};
+ghost use Rattle.xbar_report.specs.declared.read_fault.ReadFault.TheVariants.{Memory};
+
+use std::alloc::{AllocError, AllocFailed};
+use thiserror::Error;
+
+/// Why a text wasn't read as a report.
+#[derive(Clone, Copy, Debug, PartialEq, Eq, Error)]
+pub enum ReadFault {
+    /// The first line, counted from 1, with which no text goes on that is right so far. It is the
+    /// one behind the last where the text ends too early.
+    #[error("line {number} isn't as a report has it")]
+    Line { number: usize },
+    /// The first place, counted from 0, whose record hasn't the turn of its place.
+    #[error("the record at place {place} hasn't turn {place}")]
+    Turns { place: usize },
+    /// Memory was refused.
+    #[error("memory was refused")]
+    Memory,
+}
+
+impl From<AllocError> for ReadFault {
+    ghost from_gives = { λ _ fault. fault ≡ Memory };
+
+    fn from(_error: AllocError) -> Self {
+        ReadFault::Memory
+    }
+}
+
+impl<T: Drop> From<AllocFailed<T>> for ReadFault {
+    ghost from_gives = { λ _ fault. fault ≡ Memory };
+
+    fn from(_error: AllocFailed<T>) -> Self {
+        ReadFault::Memory
+    }
+}

@@ -1,0 +1,85 @@
+//! Reports read back from their text.
+
+ghost use Rattle.std.specs.Prelude.{◌≡◌, List, Option, IfErr, IfOk, MatchResult};
+ghost use Rattle.xbar_office.specs.declared.reply.Record.{Record as TheRecord};
+ghost use Rattle.xbar_report.specs.Draft.{IsLineFault, IsReadAs};
+ghost use Rattle.xbar_report.specs.Reading.{IsFaultOf};
+ghost use Rattle.xbar_report.specs.Sheet.{IsReport};
+ghost use Rattle.xbar_report.specs.Text.{records_text};
+ghost use Rattle.xbar_report.specs.declared.counts.Counts.{Counts as TheCounts};
+
+use crate::counts::Counts;
+use crate::deal::deal;
+use crate::draft::{Draft, Tally};
+use crate::line::Line;
+use crate::read_fault::ReadFault;
+use crate::split::first_line;
+use std::alloc::Global;
+use xbar_office::{Record, first_wrong_turn};
+
+/// What a text tells of a run.
+#[derive(Debug, Drop)]
+pub struct Report {
+    /// In the order of turns, each with its cards.
+    pub records: Vec<Record>,
+    pub counts: Option<Counts>,
+}
+
+/// Reads the lines of a text, each by itself, whatever turns the records have and whose the cards are.
+fn read_lines(alloc: Global, text: &[u8]) -> Result<(Draft, Option<Counts>), ReadFault>
+    ensures lines { IfOk result (λ found. IsReadAs text.now (record {
+        records = found.0.records.items;
+        cards = found.0.cards.items;
+        counts = found.1 })) }
+    ensures fault { IfErr result (IsLineFault text.now) }
+{
+    let mut draft = Draft::new(alloc);
+    let mut number = 1;
+    let mut rest = text;
+    while let Some((line, behind)) = first_line(rest) {
+        let Some(line) = Line::read(alloc, line)? else {
+            return Err(ReadFault::Line { number });
+        };
+        if !draft.add(line)? {
+            return Err(ReadFault::Line { number });
+        }
+        number += 1;
+        rest = behind;
+    }
+    match draft.tally {
+        Tally::Missing if rest.is_empty() => Ok((draft, None)),
+        Tally::Whole(counts) if rest.is_empty() => Ok((draft, Some(counts))),
+        _ => Err(ReadFault::Line { number }),
+    }
+}
+
+/// Reads the text of a report: record lines, then the lines of trouble cards, then two lines of
+/// counts or none. The records have the turns from 0 on, and the cards come in the order of turns,
+/// each with the job number of its record. Each number has one form, and each line ends with one
+/// line feed.
+pub fn read(alloc: Global, text: &[u8]) -> Result<Report, ReadFault>
+    // What is read has just this text.
+    ensures only { IfOk result (λ report. IsReport report.records.items report.counts ×
+        (text.now ≡ records_text report.records.items report.counts)) }
+    // What has this text is read, unless memory is refused.
+    ensures reads { (records : List TheRecord) (counts : Option TheCounts) →
+        IsReport records counts → text.now ≡ records_text records counts →
+        MatchResult result
+        (λ report. (report.records.items ≡ records) × (report.counts ≡ counts))
+        (λ fault. fault ≡ ReadFault.Memory) }
+    ensures fault { IfErr result (IsFaultOf text.now) }
+{
+    let (draft, counts) = read_lines(alloc, text)?;
+    let Draft {
+        mut records, cards, ..
+    } = draft;
+    if let Some(place) = first_wrong_turn(&records) {
+        return Err(ReadFault::Turns { place });
+    }
+    let left = deal(&mut records, &cards);
+    if left > 0 {
+        let number = records.len() + (cards.len() - left) + 1;
+        return Err(ReadFault::Line { number });
+    }
+    Ok(Report { records, counts })
+}

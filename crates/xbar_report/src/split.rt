@@ -1,0 +1,33 @@
+//! Texts taken apart at a byte.
+
+ghost use Rattle.std.specs.Prelude.{◌≡◌, ◌++◌, ◌==◌, ◌∷◌, List, ℕ, IfNone, IfSome, IsSomeAnd, position};
+ghost use Rattle.xbar_report.specs.Split.{IsWholeLine, Lacks};
+
+/// What stands before the first byte `end` of a text, and what stands behind it.
+pub fn split_at_byte(text: &[u8], end: u8) -> Option<(&[u8], &[u8])>
+    ensures parts { IfSome result (λ parts. Lacks end parts.0.now ×
+        (text.now ≡ parts.0.now ++ end ∷ parts.1.now)) }
+    ensures first { (front rest : List ℕ) → Lacks end front → text.now ≡ front ++ end ∷ rest →
+        IsSomeAnd result (λ parts. (parts.0.now ≡ front) × (parts.1.now ≡ rest)) }
+    ensures none { IfNone result (Lacks end text.now) }
+{
+    let (front, back) = text.split_at(place_of(text, end)?);
+    let (_end, rest) = back.split_first()?;
+    Some((front, rest))
+}
+
+fn place_of(text: &[u8], byte: u8) -> Option<usize>
+    ensures { result ≡ position (λ b. b == byte) text.now }
+{
+    text.iter().position(|b| *b == byte)
+}
+
+/// The first line of a text, with the byte that ends it, and what stands behind it.
+pub fn first_line(text: &[u8]) -> Option<(&[u8], &[u8])>
+    ensures line { IfSome result (λ parts. IsWholeLine parts.0.now ×
+        (text.now ≡ parts.0.now ++ parts.1.now)) }
+    ensures none { IfNone result (Lacks 10 text.now) }
+{
+    let place = place_of(text, b'\n')?;
+    Some(text.split_at(place + 1))
+}
