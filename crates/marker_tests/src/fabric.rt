@@ -8,8 +8,9 @@ use std::alloc::Global;
 use std::marker::Model;
 use std::process::Abort;
 use std::test::Fail;
-use xbar_equip::Conn;
+use xbar_equip::{Conn, WORD_COUNT};
 use xbar_fabric::{AssignFault, Desk, Fabric, Given, Kind, OpenFault, Progress, meet, shut, shut_all};
+use xbar_match::{count_closed, count_paths};
 use xbar_plan::Plan;
 
 mod giving_back;
@@ -135,6 +136,15 @@ impl<'p> TwoDesks<'p> {
 fn word(rt: &impl Abort, words: &[u64], number: usize) -> u64 {
     assert!(rt; number < words.len());
     words[number]
+}
+
+/// How many paths all 453 words show, and how many crosspoints are closed in them.
+fn counts(rt: &impl Abort, words: &[u64]) -> (usize, usize) {
+    assert!(rt; words.len() == WORD_COUNT);
+    (
+        usize::from(count_paths(words)),
+        usize::from(count_closed(words)),
+    )
 }
 
 fn held(conn: Conn) -> Progress {

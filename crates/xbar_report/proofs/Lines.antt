@@ -88,12 +88,29 @@ end_lacks _ h = refl
 
 -- the text of a line is a whole line
 pub line_text_whole : (line : Line) → IsLine line → IsWholeLine (line_text line)
-line_text_whole (Record r) h = whole_with (decimal r.turn ∷ decimal r.job_no ∷ decimal r.marker ∷ job_fields r.job ∷ end_fields r.reply.end ∷ [])
-    (decimal_has_no_end r.turn h.turn, (decimal_has_no_end r.job_no (omega (arith, h.job_no)), (decimal_has_no_end r.marker (omega (arith, h.marker)),
-    (job_lacks r.job, (end_lacks r.reply.end h.end, tt)))))
-line_text_whole (Trouble t) h = whole_with (codes "TROUBLE" ∷ decimal t.turn ∷ decimal t.job_no ∷ decimal t.card.trial ∷ _ ∷ [])
-    (refl, (decimal_has_no_end t.turn h.turn, (decimal_has_no_end t.job_no (omega (arith, h.job_no)), (decimal_has_no_end t.card.trial (omega (arith, h.card.trial)),
-    (link_lacks 10 t.card.link (omega arith), tt)))))
+line_text_whole (Record r) h = whole_with (decimal r.turn ∷ decimal r.job_no ∷ decimal r.marker ∷ job_fields r.job ∷ end_fields r.reply.end ∷ []) (
+  decimal_has_no_end r.turn h.turn,
+  (
+    decimal_has_no_end r.job_no (omega (arith, h.job_no)),
+    (
+      decimal_has_no_end r.marker (omega (arith, h.marker)),
+      (job_lacks r.job, (end_lacks r.reply.end h.end, tt)),
+    ),
+  ),
+)
+line_text_whole (Trouble t) h = whole_with (codes "TROUBLE" ∷ decimal t.turn ∷ decimal t.job_no ∷ decimal t.card.trial ∷ _ ∷ []) (
+  refl,
+  (
+    decimal_has_no_end t.turn h.turn,
+    (
+      decimal_has_no_end t.job_no (omega (arith, h.job_no)),
+      (
+        decimal_has_no_end t.card.trial (omega (arith, h.card.trial)),
+        (link_lacks 10 t.card.link (omega arith), tt),
+      ),
+    ),
+  ),
+)
 line_text_whole (Paths paths) h = whole_with (codes "PATHS" ∷ decimal paths ∷ []) (refl, (decimal_has_no_end paths (omega arith), tt))
 line_text_whole (Closed closed) h = whole_with (codes "CLOSED" ∷ decimal closed ∷ []) (refl, (decimal_has_no_end closed (omega arith), tt))
 

@@ -24,10 +24,11 @@ use Rattle.xbar_report.proofs.Uniques.{only_sheet, own_dealt, report_range, repo
 
 -- what was read is a sheet with this text
 pub read_sheet : (text : List ℕ) (s : Sheet) → IsReadAs text s → IsSheet s × (text ≡ sheet_text s)
-read_sheet text s read =
-    (range_of_sheet s (texts_range (lines text) (lines_of_sheet s) read),
-    sym (joined_lines text) ∙ ap (flat_map (λ (l : List ℕ). l)) (texts_are (lines text) (lines_of_sheet s) read)
-    ∙ flat_map-map (λ (l : List ℕ). l) line_text (lines_of_sheet s) ∙ sym (sheet_text_is s))
+read_sheet text s read = (
+  range_of_sheet s (texts_range (lines text) (lines_of_sheet s) read),
+  sym (joined_lines text) ∙ ap (flat_map (λ (l : List ℕ). l)) (texts_are (lines text) (lines_of_sheet s) read)
+      ∙ flat_map-map (λ (l : List ℕ). l) line_text (lines_of_sheet s) ∙ sym (sheet_text_is s),
+)
 
 -- and a report, once its records have their turns and took their cards
 pub dealt_report : (text : List ℕ) (s : Sheet) → IsReadAs text s → HaveTurns 0 s.records → IsReport (dealt s.records s.cards) s.counts
@@ -51,7 +52,7 @@ dealt_text text s read none =
     let rs = dealt s.records s.cards in
     let left = nil_from_length (left_of s.records s.cards) none in
     let taken : flat_map troubles_of rs ≡ s.cards =
-      sym (append-nil (flat_map troubles_of rs)) ∙ ap (λ (more : List _). flat_map troubles_of rs ++ more) (sym left) ∙ taken_and_left s.records s.cards in
+    sym (append-nil (flat_map troubles_of rs)) ∙ ap (λ (more : List _). flat_map troubles_of rs ++ more) (sym left) ∙ taken_and_left s.records s.cards in
     let front : flat_map record_line s.records ≡ flat_map record_line rs = record_lines_same s.records rs (sym (dealt_lines s.records s.cards)) in
     (read_sheet text s read).1
     ∙ ap (λ (records : List ℕ). records ++ flat_map trouble_line s.cards ++ count_lines s.counts) front

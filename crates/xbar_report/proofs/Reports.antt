@@ -92,6 +92,7 @@ dealt_range (r ∷ rs) cards h h2 =
     let k = own_count_of r cards in
     let own = take k cards in
     let few : length (map (λ t. t.card) own) ≤ 2 =
-      (let e = length-map own (λ (t : TroubleLine). t.card) in let e2 = length-take k cards in let le = own_le 2 r cards in omega (arith, e, e2, le.0)) in
-    (record { turn = h.0.turn; marker = h.0.marker; job_no = h.0.job_no; job = h.0.job; end = h.0.end; cards = cards_range own (all_take IsTroubleLine k cards h2); few = few },
-    dealt_range rs (drop k cards) h.1 (all_drop IsTroubleLine k cards h2))
+    (let e = length-map own (λ (t : TroubleLine). t.card) in let e2 = length-take k cards in let le = own_le 2 r cards in omega (arith, e, e2, le.0)) in (
+      record { turn = h.0.turn; marker = h.0.marker; job_no = h.0.job_no; job = h.0.job; end = h.0.end; cards = cards_range own (all_take IsTroubleLine k cards h2); few = few },
+      dealt_range rs (drop k cards) h.1 (all_drop IsTroubleLine k cards h2),
+    )

@@ -52,7 +52,7 @@ fn a_completing_job_gives_back_before_its_turn(rt: HostRuntime) -> Result<(), Fa
         if given == Given::Given {
             let words = office.words(rt.alloc())?;
             all_free(&rt, words.as_slice());
-            assert_eq!(&rt; xbar_match::count_closed(words.as_slice()), 4);
+            assert_eq!(&rt; counts(&rt, words.as_slice()), (1, 4));
         }
     }
     Ok(())

@@ -1,7 +1,6 @@
 //! Shared words that are shut with all of their desks, and jobs that are refused.
 
 use super::*;
-use xbar_match::{count_closed, count_paths};
 use xbar_office::audit;
 
 #[test]
@@ -86,8 +85,7 @@ fn records_that_are_told_are_a_history(rt: HostRuntime) -> Result<(), Fail> {
     let words = office.words(alloc)?;
     let after = audit(alloc, &plan, log.as_slice())?;
     let paths = after.paths().len();
-    assert_eq!(&rt; usize::from(count_paths(words.as_slice())), paths);
-    assert_eq!(&rt; usize::from(count_closed(words.as_slice())), 4 * paths);
+    assert_eq!(&rt; counts(&rt, words.as_slice()), (paths, 4 * paths));
     assert_eq!(&rt; word(&rt, words.as_slice(), TURNS), 5);
     Ok(())
 }
