@@ -1,5 +1,5 @@
-use Rattle.std.proofs.Common.{◌≡◌, ◌<◌, ◌≤◌, ◌+◌, ◌-◌, ℕ, zero, suc, List, [], ◌∷◌, ◌++◌, length, map, take, drop, get_or, set, refl, sym, ap, subst, ◌∙◌, arith, append_assoc}
-use Rattle.std.proofs.lemmas.List.{append-nil, drop_all, get_or_at, length-take-le, take_all, take_more, drop_more, set_at}
+use Rattle.std.proofs.Common.{◌≡◌, ◌<◌, ◌+◌, ℕ, suc, List, [], ◌∷◌, ◌++◌, length, map, take, drop, get_or, set, refl, sym, ap, ◌∙◌, arith, append_assoc}
+use Rattle.std.proofs.lemmas.List.{get_or_at, length-take-le, take_more, drop_more, set_at}
 use Rattle.xbar_office.specs.declared.reply.Card.{Card}
 use Rattle.xbar_office.specs.declared.reply.Record.{Record}
 use Rattle.xbar_report.specs.Dealt.{dealt, left_of, own_count_of, with_cards}
@@ -55,10 +55,11 @@ deal_step old now cards rest own others given i count seen within is rest_is cou
     let gone : others ≡ drop (own_count_of x left) left = others_is ∙ ap (λ (n : ℕ). drop n rest) k ∙ ap (drop (own_count_of x left)) rest_is in
     let cards_is : given ≡ map (λ t. t.card) (take (own_count_of x left) left) = given_is ∙ ap (map (λ t. t.card)) taken in
     let written : with_given (get_or now i seen) given ≡ with_cards x (take (own_count_of x left) left) =
-      ap (λ (r : Record). with_given r given) here ∙ ap (with_given x) cards_is in
+    ap (λ (r : Record). with_given r given) here ∙ ap (with_given x) cards_is in
     let y = with_cards x (take (own_count_of x left) left) in
     let all : set now i (with_given (get_or now i seen) given) ≡ front ++ y ∷ drop (i + 1) old =
-      ap (set now i) written ∙ ap (λ (l : List Record). set l i y) cells ∙ set_at front x (drop (i + 1) old) y i size in
-    let wanted : dealt (take (i + 1) old) cards ≡ front ++ y ∷ [] = ap (λ (rs : List Record). dealt rs cards) more ∙ dealt_more (take i old) x cards in
-    (all ∙ sym (ap (λ (l : List Record). l ++ drop (i + 1) old) wanted ∙ append_assoc front (y ∷ []) (drop (i + 1) old)),
-    gone ∙ sym (ap (λ (rs : List Record). left_of rs cards) more ∙ left_more (take i old) x cards))
+    ap (set now i) written ∙ ap (λ (l : List Record). set l i y) cells ∙ set_at front x (drop (i + 1) old) y i size in
+    let wanted : dealt (take (i + 1) old) cards ≡ front ++ y ∷ [] = ap (λ (rs : List Record). dealt rs cards) more ∙ dealt_more (take i old) x cards in (
+      all ∙ sym (ap (λ (l : List Record). l ++ drop (i + 1) old) wanted ∙ append_assoc front (y ∷ []) (drop (i + 1) old)),
+      gone ∙ sym (ap (λ (rs : List Record). left_of rs cards) more ∙ left_more (take i old) x cards),
+    )

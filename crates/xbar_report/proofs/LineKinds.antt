@@ -30,7 +30,6 @@ no_letter n b more rest fits letter e =
     let digit = first_is_digit (decimal n) more rest b (decimal_nonempty n fits) (digits_decimal digits_by_value n fits) e in
     omega (arith, digit, letter)
 
-
 -- a record's line behind its turn
 after_turn : TheRecord → List ℕ
 after_turn r = 44 ∷ line_with (decimal r.job_no ∷ decimal r.marker ∷ job_fields r.job ∷ end_fields r.reply.end ∷ [])

@@ -1,14 +1,13 @@
-use Rattle.std.proofs.Common.{◌≡◌, ◌<◌, ◌+◌, ◌^◌, ℕ, zero, suc, Bool, true, false, cond, List, [], ◌∷◌, ◌++◌, length, map, take, refl, sym, ap, subst, ◌∙◌, arith, append_assoc}
-use Rattle.std.specs.Prelude.{◌==◌, ◌&&◌, not, Option, Some, None, codes, decimal, flat_map}
+use Rattle.std.proofs.Common.{◌≡◌, ℕ, Bool, true, false, cond, List, [], ◌∷◌, ◌++◌, map, refl, sym, ap, ◌∙◌, arith, append_assoc}
+use Rattle.std.specs.Prelude.{◌==◌, not, codes, decimal, flat_map}
 use Rattle.std.specs.List.{AllByRecursion, list_all, onto_first}
-use Rattle.std.proofs.lemmas.List.{append-nil}
 use Rattle.std.proofs.lemmas.List.Folds.{list_all-append}
 use borrow.Author.Tests.{eqb-true}
 use Rattle.xbar_equip.proofs.Logic.{both, both_hold}
 use Rattle.xbar_office.specs.declared.job.Job.{Job}
 use Rattle.xbar_office.specs.declared.job.Job.TheVariants.{Dial, Complete, Release}
 use Rattle.xbar_office.specs.declared.reply.End.{End}
-use Rattle.xbar_office.specs.declared.reply.End.TheVariants.{DialTone, Connected, Released, CalledBusy, LineBusy, RegistersBusy, TrunksBusy, NoPath, Trouble as InTrouble, VacantCode, VacantNumber, NoRegister, NoCall}
+use Rattle.xbar_office.specs.declared.reply.End.TheVariants.{DialTone, Connected, Released}
 use Rattle.xbar_report.specs.Line.{IsLine, line_text}
 use Rattle.xbar_report.specs.Parts.{job_kind, job_line, job_dialled, end_name, end_trial, end_first, end_second}
 use Rattle.xbar_report.specs.Ranges.{IsEnd}
@@ -88,12 +87,29 @@ end_lacks _ h = refl
 
 -- the text of a line is a whole line
 pub line_text_whole : (line : Line) → IsLine line → IsWholeLine (line_text line)
-line_text_whole (Record r) h = whole_with (decimal r.turn ∷ decimal r.job_no ∷ decimal r.marker ∷ job_fields r.job ∷ end_fields r.reply.end ∷ [])
-    (decimal_has_no_end r.turn h.turn, (decimal_has_no_end r.job_no (omega (arith, h.job_no)), (decimal_has_no_end r.marker (omega (arith, h.marker)),
-    (job_lacks r.job, (end_lacks r.reply.end h.end, tt)))))
-line_text_whole (Trouble t) h = whole_with (codes "TROUBLE" ∷ decimal t.turn ∷ decimal t.job_no ∷ decimal t.card.trial ∷ _ ∷ [])
-    (refl, (decimal_has_no_end t.turn h.turn, (decimal_has_no_end t.job_no (omega (arith, h.job_no)), (decimal_has_no_end t.card.trial (omega (arith, h.card.trial)),
-    (link_lacks 10 t.card.link (omega arith), tt)))))
+line_text_whole (Record r) h = whole_with (decimal r.turn ∷ decimal r.job_no ∷ decimal r.marker ∷ job_fields r.job ∷ end_fields r.reply.end ∷ []) (
+  decimal_has_no_end r.turn h.turn,
+  (
+    decimal_has_no_end r.job_no (omega (arith, h.job_no)),
+    (
+      decimal_has_no_end r.marker (omega (arith, h.marker)),
+      (job_lacks r.job, (end_lacks r.reply.end h.end, tt)),
+    ),
+  ),
+)
+line_text_whole (Trouble t) h = whole_with (codes "TROUBLE" ∷ decimal t.turn ∷ decimal t.job_no ∷ decimal t.card.trial ∷ _ ∷ []) (
+  refl,
+  (
+    decimal_has_no_end t.turn h.turn,
+    (
+      decimal_has_no_end t.job_no (omega (arith, h.job_no)),
+      (
+        decimal_has_no_end t.card.trial (omega (arith, h.card.trial)),
+        (link_lacks 10 t.card.link (omega arith), tt),
+      ),
+    ),
+  ),
+)
 line_text_whole (Paths paths) h = whole_with (codes "PATHS" ∷ decimal paths ∷ []) (refl, (decimal_has_no_end paths (omega arith), tt))
 line_text_whole (Closed closed) h = whole_with (codes "CLOSED" ∷ decimal closed ∷ []) (refl, (decimal_has_no_end closed (omega arith), tt))
 

@@ -101,7 +101,9 @@ whole_behind None (c ∷ cs) = record { whole = λ e. cc }
 whole_behind (Some counts) cs = record { whole = λ e. cc }
 
 pub stage_of_sheet : (s : Sheet) → (stage : Stage) × (stage_after (Some AtRecords) (lines_of_sheet s) ≡ Some stage) × IsWholeStage stage
-stage_of_sheet s =
-    (stage_behind (tally_of s.counts) s.cards,
-    ap (λ (ls : List Line). stage_after (Some AtRecords) (map Record s.records ++ map Trouble s.cards ++ ls)) (sym (tally_lines_of s.counts))
-    ∙ stage_of_lines s.records s.cards (tally_of s.counts), whole_behind s.counts s.cards)
+stage_of_sheet s = (
+  stage_behind (tally_of s.counts) s.cards,
+  ap (λ (ls : List Line). stage_after (Some AtRecords) (map Record s.records ++ map Trouble s.cards ++ ls)) (sym (tally_lines_of s.counts))
+      ∙ stage_of_lines s.records s.cards (tally_of s.counts),
+  whole_behind s.counts s.cards,
+)

@@ -1,6 +1,5 @@
-use Rattle.std.proofs.Common.{◌≡◌, ◌≢◌, ◌<◌, ◌≤◌, ◌+◌, ◌-◌, ℕ, zero, suc, List, [], ◌∷◌, ◌++◌, length, map, take, refl, sym, ap, subst, ◌∙◌, arith}
+use Rattle.std.proofs.Common.{◌≡◌, ◌≢◌, ◌+◌, ℕ, List, [], ◌∷◌, ◌++◌, length, map, refl, sym, ap, subst, ◌∙◌}
 use Rattle.std.specs.Prelude.{Option, Some, None, IsSomeAnd, flat_map, slice_get}
-use Rattle.std.specs.List.{AllByRecursion}
 use Rattle.std.proofs.lemmas.List.{append-nil, nil_from_length}
 use Rattle.xbar_office.specs.Audit.{IsFirstWrongTurn}
 use Rattle.xbar_office.specs.Legal.{HaveTurns}
@@ -11,10 +10,9 @@ use Rattle.xbar_report.specs.Dealt.{dealt, left_of}
 use Rattle.xbar_report.specs.Draft.{IsLineFault, IsReadAs}
 use Rattle.xbar_report.specs.Line.{line_text, lines_of_sheet}
 use Rattle.xbar_report.specs.Reading.{lines}
-use Rattle.xbar_report.specs.Sheet.{Sheet, sheet_text, IsSheet, IsSheetText, IsReport}
+use Rattle.xbar_report.specs.Sheet.{Sheet, sheet_text, IsSheet, IsReport}
 use Rattle.xbar_report.specs.Text.{record_line, trouble_line, count_lines, records_text, troubles_of}
 use Rattle.xbar_report.specs.declared.counts.Counts.{Counts}
-use Rattle.xbar_report.specs.declared.line.Line.{Line}
 use Rattle.xbar_report.specs.declared.read_fault.ReadFault.{ReadFault}
 use Rattle.xbar_report.specs.declared.read_fault.ReadFault.TheVariants as fault
 use Rattle.xbar_report.proofs.Lines.{joined_lines}
@@ -24,10 +22,11 @@ use Rattle.xbar_report.proofs.Uniques.{only_sheet, own_dealt, report_range, repo
 
 -- what was read is a sheet with this text
 pub read_sheet : (text : List ℕ) (s : Sheet) → IsReadAs text s → IsSheet s × (text ≡ sheet_text s)
-read_sheet text s read =
-    (range_of_sheet s (texts_range (lines text) (lines_of_sheet s) read),
-    sym (joined_lines text) ∙ ap (flat_map (λ (l : List ℕ). l)) (texts_are (lines text) (lines_of_sheet s) read)
-    ∙ flat_map-map (λ (l : List ℕ). l) line_text (lines_of_sheet s) ∙ sym (sheet_text_is s))
+read_sheet text s read = (
+  range_of_sheet s (texts_range (lines text) (lines_of_sheet s) read),
+  sym (joined_lines text) ∙ ap (flat_map (λ (l : List ℕ). l)) (texts_are (lines text) (lines_of_sheet s) read)
+      ∙ flat_map-map (λ (l : List ℕ). l) line_text (lines_of_sheet s) ∙ sym (sheet_text_is s),
+)
 
 -- and a report, once its records have their turns and took their cards
 pub dealt_report : (text : List ℕ) (s : Sheet) → IsReadAs text s → HaveTurns 0 s.records → IsReport (dealt s.records s.cards) s.counts
@@ -51,7 +50,7 @@ dealt_text text s read none =
     let rs = dealt s.records s.cards in
     let left = nil_from_length (left_of s.records s.cards) none in
     let taken : flat_map troubles_of rs ≡ s.cards =
-      sym (append-nil (flat_map troubles_of rs)) ∙ ap (λ (more : List _). flat_map troubles_of rs ++ more) (sym left) ∙ taken_and_left s.records s.cards in
+    sym (append-nil (flat_map troubles_of rs)) ∙ ap (λ (more : List _). flat_map troubles_of rs ++ more) (sym left) ∙ taken_and_left s.records s.cards in
     let front : flat_map record_line s.records ≡ flat_map record_line rs = record_lines_same s.records rs (sym (dealt_lines s.records s.cards)) in
     (read_sheet text s read).1
     ∙ ap (λ (records : List ℕ). records ++ flat_map trouble_line s.cards ++ count_lines s.counts) front

@@ -1,8 +1,8 @@
-use Rattle.std.proofs.Common.{◌≡◌, ◌<◌, ◌≤◌, ◌+◌, ◌-◌, ◌⊎◌, ℕ, zero, suc, Bool, true, false, cond, List, [], ◌∷◌, ◌++◌, length, map, take, drop, inl, inr, refl, sym, ap, subst, ◌∙◌, arith, append_assoc}
-use Rattle.std.specs.Prelude.{◌==◌, ◌&&◌, flat_map}
+use Rattle.std.proofs.Common.{◌≡◌, ◌≤◌, ◌+◌, ℕ, zero, suc, Bool, true, false, cond, List, [], ◌∷◌, ◌++◌, length, map, take, drop, refl, sym, ap, ◌∙◌, arith, append_assoc}
+use Rattle.std.specs.Prelude.{◌==◌, flat_map}
 use Rattle.std.specs.List.{AllByRecursion}
-use Rattle.std.proofs.lemmas.List.{append-nil, length-append, length-map, length-take, length-drop, take-append-drop}
-use borrow.Author.Tests.{eqb-true, eq-eqb, ne_eqb}
+use Rattle.std.proofs.lemmas.List.{length-map, length-take, take-append-drop}
+use borrow.Author.Tests.{eqb-true, eq-eqb}
 use Rattle.xbar_equip.proofs.Logic.{both, both_hold}
 use Rattle.xbar_office.specs.Legal.{HaveTurns}
 use Rattle.xbar_office.specs.declared.reply.Card.{Card}
@@ -10,7 +10,7 @@ use Rattle.xbar_office.specs.declared.reply.Record.{Record}
 use Rattle.xbar_report.specs.Bare.{bare_record}
 use Rattle.xbar_report.specs.Dealt.{belongs, own_of, own_count_of, with_cards, dealt, left_of}
 use Rattle.xbar_report.specs.Ranges.{IsCard, IsRecord, IsTroubleLine}
-use Rattle.xbar_report.specs.Text.{record_line, trouble_line, card_lines, trouble_of, troubles_of}
+use Rattle.xbar_report.specs.Text.{trouble_of, troubles_of}
 use Rattle.xbar_report.specs.declared.trouble_line.TroubleLine.{TroubleLine}
 use Rattle.xbar_report.proofs.Sheets.{all_take}
 
@@ -92,6 +92,7 @@ dealt_range (r ∷ rs) cards h h2 =
     let k = own_count_of r cards in
     let own = take k cards in
     let few : length (map (λ t. t.card) own) ≤ 2 =
-      (let e = length-map own (λ (t : TroubleLine). t.card) in let e2 = length-take k cards in let le = own_le 2 r cards in omega (arith, e, e2, le.0)) in
-    (record { turn = h.0.turn; marker = h.0.marker; job_no = h.0.job_no; job = h.0.job; end = h.0.end; cards = cards_range own (all_take IsTroubleLine k cards h2); few = few },
-    dealt_range rs (drop k cards) h.1 (all_drop IsTroubleLine k cards h2))
+    (let e = length-map own (λ (t : TroubleLine). t.card) in let e2 = length-take k cards in let le = own_le 2 r cards in omega (arith, e, e2, le.0)) in (
+      record { turn = h.0.turn; marker = h.0.marker; job_no = h.0.job_no; job = h.0.job; end = h.0.end; cards = cards_range own (all_take IsTroubleLine k cards h2); few = few },
+      dealt_range rs (drop k cards) h.1 (all_drop IsTroubleLine k cards h2),
+    )

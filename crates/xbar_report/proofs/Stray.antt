@@ -1,19 +1,18 @@
-use Rattle.std.proofs.Common.{◌≡◌, ◌<◌, ◌≤◌, ◌+◌, ◌-◌, ℕ, zero, suc, List, [], ◌∷◌, ◌++◌, length, map, take, refl, sym, ap, subst, ◌∙◌, ◌⊎◌, ◌≢◌, inl, inr, arith, append_assoc, add-one}
+use Rattle.std.proofs.Common.{◌≡◌, ◌<◌, ◌≤◌, ◌+◌, ◌-◌, ℕ, List, [], ◌∷◌, ◌++◌, length, map, take, refl, sym, ap, subst, ◌∙◌, ◌⊎◌, ◌≢◌, inl, inr, arith, append_assoc}
 use Rattle.std.specs.Prelude.{Option, Some, None}
 use Rattle.std.specs.List.{AllByRecursion}
 use Rattle.std.proofs.lemmas.List.{append-nil, length-map, length-append, length-take, map-append, take_at, take-map, take_all}
 use Rattle.xbar_office.specs.declared.reply.Record.{Record as TheRecord}
-use Rattle.xbar_report.specs.Bare.{bare_line}
 use Rattle.xbar_report.specs.Draft.{AreTextsOf, IsReadAs, IsTextOf, stage_behind, tally_lines}
 use Rattle.xbar_report.specs.Line.{IsLine, line_text, lines_of_counts, lines_of_sheet, next_stage, Stage, AtRecords, AtPaths}
 use Rattle.xbar_report.specs.Reading.{lines, HaveSameLines, IsFirstStrayLine}
-use Rattle.xbar_report.specs.Sheet.{Sheet, sheet_text, IsSheet, IsSheetText}
+use Rattle.xbar_report.specs.Sheet.{Sheet, sheet_text, IsSheetText}
 use Rattle.xbar_report.specs.Split.{IsWholeLine, Lacks}
 use Rattle.xbar_report.specs.declared.counts.Counts.{Counts}
 use Rattle.xbar_report.specs.declared.draft.Tally.{Tally}
 use Rattle.xbar_report.specs.declared.draft.Tally.TheVariants.{Missing, Begun, Whole}
 use Rattle.xbar_report.specs.declared.line.Line.{Line}
-use Rattle.xbar_report.specs.declared.line.Line.TheVariants.{Record, Trouble, Paths, Closed}
+use Rattle.xbar_report.specs.declared.line.Line.TheVariants.{Record, Trouble, Closed}
 use Rattle.xbar_report.specs.declared.trouble_line.TroubleLine.{TroubleLine}
 use Rattle.xbar_report.proofs.Order.{next-bare, stage_after, stage_after-append, stage_after-take, stage_after-bare, stage_of_lines, stage_of_sheet}
 use Rattle.xbar_report.proofs.Sheets.{all_append, all_parts, all_take, lines_of_text, sheet_range, range_of_sheet, texts_range, texts_are, texts_only, texts_more, texts_count}
@@ -72,16 +71,16 @@ begun text done more rs cs tally number split read counted =
     let ls = lines_so_far rs cs tally in
     let s = sheet_with rs cs tally in
     let in_range : AllByRecursion IsLine (lines_of_sheet s) =
-      subst (AllByRecursion IsLine) (sym (sheet_split rs cs tally)) (all_append IsLine ls (missing_line tally) (texts_range done ls read) (missing_range tally)) in
+    subst (AllByRecursion IsLine) (sym (sheet_split rs cs tally)) (all_append IsLine ls (missing_line tally) (texts_range done ls read) (missing_range tally)) in
     let range = range_of_sheet s in_range in
     let k : number - 1 ≡ length ls = omega (arith, counted) in
     let count = texts_count done ls read in
     let theirs : lines (sheet_text s) ≡ done ++ map line_text (missing_line tally) =
-      lines_of_text s range ∙ ap (map line_text) (sheet_split rs cs tally) ∙ map-append line_text ls (missing_line tally)
-      ∙ ap (λ (front : List (List ℕ)). front ++ map line_text (missing_line tally)) (sym (texts_are done ls read)) in
+    lines_of_text s range ∙ ap (map line_text) (sheet_split rs cs tally) ∙ map-append line_text ls (missing_line tally)
+    ∙ ap (λ (front : List (List ℕ)). front ++ map line_text (missing_line tally)) (sym (texts_are done ls read)) in
     let same : take (number - 1) (lines (sheet_text s)) ≡ take (number - 1) (lines text) =
-      ap (take (number - 1)) theirs ∙ take_at done (map line_text (missing_line tally)) (number - 1) (count ∙ sym k)
-      ∙ sym (ap (take (number - 1)) split ∙ take_at done more (number - 1) (count ∙ sym k)) in
+    ap (take (number - 1)) theirs ∙ take_at done (map line_text (missing_line tally)) (number - 1) (count ∙ sym k)
+    ∙ sym (ap (take (number - 1)) split ∙ take_at done more (number - 1) (count ∙ sym k)) in
     (sheet_text s, (s, range, refl), same)
 
 -- the first lines of a text, up to the rest, were read as these; the next has this number
@@ -114,11 +113,11 @@ line_more text rest line behind number ls l so split whole is =
       read = texts_more so.done ls line l so.read is;
       counted = let e = length-append ls (l ∷ []) in let c = so.counted in omega (arith, e, c);
       fits =
-        let e = ap length split in
-        let e2 = length-append line behind in
-        let some : 0 < length line = whole_some line whole in
-        let f = so.fits in
-        omega (arith, e, e2, some, f);
+          let e = ap length split in
+          let e2 = length-append line behind in
+          let some : 0 < length line = whole_some line whole in
+          let f = so.fits in
+          omega (arith, e, e2, some, f);
     }
 
 -- no sheet's text goes on with a line that may not come, or that is no line's
@@ -129,8 +128,8 @@ stray_line text line more done ls stage split read at refused other (s, range, i
     let n = length ls + 1 in
     let all = lines_of_sheet s in
     let ours : take n (lines text) ≡ done ++ line ∷ [] =
-      ap (take n) (split ∙ append_move done line more)
-      ∙ take_at (done ++ line ∷ []) more n (length-append done (line ∷ []) ∙ ap (λ (k : ℕ). k + 1) (texts_count done ls read)) in
+    ap (take n) (split ∙ append_move done line more)
+    ∙ take_at (done ++ line ∷ []) more n (length-append done (line ∷ []) ∙ ap (λ (k : ℕ). k + 1) (texts_count done ls read)) in
     let theirs : take n (lines other) ≡ map line_text (take n all) = ap (take n) (ap lines is ∙ lines_of_text s range) ∙ take-map line_text n all in
     let (front, o, parts, before, here) = last_of_map line_text (take n all) done line (sym theirs ∙ same ∙ ours) in
     let in_range : AllByRecursion IsLine (front ++ o ∷ []) = subst (AllByRecursion IsLine) parts (all_take IsLine n all (sheet_range s range)) in
@@ -140,8 +139,8 @@ stray_line text line more done ls stage split read at refused other (s, range, i
     let (some, reached) = stage_after-take (Some AtRecords) n all end whole in
     let at_front : stage_after (Some AtRecords) front ≡ Some stage = sym (stage_after-bare (Some AtRecords) front) ∙ ap (stage_after (Some AtRecords)) bare ∙ at in
     let none : stage_after (Some AtRecords) (front ++ o ∷ []) ≡ None =
-      stage_after-append (Some AtRecords) front (o ∷ []) ∙ ap (λ (a : Option Stage). stage_after a (o ∷ [])) at_front
-      ∙ ap (λ (a : Option Stage). stage_after a []) (refused o ranges.1.0 (sym here)) in
+    stage_after-append (Some AtRecords) front (o ∷ []) ∙ ap (λ (a : Option Stage). stage_after a (o ∷ [])) at_front
+    ∙ ap (λ (a : Option Stage). stage_after a []) (refused o ranges.1.0 (sym here)) in
     let both_ways : Some some ≡ None = sym reached ∙ ap (stage_after (Some AtRecords)) parts ∙ none in
     cc
 
@@ -154,7 +153,7 @@ stray_at text rest line behind number rs cs tally so next refused =
     record {
       before = begun text so.done (line ∷ lines behind) rs cs tally number split so.read so.counted;
       here = subst (λ (n : ℕ). (other : List ℕ) → IsSheetText other → ¬ HaveSameLines n other text) (sym so.counted)
-        (stray_line text line (lines behind) so.done (lines_so_far rs cs tally) (stage_behind tally cs) split so.read (stage_of_lines rs cs tally) refused);
+          (stray_line text line (lines behind) so.done (lines_so_far rs cs tally) (stage_behind tally cs) split so.read (stage_of_lines rs cs tally) refused);
     }
 
 -- so is one that was read, and may not come
@@ -208,7 +207,7 @@ stray_end text [] number rs cs tally so lacks (inr between) =
     record {
       before = begun text so.done (lines []) rs cs tally number so.split so.read so.counted;
       here = subst (λ (n : ℕ). (other : List ℕ) → IsSheetText other → ¬ HaveSameLines n other text) (sym so.counted)
-        (lacks_closed text so.done (lines_so_far rs cs tally) split so.read (stage_of_lines rs cs tally ∙ ap (λ (stage : Stage). Some stage) between));
+          (lacks_closed text so.done (lines_so_far rs cs tally) split so.read (stage_of_lines rs cs tally ∙ ap (λ (stage : Stage). Some stage) between));
     }
 stray_end text (x ∷ rest) number rs cs tally so lacks why =
     stray_at text (x ∷ rest) (x ∷ rest) [] number rs cs tally so (lines_of_rest x rest lacks ∙ ap (λ (r : List (List ℕ)). (x ∷ rest) ∷ r) (sym lines_of_nothing))

@@ -1,7 +1,7 @@
-use Rattle.std.proofs.Common.{◌≡◌, ◌<◌, ◌≤◌, ◌+◌, ◌-◌, ◌⊎◌, ℕ, zero, suc, Bool, true, false, cond, List, [], ◌∷◌, ◌++◌, length, map, take, drop, inl, inr, refl, sym, ap, subst, ◌∙◌, arith, append_assoc}
+use Rattle.std.proofs.Common.{◌≡◌, ◌<◌, ◌≤◌, ◌+◌, ◌-◌, ◌⊎◌, ℕ, zero, suc, true, List, [], ◌∷◌, ◌++◌, length, map, take, drop, inl, inr, refl, sym, ap, subst, ◌∙◌, arith}
 use Rattle.std.specs.Prelude.{Option, Some, None, flat_map}
 use Rattle.std.specs.List.{AllByRecursion}
-use Rattle.std.proofs.lemmas.List.{append-nil, length-append, length-map, length-take, length-drop, map-append, take_at, drop_at, take-append-drop, take-map, take-take, take_all, take-append-le, append_cancel_left}
+use Rattle.std.proofs.lemmas.List.{length-append, length-map, length-take, length-drop, map-append, take_at, take-append-drop, take-map, take-take, take_all, take-append-le, append_cancel_left}
 use Rattle.xbar_office.specs.Legal.{HaveTurns}
 use Rattle.xbar_office.specs.declared.reply.Card.{Card}
 use Rattle.xbar_office.specs.declared.reply.Record.{Record as TheRecord}
@@ -11,7 +11,7 @@ use Rattle.xbar_report.specs.Draft.{AreTextsOf, IsReadAs}
 use Rattle.xbar_report.specs.Line.{IsLine, line_text, lines_of_sheet, lines_of_counts}
 use Rattle.xbar_report.specs.Ranges.{IsRecord}
 use Rattle.xbar_report.specs.Reading.{lines, HaveSameLines, IsFirstStrayLine}
-use Rattle.xbar_report.specs.Sheet.{Sheet, sheet_text, IsSheet, IsReport, IsReportText}
+use Rattle.xbar_report.specs.Sheet.{Sheet, IsReport, IsReportText}
 use Rattle.xbar_report.specs.Text.{records_text, trouble_of, troubles_of}
 use Rattle.xbar_report.specs.declared.counts.Counts.{Counts}
 use Rattle.xbar_report.specs.declared.line.Line.{Line}
@@ -106,7 +106,7 @@ past_own turn n r rs cards h range within many e later =
     let cs_size = length-drop a cards in
     let less = later m cs (omega (arith, cs_size, within, sum, size)) same in
     let left : length (left_of (map bare_record rs) (drop (own_count_of (bare_record r) cards) cards)) ≡ length (left_of (map bare_record rs) cs) =
-      ap (λ (l : List TroubleLine). length (left_of (map bare_record rs) l)) gone in
+    ap (λ (l : List TroubleLine). length (left_of (map bare_record rs) l)) gone in
     omega (arith, less, left, cs_size, within, sum, size, many)
 
 -- of cards that begin as those of records, the records take at least so many
@@ -119,14 +119,14 @@ taken_most turn n [] cards h range within e =
     let none = taken_none n in
     omega (arith, short, a, none, within)
 taken_most turn n (r ∷ rs) cards h range within e = elim (split_le n (length r.reply.cards)) [
-    inl few ↦
+  | inl few ↦
       let k = own_least 2 n r r.reply.cards (flat_map troubles_of rs) cards (omega (arith, few, range.0.few)) few within e in
       let less = left_le (map bare_record rs) (drop (own_count_of (bare_record r) cards) cards) in
       let size = length-drop (own_count_of (bare_record r) cards) cards in
       let le = own_le 2 (bare_record r) cards in
       omega (arith, k, less, size, le.1)
   | inr many ↦ past_own turn n r rs cards h range within many e (λ (m : ℕ) (cs : List TroubleLine) (w : m ≤ length cs) (same : take m (flat_map troubles_of rs) ≡ take m cs). taken_most (turn + 1) m rs cs h.1 range.1 w same)
-  ]
+]
 
 -- which lines come first
 
@@ -272,15 +272,15 @@ before_card text s number read some size report =
     let k_le : k ≤ length s.cards = omega (arith, sum, parts) in
     let first : take k s.cards ≡ taken = ap (take k) (sym whole) ∙ take_at taken (left_of s.records s.cards) k refl in
     let ours : take n (lines text) ≡ map line_text (map Record s.records ++ map Trouble taken) =
-      ap (take n) (texts_are (lines text) (lines_of_sheet s) read) ∙ take-map line_text n (lines_of_sheet s)
-      ∙ ap (map line_text) (front_lines s k n k_le n_is ∙ ap (λ (cs : List TroubleLine). map Record s.records ++ map Trouble cs) first) in
+    ap (take n) (texts_are (lines text) (lines_of_sheet s) read) ∙ take-map line_text n (lines_of_sheet s)
+    ∙ ap (map line_text) (front_lines s k n k_le n_is ∙ ap (λ (cs : List TroubleLine). map Record s.records ++ map Trouble cs) first) in
     let them : take n (lines (records_text rs s.counts)) ≡ map line_text (map Record rs ++ map Trouble taken) =
-      ap (take n) (ap lines (sym (report_text_is rs s.counts)) ∙ lines_of_text theirs (report_range rs s.counts report)) ∙ take-map line_text n (lines_of_sheet theirs)
-      ∙ ap (map line_text) (front_lines theirs k n (omega arith) (omega (arith, n_is, records)) ∙ ap (λ (cs : List TroubleLine). map Record rs ++ map Trouble cs) (take_all k taken (omega arith))) in
+    ap (take n) (ap lines (sym (report_text_is rs s.counts)) ∙ lines_of_text theirs (report_range rs s.counts report)) ∙ take-map line_text n (lines_of_sheet theirs)
+    ∙ ap (map line_text) (front_lines theirs k n (omega arith) (omega (arith, n_is, records)) ∙ ap (λ (cs : List TroubleLine). map Record rs ++ map Trouble cs) (take_all k taken (omega arith))) in
     let joined : map line_text (map Record rs ++ map Trouble taken) ≡ map line_text (map Record s.records ++ map Trouble taken) =
-      map-append line_text (map Record rs) (map Trouble taken)
-      ∙ ap (λ (front : List (List ℕ)). front ++ map line_text (map Trouble taken)) (record_texts rs s.records (dealt_lines s.records s.cards))
-      ∙ sym (map-append line_text (map Record s.records) (map Trouble taken)) in
+    map-append line_text (map Record rs) (map Trouble taken)
+    ∙ ap (λ (front : List (List ℕ)). front ++ map line_text (map Trouble taken)) (record_texts rs s.records (dealt_lines s.records s.cards))
+    ∙ sym (map-append line_text (map Record s.records) (map Trouble taken)) in
     them ∙ joined ∙ sym ours
 
 -- of sheets and texts that were read, the first card that no record takes is stray
@@ -288,6 +288,6 @@ pub stray_card : (text : List ℕ) (s : Sheet) (number : ℕ) → IsReadAs text 
     → 0 < length (left_of s.records s.cards) → number ≡ length s.records + (length s.cards - length (left_of s.records s.cards)) + 1
     → IsReport (dealt s.records s.cards) s.counts → IsFirstStrayLine IsReportText text number
 stray_card text s number read turns range some size report = record {
-    before = (records_text (dealt s.records s.cards) s.counts, (dealt s.records s.cards, s.counts, report, refl), before_card text s number read some size report);
-    here = λ other h same. here_card text s number read some size other h same;
-  }
+  before = (records_text (dealt s.records s.cards) s.counts, (dealt s.records s.cards, s.counts, report, refl), before_card text s number read some size report);
+  here = λ other h same. here_card text s number read some size other h same;
+}

@@ -1,5 +1,4 @@
-use Rattle.std.specs.Prelude.{◌==◌, ◌&&◌, ℕ, zero, suc, Bool, List, [], ◌∷◌, length, map, take, drop, if◌then◌else◌}
-use Rattle.xbar_office.specs.declared.reply.Card.{Card}
+use Rattle.std.specs.Prelude.{◌==◌, ◌&&◌, ℕ, zero, suc, Bool, List, [], ◌∷◌, map, take, drop, if◌then◌else◌}
 use Rattle.xbar_office.specs.declared.reply.Record.{Record}
 use Rattle.xbar_report.specs.declared.trouble_line.TroubleLine.{TroubleLine}
 

@@ -19,9 +19,7 @@ pub struct Draft {
 #[derive(Clone, Copy)]
 pub enum Tally {
     Missing,
-    Begun {
-        paths: u16,
-    },
+    Begun { paths: u16 },
     Whole(Counts),
 }
 

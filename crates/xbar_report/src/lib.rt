@@ -2,8 +2,8 @@
 #![tactic(auto)]
 
 pub use counts::Counts;
-pub use reading::{Report, read};
 pub use read_fault::ReadFault;
+pub use reading::{Report, read};
 pub use report_text::report;
 pub use trouble_line::TroubleLine;
 
@@ -17,8 +17,8 @@ mod line;
 mod number;
 mod path_field;
 mod ranges;
-mod reading;
 mod read_fault;
+mod reading;
 mod record_line;
 mod report_text;
 mod split;

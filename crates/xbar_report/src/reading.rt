@@ -28,9 +28,10 @@ pub struct Report {
 /// Reads the lines of a text, each by itself, whatever turns the records have and whose the cards are.
 fn read_lines(alloc: Global, text: &[u8]) -> Result<(Draft, Option<Counts>), ReadFault>
     ensures lines { IfOk result (λ found. IsReadAs text.now (record {
-        records = found.0.records.items;
-        cards = found.0.cards.items;
-        counts = found.1 })) }
+      records = found.0.records.items;
+      cards = found.0.cards.items;
+      counts = found.1;
+    })) }
     ensures fault { IfErr result (IsLineFault text.now) }
 {
     let mut draft = Draft::new(alloc);
@@ -71,7 +72,9 @@ pub fn read(alloc: Global, text: &[u8]) -> Result<Report, ReadFault>
 {
     let (draft, counts) = read_lines(alloc, text)?;
     let Draft {
-        mut records, cards, ..
+        mut records,
+        cards,
+        ..
     } = draft;
     if let Some(place) = first_wrong_turn(&records) {
         return Err(ReadFault::Turns { place });

@@ -1,3 +1,4 @@
+mod memory;
 mod reports;
 mod rows;
 mod spoiled;

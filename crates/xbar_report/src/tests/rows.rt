@@ -154,7 +154,10 @@ const TEXTS: [&str; 23] = [
 fn check_again(rt: &impl Abort, alloc: Global, text: &str) -> Result<(), Fail> {
     let report_read = read(alloc, text.as_bytes())?;
     assert!(rt; report_read.counts.is_some());
-    let counts = report_read.counts.unwrap_or(Counts { paths: 0, closed: 0 });
+    let counts = report_read.counts.unwrap_or(Counts {
+        paths: 0,
+        closed: 0,
+    });
     let again = report(alloc, &report_read.records, counts.paths, counts.closed)?;
     assert_eq!(rt; str::from_utf8(&again).unwrap_or("this is no text"), text);
     Ok(())

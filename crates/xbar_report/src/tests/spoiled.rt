@@ -51,12 +51,28 @@ const SPOILED: [(&str, &str, usize); 42] = [
     ("3052-5-418,-", "-,-", 2),
     ("TROUBLE,0,1,1,JU340", "TROUBLE,0,1,1,JX340", 3),
     ("TROUBLE,0,1,1,JU340", "TROUBLE,0,1,1,JU340,", 3),
-    ("TROUBLE,0,1,1,JU340\n", "TROUBLE,0,1,1,JU340\n2,3,0,D,1000,-,LINEBUSY,-,-,-\n", 4),
+    (
+        "TROUBLE,0,1,1,JU340\n",
+        "TROUBLE,0,1,1,JU340\n2,3,0,D,1000,-,LINEBUSY,-,-,-\n",
+        4,
+    ),
     ("TROUBLE,0,1,1,JU340", "TROUBLE,0,7,1,JU340", 3),
     ("TROUBLE,1,2,1,LL301\n", "TROUBLE,2,3,1,LL301\n", 5),
-    ("TROUBLE,1,2,1,LL301\n", "TROUBLE,1,2,1,LL301\nTROUBLE,2,3,1,LL301\n", 6),
-    ("TROUBLE,1,2,1,LL301\n", "TROUBLE,1,2,1,LL301\nTROUBLE,0,1,1,JU340\n", 6),
-    ("TROUBLE,0,1,2,JU345\n", "TROUBLE,0,1,2,JU345\nTROUBLE,0,1,2,JU345\n", 5),
+    (
+        "TROUBLE,1,2,1,LL301\n",
+        "TROUBLE,1,2,1,LL301\nTROUBLE,2,3,1,LL301\n",
+        6,
+    ),
+    (
+        "TROUBLE,1,2,1,LL301\n",
+        "TROUBLE,1,2,1,LL301\nTROUBLE,0,1,1,JU340\n",
+        6,
+    ),
+    (
+        "TROUBLE,0,1,2,JU345\n",
+        "TROUBLE,0,1,2,JU345\nTROUBLE,0,1,2,JU345\n",
+        5,
+    ),
     ("PATHS,1\n", "", 6),
     ("PATHS,1\n", "PATHS,65536\n", 6),
     ("PATHS,1\n", "PATHS,1\nPATHS,1\n", 7),
@@ -85,7 +101,10 @@ fn a_spoiled_text_is_refused_at_its_line(rt: HostRuntime) -> Result<(), Fail> {
     for (old, new, number) in SPOILED {
         let text = spoiled(rt.alloc(), old, new)?;
         let fault = fault_of(rt.alloc(), &text);
-        assert_eq!(rt; (text.as_str(), fault), (text.as_str(), Some(ReadFault::Line { number })));
+        assert_eq!(rt;
+            (text.as_str(), fault),
+            (text.as_str(), Some(ReadFault::Line { number }))
+        );
     }
     Ok(())
 }
@@ -112,8 +131,14 @@ fn lines_behind_their_place_are_refused(rt: HostRuntime) -> Result<(), Fail> {
 #[test]
 fn a_wrong_turn_is_told_before_whose_the_cards_are(rt: HostRuntime) -> Result<(), Fail> {
     let text = spoiled(rt.alloc(), "1,2,1,D,3052", "2,2,1,D,3052")?;
-    assert_eq!(rt; fault_of(rt.alloc(), &text), Some(ReadFault::Turns { place: 1 }));
+    assert_eq!(rt;
+        fault_of(rt.alloc(), &text),
+        Some(ReadFault::Turns { place: 1 })
+    );
     let text = spoiled(rt.alloc(), "0,1,0,D", "1,1,0,D")?;
-    assert_eq!(rt; fault_of(rt.alloc(), &text), Some(ReadFault::Turns { place: 0 }));
+    assert_eq!(rt;
+        fault_of(rt.alloc(), &text),
+        Some(ReadFault::Turns { place: 0 })
+    );
     Ok(())
 }

@@ -1,4 +1,4 @@
-use Rattle.std.proofs.Common.{◌≡◌, ◌∙◌, ◌++◌, List, length, drop, sym, ap, arith}
+use Rattle.std.proofs.Common.{◌∙◌, ◌++◌, List, length, drop, sym, ap, arith}
 use Rattle.std.proofs.lemmas.List.{append-nil, drop_all, take_all}
 use Rattle.xbar_office.specs.declared.reply.Record.{Record}
 use Rattle.xbar_report.specs.Dealt.{dealt, left_of}

@@ -1,12 +1,11 @@
-use Rattle.std.proofs.Common.{◌≡◌, ◌≤◌, ◌∙◌, ◌++◌, ℕ, ◌+◌, ◌-◌, List, length, take, drop, inr, sym, ap, subst, arith}
+use Rattle.std.proofs.Common.{◌≡◌, ◌∙◌, ◌++◌, ℕ, ◌+◌, ◌-◌, List, length, take, drop, inr, sym, ap, subst, arith}
 use Rattle.std.specs.Prelude.{Option}
 use Rattle.std.proofs.lemmas.List.{take_at}
 use Rattle.std.proofs.lemmas.Result.{err_from_is_err_and}
 use Rattle.xbar_office.specs.Legal.{HaveTurns}
 use Rattle.xbar_office.specs.declared.reply.Record.{Record}
 use Rattle.xbar_report.specs.Dealt.{dealt, left_of}
-use Rattle.xbar_report.specs.Sheet.{Sheet, IsReport}
-use Rattle.xbar_report.specs.Text.{records_text}
+use Rattle.xbar_report.specs.Sheet.{Sheet}
 use Rattle.xbar_report.specs.declared.counts.Counts.{Counts}
 use Rattle.xbar_report.specs.declared.trouble_line.TroubleLine.{TroubleLine}
 use Rattle.xbar_report.proofs.ReadBack.{read_sheet, dealt_report, dealt_text, report_read, no_wrong_turn, no_line_fault}
@@ -76,9 +75,11 @@ returns-then-left-gt0-clause-fault c =
     let records = c.len.ensures in
     let dealt_count = c.deref_mut.ensures.len in
     let dealt_same = ap length c.deref_mut.ensures.value in
-    inr ((s, range.0, range.1, turns),
-    stray_card c.args.text.now s (c.len.result + (c.len-then-left-gt0.result - c.deal-left.result) + 1) read turns range.0.records
-    (omega (arith, left, some)) (omega (arith, left, some, cards, count, same, records, dealt_count, dealt_same)) (dealt_report c.args.text.now s read turns))
+    inr (
+      (s, range.0, range.1, turns),
+      stray_card c.args.text.now s (c.len.result + (c.len-then-left-gt0.result - c.deal-left.result) + 1) read turns range.0.records
+          (omega (arith, left, some)) (omega (arith, left, some, cards, count, same, records, dealt_count, dealt_same)) (dealt_report c.args.text.now s read turns),
+    )
 
 -- the records with their cards, as they stand in the vector
 vector_is : (n : ℕ) (now old old' rest : List Record) (cards cards' : List TroubleLine) → now ≡ dealt old' cards' → old' ≡ old → cards' ≡ cards → length now ≡ n
@@ -96,7 +97,7 @@ returns-clause-only c =
     let left = left_is c.deal-left.result rs c.deref_mut.result.now cs c.deref-2.result.now c.deal-left.ensures.left c.deref_mut.ensures.value c.deref-2.ensures.value in
     let none = c.if-left-gt0.false in
     let all = vector_is c.in_ok-draft.draft.records.len c.deal-left.new.records rs c.deref_mut.result.now (drop (length c.deal-left.new.records) rs) cs c.deref-2.result.now
-      c.deal-left.ensures.records c.deref_mut.ensures.value c.deref-2.ensures.value (c.deal-left.auto.records ∙ c.deref_mut.ensures.len) in
+    c.deal-left.ensures.records c.deref_mut.ensures.value c.deref-2.ensures.value (c.deal-left.auto.records ∙ c.deref_mut.ensures.len) in
     rw all (dealt_report c.args.text.now s read turns, dealt_text c.args.text.now s read (omega (arith, left, none)))
 
 pub returns-clause-reads : goal.returns-clause-reads
@@ -105,5 +106,5 @@ returns-clause-reads c records counts report is =
     let cs = c.in_ok-draft.draft.cards.items in
     let h = report_read c.args.text.now (sheet rs cs c.in_ok-draft.counts) records counts c.in_ok-draft.ensures.lines report is in
     let all = vector_is c.in_ok-draft.draft.records.len c.deal-left.new.records rs c.deref_mut.result.now (drop (length c.deal-left.new.records) rs) cs c.deref-2.result.now
-      c.deal-left.ensures.records c.deref_mut.ensures.value c.deref-2.ensures.value (c.deal-left.auto.records ∙ c.deref_mut.ensures.len) in
+    c.deal-left.ensures.records c.deref_mut.ensures.value c.deref-2.ensures.value (c.deal-left.auto.records ∙ c.deref_mut.ensures.len) in
     (all ∙ h.dealt_is, h.counts_are)

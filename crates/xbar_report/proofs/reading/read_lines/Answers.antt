@@ -1,8 +1,8 @@
-use Rattle.std.proofs.Common.{◌≡◌, ◌<◌, ◌⊎◌, ◌+◌, ◌∙◌, [], ◌∷◌, ℕ, List, false, length, inl, inr, refl, sym, ap, subst, arith}
+use Rattle.std.proofs.Common.{◌≡◌, ◌<◌, ◌⊎◌, ◌+◌, [], ◌∷◌, ℕ, List, false, length, inl, inr, refl, sym, ap, subst, arith}
 use Rattle.std.specs.Prelude.{◌==◌, Some, None}
-use borrow.Author.Tests.{eqb-true, eq-eqb}
+use borrow.Author.Tests.{eqb-true}
 use Rattle.xbar_report.specs.Draft.{tally_lines, stage_behind}
-use Rattle.xbar_report.specs.Line.{Stage, AtPaths}
+use Rattle.xbar_report.specs.Line.{AtPaths}
 use Rattle.xbar_report.specs.declared.counts.Counts.{Counts}
 use Rattle.xbar_report.specs.declared.draft.Tally.{Tally}
 use Rattle.xbar_report.specs.declared.draft.Tally.TheVariants.{Missing, Begun, Whole}
@@ -53,10 +53,10 @@ between (Whole counts) cards a b = absurd (b counts refl)
 pub returns-in_default-tally-clause-fault : goal.returns-in_default-tally-clause-fault
 returns-in_default-tally-clause-fault c =
     let why : (0 < length c.loop-line.rest.now) ⊎ (stage_behind c.loop-line.draft.tally c.loop-line.draft.cards.items ≡ AtPaths) =
-      elim c.in_default-tally.branch [
-        in_default-tally-via-in-Missing+else-is_empty w ↦ inl (some_left c.loop-line.rest.now w.if-is_empty.ensures)
+    elim c.in_default-tally.branch [
+      | in_default-tally-via-in-Missing+else-is_empty w ↦ inl (some_left c.loop-line.rest.now w.if-is_empty.ensures)
       | in_default-tally-via-in-Whole+else-is_empty-2 w ↦ inl (some_left c.loop-line.rest.now w.if-is_empty-2.ensures)
       | in_default-tally-via-in_default-tally w ↦ inr (between c.loop-line.draft.tally c.loop-line.draft.cards.items w.in_default-tally.not-Missing w.in_default-tally.not-Whole)
-      ] in
+    ] in
     stray_end c.args.text.now c.loop-line.rest.now c.loop-line.number c.loop-line.draft.records.items c.loop-line.draft.cards.items c.loop-line.draft.tally
     c.loop-line.invariant c.in_default.ensures.none why
