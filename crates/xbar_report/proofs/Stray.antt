@@ -64,10 +64,10 @@ sheet_split rs cs tally =
     ∙ sym (append_assoc (map Record rs ++ map Trouble cs) (tally_lines tally) (missing_line tally))
 
 -- some sheet's text begins with the lines that were read
-begun : (text : List ℕ) (done more : List (List ℕ)) (rs : List TheRecord) (cs : List TroubleLine) (tally : Tally) (number : ℕ) → lines text ≡ done ++ more
+begun_text : (text : List ℕ) (done more : List (List ℕ)) (rs : List TheRecord) (cs : List TroubleLine) (tally : Tally) (number : ℕ) → lines text ≡ done ++ more
     → AreTextsOf done (lines_so_far rs cs tally) → number ≡ length (lines_so_far rs cs tally) + 1
     → (other : List ℕ) × IsSheetText other × HaveSameLines (number - 1) other text
-begun text done more rs cs tally number split read counted =
+begun_text text done more rs cs tally number split read counted =
     let ls = lines_so_far rs cs tally in
     let s = sheet_with rs cs tally in
     let in_range : AllByRecursion IsLine (lines_of_sheet s) =
@@ -151,7 +151,7 @@ pub stray_at : (text rest line behind : List ℕ) (number : ℕ) (rs : List TheR
 stray_at text rest line behind number rs cs tally so next refused =
     let split = so.split ∙ ap (λ (r : List (List ℕ)). so.done ++ r) next in
     record {
-      before = begun text so.done (line ∷ lines behind) rs cs tally number split so.read so.counted;
+      before = begun_text text so.done (line ∷ lines behind) rs cs tally number split so.read so.counted;
       here = subst (λ (n : ℕ). (other : List ℕ) → IsSheetText other → ¬ HaveSameLines n other text) (sym so.counted)
           (stray_line text line (lines behind) so.done (lines_so_far rs cs tally) (stage_behind tally cs) split so.read (stage_of_lines rs cs tally) refused);
     }
@@ -173,8 +173,8 @@ stray_unread text rest line behind number rs cs tally so split whole none =
     (λ o range same. absurd (none o range same))
 
 -- a last line that isn't whole is stray
-unended : (x : ℕ) (rest : List ℕ) → Lacks 10 (x ∷ rest) → (o : Line) → IsLine o → x ∷ rest ≡ line_text o → ⊥
-unended x rest lacks o range same =
+unended_line : (x : ℕ) (rest : List ℕ) → Lacks 10 (x ∷ rest) → (o : Line) → IsLine o → x ∷ rest ≡ line_text o → ⊥
+unended_line x rest lacks o range same =
     let w = line_text_whole o range in
     has_byte 10 w.front [] (subst (Lacks 10) (same ∙ w.line_is) lacks)
 
@@ -205,13 +205,13 @@ stray_end text [] number rs cs tally so lacks (inl some) = absurd (omega arith)
 stray_end text [] number rs cs tally so lacks (inr between) =
     let split : lines text ≡ so.done = so.split ∙ ap (λ (r : List (List ℕ)). so.done ++ r) lines_of_nothing ∙ append-nil so.done in
     record {
-      before = begun text so.done (lines []) rs cs tally number so.split so.read so.counted;
+      before = begun_text text so.done (lines []) rs cs tally number so.split so.read so.counted;
       here = subst (λ (n : ℕ). (other : List ℕ) → IsSheetText other → ¬ HaveSameLines n other text) (sym so.counted)
           (lacks_closed text so.done (lines_so_far rs cs tally) split so.read (stage_of_lines rs cs tally ∙ ap (λ (stage : Stage). Some stage) between));
     }
 stray_end text (x ∷ rest) number rs cs tally so lacks why =
     stray_at text (x ∷ rest) (x ∷ rest) [] number rs cs tally so (lines_of_rest x rest lacks ∙ ap (λ (r : List (List ℕ)). (x ∷ rest) ∷ r) (sym lines_of_nothing))
-    (λ o range same. absurd (unended x rest lacks o range same))
+    (λ o range same. absurd (unended_line x rest lacks o range same))
 
 -- a text that was read to its end is that of the lines
 pub read_all : (text rest : List ℕ) (number : ℕ) (rs : List TheRecord) (cs : List TroubleLine) (counts : Option Counts) (tally : Tally)

@@ -21,9 +21,9 @@ abbrev pub with_cards : Record → List TroubleLine → Record
 with_cards r cards = record r { reply = record r.reply { cards = map (λ t. t.card) cards } }
 
 -- records take their cards, one record after another
-unfoldable pub dealt : List Record → List TroubleLine → List Record
-dealt [] cards = []
-dealt (r ∷ records) cards = with_cards r (take (own_count_of r cards) cards) ∷ dealt records (drop (own_count_of r cards) cards)
+unfoldable pub dealt_records : List Record → List TroubleLine → List Record
+dealt_records [] cards = []
+dealt_records (r ∷ records) cards = with_cards r (take (own_count_of r cards) cards) ∷ dealt_records records (drop (own_count_of r cards) cards)
 
 -- and these cards are left
 unfoldable pub left_of : List Record → List TroubleLine → List TroubleLine
