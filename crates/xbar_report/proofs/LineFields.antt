@@ -1,5 +1,5 @@
-use Rattle.std.proofs.Common.{◌≡◌, ◌<◌, ◌/◌, ◌%◌, ◌^◌, ℕ, zero, suc, Bool, true, false, List, [], ◌∷◌, ◌++◌, refl, sym, ap, subst, ◌∙◌, arith, append_assoc}
-use Rattle.std.specs.Prelude.{◌==◌, ◌&&◌, not, Option, Some, None, codes, decimal}
+use Rattle.std.proofs.Common.{◌≡◌, ◌<◌, ◌/◌, ◌%◌, ◌^◌, ℕ, zero, suc, Bool, true, false, List, [], ◌∷◌, ◌++◌, refl, ap, subst, arith, append_assoc}
+use Rattle.std.specs.Prelude.{◌==◌, not, Option, Some, None, codes, decimal}
 use Rattle.std.specs.List.{list_all}
 use Rattle.std.specs.Char.{digit_value}
 use Rattle.std.specs.Str.Parse.{AllDigits, digits_value}
@@ -7,7 +7,6 @@ use Rattle.std.proofs.lemmas.Str.Parse.{IsNumeralModel, numerals_by_value, tells
 use Rattle.std.proofs.lemmas.Fmt.{digits_decimal}
 use borrow.Author.Tests.{eqb-true, ne_eqb}
 use Rattle.xbar_equip.proofs.Logic.{both_hold}
-use Rattle.xbar_equip.specs.Dialled.{dialled_text}
 use Rattle.xbar_equip.specs.Digits.{digit, digits}
 use Rattle.xbar_equip.specs.Len.{Line, line_text}
 use Rattle.xbar_equip.specs.Link.{Link, link_text, letters}

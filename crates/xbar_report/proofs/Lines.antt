@@ -1,14 +1,13 @@
-use Rattle.std.proofs.Common.{◌≡◌, ◌<◌, ◌+◌, ◌^◌, ℕ, zero, suc, Bool, true, false, cond, List, [], ◌∷◌, ◌++◌, length, map, take, refl, sym, ap, subst, ◌∙◌, arith, append_assoc}
-use Rattle.std.specs.Prelude.{◌==◌, ◌&&◌, not, Option, Some, None, codes, decimal, flat_map}
+use Rattle.std.proofs.Common.{◌≡◌, ℕ, Bool, true, false, cond, List, [], ◌∷◌, ◌++◌, map, refl, sym, ap, ◌∙◌, arith, append_assoc}
+use Rattle.std.specs.Prelude.{◌==◌, not, codes, decimal, flat_map}
 use Rattle.std.specs.List.{AllByRecursion, list_all, onto_first}
-use Rattle.std.proofs.lemmas.List.{append-nil}
 use Rattle.std.proofs.lemmas.List.Folds.{list_all-append}
 use borrow.Author.Tests.{eqb-true}
 use Rattle.xbar_equip.proofs.Logic.{both, both_hold}
 use Rattle.xbar_office.specs.declared.job.Job.{Job}
 use Rattle.xbar_office.specs.declared.job.Job.TheVariants.{Dial, Complete, Release}
 use Rattle.xbar_office.specs.declared.reply.End.{End}
-use Rattle.xbar_office.specs.declared.reply.End.TheVariants.{DialTone, Connected, Released, CalledBusy, LineBusy, RegistersBusy, TrunksBusy, NoPath, Trouble as InTrouble, VacantCode, VacantNumber, NoRegister, NoCall}
+use Rattle.xbar_office.specs.declared.reply.End.TheVariants.{DialTone, Connected, Released}
 use Rattle.xbar_report.specs.Line.{IsLine, line_text}
 use Rattle.xbar_report.specs.Parts.{job_kind, job_line, job_dialled, end_name, end_trial, end_first, end_second}
 use Rattle.xbar_report.specs.Ranges.{IsEnd}

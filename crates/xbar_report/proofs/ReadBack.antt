@@ -1,20 +1,18 @@
-use Rattle.std.proofs.Common.{◌≡◌, ◌≢◌, ◌<◌, ◌≤◌, ◌+◌, ◌-◌, ℕ, zero, suc, List, [], ◌∷◌, ◌++◌, length, map, take, refl, sym, ap, subst, ◌∙◌, arith}
+use Rattle.std.proofs.Common.{◌≡◌, ◌≢◌, ◌+◌, ℕ, List, [], ◌∷◌, ◌++◌, length, map, refl, sym, ap, subst, ◌∙◌}
 use Rattle.std.specs.Prelude.{Option, Some, None, IsSomeAnd, flat_map, slice_get}
-use Rattle.std.specs.List.{AllByRecursion}
 use Rattle.std.proofs.lemmas.List.{append-nil, nil_from_length}
 use Rattle.xbar_office.specs.Audit.{IsFirstWrongTurn}
 use Rattle.xbar_office.specs.Legal.{HaveTurns}
 use Rattle.xbar_office.specs.declared.reply.Record.{Record}
 use Rattle.xbar_office.proofs.AuditedRecords.{turn_at}
 use Rattle.xbar_report.specs.Bare.{bare_record}
-use Rattle.xbar_report.specs.Dealt.{dealt, left_of}
+use Rattle.xbar_report.specs.Dealt.{dealt_records, left_of}
 use Rattle.xbar_report.specs.Draft.{IsLineFault, IsReadAs}
 use Rattle.xbar_report.specs.Line.{line_text, lines_of_sheet}
 use Rattle.xbar_report.specs.Reading.{lines}
-use Rattle.xbar_report.specs.Sheet.{Sheet, sheet_text, IsSheet, IsSheetText, IsReport}
+use Rattle.xbar_report.specs.Sheet.{Sheet, sheet_text, IsSheet, IsReport}
 use Rattle.xbar_report.specs.Text.{record_line, trouble_line, count_lines, records_text, troubles_of}
 use Rattle.xbar_report.specs.declared.counts.Counts.{Counts}
-use Rattle.xbar_report.specs.declared.line.Line.{Line}
 use Rattle.xbar_report.specs.declared.read_fault.ReadFault.{ReadFault}
 use Rattle.xbar_report.specs.declared.read_fault.ReadFault.TheVariants as fault
 use Rattle.xbar_report.proofs.Lines.{joined_lines}
@@ -31,7 +29,7 @@ read_sheet text s read = (
 )
 
 -- and a report, once its records have their turns and took their cards
-pub dealt_report : (text : List ℕ) (s : Sheet) → IsReadAs text s → HaveTurns 0 s.records → IsReport (dealt s.records s.cards) s.counts
+pub dealt_report : (text : List ℕ) (s : Sheet) → IsReadAs text s → HaveTurns 0 s.records → IsReport (dealt_records s.records s.cards) s.counts
 dealt_report text s read turns =
     let range = (read_sheet text s read).0 in
     record { ranges = dealt_range s.records s.cards range.records range.cards; turns = dealt_turns 0 s.records s.cards turns; fits = range.counts }
@@ -47,9 +45,9 @@ record_lines_same (r ∷ rs) (x ∷ rs') e =
     cc
 
 -- which has the text, where no card is left
-pub dealt_text : (text : List ℕ) (s : Sheet) → IsReadAs text s → length (left_of s.records s.cards) ≡ 0 → text ≡ records_text (dealt s.records s.cards) s.counts
+pub dealt_text : (text : List ℕ) (s : Sheet) → IsReadAs text s → length (left_of s.records s.cards) ≡ 0 → text ≡ records_text (dealt_records s.records s.cards) s.counts
 dealt_text text s read none =
-    let rs = dealt s.records s.cards in
+    let rs = dealt_records s.records s.cards in
     let left = nil_from_length (left_of s.records s.cards) none in
     let taken : flat_map troubles_of rs ≡ s.cards =
     sym (append-nil (flat_map troubles_of rs)) ∙ ap (λ (more : List _). flat_map troubles_of rs ++ more) (sym left) ∙ taken_and_left s.records s.cards in
@@ -67,7 +65,7 @@ bare_turns turn (r ∷ rs) h = (h.0, bare_turns (turn + 1) rs h.1)
 
 pub record IsReportRead (s : Sheet) (records : List Record) (counts : Option Counts) : Type 0 where
   pub turns : HaveTurns 0 s.records
-  pub dealt_is : dealt s.records s.cards ≡ records
+  pub dealt_is : dealt_records s.records s.cards ≡ records
   pub none_left : length (left_of s.records s.cards) ≡ 0
   pub counts_are : s.counts ≡ counts
 
@@ -78,7 +76,7 @@ report_read text s records counts read report is =
     let own = own_dealt 0 records report.turns report.ranges in
     record {
       turns = subst (HaveTurns 0) (sym same.records) (bare_turns 0 records report.turns);
-      dealt_is = ap (λ (rs : List Record). dealt rs s.cards) same.records ∙ ap (dealt (map bare_record records)) same.cards ∙ own.0;
+      dealt_is = ap (λ (rs : List Record). dealt_records rs s.cards) same.records ∙ ap (dealt_records (map bare_record records)) same.cards ∙ own.0;
       none_left = ap length (ap (λ (rs : List Record). left_of rs s.cards) same.records ∙ ap (left_of (map bare_record records)) same.cards ∙ own.1);
       counts_are = same.counts;
     }

@@ -1,16 +1,16 @@
-use Rattle.std.proofs.Common.{◌≡◌, ◌<◌, ◌≤◌, ◌+◌, ◌-◌, ◌⊎◌, ℕ, zero, suc, Bool, true, false, cond, List, [], ◌∷◌, ◌++◌, length, map, take, drop, inl, inr, refl, sym, ap, subst, ◌∙◌, arith, append_assoc}
-use Rattle.std.specs.Prelude.{◌==◌, ◌&&◌, flat_map}
+use Rattle.std.proofs.Common.{◌≡◌, ◌≤◌, ◌+◌, ℕ, zero, suc, Bool, true, false, cond, List, [], ◌∷◌, ◌++◌, length, map, take, drop, refl, sym, ap, ◌∙◌, arith, append_assoc}
+use Rattle.std.specs.Prelude.{◌==◌, flat_map}
 use Rattle.std.specs.List.{AllByRecursion}
-use Rattle.std.proofs.lemmas.List.{append-nil, length-append, length-map, length-take, length-drop, take-append-drop}
-use borrow.Author.Tests.{eqb-true, eq-eqb, ne_eqb}
+use Rattle.std.proofs.lemmas.List.{length-map, length-take, take-append-drop}
+use borrow.Author.Tests.{eqb-true, eq-eqb}
 use Rattle.xbar_equip.proofs.Logic.{both, both_hold}
 use Rattle.xbar_office.specs.Legal.{HaveTurns}
 use Rattle.xbar_office.specs.declared.reply.Card.{Card}
 use Rattle.xbar_office.specs.declared.reply.Record.{Record}
 use Rattle.xbar_report.specs.Bare.{bare_record}
-use Rattle.xbar_report.specs.Dealt.{belongs, own_of, own_count_of, with_cards, dealt, left_of}
+use Rattle.xbar_report.specs.Dealt.{belongs, own_of, own_count_of, with_cards, dealt_records, left_of}
 use Rattle.xbar_report.specs.Ranges.{IsCard, IsRecord, IsTroubleLine}
-use Rattle.xbar_report.specs.Text.{record_line, trouble_line, card_lines, trouble_of, troubles_of}
+use Rattle.xbar_report.specs.Text.{trouble_of, troubles_of}
 use Rattle.xbar_report.specs.declared.trouble_line.TroubleLine.{TroubleLine}
 use Rattle.xbar_report.proofs.Sheets.{all_take}
 
@@ -55,24 +55,24 @@ troubles_again r [] h = refl
 troubles_again r (t ∷ cards) h = let e = owner_is r t h.0 in let e2 = troubles_again r cards h.1 in cc
 
 -- what records took and what is left are all cards
-pub taken_and_left : (rs : List Record) (cards : List TroubleLine) → flat_map troubles_of (dealt rs cards) ++ left_of rs cards ≡ cards
-unfolding dealt left_of
+pub taken_and_left : (rs : List Record) (cards : List TroubleLine) → flat_map troubles_of (dealt_records rs cards) ++ left_of rs cards ≡ cards
+unfolding dealt_records left_of
 taken_and_left [] cards = refl
 taken_and_left (r ∷ rs) cards =
     let k = own_count_of r cards in
-    append_assoc (troubles_of (with_cards r (take k cards))) (flat_map troubles_of (dealt rs (drop k cards))) (left_of rs (drop k cards))
+    append_assoc (troubles_of (with_cards r (take k cards))) (flat_map troubles_of (dealt_records rs (drop k cards))) (left_of rs (drop k cards))
     ∙ ap (λ (more : List TroubleLine). troubles_of (with_cards r (take k cards)) ++ more) (taken_and_left rs (drop k cards))
     ∙ ap (λ (front : List TroubleLine). front ++ drop k cards) (troubles_again r (take k cards) (own_all 2 r cards))
     ∙ take-append-drop k cards
 
 -- the lines of records don't show what cards they took
-pub dealt_lines : (rs : List Record) (cards : List TroubleLine) → map bare_record (dealt rs cards) ≡ map bare_record rs
-unfolding dealt
+pub dealt_lines : (rs : List Record) (cards : List TroubleLine) → map bare_record (dealt_records rs cards) ≡ map bare_record rs
+unfolding dealt_records
 dealt_lines [] cards = refl
 dealt_lines (r ∷ rs) cards = ap (λ (more : List Record). bare_record r ∷ more) (dealt_lines rs (drop (own_count_of r cards) cards))
 
-pub dealt_turns : (turn : ℕ) (rs : List Record) (cards : List TroubleLine) → HaveTurns turn rs → HaveTurns turn (dealt rs cards)
-unfolding dealt
+pub dealt_turns : (turn : ℕ) (rs : List Record) (cards : List TroubleLine) → HaveTurns turn rs → HaveTurns turn (dealt_records rs cards)
+unfolding dealt_records
 dealt_turns turn [] cards h = tt
 dealt_turns turn (r ∷ rs) cards h = (h.0, dealt_turns (turn + 1) rs (drop (own_count_of r cards) cards) h.1)
 
@@ -85,8 +85,8 @@ all_drop P zero xs h = h
 all_drop P (suc n) [] h = tt
 all_drop P (suc n) (x ∷ xs) h = all_drop P n xs h.1
 
-pub dealt_range : (rs : List Record) (cards : List TroubleLine) → AllByRecursion IsRecord rs → AllByRecursion IsTroubleLine cards → AllByRecursion IsRecord (dealt rs cards)
-unfolding dealt
+pub dealt_range : (rs : List Record) (cards : List TroubleLine) → AllByRecursion IsRecord rs → AllByRecursion IsTroubleLine cards → AllByRecursion IsRecord (dealt_records rs cards)
+unfolding dealt_records
 dealt_range [] cards h h2 = tt
 dealt_range (r ∷ rs) cards h h2 =
     let k = own_count_of r cards in

@@ -1,20 +1,17 @@
-use Rattle.std.proofs.Common.{◌≡◌, ◌<◌, ◌≤◌, ◌+◌, ◌-◌, ℕ, zero, suc, Bool, true, false, List, [], ◌∷◌, ◌++◌, length, map, take, refl, sym, ap, subst, ◌∙◌, arith, append_assoc, add-one}
+use Rattle.std.proofs.Common.{◌≡◌, ℕ, zero, suc, List, [], ◌∷◌, ◌++◌, length, map, take, refl, sym, ap, ◌∙◌, append_assoc}
 use Rattle.std.specs.Prelude.{Option, Some, None, IfSome, flat_map}
 use Rattle.std.specs.List.{AllByRecursion}
-use Rattle.std.proofs.lemmas.List.{append-nil, length-map, length-append, take_at, take-append-le, take-map, take_all, map-append}
-use Rattle.xbar_office.specs.declared.reply.Record.{Record as TheRecord}
+use Rattle.std.proofs.lemmas.List.{append-nil, length-map}
 use Rattle.xbar_report.specs.Bare.{bare_line}
 use Rattle.xbar_report.specs.Draft.{AreTextsOf, IsTextOf}
-use Rattle.xbar_report.specs.Line.{IsLine, line_text, lines_of_sheet, lines_of_counts, next_stage, Stage, AtRecords, AtCards, AtPaths, AtEnd}
-use Rattle.xbar_report.specs.Ranges.{IsRecord, IsTroubleLine, AreCounts}
-use Rattle.xbar_report.specs.Reading.{lines, IsFirstStrayLine, HaveSameLines}
-use Rattle.xbar_report.specs.Sheet.{Sheet, sheet_text, IsSheet, IsSheetText}
-use Rattle.xbar_report.specs.Split.{IsWholeLine, Lacks}
+use Rattle.xbar_report.specs.Line.{IsLine, line_text, lines_of_sheet, lines_of_counts}
+use Rattle.xbar_report.specs.Ranges.{AreCounts}
+use Rattle.xbar_report.specs.Reading.{lines}
+use Rattle.xbar_report.specs.Sheet.{Sheet, sheet_text, IsSheet}
 use Rattle.xbar_report.specs.Text.{record_line, trouble_line, count_lines}
 use Rattle.xbar_report.specs.declared.counts.Counts.{Counts}
 use Rattle.xbar_report.specs.declared.line.Line.{Line}
 use Rattle.xbar_report.specs.declared.line.Line.TheVariants.{Record, Trouble, Paths, Closed}
-use Rattle.xbar_report.specs.declared.trouble_line.TroubleLine.{TroubleLine}
 use Rattle.xbar_report.proofs.Lines.{lines_of_lines}
 
 -- lists

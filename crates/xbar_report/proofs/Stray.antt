@@ -1,19 +1,18 @@
-use Rattle.std.proofs.Common.{◌≡◌, ◌<◌, ◌≤◌, ◌+◌, ◌-◌, ℕ, zero, suc, List, [], ◌∷◌, ◌++◌, length, map, take, refl, sym, ap, subst, ◌∙◌, ◌⊎◌, ◌≢◌, inl, inr, arith, append_assoc, add-one}
+use Rattle.std.proofs.Common.{◌≡◌, ◌<◌, ◌≤◌, ◌+◌, ◌-◌, ℕ, List, [], ◌∷◌, ◌++◌, length, map, take, refl, sym, ap, subst, ◌∙◌, ◌⊎◌, ◌≢◌, inl, inr, arith, append_assoc}
 use Rattle.std.specs.Prelude.{Option, Some, None}
 use Rattle.std.specs.List.{AllByRecursion}
 use Rattle.std.proofs.lemmas.List.{append-nil, length-map, length-append, length-take, map-append, take_at, take-map, take_all}
 use Rattle.xbar_office.specs.declared.reply.Record.{Record as TheRecord}
-use Rattle.xbar_report.specs.Bare.{bare_line}
 use Rattle.xbar_report.specs.Draft.{AreTextsOf, IsReadAs, IsTextOf, stage_behind, tally_lines}
 use Rattle.xbar_report.specs.Line.{IsLine, line_text, lines_of_counts, lines_of_sheet, next_stage, Stage, AtRecords, AtPaths}
 use Rattle.xbar_report.specs.Reading.{lines, HaveSameLines, IsFirstStrayLine}
-use Rattle.xbar_report.specs.Sheet.{Sheet, sheet_text, IsSheet, IsSheetText}
+use Rattle.xbar_report.specs.Sheet.{Sheet, sheet_text, IsSheetText}
 use Rattle.xbar_report.specs.Split.{IsWholeLine, Lacks}
 use Rattle.xbar_report.specs.declared.counts.Counts.{Counts}
 use Rattle.xbar_report.specs.declared.draft.Tally.{Tally}
 use Rattle.xbar_report.specs.declared.draft.Tally.TheVariants.{Missing, Begun, Whole}
 use Rattle.xbar_report.specs.declared.line.Line.{Line}
-use Rattle.xbar_report.specs.declared.line.Line.TheVariants.{Record, Trouble, Paths, Closed}
+use Rattle.xbar_report.specs.declared.line.Line.TheVariants.{Record, Trouble, Closed}
 use Rattle.xbar_report.specs.declared.trouble_line.TroubleLine.{TroubleLine}
 use Rattle.xbar_report.proofs.Order.{next-bare, stage_after, stage_after-append, stage_after-take, stage_after-bare, stage_of_lines, stage_of_sheet}
 use Rattle.xbar_report.proofs.Sheets.{all_append, all_parts, all_take, lines_of_text, sheet_range, range_of_sheet, texts_range, texts_are, texts_only, texts_more, texts_count}
@@ -65,10 +64,10 @@ sheet_split rs cs tally =
     ∙ sym (append_assoc (map Record rs ++ map Trouble cs) (tally_lines tally) (missing_line tally))
 
 -- some sheet's text begins with the lines that were read
-begun : (text : List ℕ) (done more : List (List ℕ)) (rs : List TheRecord) (cs : List TroubleLine) (tally : Tally) (number : ℕ) → lines text ≡ done ++ more
+begun_text : (text : List ℕ) (done more : List (List ℕ)) (rs : List TheRecord) (cs : List TroubleLine) (tally : Tally) (number : ℕ) → lines text ≡ done ++ more
     → AreTextsOf done (lines_so_far rs cs tally) → number ≡ length (lines_so_far rs cs tally) + 1
     → (other : List ℕ) × IsSheetText other × HaveSameLines (number - 1) other text
-begun text done more rs cs tally number split read counted =
+begun_text text done more rs cs tally number split read counted =
     let ls = lines_so_far rs cs tally in
     let s = sheet_with rs cs tally in
     let in_range : AllByRecursion IsLine (lines_of_sheet s) =
@@ -152,7 +151,7 @@ pub stray_at : (text rest line behind : List ℕ) (number : ℕ) (rs : List TheR
 stray_at text rest line behind number rs cs tally so next refused =
     let split = so.split ∙ ap (λ (r : List (List ℕ)). so.done ++ r) next in
     record {
-      before = begun text so.done (line ∷ lines behind) rs cs tally number split so.read so.counted;
+      before = begun_text text so.done (line ∷ lines behind) rs cs tally number split so.read so.counted;
       here = subst (λ (n : ℕ). (other : List ℕ) → IsSheetText other → ¬ HaveSameLines n other text) (sym so.counted)
           (stray_line text line (lines behind) so.done (lines_so_far rs cs tally) (stage_behind tally cs) split so.read (stage_of_lines rs cs tally) refused);
     }
@@ -174,8 +173,8 @@ stray_unread text rest line behind number rs cs tally so split whole none =
     (λ o range same. absurd (none o range same))
 
 -- a last line that isn't whole is stray
-unended : (x : ℕ) (rest : List ℕ) → Lacks 10 (x ∷ rest) → (o : Line) → IsLine o → x ∷ rest ≡ line_text o → ⊥
-unended x rest lacks o range same =
+unended_line : (x : ℕ) (rest : List ℕ) → Lacks 10 (x ∷ rest) → (o : Line) → IsLine o → x ∷ rest ≡ line_text o → ⊥
+unended_line x rest lacks o range same =
     let w = line_text_whole o range in
     has_byte 10 w.front [] (subst (Lacks 10) (same ∙ w.line_is) lacks)
 
@@ -206,13 +205,13 @@ stray_end text [] number rs cs tally so lacks (inl some) = absurd (omega arith)
 stray_end text [] number rs cs tally so lacks (inr between) =
     let split : lines text ≡ so.done = so.split ∙ ap (λ (r : List (List ℕ)). so.done ++ r) lines_of_nothing ∙ append-nil so.done in
     record {
-      before = begun text so.done (lines []) rs cs tally number so.split so.read so.counted;
+      before = begun_text text so.done (lines []) rs cs tally number so.split so.read so.counted;
       here = subst (λ (n : ℕ). (other : List ℕ) → IsSheetText other → ¬ HaveSameLines n other text) (sym so.counted)
           (lacks_closed text so.done (lines_so_far rs cs tally) split so.read (stage_of_lines rs cs tally ∙ ap (λ (stage : Stage). Some stage) between));
     }
 stray_end text (x ∷ rest) number rs cs tally so lacks why =
     stray_at text (x ∷ rest) (x ∷ rest) [] number rs cs tally so (lines_of_rest x rest lacks ∙ ap (λ (r : List (List ℕ)). (x ∷ rest) ∷ r) (sym lines_of_nothing))
-    (λ o range same. absurd (unended x rest lacks o range same))
+    (λ o range same. absurd (unended_line x rest lacks o range same))
 
 -- a text that was read to its end is that of the lines
 pub read_all : (text rest : List ℕ) (number : ℕ) (rs : List TheRecord) (cs : List TroubleLine) (counts : Option Counts) (tally : Tally)

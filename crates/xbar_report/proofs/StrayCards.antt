@@ -1,17 +1,17 @@
-use Rattle.std.proofs.Common.{◌≡◌, ◌<◌, ◌≤◌, ◌+◌, ◌-◌, ◌⊎◌, ℕ, zero, suc, Bool, true, false, cond, List, [], ◌∷◌, ◌++◌, length, map, take, drop, inl, inr, refl, sym, ap, subst, ◌∙◌, arith, append_assoc}
+use Rattle.std.proofs.Common.{◌≡◌, ◌<◌, ◌≤◌, ◌+◌, ◌-◌, ◌⊎◌, ℕ, zero, suc, true, List, [], ◌∷◌, ◌++◌, length, map, take, drop, inl, inr, refl, sym, ap, subst, ◌∙◌, arith}
 use Rattle.std.specs.Prelude.{Option, Some, None, flat_map}
 use Rattle.std.specs.List.{AllByRecursion}
-use Rattle.std.proofs.lemmas.List.{append-nil, length-append, length-map, length-take, length-drop, map-append, take_at, drop_at, take-append-drop, take-map, take-take, take_all, take-append-le, append_cancel_left}
+use Rattle.std.proofs.lemmas.List.{length-append, length-map, length-take, length-drop, map-append, take_at, take-append-drop, take-map, take-take, take_all, take-append-le, append_cancel_left}
 use Rattle.xbar_office.specs.Legal.{HaveTurns}
 use Rattle.xbar_office.specs.declared.reply.Card.{Card}
 use Rattle.xbar_office.specs.declared.reply.Record.{Record as TheRecord}
 use Rattle.xbar_report.specs.Bare.{bare_line, bare_record}
-use Rattle.xbar_report.specs.Dealt.{belongs, own_of, own_count_of, dealt, left_of}
+use Rattle.xbar_report.specs.Dealt.{belongs, own_of, own_count_of, dealt_records, left_of}
 use Rattle.xbar_report.specs.Draft.{AreTextsOf, IsReadAs}
 use Rattle.xbar_report.specs.Line.{IsLine, line_text, lines_of_sheet, lines_of_counts}
 use Rattle.xbar_report.specs.Ranges.{IsRecord}
 use Rattle.xbar_report.specs.Reading.{lines, HaveSameLines, IsFirstStrayLine}
-use Rattle.xbar_report.specs.Sheet.{Sheet, sheet_text, IsSheet, IsReport, IsReportText}
+use Rattle.xbar_report.specs.Sheet.{Sheet, IsReport, IsReportText}
 use Rattle.xbar_report.specs.Text.{records_text, trouble_of, troubles_of}
 use Rattle.xbar_report.specs.declared.counts.Counts.{Counts}
 use Rattle.xbar_report.specs.declared.line.Line.{Line}
@@ -20,7 +20,7 @@ use Rattle.xbar_report.specs.declared.trouble_line.TroubleLine.{TroubleLine}
 use Rattle.xbar_report.proofs.Deals.{length-dealt}
 use Rattle.xbar_report.proofs.Reports.{dealt_lines, own_belongs, own_le, taken_and_left}
 use Rattle.xbar_report.proofs.Sheets.{all_take, lines_of_text, sheet_range, texts_are, texts_only}
-use Rattle.xbar_report.proofs.Uniques.{BeginsOtherwise, later_turns, otherwise, own_exact, own_step, regrouped, report_range, report_text_is, sheet_of}
+use Rattle.xbar_report.proofs.Uniques.{BeginsOtherwise, later_turns, otherwise, own_exact, own_step, regrouped_lines, report_range, report_text_is, sheet_of}
 
 -- lists
 
@@ -210,7 +210,7 @@ front_lines : (s : Sheet) (k n : ℕ) → k ≤ length s.cards → n ≡ length 
 front_lines s k n within size =
     let records = length-map s.records Record in
     let cards = length-map s.cards Trouble in
-    ap (take n) (regrouped s) ∙ take_past (map Record s.records) (map Trouble s.cards ++ lines_of_counts s.counts) k n (omega (arith, size, records))
+    ap (take n) (regrouped_lines s) ∙ take_past (map Record s.records) (map Trouble s.cards ++ lines_of_counts s.counts) k n (omega (arith, size, records))
     ∙ ap (λ (more : List Line). map Record s.records ++ more) (take-append-le k (map Trouble s.cards) (lines_of_counts s.counts) (omega (arith, within, cards)) ∙ take-map Trouble k s.cards)
 
 report_cut : (s : Sheet) (rs : List TheRecord) (counts : Option Counts) (k n : ℕ) → k < length s.cards → n ≡ length s.records + (k + 1)
@@ -239,7 +239,7 @@ report_front text s rs counts k n read report within size same =
     let fronts : take n (lines text) ≡ map line_text (take n all) = sym same ∙ ap (take n) text_is ∙ take-map line_text n all in
     let bare = texts_only (take n (lines text)) (take n ours) (take n all) (texts_take n (lines text) ours read) (all_take IsLine n all (sheet_range theirs range)) fronts in
     let cut = front_lines s (k + 1) n (omega arith) size in
-    report_cut s rs counts k n within size (take (k + 1) s.cards) refl (sym (ap (λ (ls : List Line). map bare_line (take n ls)) (regrouped theirs)) ∙ bare ∙ cut)
+    report_cut s rs counts k n within size (take (k + 1) s.cards) refl (sym (ap (λ (ls : List Line). map bare_line (take n ls)) (regrouped_lines theirs)) ∙ bare ∙ cut)
 
 here_card : (text : List ℕ) (s : Sheet) (number : ℕ) → IsReadAs text s → 0 < length (left_of s.records s.cards)
     → number ≡ length s.records + (length s.cards - length (left_of s.records s.cards)) + 1
@@ -256,9 +256,9 @@ here_card text s number read some size other (rs, counts, report, is) same =
 
 before_card : (text : List ℕ) (s : Sheet) (number : ℕ) → IsReadAs text s → 0 < length (left_of s.records s.cards)
     → number ≡ length s.records + (length s.cards - length (left_of s.records s.cards)) + 1
-    → IsReport (dealt s.records s.cards) s.counts → HaveSameLines (number - 1) (records_text (dealt s.records s.cards) s.counts) text
+    → IsReport (dealt_records s.records s.cards) s.counts → HaveSameLines (number - 1) (records_text (dealt_records s.records s.cards) s.counts) text
 before_card text s number read some size report =
-    let rs = dealt s.records s.cards in
+    let rs = dealt_records s.records s.cards in
     let theirs = sheet_of rs s.counts in
     let taken = flat_map troubles_of rs in
     let le = left_le s.records s.cards in
@@ -286,8 +286,8 @@ before_card text s number read some size report =
 -- of sheets and texts that were read, the first card that no record takes is stray
 pub stray_card : (text : List ℕ) (s : Sheet) (number : ℕ) → IsReadAs text s → HaveTurns 0 s.records → AllByRecursion IsRecord s.records
     → 0 < length (left_of s.records s.cards) → number ≡ length s.records + (length s.cards - length (left_of s.records s.cards)) + 1
-    → IsReport (dealt s.records s.cards) s.counts → IsFirstStrayLine IsReportText text number
+    → IsReport (dealt_records s.records s.cards) s.counts → IsFirstStrayLine IsReportText text number
 stray_card text s number read turns range some size report = record {
-  before = (records_text (dealt s.records s.cards) s.counts, (dealt s.records s.cards, s.counts, report, refl), before_card text s number read some size report);
+  before = (records_text (dealt_records s.records s.cards) s.counts, (dealt_records s.records s.cards, s.counts, report, refl), before_card text s number read some size report);
   here = λ other h same. here_card text s number read some size other h same;
 }

@@ -1,15 +1,15 @@
-use Rattle.std.proofs.Common.{◌≡◌, ◌<◌, ◌≤◌, ◌+◌, ◌-◌, ℕ, zero, suc, Bool, true, false, cond, List, [], ◌∷◌, ◌++◌, length, map, take, drop, refl, sym, ap, subst, ◌∙◌, arith, append_assoc}
+use Rattle.std.proofs.Common.{◌≡◌, ◌≤◌, ◌+◌, ℕ, zero, suc, Bool, true, false, cond, List, [], ◌∷◌, ◌++◌, length, map, take, drop, refl, sym, ap, ◌∙◌, arith, append_assoc}
 use Rattle.std.specs.Prelude.{◌==◌, ◌&&◌, Option, Some, None, flat_map}
 use Rattle.std.specs.List.{AllByRecursion}
-use Rattle.std.proofs.lemmas.List.{append-nil, length-append, length-map, length-take, length-drop, take_at, drop_at, take-append-drop}
+use Rattle.std.proofs.lemmas.List.{length-map, take_at, drop_at}
 use borrow.Author.Tests.{ne_eqb}
 use Rattle.xbar_office.specs.Legal.{HaveTurns}
 use Rattle.xbar_office.specs.declared.reply.Card.{Card}
 use Rattle.xbar_office.specs.declared.reply.Record.{Record as TheRecord}
 use Rattle.xbar_report.specs.Bare.{bare_line, bare_record}
-use Rattle.xbar_report.specs.Dealt.{belongs, own_of, own_count_of, with_cards, dealt, left_of}
-use Rattle.xbar_report.specs.Draft.{AreTextsOf, IsReadAs}
-use Rattle.xbar_report.specs.Line.{IsLine, line_text, lines_of_sheet, lines_of_counts}
+use Rattle.xbar_report.specs.Dealt.{belongs, own_of, own_count_of, with_cards, dealt_records, left_of}
+use Rattle.xbar_report.specs.Draft.{IsReadAs}
+use Rattle.xbar_report.specs.Line.{lines_of_sheet, lines_of_counts}
 use Rattle.xbar_report.specs.Ranges.{IsCard, IsRecord, IsTroubleLine}
 use Rattle.xbar_report.specs.Reading.{lines}
 use Rattle.xbar_report.specs.Sheet.{Sheet, sheet_text, IsSheet, IsReport}
@@ -18,7 +18,7 @@ use Rattle.xbar_report.specs.declared.counts.Counts.{Counts}
 use Rattle.xbar_report.specs.declared.line.Line.{Line}
 use Rattle.xbar_report.specs.declared.line.Line.TheVariants.{Record, Trouble, Paths, Closed}
 use Rattle.xbar_report.specs.declared.trouble_line.TroubleLine.{TroubleLine}
-use Rattle.xbar_report.proofs.Reports.{own_belongs, own_le}
+use Rattle.xbar_report.proofs.Reports.{own_belongs}
 use Rattle.xbar_report.proofs.Sheets.{all_append, lines_of_text, sheet_range, texts_only}
 
 -- the records among lines, the cards, the counts
@@ -104,8 +104,8 @@ same_counts (Some a) (Some b) e =
     let closed : a.closed ≡ b.closed = cc in
     λ i. Some (record { paths = paths i; closed = closed i })
 
-pub regrouped : (s : Sheet) → lines_of_sheet s ≡ map Record s.records ++ (map Trouble s.cards ++ lines_of_counts s.counts)
-regrouped s = append_assoc (map Record s.records) (map Trouble s.cards) (lines_of_counts s.counts)
+pub regrouped_lines : (s : Sheet) → lines_of_sheet s ≡ map Record s.records ++ (map Trouble s.cards ++ lines_of_counts s.counts)
+regrouped_lines s = append_assoc (map Record s.records) (map Trouble s.cards) (lines_of_counts s.counts)
 
 -- what sheets show the same lines
 pub record IsSameSheet (s s' : Sheet) : Type 0 where
@@ -117,7 +117,7 @@ same_sheet : (s s' : Sheet) → map bare_line (lines_of_sheet s') ≡ lines_of_s
 same_sheet s s' e =
     let theirs : List Line = map Record s'.records ++ (map Trouble s'.cards ++ lines_of_counts s'.counts) in
     let all : map bare_line theirs ≡ map Record s.records ++ (map Trouble s.cards ++ lines_of_counts s.counts) =
-    sym (ap (map bare_line) (regrouped s')) ∙ e ∙ regrouped s in
+    sym (ap (map bare_line) (regrouped_lines s')) ∙ e ∙ regrouped_lines s in
     record {
       records = sym (records_of_lines s.records s.cards s.counts) ∙ sym (ap records_in all) ∙ records_in-bare theirs ∙ ap (map bare_record) (records_of_lines s'.records s'.cards s'.counts);
       cards = sym (cards_of_lines s.records s.cards s.counts) ∙ sym (ap cards_in all) ∙ cards_in-bare theirs ∙ cards_of_lines s'.records s'.cards s'.counts;
@@ -203,8 +203,8 @@ cards_again r (card ∷ cards) = ap (λ (more : List Card). card ∷ more) (card
 
 -- records take their own cards, and none is left
 pub own_dealt : (turn : ℕ) (rs : List TheRecord) → HaveTurns turn rs → AllByRecursion IsRecord rs
-    → (dealt (map bare_record rs) (flat_map troubles_of rs) ≡ rs) × (left_of (map bare_record rs) (flat_map troubles_of rs) ≡ [])
-unfolding dealt left_of
+    → (dealt_records (map bare_record rs) (flat_map troubles_of rs) ≡ rs) × (left_of (map bare_record rs) (flat_map troubles_of rs) ≡ [])
+unfolding dealt_records left_of
 own_dealt turn [] h range = (refl, refl)
 own_dealt turn (r ∷ rs) h range =
     let own = troubles_of r in
@@ -216,5 +216,5 @@ own_dealt turn (r ∷ rs) h range =
     let gone : drop (own_count_of (bare_record r) (own ++ rest)) (own ++ rest) ≡ rest = drop_at own rest _ size in
     let first : with_cards (bare_record r) (take (own_count_of (bare_record r) (own ++ rest)) (own ++ rest)) ≡ r =
     ap (with_cards (bare_record r)) taken ∙ ap (λ (cards : List Card). record r { reply = record r.reply { cards = cards } }) (cards_again r r.reply.cards) in
-    let more = ap (dealt (map bare_record rs)) gone ∙ later.0 in
+    let more = ap (dealt_records (map bare_record rs)) gone ∙ later.0 in
     (cc, ap (left_of (map bare_record rs)) gone ∙ later.1)

@@ -1,4 +1,3 @@
-use Rattle.std.specs.Prelude.{[]}
 use Rattle.xbar_office.specs.Replies.{plain_reply}
 use Rattle.xbar_office.specs.declared.reply.Record as record_type
 use Rattle.xbar_report.specs.declared.line.Line.{Line}

@@ -1,5 +1,4 @@
-use Rattle.std.specs.Prelude.{◌==◌, ◌&&◌, ℕ, zero, suc, Bool, List, [], ◌∷◌, length, map, take, drop, if◌then◌else◌}
-use Rattle.xbar_office.specs.declared.reply.Card.{Card}
+use Rattle.std.specs.Prelude.{◌==◌, ◌&&◌, ℕ, zero, suc, Bool, List, [], ◌∷◌, map, take, drop, if◌then◌else◌}
 use Rattle.xbar_office.specs.declared.reply.Record.{Record}
 use Rattle.xbar_report.specs.declared.trouble_line.TroubleLine.{TroubleLine}
 
@@ -22,9 +21,9 @@ abbrev pub with_cards : Record → List TroubleLine → Record
 with_cards r cards = record r { reply = record r.reply { cards = map (λ t. t.card) cards } }
 
 -- records take their cards, one record after another
-unfoldable pub dealt : List Record → List TroubleLine → List Record
-dealt [] cards = []
-dealt (r ∷ records) cards = with_cards r (take (own_count_of r cards) cards) ∷ dealt records (drop (own_count_of r cards) cards)
+unfoldable pub dealt_records : List Record → List TroubleLine → List Record
+dealt_records [] cards = []
+dealt_records (r ∷ records) cards = with_cards r (take (own_count_of r cards) cards) ∷ dealt_records records (drop (own_count_of r cards) cards)
 
 -- and these cards are left
 unfoldable pub left_of : List Record → List TroubleLine → List TroubleLine

@@ -1,15 +1,15 @@
 //! Cards given to the records that they belong to.
 
 ghost use Rattle.std.specs.Prelude.{◌≡◌, ◌≤◌, length, map};
-ghost use Rattle.xbar_report.specs.Dealt.{belongs as belongs_to, dealt, left_of, own_count_of};
+ghost use Rattle.xbar_report.specs.Dealt.{belongs as belongs_to, dealt_records, left_of, own_count_of};
 
 use crate::trouble_line::TroubleLine;
 use xbar_office::{Cards, Record};
 
-/// Gives each record its cards, which stand in the order of the records, and tells how many are left:
-/// those from the first on that no record takes.
+/// Gives each record its cards, which stand in the order of the records, and tells how many are
+/// left: those from the first on that no record takes.
 pub fn deal(records: &mut [Record], cards: &[TroubleLine]) -> usize
-    ensures records { records.new ≡ dealt records.old cards.now }
+    ensures records { records.new ≡ dealt_records records.old cards.now }
     ensures left { result ≡ length (left_of records.old cards.now) }
 {
     let mut rest = cards;

@@ -38,7 +38,8 @@ impl Draft {
         }
     }
 
-    /// Adds a line, and says whether it may come behind those that are there. If not, nothing is added.
+    /// Adds a line, and says whether it may come behind those that are there. If not, nothing is
+    /// added.
     pub fn add(&mut self, line: Line) -> Result<bool, AllocError>
         ensures { IfOk result (λ added. MatchBool added
             (draft_lines self.new ≡ draft_lines self.old ++ line ∷ [])

@@ -1,5 +1,5 @@
-//! The fields of lines, read. What the fields leave open here, as signs and leading zeros of numbers and
-//! what stands in a field that has to have nothing, shows once the line is written again.
+//! The fields of lines, read. What is left open here, as signs and leading zeros of numbers and what
+//! stands in a field that has to have nothing, shows once the line is written again.
 
 ghost use Rattle.std.specs.Prelude.{◌≡◌, ◌<◌, ◌^◌, ◌++◌, List, ℕ, Option, Some, IfSome, codes, decimal, find};
 ghost use Rattle.std.specs.Str.{bytes_eq};

@@ -25,7 +25,8 @@ pub struct Report {
     pub counts: Option<Counts>,
 }
 
-/// Reads the lines of a text, each by itself, whatever turns the records have and whose the cards are.
+/// Reads the lines of a text, each by itself, whatever turns the records have and whose the cards
+/// are.
 fn read_lines(alloc: Global, text: &[u8]) -> Result<(Draft, Option<Counts>), ReadFault>
     ensures lines { IfOk result (λ found. IsReadAs text.now (record {
       records = found.0.records.items;

@@ -19,8 +19,8 @@ fn fault_of(alloc: Global, text: &str) -> Option<ReadFault> {
     read(alloc, text.as_bytes()).err()
 }
 
-/// The right text with each old part, which stands in it once, replaced by the new one, and the line that
-/// is told.
+/// Each an old part, which stands in the right text once, the new one in its place, and the line
+/// that is told.
 const SPOILED: [(&str, &str, usize); 42] = [
     ("0,1,0,D,3041", "x,1,0,D,3041", 1),
     ("0,1,0,D,3041", "00,1,0,D,3041", 1),

@@ -1,7 +1,7 @@
-use Rattle.std.proofs.Common.{◌≡◌, ◌∙◌, ◌++◌, List, length, drop, sym, ap, arith}
+use Rattle.std.proofs.Common.{◌∙◌, ◌++◌, List, length, drop, sym, ap, arith}
 use Rattle.std.proofs.lemmas.List.{append-nil, drop_all, take_all}
 use Rattle.xbar_office.specs.declared.reply.Record.{Record}
-use Rattle.xbar_report.specs.Dealt.{dealt, left_of}
+use Rattle.xbar_report.specs.Dealt.{dealt_records, left_of}
 use Rattle.xbar_report.proofs.Deals.{deal_step, dealt_none, left_all}
 use Rattle.xbar_report.proofs.deal.deal.Goals as goal
 
@@ -20,8 +20,8 @@ returns-clause-records c =
     let all = c.loop-record-test.false in
     let rs = c.args.records.now in
     let i = c.loop-record.record-index in
-    c.loop-record.invariant.0 ∙ ap (λ (front : List Record). dealt front c.args.cards.now ++ drop i rs) (take_all i rs all)
-    ∙ ap (λ (back : List Record). dealt rs c.args.cards.now ++ back) (drop_all i rs all) ∙ append-nil (dealt rs c.args.cards.now)
+    c.loop-record.invariant.0 ∙ ap (λ (front : List Record). dealt_records front c.args.cards.now ++ drop i rs) (take_all i rs all)
+    ∙ ap (λ (back : List Record). dealt_records rs c.args.cards.now ++ back) (drop_all i rs all) ∙ append-nil (dealt_records rs c.args.cards.now)
 
 pub returns-clause-left : goal.returns-clause-left
 returns-clause-left c =

@@ -1,5 +1,4 @@
-use Rattle.std.proofs.Common.{◌≡◌, ◌<◌, ◌^◌, ◌∷◌, ◌++◌, ◌∙◌, [], ℕ, List, sym, arith}
-use Rattle.std.specs.Prelude.{codes, decimal}
+use Rattle.std.proofs.Common.{◌∷◌, ◌++◌, ◌∙◌, [], arith}
 use Rattle.xbar_report.specs.Parts.{end_name, end_trial, end_first, end_second}
 use Rattle.xbar_report.proofs.LineFields.{name_has_no_comma, trial_has_no_comma, first_lacks, second_lacks, end_cut}
 use Rattle.xbar_report.proofs.fields.end_of.Goals as goal

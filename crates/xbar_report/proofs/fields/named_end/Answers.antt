@@ -1,9 +1,9 @@
 use Rattle.std.proofs.Common.{◌≡◌, ◌∙◌, refl}
-use Rattle.std.specs.Prelude.{Option, Some, None, IfSome}
+use Rattle.std.specs.Prelude.{Option, None, IfSome}
 use Rattle.xbar_equip.specs.Path.{IsPath}
 use Rattle.xbar_equip.specs.declared.path.Path.{Path}
 use Rattle.xbar_office.specs.declared.reply.End.{End}
-use Rattle.xbar_office.specs.declared.reply.End.TheVariants.{DialTone, Connected, Released}
+use Rattle.xbar_office.specs.declared.reply.End.TheVariants.{Connected, Released}
 use Rattle.xbar_report.specs.Parts.{end_second}
 use Rattle.xbar_report.specs.Ranges.{IsEnd}
 use Rattle.xbar_report.specs.Text.{path_field}

@@ -1,5 +1,5 @@
-use Rattle.std.proofs.Common.{◌≡◌, ◌<◌, ◌^◌, ◌∷◌, ◌++◌, ◌∙◌, [], ℕ, List, sym, arith}
-use Rattle.std.specs.Prelude.{codes, decimal}
+use Rattle.std.proofs.Common.{◌∷◌, ◌++◌, ◌∙◌, [], arith}
+use Rattle.std.specs.Prelude.{decimal}
 use Rattle.xbar_report.specs.Parts.{job_kind, job_line, job_dialled}
 use Rattle.xbar_report.specs.Text.{line_with, job_fields, end_fields}
 use Rattle.xbar_report.proofs.LineFields.{decimal_has_no_comma, kind_has_no_comma, job_line_lacks, job_dialled_lacks, line_cut, job_cut}

@@ -1,4 +1,4 @@
-use Rattle.std.proofs.Common.{◌≡◌, ◌<◌, ◌^◌, ◌∷◌, ◌++◌, ◌∙◌, [], ℕ, List, refl, sym, arith}
+use Rattle.std.proofs.Common.{◌≡◌, ◌∷◌, ◌∙◌, [], ℕ, refl, arith}
 use Rattle.std.specs.Prelude.{Option, Some, None, codes, decimal}
 use Rattle.xbar_office.specs.declared.reply.Card.{Card}
 use Rattle.xbar_report.specs.declared.trouble_line.TroubleLine.{TroubleLine}

@@ -1,12 +1,11 @@
-use Rattle.std.proofs.Common.{◌≡◌, ◌≤◌, ◌∙◌, ◌++◌, ℕ, ◌+◌, ◌-◌, List, length, take, drop, inr, sym, ap, subst, arith}
+use Rattle.std.proofs.Common.{◌≡◌, ◌∙◌, ◌++◌, ℕ, ◌+◌, ◌-◌, List, length, take, drop, inr, sym, ap, subst, arith}
 use Rattle.std.specs.Prelude.{Option}
 use Rattle.std.proofs.lemmas.List.{take_at}
 use Rattle.std.proofs.lemmas.Result.{err_from_is_err_and}
 use Rattle.xbar_office.specs.Legal.{HaveTurns}
 use Rattle.xbar_office.specs.declared.reply.Record.{Record}
-use Rattle.xbar_report.specs.Dealt.{dealt, left_of}
-use Rattle.xbar_report.specs.Sheet.{Sheet, IsReport}
-use Rattle.xbar_report.specs.Text.{records_text}
+use Rattle.xbar_report.specs.Dealt.{dealt_records, left_of}
+use Rattle.xbar_report.specs.Sheet.{Sheet}
 use Rattle.xbar_report.specs.declared.counts.Counts.{Counts}
 use Rattle.xbar_report.specs.declared.trouble_line.TroubleLine.{TroubleLine}
 use Rattle.xbar_report.proofs.ReadBack.{read_sheet, dealt_report, dealt_text, report_read, no_wrong_turn, no_line_fault}
@@ -83,10 +82,10 @@ returns-then-left-gt0-clause-fault c =
     )
 
 -- the records with their cards, as they stand in the vector
-vector_is : (n : ℕ) (now old old' rest : List Record) (cards cards' : List TroubleLine) → now ≡ dealt old' cards' → old' ≡ old → cards' ≡ cards → length now ≡ n
-    → take n (now ++ rest) ≡ dealt old cards
+vector_is : (n : ℕ) (now old old' rest : List Record) (cards cards' : List TroubleLine) → now ≡ dealt_records old' cards' → old' ≡ old → cards' ≡ cards → length now ≡ n
+    → take n (now ++ rest) ≡ dealt_records old cards
 vector_is n now old old' rest cards cards' e e1 e2 size =
-    take_at now rest n size ∙ e ∙ ap (λ (rs : List Record). dealt rs cards') e1 ∙ ap (dealt old) e2
+    take_at now rest n size ∙ e ∙ ap (λ (rs : List Record). dealt_records rs cards') e1 ∙ ap (dealt_records old) e2
 
 pub returns-clause-only : goal.returns-clause-only
 returns-clause-only c =
