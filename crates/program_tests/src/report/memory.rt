@@ -1,5 +1,6 @@
 //! Where memory is refused. This test passes whichever allocation is refused.
 
+use xbar_report::{ReadFault, read};
 
 /// A text of two records, with three cards and counts.
 const RIGHT: &str = "0,1,0,D,3041,-,TROUBLE,-,-,-\n\
