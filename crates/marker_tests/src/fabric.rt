@@ -9,7 +9,9 @@ use std::marker::Model;
 use std::process::Abort;
 use std::test::Fail;
 use xbar_equip::{Conn, WORD_COUNT};
-use xbar_fabric::{AssignFault, Desk, Fabric, Given, Kind, OpenFault, Progress, meet, shut, shut_all};
+use xbar_fabric::{
+    AssignFault, Desk, Fabric, Given, Kind, OpenFault, Progress, meet, shut, shut_all,
+};
 use xbar_match::{count_closed, count_paths};
 use xbar_plan::Plan;
 
