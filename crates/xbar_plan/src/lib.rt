@@ -17,6 +17,7 @@ pub mod laws;
 mod memory_tests;
 mod plan;
 mod read;
+pub mod reading;
 #[cfg(test)]
 mod reading_tests;
 mod route;
