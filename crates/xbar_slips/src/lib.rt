@@ -1,6 +1,6 @@
-//! What is wrong with a plan, with traffic or with the kinds of markers that were refused, and where: a
-//! sentence for whoever wrote it. The place is looked for only after the refusal, with the readers that
-//! refused.
+//! What is wrong with a plan, with traffic or with the kinds of markers that were refused, and
+//! where: a sentence for whoever wrote it. The place is looked for only after the refusal, with the
+//! readers that refused.
 #![tactic(auto)]
 
 pub use kinds::{KindsSlip, KindsWrong, kinds_slip};

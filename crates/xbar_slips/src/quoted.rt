@@ -3,9 +3,9 @@ use std::fmt;
 /// How many characters of a text are shown.
 const MOST_CHARACTERS: usize = 40;
 
-/// A text as it stood in an input, between double quotes. What is no printable character is escaped, as
-/// `\n`, `\x1b` or `\u{200b}`, and so are bytes that are no text, as `\xff`. Of a text of more than 40
-/// characters the first 40 are shown, with two dots behind the quotes.
+/// A text as it stood in an input, between double quotes. What is no printable character is
+/// escaped, as `\n`, `\x1b` or `\u{200b}`, and so are bytes that are no text, as `\xff`. Of a text
+/// of more than 40 characters the first 40 are shown, with two dots behind the quotes.
 #[derive(Clone, Copy)]
 pub struct Quoted<'t>(pub &'t [u8]);
 

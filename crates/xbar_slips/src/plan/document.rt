@@ -39,7 +39,8 @@ pub fn not_toml(alloc: Global, text: &[u8]) -> Result<Option<PlanWrong>, AllocEr
     }))
 }
 
-/// The line and the column, both from 1, of the place after these bytes. A column counts characters.
+/// The line and the column, both from 1, of the place after these bytes. A column counts
+/// characters.
 fn line_and_column(before: &[u8]) -> (usize, usize) {
     let mut line = 1usize;
     let mut column = 1usize;

@@ -25,8 +25,8 @@ use toml::Table;
 pub use wanted::{Found, PlanWanted};
 use xbar_plan::PlanFault;
 
-/// What is wrong with a plan's text that was refused for this fault. Nothing is found for a fault that the
-/// text doesn't have, nor for want of memory.
+/// What is wrong with a plan's text that was refused for this fault. Nothing is found for a fault
+/// that the text doesn't have, nor for want of memory.
 pub fn plan_slip(
     alloc: Global,
     text: &[u8],

@@ -93,7 +93,7 @@ impl fmt::Display for PlanReason {
             }
             PlanReason::Apart { first, second } => write!(
                 f,
-                "{first} and {second} are on two trunk link frames; a pair with one first digit is wanted"
+                "{first} and {second} are on two trunk link frames; one frame is wanted"
             ),
             PlanReason::UnknownGroup(name) => write!(f, "no group has the name {}", Bare(name)),
             PlanReason::RouteToRegisters(name) => write!(

@@ -189,7 +189,7 @@ fn sentences_about_groups(rt: HostRuntime) -> Result<(), Fail> {
         ),
         (
             "groups = ['REG register 417 418', 'INTRA intra 600-601 700-611']",
-            "groups, item 2: 700 and 611 are on two trunk link frames; a pair with one first digit is wanted (P10)",
+            "groups, item 2: 700 and 611 are on two trunk link frames; one frame is wanted (P10)",
         ),
     ];
     each_is_told(&rt, rt.alloc(), GROUPS, &table)

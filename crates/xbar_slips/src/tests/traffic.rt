@@ -180,6 +180,7 @@ fn no_slip_is_told_without_its_row_or_fault(rt: HostRuntime) -> Result<(), Fail>
         (1, RowFault::UnknownKind),
         (2, RowFault::Malformed),
         (2, RowFault::NumberTwice),
+        (2, RowFault::OtherMode),
         (3, RowFault::OtherMode),
         (u64::MAX, RowFault::Marker(MarkerFault::NotIdle)),
     ];

@@ -64,7 +64,7 @@ fn write_number_wanted<W: fmt::Write>(f: &mut fmt::Formatter<W>, most: u32) -> f
     )
 }
 
-/// Which field of a row, counted from 0, has the number that may stand once only: a job's or a call's.
+/// Which field of a row, counted from 0, has the number of a job or a call, which may stand once.
 pub fn number_index(letter: &[u8]) -> Option<usize> {
     match letter {
         b"J" => Some(2),
@@ -79,6 +79,14 @@ pub fn unknown_kind(mode: Mode, record: &ByteRecord) -> Option<(usize, FieldForm
         b"J" => first_misfit(record, &[(3, FieldForm::JobKind)]),
         b"S" | b"C" => None,
         _ => Some((0, FieldForm::RowLetter(mode))),
+    }
+}
+
+/// Whether the letter of a row is that of the other mode.
+pub fn is_of_other_mode(mode: Mode, letter: &[u8]) -> bool {
+    match mode {
+        Mode::Replay => letter == b"C".as_slice(),
+        Mode::Live => letter == b"J".as_slice() || letter == b"S".as_slice(),
     }
 }
 

@@ -13,17 +13,17 @@ pub use slip::{FieldPlace, TrafficReason, TrafficSlip};
 use std::alloc::{AllocError, Global};
 use xbar_traffic::{MarkerFault, Mode, RowFault, TrafficFault};
 
-/// The place of the field that has the letter of a row, and of those of a J row that have its marker and
-/// the kind of its job. All are counted from 0.
+/// The place of the field that has the letter of a row, and of those of a J row that have its marker
+/// and the kind of its job. All are counted from 0.
 const LETTER: usize = 0;
 
 const MARKER: usize = 1;
 
 const JOB_KIND: usize = 3;
 
-/// What is wrong with traffic of this mode that was refused for this fault. Nothing is found for a fault
-/// that the row doesn't have by itself or by the rows before it, but for what markers refuse: that the row
-/// has their fault isn't looked at.
+/// What is wrong with traffic of this mode that was refused for this fault. Nothing is found where
+/// there is no such row, nor where it hasn't the fault; but what a marker refuses (T5) is taken at
+/// its word.
 pub fn traffic_slip(
     alloc: Global,
     mode: Mode,
@@ -54,7 +54,8 @@ pub fn traffic_slip(
     }))
 }
 
-/// The field, counted from 0, in which a record has this fault, and why; no field if it is wrong as a whole.
+/// The field, counted from 0, in which a record has this fault, and why; no field if it is wrong as
+/// a whole.
 fn wrong_with_record(
     mode: Mode,
     bytes: &[u8],
@@ -68,7 +69,10 @@ fn wrong_with_record(
             let (index, form) = field::unknown_kind(mode, record)?;
             Some((Some(index), TrafficReason::Wanted(form)))
         }
-        RowFault::OtherMode => Some((Some(LETTER), TrafficReason::OtherMode(mode))),
+        RowFault::OtherMode if field::is_of_other_mode(mode, record.get(LETTER)?) => {
+            Some((Some(LETTER), TrafficReason::OtherMode(mode)))
+        }
+        RowFault::OtherMode => None,
         RowFault::Malformed => {
             let (index, form) = field::malformed_field(record)?;
             Some((Some(index), TrafficReason::Wanted(form)))

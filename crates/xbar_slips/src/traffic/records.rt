@@ -23,7 +23,7 @@ pub fn records_up_to(
         }
         match record {
             Ok(record) => records.push(record)?,
-            // A reader of bytes in memory, for records of any length, fails for want of memory alone.
+            // A reader of bytes in memory fails for want of memory alone.
             Err(_) => return Err(AllocError),
         }
     }
@@ -38,8 +38,8 @@ pub fn line_of(bytes: &[u8], record: &ByteRecord) -> u64 {
     } else {
         0
     };
-    // What was read before ends with the record before; empty lines, and the second byte of its line
-    // end, may follow.
+    // What was read before ends with the record before. The second byte of its line end may follow,
+    // and empty lines.
     let start = read.max(mark);
     let rest = bytes.get(start..).unwrap_or(&[]);
     let empty = rest.iter().take_while(|byte| is_line_end(**byte)).count();
