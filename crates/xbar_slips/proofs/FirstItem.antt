@@ -9,7 +9,7 @@ use Rattle.xbar_plan.specs.Tables.{first_with}
 use Rattle.xbar_plan.specs.Document.{version_of}
 use Rattle.xbar_plan.specs.declared.read.version.Version.{Version}
 use Rattle.xbar_slips.specs.declared.plan.list.PlanList.{PlanList}
-use Rattle.xbar_slips.specs.Malformed.{Item, has_form, malformed_in, texts_at, malformed_among, malformed_of_document, plan_lists, or_else, Tells}
+use Rattle.xbar_slips.specs.Lists.{Item, has_form, malformed_in, texts_at, malformed_among, malformed_of_document, plan_lists, or_else, TellsItem}
 use Rattle.xbar_slips.specs.declared.plan.slip.PlanWrong.{PlanWrong}
 
 -- an item of a list of references, as the text that it points to
@@ -69,24 +69,24 @@ module _ (version : Version) (document : Members) (lists : List PlanList) (i : �
       here_first ∙ ap (λ (o : Option (List (List ℕ))). option_and_then (λ texts. or_else (malformed_in version (get_or lists i d) texts) (malformed_among version document (drop (i + 1) lists))) o) there
 
 -- what is told of the first of two items
-pub told_first : (wrong : PlanWrong) (first second : Option Item) → Tells (Some wrong) first → Tells (Some wrong) (or_else first second)
+pub told_first : (wrong : PlanWrong) (first second : Option Item) → TellsItem (Some wrong) first → TellsItem (Some wrong) (or_else first second)
 told_first wrong None second told = cc
 told_first wrong (Some item) second told = told
 
 -- nothing is told where there is none
-pub untold : (item : Option Item) → Tells None item → item ≡ None
+pub untold : (item : Option Item) → TellsItem None item → item ≡ None
 untold None told = refl
 untold (Some item) told = cc
 
 module _ (version : Version) (document : Members) (i : ℕ) (d : PlanList) (within : i < length plan_lists) (texts : List (List ℕ)) (there : Some texts ≡ texts_at document (get_or plan_lists i d)) where
   -- an item that is told of the list at a place, where none before has one
-  pub told_of_document : (wrong : PlanWrong) → Some version ≡ version_of document → malformed_among version document (drop i plan_lists) ≡ malformed_among version document plan_lists → Tells (Some wrong) (malformed_in version (get_or plan_lists i d) texts) → Tells (Some wrong) (malformed_of_document document)
+  pub told_of_document : (wrong : PlanWrong) → Some version ≡ version_of document → malformed_among version document (drop i plan_lists) ≡ malformed_among version document plan_lists → TellsItem (Some wrong) (malformed_in version (get_or plan_lists i d) texts) → TellsItem (Some wrong) (malformed_of_document document)
   told_of_document wrong known before told =
       let is = ap (λ (o : Option Version). option_and_then (λ version. malformed_among version document plan_lists) o) (sym known) ∙ sym before ∙ among_some version document plan_lists i d within texts (sym there) in
-      subst (λ (item : Option Item). Tells (Some wrong) item) (sym is) (told_first wrong (malformed_in version (get_or plan_lists i d) texts) (malformed_among version document (drop (i + 1) plan_lists)) told)
+      subst (λ (item : Option Item). TellsItem (Some wrong) item) (sym is) (told_first wrong (malformed_in version (get_or plan_lists i d) texts) (malformed_among version document (drop (i + 1) plan_lists)) told)
 
   -- and where that list has none either
-  pub none_so_far : malformed_among version document (drop i plan_lists) ≡ malformed_among version document plan_lists → Tells None (malformed_in version (get_or plan_lists i d) texts) → malformed_among version document (drop (i + 1) plan_lists) ≡ malformed_among version document plan_lists
+  pub none_so_far : malformed_among version document (drop i plan_lists) ≡ malformed_among version document plan_lists → TellsItem None (malformed_in version (get_or plan_lists i d) texts) → malformed_among version document (drop (i + 1) plan_lists) ≡ malformed_among version document plan_lists
   none_so_far before told =
       sym (ap (λ (o : Option Item). or_else o (malformed_among version document (drop (i + 1) plan_lists))) (untold (malformed_in version (get_or plan_lists i d) texts) told))
       ∙ sym (among_some version document plan_lists i d within texts (sym there)) ∙ before

@@ -1,2 +1,2 @@
 pub mod Kinds
-pub mod Malformed
+pub mod Lists

@@ -1,10 +1,12 @@
 //! What is wrong with a plan's text as a document: bytes that are none, and values of a wrong kind.
 
-ghost use Rattle.std.specs.Prelude.{◌≡◌, IfOk, option_map};
+ghost use Rattle.std.specs.Prelude.{◌≡◌, IfOk, find, option_copied, option_map};
 ghost use Rattle.toml.specs.View.{table_view};
 ghost use Rattle.xbar_plan.specs.Document.{document_of as document_of_bytes};
+ghost use Rattle.xbar_slips.specs.Lists.{TellsList, is_missing as is_missing_list, missing_list as missing_list_of};
 
 use super::list::PlanList;
+use super::lists::value_at;
 use super::reason::PlanReason;
 use super::slip::{PlanPlace, PlanWrong};
 use super::wanted::{Found, PlanWanted};
@@ -75,10 +77,10 @@ pub fn wrong_version(document: &Table) -> Option<PlanWrong> {
 }
 
 /// The first list that isn't there.
-pub fn missing_list(document: &Table) -> Option<PlanWrong> {
-    let list = PlanList::ALL
-        .into_iter()
-        .find(|list| document.get(list.key()).is_none())?;
+pub fn missing_list(document: &Table) -> Option<PlanWrong>
+    ensures { TellsList result (missing_list_of (table_view document.now)) }
+{
+    let list = *first_missing(document, &PlanList::ALL)?;
     Some(PlanWrong {
         place: PlanPlace::List(list),
         reason: PlanReason::Instead {
@@ -86,6 +88,18 @@ pub fn missing_list(document: &Table) -> Option<PlanWrong> {
             wanted: PlanWanted::ArrayOfTexts,
         },
     })
+}
+
+fn first_missing<'l>(document: &Table, lists: &'l [PlanList]) -> Option<&'l PlanList>
+    ensures { option_copied result ≡ find (is_missing_list (table_view document.now)) lists.now }
+{
+    lists.iter().find(|list| is_missing(document, **list))
+}
+
+fn is_missing(document: &Table, list: PlanList) -> bool
+    ensures { result ≡ is_missing_list (table_view document.now) list }
+{
+    value_at(document, list.key()).is_none()
 }
 
 /// The first value that is no array of texts, or its first item that is no text.

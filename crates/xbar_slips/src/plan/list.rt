@@ -12,7 +12,7 @@ pub enum PlanList {
 }
 
 impl PlanList {
-    ghost use Rattle.xbar_slips.specs.Malformed.{key_of};
+    ghost use Rattle.xbar_slips.specs.Lists.{key_of};
 
     pub const ALL: [PlanList; 4] = [
         PlanList::Groups,

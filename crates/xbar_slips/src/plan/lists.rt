@@ -1,7 +1,7 @@
 ghost use Rattle.std.specs.Prelude.{◌≡◌, IfOk, map, option_map};
 ghost use Rattle.toml.specs.Data.{get_member};
 ghost use Rattle.toml.specs.View.{view, table_view};
-ghost use Rattle.xbar_slips.specs.Malformed.{texts_at};
+ghost use Rattle.xbar_slips.specs.Lists.{texts_at};
 
 use super::list::PlanList;
 use std::alloc::{AllocError, Global};
@@ -63,7 +63,8 @@ impl<'d> Lists<'d> {
     }
 }
 
-fn value_at<'d>(document: &'d Table, key: &str) -> Option<&'d Value>
+/// The value at a key.
+pub fn value_at<'d>(document: &'d Table, key: &str) -> Option<&'d Value>
     ensures { option_map (λ value. view value.now) result ≡
         get_member key.now (table_view document.now) }
 {

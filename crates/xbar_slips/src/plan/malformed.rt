@@ -2,7 +2,7 @@
 
 ghost use Rattle.std.specs.Prelude.{◌≡◌, IfOk, Some, map, not};
 ghost use Rattle.toml.specs.View.{table_view};
-ghost use Rattle.xbar_slips.specs.Malformed.{Tells, has_form, item_of, malformed_in, malformed_of_document};
+ghost use Rattle.xbar_slips.specs.Lists.{TellsItem, has_form, item_of, malformed_in, malformed_of_document};
 
 use super::list::PlanList;
 use super::lists::texts_in;
@@ -17,7 +17,7 @@ use xbar_plan::{GroupKind, PlanFault};
 
 /// The first item of the first list that has one which hasn't its form.
 pub fn malformed_item(alloc: Global, document: &Table) -> Result<Option<PlanWrong>, AllocError>
-    ensures { IfOk result (λ wrong. Tells wrong (malformed_of_document
+    ensures { IfOk result (λ wrong. TellsItem wrong (malformed_of_document
         (table_view document.now))) }
 {
     let Some(version) = reading::version_of(document) else {
@@ -41,7 +41,7 @@ fn malformed_item_in(
     list: PlanList,
     texts: &[&[u8]],
 ) -> Result<Option<PlanWrong>, AllocError>
-    ensures { IfOk result (λ wrong. Tells wrong (malformed_in version list
+    ensures { IfOk result (λ wrong. TellsItem wrong (malformed_in version list
         (map (λ text. text.now) texts.now))) }
 {
     for (index, text) in texts.iter().enumerate() {

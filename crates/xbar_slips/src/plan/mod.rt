@@ -14,7 +14,7 @@ mod wanted;
 
 ghost use Rattle.std.specs.Prelude.{◌≡◌, IfOk, IfSome, option_map};
 ghost use Rattle.toml.specs.View.{table_view};
-ghost use Rattle.xbar_slips.specs.Malformed.{Tells, malformed_item as malformed_item_of, malformed_of_document};
+ghost use Rattle.xbar_slips.specs.Lists.{TellsItem, TellsList, missing_in, missing_list as missing_list_of, malformed_item as malformed_item_of, malformed_of_document};
 
 pub use list::PlanList;
 use lists::Lists;
@@ -33,8 +33,10 @@ pub fn plan_slip(
     fault: PlanFault,
 ) -> Result<Option<PlanSlip>, AllocError>
     ensures fault { IfOk result (λ slip. IfSome slip (λ slip. slip.fault ≡ fault)) }
+    ensures missing { fault ≡ PlanFault.KeyMissing → IfOk result (λ slip.
+        TellsList (option_map (λ slip. slip.wrong) slip) (missing_in text.now)) }
     ensures malformed { fault ≡ PlanFault.Malformed → IfOk result (λ slip.
-        Tells (option_map (λ slip. slip.wrong) slip) (malformed_item_of text.now)) }
+        TellsItem (option_map (λ slip. slip.wrong) slip) (malformed_item_of text.now)) }
 {
     let wrong = match fault {
         PlanFault::Memory => None,
@@ -52,8 +54,10 @@ fn wrong_with_document(
     document: &Table,
     fault: PlanFault,
 ) -> Result<Option<PlanWrong>, AllocError>
-    ensures { fault ≡ PlanFault.Malformed → IfOk result (λ wrong.
-        Tells wrong (malformed_of_document (table_view document.now))) }
+    ensures missing { fault ≡ PlanFault.KeyMissing → IfOk result (λ wrong.
+        TellsList wrong (missing_list_of (table_view document.now))) }
+    ensures malformed { fault ≡ PlanFault.Malformed → IfOk result (λ wrong.
+        TellsItem wrong (malformed_of_document (table_view document.now))) }
 {
     match fault {
         PlanFault::Version => Ok(document::wrong_version(document)),

@@ -1,6 +1,6 @@
 use Rattle.std.proofs.Common.{◌≡◌, drop}
 use Rattle.toml.specs.View.{table_view}
-use Rattle.xbar_slips.specs.Malformed.{plan_lists, malformed_among}
+use Rattle.xbar_slips.specs.Lists.{plan_lists, malformed_among}
 use Rattle.xbar_slips.proofs.plan.malformed.malformed_item.Given as goal
 
 -- the lists so far have no such item

@@ -1,7 +1,7 @@
 use Rattle.std.proofs.Common.{arith, ◌∙◌, ◌+◌, ◌<◌, sym, ap, length, map, get_or, [], Bor, ℕ, List}
 use Rattle.std.proofs.lemmas.List.{length-map}
 use Rattle.std.specs.Prelude.{Option, Some, option_map}
-use Rattle.xbar_slips.specs.Malformed.{Item, has_form}
+use Rattle.xbar_slips.specs.Lists.{Item, has_form}
 use Rattle.xbar_slips.proofs.FirstItem.{item_text, malformed_at, malformed_none, not_true, not_false, below_more}
 use Rattle.xbar_slips.proofs.plan.malformed.malformed_item_in.Goals as goal
 

@@ -1,6 +1,6 @@
 use Rattle.std.proofs.Common.{◌≡◌, ℕ, ◌<◌, map, []}
 use Rattle.std.specs.Prelude.{slice_index_or, true}
-use Rattle.xbar_slips.specs.Malformed.{has_form}
+use Rattle.xbar_slips.specs.Lists.{has_form}
 use Rattle.xbar_slips.proofs.plan.malformed.malformed_item_in.Given as goal
 
 -- those so far have their form

@@ -1,4 +1,4 @@
-use Rattle.std.specs.Prelude.{◌≡◌, ℕ, ◌+◌, not, Bool, Option, Some, None, option_map, option_and_then, is_some, List, [], ◌∷◌, codes}
+use Rattle.std.specs.Prelude.{◌≡◌, ℕ, ◌+◌, not, Bool, Option, Some, None, option_map, option_and_then, is_some, is_none, find, List, [], ◌∷◌, codes}
 use Rattle.toml.specs.Data.{Members, get_member}
 use Rattle.xbar_plan.specs.Tables.{first_with}
 use Rattle.xbar_plan.specs.Texts.{group_of, station_of, code_entry_of, fault_of}
@@ -7,7 +7,7 @@ use Rattle.xbar_plan.specs.declared.read.version.Version.{Version}
 use Rattle.xbar_slips.specs.declared.plan.list.PlanList.{PlanList}
 use Rattle.xbar_slips.specs.declared.plan.list.PlanList.TheVariants.{Groups, Numbers, Codes, Faults}
 use Rattle.xbar_slips.specs.declared.plan.slip.PlanPlace.{PlanPlace}
-use Rattle.xbar_slips.specs.declared.plan.slip.PlanPlace.TheVariants.{ItemText, Part}
+use Rattle.xbar_slips.specs.declared.plan.slip.PlanPlace.TheVariants.{ItemText, Part, List as WholeList}
 use Rattle.xbar_slips.specs.declared.plan.slip.PlanWrong.{PlanWrong}
 
 -- a plan's lists, in the order in which they are looked through, and their keys
@@ -23,6 +23,21 @@ key_of Faults = codes "faults"
 -- the texts of a list, if there is an array of texts at its key
 abbrev pub texts_at : Members → PlanList → Option (List (List ℕ))
 texts_at document list = option_and_then texts_of (get_member (key_of list) document)
+
+-- nothing stands at a list's key
+abbrev pub is_missing : Members → PlanList → Bool
+is_missing document list = is_none (get_member (key_of list) document)
+
+-- the first list that is missing
+abbrev pub missing_list : Members → Option PlanList
+missing_list document = find (is_missing document) plan_lists
+
+abbrev pub missing_in : List ℕ → Option PlanList
+missing_in bytes = option_and_then missing_list (document_of bytes)
+
+-- what is told is wrong with this list as a whole; nothing is told where there is no list
+abbrev pub TellsList : Option PlanWrong → Option PlanList → Type 0
+TellsList wrong list = option_map (λ wrong. wrong.place) wrong ≡ option_map WholeList list
 
 -- whether a text has the form that its list asks for
 abbrev pub has_form : Version → PlanList → List ℕ → Bool
@@ -68,5 +83,5 @@ item_of (Part item number text) = Some (record { list = item.list; number = item
 item_of _ = None
 
 -- what is told is wrong with this item; nothing is told where there is no item
-abbrev pub Tells : Option PlanWrong → Option Item → Type 0
-Tells wrong item = option_map (λ wrong. item_of wrong.place) wrong ≡ option_map (λ item. Some item) item
+abbrev pub TellsItem : Option PlanWrong → Option Item → Type 0
+TellsItem wrong item = option_map (λ wrong. item_of wrong.place) wrong ≡ option_map (λ item. Some item) item
