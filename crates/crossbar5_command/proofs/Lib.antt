@@ -1,6 +1,8 @@
 pub mod FaultKinds
-pub mod ReplayLevel
-pub mod ReadValues
+pub mod OptionRules
+pub mod OptionRows
+pub mod ValueWords
 pub mod OptionWords
-pub mod ReplayWords
+pub mod SubcommandWords
 pub mod OtherWords
+pub mod MetSubcommand

@@ -1,250 +1,354 @@
--- What clap makes of the words of the options of `replay`.
-use Rattle.std.proofs.Common.{◌≡◌, ◌∙◌, ◌⊎◌, ◌&&◌, inl, inr, ap, refl, sym, subst, Bool, true, false, List, [], ◌∷◌, Option, Some, None, codes}
-use Rattle.std.specs.List.{list_all}
-use Rattle.clap.specs.Kinds.{Kinds, or_else}
-use Rattle.clap.specs.Walk.{Held, Row, Step, Text, Walk, after_step, finished, idle, nothing_held, rows_after, walk, walk_from, walked}
-use Rattle.clap.specs.Words.{first_of}
-use Rattle.clap.specs.Takes.{default_passes, is_valid, level_passes, settle_passes, turn_passes}
-use Rattle.clap.specs.Faults.{level_fault, settle_fault, turn_fault, walk_fault}
+-- What clap makes of the words of options, one option after the other.
+use Rattle.std.proofs.Common.{◌≡◌, ◌∙◌, ◌&&◌, ap, refl, sym, subst, cond, Bool, true, false, true≢false, List, [], ◌∷◌, ◌++◌, Option, Some, None, inl, inr, append_assoc, append-nil, codes, map, nat_lt}
+use Rattle.std.specs.Prelude.{◌||◌, IfSome, flat_map, fold, is_some, not, option_map}
+use Rattle.std.specs.Option.{IsSomeAnd, option_map_or}
+use Rattle.std.specs.Str.{bytes_eq}
+use Rattle.std.proofs.lemmas.Bool.{and_from, false_from_ne_true}
+use Rattle.std.proofs.lemmas.Slice.Eq.{bytes_eq-Decides}
+use Rattle.clap.specs.Lexer.{long_of}
+use Rattle.clap.specs.Walk.{Held, Row, Rule, Step, Text, Walk, after_flag, after_step, arg_by_id, arg_by_long, has_row, idle, long_met, long_or_other, next, option, option_word, pushed, reading_by, settled, settled_rows, trailing, used, used_by_id, walk_from, walked, word_met}
+use Rattle.clap.specs.Takes.{flag_word_passes, long_passes, settle_passes, step_passes, turn_passes, use_passes, walk_passes}
+use Rattle.clap.specs.Faults.{positional_fault, settle_fault, turn_fault, use_fault, walk_fault}
 use Rattle.clap.specs.declared.builder.value_parser.Reading.TheVariants.{AsWritten}
 use Rattle.clap.specs.declared.error.kind.ErrorKind.TheVariants as kind
 use Rattle.clap.specs.declared.parser.matches.ValueSource.TheVariants.{CommandLine}
 use Rattle.clap.proofs.OnLiterals.{clap_on_literals}
-use Rattle.crossbar5_command.specs.Ask.{kinds_or_default}
-use Rattle.crossbar5_command.specs.Command.{AreOptions, AreValues, IsValue}
-use Rattle.crossbar5_command.proofs.ReplayLevel.{both, built_replay, or_else-first, or_else-second}
-use Rattle.crossbar5_command.proofs.ReadValues.{IsRead, IsRefused, before_value, replay_rules, some_refused, value_or_end, value_read, waiting_for}
+use Rattle.crossbar5_command.specs.Subcommand.{AreOptions, AreValues, Argument, Fits, GivenOption, IsValueFor, NamedOption, Subcommand, given_named, hyphen, nothing, option_named, value, words_of}
+use Rattle.crossbar5_command.proofs.OptionRows.{has_row-more, row_for, row_of_value, row_replaced}
+use Rattle.crossbar5_command.proofs.OptionRules.{IsLong, are_sound, built_rule, is_long, level, name_found, no_help, no_positional, rule_by_id, rule_by_long, rules_for, same_text}
+use Rattle.crossbar5_command.proofs.ValueWords.{IsRead, IsRefused, before_value, dashes, or_else-first, or_else-second, some_refused, value_or_end, value_read, waiting_for}
 
--- the walk behind the value of an option
-abbrev behind_value : Text → List Row → Text → Walk
-behind_value id rows value = record {
-  held = record { rows = rows; pending = Some (id, value ∷ []); skip = 0 };
-  waiting = idle;
-  position = 1;
-  is_trailing = false;
-  stopped = None;
-}
+-- no row stands yet for what is to be given
+abbrev pub AreNew : List Row → List GivenOption → Type 0
+AreNew rows [] = Unit {0}
+AreNew rows (g ∷ rest) = (has_row g.name rows ≡ false) × AreNew rows rest
 
--- the row of an option that was given
-abbrev row : Text → Text → Row
-row id value = record { id = id; values = value ∷ []; count = None; source = Some CommandLine; reading = AsWritten }
+pub all_new : (given : List GivenOption) → AreNew [] given
+all_new [] = tt
+all_new (g ∷ rest) = (refl, all_new rest)
 
--- an option takes one value, which may not be missing
-record IsOption (id : Text) : Type 0 where
-  takes_one : (rows : List Row) (value : Text) → IsRead id rows value
-      → walked replay_rules [] (before_value id rows) value ≡ behind_value id rows value
-  missing : (rows : List Row) → IsRefused (settle_fault replay_rules false (waiting_for id rows))
+other_way : (a b : Text) → bytes_eq a b ≡ false → bytes_eq b a ≡ false
+other_way a b differs = false_from_ne_true (bytes_eq b a)
+    (λ same. true≢false (sym ((bytes_eq-Decides a b).1 (sym ((bytes_eq-Decides b a).0 same))) ∙ differs))
 
-plan : IsOption (codes "plan")
-unfolding clap_on_literals
-plan = record {
-  takes_one = λ rows value read. ap (λ (met : Held × Step). after_step replay_rules value (before_value (codes "plan") rows) met.0 met.1) read;
-  missing = λ rows. some_refused kind.InvalidValue [];
-}
+-- one row more, of a name that isn't among them
+still_new : (rows : List Row) (row : Row) (given : List GivenOption) → AreNew rows given → given_named given row.id ≡ None → AreNew (rows ++ row ∷ []) given
+still_new rows row [] new apart = tt
+still_new rows row (g ∷ rest) new apart = go (bytes_eq g.name row.id) refl apart (still_new rows row rest new.1)
+  where
+    go : (same : Bool) → bytes_eq g.name row.id ≡ same → cond same (Some g) (given_named rest row.id) ≡ None
+        → (given_named rest row.id ≡ None → AreNew (rows ++ row ∷ []) rest) → AreNew (rows ++ row ∷ []) (g ∷ rest)
+    go true is apart later = absurd (true≢false (ap is_some apart))
+    go false is apart later = (has_row-more g.name rows row new.0 (other_way g.name row.id is), later apart)
 
-markers : IsOption (codes "markers")
-unfolding clap_on_literals
-markers = record {
-  takes_one = λ rows value read. ap (λ (met : Held × Step). after_step replay_rules value (before_value (codes "markers") rows) met.0 met.1) read;
-  missing = λ rows. some_refused kind.InvalidValue [];
-}
+module _ (s : Subcommand) where
+  abbrev rules : List Rule
+  rules = rules_for s.options
 
--- the name of an option behind the value of another opens it
-record Opens (first name second : Text) : Type 0 where
-  no_fault : (value : Text) → turn_fault built_replay [] (behind_value first [] value) name ≡ []
-  passes : (value : Text) → turn_passes built_replay [] (behind_value first [] value) name ≡ true
-  opens : (value : Text) → walked replay_rules [] (behind_value first [] value) name ≡ before_value second (row first value ∷ [])
+  -- between two options
+  abbrev held_with : List Row → Option (Text × List Text) → Held
+  held_with rows pending = record { rows = rows; pending = pending; skip = 0 }
 
-markers_behind_plan : Opens (codes "plan") (codes "--markers") (codes "markers")
-unfolding clap_on_literals
-markers_behind_plan = record { no_fault = λ value. refl; passes = λ value. refl; opens = λ value. refl }
+  abbrev between : List Row → Option (Text × List Text) → Walk
+  between rows pending = walk_from (held_with rows pending)
 
-plan_behind_markers : Opens (codes "markers") (codes "--plan") (codes "plan")
-unfolding clap_on_literals
-plan_behind_markers = record { no_fault = λ value. refl; passes = λ value. refl; opens = λ value. refl }
+  -- an option of the subcommand, by its name
+  record IsOption (name : Text) (argument : Argument) : Type 0 where
+    long : IsLong name
+    by_long : arg_by_long rules name ≡ Some (built_rule (record { name = name; argument = argument }))
+    by_id : arg_by_id rules name ≡ Some (built_rule (record { name = name; argument = argument }))
+    reading : option_map_or (λ o. reading_by (built_rule o)) (option_named s.options name) AsWritten
+        ≡ reading_by (built_rule (record { name = name; argument = argument }))
 
--- ---- words that clap doesn't refuse
+  is_option : (name : Text) (o : NamedOption) → are_sound s.options ≡ true → option_named s.options name ≡ Some o → IsOption name o.argument
+  is_option name o are found =
+      let named = name_found name s.options o are found in
+      let here : option_named s.options name ≡ Some (record { name = name; argument = o.argument }) =
+      found ∙ ap (λ n. Some (record { name = n; argument = o.argument })) named.0 in
+      record {
+        long = is_long name named.1;
+        by_long = rule_by_long name s.options (no_help name named.1) ∙ ap (option_map built_rule) here;
+        by_id = rule_by_id name s.options (no_help name named.1) ∙ ap (option_map built_rule) here;
+        reading = ap (λ found. option_map_or (λ o. reading_by (built_rule o)) found AsWritten) here;
+      }
 
--- the last word is the value of the option before it
-last_read : (id : Text) (option : IsOption id) (rows : List Row) (value : Text)
-    → or_else (turn_fault built_replay [] (before_value id rows) value) [] ≡ []
-    → settle_fault replay_rules false (walked replay_rules [] (before_value id rows) value).held ≡ [] → IsRead id rows value
-unfolding clap_on_literals
-last_read id option rows value none none_at_end = elim (value_or_end id rows (option.missing rows) value (or_else-first _ [] none)) [
-  | inl read ↦ read
-  | inr is ↦ absurd (option.missing rows (subst (λ v. settle_fault replay_rules false (walked replay_rules [] (before_value id rows) v).held ≡ []) is none_at_end))
-]
+  -- ---- the word of an option
+  module _ (name : Text) (argument : Argument) (is : IsOption name argument) (rows : List Row) (pending : Option (Text × List Text)) where
+    abbrev rule : Rule
+    rule = built_rule (record { name = name; argument = argument })
 
--- so is a word before another option
-first_read : (id : Text) (option : IsOption id) (rows : List Row) (value next : Text) (more : Kinds)
-    → or_else (turn_fault built_replay [] (before_value id rows) value)
-    (or_else (turn_fault built_replay [] (walked replay_rules [] (before_value id rows) value) next) more) ≡ []
-    → IsRead id rows value
-unfolding clap_on_literals
-first_read id option rows value next more none =
-    let turn = turn_fault built_replay [] (before_value id rows) value in
-    let turn_after = turn_fault built_replay [] (walked replay_rules [] (before_value id rows) value) next in
-    elim (value_or_end id rows (option.missing rows) value (or_else-first turn _ none)) [
-      | inl read ↦ read
-      | inr is ↦
-          let stray = or_else-first turn_after more (or_else-second turn _ none) in
-          absurd (some_refused kind.UnknownArgument [] (subst (λ v. turn_fault built_replay [] (walked replay_rules [] (before_value id rows) v) next ≡ []) is stray))
-    ]
+    abbrev word : Text
+    word = hyphen ∷ hyphen ∷ name
 
--- the walk over two options, behind the name of the first
-abbrev two_options : Text → Text → Text → Text → Walk
-two_options first name value next = walked replay_rules [] (walked replay_rules [] (walked replay_rules [] (before_value first []) value) name) next
+    abbrev held : Held
+    held = held_with rows pending
 
--- of two options both have their values
-two_read : (first name second : Text) → IsOption first → Opens first name second → IsOption second → (value next : Text)
-    → or_else (turn_fault built_replay [] (before_value first []) value)
-    (or_else (turn_fault built_replay [] (walked replay_rules [] (before_value first []) value) name)
-    (or_else (turn_fault built_replay [] (walked replay_rules [] (walked replay_rules [] (before_value first []) value) name) next) [])) ≡ []
-    → settle_fault replay_rules false (two_options first name value next).held ≡ []
-    → two_options first name value next ≡ behind_value second (row first value ∷ []) next
-two_read first name second one opening other value next none none_at_end =
-    let behind = one.takes_one [] value (first_read first one [] value name _ none) in
-    let opened = ap (λ (w : Walk). walked replay_rules [] w name) behind ∙ opening.opens value in
-    let rows = row first value ∷ [] in
-    let none_behind = or_else-second (turn_fault built_replay [] (walked replay_rules [] (before_value first []) value) name) _
-    (or_else-second (turn_fault built_replay [] (before_value first []) value) _ none) in
-    let last_none : or_else (turn_fault built_replay [] (before_value second rows) next) [] ≡ [] =
-    sym (ap (λ (w : Walk). or_else (turn_fault built_replay [] w next) []) opened) ∙ none_behind in
-    let last_end : settle_fault replay_rules false (walked replay_rules [] (before_value second rows) next).held ≡ [] =
-    sym (ap (λ (w : Walk). settle_fault replay_rules false (walked replay_rules [] w next).held) opened) ∙ none_at_end in
-    ap (λ (w : Walk). walked replay_rules [] w next) opened ∙ other.takes_one rows next (last_read second other rows next last_none last_end)
+    abbrev met : Held × Step
+    met = after_flag rules idle word (long_met rules (Some rule) None held).0 (long_met rules (Some rule) None held).1
 
--- the rows have the options' values
-abbrev pub HasOptions : List Row → Option Text → Option Text → Type 0
-HasOptions rows plan kinds =
-    (first_of (codes "plan") rows ≡ plan) × (kinds_or_default (first_of (codes "markers") rows) ≡ kinds_or_default kinds)
+    met_is : word_met rules [] false idle 1 word held ≡ met
+    met_is =
+        ap (λ end. cond end (held, trailing 1) (long_or_other rules idle word (long_of word) held)) is.long.goes_on
+        ∙ ap (λ long. long_or_other rules idle word long held) is.long.reads
+        ∙ ap (λ found. after_flag rules idle word (long_met rules found None held).0 (long_met rules found None held).1) is.by_long
 
-abbrev options_fault : List Text → Kinds
-options_fault words = level_fault built_replay [] nothing_held words false []
+    word_walked : walked rules [] (between rows pending) word ≡ after_step rules word (between rows pending) met.0 met.1
+    unfolding clap_on_literals
+    word_walked = ap (λ m. after_step rules word (between rows pending) m.0 m.1) met_is
 
-end_fault : (words : List Text) → options_fault words ≡ [] → settle_fault replay_rules false (walk replay_rules [] nothing_held words).held ≡ []
-unfolding clap_on_literals
-end_fault words none =
-    or_else-first (settle_fault replay_rules false (walk replay_rules [] nothing_held words).held) _
-    (or_else-second (walk_fault built_replay [] (walk_from nothing_held) words) _ none)
+    word_passes : long_passes rules false (Some rule) None held ≡ true → step_passes (level s) 1 met.0 met.1 ≡ true
+        → turn_passes (level s) [] (between rows pending) word ≡ true
+    word_passes passes step =
+        and_from _ _
+        (ap (λ end. end || flag_word_passes rules false (long_of word) word held) is.long.goes_on
+        ∙ ap (λ long. flag_word_passes rules false long word held) is.long.reads
+        ∙ ap (λ found. long_passes rules false found None held) is.by_long ∙ passes)
+        (ap (λ m. step_passes (level s) 1 m.0 m.1) met_is ∙ step)
 
-words_fault : (words : List Text) → options_fault words ≡ [] → walk_fault built_replay [] (walk_from nothing_held) words ≡ []
-unfolding clap_on_literals
-words_fault words none = or_else-first (walk_fault built_replay [] (walk_from nothing_held) words) _ none
+  -- ---- its value
 
--- words that aren't refused have these options
-abbrev AreReadAs : Option Text → Option Text → List Text → Type 0
-AreReadAs plan kinds words = options_fault words ≡ [] → HasOptions (rows_after replay_rules [] words) plan kinds
+  value_walked : (name : Text) (argument : Argument) → IsOption name argument → (v : Text) → Fits (Some v) argument → (rows : List Row)
+      → IsRead s name rows v → walked rules [] (before_value name rows) v ≡ between rows (Some (name, v ∷ []))
+  unfolding clap_on_literals
+  value_walked name nothing is v fits rows read = absurd fits
+  value_walked name (value test default) is v fits rows read =
+      let before = before_value name rows in
+      let held = waiting_for name rows in
+      ap (λ met. after_step rules v before met.0 met.1) read
+      ∙ ap (λ found. after_step rules v before (option_word found name v held).0 (next (option_word found name v held).1)) is.by_id
+      ∙ ap (λ same. record before { held = pushed name v held; waiting = cond (nat_lt (cond same 1 0) 1) (option name) idle }) (same_text name)
 
--- by the walk over the words
-by_walk : (plan kinds : Option Text) (words : List Text) (w : Walk) → walk replay_rules [] nothing_held words ≡ w
-    → HasOptions (finished replay_rules w.held) plan kinds → HasOptions (rows_after replay_rules [] words) plan kinds
-by_walk plan kinds words w is has = subst (λ (v : Walk). HasOptions (finished replay_rules v.held) plan kinds) (sym is) has
+  value_missing : (name : Text) (argument : Argument) → IsOption name argument → (v : Text) → Fits (Some v) argument → (rows : List Row)
+      → IsRefused (settle_fault rules false (waiting_for name rows))
+  value_missing name nothing is v fits rows none = absurd fits
+  value_missing name (value test default) is v fits rows none =
+      some_refused kind.InvalidValue [] (sym (ap (λ found. option_map_or (λ a. use_fault false a [] rows) found []) is.by_id) ∙ none)
 
-none_read : AreReadAs None None []
-unfolding clap_on_literals
-none_read none = (refl, refl)
+  -- ---- an option with its value
 
-plan_read : (file : Text) → AreReadAs (Some file) None (codes "--plan" ∷ file ∷ [])
-unfolding clap_on_literals
-plan_read file none =
-    let words = codes "--plan" ∷ file ∷ [] in
-    let read = last_read (codes "plan") plan [] file (words_fault words none) (end_fault words none) in
-    by_walk (Some file) None words (behind_value (codes "plan") [] file) (plan.takes_one [] file read) (refl, refl)
+  abbrev pub after : Walk → List Text → Walk
+  after w words = fold (walked rules []) w words
 
-markers_read : (letters : Text) → AreReadAs None (Some letters) (codes "--markers" ∷ letters ∷ [])
-unfolding clap_on_literals
-markers_read letters none =
-    let words = codes "--markers" ∷ letters ∷ [] in
-    let read = last_read (codes "markers") markers [] letters (words_fault words none) (end_fault words none) in
-    by_walk None (Some letters) words (behind_value (codes "markers") [] letters) (markers.takes_one [] letters read) (refl, refl)
+  -- the rows at the end of a walk, but for defaults
+  abbrev pub rows_at_end : Walk → List Row
+  rows_at_end w = (settled rules w.held).rows
 
-plan_first_read : (file letters : Text) → AreReadAs (Some file) (Some letters) (codes "--plan" ∷ file ∷ codes "--markers" ∷ letters ∷ [])
-unfolding clap_on_literals
-plan_first_read file letters none =
-    let words = codes "--plan" ∷ file ∷ codes "--markers" ∷ letters ∷ [] in
-    let walk_is = two_read (codes "plan") (codes "--markers") (codes "markers") plan markers_behind_plan markers file letters
-    (words_fault words none) (end_fault words none) in
-    by_walk (Some file) (Some letters) words _ walk_is (refl, refl)
+  -- the walk over the option comes to stand between two options again, with one row more
+  record Steps (g : GivenOption) (rows : List Row) (pending : Option (Text × List Text)) : Type 0 where
+    rows_then : List Row
+    pending_then : Option (Text × List Text)
+    walks : after (between rows pending) (words_of g) ≡ between rows_then pending_then
+    settles : settled_rows rules pending_then rows_then ≡ settled_rows rules pending rows ++ row_for s.options g ∷ []
 
-markers_first_read : (file letters : Text) → AreReadAs (Some file) (Some letters) (codes "--markers" ∷ letters ∷ codes "--plan" ∷ file ∷ [])
-unfolding clap_on_literals
-markers_first_read file letters none =
-    let words = codes "--markers" ∷ letters ∷ codes "--plan" ∷ file ∷ [] in
-    let walk_is = two_read (codes "markers") (codes "--plan") (codes "plan") markers plan_behind_markers plan letters file
-    (words_fault words none) (end_fault words none) in
-    by_walk (Some file) (Some letters) words _ walk_is (refl, refl)
+  module _ (name : Text) (v : Text) (rows : List Row) (pending : Option (Text × List Text)) where
+    abbrev valued : GivenOption
+    valued = record { name = name; value = Some v }
 
--- a fact of the words in either order is one of options
-by_order : (P : List Text → Type 0) (words first second : List Text) → (words ≡ first) ⊎ (words ≡ second) → P first → P second → P words
-by_order P words first second (inl is) p q = subst P (sym is) p
-by_order P words first second (inr is) p q = subst P (sym is) q
+    abbrev so_far : List Row
+    so_far = settled_rows rules pending rows
 
--- what the words name, the rows have
-pub options_read : (words : List Text) (plan kinds : Option Text) → AreOptions words plan kinds → AreReadAs plan kinds words
-options_read words None None are = by_order (AreReadAs None None) words _ _ are none_read none_read
-options_read words (Some file) None are = by_order (AreReadAs (Some file) None) words _ _ are (plan_read file) (plan_read file)
-options_read words None (Some letters) are = by_order (AreReadAs None (Some letters)) words _ _ are (markers_read letters) (markers_read letters)
-options_read words (Some file) (Some letters) are =
-    by_order (AreReadAs (Some file) (Some letters)) words _ _ are (plan_first_read file letters) (markers_first_read file letters)
+    abbrev word_walk : Walk
+    word_walk = walked rules [] (between rows pending) (hyphen ∷ hyphen ∷ name)
 
--- ---- words that clap takes
+    opened : (argument : Argument) → IsOption name argument → Fits (Some v) argument → word_walk ≡ before_value name so_far
+    opened nothing is fits = absurd fits
+    opened (value test default) is fits = word_walked name (value test default) is rows pending
 
--- what is checked at the end of the words
-abbrev checks : Walk → Bool
-checks w = settle_passes replay_rules false w.held && (list_all default_passes replay_rules && is_valid built_replay (finished replay_rules w.held) false)
+    both_walked : (argument : Argument) → IsOption name argument → Fits (Some v) argument → IsRead s name so_far v
+        → walked rules [] word_walk v ≡ between so_far (Some (name, v ∷ []))
+    both_walked argument is fits read = ap (λ w. walked rules [] w v) (opened argument is fits) ∙ value_walked name argument is v fits so_far read
 
-abbrev AreTaken : List Text → Type 0
-AreTaken words = level_passes built_replay [] nothing_held words false ≡ true
+    one_row : (argument : Argument) → IsOption name argument → Fits (Some v) argument → has_row name so_far ≡ false
+        → settled_rows rules (Some (name, v ∷ [])) so_far ≡ so_far ++ row_for s.options valued ∷ []
+    one_row nothing is fits new = absurd fits
+    one_row (value test default) is fits new =
+        ap (λ found. used_by_id found (v ∷ []) so_far) is.by_id
+        ∙ row_replaced name (reading_by (built_rule (record { name = name; argument = value test default }))) CommandLine v so_far new
+        ∙ ap (λ how. so_far ++ row_of_value name how CommandLine v ∷ []) (sym is.reading)
 
--- of two options both are taken
-two_taken : (first name second : Text) → IsOption first → Opens first name second → IsOption second → (value next : Text) → IsValue value → IsValue next
-    → ((turn_passes built_replay [] (before_value first []) value && (turn_passes built_replay [] (walked replay_rules [] (before_value first []) value) name
-    && (turn_passes built_replay [] (walked replay_rules [] (walked replay_rules [] (before_value first []) value) name) next && true))) ≡ true)
-    × (two_options first name value next ≡ behind_value second (row first value ∷ []) next)
-two_taken first name second one opening other value next is also =
-    let rows = row first value ∷ [] in
-    let read = value_read first [] value is in
-    let next_read = value_read second rows next also in
-    let behind = one.takes_one [] value read.0 in
-    let opened = ap (λ (w : Walk). walked replay_rules [] w name) behind ∙ opening.opens value in (
-      both _ _ read.1 (both _ _ (ap (λ (w : Walk). turn_passes built_replay [] w name) behind ∙ opening.passes value)
-          (both _ _ (ap (λ (w : Walk). turn_passes built_replay [] w next) opened ∙ next_read.1) refl)),
-      ap (λ (w : Walk). walked replay_rules [] w next) opened ∙ other.takes_one rows next next_read.0,
-    )
+    value_steps : (argument : Argument) → IsOption name argument → Fits (Some v) argument → has_row name so_far ≡ false → IsRead s name so_far v
+        → Steps valued rows pending
+    value_steps argument is fits new read = record {
+      rows_then = so_far;
+      pending_then = Some (name, v ∷ []);
+      walks = both_walked argument is fits read;
+      settles = one_row argument is fits new;
+    }
 
-none_taken : AreTaken []
-unfolding clap_on_literals
-none_taken = refl
+  module _ (name : Text) (rows : List Row) (pending : Option (Text × List Text)) where
+    abbrev alone : GivenOption
+    alone = record { name = name; value = None }
 
-plan_taken : (file : Text) → IsValue file → AreTaken (codes "--plan" ∷ file ∷ [])
-unfolding clap_on_literals
-plan_taken file is =
-    let read = value_read (codes "plan") [] file is in
-    both _ _ (both _ _ read.1 refl) (ap checks (plan.takes_one [] file read.0))
+    flag_steps : (argument : Argument) → IsOption name argument → Fits None argument → has_row name (settled_rows rules pending rows) ≡ false
+        → Steps alone rows pending
+    flag_steps (value test default) is fits new = absurd fits
+    flag_steps nothing is fits new =
+        let rule = built_rule (record { name = name; argument = nothing }) in
+        let so_far = settled_rows rules pending rows in
+        record {
+          rows_then = used rule [] so_far;
+          pending_then = None;
+          walks = word_walked name nothing is rows pending;
+          settles = row_replaced name (reading_by rule) CommandLine (codes "true") so_far new
+              ∙ ap (λ how. so_far ++ row_of_value name how CommandLine (codes "true") ∷ []) (sym is.reading);
+        }
 
-markers_taken : (letters : Text) → IsValue letters → AreTaken (codes "--markers" ∷ letters ∷ [])
-unfolding clap_on_literals
-markers_taken letters is =
-    let read = value_read (codes "markers") [] letters is in
-    both _ _ (both _ _ read.1 refl) (ap checks (markers.takes_one [] letters read.0))
+  -- ---- options with values of their own are taken
 
-plan_first_taken : (file letters : Text) → IsValue file → IsValue letters → AreTaken (codes "--plan" ∷ file ∷ codes "--markers" ∷ letters ∷ [])
-unfolding clap_on_literals
-plan_first_taken file letters is also =
-    let taken = two_taken (codes "plan") (codes "--markers") (codes "markers") plan markers_behind_plan markers file letters is also in
-    both _ _ taken.0 (ap checks taken.1)
+  record IsTaken (g : GivenOption) (rows : List Row) (pending : Option (Text × List Text)) : Type 0 where
+    steps : Steps g rows pending
+    settled : settle_passes rules false (held_with steps.rows_then steps.pending_then) ≡ true
+    passes : (more : List Text) → walk_passes (level s) [] (between steps.rows_then steps.pending_then) more ≡ true
+        → walk_passes (level s) [] (between rows pending) (words_of g ++ more) ≡ true
 
-markers_first_taken : (file letters : Text) → IsValue file → IsValue letters → AreTaken (codes "--markers" ∷ letters ∷ codes "--plan" ∷ file ∷ [])
-unfolding clap_on_literals
-markers_first_taken file letters is also =
-    let taken = two_taken (codes "markers") (codes "--plan") (codes "plan") markers plan_behind_markers plan letters file also is in
-    both _ _ taken.0 (ap checks taken.1)
+  value_taken : (name v : Text) (argument : Argument) → IsOption name argument → Fits (Some v) argument → IsValueFor argument v
+      → (rows : List Row) (pending : Option (Text × List Text)) → has_row name (settled_rows rules pending rows) ≡ false
+      → settle_passes rules false (held_with rows pending) ≡ true → IsTaken (record { name = name; value = Some v }) rows pending
+  unfolding walk_passes value_steps
+  value_taken name v nothing is fits can rows pending new settle = absurd fits
+  value_taken name v (value test default) is fits can rows pending new settle =
+      let argument = value test default in
+      let so_far = settled_rows rules pending rows in
+      let read = value_read s name so_far v can.0 in
+      record {
+        steps = value_steps name v rows pending argument is fits new read.0;
+        settled = ap (λ found. option_map_or (λ a. use_passes false a (v ∷ []) so_far) found true) is.by_id
+            ∙ and_from _ _ (ap (λ has. not has || false) new) (and_from _ _ can.1 refl);
+        passes = λ more later. and_from _ _ (word_passes name argument is rows pending settle refl)
+            (subst (λ w. walk_passes (level s) [] w (v ∷ more) ≡ true) (sym (opened name v rows pending argument is fits))
+            (and_from _ _ read.1
+            (subst (λ w. walk_passes (level s) [] w more ≡ true) (sym (value_walked name argument is v fits so_far read.0)) later)));
+      }
 
--- options with values are taken
-pub options_taken : (words : List Text) (plan kinds : Option Text) → AreOptions words plan kinds → AreValues plan kinds → AreTaken words
-options_taken words None None are values = by_order AreTaken words _ _ are none_taken none_taken
-options_taken words (Some file) None are values = by_order AreTaken words _ _ are (plan_taken file values.0) (plan_taken file values.0)
-options_taken words None (Some letters) are values = by_order AreTaken words _ _ are (markers_taken letters values.1) (markers_taken letters values.1)
-options_taken words (Some file) (Some letters) are values =
-    by_order AreTaken words _ _ are (plan_first_taken file letters values.0 values.1) (markers_first_taken file letters values.0 values.1)
+  flag_taken : (name : Text) (argument : Argument) → IsOption name argument → Fits None argument
+      → (rows : List Row) (pending : Option (Text × List Text)) → has_row name (settled_rows rules pending rows) ≡ false
+      → settle_passes rules false (held_with rows pending) ≡ true → IsTaken (record { name = name; value = None }) rows pending
+  unfolding walk_passes flag_steps
+  flag_taken name (value test default) is fits rows pending new settle = absurd fits
+  flag_taken name nothing is fits rows pending new settle = record {
+    steps = flag_steps name rows pending nothing is fits new;
+    settled = refl;
+    passes = λ more later. and_from _ _
+        (word_passes name nothing is rows pending (and_from _ _ settle (ap (λ has. (not has || false) && true) new)) refl)
+        (subst (λ w. walk_passes (level s) [] w more ≡ true) (sym (word_walked name nothing is rows pending)) later);
+  }
+
+  one_taken : (g : GivenOption) (found : Option NamedOption) → option_named s.options g.name ≡ found → are_sound s.options ≡ true
+      → IsSomeAnd found (λ o. Fits g.value o.argument) → IfSome found (λ o. IfSome g.value (IsValueFor o.argument))
+      → (rows : List Row) (pending : Option (Text × List Text)) → has_row g.name (settled_rows rules pending rows) ≡ false
+      → settle_passes rules false (held_with rows pending) ≡ true → IsTaken g rows pending
+  one_taken g None is are fits can rows pending new settle = absurd fits
+  one_taken g (Some o) is are fits can rows pending new settle = go g.value fits can
+    where
+      go : (v : Option Text) → Fits v o.argument → IfSome v (IsValueFor o.argument) → IsTaken (record { name = g.name; value = v }) rows pending
+      go None fits can = flag_taken g.name o.argument (is_option g.name o are is) fits rows pending new settle
+      go (Some v) fits can = value_taken g.name v o.argument (is_option g.name o are is) fits can rows pending new settle
+
+  after_more : (w : Walk) (first more : List Text) → after w (first ++ more) ≡ after (after w first) more
+  after_more w [] more = refl
+  after_more w (word ∷ first) more = after_more (walked rules [] w word) first more
+
+  pub options_taken : (given : List GivenOption) (rows : List Row) (pending : Option (Text × List Text)) → are_sound s.options ≡ true
+      → AreOptions s.options given → AreValues s.options given → AreNew (settled_rows rules pending rows) given
+      → settle_passes rules false (held_with rows pending) ≡ true
+      → (walk_passes (level s) [] (between rows pending) (flat_map words_of given) ≡ true)
+      × (settle_passes rules false (after (between rows pending) (flat_map words_of given)).held ≡ true)
+  unfolding walk_passes
+  options_taken [] rows pending are options values new settle = (refl, settle)
+  options_taken (g ∷ rest) rows pending are options values new settle =
+      let more = flat_map words_of rest in
+      let one = one_taken g (option_named s.options g.name) refl are options.0 values.0 rows pending new.0 settle in
+      let new_then = subst (λ rs. AreNew rs rest) (sym one.steps.settles) (still_new (settled_rows rules pending rows) (row_for s.options g) rest new.1 options.1) in
+      let later = options_taken rest one.steps.rows_then one.steps.pending_then are options.2 values.1 new_then one.settled in (
+        one.passes more later.0,
+        ap (λ (w : Walk). settle_passes rules false w.held) (after_more (between rows pending) (words_of g) more ∙ ap (λ w. after w more) one.steps.walks)
+            ∙ later.1,
+      )
+
+  -- ---- options that aren't refused are read
+
+  -- `--` is no value
+  end_refused : (name : Text) (rows : List Row) (more : List Text) → IsRefused (settle_fault rules false (waiting_for name rows))
+      → walk_fault (level s) [] (walked rules [] (before_value name rows) dashes) more ≡ []
+      → settle_fault rules false (after (walked rules [] (before_value name rows) dashes) more).held ≡ [] → ⊥
+  unfolding clap_on_literals
+  end_refused name rows [] missing none end = missing end
+  end_refused name rows (word ∷ more) missing none end =
+      some_refused kind.UnknownArgument []
+      (sym (ap (λ found. option_map_or (λ a. positional_fault rules false a (waiting_for name rows)) found (kind.UnknownArgument ∷ [])) (no_positional s.options 1))
+      ∙ or_else-first _ (walk_fault (level s) [] (walked rules [] (walked rules [] (before_value name rows) dashes) word) more) none)
+
+  record IsReadOn (g : GivenOption) (rows : List Row) (pending : Option (Text × List Text)) (more : List Text) : Type 0 where
+    steps : Steps g rows pending
+    later : walk_fault (level s) [] (between steps.rows_then steps.pending_then) more ≡ []
+
+  value_read_on : (name v : Text) (argument : Argument) → IsOption name argument → Fits (Some v) argument
+      → (rows : List Row) (pending : Option (Text × List Text)) (more : List Text) → has_row name (settled_rows rules pending rows) ≡ false
+      → walk_fault (level s) [] (between rows pending) ((hyphen ∷ hyphen ∷ name) ∷ v ∷ more) ≡ []
+      → settle_fault rules false (after (between rows pending) ((hyphen ∷ hyphen ∷ name) ∷ v ∷ more)).held ≡ []
+      → IsReadOn (record { name = name; value = Some v }) rows pending more
+  unfolding walk_fault value_steps
+  value_read_on name v argument is fits rows pending more new none end =
+      let so_far = settled_rows rules pending rows in
+      let before = before_value name so_far in
+      let open_walk = opened name v rows pending argument is fits in
+      let missing = value_missing name argument is v fits so_far in
+      let none_then = subst (λ w. walk_fault (level s) [] w (v ∷ more) ≡ []) open_walk
+      (or_else-second (turn_fault (level s) [] (between rows pending) (hyphen ∷ hyphen ∷ name)) _ none) in
+      let end_then = subst (λ w. settle_fault rules false (after w (v ∷ more)).held ≡ []) open_walk end in
+      let none_later = or_else-second (turn_fault (level s) [] before v) (walk_fault (level s) [] (walked rules [] before v) more) none_then in
+      elim (value_or_end s name so_far missing v (or_else-first (turn_fault (level s) [] before v) _ none_then)) [
+        | inl read ↦ record {
+          steps = value_steps name v rows pending argument is fits new read;
+          later = subst (λ w. walk_fault (level s) [] w more ≡ []) (value_walked name argument is v fits so_far read) none_later;
+        }
+        | inr ends ↦ absurd (end_refused name so_far more missing
+            (subst (λ t. walk_fault (level s) [] (walked rules [] before t) more ≡ []) ends none_later)
+            (subst (λ t. settle_fault rules false (after (walked rules [] before t) more).held ≡ []) ends end_then))
+      ]
+
+  flag_read_on : (name : Text) (argument : Argument) → IsOption name argument → Fits None argument
+      → (rows : List Row) (pending : Option (Text × List Text)) (more : List Text) → has_row name (settled_rows rules pending rows) ≡ false
+      → walk_fault (level s) [] (between rows pending) ((hyphen ∷ hyphen ∷ name) ∷ more) ≡ []
+      → IsReadOn (record { name = name; value = None }) rows pending more
+  unfolding walk_fault flag_steps
+  flag_read_on name (value test default) is fits rows pending more new none = absurd fits
+  flag_read_on name nothing is fits rows pending more new none = record {
+    steps = flag_steps name rows pending nothing is fits new;
+    later = subst (λ w. walk_fault (level s) [] w more ≡ []) (word_walked name nothing is rows pending)
+        (or_else-second (turn_fault (level s) [] (between rows pending) (hyphen ∷ hyphen ∷ name)) _ none);
+  }
+
+  one_read : (g : GivenOption) (found : Option NamedOption) → option_named s.options g.name ≡ found → are_sound s.options ≡ true
+      → IsSomeAnd found (λ o. Fits g.value o.argument) → (rows : List Row) (pending : Option (Text × List Text)) (more : List Text)
+      → has_row g.name (settled_rows rules pending rows) ≡ false
+      → walk_fault (level s) [] (between rows pending) (words_of g ++ more) ≡ []
+      → settle_fault rules false (after (between rows pending) (words_of g ++ more)).held ≡ [] → IsReadOn g rows pending more
+  one_read g None is are fits rows pending more new none end = absurd fits
+  one_read g (Some o) is are fits rows pending more new none end = go g.value fits none end
+    where
+      go : (v : Option Text) → Fits v o.argument
+          → walk_fault (level s) [] (between rows pending) (words_of (record { name = g.name; value = v }) ++ more) ≡ []
+          → settle_fault rules false (after (between rows pending) (words_of (record { name = g.name; value = v }) ++ more)).held ≡ []
+          → IsReadOn (record { name = g.name; value = v }) rows pending more
+      go None fits none end = flag_read_on g.name o.argument (is_option g.name o are is) fits rows pending more new none
+      go (Some v) fits none end = value_read_on g.name v o.argument (is_option g.name o are is) fits rows pending more new none end
+
+  pub options_read : (given : List GivenOption) (rows : List Row) (pending : Option (Text × List Text)) → are_sound s.options ≡ true
+      → AreOptions s.options given → AreNew (settled_rows rules pending rows) given
+      → walk_fault (level s) [] (between rows pending) (flat_map words_of given) ≡ []
+      → settle_fault rules false (after (between rows pending) (flat_map words_of given)).held ≡ []
+      → rows_at_end (after (between rows pending) (flat_map words_of given)) ≡ settled_rows rules pending rows ++ map (row_for s.options) given
+  options_read [] rows pending are options new none end = sym (append-nil (settled_rows rules pending rows))
+  options_read (g ∷ rest) rows pending are options new none end =
+      let more = flat_map words_of rest in
+      let so_far = settled_rows rules pending rows in
+      let row = row_for s.options g in
+      let one = one_read g (option_named s.options g.name) refl are options.0 rows pending more new.0 none end in
+      let new_then = subst (λ rs. AreNew rs rest) (sym one.steps.settles) (still_new so_far row rest new.1 options.1) in
+      let walk_then = after_more (between rows pending) (words_of g) more ∙ ap (λ w. after w more) one.steps.walks in
+      let end_then = subst (λ (w : Walk). settle_fault rules false w.held ≡ []) walk_then end in
+      ap rows_at_end walk_then
+      ∙ options_read rest one.steps.rows_then one.steps.pending_then are options.2 new_then one.later end_then
+      ∙ ap (λ rs. rs ++ map (row_for s.options) rest) one.steps.settles
+      ∙ append_assoc so_far (row ∷ []) (map (row_for s.options) rest)

@@ -1,21 +1,24 @@
--- What clap refuses at the place of the subcommand.
-use Rattle.std.proofs.Common.{◌≡◌, ◌∙◌, ◌⊎◌, inl, inr, ap, refl, sym, subst, cond, Bool, true, false, List, [], ◌∷◌, Option, Some, None, ℕ, length, codes}
-use Rattle.std.specs.Prelude.{◌||◌, slice_get, option_map}
+-- What clap refuses at the place of the subcommand, and what it finds of words that it doesn't refuse.
+use Rattle.std.proofs.Common.{◌≡◌, ◌∙◌, ◌≤◌, ◌⊎◌, inl, inr, ap, arith, refl, sym, subst, cond, Bool, true, false, List, [], ◌∷◌, Option, Some, None, ℕ, length}
+use Rattle.std.specs.Prelude.{IfSome, IsSome, is_some, slice_get, option_map}
 use Rattle.std.specs.Option.{option_map_or}
 use Rattle.std.specs.Str.{bytes_eq, chars}
 use Rattle.std.proofs.lemmas.Slice.Eq.{bytes_eq-Decides}
 use Rattle.clap.specs.Kinds.{Kinds}
 use Rattle.clap.specs.Lexer.{long_of, short_of}
-use Rattle.clap.specs.Simple.{built, names_of}
-use Rattle.clap.specs.Walk.{Held, Names, Rule, Step, Text, after_flag, answers_to, bundle, bundle_met, bundle_step, idle, long_or_other, nothing_held, plain, short_or_plain, subcommand_met, subcommand_or_other, trailing, value, walk_from, word_met}
-use Rattle.clap.specs.Words.{fault_of}
+use Rattle.clap.specs.Simple.{label_of}
+use Rattle.clap.specs.Walk.{Held, Rule, Step, Text, after_flag, bundle, bundle_met, bundle_step, idle, long_or_other, nothing_held, plain, short_or_plain, subcommand_met, subcommand_or_other, trailing, value, walk_from, word_met}
+use Rattle.clap.specs.Words.{fault_of, subcommand_of, takes}
 use Rattle.clap.specs.Faults.{bundle_fault, bundle_step_fault, flag_word_fault, flags_fault, long_fault, other_fault, short_fault, step_fault, turn_fault, walk_fault, word_fault}
 use Rattle.clap.specs.declared.error.kind.ErrorKind.TheVariants as kind
 use Rattle.clap.proofs.OnLiterals.{clap_on_literals}
-use Rattle.crossbar5_command.specs.Command.{NamesOnlyReplay}
-use Rattle.crossbar5_command.specs.Program.{program}
-use Rattle.crossbar5_command.proofs.ReadValues.{IsRefused, dashes, some_refused}
-use Rattle.crossbar5_command.proofs.ReplayLevel.{or_else-first, or_else-second, top}
+use Rattle.crossbar5_command.specs.Ask.{IsAskOf, name_of}
+use Rattle.crossbar5_command.specs.Program.{program, replay, subcommands}
+use Rattle.crossbar5_command.specs.Subcommand.{NamesOnly, Subcommand, subcommand_named}
+use Rattle.crossbar5_command.specs.declared.ask.Ask.{Ask}
+use Rattle.crossbar5_command.proofs.OptionRules.{level}
+use Rattle.crossbar5_command.proofs.SubcommandWords.{found, label_by_name, named, names, subcommand_is, top}
+use Rattle.crossbar5_command.proofs.ValueWords.{IsRefused, dashes, or_else-first, or_else-second, some_refused}
 
 -- the flag that a word names, by whether it names either
 abbrev help_or_version : Bool → Bool → Option Rule
@@ -49,13 +52,6 @@ bundle_read (flag ∷ flags) none = go (slice_get (chars (flag ∷ flags)) 0) re
     go (Some x) is =
         let no_fault = sym (ap (λ first. bundle_step_fault top.rules false first (flag ∷ flags) 0 nothing_held (flags_fault top.rules false (length flags))) is) ∙ none in
         absurd (short_refused _ _ _ _ no_fault)
-
-abbrev names : Names
-names = names_of (built program)
-
-or_false : (b : Bool) → (b || false) ≡ true → b ≡ true
-or_false true is = refl
-or_false false is = is
 
 -- ---- a word at the place of the subcommand
 module _ (word : Text) where
@@ -91,22 +87,20 @@ module _ (word : Text) where
     by_long (Some p) is none = absurd (long_refused _ _ p.1 none)
     by_long None is none = by_short (short_of word) refl is none
 
-  -- so it is the end of the options
   by_end : subcommand_met names idle word ≡ None → (end : Bool) → bytes_eq word dashes ≡ end
       → cond end [] (flag_word_fault top.rules false (long_of word) word nothing_held) ≡ [] → step_fault top 1 met.0 met.1 ≡ []
       → word ≡ dashes
   by_end no_name true is none none_of_step = (bytes_eq-Decides word dashes).0 is
   by_end no_name false is none none_of_step = absurd (stray (by_long no_name is (long_of word) refl none) none_of_step)
 
-  -- or a subcommand
-  by_name : (answers : Bool) → answers_to word (codes "replay", []) ≡ answers → turn_fault top names (walk_from nothing_held) word ≡ []
-      → (word ≡ codes "replay") ⊎ (word ≡ dashes)
-  by_name true is none = inl (sym ((bytes_eq-Decides (codes "replay") word).0 (or_false _ is)))
-  by_name false is none =
-      let no_name : subcommand_met names idle word ≡ None = ap (λ answers. option_map (λ (s : Text × List Text). s.0) (cond answers (Some (codes "replay", [])) None)) is in
+  -- so where no subcommand has its name, it is the end of the options
+  by_no_name : subcommand_named subcommands word ≡ None → turn_fault top names (walk_from nothing_held) word ≡ [] → word ≡ dashes
+  by_no_name none_named none =
+      let no_name : subcommand_met names idle word ≡ None =
+      ap (option_map (λ label. label.0)) (label_by_name subcommands word ∙ ap (option_map (λ (s : Subcommand). label_of (level s))) none_named) in
       let fault = word_fault top names false idle word nothing_held in
       let none_of_word = sym (ap (λ name. other_fault top name word nothing_held) no_name) ∙ or_else-first fault (step_fault top 1 met.0 met.1) none in
-      inr (by_end no_name (bytes_eq word dashes) refl none_of_word (or_else-second fault (step_fault top 1 met.0 met.1) none))
+      by_end no_name (bytes_eq word dashes) refl none_of_word (or_else-second fault (step_fault top 1 met.0 met.1) none)
 
 -- behind `--` there is no word
 nothing_more : (words : List Text) → walk_fault top names (walk_from nothing_held) (dashes ∷ words) ≡ [] → words ≡ []
@@ -124,13 +118,57 @@ first_turn : (word : Text) (words : List Text) → walk_fault top names (walk_fr
 unfolding walk_fault
 first_turn word words none = or_else-first (turn_fault top names (walk_from nothing_held) word) _ none
 
--- words that aren't refused name no other subcommand, and no option in its place
-pub replay_only : (words : List Text) → fault_of program words ≡ [] → NamesOnlyReplay words
-replay_only [] none = tt
-replay_only (name ∷ []) none = tt
-replay_only (name ∷ word ∷ words) none =
-    let faults = first_fault name word words none in
-    elim (by_name word (answers_to word (codes "replay", [])) refl (first_turn word words faults)) [
-      | inl is ↦ inl is
-      | inr is ↦ inr (is, nothing_more words (subst (λ w. walk_fault top names (walk_from nothing_held) (w ∷ words) ≡ []) is faults))
-    ]
+-- words with no subcommand in its place
+pub no_subcommand : (words : List Text) → length words ≤ 1 → (takes program words ≡ true) × (subcommand_of program words ≡ None)
+unfolding clap_on_literals
+no_subcommand [] few = (refl, refl)
+no_subcommand (line ∷ []) few = (refl, refl)
+no_subcommand (line ∷ word ∷ words) few = absurd (omega arith)
+
+end_alone : (line : Text) → subcommand_of program (line ∷ dashes ∷ []) ≡ None
+unfolding clap_on_literals
+end_alone line = refl
+
+-- in its place stands a subcommand, or `--` alone
+abbrev IsNamed : Text → List Text → Type 0
+IsNamed word words = ((s : Subcommand) × (subcommand_named subcommands word ≡ Some s)) ⊎ ((word ≡ dashes) × (words ≡ []))
+
+is_named : (line word : Text) (words : List Text) → fault_of program (line ∷ word ∷ words) ≡ [] → IsNamed word words
+is_named line word words none = go (subcommand_named subcommands word) refl
+  where
+    faults : walk_fault top names (walk_from nothing_held) (word ∷ words) ≡ []
+    faults = first_fault line word words none
+
+    go : (met : Option Subcommand) → subcommand_named subcommands word ≡ met → IsNamed word words
+    go (Some s) is = inl (s, is)
+    go None is =
+        let ends = by_no_name word is (first_turn word words faults) in
+        inr (ends, nothing_more words (subst (λ w. walk_fault top names (walk_from nothing_held) (w ∷ words) ≡ []) ends faults))
+
+-- what clap finds is one of the subcommands
+pub subcommand_known : (words : List Text) → fault_of program words ≡ []
+    → IfSome (subcommand_of program words) (λ met. IsSome (subcommand_named subcommands met.0))
+subcommand_known [] none = subst (λ met. IfSome met (λ p. IsSome (subcommand_named subcommands p.0))) (sym (no_subcommand [] (omega arith)).1) tt
+subcommand_known (line ∷ []) none =
+    subst (λ met. IfSome met (λ p. IsSome (subcommand_named subcommands p.0))) (sym (no_subcommand (line ∷ []) (omega arith)).1) tt
+subcommand_known (line ∷ word ∷ words) none = elim (is_named line word words none) [
+  | inl one ↦ subst (λ met. IfSome met (λ p. IsSome (subcommand_named subcommands p.0)))
+      (sym (subcommand_is word one.0 one.1 line words)) (ap is_some (found word one.0 one.1))
+  | inr ends ↦ subst (λ met. IfSome met (λ p. IsSome (subcommand_named subcommands p.0)))
+      (sym (ap (λ w. subcommand_of program (line ∷ w ∷ words)) ends.0 ∙ ap (λ ws. subcommand_of program (line ∷ dashes ∷ ws)) ends.1 ∙ end_alone line)) tt
+]
+
+-- and the words name the one that is asked for
+pub names_only : (words : List Text) (ask : Ask) → fault_of program words ≡ [] → IsAskOf (subcommand_of program words) ask
+    → NamesOnly replay.name (name_of ask) words
+names_only [] ask none asked = (subst (λ met. IsAskOf met ask) (no_subcommand [] (omega arith)).1 asked).0
+names_only (line ∷ []) ask none asked = (subst (λ met. IsAskOf met ask) (no_subcommand (line ∷ []) (omega arith)).1 asked).0
+names_only (line ∷ word ∷ words) ask none asked = elim (is_named line word words none) [
+  | inl one ↦ inl (sym ((subst (λ met. IsAskOf met ask) (subcommand_is word one.0 one.1 line words) asked).0 ∙ named word one.0 one.1))
+  | inr ends ↦ inr (
+    ends.0,
+    ends.1,
+    (subst (λ met. IsAskOf met ask)
+        (ap (λ w. subcommand_of program (line ∷ w ∷ words)) ends.0 ∙ ap (λ ws. subcommand_of program (line ∷ dashes ∷ ws)) ends.1 ∙ end_alone line) asked).0,
+  )
+]

@@ -1,21 +1,29 @@
 use Rattle.std.specs.Prelude.{◌≡◌, List, Option, Some, None, codes, option_map, unwrap_or}
 use Rattle.std.specs.String.{string_bytes}
 use Rattle.clap.specs.Words.{Row, Text, first_of}
+use Rattle.crossbar5_command.specs.Program.{default_kinds, replay}
 use Rattle.crossbar5_command.specs.declared.ask.Ask.{Ask}
 use Rattle.crossbar5_command.specs.declared.ask.Ask.TheVariants.{Replay}
 
--- the kinds of the markers: those that are given, or two markers for all jobs
-abbrev pub kinds_or_default : Option Text → Text
-kinds_or_default kinds = unwrap_or kinds (codes "XX")
+-- the name of the subcommand that is asked for
+abbrev pub name_of : Ask → Text
+name_of (Replay file letters) = replay.name
 
--- the ask is for a replay with this plan, if there is one, and with these kinds if there are any
-abbrev pub IsReplayWith : Option Text → Option Text → Ask → Type 0
-IsReplayWith plan kinds (Replay file letters) =
-    (option_map string_bytes file ≡ plan) × (string_bytes letters ≡ kinds_or_default kinds)
+-- what is asked, by the values of the options, is this
+abbrev pub HasValues : (Text → Option Text) → Ask → Type 0
+HasValues values (Replay file letters) = (option_map string_bytes file ≡ values (codes "plan"))
+    × (string_bytes letters ≡ unwrap_or (values (codes "markers")) default_kinds)
 
--- the ask is for what clap found: the subcommand that was met, if one was, with the values of its options
+-- the ask is for this subcommand, with these values of its options
+abbrev pub IsAskWith : Text → (Text → Option Text) → Ask → Type 0
+IsAskWith name values ask = (name_of ask ≡ name) × HasValues values ask
+
+-- the ask that no subcommand is needed for: a replay with no value given
+abbrev pub IsUnnamedAsk : Ask → Type 0
+IsUnnamedAsk = IsAskWith replay.name (λ _. None)
+
+-- the ask is for what clap found: the subcommand that was met, if one was, with the values of its
+-- options
 abbrev pub IsAskOf : Option (Text × List Row) → Ask → Type 0
-IsAskOf None ask = IsReplayWith None None ask
-IsAskOf (Some subcommand) ask =
-    (subcommand.0 ≡ codes "replay")
-    × IsReplayWith (first_of (codes "plan") subcommand.1) (first_of (codes "markers") subcommand.1) ask
+IsAskOf None ask = IsUnnamedAsk ask
+IsAskOf (Some met) ask = IsAskWith met.0 (λ name. first_of name met.1) ask

@@ -1,4 +1,4 @@
+pub mod Subcommand
 pub mod Program
 pub mod Ask
-pub mod Command
 pub mod Fault

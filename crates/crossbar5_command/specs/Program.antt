@@ -1,24 +1,73 @@
-use Rattle.std.specs.Prelude.{Some, [], ◌∷◌, true, codes}
-use Rattle.clap.specs.Words.{App, Rule, new_app, new_rule, with_rule, with_subcommand}
-use Rattle.clap.specs.Simple.{on_top}
+-- The program and its subcommands, and what clap sees of them.
+use Rattle.std.specs.Prelude.{true, false, ℕ, List, [], ◌∷◌, map, Option, Some, None, codes}
+use Rattle.clap.specs.Simple.{new_shape}
+use Rattle.clap.specs.Words.{App, Rule, Shape, Text, new_rule}
+use Rattle.clap.specs.declared.builder.action.ArgAction.{ArgAction}
+use Rattle.clap.specs.declared.builder.action.ArgAction.TheVariants.{SetTrue}
+use Rattle.clap.specs.declared.builder.value_parser.ValueParser.{ValueParser}
+use Rattle.crossbar5_command.specs.Subcommand.{Argument, NamedOption, Subcommand, nothing, value}
 
--- the option `--plan FILE`
-abbrev pub plan_option : Rule
-plan_option = record (new_rule (codes "plan")) { long = Some (codes "plan"); value_names = 1 }
+-- ---- the subcommands
 
--- the option `--markers KINDS`, which has a default
-abbrev pub markers_option : Rule
-markers_option = record (new_rule (codes "markers")) {
-  long = Some (codes "markers");
-  value_names = 1;
-  defaults = codes "XX" ∷ [];
+-- `--plan FILE`
+abbrev pub plan : NamedOption
+plan = record { name = codes "plan"; argument = value None None }
+
+-- two markers for all jobs
+abbrev pub default_kinds : Text
+default_kinds = codes "XX"
+
+-- `--markers KINDS`
+abbrev pub markers : NamedOption
+markers = record { name = codes "markers"; argument = value None (Some default_kinds) }
+
+abbrev pub replay : Subcommand
+replay = record { name = codes "replay"; options = plan ∷ markers ∷ [] }
+
+abbrev pub subcommands : List Subcommand
+subcommands = replay ∷ []
+
+-- ---- as clap sees them
+
+abbrev pub action_for : Argument → Option ArgAction
+action_for nothing = Some SetTrue
+action_for (value test default) = None
+
+abbrev pub value_count : Argument → ℕ
+value_count nothing = 0
+value_count (value test default) = 1
+
+abbrev pub test_for : Argument → Option ValueParser
+test_for nothing = None
+test_for (value test default) = test
+
+abbrev pub defaults_for : Argument → List Text
+defaults_for (value test (Some default)) = default ∷ []
+defaults_for _ = []
+
+-- the option, as an argument with a long name
+abbrev pub rule_for : NamedOption → Rule
+rule_for o = record (new_rule o.name) {
+  long = Some o.name;
+  action = action_for o.argument;
+  value_names = value_count o.argument;
+  parser = test_for o.argument;
+  defaults = defaults_for o.argument;
 }
 
--- the subcommand `replay`, with its two options
-abbrev pub replay : App
-replay = with_rule (with_rule (new_app (codes "replay")) plan_option) markers_option
+abbrev pub shape_for : Subcommand → Shape
+shape_for s = record (new_shape s.name) { rules = map rule_for s.options }
 
--- the program `crossbar5`, with a version and its one subcommand: it has no `help` beside that
+-- the program `crossbar5`, with a version and these subcommands: it has no `help` beside them
+abbrev pub program_of : List Subcommand → App
+program_of subs = record {
+  top = record (new_shape (codes "crossbar5")) {
+    is_leaf = false;
+    has_version = true;
+    disable_help_subcommand = true;
+  };
+  subs = map shape_for subs;
+}
+
 abbrev pub program : App
-program = with_subcommand
-    (on_top (λ shape. record shape { has_version = true; disable_help_subcommand = true }) (new_app (codes "crossbar5"))) replay.top
+program = program_of subcommands

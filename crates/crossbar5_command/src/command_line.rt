@@ -1,12 +1,14 @@
-ghost use Rattle.std.specs.Prelude.{◌≡◌, [], List, MatchResult, None, Option, IfErr, IfOk};
-ghost use Rattle.std.specs.Prelude.{option_and_then, option_map, true, ℕ};
+ghost use Rattle.std.specs.Prelude.{◌≡◌, ◌≤◌, [], List, MatchResult, IfErr, IfOk, IfSome};
+ghost use Rattle.std.specs.Prelude.{IsSome, length, option_and_then, option_map, true};
 ghost use Rattle.std.specs.String.{string_bytes};
 ghost use Rattle.clap.specs.Walk.{texts};
-ghost use Rattle.clap.specs.Words.{fault_of, first_value, found_of, subcommand_of, takes};
-ghost use Rattle.crossbar5_command.specs.Ask.{IsAskOf, IsReplayWith};
-ghost use Rattle.crossbar5_command.specs.Command.{AreValues, IsReplay, NamesOnlyReplay};
+ghost use Rattle.clap.specs.Words.{fault_of, first_value, found_of, subcommand_of};
+ghost use Rattle.clap.specs.Words.{subcommand_rows_of, takes};
+ghost use Rattle.crossbar5_command.specs.Ask.{IsAskOf, IsAskWith, IsUnnamedAsk, name_of};
 ghost use Rattle.crossbar5_command.specs.Fault.{IsFaultAmong};
-ghost use Rattle.crossbar5_command.specs.Program.{program};
+ghost use Rattle.crossbar5_command.specs.Program.{program, replay, subcommands};
+ghost use Rattle.crossbar5_command.specs.Subcommand.{AreValues, AskFor, GivenOption, NamesOnly};
+ghost use Rattle.crossbar5_command.specs.Subcommand.{Subcommand, subcommand_named, value_of};
 ghost use Rattle.crossbar5_command.specs.declared.command_fault.CommandFault.TheVariants.{Memory};
 
 use crate::program::{DEFAULT_KINDS, MARKERS, PLAN, REPLAY, program};
@@ -14,19 +16,22 @@ use crate::{Ask, CommandFault};
 use clap::ArgMatches;
 use std::alloc::{AllocError, Global};
 
-/// What the words ask for. The first is the program's name, whatever it is. No words at all are read
-/// as the name alone.
+/// What the words ask for. The first is the program's name, whatever it is. Behind the name of a
+/// subcommand its options may have any order.
 pub fn command(alloc: Global, words: &[&str]) -> Result<Ask, CommandFault>
-    // The words of a replay are taken, and ask for just what they name.
-    ensures taken { (plan kinds : Option (List ℕ)) → IsReplay (texts words.now) plan kinds
-        → AreValues plan kinds → IfErr result (λ fault. fault ≡ Memory) }
-    ensures asked { (plan kinds : Option (List ℕ)) → IsReplay (texts words.now) plan kinds
-        → IfOk result (IsReplayWith plan kinds) }
-    ensures no_words { words.now ≡ []
-        → MatchResult result (IsReplayWith None None) (λ fault. fault ≡ Memory) }
+    // Words that ask for a subcommand are taken, and the answer has the values that they give it.
+    ensures taken { (s : Subcommand) (given : List GivenOption)
+        → AskFor subcommands (texts words.now) s given → AreValues s.options given
+        → IfErr result (λ fault. fault ≡ Memory) }
+    ensures asked { (s : Subcommand) (given : List GivenOption)
+        → AskFor subcommands (texts words.now) s given
+        → IfOk result (IsAskWith s.name (value_of s.options given)) }
+    // The program's name alone, and no words at all, ask for a replay without options.
+    ensures unnamed { length words.now ≤ 1
+        → MatchResult result IsUnnamedAsk (λ fault. fault ≡ Memory) }
 
-    // Any other subcommand is refused, and so is an option in its place.
-    ensures only { IfOk result (λ _. NamesOnlyReplay (texts words.now)) }
+    // What names no subcommand is refused, and so is an option in its place.
+    ensures only { IfOk result (λ ask. NamesOnly replay.name (name_of ask) (texts words.now)) }
 
     // Of all words: what clap says of this program and them.
     ensures matches { IfOk result (IsAskOf (subcommand_of program (texts words.now))) }
@@ -36,29 +41,36 @@ pub fn command(alloc: Global, words: &[&str]) -> Result<Ask, CommandFault>
         (IsFaultAmong (fault_of program (texts words.now))) }
 {
     let matches = program(alloc)?.try_get_matches_from(words)?;
-    let options = matches.subcommand_matches(REPLAY);
-    let plan = value_of(options, PLAN);
-    let kinds = value_of(options, MARKERS);
-    Ok(replay_with(alloc, plan, kinds)?)
+    Ok(ask_of(alloc, &matches)?)
+}
+
+/// What the matches of one of the subcommands ask for, or those of none.
+fn ask_of(alloc: Global, matches: &ArgMatches) -> Result<Ask, AllocError>
+    ensures { IfSome (subcommand_rows_of matches.now)
+        (λ met. IsSome (subcommand_named subcommands met.0))
+        → IfOk result (IsAskOf (subcommand_rows_of matches.now)) }
+{
+    replay_of(alloc, matches.subcommand_matches(REPLAY))
+}
+
+/// The replay with the values of its options, where there are matches of them.
+fn replay_of(alloc: Global, options: Option<&ArgMatches>) -> Result<Ask, AllocError>
+    ensures { IfOk result (IsAskWith replay.name (λ name.
+        option_and_then (λ m. first_value (found_of m.now) name) options.entry)) }
+{
+    let kinds = text_of(options, MARKERS).unwrap_or(DEFAULT_KINDS);
+    Ok(Ask::Replay {
+        plan: copied(alloc, text_of(options, PLAN))?,
+        kinds: String::from_str(alloc, kinds)?,
+    })
 }
 
 /// The value of an option, where there is one among the matches, and where there are matches.
-fn value_of<'a>(matches: Option<&ArgMatches<'a>>, option: &str) -> Option<&'a str>
+fn text_of<'a>(matches: Option<&ArgMatches<'a>>, option: &str) -> Option<&'a str>
     ensures { option_map (λ s. s.now) result
         ≡ option_and_then (λ m. first_value (found_of m.now) option.now) matches.entry }
 {
     matches?.get_str(option)
-}
-
-/// The replay with these values, each copied.
-fn replay_with(alloc: Global, plan: Option<&str>, kinds: Option<&str>) -> Result<Ask, AllocError>
-    ensures { IfOk result (IsReplayWith (option_map (λ s. s.now) plan.entry)
-        (option_map (λ s. s.now) kinds.entry)) }
-{
-    Ok(Ask::Replay {
-        plan: copied(alloc, plan)?,
-        kinds: String::from_str(alloc, kinds.unwrap_or(DEFAULT_KINDS))?,
-    })
 }
 
 fn copied(alloc: Global, text: Option<&str>) -> Result<Option<String>, AllocError>

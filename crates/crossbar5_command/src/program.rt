@@ -3,7 +3,8 @@
 ghost use Rattle.std.specs.Prelude.{◌≡◌, IfOk, false};
 ghost use Rattle.clap.specs.Words.{app_of, rule_of};
 ghost use Rattle.clap.specs.declared.builder.command.Command.TheViews.{out-Command};
-ghost use Rattle.crossbar5_command.specs.Program.{markers_option, plan_option, program, replay};
+ghost use Rattle.crossbar5_command.specs.Program.{markers, plan, program, replay};
+ghost use Rattle.crossbar5_command.specs.Program.{rule_for, shape_for};
 
 use clap::{Arg, Command};
 use std::alloc::{AllocError, Global};
@@ -69,7 +70,7 @@ pub fn program<'a>(alloc: Global) -> Result<Command<'a>, AllocError>
 }
 
 fn replay<'a>(alloc: Global) -> Result<Command<'a>, AllocError>
-    ensures app { IfOk result (λ made. app_of made ≡ replay) }
+    ensures shape { IfOk result (λ made. (app_of made).top ≡ shape_for replay) }
     ensures local { IfOk result (λ made. (out-Command made).has_globals ≡ false) }
 {
     Command::new(alloc, REPLAY)
@@ -80,7 +81,7 @@ fn replay<'a>(alloc: Global) -> Result<Command<'a>, AllocError>
 }
 
 fn plan_option<'a>(alloc: Global) -> Arg<'a>
-    ensures rule { rule_of result ≡ plan_option }
+    ensures rule { rule_of result ≡ rule_for plan }
     ensures local { result.global ≡ false }
 {
     Arg::new(alloc, PLAN)
@@ -90,7 +91,7 @@ fn plan_option<'a>(alloc: Global) -> Arg<'a>
 }
 
 fn markers_option<'a>(alloc: Global) -> Arg<'a>
-    ensures rule { rule_of result ≡ markers_option }
+    ensures rule { rule_of result ≡ rule_for markers }
     ensures local { result.global ≡ false }
 {
     Arg::new(alloc, MARKERS)

@@ -1,15 +1,17 @@
 use Rattle.std.proofs.Common.{◌≡◌, ◌∙◌, ap, sym, subst, true, MatchResult}
+use Rattle.std.specs.Prelude.{IfSome, IsSome}
+use Rattle.std.proofs.lemmas.List.{length-map}
 use Rattle.clap.specs.Kinds.{HasKind}
 use Rattle.clap.specs.Walk.{texts}
 use Rattle.clap.specs.Words.{App, fault_of, is_simple, is_simple_and_free, subcommand_of, takes}
 use Rattle.crossbar5_command.specs.Ask.{IsAskOf}
-use Rattle.crossbar5_command.specs.Program.{program}
+use Rattle.crossbar5_command.specs.Program.{program, subcommands}
+use Rattle.crossbar5_command.specs.Subcommand.{subcommand_named}
 use Rattle.crossbar5_command.specs.declared.ask.Ask.{Ask}
 use Rattle.crossbar5_command.specs.declared.command_fault.CommandFault.TheVariants.{Memory}
 use Rattle.crossbar5_command.proofs.FaultKinds.{fault_for-among, fault_for-memory, told}
-use Rattle.crossbar5_command.proofs.ReplayLevel.{program_is_free, program_is_simple}
-use Rattle.crossbar5_command.proofs.ReplayWords.{matches_asked, no_words, replay_asked, replay_taken, same_values}
-use Rattle.crossbar5_command.proofs.OtherWords.{replay_only}
+use Rattle.crossbar5_command.proofs.OtherWords.{names_only, no_subcommand, subcommand_known}
+use Rattle.crossbar5_command.proofs.SubcommandWords.{program_is_free, program_is_simple, words_read, words_taken}
 use Rattle.crossbar5_command.proofs.command_line.command.Goals as goal
 
 -- ---- clap answered with an error
@@ -26,11 +28,10 @@ pub returns-in_err-matches-clause-passes : goal.returns-in_err-matches-clause-pa
 returns-in_err-matches-clause-passes c = memory c _
 
 pub returns-in_err-matches-clause-taken : goal.returns-in_err-matches-clause-taken
-returns-in_err-matches-clause-taken c = λ plan kinds is values. memory c _ (replay_taken (texts c.args.words.now) plan kinds is values)
+returns-in_err-matches-clause-taken c = λ s given asks values. memory c _ (words_taken (texts c.args.words.now) s given asks values)
 
-pub returns-in_err-matches-clause-no_words : goal.returns-in_err-matches-clause-no_words
-returns-in_err-matches-clause-no_words c = λ none.
-    memory c _ (ap (λ words. takes program (texts words)) none ∙ no_words.0)
+pub returns-in_err-matches-clause-unnamed : goal.returns-in_err-matches-clause-unnamed
+returns-in_err-matches-clause-unnamed c = λ few. memory c _ (no_subcommand (texts c.args.words.now) (rw length-map few)).0
 
 pub returns-in_err-matches-clause-faults : goal.returns-in_err-matches-clause-faults
 returns-in_err-matches-clause-faults c =
@@ -50,20 +51,18 @@ returns-clause-faults c =
 pub returns-clause-matches : goal.returns-clause-matches
 returns-clause-matches c =
     let words = texts c.args.words.now in
-    let ask = c.in_ok-replay_with.field-0 in
     let met = (c.in_ok-matches.ensures.matches (ap is_simple c.in_ok-program.ensures ∙ program_is_simple)).1
     ∙ ap (λ (a : App). subcommand_of a words) c.in_ok-program.ensures in
-    let asked = same_values _ _ _ _ ask c.value_of-plan.ensures c.value_of-kinds.ensures c.in_ok-replay_with.ensures in
-    matches_asked words c.in_ok-matches.matches c.subcommand_matches-options.result ask met
-    c.subcommand_matches-options.ensures.found c.subcommand_matches-options.ensures.rows asked
+    let known = subst (λ met. IfSome met (λ p. IsSome (subcommand_named subcommands p.0))) (sym met) (subcommand_known words (returns-clause-faults c)) in
+    subst (λ met. IsAskOf met c.in_ok-ask_of.field-0) met (c.in_ok-ask_of.ensures known)
 
 pub returns-clause-asked : goal.returns-clause-asked
-returns-clause-asked c = λ plan kinds is.
-    replay_asked (texts c.args.words.now) plan kinds c.in_ok-replay_with.field-0 is (returns-clause-faults c) (returns-clause-matches c)
+returns-clause-asked c = λ s given asks.
+    words_read (texts c.args.words.now) s given c.in_ok-ask_of.field-0 asks (returns-clause-faults c) (returns-clause-matches c)
 
 pub returns-clause-only : goal.returns-clause-only
-returns-clause-only c = replay_only (texts c.args.words.now) (returns-clause-faults c)
+returns-clause-only c = names_only (texts c.args.words.now) c.in_ok-ask_of.field-0 (returns-clause-faults c) (returns-clause-matches c)
 
-pub returns-clause-no_words : goal.returns-clause-no_words
-returns-clause-no_words c = λ none.
-    subst (λ met. IsAskOf met c.in_ok-replay_with.field-0) (ap (λ words. subcommand_of program (texts words)) none ∙ no_words.1) (returns-clause-matches c)
+pub returns-clause-unnamed : goal.returns-clause-unnamed
+returns-clause-unnamed c = λ few.
+    subst (λ met. IsAskOf met c.in_ok-ask_of.field-0) (no_subcommand (texts c.args.words.now) (rw length-map few)).1 (returns-clause-matches c)
