@@ -1,6 +1,6 @@
 -- What is asked by the matches of a subcommand.
 use Rattle.std.proofs.Common.{◌≡◌, ◌∙◌, ap, refl, sym, subst, cond, Bool, true, false, true≢false, List, [], ◌∷◌, Option, Some, None}
-use Rattle.std.specs.Prelude.{◌≢◌, Box, IfSome, IsSome, is_some, option_and_then, option_map, unwrap_or}
+use Rattle.std.specs.Prelude.{Box, IfSome, IsSome, is_some, option_and_then, option_map, unwrap_or}
 use Rattle.std.specs.Borrow.{Bor}
 use Rattle.std.specs.Box.{box_value}
 use Rattle.std.specs.Str.{bytes_eq}

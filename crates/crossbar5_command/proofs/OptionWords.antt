@@ -27,7 +27,7 @@ pub all_new : (given : List GivenOption) → AreNew [] given
 all_new [] = tt
 all_new (g ∷ rest) = (refl, all_new rest)
 
-other_way : (a b : Text) → bytes_eq a b ≡ false → bytes_eq b a ≡ false
+pub other_way : (a b : Text) → bytes_eq a b ≡ false → bytes_eq b a ≡ false
 other_way a b differs = false_from_ne_true (bytes_eq b a)
     (λ same. true≢false (sym ((bytes_eq-Decides a b).1 (sym ((bytes_eq-Decides b a).0 same))) ∙ differs))
 

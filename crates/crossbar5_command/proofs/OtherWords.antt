@@ -1,5 +1,5 @@
 -- What clap refuses at the place of the subcommand, and what it finds of words that it doesn't refuse.
-use Rattle.std.proofs.Common.{◌≡◌, ◌∙◌, ◌≤◌, ◌⊎◌, inl, inr, ap, arith, refl, sym, subst, cond, Bool, true, false, List, [], ◌∷◌, Option, Some, None, ℕ, length}
+use Rattle.std.proofs.Common.{◌≡◌, ◌∙◌, ◌≤◌, ◌⊎◌, inl, inr, ap, arith, refl, sym, subst, cond, Bool, true, false, List, [], ◌∷◌, Option, Some, None, ℕ, length, codes}
 use Rattle.std.specs.Prelude.{IfSome, IsSome, is_some, slice_get, option_map}
 use Rattle.std.specs.Option.{option_map_or}
 use Rattle.std.specs.Str.{bytes_eq, chars}
@@ -53,6 +53,11 @@ bundle_read (flag ∷ flags) none = go (slice_get (chars (flag ∷ flags)) 0) re
         let no_fault = sym (ap (λ first. bundle_step_fault top.rules false first (flag ∷ flags) 0 nothing_held (flags_fault top.rules false (length flags))) is) ∙ none in
         absurd (short_refused _ _ _ _ no_fault)
 
+-- `help` is answered with a text
+help_refused : IsRefused (turn_fault top names (walk_from nothing_held) (codes "help"))
+unfolding clap_on_literals
+help_refused = some_refused kind.DisplayHelp (kind.InvalidSubcommand ∷ [])
+
 -- ---- a word at the place of the subcommand
 module _ (word : Text) where
   abbrev met : Held × Step
@@ -95,12 +100,16 @@ module _ (word : Text) where
 
   -- so where no subcommand has its name, it is the end of the options
   by_no_name : subcommand_named subcommands word ≡ None → turn_fault top names (walk_from nothing_held) word ≡ [] → word ≡ dashes
-  by_no_name none_named none =
-      let no_name : subcommand_met names idle word ≡ None =
-      ap (option_map (λ label. label.0)) (label_by_name subcommands word ∙ ap (option_map (λ (s : Subcommand). label_of (level s))) none_named) in
-      let fault = word_fault top names false idle word nothing_held in
-      let none_of_word = sym (ap (λ name. other_fault top name word nothing_held) no_name) ∙ or_else-first fault (step_fault top 1 met.0 met.1) none in
-      by_end no_name (bytes_eq word dashes) refl none_of_word (or_else-second fault (step_fault top 1 met.0 met.1) none)
+  by_no_name none_named none = go (bytes_eq (codes "help") word) refl
+    where
+      go : (is_help : Bool) → bytes_eq (codes "help") word ≡ is_help → word ≡ dashes
+      go true is = absurd (help_refused (subst (λ w. turn_fault top names (walk_from nothing_held) w ≡ []) (sym ((bytes_eq-Decides (codes "help") word).0 is)) none))
+      go false no_help =
+          let no_name : subcommand_met names idle word ≡ None =
+          ap (option_map (λ label. label.0)) (label_by_name subcommands word no_help ∙ ap (option_map (λ (s : Subcommand). label_of (level s))) none_named) in
+          let fault = word_fault top names false idle word nothing_held in
+          let none_of_word = sym (ap (λ name. other_fault top name word nothing_held) no_name) ∙ or_else-first fault (step_fault top 1 met.0 met.1) none in
+          by_end no_name (bytes_eq word dashes) refl none_of_word (or_else-second fault (step_fault top 1 met.0 met.1) none)
 
 -- behind `--` there is no word
 nothing_more : (words : List Text) → walk_fault top names (walk_from nothing_held) (dashes ∷ words) ≡ [] → words ≡ []

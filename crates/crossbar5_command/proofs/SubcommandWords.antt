@@ -18,17 +18,17 @@ use Rattle.crossbar5_command.specs.Program.{program, program_of, subcommands}
 use Rattle.crossbar5_command.specs.Subcommand.{AreOptions, AreValues, AskFor, GivenOption, Subcommand, subcommand_named, value_of, words_of}
 use Rattle.crossbar5_command.specs.declared.ask.Ask.{Ask}
 use Rattle.crossbar5_command.proofs.OptionRows.{values_of_rows}
-use Rattle.crossbar5_command.proofs.OptionRules.{all_rules, are_sound, defaults_pass, level, rules_for}
-use Rattle.crossbar5_command.proofs.OptionWords.{all_new, options_read, options_taken}
+use Rattle.crossbar5_command.proofs.OptionRules.{all_rules, are_sound, defaults_pass, first_shape, level, rules_for}
+use Rattle.crossbar5_command.proofs.OptionWords.{all_new, options_read, options_taken, other_way}
 use Rattle.crossbar5_command.proofs.ValueWords.{or_else-first, or_else-second}
 
 -- ---- the subcommand that a name finds
 
--- among those that clap built
-shape_by_name : (subs : List Subcommand) (name : Text)
+-- among those that clap built, which has `help` behind them
+shape_by_name : (subs : List Subcommand) (name : Text) → bytes_eq (codes "help") name ≡ false
     → find (λ shape. answers_to name (label_of shape)) (built (program_of subs)).subs ≡ option_map level (subcommand_named subs name)
-shape_by_name [] name = refl
-shape_by_name (s ∷ rest) name = go (bytes_eq s.name name) (shape_by_name rest name)
+shape_by_name [] name no_help = ap (λ same. cond (same || false) (Some (first_shape (built (program_of [])).subs)) None) no_help
+shape_by_name (s ∷ rest) name no_help = go (bytes_eq s.name name) (shape_by_name rest name no_help)
   where
     go : (same : Bool) → find (λ shape. answers_to name (label_of shape)) (built (program_of rest)).subs ≡ option_map level (subcommand_named rest name)
         → cond (same || false) (Some (level s)) (find (λ shape. answers_to name (label_of shape)) (built (program_of rest)).subs)
@@ -37,10 +37,10 @@ shape_by_name (s ∷ rest) name = go (bytes_eq s.name name) (shape_by_name rest 
     go false is = is
 
 -- and among their names
-pub label_by_name : (subs : List Subcommand) (name : Text)
+pub label_by_name : (subs : List Subcommand) (name : Text) → bytes_eq (codes "help") name ≡ false
     → find (answers_to name) (names_of (built (program_of subs))) ≡ option_map (λ (s : Subcommand). label_of (level s)) (subcommand_named subs name)
-label_by_name [] name = refl
-label_by_name (s ∷ rest) name = go (bytes_eq s.name name) (label_by_name rest name)
+label_by_name [] name no_help = ap (λ same. cond (same || false) (Some (codes "help", [])) None) no_help
+label_by_name (s ∷ rest) name no_help = go (bytes_eq s.name name) (label_by_name rest name no_help)
   where
     go : (same : Bool) → find (answers_to name) (names_of (built (program_of rest))) ≡ option_map (λ (s : Subcommand). label_of (level s)) (subcommand_named rest name)
         → cond (same || false) (Some (label_of (level s))) (find (answers_to name) (names_of (built (program_of rest))))
@@ -117,8 +117,12 @@ module _ (name : Text) (s : Subcommand) (is : subcommand_named subcommands name 
   pub found : subcommand_named subcommands s.name ≡ Some s
   found = ap (subcommand_named subcommands) named ∙ is
 
+  no_help : bytes_eq (codes "help") s.name ≡ false
+  no_help = other_way s.name (codes "help") (not-true _ (and_parts (are_sound s.options) _ sound).1)
+
   met_name : subcommand_met names idle name ≡ Some s.name
-  met_name = ap (option_map (λ label. label.0)) (label_by_name subcommands name ∙ ap (option_map (λ (s : Subcommand). label_of (level s))) is)
+  met_name = ap (option_map (λ label. label.0)) (label_by_name subcommands name (ap (bytes_eq (codes "help")) (sym named) ∙ no_help)
+      ∙ ap (option_map (λ (s : Subcommand). label_of (level s))) is)
 
   abbrev step : Option Text → Held × Step
   step met = subcommand_or_other top.rules met idle 1 name nothing_held
@@ -132,7 +136,7 @@ module _ (name : Text) (s : Subcommand) (is : subcommand_named subcommands name 
   stops words = ap (λ w. fold (walked top.rules names) w words) first_walked ∙ sym (walk_stopped top.rules names (stopped_at s.name []) s.name [] words)
 
   shape_is : find (λ shape. answers_to s.name (label_of shape)) (built program).subs ≡ Some (level s)
-  shape_is = shape_by_name subcommands s.name ∙ ap (option_map level) found
+  shape_is = shape_by_name subcommands s.name no_help ∙ ap (option_map level) found
 
   -- clap finds it, with the matches of the words behind it
   pub subcommand_is : (line : Text) (words : List Text) → subcommand_of program (line ∷ name ∷ words) ≡ Some (s.name, rows_after rules [] words)

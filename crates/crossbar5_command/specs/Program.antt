@@ -58,14 +58,10 @@ rule_for o = record (new_rule o.name) {
 abbrev pub shape_for : Subcommand → Shape
 shape_for s = record (new_shape s.name) { rules = map rule_for s.options }
 
--- the program `crossbar5`, with a version and these subcommands: it has no `help` beside them
+-- the program `crossbar5`, with a version and these subcommands
 abbrev pub program_of : List Subcommand → App
 program_of subs = record {
-  top = record (new_shape (codes "crossbar5")) {
-    is_leaf = false;
-    has_version = true;
-    disable_help_subcommand = true;
-  };
+  top = record (new_shape (codes "crossbar5")) { is_leaf = false; has_version = true };
   subs = map shape_for subs;
 }
 

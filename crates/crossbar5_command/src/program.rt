@@ -27,6 +27,12 @@ office, and writes what came of each job to standard output. Without a command
 it replays with the example plan and two markers for all jobs. The options of
 replay, --plan FILE and --markers KINDS, are told by 'crossbar5 replay --help'.";
 
+// The usage stands under each refusal too, so that options with no subcommand are told where they
+// belong.
+const USAGE: &str = "\
+crossbar5 [COMMAND]
+       crossbar5 replay [--plan <FILE>] [--markers <KINDS>]";
+
 const ABOUT_REPLAY: &str = "\
 Replays traffic from standard input with a plan and markers of your choice";
 
@@ -65,7 +71,7 @@ pub fn program<'a>(alloc: Global) -> Result<Command<'a>, AllocError>
         .version("0.1.0")
         .about(ABOUT)
         .after_help(EXAMPLE_AND_STATUSES)
-        .disable_help_subcommand(true)
+        .override_usage(USAGE)
         .subcommand(replay(alloc)?)
 }
 

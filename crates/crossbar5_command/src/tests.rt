@@ -91,7 +91,7 @@ fn other_words_are_refused(rt: HostRuntime) -> Result<(), Fail> {
     for (line, kind) in [
         ("crossbar5 live", ErrorKind::InvalidSubcommand),
         ("crossbar5 Replay", ErrorKind::InvalidSubcommand),
-        ("crossbar5 help", ErrorKind::InvalidSubcommand),
+        ("crossbar5 help live", ErrorKind::InvalidSubcommand),
         ("crossbar5 ", ErrorKind::InvalidSubcommand),
         ("crossbar5 -- replay", ErrorKind::UnknownArgument),
         ("crossbar5 --plan a.toml", ErrorKind::UnknownArgument),
@@ -142,6 +142,8 @@ fn help_and_version_are_for_standard_output(rt: HostRuntime) -> Result<(), Fail>
     for (line, kind) in [
         ("crossbar5 --help", ErrorKind::DisplayHelp),
         ("crossbar5 -h", ErrorKind::DisplayHelp),
+        ("crossbar5 help", ErrorKind::DisplayHelp),
+        ("crossbar5 help replay", ErrorKind::DisplayHelp),
         ("crossbar5 --help live", ErrorKind::DisplayHelp),
         ("crossbar5 --help a b c d e f g h", ErrorKind::DisplayHelp),
         ("crossbar5 replay --help", ErrorKind::DisplayHelp),
@@ -184,6 +186,28 @@ fn help_tells_how_to_start(rt: HostRuntime) -> Result<(), Fail> {
         ] {
             assert!(rt; text.as_str().contains(part), "{line}: {part}");
         }
+    }
+    Ok(())
+}
+
+#[test]
+fn help_as_a_word_is_help_as_an_option(rt: HostRuntime) -> Result<(), Fail> {
+    for (word, option) in [
+        ("crossbar5 help", "crossbar5 --help"),
+        ("crossbar5 help replay", "crossbar5 replay --help"),
+    ] {
+        let (word, option) = (text_of(rt.alloc(), word)?, text_of(rt.alloc(), option)?);
+        assert_eq!(rt; word.as_str(), option.as_str());
+    }
+    Ok(())
+}
+
+#[test]
+fn an_option_in_the_place_of_replay_is_told_where_it_belongs(rt: HostRuntime) -> Result<(), Fail> {
+    for line in ["crossbar5 --plan a.toml", "crossbar5 --markers D"] {
+        let text = text_of(rt.alloc(), line)?;
+        let usage = "\n       crossbar5 replay [--plan <FILE>] [--markers <KINDS>]\n";
+        assert!(rt; text.as_str().contains(usage), "{text}");
     }
     Ok(())
 }
