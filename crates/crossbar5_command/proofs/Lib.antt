@@ -1,4 +1,5 @@
 pub mod FaultKinds
+pub mod FirstFound
 pub mod OptionRules
 pub mod OptionRows
 pub mod ValueWords

@@ -1,9 +1,9 @@
 -- The rows of options that are given, with the defaults of those that aren't.
 use Rattle.std.proofs.Common.{◌≡◌, ◌∙◌, ap, refl, sym, cond, Bool, true, false, true≢false, List, [], ◌∷◌, ◌++◌, Option, Some, None, map, append-nil, codes}
-use Rattle.std.specs.Prelude.{◌||◌, is_some, find, fold, option_and_then, option_map, slice_get}
+use Rattle.std.specs.Prelude.{◌||◌, is_some, not, find, fold, option_and_then, option_map, slice_get}
 use Rattle.std.specs.Option.{option_map_or, option_or}
 use Rattle.std.specs.Str.{bytes_eq}
-use Rattle.std.proofs.lemmas.Bool.{or_parts}
+use Rattle.std.proofs.lemmas.Bool.{and_parts, not-true, or_parts}
 use Rattle.std.proofs.lemmas.List.Folds.{find-append}
 use Rattle.std.proofs.lemmas.Slice.Eq.{bytes_eq-Decides}
 use Rattle.clap.specs.Walk.{Row, Text, at_row, default_rows, first_of, has_row, more_values, reading_by, with_default, with_values, without}
@@ -11,8 +11,9 @@ use Rattle.clap.specs.declared.builder.value_parser.Reading.{Reading}
 use Rattle.clap.specs.declared.builder.value_parser.Reading.TheVariants.{AsWritten}
 use Rattle.clap.specs.declared.parser.matches.ValueSource.{ValueSource}
 use Rattle.clap.specs.declared.parser.matches.ValueSource.TheVariants.{CommandLine, DefaultValue}
+use Rattle.clap.proofs.WalkLemmas.{find-map}
 use Rattle.crossbar5_command.specs.Subcommand.{Argument, GivenOption, NamedOption, default_of, given_named, given_value, nothing, option_named, value, value_of}
-use Rattle.crossbar5_command.proofs.OptionRules.{are_sound, built_rule, rules_for, sound}
+use Rattle.crossbar5_command.proofs.OptionRules.{are_apart, built_rule, rules_for}
 
 abbrev pub row_of_value : Text → Reading → ValueSource → Text → Row
 row_of_value name how source v = record { id = name; values = v ∷ []; count = None; source = Some source; reading = how }
@@ -61,14 +62,7 @@ has_row-more id (r ∷ rows) row none other =
 
 pub given_found : (options : List NamedOption) (id : Text) (given : List GivenOption)
     → find (λ r. bytes_eq r.id id) (map (row_for options) given) ≡ option_map (row_for options) (given_named given id)
-given_found options id [] = refl
-given_found options id (g ∷ rest) = go (bytes_eq g.name id) (given_found options id rest)
-  where
-    go : (here : Bool) → find (λ r. bytes_eq r.id id) (map (row_for options) rest) ≡ option_map (row_for options) (given_named rest id)
-        → cond here (Some (row_for options g)) (find (λ r. bytes_eq r.id id) (map (row_for options) rest))
-        ≡ option_map (row_for options) (cond here (Some g) (given_named rest id))
-    go true is = refl
-    go false is = is
+given_found options id given = sym (find-map (λ r. bytes_eq r.id id) (row_for options) given)
 
 -- ---- with defaults
 
@@ -138,7 +132,7 @@ default_found o rest id = go (bytes_eq o.name id)
     go true = refl
     go false = refl
 
-all_defaults : (options : List NamedOption) (rows : List Row) (id : Text) → are_sound options ≡ true
+all_defaults : (options : List NamedOption) (rows : List Row) (id : Text) → are_apart options ≡ true
     → value_or (row_named id (fold with_default rows (rules_for options))) None ≡ value_or (row_named id rows) (default_in options id)
 all_defaults [] rows id are = ap (λ rs. value_or (row_named id rs) None) (go (has_row (codes "help") rows))
   where
@@ -149,9 +143,9 @@ all_defaults (o ∷ rest) rows id are =
     let how = reading_by (built_rule o) in
     ap (λ ds. value_or (row_named id (fold with_default (cond (has_row o.name rows) rows (default_rows o.name how ds rows)) (rules_for rest))) None)
     (defaults_listed o.name o.argument)
-    ∙ all_defaults rest (rows_with o.name how (default_of o.argument) rows) id (sound o rest are).later
+    ∙ all_defaults rest (rows_with o.name how (default_of o.argument) rows) id (and_parts (not (is_some (option_named rest o.name))) _ are).1
     ∙ one_default o.name how (default_of o.argument) rows id (default_in rest id)
-    (λ same. ap (default_in rest) (sym ((bytes_eq-Decides o.name id).0 same)) ∙ none_of (option_named rest o.name) (sound o rest are).apart)
+    (λ same. ap (default_in rest) (sym ((bytes_eq-Decides o.name id).0 same)) ∙ none_of (option_named rest o.name) (not-true _ (and_parts (not (is_some (option_named rest o.name))) _ are).0))
     ∙ ap (value_or (row_named id rows)) (sym (default_found o rest id))
   where
     none_of : (found : Option NamedOption) → is_some found ≡ false → option_and_then (λ o. default_of o.argument) found ≡ None
@@ -159,7 +153,7 @@ all_defaults (o ∷ rest) rows id are =
     none_of (Some o) none = absurd (true≢false none)
 
 -- the value of each option, where rows of just what is given stand before the defaults
-pub values_of_rows : (options : List NamedOption) (given : List GivenOption) (id : Text) → are_sound options ≡ true
+pub values_of_rows : (options : List NamedOption) (given : List GivenOption) (id : Text) → are_apart options ≡ true
     → first_of id (fold with_default (map (row_for options) given) (rules_for options)) ≡ value_of options given id
 values_of_rows options given id are =
     sym (as_value (row_named id (fold with_default (map (row_for options) given) (rules_for options))))

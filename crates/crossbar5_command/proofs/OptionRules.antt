@@ -1,6 +1,6 @@
 -- What clap builds of the options of a subcommand, and which of them a name finds.
 use Rattle.std.proofs.Common.{◌≡◌, ◌∙◌, ◌&&◌, ◌+◌, ap, arith, refl, sym, cond, Bool, true, false, true≢false, List, [], ◌∷◌, ◌++◌, Some, None, ℕ, suc, length, map, nat_lt, take, codes}
-use Rattle.std.specs.Prelude.{◌||◌, ◌==◌, not, is_some, option_map, unwrap_or}
+use Rattle.std.specs.Prelude.{◌||◌, ◌==◌, not, is_some, option_map}
 use Rattle.std.specs.List.{after_first, before_first, list_all, list_any, position_or_len}
 use Rattle.std.specs.Str.{bytes_eq}
 use Rattle.std.proofs.lemmas.Bool.{and_from, and_parts, not-true, or_parts}
@@ -11,6 +11,7 @@ use Rattle.clap.specs.Takes.{default_passes}
 use Rattle.clap.specs.Walk.{Rule, Text, arg_by_id, arg_by_index, arg_by_long}
 use Rattle.crossbar5_command.specs.Program.{program_of, rule_for}
 use Rattle.crossbar5_command.specs.Subcommand.{NamedOption, Subcommand, hyphen, option_named}
+use Rattle.crossbar5_command.proofs.FirstFound.{found_first, found_passes, or_false}
 
 -- an option as clap builds it, and all of a subcommand, with the `help` that it adds
 abbrev pub built_rule : NamedOption → Rule
@@ -31,23 +32,17 @@ level s = first_shape (built (program_of (s ∷ []))).subs
 abbrev pub is_plain_name : Text → Bool
 is_plain_name name = nat_lt 0 (length name) && (not (has_byte 61 name) && not (bytes_eq (codes "help") name))
 
--- the names are plain and differ, and each default passes the test
+-- the name is plain, and the default passes the test
+abbrev pub is_sound_option : NamedOption → Bool
+is_sound_option o = is_plain_name o.name && default_passes (built_rule o)
+
+abbrev pub are_apart : List NamedOption → Bool
+are_apart [] = true
+are_apart (o ∷ rest) = not (is_some (option_named rest o.name)) && are_apart rest
+
+-- each option is sound, and their names differ
 abbrev pub are_sound : List NamedOption → Bool
-are_sound [] = true
-are_sound (o ∷ rest) = is_plain_name o.name && (not (is_some (option_named rest o.name)) && (default_passes (built_rule o) && are_sound rest))
-
-pub record IsSound (o : NamedOption) (rest : List NamedOption) : Type 0 where
-  pub plain : is_plain_name o.name ≡ true
-  pub apart : is_some (option_named rest o.name) ≡ false
-  pub passes : default_passes (built_rule o) ≡ true
-  pub later : are_sound rest ≡ true
-
-pub sound : (o : NamedOption) (rest : List NamedOption) → are_sound (o ∷ rest) ≡ true → IsSound o rest
-sound o rest is =
-    let first = and_parts (is_plain_name o.name) _ is in
-    let second = and_parts (not (is_some (option_named rest o.name))) _ first.1 in
-    let third = and_parts (default_passes (built_rule o)) _ second.1 in
-    record { plain = first.0; apart = not-true _ second.0; passes = third.0; later = third.1 }
+are_sound options = list_all is_sound_option options && are_apart options
 
 -- ---- the rule that a name finds
 
@@ -55,24 +50,13 @@ module _ (name : Text) where
   pub rule_by_long : (options : List NamedOption) → bytes_eq (codes "help") name ≡ false
       → arg_by_long (rules_for options) name ≡ option_map built_rule (option_named options name)
   rule_by_long [] no_help = ap (λ same. cond (same || false) (Some (filled help_rule)) None) no_help
-  rule_by_long (o ∷ rest) no_help = go (bytes_eq o.name name) (rule_by_long rest no_help)
-    where
-      go : (same : Bool) → arg_by_long (rules_for rest) name ≡ option_map built_rule (option_named rest name)
-          → cond (same || false) (Some (built_rule o)) (arg_by_long (rules_for rest) name)
-          ≡ option_map built_rule (cond same (Some o) (option_named rest name))
-      go true is = refl
-      go false is = is
+  rule_by_long (o ∷ rest) no_help =
+      found_first built_rule _ _ (or_false (bytes_eq o.name name)) o _ _ (rule_by_long rest no_help)
 
   pub rule_by_id : (options : List NamedOption) → bytes_eq (codes "help") name ≡ false
       → arg_by_id (rules_for options) name ≡ option_map built_rule (option_named options name)
   rule_by_id [] no_help = ap (λ same. cond same (Some (filled help_rule)) None) no_help
-  rule_by_id (o ∷ rest) no_help = go (bytes_eq o.name name) (rule_by_id rest no_help)
-    where
-      go : (same : Bool) → arg_by_id (rules_for rest) name ≡ option_map built_rule (option_named rest name)
-          → cond same (Some (built_rule o)) (arg_by_id (rules_for rest) name)
-          ≡ option_map built_rule (cond same (Some o) (option_named rest name))
-      go true is = refl
-      go false is = is
+  rule_by_id (o ∷ rest) no_help = found_first built_rule (bytes_eq o.name name) _ refl o _ _ (rule_by_id rest no_help)
 
 -- none stands at a position
 pub no_positional : (options : List NamedOption) (i : ℕ) → arg_by_index (rules_for options) i ≡ None
@@ -85,9 +69,11 @@ pub all_rules : (p : Rule → Bool) → ((o : NamedOption) → p (built_rule o) 
 all_rules p each help [] = and_from _ _ help refl
 all_rules p each help (o ∷ rest) = and_from _ _ (each o) (all_rules p each help rest)
 
-pub defaults_pass : (options : List NamedOption) → are_sound options ≡ true → list_all default_passes (rules_for options) ≡ true
+pub defaults_pass : (options : List NamedOption) → list_all is_sound_option options ≡ true → list_all default_passes (rules_for options) ≡ true
 defaults_pass [] are = refl
-defaults_pass (o ∷ rest) are = and_from _ _ (sound o rest are).passes (defaults_pass rest (sound o rest are).later)
+defaults_pass (o ∷ rest) are =
+    let parts = and_parts (is_sound_option o) (list_all is_sound_option rest) are in
+    and_from _ _ (and_parts (is_plain_name o.name) _ parts.0).1 (defaults_pass rest parts.1)
 
 -- ---- the option that a name finds
 
@@ -95,21 +81,12 @@ pub same_text : (name : Text) → bytes_eq name name ≡ true
 same_text name = (bytes_eq-Decides name name).1 refl
 
 -- it has the name, which is plain
-module _ (name : Text) where
-  pub name_found : (options : List NamedOption) (o : NamedOption) → are_sound options ≡ true → option_named options name ≡ Some o
-      → (o.name ≡ name) × (is_plain_name name ≡ true)
-  name_found [] o are is = absurd (true≢false (sym (ap is_some is)))
-  name_found (first ∷ rest) o are is =
-      go (bytes_eq first.name name) refl is (name_found rest o (sound first rest are).later)
-    where
-      go : (same : Bool) → bytes_eq first.name name ≡ same → cond same (Some first) (option_named rest name) ≡ Some o
-          → (option_named rest name ≡ Some o → (o.name ≡ name) × (is_plain_name name ≡ true))
-          → (o.name ≡ name) × (is_plain_name name ≡ true)
-      go true same is later =
-          let equal = (bytes_eq-Decides first.name name).0 same in
-          let is_first : first ≡ o = ap (λ found. unwrap_or found first) is in
-          (ap (λ (x : NamedOption). x.name) (sym is_first) ∙ equal, ap is_plain_name (sym equal) ∙ (sound first rest are).plain)
-      go false differs is later = later is
+pub name_found : (name : Text) (options : List NamedOption) (o : NamedOption) → are_sound options ≡ true → option_named options name ≡ Some o
+    → (o.name ≡ name) × (is_plain_name name ≡ true)
+name_found name options o are is =
+    let passes = found_passes (λ x. bytes_eq x.name name) is_sound_option options o (and_parts (list_all is_sound_option options) _ are).0 is in
+    let equal = (bytes_eq-Decides o.name name).0 passes.0 in
+    (equal, sym (ap is_plain_name equal) ∙ (and_parts (is_plain_name o.name) _ passes.1).0)
 
 -- ---- the word of an option
 

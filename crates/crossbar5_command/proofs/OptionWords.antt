@@ -10,6 +10,7 @@ use Rattle.clap.specs.Walk.{Held, Row, Rule, Step, Text, Walk, after_flag, after
 use Rattle.clap.specs.Takes.{flag_word_passes, long_passes, settle_passes, step_passes, turn_passes, use_passes, walk_passes}
 use Rattle.clap.specs.Faults.{positional_fault, settle_fault, turn_fault, use_fault, walk_fault}
 use Rattle.clap.specs.declared.builder.value_parser.Reading.TheVariants.{AsWritten}
+use Rattle.clap.specs.declared.builder.value_parser.ValueParser.{ValueParser}
 use Rattle.clap.specs.declared.error.kind.ErrorKind.TheVariants as kind
 use Rattle.clap.specs.declared.parser.matches.ValueSource.TheVariants.{CommandLine}
 use Rattle.clap.proofs.OnLiterals.{clap_on_literals}
@@ -105,26 +106,7 @@ module _ (s : Subcommand) where
         ∙ ap (λ found. long_passes rules false found None held) is.by_long ∙ passes)
         (ap (λ m. step_passes (level s) 1 m.0 m.1) met_is ∙ step)
 
-  -- ---- its value
-
-  value_walked : (name : Text) (argument : Argument) → IsOption name argument → (v : Text) → Fits (Some v) argument → (rows : List Row)
-      → IsRead s name rows v → walked rules [] (before_value name rows) v ≡ between rows (Some (name, v ∷ []))
-  unfolding clap_on_literals
-  value_walked name nothing is v fits rows read = absurd fits
-  value_walked name (value test default) is v fits rows read =
-      let before = before_value name rows in
-      let held = waiting_for name rows in
-      ap (λ met. after_step rules v before met.0 met.1) read
-      ∙ ap (λ found. after_step rules v before (option_word found name v held).0 (next (option_word found name v held).1)) is.by_id
-      ∙ ap (λ same. record before { held = pushed name v held; waiting = cond (nat_lt (cond same 1 0) 1) (option name) idle }) (same_text name)
-
-  value_missing : (name : Text) (argument : Argument) → IsOption name argument → (v : Text) → Fits (Some v) argument → (rows : List Row)
-      → IsRefused (settle_fault rules false (waiting_for name rows))
-  value_missing name nothing is v fits rows none = absurd fits
-  value_missing name (value test default) is v fits rows none =
-      some_refused kind.InvalidValue [] (sym (ap (λ found. option_map_or (λ a. use_fault false a [] rows) found []) is.by_id) ∙ none)
-
-  -- ---- an option with its value
+  -- ---- one option
 
   abbrev pub after : Walk → List Text → Walk
   after w words = fold (walked rules []) w words
@@ -140,49 +122,102 @@ module _ (s : Subcommand) where
     walks : after (between rows pending) (words_of g) ≡ between rows_then pending_then
     settles : settled_rows rules pending_then rows_then ≡ settled_rows rules pending rows ++ row_for s.options g ∷ []
 
-  module _ (name : Text) (v : Text) (rows : List Row) (pending : Option (Text × List Text)) where
-    abbrev valued : GivenOption
-    valued = record { name = name; value = Some v }
+  record IsTaken (g : GivenOption) (rows : List Row) (pending : Option (Text × List Text)) : Type 0 where
+    steps : Steps g rows pending
+    settled : settle_passes rules false (held_with steps.rows_then steps.pending_then) ≡ true
+    passes : (more : List Text) → walk_passes (level s) [] (between steps.rows_then steps.pending_then) more ≡ true
+        → walk_passes (level s) [] (between rows pending) (words_of g ++ more) ≡ true
+
+  -- `--` is no value
+  end_refused : (name : Text) (rows : List Row) (more : List Text) → IsRefused (settle_fault rules false (waiting_for name rows))
+      → walk_fault (level s) [] (walked rules [] (before_value name rows) dashes) more ≡ []
+      → settle_fault rules false (after (walked rules [] (before_value name rows) dashes) more).held ≡ [] → ⊥
+  unfolding clap_on_literals
+  end_refused name rows [] missing none end = missing end
+  end_refused name rows (word ∷ more) missing none end =
+      some_refused kind.UnknownArgument []
+      (sym (ap (λ found. option_map_or (λ a. positional_fault rules false a (waiting_for name rows)) found (kind.UnknownArgument ∷ [])) (no_positional s.options 1))
+      ∙ or_else-first _ (walk_fault (level s) [] (walked rules [] (walked rules [] (before_value name rows) dashes) word) more) none)
+
+  record IsReadOn (g : GivenOption) (rows : List Row) (pending : Option (Text × List Text)) (more : List Text) : Type 0 where
+    steps : Steps g rows pending
+    later : walk_fault (level s) [] (between steps.rows_then steps.pending_then) more ≡ []
+
+  -- ---- an option with a value
+  module _ (name v : Text) (test : Option ValueParser) (default : Option Text) (is : IsOption name (value test default))
+      (rows : List Row) (pending : Option (Text × List Text)) (new : has_row name (settled_rows rules pending rows) ≡ false) where
+    abbrev argument : Argument
+    argument = value test default
 
     abbrev so_far : List Row
     so_far = settled_rows rules pending rows
 
-    abbrev word_walk : Walk
-    word_walk = walked rules [] (between rows pending) (hyphen ∷ hyphen ∷ name)
+    abbrev before : Walk
+    before = before_value name so_far
 
-    opened : (argument : Argument) → IsOption name argument → Fits (Some v) argument → word_walk ≡ before_value name so_far
-    opened nothing is fits = absurd fits
-    opened (value test default) is fits = word_walked name (value test default) is rows pending
+    opened : walked rules [] (between rows pending) (hyphen ∷ hyphen ∷ name) ≡ before
+    opened = word_walked name argument is rows pending
 
-    both_walked : (argument : Argument) → IsOption name argument → Fits (Some v) argument → IsRead s name so_far v
-        → walked rules [] word_walk v ≡ between so_far (Some (name, v ∷ []))
-    both_walked argument is fits read = ap (λ w. walked rules [] w v) (opened argument is fits) ∙ value_walked name argument is v fits so_far read
+    value_walked : IsRead s name so_far v → walked rules [] before v ≡ between so_far (Some (name, v ∷ []))
+    unfolding clap_on_literals
+    value_walked read =
+        let held = waiting_for name so_far in
+        ap (λ met. after_step rules v before met.0 met.1) read
+        ∙ ap (λ found. after_step rules v before (option_word found name v held).0 (next (option_word found name v held).1)) is.by_id
+        ∙ ap (λ same. record before { held = pushed name v held; waiting = cond (nat_lt (cond same 1 0) 1) (option name) idle }) (same_text name)
 
-    one_row : (argument : Argument) → IsOption name argument → Fits (Some v) argument → has_row name so_far ≡ false
-        → settled_rows rules (Some (name, v ∷ [])) so_far ≡ so_far ++ row_for s.options valued ∷ []
-    one_row nothing is fits new = absurd fits
-    one_row (value test default) is fits new =
-        ap (λ found. used_by_id found (v ∷ []) so_far) is.by_id
-        ∙ row_replaced name (reading_by (built_rule (record { name = name; argument = value test default }))) CommandLine v so_far new
-        ∙ ap (λ how. so_far ++ row_of_value name how CommandLine v ∷ []) (sym is.reading)
-
-    value_steps : (argument : Argument) → IsOption name argument → Fits (Some v) argument → has_row name so_far ≡ false → IsRead s name so_far v
-        → Steps valued rows pending
-    value_steps argument is fits new read = record {
+    value_steps : IsRead s name so_far v → Steps (record { name = name; value = Some v }) rows pending
+    value_steps read = record {
       rows_then = so_far;
       pending_then = Some (name, v ∷ []);
-      walks = both_walked argument is fits read;
-      settles = one_row argument is fits new;
+      walks = ap (λ w. walked rules [] w v) opened ∙ value_walked read;
+      settles = ap (λ found. used_by_id found (v ∷ []) so_far) is.by_id
+          ∙ row_replaced name (reading_by (built_rule (record { name = name; argument = argument }))) CommandLine v so_far new
+          ∙ ap (λ how. so_far ++ row_of_value name how CommandLine v ∷ []) (sym is.reading);
     }
 
-  module _ (name : Text) (rows : List Row) (pending : Option (Text × List Text)) where
-    abbrev alone : GivenOption
-    alone = record { name = name; value = None }
+    value_taken : IsValueFor argument v → settle_passes rules false (held_with rows pending) ≡ true
+        → IsTaken (record { name = name; value = Some v }) rows pending
+    unfolding walk_passes value_steps
+    value_taken can settle =
+        let read = value_read s name so_far v can.0 in
+        record {
+          steps = value_steps read.0;
+          settled = ap (λ found. option_map_or (λ a. use_passes false a (v ∷ []) so_far) found true) is.by_id
+              ∙ and_from _ _ (ap (λ has. not has || false) new) (and_from _ _ can.1 refl);
+          passes = λ more later. and_from _ _ (word_passes name argument is rows pending settle refl)
+              (subst (λ w. walk_passes (level s) [] w (v ∷ more) ≡ true) (sym opened)
+              (and_from _ _ read.1 (subst (λ w. walk_passes (level s) [] w more ≡ true) (sym (value_walked read.0)) later)));
+        }
 
-    flag_steps : (argument : Argument) → IsOption name argument → Fits None argument → has_row name (settled_rows rules pending rows) ≡ false
-        → Steps alone rows pending
-    flag_steps (value test default) is fits new = absurd fits
-    flag_steps nothing is fits new =
+    missing : IsRefused (settle_fault rules false (waiting_for name so_far))
+    missing none =
+        some_refused kind.InvalidValue [] (sym (ap (λ found. option_map_or (λ a. use_fault false a [] so_far) found []) is.by_id) ∙ none)
+
+    value_read_on : (more : List Text) → walk_fault (level s) [] (between rows pending) ((hyphen ∷ hyphen ∷ name) ∷ v ∷ more) ≡ []
+        → settle_fault rules false (after (between rows pending) ((hyphen ∷ hyphen ∷ name) ∷ v ∷ more)).held ≡ []
+        → IsReadOn (record { name = name; value = Some v }) rows pending more
+    unfolding walk_fault value_steps
+    value_read_on more none end =
+        let none_then = subst (λ w. walk_fault (level s) [] w (v ∷ more) ≡ []) opened
+        (or_else-second (turn_fault (level s) [] (between rows pending) (hyphen ∷ hyphen ∷ name)) _ none) in
+        let end_then = subst (λ w. settle_fault rules false (after w (v ∷ more)).held ≡ []) opened end in
+        let none_later = or_else-second (turn_fault (level s) [] before v) (walk_fault (level s) [] (walked rules [] before v) more) none_then in
+        elim (value_or_end s name so_far missing v (or_else-first (turn_fault (level s) [] before v) _ none_then)) [
+          | inl read ↦ record {
+            steps = value_steps read;
+            later = subst (λ w. walk_fault (level s) [] w more ≡ []) (value_walked read) none_later;
+          }
+          | inr ends ↦ absurd (end_refused name so_far more missing
+              (subst (λ t. walk_fault (level s) [] (walked rules [] before t) more ≡ []) ends none_later)
+              (subst (λ t. settle_fault rules false (after (walked rules [] before t) more).held ≡ []) ends end_then))
+        ]
+
+  -- ---- an option that stands alone
+  module _ (name : Text) (is : IsOption name nothing) (rows : List Row) (pending : Option (Text × List Text))
+      (new : has_row name (settled_rows rules pending rows) ≡ false) where
+    flag_steps : Steps (record { name = name; value = None }) rows pending
+    flag_steps =
         let rule = built_rule (record { name = name; argument = nothing }) in
         let so_far = settled_rows rules pending rows in
         record {
@@ -193,56 +228,40 @@ module _ (s : Subcommand) where
               ∙ ap (λ how. so_far ++ row_of_value name how CommandLine (codes "true") ∷ []) (sym is.reading);
         }
 
+    flag_taken : settle_passes rules false (held_with rows pending) ≡ true → IsTaken (record { name = name; value = None }) rows pending
+    unfolding walk_passes flag_steps
+    flag_taken settle = record {
+      steps = flag_steps;
+      settled = refl;
+      passes = λ more later. and_from _ _
+          (word_passes name nothing is rows pending (and_from _ _ settle (ap (λ has. (not has || false) && true) new)) refl)
+          (subst (λ w. walk_passes (level s) [] w more ≡ true) (sym (word_walked name nothing is rows pending)) later);
+    }
+
+    flag_read_on : (more : List Text) → walk_fault (level s) [] (between rows pending) ((hyphen ∷ hyphen ∷ name) ∷ more) ≡ []
+        → IsReadOn (record { name = name; value = None }) rows pending more
+    unfolding walk_fault flag_steps
+    flag_read_on more none = record {
+      steps = flag_steps;
+      later = subst (λ w. walk_fault (level s) [] w more ≡ []) (word_walked name nothing is rows pending)
+          (or_else-second (turn_fault (level s) [] (between rows pending) (hyphen ∷ hyphen ∷ name)) _ none);
+    }
+
   -- ---- options with values of their own are taken
-
-  record IsTaken (g : GivenOption) (rows : List Row) (pending : Option (Text × List Text)) : Type 0 where
-    steps : Steps g rows pending
-    settled : settle_passes rules false (held_with steps.rows_then steps.pending_then) ≡ true
-    passes : (more : List Text) → walk_passes (level s) [] (between steps.rows_then steps.pending_then) more ≡ true
-        → walk_passes (level s) [] (between rows pending) (words_of g ++ more) ≡ true
-
-  value_taken : (name v : Text) (argument : Argument) → IsOption name argument → Fits (Some v) argument → IsValueFor argument v
-      → (rows : List Row) (pending : Option (Text × List Text)) → has_row name (settled_rows rules pending rows) ≡ false
-      → settle_passes rules false (held_with rows pending) ≡ true → IsTaken (record { name = name; value = Some v }) rows pending
-  unfolding walk_passes value_steps
-  value_taken name v nothing is fits can rows pending new settle = absurd fits
-  value_taken name v (value test default) is fits can rows pending new settle =
-      let argument = value test default in
-      let so_far = settled_rows rules pending rows in
-      let read = value_read s name so_far v can.0 in
-      record {
-        steps = value_steps name v rows pending argument is fits new read.0;
-        settled = ap (λ found. option_map_or (λ a. use_passes false a (v ∷ []) so_far) found true) is.by_id
-            ∙ and_from _ _ (ap (λ has. not has || false) new) (and_from _ _ can.1 refl);
-        passes = λ more later. and_from _ _ (word_passes name argument is rows pending settle refl)
-            (subst (λ w. walk_passes (level s) [] w (v ∷ more) ≡ true) (sym (opened name v rows pending argument is fits))
-            (and_from _ _ read.1
-            (subst (λ w. walk_passes (level s) [] w more ≡ true) (sym (value_walked name argument is v fits so_far read.0)) later)));
-      }
-
-  flag_taken : (name : Text) (argument : Argument) → IsOption name argument → Fits None argument
-      → (rows : List Row) (pending : Option (Text × List Text)) → has_row name (settled_rows rules pending rows) ≡ false
-      → settle_passes rules false (held_with rows pending) ≡ true → IsTaken (record { name = name; value = None }) rows pending
-  unfolding walk_passes flag_steps
-  flag_taken name (value test default) is fits rows pending new settle = absurd fits
-  flag_taken name nothing is fits rows pending new settle = record {
-    steps = flag_steps name rows pending nothing is fits new;
-    settled = refl;
-    passes = λ more later. and_from _ _
-        (word_passes name nothing is rows pending (and_from _ _ settle (ap (λ has. (not has || false) && true) new)) refl)
-        (subst (λ w. walk_passes (level s) [] w more ≡ true) (sym (word_walked name nothing is rows pending)) later);
-  }
 
   one_taken : (g : GivenOption) (found : Option NamedOption) → option_named s.options g.name ≡ found → are_sound s.options ≡ true
       → IsSomeAnd found (λ o. Fits g.value o.argument) → IfSome found (λ o. IfSome g.value (IsValueFor o.argument))
       → (rows : List Row) (pending : Option (Text × List Text)) → has_row g.name (settled_rows rules pending rows) ≡ false
       → settle_passes rules false (held_with rows pending) ≡ true → IsTaken g rows pending
-  one_taken g None is are fits can rows pending new settle = absurd fits
-  one_taken g (Some o) is are fits can rows pending new settle = go g.value fits can
+  one_taken g None found are fits can rows pending new settle = absurd fits
+  one_taken g (Some o) found are fits can rows pending new settle = go g.value o.argument fits can (is_option g.name o are found)
     where
-      go : (v : Option Text) → Fits v o.argument → IfSome v (IsValueFor o.argument) → IsTaken (record { name = g.name; value = v }) rows pending
-      go None fits can = flag_taken g.name o.argument (is_option g.name o are is) fits rows pending new settle
-      go (Some v) fits can = value_taken g.name v o.argument (is_option g.name o are is) fits can rows pending new settle
+      go : (v : Option Text) (argument : Argument) → Fits v argument → IfSome v (IsValueFor argument) → IsOption g.name argument
+          → IsTaken (record { name = g.name; value = v }) rows pending
+      go None nothing fits can is = flag_taken g.name is rows pending new settle
+      go (Some v) (value test default) fits can is = value_taken g.name v test default is rows pending new can settle
+      go None (value test default) fits can is = absurd fits
+      go (Some v) nothing fits can is = absurd fits
 
   after_more : (w : Walk) (first more : List Text) → after w (first ++ more) ≡ after (after w first) more
   after_more w [] more = refl
@@ -267,72 +286,22 @@ module _ (s : Subcommand) where
 
   -- ---- options that aren't refused are read
 
-  -- `--` is no value
-  end_refused : (name : Text) (rows : List Row) (more : List Text) → IsRefused (settle_fault rules false (waiting_for name rows))
-      → walk_fault (level s) [] (walked rules [] (before_value name rows) dashes) more ≡ []
-      → settle_fault rules false (after (walked rules [] (before_value name rows) dashes) more).held ≡ [] → ⊥
-  unfolding clap_on_literals
-  end_refused name rows [] missing none end = missing end
-  end_refused name rows (word ∷ more) missing none end =
-      some_refused kind.UnknownArgument []
-      (sym (ap (λ found. option_map_or (λ a. positional_fault rules false a (waiting_for name rows)) found (kind.UnknownArgument ∷ [])) (no_positional s.options 1))
-      ∙ or_else-first _ (walk_fault (level s) [] (walked rules [] (walked rules [] (before_value name rows) dashes) word) more) none)
-
-  record IsReadOn (g : GivenOption) (rows : List Row) (pending : Option (Text × List Text)) (more : List Text) : Type 0 where
-    steps : Steps g rows pending
-    later : walk_fault (level s) [] (between steps.rows_then steps.pending_then) more ≡ []
-
-  value_read_on : (name v : Text) (argument : Argument) → IsOption name argument → Fits (Some v) argument
-      → (rows : List Row) (pending : Option (Text × List Text)) (more : List Text) → has_row name (settled_rows rules pending rows) ≡ false
-      → walk_fault (level s) [] (between rows pending) ((hyphen ∷ hyphen ∷ name) ∷ v ∷ more) ≡ []
-      → settle_fault rules false (after (between rows pending) ((hyphen ∷ hyphen ∷ name) ∷ v ∷ more)).held ≡ []
-      → IsReadOn (record { name = name; value = Some v }) rows pending more
-  unfolding walk_fault value_steps
-  value_read_on name v argument is fits rows pending more new none end =
-      let so_far = settled_rows rules pending rows in
-      let before = before_value name so_far in
-      let open_walk = opened name v rows pending argument is fits in
-      let missing = value_missing name argument is v fits so_far in
-      let none_then = subst (λ w. walk_fault (level s) [] w (v ∷ more) ≡ []) open_walk
-      (or_else-second (turn_fault (level s) [] (between rows pending) (hyphen ∷ hyphen ∷ name)) _ none) in
-      let end_then = subst (λ w. settle_fault rules false (after w (v ∷ more)).held ≡ []) open_walk end in
-      let none_later = or_else-second (turn_fault (level s) [] before v) (walk_fault (level s) [] (walked rules [] before v) more) none_then in
-      elim (value_or_end s name so_far missing v (or_else-first (turn_fault (level s) [] before v) _ none_then)) [
-        | inl read ↦ record {
-          steps = value_steps name v rows pending argument is fits new read;
-          later = subst (λ w. walk_fault (level s) [] w more ≡ []) (value_walked name argument is v fits so_far read) none_later;
-        }
-        | inr ends ↦ absurd (end_refused name so_far more missing
-            (subst (λ t. walk_fault (level s) [] (walked rules [] before t) more ≡ []) ends none_later)
-            (subst (λ t. settle_fault rules false (after (walked rules [] before t) more).held ≡ []) ends end_then))
-      ]
-
-  flag_read_on : (name : Text) (argument : Argument) → IsOption name argument → Fits None argument
-      → (rows : List Row) (pending : Option (Text × List Text)) (more : List Text) → has_row name (settled_rows rules pending rows) ≡ false
-      → walk_fault (level s) [] (between rows pending) ((hyphen ∷ hyphen ∷ name) ∷ more) ≡ []
-      → IsReadOn (record { name = name; value = None }) rows pending more
-  unfolding walk_fault flag_steps
-  flag_read_on name (value test default) is fits rows pending more new none = absurd fits
-  flag_read_on name nothing is fits rows pending more new none = record {
-    steps = flag_steps name rows pending nothing is fits new;
-    later = subst (λ w. walk_fault (level s) [] w more ≡ []) (word_walked name nothing is rows pending)
-        (or_else-second (turn_fault (level s) [] (between rows pending) (hyphen ∷ hyphen ∷ name)) _ none);
-  }
-
   one_read : (g : GivenOption) (found : Option NamedOption) → option_named s.options g.name ≡ found → are_sound s.options ≡ true
       → IsSomeAnd found (λ o. Fits g.value o.argument) → (rows : List Row) (pending : Option (Text × List Text)) (more : List Text)
       → has_row g.name (settled_rows rules pending rows) ≡ false
       → walk_fault (level s) [] (between rows pending) (words_of g ++ more) ≡ []
       → settle_fault rules false (after (between rows pending) (words_of g ++ more)).held ≡ [] → IsReadOn g rows pending more
-  one_read g None is are fits rows pending more new none end = absurd fits
-  one_read g (Some o) is are fits rows pending more new none end = go g.value fits none end
+  one_read g None found are fits rows pending more new none end = absurd fits
+  one_read g (Some o) found are fits rows pending more new none end = go g.value o.argument fits (is_option g.name o are found) none end
     where
-      go : (v : Option Text) → Fits v o.argument
+      go : (v : Option Text) (argument : Argument) → Fits v argument → IsOption g.name argument
           → walk_fault (level s) [] (between rows pending) (words_of (record { name = g.name; value = v }) ++ more) ≡ []
           → settle_fault rules false (after (between rows pending) (words_of (record { name = g.name; value = v }) ++ more)).held ≡ []
           → IsReadOn (record { name = g.name; value = v }) rows pending more
-      go None fits none end = flag_read_on g.name o.argument (is_option g.name o are is) fits rows pending more new none
-      go (Some v) fits none end = value_read_on g.name v o.argument (is_option g.name o are is) fits rows pending more new none end
+      go None nothing fits is none end = flag_read_on g.name is rows pending new more none
+      go (Some v) (value test default) fits is none end = value_read_on g.name v test default is rows pending new more none end
+      go None (value test default) fits is none end = absurd fits
+      go (Some v) nothing fits is none end = absurd fits
 
   pub options_read : (given : List GivenOption) (rows : List Row) (pending : Option (Text × List Text)) → are_sound s.options ≡ true
       → AreOptions s.options given → AreNew (settled_rows rules pending rows) given

@@ -6,7 +6,6 @@ use Rattle.std.specs.Str.{bytes_eq, chars}
 use Rattle.std.proofs.lemmas.Slice.Eq.{bytes_eq-Decides}
 use Rattle.clap.specs.Kinds.{Kinds}
 use Rattle.clap.specs.Lexer.{long_of, short_of}
-use Rattle.clap.specs.Simple.{label_of}
 use Rattle.clap.specs.Walk.{Held, Rule, Step, Text, after_flag, bundle, bundle_met, bundle_step, idle, long_or_other, nothing_held, plain, short_or_plain, subcommand_met, subcommand_or_other, trailing, value, walk_from, word_met}
 use Rattle.clap.specs.Words.{fault_of, subcommand_of, takes}
 use Rattle.clap.specs.Faults.{bundle_fault, bundle_step_fault, flag_word_fault, flags_fault, long_fault, other_fault, short_fault, step_fault, turn_fault, walk_fault, word_fault}
@@ -16,8 +15,7 @@ use Rattle.crossbar5_command.specs.Ask.{IsAskOf, name_of}
 use Rattle.crossbar5_command.specs.Program.{program, replay, subcommands}
 use Rattle.crossbar5_command.specs.Subcommand.{NamesOnly, Subcommand, subcommand_named}
 use Rattle.crossbar5_command.specs.declared.ask.Ask.{Ask}
-use Rattle.crossbar5_command.proofs.OptionRules.{level}
-use Rattle.crossbar5_command.proofs.SubcommandWords.{found, label_by_name, named, names, subcommand_is, top}
+use Rattle.crossbar5_command.proofs.SubcommandWords.{found, label, label_by_name, named, names, subcommand_is, top}
 use Rattle.crossbar5_command.proofs.ValueWords.{IsRefused, dashes, or_else-first, or_else-second, some_refused}
 
 -- the flag that a word names, by whether it names either
@@ -106,7 +104,7 @@ module _ (word : Text) where
       go true is = absurd (help_refused (subst (λ w. turn_fault top names (walk_from nothing_held) w ≡ []) (sym ((bytes_eq-Decides (codes "help") word).0 is)) none))
       go false no_help =
           let no_name : subcommand_met names idle word ≡ None =
-          ap (option_map (λ label. label.0)) (label_by_name subcommands word no_help ∙ ap (option_map (λ (s : Subcommand). label_of (level s))) none_named) in
+          ap (option_map (λ names. names.0)) (label_by_name subcommands word no_help ∙ ap label none_named) in
           let fault = word_fault top names false idle word nothing_held in
           let none_of_word = sym (ap (λ name. other_fault top name word nothing_held) no_name) ∙ or_else-first fault (step_fault top 1 met.0 met.1) none in
           by_end no_name (bytes_eq word dashes) refl none_of_word (or_else-second fault (step_fault top 1 met.0 met.1) none)

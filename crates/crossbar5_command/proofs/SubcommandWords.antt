@@ -1,6 +1,6 @@
 -- What clap makes of the words of a subcommand with its options.
-use Rattle.std.proofs.Common.{◌≡◌, ◌∙◌, ◌&&◌, ap, refl, sym, subst, cond, Bool, true, false, true≢false, List, [], ◌∷◌, ◌++◌, Option, Some, None, codes}
-use Rattle.std.specs.Prelude.{◌||◌, find, flat_map, fold, is_some, not, option_map, unwrap_or}
+use Rattle.std.proofs.Common.{◌≡◌, ◌∙◌, ◌&&◌, ap, refl, sym, subst, cond, Bool, true, false, List, [], ◌∷◌, ◌++◌, Option, Some, None, codes}
+use Rattle.std.specs.Prelude.{◌||◌, find, flat_map, fold, is_some, not, option_map}
 use Rattle.std.specs.List.{list_all}
 use Rattle.std.specs.Option.{option_map_or}
 use Rattle.std.specs.Str.{bytes_eq}
@@ -12,13 +12,14 @@ use Rattle.clap.specs.Takes.{default_passes, entered_passes, is_given, is_valid,
 use Rattle.clap.specs.Faults.{entered_fault, level_fault, settle_fault, walk_fault}
 use Rattle.clap.specs.Words.{fault_of, is_simple, is_simple_and_free, subcommand_of, takes}
 use Rattle.clap.proofs.OnLiterals.{clap_on_literals}
-use Rattle.clap.proofs.WalkLemmas.{walk_stopped}
+use Rattle.clap.proofs.WalkLemmas.{find-map, walk_stopped}
 use Rattle.crossbar5_command.specs.Ask.{IsAskOf, IsAskWith}
 use Rattle.crossbar5_command.specs.Program.{program, program_of, subcommands}
 use Rattle.crossbar5_command.specs.Subcommand.{AreOptions, AreValues, AskFor, GivenOption, Subcommand, subcommand_named, value_of, words_of}
 use Rattle.crossbar5_command.specs.declared.ask.Ask.{Ask}
+use Rattle.crossbar5_command.proofs.FirstFound.{found_first, found_passes, or_false}
 use Rattle.crossbar5_command.proofs.OptionRows.{values_of_rows}
-use Rattle.crossbar5_command.proofs.OptionRules.{all_rules, are_sound, defaults_pass, first_shape, level, rules_for}
+use Rattle.crossbar5_command.proofs.OptionRules.{all_rules, are_sound, defaults_pass, first_shape, is_sound_option, level, rules_for}
 use Rattle.crossbar5_command.proofs.OptionWords.{all_new, options_read, options_taken, other_way}
 use Rattle.crossbar5_command.proofs.ValueWords.{or_else-first, or_else-second}
 
@@ -28,25 +29,16 @@ use Rattle.crossbar5_command.proofs.ValueWords.{or_else-first, or_else-second}
 shape_by_name : (subs : List Subcommand) (name : Text) → bytes_eq (codes "help") name ≡ false
     → find (λ shape. answers_to name (label_of shape)) (built (program_of subs)).subs ≡ option_map level (subcommand_named subs name)
 shape_by_name [] name no_help = ap (λ same. cond (same || false) (Some (first_shape (built (program_of [])).subs)) None) no_help
-shape_by_name (s ∷ rest) name no_help = go (bytes_eq s.name name) (shape_by_name rest name no_help)
-  where
-    go : (same : Bool) → find (λ shape. answers_to name (label_of shape)) (built (program_of rest)).subs ≡ option_map level (subcommand_named rest name)
-        → cond (same || false) (Some (level s)) (find (λ shape. answers_to name (label_of shape)) (built (program_of rest)).subs)
-        ≡ option_map level (cond same (Some s) (subcommand_named rest name))
-    go true is = refl
-    go false is = is
+shape_by_name (s ∷ rest) name no_help = found_first level _ _ (or_false (bytes_eq s.name name)) s _ _ (shape_by_name rest name no_help)
 
 -- and among their names
+abbrev pub label : Option Subcommand → Option (Text × List Text)
+label found = option_map label_of (option_map level found)
+
 pub label_by_name : (subs : List Subcommand) (name : Text) → bytes_eq (codes "help") name ≡ false
-    → find (answers_to name) (names_of (built (program_of subs))) ≡ option_map (λ (s : Subcommand). label_of (level s)) (subcommand_named subs name)
-label_by_name [] name no_help = ap (λ same. cond (same || false) (Some (codes "help", [])) None) no_help
-label_by_name (s ∷ rest) name no_help = go (bytes_eq s.name name) (label_by_name rest name no_help)
-  where
-    go : (same : Bool) → find (answers_to name) (names_of (built (program_of rest))) ≡ option_map (λ (s : Subcommand). label_of (level s)) (subcommand_named rest name)
-        → cond (same || false) (Some (label_of (level s))) (find (answers_to name) (names_of (built (program_of rest))))
-        ≡ option_map (λ (s : Subcommand). label_of (level s)) (cond same (Some s) (subcommand_named rest name))
-    go true is = refl
-    go false is = is
+    → find (answers_to name) (names_of (built (program_of subs))) ≡ label (subcommand_named subs name)
+label_by_name subs name no_help =
+    sym (find-map (answers_to name) label_of (built (program_of subs)).subs) ∙ ap (option_map label_of) (shape_by_name subs name no_help)
 
 -- its options are sound, and it isn't `help`
 abbrev is_sound : Subcommand → Bool
@@ -54,15 +46,9 @@ is_sound s = are_sound s.options && not (bytes_eq s.name (codes "help"))
 
 sound_found : (subs : List Subcommand) (name : Text) (s : Subcommand) → list_all is_sound subs ≡ true → subcommand_named subs name ≡ Some s
     → (s.name ≡ name) × (is_sound s ≡ true)
-sound_found [] name s are is = absurd (true≢false (sym (ap is_some is)))
-sound_found (first ∷ rest) name s are is = go (bytes_eq first.name name) refl is (sound_found rest name s (and_parts (is_sound first) _ are).1)
-  where
-    go : (same : Bool) → bytes_eq first.name name ≡ same → cond same (Some first) (subcommand_named rest name) ≡ Some s
-        → (subcommand_named rest name ≡ Some s → (s.name ≡ name) × (is_sound s ≡ true)) → (s.name ≡ name) × (is_sound s ≡ true)
-    go true same is later =
-        let is_first : first ≡ s = ap (λ found. unwrap_or found first) is in
-        (ap (λ (x : Subcommand). x.name) (sym is_first) ∙ (bytes_eq-Decides first.name name).0 same, ap is_sound (sym is_first) ∙ (and_parts (is_sound first) _ are).0)
-    go false differs is later = later is
+sound_found subs name s are is =
+    let passes = found_passes (λ x. bytes_eq x.name name) is_sound subs s are is in
+    ((bytes_eq-Decides s.name name).0 passes.0, passes.1)
 
 all_sound : list_all is_sound subcommands ≡ true
 unfolding clap_on_literals
@@ -122,7 +108,7 @@ module _ (name : Text) (s : Subcommand) (is : subcommand_named subcommands name 
 
   met_name : subcommand_met names idle name ≡ Some s.name
   met_name = ap (option_map (λ label. label.0)) (label_by_name subcommands name (ap (bytes_eq (codes "help")) (sym named) ∙ no_help)
-      ∙ ap (option_map (λ (s : Subcommand). label_of (level s))) is)
+      ∙ ap label is)
 
   abbrev step : Option Text → Held × Step
   step met = subcommand_or_other top.rules met idle 1 name nothing_held
@@ -179,7 +165,7 @@ module _ (name : Text) (s : Subcommand) (is : subcommand_named subcommands name 
       → level_passes (level s) [] nothing_held (flat_map words_of given) false ≡ true
   level_taken given options values =
       let walk_taken = options_taken s given [] None options_sound options values (all_new given) refl in
-      and_from _ _ walk_taken.0 (and_from _ _ walk_taken.1 (and_from _ _ (defaults_pass s.options options_sound)
+      and_from _ _ walk_taken.0 (and_from _ _ walk_taken.1 (and_from _ _ (defaults_pass s.options (and_parts (list_all is_sound_option s.options) _ options_sound).0)
       (and_from _ _ (all_rules (λ a. a.is_free) (λ o. refl) refl s.options)
       (all_rules (λ a. not a.required || is_given a.id (finished rules (walk rules [] nothing_held (flat_map words_of given)).held))
       (λ o. refl) refl s.options))))
@@ -193,7 +179,7 @@ module _ (name : Text) (s : Subcommand) (is : subcommand_named subcommands name 
       let after_walk = or_else-second (walk_fault (level s) [] (walk_from nothing_held) words) _ none in
       let read = options_read s given [] None options_sound options (all_new given)
       (or_else-first (walk_fault (level s) [] (walk_from nothing_held) words) _ none) (or_else-first (settle_fault rules false end) _ after_walk) in
-      ap (λ rows. first_of id (fold with_default rows rules)) read ∙ values_of_rows s.options given id options_sound
+      ap (λ rows. first_of id (fold with_default rows rules)) read ∙ values_of_rows s.options given id (and_parts (list_all is_sound_option s.options) _ options_sound).1
 
 -- ---- words that ask for a subcommand
 

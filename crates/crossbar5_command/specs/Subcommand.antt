@@ -1,6 +1,6 @@
 -- A subcommand with options, and the words that ask for it.
-use Rattle.std.specs.Prelude.{◌≡◌, ◌≢◌, ◌⊎◌, ℕ, true, false, List, [], ◌∷◌, Option, Some, None, IfSome}
-use Rattle.std.specs.Prelude.{codes, find, flat_map, option_and_then, option_map, unwrap_or}
+use Rattle.std.specs.Prelude.{◌≡◌, ◌≢◌, ◌⊎◌, ℕ, true, false, List, [], ◌∷◌, Option, Some, None}
+use Rattle.std.specs.Prelude.{IfSome, codes, find, flat_map, option_and_then, option_map, unwrap_or}
 use Rattle.std.specs.Option.{IsSomeAnd, option_or}
 use Rattle.std.specs.Str.{bytes_eq}
 use Rattle.clap.specs.ValueTests.{accepts}
@@ -58,7 +58,8 @@ Fits _ _ = ⊥
 -- each that is given is an option of these, and none is given twice
 abbrev pub AreOptions : List NamedOption → List GivenOption → Type 0
 AreOptions options [] = Unit {0}
-AreOptions options (g ∷ rest) = IsSomeAnd (option_named options g.name) (λ o. Fits g.value o.argument)
+AreOptions options (g ∷ rest) =
+    IsSomeAnd (option_named options g.name) (λ o. Fits g.value o.argument)
     × (given_named rest g.name ≡ None) × AreOptions options rest
 
 -- the words ask for the subcommand with these options, in their order: the program's name, whatever

@@ -60,7 +60,7 @@ fn replay_of(alloc: Global, options: Option<&ArgMatches>) -> Result<Ask, AllocEr
 {
     let kinds = text_of(options, MARKERS).unwrap_or(DEFAULT_KINDS);
     Ok(Ask::Replay {
-        plan: copied(alloc, text_of(options, PLAN))?,
+        plan: copy_of(alloc, text_of(options, PLAN))?,
         kinds: String::from_str(alloc, kinds)?,
     })
 }
@@ -73,7 +73,7 @@ fn text_of<'a>(matches: Option<&ArgMatches<'a>>, option: &str) -> Option<&'a str
     matches?.get_str(option)
 }
 
-fn copied(alloc: Global, text: Option<&str>) -> Result<Option<String>, AllocError>
+fn copy_of(alloc: Global, text: Option<&str>) -> Result<Option<String>, AllocError>
     ensures { IfOk result (λ copy. option_map string_bytes copy
         ≡ option_map (λ s. s.now) text.entry) }
 {
