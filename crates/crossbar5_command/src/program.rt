@@ -3,14 +3,16 @@
 ghost use Rattle.std.specs.Prelude.{◌≡◌, IfOk, false};
 ghost use Rattle.clap.specs.Words.{app_of, rule_of};
 ghost use Rattle.clap.specs.declared.builder.command.Command.TheViews.{out-Command};
-ghost use Rattle.crossbar5_command.specs.Program.{markers, plan, program, replay};
+ghost use Rattle.crossbar5_command.specs.Program.{audit, markers, plan, program, replay};
 ghost use Rattle.crossbar5_command.specs.Program.{rule_for, shape_for};
 
 use clap::{Arg, Command};
 use std::alloc::{AllocError, Global};
 
-/// The name of the subcommand.
+/// The names of the subcommands.
 pub const REPLAY: &str = "replay";
+
+pub const AUDIT: &str = "audit";
 
 /// The id of the option for the plan, and its name.
 pub const PLAN: &str = "plan";
@@ -35,6 +37,8 @@ crossbar5 [COMMAND]
 
 const ABOUT_REPLAY: &str = "\
 Replays traffic from standard input with a plan and markers of your choice";
+
+const ABOUT_AUDIT: &str = "Tells whether the records on standard input are legal";
 
 const ABOUT_PLAN: &str = "The file with the office's plan [default: the example plan]";
 
@@ -63,7 +67,7 @@ Exit status:
   5  Memory ran out
   6  A device failed, or FILE can't be read";
 
-/// The program, with its one subcommand.
+/// The program, with its subcommands.
 pub fn program<'a>(alloc: Global) -> Result<Command<'a>, AllocError>
     ensures { IfOk result (λ made. app_of made ≡ program) }
 {
@@ -72,7 +76,8 @@ pub fn program<'a>(alloc: Global) -> Result<Command<'a>, AllocError>
         .about(ABOUT)
         .after_help(EXAMPLE_AND_STATUSES)
         .override_usage(USAGE)
-        .subcommand(replay(alloc)?)
+        .subcommand(replay(alloc)?)?
+        .subcommand(audit(alloc)?)
 }
 
 fn replay<'a>(alloc: Global) -> Result<Command<'a>, AllocError>
@@ -84,6 +89,15 @@ fn replay<'a>(alloc: Global) -> Result<Command<'a>, AllocError>
         .after_help(EXAMPLE_AND_STATUSES)
         .arg(plan_option(alloc))?
         .arg(markers_option(alloc))
+}
+
+fn audit<'a>(alloc: Global) -> Result<Command<'a>, AllocError>
+    ensures shape { IfOk result (λ made. (app_of made).top ≡ shape_for audit) }
+    ensures local { IfOk result (λ made. (out-Command made).has_globals ≡ false) }
+{
+    Command::new(alloc, AUDIT)
+        .about(ABOUT_AUDIT)
+        .arg(plan_option(alloc))
 }
 
 fn plan_option<'a>(alloc: Global) -> Arg<'a>

@@ -23,7 +23,10 @@ fn is_replay(ask: &Ask, plan: Option<&str>, kinds: &str) -> bool {
     let Ask::Replay {
         plan: file,
         kinds: letters,
-    } = ask;
+    } = ask
+    else {
+        return false;
+    };
     file.as_ref().map(|name| name.as_str()) == plan && letters.as_str() == kinds
 }
 
@@ -64,6 +67,15 @@ fn words_ask_for_a_replay(rt: HostRuntime) -> Result<(), Fail> {
         let ask = asked(rt.alloc(), line)?;
         assert!(rt; is_replay(&ask, plan, kinds), "{line}: {ask:?}");
     }
+    Ok(())
+}
+
+#[test]
+fn words_ask_for_an_audit(rt: HostRuntime) -> Result<(), Fail> {
+    let Ask::Audit { plan } = asked(rt.alloc(), "crossbar5 audit --plan a.toml")? else {
+        return Err(Fail::from("another subcommand was asked for"));
+    };
+    assert!(rt; plan.as_ref().map(|name| name.as_str()) == Some("a.toml"));
     Ok(())
 }
 
