@@ -21,5 +21,4 @@ pub mod FourLists
 pub mod Versions
 pub mod Written
 pub mod WrittenPlan
-pub mod Joined
 pub mod WrittenText

@@ -2,6 +2,7 @@
 #![tactic(auto)]
 
 pub use counts::Counts;
+pub use end_fields::name_of;
 pub use read_fault::ReadFault;
 pub use reading::{Report, read};
 pub use report_text::report;
