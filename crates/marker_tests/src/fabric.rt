@@ -1,6 +1,7 @@
 //! Desks that one thread drives, step by step.
 
-ghost use Rattle.std.specs.Prelude.{◌≡◌, IfSome};
+ghost use Rattle.std.specs.Prelude.{◌≡◌, IfOk, IfSome, length};
+ghost use Rattle.xbar_equip.specs.Word.{word_count};
 ghost use Rattle.xbar_fabric.specs.Views.{AreDesksOf, IsDeskOf};
 
 use crate::fixtures::job;
@@ -9,7 +10,9 @@ use std::marker::Model;
 use std::process::Abort;
 use std::test::Fail;
 use xbar_equip::Conn;
-use xbar_fabric::{AssignFault, Desk, Fabric, Given, Kind, OpenFault, Progress, meet, shut, shut_all};
+use xbar_fabric::{
+    AssignFault, Desk, Fabric, Given, Kind, OpenFault, Progress, meet, shut, shut_all,
+};
 use xbar_plan::Plan;
 
 mod giving_back;
@@ -119,7 +122,9 @@ impl<'p> TwoDesks<'p> {
     }
 
     /// The words, by shutting with desk 1.
-    fn words(self, alloc: Global) -> Result<Vec<u64>, Fail> {
+    fn words(self, alloc: Global) -> Result<Vec<u64>, Fail>
+        ensures { IfOk result (λ words. length words.items ≡ word_count) }
+    {
         let TwoDesks {
             fabric,
             zero: _,
