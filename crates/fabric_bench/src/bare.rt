@@ -1,0 +1,55 @@
+use std::alloc::{AllocError, Global};
+use std::sync::atomic::{AtomicU64, Ordering};
+use std::thread;
+use std::thread::Threads;
+
+/// The words of a lock, of what it guards, and of the turns.
+#[derive(Drop)]
+struct Words {
+    lock: AtomicU64,
+    bank: AtomicU64,
+    turns: AtomicU64,
+}
+
+/// The operation that step `step` of a job makes, of six: it requests a lock, seizes it, reads what it guards,
+/// takes a turn, changes what it guards, and frees the lock. An addition stands for each operation on bits.
+fn make(words: &Words, step: u32, seen: u64) -> u64 {
+    match step % 6 {
+        0 => words.lock.fetch_add(1, Ordering::SeqCst),
+        1 => match words
+            .lock
+            .compare_exchange(seen, seen, Ordering::SeqCst, Ordering::SeqCst)
+        {
+            Ok(found) => found,
+            Err(found) => found,
+        },
+        2 => words.bank.load(Ordering::SeqCst),
+        3 => words.turns.fetch_add(1, Ordering::SeqCst),
+        4 => words.bank.fetch_add(1, Ordering::SeqCst),
+        _ => words.lock.fetch_add(1, Ordering::SeqCst),
+    }
+}
+
+fn make_all(words: &Words, steps: u32) -> u64 {
+    let mut seen = 0;
+    for step in 0..steps {
+        seen = make(words, step, seen);
+    }
+    seen
+}
+
+/// So many threads make plain atomic operations on the same three words, so many each.
+pub fn operate<R: Threads + Sync>(
+    rt: &R,
+    alloc: Global,
+    count: u32,
+    steps: u32,
+) -> Result<(), AllocError> {
+    let words = Words {
+        lock: AtomicU64::new(0),
+        bank: AtomicU64::new(0),
+        turns: AtomicU64::new(0),
+    };
+    let _seen = thread::map_indices(rt, alloc, count as usize, &|_| make_all(&words, steps))?;
+    Ok(())
+}
