@@ -13,6 +13,4 @@ mod device;
 mod input;
 mod output;
 mod read_fault;
-#[cfg(test)]
-mod tests;
 mod write_fault;

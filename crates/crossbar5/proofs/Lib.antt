@@ -1,4 +1,7 @@
 pub mod RunRows
 pub mod Replays
+pub mod PlanRefusals
+pub mod Audits
+pub mod FindingTexts
 pub mod SettledHistory
 pub mod KindLetters

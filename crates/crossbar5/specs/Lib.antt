@@ -5,9 +5,12 @@ pub use Rattle.xbar_core.specs.Exchange
 pub use Rattle.xbar_traffic.specs.Traffic
 pub use Rattle.xbar_traffic.specs.Fault
 pub use Rattle.xbar_report.specs.Text
+pub use Rattle.xbar_report.specs.Reading
 pub use Rattle.counted_io.specs.Counts
 pub mod Faults
 pub mod Kinds
 pub mod PlanRefusal
 pub mod Rows
 pub mod Run
+pub mod Audit
+pub mod Task

@@ -1,9 +1,8 @@
-use Rattle.std.specs.Prelude.{◌≡◌, ◌⊎◌, ℕ, ◌+◌, ◌*◌, true, length, Option, Some, None, Result, Ok, Err, List, [], ◌∷◌, slice_get, ⊤}
+use Rattle.std.specs.Prelude.{◌≡◌, ◌⊎◌, ℕ, ◌+◌, ◌*◌, true, length, Option, Some, None, List, [], ◌∷◌, slice_get, ⊤}
 use Rattle.csv.specs.Reading.{default_config, records as csv_records, strip_bom}
 use Rattle.xbar_equip.specs.Word.{TurnWord}
 use Rattle.xbar_plan.specs.Document.{plan_of}
 use Rattle.xbar_plan.specs.Tables.{Tables}
-use Rattle.xbar_plan.specs.declared.fault.PlanFault.{PlanFault}
 use Rattle.xbar_match.specs.Switches.{word_of}
 use Rattle.xbar_match.specs.Counts.{closed_line_fields, closed_switch_fields}
 use Rattle.xbar_office.specs.Legal.{IsLegal, after}
@@ -21,14 +20,13 @@ use Rattle.xbar_traffic.specs.declared.mode.Mode.TheVariants.{Replay}
 use Rattle.xbar_traffic.specs.declared.row.Row.{Row}
 use Rattle.xbar_report.specs.Text.{report_text}
 use Rattle.crossbar5.specs.Faults.{IsMarkerCount}
-use Rattle.crossbar5.specs.PlanRefusal.{plan_fault_line}
+use Rattle.crossbar5.specs.PlanRefusal.{IsAnswerOf, IsRefusedPlan}
 use Rattle.crossbar5.specs.Rows.{done, row_fault}
 use Rattle.crossbar5.specs.declared.status.Status.{Status}
-use Rattle.crossbar5.specs.declared.status.Status.TheVariants.{Fine, PlanRefused, TrafficRefused}
+use Rattle.crossbar5.specs.declared.status.Status.TheVariants.{Fine, TrafficRefused}
 
--- what a replay comes to: its plan or its traffic is refused, or it leaves an office
+-- what traffic comes to: it is refused, or it leaves an office
 pub data Outcome : Type 0 where
-  RefusesPlan : PlanFault → Outcome
   RefusesTraffic : TrafficFault → Outcome
   Leaves : Exchange → Outcome
 
@@ -53,13 +51,11 @@ outcome plan kinds rows fault = outcome_from plan (fresh_exchange kinds) 1 rows 
 
 -- what is written of it
 abbrev pub outcome_text : Outcome → List ℕ
-outcome_text (RefusesPlan fault) = plan_fault_line fault
 outcome_text (RefusesTraffic fault) = fault_line fault
 outcome_text (Leaves e) = report_text e.records (closed_line_fields e.words) (closed_switch_fields e.words)
 
 -- and the status that it ends with
 abbrev pub outcome_status : Outcome → Status
-outcome_status (RefusesPlan fault) = PlanRefused
 outcome_status (RefusesTraffic fault) = TrafficRefused
 outcome_status (Leaves e) = Fine
 
@@ -79,7 +75,6 @@ pub record IsOneHistory (plan : Tables) (e : Exchange) : Type 0 where
   pub crosspoints : closed_switch_fields e.words ≡ 4 * length (after plan e.records)
 
 abbrev pub LeavesOneHistory : Tables → Outcome → Type 0
-LeavesOneHistory plan (RefusesPlan fault) = ⊤
 LeavesOneHistory plan (RefusesTraffic fault) = ⊤
 LeavesOneHistory plan (Leaves e) = IsOneHistory plan e
 
@@ -91,15 +86,10 @@ pub record IsReplayUnder (plan : Tables) (kinds : List Kind) (traffic text : Lis
   pub history : LeavesOneHistory plan (outcome plan kinds rows fault)
   pub written : IsWrittenOf (outcome plan kinds rows fault) text status
 
--- a plan's text that is refused refuses the replay, whatever its traffic
-abbrev pub IsReplayOf : Result Tables PlanFault → List Kind → List ℕ → List ℕ → Status → Type 0
-IsReplayOf (Err fault) kinds traffic text status = IsWrittenOf (RefusesPlan fault) text status
-IsReplayOf (Ok plan) kinds traffic text status = IsReplayUnder plan kinds traffic text status
-
 -- the text and the status are those of a replay of traffic with a plan's text and markers of these kinds
 abbrev pub IsReplay : List ℕ → List Kind → List ℕ → List ℕ → Status → Type 0
-IsReplay plan kinds traffic text status = IsReplayOf (plan_of plan) kinds traffic text status
+IsReplay plan kinds traffic text status = IsAnswerOf (λ tables. IsReplayUnder tables kinds) (plan_of plan) traffic text status
 
 -- markers that are no office's, or a plan's text that is refused, refuse a replay before any traffic is read
 abbrev pub IsRefusedUnread : List ℕ → List Kind → Type 0
-IsRefusedUnread plan kinds = ¬ IsMarkerCount (length kinds) ⊎ ((fault : PlanFault) × (plan_of plan ≡ Err fault))
+IsRefusedUnread plan kinds = ¬ IsMarkerCount (length kinds) ⊎ IsRefusedPlan plan

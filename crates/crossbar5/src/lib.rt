@@ -1,17 +1,21 @@
-//! The engine of the program `crossbar5`: a plan and traffic in, the text of what came of it out.
+//! The engine of the program `crossbar5`: a plan and traffic in, the text of what came of it out; or
+//! a plan and such a text in, and what an audit finds out.
 #![tactic(auto)]
 
 pub use counted_io::{Counted, Sink, Source};
-pub use engine::run_replay;
+pub use engine::{run_audit, run_replay};
 pub use engine_fault::EngineFault;
 pub use kinds::kinds_of;
 pub use status::Status;
 pub use xbar_report::report;
 
+mod audit;
 mod engine;
 mod engine_fault;
+mod finding;
 mod kinds;
 mod rows;
 mod run;
 mod status;
+mod task;
 mod written;

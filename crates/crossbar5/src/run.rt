@@ -6,7 +6,7 @@ ghost use Rattle.xbar_core.specs.Settling.{settled as settled_office};
 ghost use Rattle.xbar_traffic.specs.Row.{IsRow, mode_of};
 ghost use Rattle.xbar_traffic.specs.declared.mode.Mode.{Mode};
 ghost use Rattle.crossbar5.specs.Faults.{IsMarkerCount};
-ghost use Rattle.crossbar5.specs.Run.{IsOneHistory, IsWrittenOf, Leaves, LeavesOneHistory, RefusesTraffic, outcome};
+ghost use Rattle.crossbar5.specs.Run.{IsOneHistory, IsWrittenOf, Leaves, LeavesOneHistory, IsReplayUnder, RefusesTraffic, outcome};
 
 use crate::rows::do_row;
 use crate::status::Status;
@@ -16,7 +16,7 @@ use xbar_core::{Exchange, Kind, OpenFault};
 use xbar_match::{count_closed, count_paths};
 use xbar_plan::Plan;
 use xbar_report::report;
-use xbar_traffic::{RowFault, Traffic, TrafficFault};
+use xbar_traffic::{Mode, RowFault, Traffic, TrafficFault};
 
 /// Opens an office; how many markers it has is known to be in range.
 fn open<'p>(alloc: Global, plan: &'p Plan, kinds: &[Kind]) -> Result<Exchange<'p>, AllocError>
@@ -60,12 +60,7 @@ fn settled(alloc: Global, mut office: Exchange<'_>) -> Result<Written, AllocErro
 }
 
 /// Opens an office, does the rows one after another and settles it: what came of it, or of the first fault.
-pub fn run(
-    alloc: Global,
-    plan: &Plan,
-    kinds: &[Kind],
-    traffic: &Traffic,
-) -> Result<Written, AllocError>
+fn run(alloc: Global, plan: &Plan, kinds: &[Kind], traffic: &Traffic) -> Result<Written, AllocError>
     requires kinds { IsMarkerCount (length kinds.now) }
     requires range { All IsRow traffic.now.rows.items }
     requires mode { All (λ row. mode_of row ≡ Mode.Replay) traffic.now.rows.items }
@@ -89,4 +84,22 @@ pub fn run(
         Some(fault) => refused(alloc, fault),
         None => settled(alloc, office),
     }
+}
+
+/// What is written for the bytes of a whole traffic.
+pub fn replay(
+    alloc: Global,
+    plan: &Plan,
+    kinds: &[Kind],
+    bytes: &[u8],
+) -> Result<Written, AllocError>
+    requires { IsMarkerCount (length kinds.now) }
+    ensures { IfOk result (λ written.
+        IsReplayUnder plan.now kinds.now bytes.now written.text.items written.status) }
+{
+    // Called for their clauses alone.
+    xbar_traffic::laws::rows_are_in_range();
+    xbar_traffic::laws::rows_are_of_their_mode();
+    let traffic = Traffic::read(alloc, Mode::Replay, bytes)?;
+    run(alloc, plan, kinds, &traffic)
 }

@@ -1,6 +1,6 @@
 use Rattle.std.specs.Prelude.{ℕ, List, Option, Some, None, Result, Ok, Err, codes}
 use Rattle.crossbar5.specs.declared.status.Status.{Status}
-use Rattle.crossbar5.specs.declared.status.Status.TheVariants.{Fine, PlanRefused, TrafficRefused}
+use Rattle.crossbar5.specs.declared.status.Status.TheVariants.{Fine, PlanRefused, TrafficRefused, ReportRefused, FoundWrong}
 use Rattle.crossbar5.specs.declared.engine_fault.EngineFault.{EngineFault}
 use Rattle.crossbar5.specs.declared.engine_fault.EngineFault.TheVariants.{Markers, Memory, Device, Long}
 use Rattle.crossbar5_cli.specs.declared.ending.Ending.{Ending}
@@ -8,7 +8,7 @@ use Rattle.crossbar5_cli.specs.declared.ending.Ending.TheVariants.{Answered, Tol
 use Rattle.crossbar5_cli.specs.declared.stream.Stream.{Stream}
 use Rattle.crossbar5_cli.specs.declared.stream.Stream.TheVariants.{Errors}
 
--- how a run ends whose replay was answered so
+-- how a run ends whose replay or audit was answered so
 abbrev pub ending_of : Result Status EngineFault → Ending
 ending_of (Ok status) = Answered status
 ending_of (Err fault) = Failed fault
@@ -18,6 +18,8 @@ abbrev pub exit_of : Ending → ℕ
 exit_of (Answered Fine) = 0
 exit_of (Answered PlanRefused) = 3
 exit_of (Answered TrafficRefused) = 4
+exit_of (Answered ReportRefused) = 4
+exit_of (Answered FoundWrong) = 7
 exit_of Told = 0
 exit_of Refused = 2
 exit_of NotText = 2

@@ -22,7 +22,7 @@ pub enum Ending {
     Failed(EngineFault),
 }
 
-/// How a run ends whose replay was answered so.
+/// How a run ends whose replay or audit was answered so.
 pub fn ending_of(answer: Result<Status, EngineFault>) -> Ending
     ensures { result ≡ ending_of_answer answer }
 {
@@ -49,7 +49,8 @@ impl Ending {
             Ending::Answered(status) => match status {
                 Status::Fine => 0,
                 Status::PlanRefused => 3,
-                Status::TrafficRefused => 4,
+                Status::TrafficRefused | Status::ReportRefused => 4,
+                Status::FoundWrong => 7,
             },
             Ending::Told => 0,
             Ending::Refused | Ending::NotText => 2,

@@ -1,8 +1,9 @@
 //! All of the program `crossbar5`: it replays traffic from standard input in an office with the plan and the
-//! markers that its words ask for, and writes what comes of it to standard output.
+//! markers that its words ask for, and writes what comes of it to standard output; or it audits such
+//! a text.
 #![tactic(auto)]
 
-ghost use Rattle.std.specs.Prelude.{◌≡◌, ◌↔◌, Err, List};
+ghost use Rattle.std.specs.Prelude.{◌≡◌, ◌≢◌, ◌↔◌, Err, List};
 ghost use Rattle.std.specs.Process.{exit_status};
 ghost use Rattle.xbar_core.specs.declared.kind.Kind.{Kind};
 ghost use Rattle.crossbar5.specs.Kinds.{Names};
@@ -13,7 +14,7 @@ use crate::causes::ending_without_words;
 use crate::ending::{Ending, ending_of};
 use crate::plan_text::plan_text;
 use crate::stream::{Stream, stream_of, told_on};
-use crossbar5::{Counted, EngineFault, Status, kinds_of, run_replay};
+use crossbar5::{Counted, EngineFault, Status, kinds_of, run_audit, run_replay};
 use crossbar5_command::{Ask, CommandFault, command};
 use std::alloc::AllocError;
 use std::fs::File;
@@ -55,6 +56,7 @@ fn run_words(rt: &HostRuntime, words: &[String]) -> Ending {
 fn do_as_asked(rt: &HostRuntime, words: &[&str]) -> Ending {
     match command(rt.alloc(), words) {
         Ok(Ask::Replay { plan, kinds }) => ending_of(replay(rt, &plan, &kinds)),
+        Ok(Ask::Audit { plan }) => ending_of(audit(rt, &plan)),
         Err(fault) => tell(rt, &fault),
     }
 }
@@ -65,11 +67,28 @@ fn replay(rt: &HostRuntime, plan: &Option<String>, kinds: &str) -> Result<Status
         ↔ ((named : List Kind) → ¬ Names kinds.now named) }
 {
     let kinds = kinds_of(rt.alloc(), kinds)?;
-    let asked = plan.as_ref().map(|name| File::open(rt, name));
-    let plan = plan_text(rt.alloc(), asked)?;
+    let plan = plan_named(rt, plan)?;
     let mut source = Counted::new(rt.stdin());
     let mut sink = Counted::new(rt.stdout());
     run_replay(rt.alloc(), &plan, &kinds, &mut source, &mut sink)
+}
+
+/// An audit has no markers that could be refused.
+fn audit(rt: &HostRuntime, plan: &Option<String>) -> Result<Status, EngineFault>
+    ensures { result ≢ Err EngineFault.Markers }
+{
+    let plan = plan_named(rt, plan)?;
+    let mut source = Counted::new(rt.stdin());
+    let mut sink = Counted::new(rt.stdout());
+    run_audit(rt.alloc(), &plan, &mut source, &mut sink)
+}
+
+/// The text of the plan's file, or of the example plan where none is named.
+fn plan_named(rt: &HostRuntime, plan: &Option<String>) -> Result<Vec<u8>, EngineFault>
+    ensures { result ≢ Err EngineFault.Markers }
+{
+    let asked = plan.as_ref().map(|name| File::open(rt, name));
+    plan_text(rt.alloc(), asked)
 }
 
 /// Tells help or the version on standard output, and why the words are refused on standard error.

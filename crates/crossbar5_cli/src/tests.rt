@@ -8,6 +8,8 @@ fn each_ending_has_its_status_and_line(rt: HostRuntime) {
         (Ending::Answered(Status::Fine), 0, None),
         (Ending::Answered(Status::PlanRefused), 3, None),
         (Ending::Answered(Status::TrafficRefused), 4, None),
+        (Ending::Answered(Status::ReportRefused), 4, None),
+        (Ending::Answered(Status::FoundWrong), 7, None),
         (Ending::Told, 0, None),
         (Ending::Refused, 2, None),
         (
@@ -55,6 +57,9 @@ fn words_end_with_their_status(rt: HostRuntime) -> Result<(), Fail> {
         ("crossbar5 replay --markers DCY", 2),
         ("crossbar5 replay --plan missing.toml --markers DCY", 2),
         ("crossbar5 replay --plan missing.toml", 6),
+        ("crossbar5 audit --help", 0),
+        ("crossbar5 audit --markers XX", 2),
+        ("crossbar5 audit --plan missing.toml", 6),
     ] {
         assert_eq!(rt; exit_of(&rt, line)?, number, "{line}");
     }

@@ -9,9 +9,10 @@ use Rattle.clap.specs.Lexer.{has_byte, long_of}
 use Rattle.clap.specs.Simple.{Shape, built, filled, filled_from, help_rule, new_shape}
 use Rattle.clap.specs.Takes.{default_passes}
 use Rattle.clap.specs.Walk.{Rule, Text, arg_by_id, arg_by_index, arg_by_long}
+use Rattle.std.proofs.Math.Bool.{or-false}
 use Rattle.crossbar5_command.specs.Program.{program_of, rule_for}
 use Rattle.crossbar5_command.specs.Subcommand.{NamedOption, Subcommand, hyphen, option_named}
-use Rattle.crossbar5_command.proofs.FirstFound.{found_first, found_passes, or_false}
+use Rattle.crossbar5_command.proofs.FirstFound.{found_first, found_passes}
 
 -- an option as clap builds it, and all of a subcommand, with the `help` that it adds
 abbrev pub built_rule : NamedOption → Rule
@@ -51,7 +52,7 @@ module _ (name : Text) where
       → arg_by_long (rules_for options) name ≡ option_map built_rule (option_named options name)
   rule_by_long [] no_help = ap (λ same. cond (same || false) (Some (filled help_rule)) None) no_help
   rule_by_long (o ∷ rest) no_help =
-      found_first built_rule _ _ (or_false (bytes_eq o.name name)) o _ _ (rule_by_long rest no_help)
+      found_first built_rule _ _ (or-false (bytes_eq o.name name)) o _ _ (rule_by_long rest no_help)
 
   pub rule_by_id : (options : List NamedOption) → bytes_eq (codes "help") name ≡ false
       → arg_by_id (rules_for options) name ≡ option_map built_rule (option_named options name)

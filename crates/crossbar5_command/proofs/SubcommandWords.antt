@@ -13,11 +13,12 @@ use Rattle.clap.specs.Faults.{entered_fault, level_fault, settle_fault, walk_fau
 use Rattle.clap.specs.Words.{fault_of, is_simple, is_simple_and_free, subcommand_of, takes}
 use Rattle.clap.proofs.OnLiterals.{clap_on_literals}
 use Rattle.clap.proofs.WalkLemmas.{find-map, walk_stopped}
+use Rattle.std.proofs.Math.Bool.{or-false}
 use Rattle.crossbar5_command.specs.Ask.{IsAskOf, IsAskWith}
 use Rattle.crossbar5_command.specs.Program.{program, program_of, subcommands}
 use Rattle.crossbar5_command.specs.Subcommand.{AreOptions, AreValues, AskFor, GivenOption, Subcommand, subcommand_named, value_of, words_of}
 use Rattle.crossbar5_command.specs.declared.ask.Ask.{Ask}
-use Rattle.crossbar5_command.proofs.FirstFound.{found_first, found_passes, or_false}
+use Rattle.crossbar5_command.proofs.FirstFound.{found_first, found_passes}
 use Rattle.crossbar5_command.proofs.OptionRows.{values_of_rows}
 use Rattle.crossbar5_command.proofs.OptionRules.{all_rules, are_sound, defaults_pass, first_shape, is_sound_option, level, rules_for}
 use Rattle.crossbar5_command.proofs.OptionWords.{all_new, options_read, options_taken, other_way}
@@ -29,7 +30,7 @@ use Rattle.crossbar5_command.proofs.ValueWords.{or_else-first, or_else-second}
 shape_by_name : (subs : List Subcommand) (name : Text) → bytes_eq (codes "help") name ≡ false
     → find (λ shape. answers_to name (label_of shape)) (built (program_of subs)).subs ≡ option_map level (subcommand_named subs name)
 shape_by_name [] name no_help = ap (λ same. cond (same || false) (Some (first_shape (built (program_of [])).subs)) None) no_help
-shape_by_name (s ∷ rest) name no_help = found_first level _ _ (or_false (bytes_eq s.name name)) s _ _ (shape_by_name rest name no_help)
+shape_by_name (s ∷ rest) name no_help = found_first level _ _ (or-false (bytes_eq s.name name)) s _ _ (shape_by_name rest name no_help)
 
 -- and among their names
 abbrev pub label : Option Subcommand → Option (Text × List Text)

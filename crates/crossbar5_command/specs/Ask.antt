@@ -1,18 +1,20 @@
 use Rattle.std.specs.Prelude.{◌≡◌, List, Option, Some, None, codes, option_map, unwrap_or}
 use Rattle.std.specs.String.{string_bytes}
 use Rattle.clap.specs.Words.{Row, Text, first_of}
-use Rattle.crossbar5_command.specs.Program.{default_kinds, replay}
+use Rattle.crossbar5_command.specs.Program.{audit, default_kinds, replay}
 use Rattle.crossbar5_command.specs.declared.ask.Ask.{Ask}
-use Rattle.crossbar5_command.specs.declared.ask.Ask.TheVariants.{Replay}
+use Rattle.crossbar5_command.specs.declared.ask.Ask.TheVariants.{Audit, Replay}
 
 -- the name of the subcommand that is asked for
 abbrev pub name_of : Ask → Text
 name_of (Replay file letters) = replay.name
+name_of (Audit file) = audit.name
 
 -- what is asked, by the values of the options, is this
 abbrev pub HasValues : (Text → Option Text) → Ask → Type 0
 HasValues values (Replay file letters) = (option_map string_bytes file ≡ values (codes "plan"))
     × (string_bytes letters ≡ unwrap_or (values (codes "markers")) default_kinds)
+HasValues values (Audit file) = option_map string_bytes file ≡ values (codes "plan")
 
 -- the ask is for this subcommand, with these values of its options
 abbrev pub IsAskWith : Text → (Text → Option Text) → Ask → Type 0

@@ -24,8 +24,11 @@ markers = record { name = codes "markers"; argument = value None (Some default_k
 abbrev pub replay : Subcommand
 replay = record { name = codes "replay"; options = plan ∷ markers ∷ [] }
 
+abbrev pub audit : Subcommand
+audit = record { name = codes "audit"; options = plan ∷ [] }
+
 abbrev pub subcommands : List Subcommand
-subcommands = replay ∷ []
+subcommands = replay ∷ audit ∷ []
 
 -- ---- as clap sees them
 

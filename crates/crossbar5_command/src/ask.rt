@@ -8,4 +8,9 @@ pub enum Ask {
         /// A letter for the kind of each marker, marker 0 first. Nobody has looked at them yet.
         kinds: String,
     },
+    /// To audit the records on standard input.
+    Audit {
+        /// The name of the file with the plan. Without one the plan is the example plan.
+        plan: Option<String>,
+    },
 }

@@ -6,12 +6,12 @@ ghost use Rattle.clap.specs.Words.{fault_of, first_value, found_of, subcommand_o
 ghost use Rattle.clap.specs.Words.{subcommand_rows_of, takes};
 ghost use Rattle.crossbar5_command.specs.Ask.{IsAskOf, IsAskWith, IsUnnamedAsk, name_of};
 ghost use Rattle.crossbar5_command.specs.Fault.{IsFaultAmong};
-ghost use Rattle.crossbar5_command.specs.Program.{program, replay, subcommands};
+ghost use Rattle.crossbar5_command.specs.Program.{audit, program, replay, subcommands};
 ghost use Rattle.crossbar5_command.specs.Subcommand.{AreValues, AskFor, GivenOption, NamesOnly};
 ghost use Rattle.crossbar5_command.specs.Subcommand.{Subcommand, subcommand_named, value_of};
 ghost use Rattle.crossbar5_command.specs.declared.command_fault.CommandFault.TheVariants.{Memory};
 
-use crate::program::{DEFAULT_KINDS, MARKERS, PLAN, REPLAY, program};
+use crate::program::{AUDIT, DEFAULT_KINDS, MARKERS, PLAN, REPLAY, program};
 use crate::{Ask, CommandFault};
 use clap::ArgMatches;
 use std::alloc::{AllocError, Global};
@@ -50,7 +50,19 @@ fn ask_of(alloc: Global, matches: &ArgMatches) -> Result<Ask, AllocError>
         (λ met. IsSome (subcommand_named subcommands met.0))
         → IfOk result (IsAskOf (subcommand_rows_of matches.now)) }
 {
+    if let Some(options) = matches.subcommand_matches(AUDIT) {
+        return audit_of(alloc, options);
+    }
     replay_of(alloc, matches.subcommand_matches(REPLAY))
+}
+
+/// The audit with the values of its options.
+fn audit_of(alloc: Global, options: &ArgMatches) -> Result<Ask, AllocError>
+    ensures { IfOk result (IsAskWith audit.name (first_value (found_of options.now))) }
+{
+    Ok(Ask::Audit {
+        plan: copy_of(alloc, options.get_str(PLAN))?,
+    })
 }
 
 /// The replay with the values of its options, where there are matches of them.

@@ -9,5 +9,3 @@ mod ask;
 mod command_fault;
 mod command_line;
 mod program;
-#[cfg(test)]
-mod tests;

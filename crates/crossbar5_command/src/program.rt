@@ -3,14 +3,16 @@
 ghost use Rattle.std.specs.Prelude.{◌≡◌, IfOk, false};
 ghost use Rattle.clap.specs.Words.{app_of, rule_of};
 ghost use Rattle.clap.specs.declared.builder.command.Command.TheViews.{out-Command};
-ghost use Rattle.crossbar5_command.specs.Program.{markers, plan, program, replay};
+ghost use Rattle.crossbar5_command.specs.Program.{audit, markers, plan, program, replay};
 ghost use Rattle.crossbar5_command.specs.Program.{rule_for, shape_for};
 
 use clap::{Arg, Command};
 use std::alloc::{AllocError, Global};
 
-/// The name of the subcommand.
+/// The names of the subcommands.
 pub const REPLAY: &str = "replay";
+
+pub const AUDIT: &str = "audit";
 
 /// The id of the option for the plan, and its name.
 pub const PLAN: &str = "plan";
@@ -25,16 +27,22 @@ const ABOUT: &str = "\
 Replays traffic from standard input in a simulated No. 5 Crossbar telephone
 office, and writes what came of each job to standard output. Without a command
 it replays with the example plan and two markers for all jobs. The options of
-replay, --plan FILE and --markers KINDS, are told by 'crossbar5 replay --help'.";
+replay, --plan FILE and --markers KINDS, are told by 'crossbar5 replay --help'.
+With the command audit it reads such output, a replay's or one that was worked
+out by hand, and tells whether it is right.";
 
 // The usage stands under each refusal too, so that options with no subcommand are told where they
 // belong.
 const USAGE: &str = "\
 crossbar5 [COMMAND]
-       crossbar5 replay [--plan <FILE>] [--markers <KINDS>]";
+       crossbar5 replay [--plan <FILE>] [--markers <KINDS>]
+       crossbar5 audit [--plan <FILE>]";
 
 const ABOUT_REPLAY: &str = "\
 Replays traffic from standard input with a plan and markers of your choice";
+
+const ABOUT_AUDIT: &str = "\
+Tells whether the output of a replay, on standard input, is right";
 
 const ABOUT_PLAN: &str = "The file with the office's plan [default: the example plan]";
 
@@ -50,7 +58,11 @@ Example:
 
   The first row of this traffic gives marker 0 the job number 1: line 3041
   wants dial tone. The second row has marker 0 make its steps: no job that
-  is alone in the office needs more than 128.
+  is alone in the office needs more than 128. What comes of a job is a line
+  of ten fields: turn, job number, marker, kind of job, line, dialled digits,
+  end, trial, and two paths. A field that has nothing is '-'.
+
+  crossbar5 replay < TRAFFIC | crossbar5 audit   checks a replay.
 
   All rows, plans, output and fault lines are defined in docs/FORMATS.md;
   plans and traffic to begin from are in examples.
@@ -59,11 +71,13 @@ Exit status:
   0  All is fine
   2  The command line is refused, or the KINDS of the markers
   3  The plan is refused
-  4  The traffic is refused; or it is too long, or the plan's FILE is
+  4  The traffic is refused, or what is to be audited is no text of records;
+     or that is too long, or the plan's FILE is
   5  Memory ran out
-  6  A device failed, or FILE can't be read";
+  6  A device failed, or FILE can't be read
+  7  The records, or the counts behind them, aren't right";
 
-/// The program, with its one subcommand.
+/// The program, with its subcommands.
 pub fn program<'a>(alloc: Global) -> Result<Command<'a>, AllocError>
     ensures { IfOk result (λ made. app_of made ≡ program) }
 {
@@ -72,7 +86,8 @@ pub fn program<'a>(alloc: Global) -> Result<Command<'a>, AllocError>
         .about(ABOUT)
         .after_help(EXAMPLE_AND_STATUSES)
         .override_usage(USAGE)
-        .subcommand(replay(alloc)?)
+        .subcommand(replay(alloc)?)?
+        .subcommand(audit(alloc)?)
 }
 
 fn replay<'a>(alloc: Global) -> Result<Command<'a>, AllocError>
@@ -84,6 +99,16 @@ fn replay<'a>(alloc: Global) -> Result<Command<'a>, AllocError>
         .after_help(EXAMPLE_AND_STATUSES)
         .arg(plan_option(alloc))?
         .arg(markers_option(alloc))
+}
+
+fn audit<'a>(alloc: Global) -> Result<Command<'a>, AllocError>
+    ensures shape { IfOk result (λ made. (app_of made).top ≡ shape_for audit) }
+    ensures local { IfOk result (λ made. (out-Command made).has_globals ≡ false) }
+{
+    Command::new(alloc, AUDIT)
+        .about(ABOUT_AUDIT)
+        .after_help(EXAMPLE_AND_STATUSES)
+        .arg(plan_option(alloc))
 }
 
 fn plan_option<'a>(alloc: Global) -> Arg<'a>

@@ -1,5 +1,6 @@
 //! Offices of many markers, driven move by move.
 
+use crate::checks::{check, check_eq};
 use crate::fixtures::{MANY_REGISTERS, check_words, job, some_job};
 use std::alloc::Global;
 use std::process::Abort;
@@ -44,7 +45,7 @@ fn office_at<'p>(
 ) -> Result<Exchange<'p>, Fail> {
     let mut office = two_markers(alloc, plan)?;
     for ((marker, job_no), text) in [(0, 1), (1, 2)].iter().zip(jobs) {
-        assert_eq!(rt; office.assign(*marker, *job_no, job(rt, text)), Ok(()));
+        check_eq!(rt; office.assign(*marker, *job_no, job(rt, text)), Ok(()));
     }
     Ok(office)
 }
@@ -71,9 +72,9 @@ fn is_idle(rt: &impl Abort, office: &Exchange, marker: u32) -> bool {
 
 /// Marker 0 does a job to its end.
 fn done(rt: &impl Abort, office: &mut Exchange, job_no: u32, text: &str) {
-    assert_eq!(rt; office.assign(0, job_no, job(rt, text)), Ok(()));
+    check_eq!(rt; office.assign(0, job_no, job(rt, text)), Ok(()));
     steps(rt, office, 0, 128);
-    assert!(rt; is_idle(rt, office, 0));
+    check!(rt; is_idle(rt, office, 0));
 }
 
 fn word(rt: &impl Abort, office: &Exchange, number: usize) -> u64 {
@@ -96,11 +97,11 @@ fn check_history(
     let after = audit(alloc, plan, office.records())?;
     let paths = after.paths().len();
     let words = office.words();
-    assert_eq!(rt; usize::from(count_paths(words)), paths);
-    assert_eq!(rt; usize::from(count_closed(words)), 4 * paths);
-    assert_eq!(rt; word(rt, office, TURNS), office.records().len() as u64);
+    check_eq!(rt; usize::from(count_paths(words)), paths);
+    check_eq!(rt; usize::from(count_closed(words)), 4 * paths);
+    check_eq!(rt; word(rt, office, TURNS), office.records().len() as u64);
     for conn in CONNECTORS..TURNS {
-        assert_eq!(rt; word(rt, office, conn), 0, "word {conn}");
+        check_eq!(rt; word(rt, office, conn), 0, "word {conn}");
     }
     Ok(())
 }

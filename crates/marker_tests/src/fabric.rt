@@ -3,6 +3,7 @@
 ghost use Rattle.std.specs.Prelude.{◌≡◌, IfSome};
 ghost use Rattle.xbar_fabric.specs.Views.{AreDesksOf, IsDeskOf};
 
+use crate::checks::check_eq;
 use crate::fixtures::job;
 use std::alloc::Global;
 use std::marker::Model;
@@ -92,7 +93,7 @@ impl<'p> TwoDesks<'p> {
         } else {
             self.one.assign(job_no, job(rt, text))
         };
-        assert_eq!(rt; done, Ok(()));
+        check_eq!(rt; done, Ok(()));
     }
 
     fn step(&mut self, marker: u32) -> Progress {

@@ -1,5 +1,6 @@
 //! What the tests of jobs and of offices share: a plan's text, jobs, and a look at words.
 
+use crate::checks::check_eq;
 use std::process::Abort;
 use xbar_equip::{Dialled, Len};
 use xbar_office::Job;
@@ -82,6 +83,6 @@ pub fn check_words(rt: &impl Abort, words: &[u64], wanted: &[(usize, u64)]) {
             .iter()
             .find(|entry| entry.0 == number)
             .map_or(0, |entry| entry.1);
-        assert_eq!(rt; *word, value, "word {number}");
+        check_eq!(rt; *word, value, "word {number}");
     }
 }

@@ -4,6 +4,7 @@ ghost use Rattle.std.specs.Prelude.{◌≡◌, ◌<◌, length};
 ghost use Rattle.xbar_equip.specs.Word.{word_count};
 ghost use Rattle.xbar_jobs.specs.Standing.{Stands};
 
+use crate::checks::check_eq;
 use crate::fixtures::{MANY_REGISTERS, check_words, job, some_job};
 use std::alloc::Global;
 use std::process::Abort;
@@ -89,7 +90,7 @@ fn reply_text(alloc: Global, reply: &Reply) -> Result<String, Fail> {
 }
 
 fn end_of(rt: &impl Abort, alloc: Global, program: &Program) -> Result<String, Fail> {
-    assert_eq!(rt; program.next(), Step::Finished);
+    check_eq!(rt; program.next(), Step::Finished);
     let Some(reply) = program.reply() else {
         panic!(rt; "no reply is known");
     };

@@ -1,5 +1,6 @@
 //! The equipment: texts of numbers, paths with their links and crosspoints, and words.
 
+use crate::checks::check_eq;
 use crate::fixtures::{far_path, near_path};
 use std::test::Fail;
 use xbar_equip::{
@@ -17,11 +18,11 @@ fn lines_are_read(rt: HostRuntime) {
         (b"1000", Len::new(1, 0, 0)),
     ];
     for (text, line) in read {
-        assert_eq!(rt; Len::parse(text), Ok(line));
-        assert_eq!(rt; line.text().as_slice(), text);
+        check_eq!(rt; Len::parse(text), Ok(line));
+        check_eq!(rt; line.text().as_slice(), text);
     }
     let line = Len::new(2, 9, 29);
-    assert_eq!(rt; (line.vertical_group(), line.vertical_file()), (5, 4));
+    check_eq!(rt; (line.vertical_group(), line.vertical_file()), (5, 4));
 }
 
 #[test]
@@ -36,64 +37,64 @@ fn texts_that_name_no_line(rt: HostRuntime) {
         (b"3060", EquipFault::Range),
     ];
     for (text, fault) in refused {
-        assert_eq!(rt; Len::parse(text), Err(fault));
+        check_eq!(rt; Len::parse(text), Err(fault));
     }
 }
 
 #[test]
 fn trunk_places_are_read(rt: HostRuntime) {
     let place = Ten::new(4, 1, 7);
-    assert_eq!(rt; place.text(), *b"417");
+    check_eq!(rt; place.text(), *b"417");
     let read: [(&[u8], Result<Ten, EquipFault>); 3] = [
         (b"417", Ok(place)),
         (b"4170", Err(EquipFault::Length)),
         (b"41:", Err(EquipFault::NotDigit)),
     ];
     for (text, wanted) in read {
-        assert_eq!(rt; Ten::parse(text), wanted);
+        check_eq!(rt; Ten::parse(text), wanted);
     }
 }
 
 #[test]
 fn channels_are_read(rt: HostRuntime) {
     let channel = Channel::new(9);
-    assert_eq!(rt; channel.text(), *b"9");
+    check_eq!(rt; channel.text(), *b"9");
     let read: [(&[u8], Result<Channel, EquipFault>); 3] = [
         (b"9", Ok(channel)),
         (b"10", Err(EquipFault::Length)),
         (b"/", Err(EquipFault::NotDigit)),
     ];
     for (text, wanted) in read {
-        assert_eq!(rt; Channel::parse(text), wanted);
+        check_eq!(rt; Channel::parse(text), wanted);
     }
 }
 
 #[test]
 fn directory_numbers_are_read(rt: HostRuntime) {
     let number = DirNo::new(42);
-    assert_eq!(rt; number.text(), *b"0042");
+    check_eq!(rt; number.text(), *b"0042");
     let read: [(&[u8], Result<DirNo, EquipFault>); 3] = [
         (b"0042", Ok(number)),
         (b"042", Err(EquipFault::Length)),
         (b"00a2", Err(EquipFault::NotDigit)),
     ];
     for (text, wanted) in read {
-        assert_eq!(rt; DirNo::parse(text), wanted);
+        check_eq!(rt; DirNo::parse(text), wanted);
     }
 }
 
 #[test]
 fn dialled_digits_are_read(rt: HostRuntime) {
     let dialled = Dialled::new(420_007);
-    assert_eq!(rt; dialled.text(), *b"0420007");
-    assert_eq!(rt; (dialled.code(), dialled.number()), (42, DirNo::new(7)));
+    check_eq!(rt; dialled.text(), *b"0420007");
+    check_eq!(rt; (dialled.code(), dialled.number()), (42, DirNo::new(7)));
     let read: [(&[u8], Result<Dialled, EquipFault>); 3] = [
         (b"0420007", Ok(dialled)),
         (b"555123", Err(EquipFault::Length)),
         (b"555-123", Err(EquipFault::NotDigit)),
     ];
     for (text, wanted) in read {
-        assert_eq!(rt; Dialled::parse(text), wanted);
+        check_eq!(rt; Dialled::parse(text), wanted);
     }
 }
 
@@ -105,8 +106,8 @@ fn links_are_read(rt: HostRuntime) {
         (b"TL999", Link::new(LinkKind::TrunkLink, 9, 9, 9)),
     ];
     for (text, link) in read {
-        assert_eq!(rt; Link::parse(text), Ok(link));
-        assert_eq!(rt; link.text().as_slice(), text);
+        check_eq!(rt; Link::parse(text), Ok(link));
+        check_eq!(rt; link.text().as_slice(), text);
     }
 }
 
@@ -120,7 +121,7 @@ fn texts_that_name_no_link(rt: HostRuntime) {
         (b"TT340", EquipFault::NotDigit),
     ];
     for (text, fault) in refused {
-        assert_eq!(rt; Link::parse(text), Err(fault));
+        check_eq!(rt; Link::parse(text), Err(fault));
     }
 }
 
@@ -137,11 +138,11 @@ fn numbers(path: Path) -> [(u16, u8, u8); 4] {
 
 #[test]
 fn paths_close_four_crosspoints(rt: HostRuntime) {
-    assert_eq!(rt;
+    check_eq!(rt;
         numbers(far_path()),
         [(49, 9, 30), (59, 9, 10), (399, 2, 10), (389, 9, 10)]
     );
-    assert_eq!(rt;
+    check_eq!(rt;
         numbers(near_path()),
         [(60, 0, 22), (70, 4, 1), (290, 3, 2), (281, 0, 8)]
     );
@@ -151,13 +152,13 @@ fn paths_close_four_crosspoints(rt: HostRuntime) {
 fn paths_have_three_links(rt: HostRuntime) {
     let far = far_path();
     let links = [far.line_link(), far.junctor(), far.trunk_link()];
-    assert_eq!(rt;
+    check_eq!(rt;
         links.map(|link| link.text()),
         [*b"LL299", *b"JU299", *b"TL999"]
     );
     let near = near_path();
     let links = [near.line_link(), near.junctor(), near.trunk_link()];
-    assert_eq!(rt;
+    check_eq!(rt;
         links.map(|link| link.text()),
         [*b"LL300", *b"JU340", *b"TL410"]
     );
@@ -185,7 +186,7 @@ fn paths_stand_in_the_order_of_their_texts(rt: HostRuntime) {
     let [first, second, third, fourth, last] = in_order;
     let mut paths = [fourth, last, third, second, first];
     paths.sort_unstable();
-    assert_eq!(rt; paths, in_order);
+    check_eq!(rt; paths, in_order);
 }
 
 #[test]
@@ -202,15 +203,15 @@ fn words_stand_in_their_order(rt: HostRuntime) {
         (turn_word(), 452, None),
     ];
     for (word, number, protector) in table {
-        assert_eq!(rt; (word.number(), protects(word)), (number, protector));
+        check_eq!(rt; (word.number(), protects(word)), (number, protector));
     }
 }
 
 #[test]
 fn numbers_are_printed(rt: HostRuntime) -> Result<(), Fail> {
     let alloc = rt.alloc();
-    assert_eq!(rt; DirNo::new(42).to_string(alloc)?.as_str(), "0042");
-    assert_eq!(rt; Dialled::new(420_007).to_string(alloc)?.as_str(), "0420007");
+    check_eq!(rt; DirNo::new(42).to_string(alloc)?.as_str(), "0042");
+    check_eq!(rt; Dialled::new(420_007).to_string(alloc)?.as_str(), "0420007");
     Ok(())
 }
 
@@ -218,9 +219,9 @@ fn numbers_are_printed(rt: HostRuntime) -> Result<(), Fail> {
 fn paths_are_printed(rt: HostRuntime) -> Result<(), Fail> {
     let alloc = rt.alloc();
     let path = near_path();
-    assert_eq!(rt; path.to_string(alloc)?.as_str(), "3041-0-417");
-    assert_eq!(rt; path.junctor().to_string(alloc)?.as_str(), "JU340");
-    assert_eq!(rt;
+    check_eq!(rt; path.to_string(alloc)?.as_str(), "3041-0-417");
+    check_eq!(rt; path.junctor().to_string(alloc)?.as_str(), "JU340");
+    check_eq!(rt;
         format!(in alloc; "[{:>6}]", path.line)?.as_str(),
         "[  3041]"
     );
@@ -235,7 +236,7 @@ fn faults_are_told(rt: HostRuntime) -> Result<(), Fail> {
         (EquipFault::Range, "a digit out of its range"),
     ];
     for (fault, text) in told {
-        assert_eq!(rt; fault.to_string(rt.alloc())?.as_str(), text);
+        check_eq!(rt; fault.to_string(rt.alloc())?.as_str(), text);
     }
     Ok(())
 }

@@ -1,7 +1,10 @@
 //! Paths, lines and records that several tests name.
 
+use crate::checks::check;
+use std::process::Abort;
 use xbar_equip::{Channel, DirNo, Len, Path, Ten};
 use xbar_office::{End, Job, Record, Reply};
+use xbar_plan::Plan;
 
 /// The path 3041-0-417: dial tone for line 3041 in the example office.
 pub fn near_path() -> Path {
@@ -21,14 +24,49 @@ pub fn far_path() -> Path {
     }
 }
 
+/// A number with the texts of its lines, if the plan has it.
+pub type NumberLines<'a> = (&'a [u8], Option<&'a [&'a [u8]]>);
+
 /// The numbers of the example plan, each with its one line.
-pub fn example_lines() -> [(DirNo, Len); 4] {
-    [
-        (DirNo::new(1), Len::new(3, 0, 21)),
-        (DirNo::new(2), Len::new(3, 0, 27)),
-        (DirNo::new(3), Len::new(1, 0, 0)),
-        (DirNo::new(4), Len::new(3, 1, 0)),
-    ]
+pub const EXAMPLE_LINES: &[NumberLines] = &[
+    (b"0001", Some(&[b"3041"])),
+    (b"0002", Some(&[b"3052"])),
+    (b"0003", Some(&[b"1000"])),
+    (b"0004", Some(&[b"3100"])),
+];
+
+/// And its codes.
+pub const EXAMPLE_ROUTES: &[(u16, Option<&[u8]>)] = &[(234, Some(&[1])), (555, Some(&[2, 3]))];
+
+fn has_lines(plan: &Plan, number: &[u8], wanted: Option<&[&[u8]]>) -> bool {
+    let Ok(number) = DirNo::parse(number) else {
+        return false;
+    };
+    match (plan.stations(number), wanted) {
+        (None, None) => true,
+        (Some(lines), Some(wanted)) => {
+            lines.len() == wanted.len()
+                && lines
+                    .iter()
+                    .zip(wanted)
+                    .all(|(line, text)| line.text().as_slice() == *text)
+        }
+        _ => false,
+    }
+}
+
+/// The plan has just these lines of these numbers.
+pub fn check_lines(rt: &impl Abort, plan: &Plan, rows: &[NumberLines<'_>]) {
+    for (number, lines) in rows {
+        check!(rt; has_lines(plan, number, *lines), "{number:?}");
+    }
+}
+
+/// Codes of the plan lead to these groups, or nowhere.
+pub fn check_routes(rt: &impl Abort, plan: &Plan, rows: &[(u16, Option<&[u8]>)]) {
+    for (code, groups) in rows {
+        check!(rt; plan.route(*code) == *groups, "{code}");
+    }
 }
 
 /// The record of a job of marker 0, with the number 1.

@@ -1,5 +1,6 @@
 //! What a marker works out from words: the channel test, traces and counts.
 
+use crate::checks::check_eq;
 use crate::fixtures::far_path;
 use std::process::Abort;
 use xbar_equip::{Channel, Crosspoint, Len, Path, Ten, WORD_COUNT};
@@ -41,40 +42,40 @@ fn matches_channels(rt: HostRuntime) {
     for (line, start, want) in table {
         assert!(rt; start < 10);
         let found = match_channel(line, &junctors, trunk, 4, start);
-        assert_eq!(rt;
+        check_eq!(rt;
             found.map(|channel| channel.number()),
             want,
             "at {line} from {start}"
         );
     }
     let all_idle = match_channel(0, &[0; 10], 0, 4, 5);
-    assert_eq!(rt; all_idle, Some(Channel::new(5)));
+    check_eq!(rt; all_idle, Some(Channel::new(5)));
     // Fields 5 to 9 of the trunk switch are closed, so the search goes round.
     let round = match_channel(0, &junctors, 1099510579200, 3, 5);
-    assert_eq!(rt; round, Some(Channel::new(0)));
+    check_eq!(rt; round, Some(Channel::new(0)));
 }
 
 #[test]
 fn tells_idle_links(rt: HostRuntime) {
     for (word, want) in [(0, 1023), (22, 1022), (540431955284459520, 511)] {
-        assert_eq!(rt; idle_links(word), want, "at {word}");
+        check_eq!(rt; idle_links(word), want, "at {word}");
     }
     for (word, want) in [(0, 1023), (4581228544, 543), (u64::MAX, 0)] {
-        assert_eq!(rt; idle_trunk_links(word), want, "at {word}");
+        check_eq!(rt; idle_trunk_links(word), want, "at {word}");
     }
 }
 
 #[test]
 fn reads_fields(rt: HostRuntime) {
-    assert_eq!(rt; find_line(540431955284459520, 29), Some(9));
-    assert_eq!(rt; find_line(540431955284459520, 28), None);
-    assert_eq!(rt; find_number(2560, 9), Some(2));
-    assert_eq!(rt; find_number(85, 4), Some(0));
-    assert_eq!(rt; line_place_of(540431955284459520, 9), Some(29));
-    assert_eq!(rt; line_place_of(31, 0), None);
-    assert_eq!(rt; place_of(2560, 2), Some(9));
-    assert_eq!(rt; place_of(11, 0), None);
-    assert_eq!(rt; place_of(2560, 1), None);
+    check_eq!(rt; find_line(540431955284459520, 29), Some(9));
+    check_eq!(rt; find_line(540431955284459520, 28), None);
+    check_eq!(rt; find_number(2560, 9), Some(2));
+    check_eq!(rt; find_number(85, 4), Some(0));
+    check_eq!(rt; line_place_of(540431955284459520, 9), Some(29));
+    check_eq!(rt; line_place_of(31, 0), None);
+    check_eq!(rt; place_of(2560, 2), Some(9));
+    check_eq!(rt; place_of(11, 0), None);
+    check_eq!(rt; place_of(2560, 1), None);
 }
 
 #[test]
@@ -88,11 +89,11 @@ fn closes_the_crosspoints_of_a_path(rt: HostRuntime) {
     ];
     for (crosspoint, want, word) in table {
         let (number, field, value) = numbers(crosspoint);
-        assert_eq!(rt; (number, field, value), want);
+        check_eq!(rt; (number, field, value), want);
         assert!(rt; number < 400);
         let shape = shape_at(number);
         assert!(rt; field < 10 && value >= 1 && value <= shape.places());
-        assert_eq!(rt; close_bits(shape, field, value - 1), word, "at {number}");
+        check_eq!(rt; close_bits(shape, field, value - 1), word, "at {number}");
     }
 }
 
@@ -108,34 +109,35 @@ fn check_shapes(rt: &impl Abort) {
         (399, Shape::Other),
     ] {
         assert!(rt; number < 400);
-        assert_eq!(rt; shape_at(number), shape, "at {number}");
+        check_eq!(rt; shape_at(number), shape, "at {number}");
     }
+}
+
+/// The texts of the paths that are traced from line 2954 and back from place 999.
+fn traced(words: &[u64; WORD_COUNT]) -> [Option<[u8; 10]>; 2] {
+    [
+        text_of(trace(words, Len::new(2, 9, 29))),
+        text_of(trace_back(words, Ten::new(9, 9, 9))),
+    ]
 }
 
 #[test]
 fn traces_a_path_both_ways(rt: HostRuntime) {
     check_shapes(&rt);
     let mut words = far_words();
-    let line = Len::new(2, 9, 29);
-    let place = Ten::new(9, 9, 9);
-    assert_eq!(rt; text_of(trace(&words, line)), Some(*b"2954-9-999"));
-    assert_eq!(rt; text_of(trace_back(&words, place)), Some(*b"2954-9-999"));
-    assert_eq!(rt; text_of(trace(&words, Len::new(2, 9, 28))), None);
-    assert_eq!(rt; count_paths(&words), 1);
-    assert_eq!(rt; count_closed(&words), 4);
-
+    check_eq!(rt; traced(&words), [Some(*b"2954-9-999"); 2]);
+    check_eq!(rt; text_of(trace(&words, Len::new(2, 9, 28))), None);
+    check_eq!(rt; (count_paths(&words), count_closed(&words)), (1, 4));
     words[399] = 11 << 8;
-    assert_eq!(rt;
-        text_of(trace(&words, line)),
+    check_eq!(rt;
+        text_of(trace(&words, Len::new(2, 9, 29))),
         None,
         "a switch above the last"
     );
     words[399] = 2560;
     words[59] = 0;
-    assert_eq!(rt; text_of(trace(&words, line)), None, "broken off");
-    assert_eq!(rt; text_of(trace_back(&words, place)), None, "broken off");
-    assert_eq!(rt; count_paths(&words), 1);
-    assert_eq!(rt; count_closed(&words), 3);
+    check_eq!(rt; traced(&words), [None; 2], "broken off");
+    check_eq!(rt; (count_paths(&words), count_closed(&words)), (1, 3));
 }
 
 #[test]

@@ -1,24 +1,52 @@
 //! A switch as one word: select, hold and release.
 
+use crate::checks::check_eq;
+use std::process::Abort;
 use std::test::Fail;
 use xbar_switch::{Shape, Switch, SwitchFault, close_bits, field, laws, open_mask};
 
 #[test]
 fn refuses_what_is_out_of_turn(rt: HostRuntime) -> Result<(), Fail> {
     let mut switch = Switch::of_word(Shape::Line, 0);
-    assert_eq!(rt; switch.hold(0), Err(SwitchFault::NothingSelected));
-    assert_eq!(rt; switch.word(), 0);
+    check_eq!(rt; switch.hold(0), Err(SwitchFault::NothingSelected));
+    check_eq!(rt; switch.word(), 0);
     switch.select(21);
     switch.hold(0)?;
     switch.drop_select();
-    assert_eq!(rt; switch.word(), 22);
+    check_eq!(rt; switch.word(), 22);
     switch.select(3);
-    assert_eq!(rt; switch.hold(0), Err(SwitchFault::AlreadyHeld));
-    assert_eq!(rt; switch.word(), 22);
+    check_eq!(rt; switch.hold(0), Err(SwitchFault::AlreadyHeld));
+    check_eq!(rt; switch.word(), 22);
     switch.drop_select();
-    assert_eq!(rt; switch.hold(0), Err(SwitchFault::NothingSelected));
-    assert_eq!(rt; switch.release(1), Err(SwitchFault::NotHeld));
-    assert_eq!(rt; switch.word(), 22);
+    check_eq!(rt; switch.hold(0), Err(SwitchFault::NothingSelected));
+    check_eq!(rt; switch.release(1), Err(SwitchFault::NotHeld));
+    check_eq!(rt; switch.word(), 22);
+    Ok(())
+}
+
+/// Place `h` is held at `v` of a switch that was open, and released. Held it has this word, and this
+/// mask opens it.
+fn closes_and_opens(
+    rt: &impl Abort,
+    shape: Shape,
+    v: u8,
+    h: u8,
+    word: u64,
+    mask: u64,
+) -> Result<(), SwitchFault> {
+    assert!(rt; v < 10 && h < shape.places());
+    let mut switch = Switch::of_word(shape, 0);
+    check_eq!(rt; switch.closed(v), None, "at {word}");
+    switch.select(h);
+    switch.hold(v)?;
+    switch.drop_select();
+    check_eq!(rt; switch.word(), word);
+    check_eq!(rt; switch.closed(v), Some(h), "at {word}");
+    check_eq!(rt; field(shape, word, v), h + 1, "at {word}");
+    check_eq!(rt; close_bits(shape, v, h), word);
+    check_eq!(rt; open_mask(shape, v), mask);
+    switch.release(v)?;
+    check_eq!(rt; switch.word(), 0, "at {word}");
     Ok(())
 }
 
@@ -31,19 +59,7 @@ fn closes_and_opens_a_field(rt: HostRuntime) -> Result<(), Fail> {
         (Shape::Other, 2, 9, 2560, 18446744073709547775),
     ];
     for (shape, v, h, word, mask) in crosspoints {
-        assert!(rt; v < 10 && h < shape.places());
-        let mut switch = Switch::of_word(shape, 0);
-        assert_eq!(rt; switch.closed(v), None, "at {word}");
-        switch.select(h);
-        switch.hold(v)?;
-        switch.drop_select();
-        assert_eq!(rt; switch.word(), word);
-        assert_eq!(rt; switch.closed(v), Some(h), "at {word}");
-        assert_eq!(rt; field(shape, word, v), h + 1, "at {word}");
-        assert_eq!(rt; close_bits(shape, v, h), word);
-        assert_eq!(rt; open_mask(shape, v), mask);
-        switch.release(v)?;
-        assert_eq!(rt; switch.word(), 0, "at {word}");
+        closes_and_opens(&rt, shape, v, h, word, mask)?;
     }
     Ok(())
 }
@@ -55,7 +71,7 @@ fn holds_the_place_selected_last(rt: HostRuntime) -> Result<(), Fail> {
     switch.select(4);
     switch.hold(0)?;
     switch.hold(1)?;
-    assert_eq!(rt; switch.word(), 85);
+    check_eq!(rt; switch.word(), 85);
     Ok(())
 }
 
@@ -66,10 +82,10 @@ fn reads_words_from_outside(rt: HostRuntime) -> Result<(), Fail> {
         (Shape::Other, 14, 18446744073709551600),
     ] {
         let mut switch = Switch::of_word(shape, u64::MAX);
-        assert_eq!(rt; switch.closed(0), Some(highest));
-        assert_eq!(rt; switch.closed(9), Some(highest));
+        check_eq!(rt; switch.closed(0), Some(highest));
+        check_eq!(rt; switch.closed(9), Some(highest));
         switch.release(0)?;
-        assert_eq!(rt; switch.word(), released);
+        check_eq!(rt; switch.word(), released);
     }
     Ok(())
 }
@@ -77,8 +93,8 @@ fn reads_words_from_outside(rt: HostRuntime) -> Result<(), Fail> {
 #[test]
 fn tells_shapes_apart(rt: HostRuntime) {
     for (shape, width, places) in [(Shape::Line, 6, 30), (Shape::Other, 4, 10)] {
-        assert_eq!(rt; shape.width(), width);
-        assert_eq!(rt; shape.places(), places);
+        check_eq!(rt; shape.width(), width);
+        check_eq!(rt; shape.places(), places);
     }
 }
 
@@ -94,7 +110,7 @@ fn prints_faults(rt: HostRuntime) -> Result<(), Fail> {
     ];
     for (fault, text) in faults {
         let printed = format!(in rt.alloc(); "{fault}")?;
-        assert_eq!(rt; printed.as_str(), text);
+        check_eq!(rt; printed.as_str(), text);
     }
     Ok(())
 }

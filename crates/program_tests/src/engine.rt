@@ -1,11 +1,13 @@
 //! Replays of traffic, with plans and markers of all kinds.
 
+use crate::checks::check_eq;
 use crossbar5::{Counted, EngineFault, Sink, Source, Status, kinds_of, run_replay};
 use std::alloc::{AllocError, Global};
 use std::process::Abort;
 use std::test::Fail;
 use xbar_core::Kind;
 
+mod audits;
 mod faults;
 mod kinds;
 mod large;
@@ -32,6 +34,16 @@ const FIRST_TEXT: &str = "0,1,0,D,3041,-,DIALTONE,1,3041-0-417,-\nPATHS,1\nCLOSE
 
 const TWO: [Kind; 2] = [Kind::Combined; 2];
 
+/// Replays from one device to another, by two markers under the example plan.
+fn replay_example<R: Source, W: Sink>(
+    alloc: Global,
+    source: &mut R,
+    sink: &mut W,
+) -> Result<Status, EngineFault> {
+    let plan = plan_with(alloc, "")?;
+    run_replay(alloc, plan.as_bytes(), &TWO, source, sink)
+}
+
 /// What is written for a plan and traffic, and the status.
 fn replayed(
     alloc: Global,
@@ -56,7 +68,7 @@ fn check_replay(
 ) -> Result<(), Fail> {
     let (written, status) = replayed(alloc, plan, kinds, traffic)?;
     let text = str::from_utf8(&written).unwrap_or("this is no text");
-    assert_eq!(rt; (text, status), wanted);
+    check_eq!(rt; (text, status), wanted);
     Ok(())
 }
 

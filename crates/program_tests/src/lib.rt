@@ -1,7 +1,13 @@
-//! Tests of the rows of traffic, of the text of a run, and of the engine, by texts that were worked
-//! out outside.
+//! Tests of the command line, of counted reads and writes, and of the rows of traffic, of the text of
+//! a run, and of the engine, by texts that were worked out outside.
 #![tactic(auto)]
 
+#[cfg(test)]
+mod checks;
+#[cfg(test)]
+mod command_line;
+#[cfg(test)]
+mod counted;
 #[cfg(test)]
 mod engine;
 #[cfg(test)]

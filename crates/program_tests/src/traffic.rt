@@ -1,5 +1,6 @@
 //! Texts of traffic, with their rows and their faults as the formats have them.
 
+use crate::checks::check_eq;
 use std::alloc::Global;
 use std::process::Abort;
 use std::test::Fail;
@@ -27,8 +28,8 @@ fn check_rows(
     wanted: &[Row],
 ) -> Result<(), Fail> {
     let traffic = Traffic::read(alloc, mode, text)?;
-    assert_eq!(rt; traffic.rows.as_slice(), wanted, "of {text:?}");
-    assert_eq!(rt; traffic.fault, None, "of {text:?}");
+    check_eq!(rt; traffic.rows.as_slice(), wanted, "of {text:?}");
+    check_eq!(rt; traffic.fault, None, "of {text:?}");
     Ok(())
 }
 
@@ -46,8 +47,8 @@ fn check_told(
         Some(refusal) => refusal.text(alloc)?,
         None => String::from_str(alloc, "none")?,
     };
-    assert_eq!(rt; line.as_str(), wanted, "of {text:?}");
-    assert_eq!(rt; traffic.rows.len(), rows, "of {text:?}");
+    check_eq!(rt; line.as_str(), wanted, "of {text:?}");
+    check_eq!(rt; traffic.rows.len(), rows, "of {text:?}");
     Ok(())
 }
 

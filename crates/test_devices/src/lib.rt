@@ -8,5 +8,3 @@ pub use recorder::{Call, Recorder};
 mod endless;
 mod fail_at;
 mod recorder;
-#[cfg(test)]
-mod tests;

@@ -1,6 +1,7 @@
 -- an actor is put off by the judgement of the word of the lock that its step asks for
 use Rattle.std.proofs.Common.{◌≡◌, ℕ, Bool, true, false, inl, inr, refl, ap, ◌∙◌, subst}
 use Rattle.std.specs.Prelude.{◌==◌, ⊤, if◌then◌else◌}
+use Rattle.std.proofs.lemmas.Bool.{eqb-false}
 use Rattle.turns.specs.Sharing.{with_request}
 use Rattle.turns.specs.System.{System}
 use Rattle.turns.specs.Attempt.{Act, Rest, Ask, Take, Leave, Free as FreeAct, Look, Turn as TurnAct, Make, answer_to, unless_put_off}
@@ -61,7 +62,7 @@ module _ (O : System) where
       put_off_taking lock expected true at same = not_so Seized tt same
       put_off_taking lock expected false at same = record {
         lock = lock;
-        asks = inr (expected, refl);
+        asks = inr (expected, refl, eqb-false found expected at);
         says =
             ap (λ (b : Bool). sharing.judged k (if b then sharing.taken k expected else found)) at ∙
             comes.tells (Again found) (sharing.judged k found) tt same;

@@ -1,15 +1,15 @@
 -- what a marker is told of a connector that it asks for is true
-use Rattle.std.proofs.Common.{◌≡◌, ℕ, ◌+◌, ◌<◌, ◌%◌, Bool, true, false, List, [], ◌∷◌, bit_or, slice_index, refl, sym, ◌∙◌, ap, subst, arith, inl, inr, eq-eqb}
+use Rattle.std.proofs.Common.{◌≡◌, ◌≢◌, ℕ, ◌+◌, ◌<◌, ◌%◌, Bool, true, false, List, [], ◌∷◌, bit_or, slice_index, refl, sym, ◌∙◌, ap, subst, arith, inl, inr, eq-eqb}
 use Rattle.std.specs.Int.{bit_at}
 use Rattle.std.specs.Prelude.{◌==◌, Option, Some, None, if◌then◌else◌}
-use Rattle.std.proofs.lemmas.Bool.{eqb-true, eqb-false}
+use Rattle.std.proofs.lemmas.Bool.{eqb-true, eqb-false, ne_eqb}
 use Rattle.std.proofs.lemmas.Option.{same_Some}
-use Rattle.turns.specs.Attempt as generic
-use Rattle.turns.specs.Attempt.{act, act_in, asked_in, closing_act, free_act, unless_put_off as told_by}
+use Rattle.turns.specs.Attempt.{IsSeizing, act, act_in, asked_in, closing_act, free_act}
 use Rattle.turns.specs.Law.{FitsIn}
+use Rattle.turns.specs.PutOff.{IsPutOffBy}
 use Rattle.turns.specs.Runs.{is_rest}
 use Rattle.turns.specs.Sharing.{IsTrueOf}
-use Rattle.turns.specs.Sharings.{judged, preferring, request_bit}
+use Rattle.turns.specs.Sharings.{judged, preferring, request_bit, taken_by}
 use Rattle.turns.specs.World.{Does, place}
 use Rattle.turns.specs.declared.answer.Answer.{Answer}
 use Rattle.turns.specs.declared.answer.Answer.TheVariants.{Asked, Seized, Held, Preferred, Again, Value, Turn, Done}
@@ -18,6 +18,7 @@ use Rattle.turns.specs.declared.judgement.Judgement.TheVariants as judgement
 use Rattle.turns.specs.declared.phase.Phase.TheVariants.{Requests, Seizes, Tests, Turns, Withdraws, GivesBack, Operates}
 use Rattle.turns.proofs.FirstRequests.{judged_true}
 use Rattle.turns.proofs.Lists.{there_below}
+use Rattle.turns.proofs.PutOff.{put_off_held, put_off_preferred}
 use Rattle.turns.proofs.LockWords.{asked_holder, asked_others, asked_own, asked_requests}
 use Rattle.xbar_equip.specs.Conn.{IsConn}
 use Rattle.xbar_equip.specs.declared.conn.Conn.{Conn}
@@ -36,23 +37,6 @@ use Rattle.xbar_core.proofs.Actors.{actor_at}
 use Rattle.xbar_core.proofs.Connectors.{conn_word, tells_truth}
 use Rattle.xbar_core.proofs.Steps.{has_come}
 use Rattle.xbar_core.proofs.Worlds.{answer_is}
-
--- the judgement by which an answer stops a marker, if it does
-abbrev stop : Answer → Option Judgement
-stop (Held holder) = Some (judgement.Held holder)
-stop (Preferred other) = Some (judgement.Preferred other)
-stop (Asked word) = None
-stop Seized = None
-stop (Again word) = None
-stop (Value value) = None
-stop (Turn turn) = None
-stop Done = None
-
--- an answer that stops a marker is the judgement that it was told by
-told_judged : (answer : Answer) (was j : Judgement) → stop answer ≡ None → stop (told_by answer was) ≡ Some j → was ≡ j
-told_judged answer judgement.Free j goes told = let none : ◌≡◌ {A = Option Judgement} None (Some j) = sym goes ∙ told in absurd cc
-told_judged answer (judgement.Held holder) j goes told = same_Some _ _ told
-told_judged answer (judgement.Preferred other) j goes told = same_Some _ _ told
 
 -- a request of a lower marker stands in a word with a request of its own only where it stood before
 lower_stood : (k word j : ℕ) → k < 48 → j < k → (bit_at (bit_or word (request_bit k)) (8 + j) == 1) ≡ true → bit_at word (8 + j) ≡ 1
@@ -84,61 +68,73 @@ module _ (plan : Tables) (e : Exchange) (lawful : IsLawfulExchange plan e) (k nu
   pub few : k < 48
   few = let below = there_below (world plan e).actors k (Does number a) (actor_at e k number a at) in let most = lawful.few in omega (arith, below, most)
 
-  abbrev told_in : Phase → Answer
-  told_in phase = generic.answer_to (office plan) k (act_in phase a) (slice_index e.words (place (office plan) (act_in phase a)))
-
   fits_in : (phase : Phase) → a.phase ≡ phase → FitsIn (office plan) (world plan e) k number a phase
   fits_in phase is = subst (FitsIn (office plan) (world plan e) k number a) is (lawful.sound k number a (actor_at e k number a at)).fits
 
-  -- nothing stops a marker that frees what it holds, or makes its effects
-  free_goes : (found : ℕ) (held : List Conn) (j : Judgement) → stop (generic.answer_to (office plan) k (free_act held) found) ≡ Some j → ⊥
-  free_goes found [] j told = cc
-  free_goes found (conn ∷ held) j told = cc
+  -- the next step, on the word that it finds, puts the marker off by this judgement
+  abbrev PutsOff : Phase → Judgement → Type 0
+  PutsOff phase j = let step = act_in phase a in IsPutOffBy (office plan) k step (slice_index e.words (place (office plan) step)) j
 
-  close_goes : (found : ℕ) (effects : List Effect) (held : List Conn) (j : Judgement) → stop (generic.answer_to (office plan) k (closing_act effects held) found) ≡ Some j → ⊥
-  close_goes found [] held j told = free_goes found held j told
-  close_goes found (effect ∷ effects) held j told = cc
+  asks_in : (phase : Phase) (j : Judgement) → PutsOff phase j → IsSeizing (act_in phase a)
+  asks_in phase j by = elim by.asks [
+    | inl asks ↦ subst (IsSeizing {Lock = Conn} {Effect = Effect}) (sym asks) tt
+    | inr takes ↦ subst (IsSeizing {Lock = Conn} {Effect = Effect}) (sym takes.1) tt
+  ]
 
-  -- a request is judged by the word with it, a seizing by the word
-  judged_request : (conn : Conn) (j : Judgement) → a.phase ≡ Requests conn → stop (told_in (Requests conn)) ≡ Some j → IsJudged e k a j
-  judged_request conn j is told = record {
+  -- who frees what it holds, or makes its effects, asks for nothing
+  free_asks : (held : List Conn) → IsSeizing {Lock = Conn} {Effect = Effect} (free_act held) → ⊥
+  free_asks [] asks = asks
+  free_asks (conn ∷ held) asks = asks
+
+  close_asks : (effects : List Effect) (held : List Conn) → IsSeizing (closing_act effects held) → ⊥
+  close_asks [] held asks = free_asks held asks
+  close_asks (effect ∷ effects) held asks = asks
+
+  -- a request is judged by the word with it, a seizing that finds another word by that word
+  judged_request : (conn : Conn) (j : Judgement) → a.phase ≡ Requests conn → PutsOff (Requests conn) j → IsJudged e k a j
+  judged_request conn j is by = record {
     conn = conn;
     asked = ap asked_in is;
     range = fits_in (Requests conn) is;
     word = bit_or (conn_word e conn) (request_bit k);
-    judges = told_judged (Asked _) _ j refl told;
+    judges = by.says;
     holder = asked_holder k (conn_word e conn);
     lower = λ other less set. lower_stood k (conn_word e conn) other few less set;
     all = λ other below set. still_stands k (conn_word e conn) other below (eq-eqb (bit_at (conn_word e conn) (8 + other)) 1 set);
   }
 
-  judged_seizing : (conn : Conn) (expected : ℕ) (j : Judgement) → a.phase ≡ Seizes conn expected → stop (told_in (Seizes conn expected)) ≡ Some j → IsJudged e k a j
-  judged_seizing conn expected j is told = record {
+  judged_seizing : (conn : Conn) (expected : ℕ) (j : Judgement) → a.phase ≡ Seizes conn expected → PutsOff (Seizes conn expected) j → IsJudged e k a j
+  judged_seizing conn expected j is by = record {
     conn = conn;
     asked = ap asked_in is;
     range = (fits_in (Seizes conn expected) is).0;
     word = conn_word e conn;
-    judges = by (conn_word e conn == expected) told;
+    judges = ap (λ (same : Bool). judged k (if same then taken_by k expected else conn_word e conn)) (sym (ne_eqb (conn_word e conn) expected differs)) ∙ by.says;
     holder = refl;
     lower = λ other less set. eqb-true (bit_at (conn_word e conn) (8 + other)) 1 set;
     all = λ other below set. eq-eqb (bit_at (conn_word e conn) (8 + other)) 1 set;
   } where
-    by : (same : Bool) → stop (if same then Seized else told_by (Again (conn_word e conn)) (judged k (conn_word e conn))) ≡ Some j → judged k (conn_word e conn) ≡ j
-    by true stops = absurd cc
-    by false stops = told_judged (Again _) _ j refl stops
+    differs : conn_word e conn ≢ expected
+    differs same = elim by.asks [
+      | inl asks ↦ absurd cc
+      | inr takes ↦ let one = takes.1 in takes.2 cc
+    ]
 
-  judged_in : (phase : Phase) (j : Judgement) → a.phase ≡ phase → stop (told_in phase) ≡ Some j → IsJudged e k a j
-  judged_in (Requests conn) j is told = judged_request conn j is told
-  judged_in (Seizes conn expected) j is told = judged_seizing conn expected j is told
-  judged_in (Tests word) j is told = absurd cc
-  judged_in Turns j is told = absurd cc
-  judged_in (Withdraws conn) j is told = absurd cc
-  judged_in GivesBack j is told = absurd (free_goes _ a.held j told)
-  judged_in (Operates turn) j is told = absurd (close_goes _ a.effects a.held j told)
+  judged_in : (phase : Phase) (j : Judgement) → a.phase ≡ phase → PutsOff phase j → IsJudged e k a j
+  judged_in (Requests conn) j is by = judged_request conn j is by
+  judged_in (Seizes conn expected) j is by = judged_seizing conn expected j is by
+  judged_in (Tests word) j is by = absurd (asks_in (Tests word) j by)
+  judged_in Turns j is by = absurd (asks_in Turns j by)
+  judged_in (Withdraws conn) j is by = absurd (asks_in (Withdraws conn) j by)
+  judged_in GivesBack j is by = absurd (free_asks a.held (asks_in GivesBack j by))
+  judged_in (Operates turn) j is by = absurd (close_asks a.effects a.held (asks_in (Operates turn) j by))
 
-  -- a marker that is stopped asked for a connector
-  pub judged_at : (answer : Answer) (j : Judgement) → answer_of k (next_step a) e.words ≡ answer → stop answer ≡ Some j → IsJudged e k a j
-  judged_at answer j is stops = judged_in a.phase j refl (ap stop (sym (answer_is plan k e.words a) ∙ is) ∙ stops)
+  -- by the law, who is refused a connector, or told of a preferred marker, asks for a connector, whose own word said so
+  pub judged_held : (holder : ℕ) → answer_of k (next_step a) e.words ≡ Held holder → IsJudged e k a (judgement.Held holder)
+  judged_held holder is = judged_in a.phase (judgement.Held holder) refl (put_off_held (office plan) k _ holder (act a) (sym (answer_is plan k e.words a) ∙ is))
+
+  pub judged_preferred : (other : ℕ) → answer_of k (next_step a) e.words ≡ Preferred other → IsJudged e k a (judgement.Preferred other)
+  judged_preferred other is = judged_in a.phase (judgement.Preferred other) refl (put_off_preferred (office plan) k _ other (act a) (sym (answer_is plan k e.words a) ∙ is))
 
   module _ (j : Judgement) (seen : IsJudged e k a j) where
     -- and what it is told is true of the word that was judged
@@ -151,7 +147,7 @@ module _ (plan : Tables) (e : Exchange) (lawful : IsLawfulExchange plan e) (k nu
   -- a marker that is refused a connector asks for it, and the one that is named holds it
   pub is_refused : (holder : ℕ) (conn : Conn) → answer_of k (next_step a) e.words ≡ Held holder → asked_in a.phase ≡ Some conn → AsksFor e k conn × Holds e holder conn
   is_refused holder conn is asked =
-      let seen = judged_at (Held holder) (judgement.Held holder) is refl in
+      let seen = judged_held holder is in
       let one : seen.conn ≡ conn = same_Some _ _ (sym seen.asked ∙ asked) in
       let names = true_of (judgement.Held holder) seen in
       let kept = seen.holder in
@@ -161,7 +157,7 @@ module _ (plan : Tables) (e : Exchange) (lawful : IsLawfulExchange plan e) (k nu
   -- where another is preferred it has a lower number and has requested the connector, and nobody holds it
   pub is_preferred : (other : ℕ) → answer_of k (next_step a) e.words ≡ Preferred other → (conn : Conn) × AsksFor e k conn × (other < k) × HasRequested e other conn × ((j : ℕ) → ¬ Holds e j conn)
   is_preferred other is =
-      let seen = judged_at (Preferred other) (judgement.Preferred other) is refl in
+      let seen = judged_preferred other is in
       let truth = true_of (judgement.Preferred other) seen in
       let tells = tells_truth plan e lawful seen.conn seen.range in
       let kept = seen.holder in (

@@ -15,7 +15,7 @@ use Rattle.xbar_core.specs.Exchange.{Exchange, IsLawfulExchange}
 use Rattle.xbar_core.specs.Holding.{AsksFor, HasRequested}
 use Rattle.xbar_core.specs.Moves.{event_at_step}
 use Rattle.xbar_core.specs.declared.event.Event.TheVariants as event
-use Rattle.xbar_core.proofs.AskedConnectors.{few, judged_at, preferred_answer}
+use Rattle.xbar_core.proofs.AskedConnectors.{few, judged_preferred, preferred_answer}
 use Rattle.xbar_core.proofs.Connectors.{tells_truth}
 use Rattle.xbar_core.proofs.Jobs.{one_job}
 use Rattle.xbar_core.proofs.Steps.{has_come}
@@ -53,7 +53,7 @@ pub preferred_least : (plan : Tables) (e : Exchange) (k other : ℕ) → IsLawfu
 preferred_least plan e k other lawful told conn asks j below requests =
     let come = has_come plan e k (event.Preferred other) (λ same. cc) told in
     let answer = preferred_answer k come.number come.attempt _ _ other come.comes in
-    let seen = judged_at plan e lawful k come.number come.attempt come.at (Preferred other) (judgement.Preferred other) answer refl in
+    let seen = judged_preferred plan e lawful k come.number come.attempt come.at other answer in
     let one = one_job e k come.number asks.number come.attempt asks.attempt come.at asks.at in
     let same : seen.conn ≡ conn = same_Some _ _ (sym seen.asked ∙ ap (λ (a : Attempt). asked_in a.phase) one.1 ∙ asks.asked) in
     let within = few plan e lawful j requests.number requests.attempt requests.at in

@@ -1,4 +1,5 @@
 use xbar_equip::Conn;
+use xbar_jobs::Step;
 use xbar_office::Record;
 
 /// What came of a marker's step.
@@ -18,4 +19,26 @@ pub enum Event {
     Preferred(u32),
     /// The last connector of a job that has turned is free again; the marker is idle.
     Finished(Record),
+}
+
+impl Event {
+    ghost use Rattle.std.specs.Prelude.{◌≡◌};
+    ghost use Rattle.xbar_core.specs.AtWork.{conn_asked};
+    ghost use Rattle.xbar_core.specs.Moves.{refused_by};
+
+    /// What came of a step that found its connector held by this marker.
+    pub fn of_refusal(step: Step, holder: u32) -> Self
+        ensures { result ≡ refused_by holder (conn_asked step) }
+    {
+        match step {
+            Step::Request(conn) | Step::Seize(conn, _) => Event::Refused { conn, holder },
+            Step::Withdraw(_)
+            | Step::Test(_)
+            | Step::Turn
+            | Step::Close(_, _)
+            | Step::Open(_, _)
+            | Step::Free(_)
+            | Step::Finished => Event::Moved,
+        }
+    }
 }

@@ -9,8 +9,8 @@ ghost use Rattle.xbar_jobs.specs.Attempt.{Attempt, counted, fresh, next_step, wi
 ghost use Rattle.xbar_jobs.specs.Office.{office};
 ghost use Rattle.xbar_jobs.specs.OnWords.{words_after};
 ghost use Rattle.xbar_jobs.specs.Standing.{Stands};
-ghost use Rattle.xbar_core.specs.AtWork.{conn_asked, gives_up, told_of};
-ghost use Rattle.xbar_core.specs.Moves.{event_of, own_record, added_record, refused_by};
+ghost use Rattle.xbar_core.specs.AtWork.{gives_up, told_of};
+ghost use Rattle.xbar_core.specs.Moves.{event_of, own_record, added_record};
 ghost use Rattle.xbar_core.specs.Standing.{waits_in};
 
 use crate::event::Event;
@@ -23,22 +23,6 @@ use xbar_plan::Plan;
 pub struct Work {
     job_no: u32,
     program: Program,
-}
-
-/// What came of a step that found its connector held.
-fn refused(step: Step, holder: u32) -> Event
-    ensures { result ≡ refused_by holder (conn_asked step) }
-{
-    match step {
-        Step::Request(conn) | Step::Seize(conn, _) => Event::Refused { conn, holder },
-        Step::Withdraw(_)
-        | Step::Test(_)
-        | Step::Turn
-        | Step::Close(_, _)
-        | Step::Open(_, _)
-        | Step::Free(_)
-        | Step::Finished => Event::Moved,
-    }
 }
 
 impl Work {
@@ -133,7 +117,7 @@ impl Work {
             result ≡ event_of marker self.now.job_no a self.now.program.attempt answer }
     {
         match answer {
-            Answer::Held(holder) => refused(step, holder),
+            Answer::Held(holder) => Event::of_refusal(step, holder),
             Answer::Preferred(other) => Event::Preferred(other),
             Answer::Done => {
                 if !self.is_done() {

@@ -58,11 +58,12 @@ module _ (plan : Tables) where
   closed_bare [] (conn ∷ held) rests = absurd cc
   closed_bare (effect ∷ effects) held rests = absurd cc
 
-  freed_done : (k found : ℕ) (held : List Conn) → answer_to (office plan) k (free_act held) found ≡ Done
+  -- to free is answered by nothing, and so is each step past the turn
+  pub freed_done : (k found : ℕ) (held : List Conn) → answer_to (office plan) k (free_act held) found ≡ Done
   freed_done k found [] = refl
   freed_done k found (conn ∷ held) = refl
 
-  closed_done : (k found : ℕ) (effects : List Effect) (held : List Conn) → answer_to (office plan) k (closing_act effects held) found ≡ Done
+  pub closed_done : (k found : ℕ) (effects : List Effect) (held : List Conn) → answer_to (office plan) k (closing_act effects held) found ≡ Done
   closed_done k found [] held = freed_done k found held
   closed_done k found (effect ∷ effects) held = refl
 

@@ -20,7 +20,7 @@ use Rattle.xbar_fabric.specs.Advances.{HasGivenBack, HasMade}
 use Rattle.xbar_fabric.proofs.Offices.{Order}
 use Rattle.xbar_fabric.proofs.Steps.{desk_at, has_stepped}
 
-not_turned : (rests turned : Bool) → (if rests then given.Idle else (if turned then given.PastTurn else given.Given)) ≡ given.Given → turned ≡ false
+pub not_turned : (rests turned : Bool) → (if rests then given.Idle else (if turned then given.PastTurn else given.Given)) ≡ given.Given → turned ≡ false
 not_turned true turned is = absurd cc
 not_turned false true is = absurd cc
 not_turned false false is = refl

@@ -1,4 +1,5 @@
 pub mod Offices
+pub mod Sent
 pub mod Steps
 pub mod Finishing
 pub mod ToldSteps
@@ -6,3 +7,6 @@ pub mod GivenBack
 pub mod NewDesks
 pub mod Meets
 pub mod AllDesks
+pub mod OwnRecords
+pub mod GrownRecords
+pub mod LaterTurns

@@ -1,9 +1,11 @@
-use Rattle.std.specs.Prelude.{◌≡◌, ◌<◌, ◌^◌, Some, List, [], length, slice_get}
+use Rattle.std.specs.Prelude.{◌≡◌, ℕ, ◌<◌, ◌^◌, Option, Some, None, List, [], length, slice_get}
 use Rattle.turns.specs.Among.{IsIn}
 use Rattle.xbar_plan.specs.Tables.{Tables}
 use Rattle.xbar_office.specs.Legal.{AreJobs, HaveReplies, IsLegal, jobs_of}
+use Rattle.xbar_office.specs.declared.job.Job.{Job}
 use Rattle.xbar_office.specs.declared.reply.Record.{Record}
-use Rattle.xbar_core.specs.Exchange.{on_job}
+use Rattle.xbar_core.specs.Exchange.{Work, on_job}
+use Rattle.xbar_core.specs.Moves.{own_record}
 use Rattle.xbar_fabric.specs.Views.{DeskView, mine}
 
 -- records of jobs that there are, with the replies of the one-marker office, which does them whole,
@@ -20,3 +22,11 @@ pub record IsTold (before after : DeskView) (r : Record) : Type 0 where
   pub job : on_job ⊥ (λ number a. (r.job_no ≡ number) × (r.job ≡ a.job)) before.work
   pub within : IsIn r (mine after)
   pub stands : length after.seen < 2 ^ 64 → slice_get after.seen r.turn ≡ Some r
+
+-- the job that a marker is at, with its number
+abbrev pub job_at : Work → Option (ℕ × Job)
+job_at work = on_job None (λ number a. Some (number, a.job)) work
+
+-- the record of a desk's job, once that has turned
+abbrev pub turned_of : DeskView → List Record
+turned_of desk = on_job [] (own_record desk.marker) desk.work

@@ -5,8 +5,7 @@ ghost use Rattle.turns.specs.Attempt.{act};
 ghost use Rattle.turns.specs.Runs.{is_rest};
 ghost use Rattle.desks.specs.Desks.{told_record};
 ghost use Rattle.xbar_jobs.specs.Attempt.{Attempt, next_step};
-ghost use Rattle.xbar_core.specs.AtWork.{conn_asked};
-ghost use Rattle.xbar_core.specs.Moves.{event_of, given_by, refused_by};
+ghost use Rattle.xbar_core.specs.Moves.{event_of, given_by};
 ghost use Rattle.xbar_fabric.specs.Advances.{HasAdvanced, HasGivenBack};
 ghost use Rattle.xbar_fabric.specs.Views.{IsDeskOf, entered};
 
@@ -17,29 +16,13 @@ use xbar_core::{Event, Given};
 use xbar_jobs::{Answer, Step};
 use xbar_office::{Job, Record, Reply};
 
-/// What came of a step that found its connector held.
-fn refused(step: Step, holder: u32) -> Event
-    ensures { result ≡ refused_by holder (conn_asked step) }
-{
-    match step {
-        Step::Request(conn) | Step::Seize(conn, _) => Event::Refused { conn, holder },
-        Step::Withdraw(_)
-        | Step::Test(_)
-        | Step::Turn
-        | Step::Close(_, _)
-        | Step::Open(_, _)
-        | Step::Free(_)
-        | Step::Finished => Event::Moved,
-    }
-}
-
 /// What came of a step that was answered so, after which something is left of the job.
 fn moved(step: Step, answer: Answer) -> Event
     ensures { (k number : ℕ) (a after : Attempt) → step ≡ next_step a →
         is_rest (act after) ≡ false → result ≡ event_of k number a after answer }
 {
     match answer {
-        Answer::Held(holder) => refused(step, holder),
+        Answer::Held(holder) => Event::of_refusal(step, holder),
         Answer::Preferred(other) => Event::Preferred(other),
         Answer::Asked(_)
         | Answer::Seized

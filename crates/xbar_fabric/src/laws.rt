@@ -1,8 +1,10 @@
 //! What holds between any two steps of threads, and of each step. The functions do nothing: their
 //! contracts are the laws.
 
-ghost use Rattle.std.specs.Prelude.{◌≡◌, ◌<◌, ℕ, List, Option, Some};
+ghost use Rattle.std.specs.Prelude.{◌≡◌, ◌≤◌, ◌<◌, ◌^◌, ℕ, List, [], ◌∷◌, ◌++◌, length};
+ghost use Rattle.std.specs.Prelude.{Option, Some};
 ghost use Rattle.turns.specs.declared.phase.Phase.{Phase};
+ghost use Rattle.desks.specs.Parts.{Begins};
 ghost use Rattle.xbar_equip.specs.declared.conn.Conn.{Conn};
 ghost use Rattle.xbar_equip.specs.Len.{Line};
 ghost use Rattle.xbar_equip.specs.Link.{Link};
@@ -13,16 +15,19 @@ ghost use Rattle.xbar_plan.specs.Tables.{Tables};
 ghost use Rattle.xbar_office.specs.declared.job.Job.TheVariants.{Release};
 ghost use Rattle.xbar_office.specs.declared.reply.Card.{Card};
 ghost use Rattle.xbar_office.specs.declared.reply.End.TheVariants.{Released};
+ghost use Rattle.xbar_office.specs.declared.reply.Record.{Record};
 ghost use Rattle.xbar_jobs.specs.Attempt.{Attempt};
 ghost use Rattle.xbar_core.specs.Exchange.{Exchange};
 ghost use Rattle.xbar_core.specs.Holding.{AsksFor, HasRequested, Holds, IsAt};
 ghost use Rattle.xbar_core.specs.Links.{BelongsTo, IsAtLink, IsClosed, OpensItsOwn};
-ghost use Rattle.xbar_fabric.specs.Advances.{HasStepped};
+ghost use Rattle.xbar_core.specs.Moves.{given_by};
+ghost use Rattle.xbar_fabric.specs.Advances.{HasAdvanced, HasGivenBack, HasStepped};
 ghost use Rattle.xbar_fabric.specs.Between.{IsOfficeOn, Keeps, Known};
-ghost use Rattle.xbar_fabric.specs.Views.{DeskView};
+ghost use Rattle.xbar_fabric.specs.Histories.{IsHistory, job_at, turned_of};
+ghost use Rattle.xbar_fabric.specs.Views.{DeskView, mine};
 
 use turns::Phase;
-use xbar_core::Event;
+use xbar_core::{Event, Given};
 
 /// Whatever the table of shared words keeps between any two steps, there is an office with these
 /// words. In each such office, half-done jobs included, each closed crosspoint belongs to a path,
@@ -67,3 +72,25 @@ pub fn steps_tell_the_truth()
 {
     xbar_core::laws::events_tell_the_truth();
 }
+
+/// A desk's own records are those of the jobs that it did before, and then that of its job, once it
+/// has turned. It stays at this job, and to give back, as it may up to its turn, adds no record.
+pub fn own_records_are_of_own_jobs()
+    ensures advance { (before after : DeskView) (event : Event) (earlier : List Record) →
+        HasAdvanced before after event → mine before ≡ earlier ++ turned_of before →
+        mine after ≡ earlier ++ turned_of after }
+    ensures job { (before after : DeskView) (event : Event) → HasAdvanced before after event →
+        job_at after.work ≡ job_at before.work }
+    ensures finished { (before after : DeskView) (r : Record) →
+        HasAdvanced before after (Event.Finished r) → turned_of after ≡ r ∷ [] }
+    ensures given { (before after : DeskView) → given_by before.work ≡ Given.Given →
+        HasGivenBack before after → (turned_of before ≡ []) × (mine after ≡ mine before) }
+{}
+
+/// A desk's next own record has a later turn than all that the desk had seen before.
+pub fn next_records_have_later_turns()
+    ensures later { (before after : DeskView) (r : Record) → after.marker ≡ before.marker →
+        Begins before.seen after.seen → mine after ≡ mine before ++ r ∷ [] →
+        IsHistory after.plan after.seen → length after.seen < 2 ^ 64 →
+        (length before.seen ≤ r.turn) × (r.turn < length after.seen) }
+{}

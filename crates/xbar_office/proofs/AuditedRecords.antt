@@ -58,7 +58,7 @@ replies_at plan paths [] n r have here = cc
 replies_at plan paths (x ∷ records) zero r have here = let same : x ≡ r = cc in subst (λ (y : Record). y.reply ≡ (whole plan paths y.job).reply) same have.0
 replies_at plan paths (x ∷ records) (suc n) r have here = replies_at plan (whole plan paths x.job).paths records n r have.1 here
 
-never : (o : Option Record) (P : Record → Type 0) → IsSomeAnd o P → ((r : Record) → o ≡ Some r → P r → ⊥) → ⊥
+pub never : (o : Option Record) (P : Record → Type 0) → IsSomeAnd o P → ((r : Record) → o ≡ Some r → P r → ⊥) → ⊥
 never None P is not = is
 never (Some r) P is not = not r refl is
 

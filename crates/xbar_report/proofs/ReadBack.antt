@@ -1,6 +1,8 @@
 use Rattle.std.proofs.Common.{◌≡◌, ◌≢◌, ◌+◌, ℕ, List, [], ◌∷◌, ◌++◌, length, map, refl, sym, ap, subst, ◌∙◌}
 use Rattle.std.specs.Prelude.{Option, Some, None, IsSomeAnd, flat_map, slice_get}
 use Rattle.std.proofs.lemmas.List.{append-nil, nil_from_length}
+use Rattle.std.proofs.lemmas.List.Folds.{flat_map-map}
+use Rattle.xbar_office.proofs.AuditedRecords.{never}
 use Rattle.xbar_office.specs.Audit.{IsFirstWrongTurn}
 use Rattle.xbar_office.specs.Legal.{HaveTurns}
 use Rattle.xbar_office.specs.declared.reply.Record.{Record}
@@ -17,7 +19,7 @@ use Rattle.xbar_report.specs.declared.read_fault.ReadFault.{ReadFault}
 use Rattle.xbar_report.specs.declared.read_fault.ReadFault.TheVariants as fault
 use Rattle.xbar_report.proofs.Lines.{joined_lines}
 use Rattle.xbar_report.proofs.Reports.{dealt_lines, dealt_range, dealt_turns, taken_and_left}
-use Rattle.xbar_report.proofs.Sheets.{flat_map-map, range_of_sheet, sheet_text_is, texts_are, texts_range}
+use Rattle.xbar_report.proofs.Sheets.{range_of_sheet, sheet_text_is, texts_are, texts_range}
 use Rattle.xbar_report.proofs.Uniques.{only_sheet, own_dealt, report_range, report_text_is, sheet_of}
 
 -- what was read is a sheet with this text
@@ -80,10 +82,6 @@ report_read text s records counts read report is =
       none_left = ap length (ap (λ (rs : List Record). left_of rs s.cards) same.records ∙ ap (left_of (map bare_record records)) same.cards ∙ own.1);
       counts_are = same.counts;
     }
-
-never : (o : Option Record) (P : Record → Type 0) → IsSomeAnd o P → ((r : Record) → o ≡ Some r → P r → ⊥) → ⊥
-never None P is not = is
-never (Some r) P is not = not r refl is
 
 -- records with their turns have no wrong turn
 pub no_wrong_turn : (records : List Record) (place : ℕ) → HaveTurns 0 records → IsFirstWrongTurn records place → ⊥

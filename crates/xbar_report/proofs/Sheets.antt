@@ -2,6 +2,8 @@ use Rattle.std.proofs.Common.{◌≡◌, ℕ, zero, suc, List, [], ◌∷◌, �
 use Rattle.std.specs.Prelude.{Option, Some, None, IfSome, flat_map}
 use Rattle.std.specs.List.{AllByRecursion}
 use Rattle.std.proofs.lemmas.List.{append-nil, length-map}
+use Rattle.std.proofs.lemmas.Grind.{flat_map-append}
+use Rattle.std.proofs.lemmas.List.Folds.{flat_map-map}
 use Rattle.xbar_report.specs.Bare.{bare_line}
 use Rattle.xbar_report.specs.Draft.{AreTextsOf, IsTextOf}
 use Rattle.xbar_report.specs.Line.{IsLine, line_text, lines_of_sheet, lines_of_counts}
@@ -36,14 +38,6 @@ all_map P f (x ∷ xs) h = (h.0, all_map P f xs h.1)
 all_of_map : {A B : Type 0} (P : B → Type 0) (f : A → B) (xs : List A) → AllByRecursion P (map f xs) → AllByRecursion (λ x. P (f x)) xs
 all_of_map P f [] h = tt
 all_of_map P f (x ∷ xs) h = (h.0, all_of_map P f xs h.1)
-
-pub flat_map-map : {A B C : Type 0} (f : B → List C) (g : A → B) (xs : List A) → flat_map f (map g xs) ≡ flat_map (λ x. f (g x)) xs
-flat_map-map f g [] = refl
-flat_map-map f g (x ∷ xs) = ap (λ (rest : List _). f (g x) ++ rest) (flat_map-map f g xs)
-
-flat_map-append : {A B : Type 0} (f : A → List B) (xs ys : List A) → flat_map f (xs ++ ys) ≡ flat_map f xs ++ flat_map f ys
-flat_map-append f [] ys = refl
-flat_map-append f (x ∷ xs) ys = ap (λ (rest : List _). f x ++ rest) (flat_map-append f xs ys) ∙ sym (append_assoc (f x) (flat_map f xs) (flat_map f ys))
 
 -- the text of a sheet is that of its lines
 

@@ -3,6 +3,7 @@ use Rattle.std.specs.Prelude.{◌==◌, ◌&&◌, Option, Some, None, flat_map}
 use Rattle.std.specs.List.{AllByRecursion}
 use Rattle.std.proofs.lemmas.List.{length-map, take_at, drop_at}
 use borrow.Author.Tests.{ne_eqb}
+use Rattle.std.proofs.lemmas.Grind.{flat_map-append}
 use Rattle.xbar_office.specs.Legal.{HaveTurns}
 use Rattle.xbar_office.specs.declared.reply.Card.{Card}
 use Rattle.xbar_office.specs.declared.reply.Record.{Record as TheRecord}
@@ -133,10 +134,6 @@ only_sheet text s s' read range is =
 -- a report's text is that of a sheet whose cards are those of the records
 abbrev pub sheet_of : List TheRecord → Option Counts → Sheet
 sheet_of rs counts = record { records = rs; cards = flat_map troubles_of rs; counts = counts }
-
-flat_map-append : {A B : Type 0} (f : A → List B) (xs ys : List A) → flat_map f (xs ++ ys) ≡ flat_map f xs ++ flat_map f ys
-flat_map-append f [] ys = refl
-flat_map-append f (x ∷ xs) ys = ap (λ (rest : List _). f x ++ rest) (flat_map-append f xs ys) ∙ sym (append_assoc (f x) (flat_map f xs) (flat_map f ys))
 
 cards_text : (rs : List TheRecord) → flat_map trouble_line (flat_map troubles_of rs) ≡ flat_map card_lines rs
 cards_text [] = refl

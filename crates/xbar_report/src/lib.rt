@@ -2,9 +2,10 @@
 #![tactic(auto)]
 
 pub use counts::Counts;
+pub use end_fields::name_of;
 pub use read_fault::ReadFault;
 pub use reading::{Report, read};
-pub use report_text::report;
+pub use report_text::{record_text, report};
 pub use trouble_line::TroubleLine;
 
 mod counts;

@@ -22,6 +22,16 @@ pub fn report(
     Ok(text.into_bytes())
 }
 
+/// What is written of one record: its line, and those of its cards.
+pub fn record_text(alloc: Global, owner: &Record) -> Result<String, AllocError>
+    ensures { IfOk result (λ text.
+        string_bytes text ≡ record_line owner.now ++ card_lines owner.now) }
+{
+    let mut text = format!(in alloc; "{}", RecordLine(owner))?;
+    add_cards_of(&mut text, owner)?;
+    Ok(text)
+}
+
 fn add_records(text: &mut String, records: &[Record]) -> Result<(), AllocError>
     ensures { OnOk result (string_bytes text.new ≡ string_bytes text.old ++
         flat_map record_line records.now) }

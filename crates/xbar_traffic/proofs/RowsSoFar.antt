@@ -1,5 +1,6 @@
 use Rattle.std.proofs.Common.{◌≡◌, ◌||◌, ℕ, Bool, true, false, List, [], ◌∷◌, ◌++◌, Some, None, refl, sym, ap, ◌∙◌, append_assoc, subst}
 use Rattle.std.specs.Prelude.{Result, Ok, Err}
+use Rattle.std.proofs.Math.Bool.{or-false}
 use Rattle.std.proofs.lemmas.List.{append-nil}
 use Rattle.std.proofs.lemmas.List.Folds.{list_any-append}
 use Rattle.xbar_traffic.specs.Traffic.{AreReadAfter, IsJudgedAs, has_number, repeats, stands_in}
@@ -9,14 +10,10 @@ use Rattle.xbar_traffic.specs.declared.mode.Mode.{Mode}
 use Rattle.xbar_traffic.specs.declared.row.Row.{Row}
 use Rattle.xbar_traffic.specs.declared.row.Row.TheVariants.{Assign, Steps, Call}
 
-or_false : (b : Bool) → (b || false) ≡ b
-or_false true = refl
-or_false false = refl
-
 -- the numbers of rows, and of one more
 pub stands_in-more : (rows : List Row) (row : Row) (number : ℕ) → stands_in (rows ++ row ∷ []) number ≡ (stands_in rows number || has_number number row)
 stands_in-more rows row number =
-    list_any-append (has_number number) rows (row ∷ []) ∙ ap (λ (b : Bool). stands_in rows number || b) (or_false (has_number number row))
+    list_any-append (has_number number) rows (row ∷ []) ∙ ap (λ (b : Bool). stands_in rows number || b) (or-false (has_number number row))
 
 repeats-same : (p q : ℕ → Bool) → ((n : ℕ) → p n ≡ q n) → (row : Row) → repeats p row ≡ repeats q row
 repeats-same p q same (Assign marker job_no job) = same job_no

@@ -1,6 +1,7 @@
 //! Which jobs are assigned to which markers, and what is refused.
 
 use super::*;
+use crate::checks::{check, check_eq};
 
 #[test]
 fn offices_have_1_to_48_markers(rt: HostRuntime) -> Result<(), Fail> {
@@ -8,9 +9,9 @@ fn offices_have_1_to_48_markers(rt: HostRuntime) -> Result<(), Fail> {
     for (count, is_opened) in [(0, false), (1, true), (48, true), (49, false)] {
         let kinds = vec![in rt.alloc(); Kind::Combined; count]?;
         let opened = Exchange::open(rt.alloc(), &plan, &kinds);
-        assert_eq!(&rt; opened.is_ok(), is_opened, "{count} markers");
+        check_eq!(rt; opened.is_ok(), is_opened, "{count} markers");
         if let Err(fault) = opened {
-            assert_eq!(&rt; fault, OpenFault::Markers);
+            check_eq!(rt; fault, OpenFault::Markers);
         }
     }
     Ok(())
@@ -31,8 +32,8 @@ fn kinds_take_their_jobs(rt: HostRuntime) -> Result<(), Fail> {
                 Err(AssignFault::WrongKind)
             };
             let assigned = office.assign(marker, 1, job(&rt, text));
-            assert_eq!(&rt; assigned, wanted, "marker {marker}");
-            assert_eq!(&rt; is_idle(&rt, &office, marker), !takes);
+            check_eq!(rt; assigned, wanted, "marker {marker}");
+            check_eq!(rt; is_idle(&rt, &office, marker), !takes);
         }
     }
     Ok(())
@@ -52,9 +53,9 @@ fn the_first_fault_is_told(rt: HostRuntime) -> Result<(), Fail> {
     ];
     for (marker, text, wanted) in table {
         let assigned = office.assign(marker, 1, job(&rt, text));
-        assert_eq!(&rt; assigned, wanted, "{text} to marker {marker}");
+        check_eq!(rt; assigned, wanted, "{text} to marker {marker}");
     }
-    assert_eq!(&rt; give_back(&rt, &mut office, 1), Given::Idle);
+    check_eq!(rt; give_back(&rt, &mut office, 1), Given::Idle);
     Ok(())
 }
 
@@ -67,7 +68,7 @@ fn refused_memory_changes_nothing(rt: HostRuntime) -> Result<(), Fail> {
     let mut office = match Exchange::open(rt.alloc(), &plan, &[Kind::Combined; 2]) {
         Ok(office) => office,
         Err(fault) => {
-            assert_eq!(&rt; fault, OpenFault::Memory);
+            check_eq!(rt; fault, OpenFault::Memory);
             return Ok(());
         }
     };
@@ -81,12 +82,12 @@ fn refused_memory_changes_nothing(rt: HostRuntime) -> Result<(), Fail> {
                 done = done.saturating_add(1);
             }
             Err(fault) => {
-                assert_eq!(&rt; fault, AssignFault::Memory);
-                assert!(&rt; is_idle(&rt, &office, 0));
-                assert_eq!(&rt; office.records().len(), records);
+                check_eq!(rt; fault, AssignFault::Memory);
+                check!(rt; is_idle(&rt, &office, 0));
+                check_eq!(rt; office.records().len(), records);
             }
         }
     }
-    assert_eq!(&rt; office.records().len(), done);
+    check_eq!(rt; office.records().len(), done);
     Ok(())
 }

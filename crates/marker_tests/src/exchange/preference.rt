@@ -1,12 +1,13 @@
 //! Of markers that ask for one connector the lowest is preferred.
 
 use super::*;
+use crate::checks::check_eq;
 
 /// A marker's steps come to this, one after another, and leave this in the connector of frame 3.
 fn comes_to(rt: &impl Abort, office: &mut Exchange, wanted: &[(u32, Event, u64)]) {
     for (marker, event, left) in wanted {
-        assert_eq!(rt; step(rt, office, *marker), *event);
-        assert_eq!(rt; word(rt, office, FRAME_3), *left);
+        check_eq!(rt; step(rt, office, *marker), *event);
+        check_eq!(rt; word(rt, office, FRAME_3), *left);
     }
 }
 
@@ -45,7 +46,7 @@ fn the_lower_marker_is_preferred_though_it_comes_later(rt: HostRuntime) -> Resul
 fn the_last_marker_has_the_highest_request(rt: HostRuntime) -> Result<(), Fail> {
     let plan = Plan::example(rt.alloc())?;
     let mut office = Exchange::open(rt.alloc(), &plan, &[Kind::Combined; 48])?;
-    assert_eq!(&rt; office.assign(47, 1, job(&rt, "D 3041")), Ok(()));
+    check_eq!(rt; office.assign(47, 1, job(&rt, "D 3041")), Ok(()));
     comes_to(
         &rt,
         &mut office,

@@ -1,6 +1,7 @@
 //! Markers of any kinds that make any moves, chosen by a seeded generator.
 
 use super::*;
+use crate::checks::check;
 use rand::RngExt;
 use rand_pcg::Pcg32;
 
@@ -56,7 +57,7 @@ fn go_at_random(
         office.settle();
         check_history(rt, alloc, plan, &office)?;
     }
-    assert!(rt; office.records().len() > 100);
+    check!(rt; office.records().len() > 100);
     Ok(())
 }
 

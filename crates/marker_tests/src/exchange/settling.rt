@@ -1,6 +1,7 @@
 //! Jobs that are half done when the office settles.
 
 use super::*;
+use crate::checks::{check, check_eq};
 
 #[test]
 fn half_done_jobs_are_settled(rt: HostRuntime) -> Result<(), Fail> {
@@ -11,8 +12,8 @@ fn half_done_jobs_are_settled(rt: HostRuntime) -> Result<(), Fail> {
             steps(&rt, &mut office, 0, first);
             steps(&rt, &mut office, 1, second);
             office.settle();
-            assert!(&rt; is_idle(&rt, &office, 0) && is_idle(&rt, &office, 1));
-            assert_eq!(&rt; office.records().len(), 2);
+            check!(rt; is_idle(&rt, &office, 0) && is_idle(&rt, &office, 1));
+            check_eq!(rt; office.records().len(), 2);
             check_history(&rt, rt.alloc(), &plan, &office)?;
         }
     }

@@ -1,6 +1,7 @@
 //! A marker that stopped on its way, and another that meets what it holds.
 
 use super::*;
+use crate::checks::{check, check_eq};
 
 /// The first time that marker 1 is put off on its way to its end.
 fn first_put_off(rt: &impl Abort, office: &mut TwoDesks) -> Option<Progress> {
@@ -30,7 +31,7 @@ fn another_marker_is_put_off(rt: HostRuntime) -> Result<(), Fail> {
         let mut office = TwoDesks::with_jobs(&rt, rt.alloc(), &plan, "D 3041", "D 1000")?;
         office.steps(0, count);
         let event = first_put_off(&rt, &mut office);
-        assert_eq!(&rt; event, wanted_after(count), "after {count} steps");
+        check_eq!(rt; event, wanted_after(count), "after {count} steps");
     }
     Ok(())
 }
@@ -43,7 +44,7 @@ fn met_at_the_registers<'p>(
 ) -> Result<TwoDesks<'p>, Fail> {
     let mut office = TwoDesks::with_jobs(rt, alloc, plan, "D 3041", "D 1000")?;
     for _made in 0..6 {
-        assert_eq!(rt; office.step(0), Progress::Moved);
+        check_eq!(rt; office.step(0), Progress::Moved);
     }
     for made in 0..8 {
         let wanted = if made == 3 {
@@ -51,7 +52,7 @@ fn met_at_the_registers<'p>(
         } else {
             Progress::Moved
         };
-        assert_eq!(rt; office.step(1), wanted, "step {made}");
+        check_eq!(rt; office.step(1), wanted, "step {made}");
     }
     Ok(office)
 }
@@ -61,9 +62,9 @@ fn a_held_connector_puts_a_marker_off(rt: HostRuntime) -> Result<(), Fail> {
     let plan = Plan::example(rt.alloc())?;
     let office = met_at_the_registers(&rt, rt.alloc(), &plan)?;
     let words = office.words(rt.alloc())?;
-    assert_eq!(&rt; word(&rt, words.as_slice(), FRAME_1), 2);
-    assert_eq!(&rt; word(&rt, words.as_slice(), FRAME_3), 1);
-    assert_eq!(&rt; word(&rt, words.as_slice(), REGISTERS), 1);
+    check_eq!(rt; word(&rt, words.as_slice(), FRAME_1), 2);
+    check_eq!(rt; word(&rt, words.as_slice(), FRAME_3), 1);
+    check_eq!(rt; word(&rt, words.as_slice(), REGISTERS), 1);
     Ok(())
 }
 
@@ -71,11 +72,11 @@ fn a_held_connector_puts_a_marker_off(rt: HostRuntime) -> Result<(), Fail> {
 fn both_give_back_and_meet(rt: HostRuntime) -> Result<(), Fail> {
     let plan = Plan::example(rt.alloc())?;
     let mut office = met_at_the_registers(&rt, rt.alloc(), &plan)?;
-    assert_eq!(&rt; office.give_back(0), Given::Given);
-    assert_eq!(&rt; office.give_back(1), Given::Given);
+    check_eq!(rt; office.give_back(0), Given::Given);
+    check_eq!(rt; office.give_back(1), Given::Given);
     office.meet();
     let words = office.words(rt.alloc())?;
-    assert_eq!(&rt; words.len(), 453);
-    assert!(&rt; words.iter().all(|word| *word == 0));
+    check_eq!(rt; words.len(), 453);
+    check!(rt; words.iter().all(|word| *word == 0));
     Ok(())
 }

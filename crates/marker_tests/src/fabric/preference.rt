@@ -1,6 +1,7 @@
 //! Of markers that ask for one connector the lowest is preferred.
 
 use super::*;
+use crate::checks::check_eq;
 
 /// Steps of markers come to this, one after another, and each leaves this in the connector of frame
 /// 3: the words are those of an office that is opened anew for each number of steps.
@@ -9,11 +10,11 @@ fn comes_to(rt: &impl Abort, alloc: Global, wanted: &[(u32, Progress, u64)]) -> 
     for last in 0..wanted.len() {
         let mut office = TwoDesks::with_jobs(rt, alloc, &plan, "D 3041", "D 3052")?;
         for (marker, event, _left) in &wanted[..=last] {
-            assert_eq!(rt; office.step(*marker), *event);
+            check_eq!(rt; office.step(*marker), *event);
         }
         let words = office.words(alloc)?;
         let (_, _, left) = &wanted[last];
-        assert_eq!(rt; word(rt, words.as_slice(), FRAME_3), *left, "step {last}");
+        check_eq!(rt; word(rt, words.as_slice(), FRAME_3), *left, "step {last}");
     }
     Ok(())
 }
@@ -51,13 +52,13 @@ fn the_last_marker_has_the_highest_request(rt: HostRuntime) -> Result<(), Fail> 
     let Some(mut last) = last_desk(&fabric, &mut desks) else {
         return Err("there is a desk 47".into());
     };
-    assert_eq!(&rt; last.marker(), 47);
-    assert_eq!(&rt; last.assign(1, job(&rt, "D 3041")), Ok(()));
-    assert_eq!(&rt; last.advance(&fabric), Progress::Moved);
+    check_eq!(rt; last.marker(), 47);
+    check_eq!(rt; last.assign(1, job(&rt, "D 3041")), Ok(()));
+    check_eq!(rt; last.advance(&fabric), Progress::Moved);
     let Ok(words) = shut(alloc, fabric, last) else {
         return Err("there is memory for the words".into());
     };
-    assert_eq!(&rt;
+    check_eq!(rt;
         word(&rt, words.as_slice(), FRAME_3),
         36_028_797_018_963_968
     );

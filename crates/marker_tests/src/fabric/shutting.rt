@@ -1,6 +1,7 @@
 //! Shared words that are shut with all of their desks, and jobs that are refused.
 
 use super::*;
+use crate::checks::{check, check_eq};
 use xbar_office::audit;
 
 #[test]
@@ -11,8 +12,8 @@ fn new_desks_are_shut_together(rt: HostRuntime) -> Result<(), Fail> {
     let Ok(words) = shut_all(alloc, fabric, desks) else {
         return Err("there is memory for the words".into());
     };
-    assert_eq!(&rt; words.len(), 453);
-    assert!(&rt; words.iter().all(|word| *word == 0));
+    check_eq!(rt; words.len(), 453);
+    check!(rt; words.iter().all(|word| *word == 0));
     Ok(())
 }
 
@@ -23,11 +24,11 @@ fn only_1_to_48_desks_are_opened(rt: HostRuntime) -> Result<(), Fail> {
     let Err(fault) = Fabric::open(alloc, &plan, &[Kind::Dial; 49]) else {
         return Err("there are no 49 desks".into());
     };
-    assert_eq!(&rt; fault, OpenFault::Markers);
+    check_eq!(rt; fault, OpenFault::Markers);
     let Err(fault) = Fabric::open(alloc, &plan, &[]) else {
         return Err("there is a desk".into());
     };
-    assert_eq!(&rt; fault, OpenFault::Markers);
+    check_eq!(rt; fault, OpenFault::Markers);
     Ok(())
 }
 
@@ -39,14 +40,14 @@ fn a_busy_desk_is_told_before_a_wrong_kind(rt: HostRuntime) -> Result<(), Fail> 
     let Some(mut desk) = last_desk(&fabric, &mut desks) else {
         return Err("there is a desk".into());
     };
-    assert_eq!(&rt;
+    check_eq!(rt;
         desk.assign(1, job(&rt, "R 3041")),
         Err(AssignFault::WrongKind)
     );
-    assert_eq!(&rt; desk.assign(1, job(&rt, "D 3041")), Ok(()));
-    assert!(&rt; !desk.is_idle());
-    assert_eq!(&rt; desk.kind(), Kind::Dial);
-    assert_eq!(&rt;
+    check_eq!(rt; desk.assign(1, job(&rt, "D 3041")), Ok(()));
+    check!(rt; !desk.is_idle());
+    check_eq!(rt; desk.kind(), Kind::Dial);
+    check_eq!(rt;
         desk.assign(2, job(&rt, "R 3041")),
         Err(AssignFault::NotIdle)
     );
@@ -81,11 +82,11 @@ fn records_that_are_told_are_a_history(rt: HostRuntime) -> Result<(), Fail> {
     for (job_no, text) in (1..).zip(&jobs) {
         done(&rt, &mut office, job_no, text, &mut log)?;
     }
-    assert_eq!(&rt; office.step(0), Progress::Idle);
+    check_eq!(rt; office.step(0), Progress::Idle);
     let words = office.words(alloc)?;
     let after = audit(alloc, &plan, log.as_slice())?;
     let paths = after.paths().len();
-    assert_eq!(&rt; counts(&rt, words.as_slice()), (paths, 4 * paths));
-    assert_eq!(&rt; word(&rt, words.as_slice(), TURNS), 5);
+    check_eq!(rt; counts(&rt, words.as_slice()), (paths, 4 * paths));
+    check_eq!(rt; word(&rt, words.as_slice(), TURNS), 5);
     Ok(())
 }

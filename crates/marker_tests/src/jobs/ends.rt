@@ -4,106 +4,105 @@ ghost use Rattle.std.specs.Prelude.{◌≡◌, length};
 ghost use Rattle.xbar_equip.specs.Word.{word_count};
 
 use super::*;
+use crate::checks::check_eq;
 
 /// Jobs one after another, each with its end and its steps where these are known.
 type Jobs<'a> = &'a [(&'a str, &'a str, Option<u32>)];
 
-fn end_so(rt: &impl Abort, alloc: Global, plan: &Plan, jobs: Jobs<'_>) -> Result<(), Fail> {
+fn end_so(
+    rt: &impl Abort,
+    alloc: Global,
+    plan: &Plan,
+    name: &str,
+    jobs: Jobs<'_>,
+) -> Result<(), Fail> {
     let mut words = [0; WORD_COUNT];
     for (text, wanted, count) in jobs {
         let (end, made) = done(rt, alloc, plan, &mut words, text)?;
-        assert_eq!(rt; end.as_str(), *wanted, "{text}");
-        if let Some(count) = count {
-            assert_eq!(rt; made, *count, "steps of {text}");
-        }
+        check_eq!(rt; end.as_str(), *wanted, "{name}: {text}");
+        let count = count.unwrap_or(made);
+        check_eq!(rt; made, count, "{name}: steps of {text}");
     }
     Ok(())
 }
 
-#[test]
-fn completing_jobs_end_early(rt: HostRuntime) -> Result<(), Fail> {
-    let alloc = rt.alloc();
-    let plan = Plan::example(alloc)?;
-    let jobs = [
-        ("C 3041 5551234", "NoRegister", Some(5)),
-        ("D 3041", "DialTone 3041-0-417 1", Some(28)),
-        ("D 3041", "LineBusy", Some(5)),
-        ("C 3041 9990000", "VacantCode", Some(19)),
-        ("D 3041", "DialTone 3041-0-417 1", Some(28)),
-        ("C 3041 2349999", "VacantNumber", Some(19)),
-        ("C 3041 5551234", "NoRegister", Some(5)),
-        ("R 3041", "NoCall", Some(5)),
-    ];
-    end_so(&rt, alloc, &plan, &jobs)
-}
+/// Jobs under the example plan, with what they are about.
+const UNDER_THE_EXAMPLE: &[(&str, Jobs)] = &[
+    (
+        "completing jobs end early",
+        &[
+            ("C 3041 5551234", "NoRegister", Some(5)),
+            ("D 3041", "DialTone 3041-0-417 1", Some(28)),
+            ("D 3041", "LineBusy", Some(5)),
+            ("C 3041 9990000", "VacantCode", Some(19)),
+            ("D 3041", "DialTone 3041-0-417 1", Some(28)),
+            ("C 3041 2349999", "VacantNumber", Some(19)),
+            ("C 3041 5551234", "NoRegister", Some(5)),
+            ("R 3041", "NoCall", Some(5)),
+        ],
+    ),
+    (
+        "registers are let go",
+        &[
+            ("D 3041", "DialTone 3041-0-417 1", Some(28)),
+            ("R 3041", "Released 3041-0-417", Some(19)),
+            ("D 3041", "DialTone 3041-0-417 1", Some(28)),
+            ("C 3041 5551234", "Connected 3041-0-800 1", Some(41)),
+            ("C 3041 5551234", "NoRegister", Some(11)),
+            ("R 3041", "Released 3041-0-800", Some(19)),
+        ],
+    ),
+    (
+        "busy lines are not called",
+        &[
+            ("D 3052", "DialTone 3052-0-417 1", Some(28)),
+            ("D 3041", "DialTone 3041-1-418 1", Some(28)),
+            ("C 3041 2340001", "CalledBusy", Some(19)),
+            ("D 3041", "DialTone 3041-1-418 1", Some(28)),
+            ("C 3041 2340002", "CalledBusy", Some(19)),
+        ],
+    ),
+    (
+        "trunks are used up",
+        &[
+            ("D 3041", "DialTone 3041-0-417 1", Some(28)),
+            ("C 3041 5551234", "Connected 3041-0-800 1", Some(41)),
+            ("D 3052", "DialTone 3052-1-417 1", Some(28)),
+            ("C 3052 5550000", "Connected 3052-1-801 1", None),
+            ("D 1000", "DialTone 1000-0-417 1", Some(28)),
+            ("C 1000 5559999", "Connected 1000-0-902 1", None),
+            ("D 2000", "DialTone 2000-0-417 1", Some(28)),
+            ("C 2000 5550000", "TrunksBusy", None),
+            ("R 2000", "NoCall", Some(5)),
+            ("R 1000", "Released 1000-0-902", Some(19)),
+        ],
+    ),
+    (
+        "calls inside the office come and go",
+        &[
+            ("D 3041", "DialTone 3041-0-417 1", Some(28)),
+            (
+                "C 3041 2340004",
+                "Connected 3041-0-600 3100-1-601 1",
+                Some(46),
+            ),
+            ("D 3052", "DialTone 3052-1-417 1", Some(28)),
+            ("C 3052 2340003", "Connected 3052-1-700 1000-0-711 1", None),
+            ("R 3100", "Released 3100-1-601 3041-0-600", Some(26)),
+            ("R 3041", "NoCall", Some(5)),
+            ("R 3052", "Released 3052-1-700 1000-0-711", None),
+            ("R 1000", "NoCall", Some(5)),
+        ],
+    ),
+];
 
 #[test]
-fn registers_are_let_go(rt: HostRuntime) -> Result<(), Fail> {
-    let alloc = rt.alloc();
-    let plan = Plan::example(alloc)?;
-    let jobs = [
-        ("D 3041", "DialTone 3041-0-417 1", Some(28)),
-        ("R 3041", "Released 3041-0-417", Some(19)),
-        ("D 3041", "DialTone 3041-0-417 1", Some(28)),
-        ("C 3041 5551234", "Connected 3041-0-800 1", Some(41)),
-        ("C 3041 5551234", "NoRegister", Some(11)),
-        ("R 3041", "Released 3041-0-800", Some(19)),
-    ];
-    end_so(&rt, alloc, &plan, &jobs)
-}
-
-#[test]
-fn busy_lines_are_not_called(rt: HostRuntime) -> Result<(), Fail> {
-    let alloc = rt.alloc();
-    let plan = Plan::example(alloc)?;
-    let jobs = [
-        ("D 3052", "DialTone 3052-0-417 1", Some(28)),
-        ("D 3041", "DialTone 3041-1-418 1", Some(28)),
-        ("C 3041 2340001", "CalledBusy", Some(19)),
-        ("D 3041", "DialTone 3041-1-418 1", Some(28)),
-        ("C 3041 2340002", "CalledBusy", Some(19)),
-    ];
-    end_so(&rt, alloc, &plan, &jobs)
-}
-
-#[test]
-fn trunks_are_used_up(rt: HostRuntime) -> Result<(), Fail> {
-    let alloc = rt.alloc();
-    let plan = Plan::example(alloc)?;
-    let jobs = [
-        ("D 3041", "DialTone 3041-0-417 1", Some(28)),
-        ("C 3041 5551234", "Connected 3041-0-800 1", Some(41)),
-        ("D 3052", "DialTone 3052-1-417 1", Some(28)),
-        ("C 3052 5550000", "Connected 3052-1-801 1", None),
-        ("D 1000", "DialTone 1000-0-417 1", Some(28)),
-        ("C 1000 5559999", "Connected 1000-0-902 1", None),
-        ("D 2000", "DialTone 2000-0-417 1", Some(28)),
-        ("C 2000 5550000", "TrunksBusy", None),
-        ("R 2000", "NoCall", Some(5)),
-        ("R 1000", "Released 1000-0-902", Some(19)),
-    ];
-    end_so(&rt, alloc, &plan, &jobs)
-}
-
-#[test]
-fn calls_inside_the_office_come_and_go(rt: HostRuntime) -> Result<(), Fail> {
-    let alloc = rt.alloc();
-    let plan = Plan::example(alloc)?;
-    let jobs = [
-        ("D 3041", "DialTone 3041-0-417 1", Some(28)),
-        (
-            "C 3041 2340004",
-            "Connected 3041-0-600 3100-1-601 1",
-            Some(46),
-        ),
-        ("D 3052", "DialTone 3052-1-417 1", Some(28)),
-        ("C 3052 2340003", "Connected 3052-1-700 1000-0-711 1", None),
-        ("R 3100", "Released 3100-1-601 3041-0-600", Some(26)),
-        ("R 3041", "NoCall", Some(5)),
-        ("R 3052", "Released 3052-1-700 1000-0-711", None),
-        ("R 1000", "NoCall", Some(5)),
-    ];
-    end_so(&rt, alloc, &plan, &jobs)
+fn jobs_end_with_their_steps(rt: HostRuntime) -> Result<(), Fail> {
+    let plan = Plan::example(rt.alloc())?;
+    for (name, jobs) in UNDER_THE_EXAMPLE {
+        end_so(&rt, rt.alloc(), &plan, name, jobs)?;
+    }
+    Ok(())
 }
 
 #[test]
@@ -125,7 +124,7 @@ fn ten_lines_use_up_their_links(rt: HostRuntime) -> Result<(), Fail> {
         ("D 3100", "DialTone 3100-5-500 2", None),
         ("C 3003 5551234", "Connected 3003-3-800 1", None),
     ];
-    end_so(&rt, alloc, &plan, &jobs)
+    end_so(&rt, alloc, &plan, "ten lines", &jobs)
 }
 
 /// Registers alone, with links out of order.
@@ -145,7 +144,7 @@ fn faulty_links_give_cards(rt: HostRuntime) -> Result<(), Fail> {
     ];
     for (faults, wanted) in cases {
         let plan = with_faults(alloc, faults)?;
-        end_so(&rt, alloc, &plan, &[("D 3041", wanted, None)])?;
+        end_so(&rt, alloc, &plan, faults, &[("D 3041", wanted, None)])?;
     }
     Ok(())
 }
@@ -192,12 +191,12 @@ fn the_longest_attempts(rt: HostRuntime) -> Result<(), Fail> {
     let plan = Plan::read(alloc, FOUR_GROUPS.as_bytes())?;
     let mut words = by_hand(&[]);
     let (end, made) = done(&rt, alloc, &plan, &mut words, "C 3041 2340003")?;
-    assert_eq!(rt; end.as_str(), "Connected 3041-5-800 1000-5-811 2, 1 JU370");
-    assert_eq!(rt; made, 77);
+    check_eq!(rt; end.as_str(), "Connected 3041-5-800 1000-5-811 2, 1 JU370");
+    check_eq!(rt; made, 77);
 
     let mut words = by_hand(&[0, 20, 40, 61, 80, 100, 120, 140, 160]);
     let (end, made) = done(&rt, alloc, &plan, &mut words, "C 3041 2340010")?;
-    assert_eq!(rt; end.as_str(), "Connected 3041-5-800 9000-5-811 2, 1 JU370");
-    assert_eq!(rt; made, 110);
+    check_eq!(rt; end.as_str(), "Connected 3041-5-800 9000-5-811 2, 1 JU370");
+    check_eq!(rt; made, 110);
     Ok(())
 }

@@ -5,6 +5,7 @@ ghost use Rattle.xbar_equip.specs.Word.{word_count};
 ghost use Rattle.xbar_jobs.specs.Standing.{Stands};
 
 use super::*;
+use crate::checks::check_eq;
 
 const FRAME: Conn = Conn::Llf(3);
 
@@ -26,7 +27,7 @@ fn makes(
     ensures words { length words.new ≡ word_count }
 {
     for next in wanted {
-        assert_eq!(rt; program.next(), *next);
+        check_eq!(rt; program.next(), *next);
         step(program, plan, marker, words);
     }
 }
@@ -37,13 +38,13 @@ fn is_put_off(rt: &impl Abort, plan: &Plan, found: u64, wanted: Answer) {
     words[436] = found;
     let mut program = dial_3041(plan);
     steps(&mut program, plan, 1, &mut words, 3);
-    assert_eq!(rt; step(&mut program, plan, 1, &mut words), wanted);
-    assert_eq!(rt; program.count(), 4);
+    check_eq!(rt; step(&mut program, plan, 1, &mut words), wanted);
+    check_eq!(rt; program.count(), 4);
     check_words(rt, &words, &[(419, 2), (436, found | 512)]);
     let gives_back = [Step::Withdraw(REGISTERS), Step::Free(FRAME)];
     makes(rt, &mut program, plan, 1, &mut words, &gives_back);
-    assert_eq!(rt; program.next(), Step::Request(FRAME));
-    assert_eq!(rt; program.count(), 0);
+    check_eq!(rt; program.next(), Step::Request(FRAME));
+    check_eq!(rt; program.count(), 0);
     check_words(rt, &words, &[(436, found)]);
 }
 
@@ -67,7 +68,7 @@ fn meet(rt: &impl Abort, plan: &Plan, table: &[(u32, Answer, u64)]) {
             0 => step(&mut low, plan, 0, &mut words),
             _ => step(&mut high, plan, 1, &mut words),
         };
-        assert_eq!(rt; (answer, words[419]), (*wanted, *word));
+        check_eq!(rt; (answer, words[419]), (*wanted, *word));
     }
 }
 
@@ -108,8 +109,8 @@ fn restarts(rt: &impl Abort, plan: &Plan, made: usize, wanted: Step) {
     let mut program = dial_3041(plan);
     steps(&mut program, plan, 0, &mut words, made);
     restart(plan, &mut program);
-    assert_eq!(rt; program.next(), wanted, "after {made} steps");
-    assert_eq!(rt; program.reply().is_some(), made >= 20, "after {made} steps");
+    check_eq!(rt; program.next(), wanted, "after {made} steps");
+    check_eq!(rt; program.reply().is_some(), made >= 20, "after {made} steps");
 }
 
 #[test]
@@ -136,7 +137,7 @@ fn what_is_held_is_freed_in_order(rt: HostRuntime) -> Result<(), Fail> {
     let plan = Plan::example(rt.alloc())?;
     let mut words = [0; WORD_COUNT];
     let mut program = dial_3041(&plan);
-    assert_eq!(rt; *program.job(), Job::Dial(Len::new(3, 0, 21)));
+    check_eq!(rt; *program.job(), Job::Dial(Len::new(3, 0, 21)));
     steps(&mut program, &plan, 0, &mut words, 7);
     restart(&plan, &mut program);
     let frame = Conn::Tlf(4);
@@ -146,8 +147,8 @@ fn what_is_held_is_freed_in_order(rt: HostRuntime) -> Result<(), Fail> {
         Step::Free(REGISTERS),
     ];
     makes(&rt, &mut program, &plan, 0, &mut words, &gives_back);
-    assert_eq!(rt; program.next(), Step::Request(FRAME));
-    assert_eq!(rt; program.count(), 0);
+    check_eq!(rt; program.next(), Step::Request(FRAME));
+    check_eq!(rt; program.count(), 0);
     check_words(&rt, &words, &[]);
     Ok(())
 }
@@ -159,10 +160,10 @@ fn the_turn_and_the_reply_are_known_together(rt: HostRuntime) -> Result<(), Fail
     words[452] = 5;
     let mut program = dial_3041(&plan);
     steps(&mut program, &plan, 0, &mut words, 19);
-    assert_eq!(rt; program.turn(), None);
+    check_eq!(rt; program.turn(), None);
     steps(&mut program, &plan, 0, &mut words, 1);
-    assert_eq!(rt; program.turn(), Some(5));
+    check_eq!(rt; program.turn(), Some(5));
     steps(&mut program, &plan, 0, &mut words, 8);
-    assert_eq!(rt; program.turn(), Some(5));
+    check_eq!(rt; program.turn(), Some(5));
     Ok(())
 }

@@ -4,6 +4,7 @@ ghost use Rattle.std.specs.Prelude.{◌≡◌, length};
 ghost use Rattle.xbar_equip.specs.Word.{word_count};
 
 use super::*;
+use crate::checks::check_eq;
 
 /// Some numbers, each from the last.
 #[derive(Drop)]
@@ -47,7 +48,7 @@ fn check_shown(
         }
     }
     for number in 0..416 {
-        assert_eq!(rt;
+        check_eq!(rt;
             words.get(number).copied(),
             Some(wanted[number]),
             "word {number}"
@@ -65,7 +66,7 @@ fn go_side_by_side(rt: &impl Abort, alloc: Global, plan: &Plan, seed: u64) -> Re
         let mut program = begin(plan, job);
         steps(&mut program, plan, 0, &mut words, 128);
         let reply = office.whole(job)?;
-        assert_eq!(rt;
+        check_eq!(rt;
             end_of(rt, alloc, &program)?,
             reply_text(alloc, &reply)?,
             "{job:?}"

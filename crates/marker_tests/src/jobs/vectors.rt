@@ -4,6 +4,7 @@ ghost use Rattle.std.specs.Prelude.{◌≡◌, length};
 ghost use Rattle.xbar_equip.specs.Word.{word_count};
 
 use super::*;
+use crate::checks::check_eq;
 
 /// A connector as `L3`, `T4` or `G0`.
 fn told_conn(alloc: Global, conn: Conn) -> Result<String, Fail> {
@@ -43,12 +44,12 @@ fn makes(
     let mut program = begin(plan, job(rt, text));
     let mut has_turned = false;
     for next in wanted.split(", ") {
-        assert_eq!(rt; told_step(alloc, program.next())?.as_str(), next);
-        assert_eq!(rt; program.reply().is_some(), has_turned, "before {next}");
+        check_eq!(rt; told_step(alloc, program.next())?.as_str(), next);
+        check_eq!(rt; program.reply().is_some(), has_turned, "before {next}");
         step(&mut program, plan, 0, words);
         has_turned = has_turned || next == "turn";
     }
-    assert_eq!(rt; program.next(), Step::Finished);
+    check_eq!(rt; program.next(), Step::Finished);
     Ok(())
 }
 
@@ -196,6 +197,6 @@ fn steps_are_operations_on_words(rt: HostRuntime) {
     ];
     for (step, found, left) in table {
         let operation = step.operation(47);
-        assert_eq!(rt; operation.apply(found), left, "{step:?} on {found}");
+        check_eq!(rt; operation.apply(found), left, "{step:?} on {found}");
     }
 }

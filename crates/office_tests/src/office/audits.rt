@@ -1,6 +1,7 @@
 //! Audits of lists of records, and what closed crosspoints an office lists.
 
 use super::texts::job;
+use crate::checks::check_eq;
 use crate::fixtures::{near_path, record};
 use std::alloc::Global;
 use std::process::Abort;
@@ -27,9 +28,9 @@ fn closed(
     wanted: &[(u16, u8, u8)],
 ) -> Result<(), Fail> {
     let closed = office.crosspoints(alloc)?;
-    assert_eq!(rt; closed.len(), wanted.len());
+    check_eq!(rt; closed.len(), wanted.len());
     for (crosspoint, wanted) in closed.iter().zip(wanted) {
-        assert_eq!(rt;
+        check_eq!(rt;
             (crosspoint.word.number(), crosspoint.field, crosspoint.value),
             *wanted
         );
@@ -72,8 +73,8 @@ fn other_records_have_a_fault(rt: HostRuntime) -> Result<(), Fail> {
         let Err(fault) = audit(alloc, &plan, &[record]) else {
             panic!(rt; "the record isn't legal");
         };
-        assert_eq!(rt; fault, wanted);
-        assert_eq!(rt; format!(in alloc; "{fault}")?.as_str(), text);
+        check_eq!(rt; fault, wanted);
+        check_eq!(rt; format!(in alloc; "{fault}")?.as_str(), text);
     }
     Ok(())
 }

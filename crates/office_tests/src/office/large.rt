@@ -1,6 +1,7 @@
 //! Offices with many paths, and audits of many records.
 
-use super::texts::{job, text};
+use super::texts::{Line, does};
+use crate::checks::check_eq;
 use crate::fixtures::{near_path, record};
 use std::alloc::Global;
 use std::process::Abort;
@@ -14,65 +15,60 @@ const CALLS: u32 = 120;
 
 /// One register, and 120 trunks in three groups, which one code leads to. Trunk `i` has the last two
 /// digits of `i` as its frame and its switch, so the first hundred stand on a switch each.
-fn many_trunks(alloc: Global) -> Result<Plan, Fail> {
-    let mut text = String::from_str(alloc, "version = 1\ngroups = [\"REG register 999")?;
-    for trunk in 0..CALLS {
-        if trunk % 40 == 0 {
-            let group = trunk / 40;
-            text.push_str(&format!(in alloc; "\", \"OUT{group} outgoing")?)?;
-        }
-        let (place, appearance) = (trunk % 100, trunk / 100);
-        text.push_str(&format!(in alloc; " {place:02}{appearance}")?)?;
-    }
-    text.push_str("\"]\nnumbers = []\ncodes = [\"555 OUT0 OUT1 OUT2\"]\nfaults = []\n")?;
-    Ok(Plan::read(alloc, text.as_bytes())?)
-}
-
-fn does(
-    rt: &impl Abort,
-    alloc: Global,
-    office: &mut Office<'_>,
-    kind: u8,
-    line: &str,
-    wanted: &str,
-) -> Result<(), Fail> {
-    let reply = office.whole(job(kind, line.as_bytes(), b"5550000")?)?;
-    assert_eq!(rt; text(alloc, &reply)?.as_str(), wanted);
-    Ok(())
-}
+const MANY_TRUNKS: &str = "version = 1
+groups = [
+  \"REG register 999\",
+  \"OUT0 outgoing 000 010 020 030 040 050 060 070 080 090 100 110 120 130 140 150 160 170 180 190 \
+200 210 220 230 240 250 260 270 280 290 300 310 320 330 340 350 360 370 380 390\",
+  \"OUT1 outgoing 400 410 420 430 440 450 460 470 480 490 500 510 520 530 540 550 560 570 580 590 \
+600 610 620 630 640 650 660 670 680 690 700 710 720 730 740 750 760 770 780 790\",
+  \"OUT2 outgoing 800 810 820 830 840 850 860 870 880 890 900 910 920 930 940 950 960 970 980 990 \
+001 011 021 031 041 051 061 071 081 091 101 111 121 131 141 151 161 171 181 191\",
+]
+numbers = []
+codes = [\"555 OUT0 OUT1 OUT2\"]
+faults = []
+";
 
 /// Call `i` takes trunk `i`. Its line stands on the frame that has the number of the trunk's switch,
 /// and on the switch that has the number of the trunk's frame. So no two of the first hundred calls
 /// share a switch or the junctors between two frames, and channel 0 is idle for each; it is busy for
 /// each of the others.
+fn calls(rt: &impl Abort, alloc: Global, office: &mut Office<'_>, call: u32) -> Result<(), Fail> {
+    let (frame, switch, channel) = (call / 10 % 10, call % 10, call / 100);
+    let line = format!(in alloc; "{switch}{frame}0{channel}")?;
+    let line = line.as_str();
+    let dialled = format!(in alloc; "DIALTONE,1,{line}-{channel}-999,-")?;
+    let row = (b'D', line.as_bytes(), DIGITS, dialled.as_str());
+    does(rt, alloc, office, &row)?;
+    let connected = format!(in alloc; "CONNECTED,1,{line}-{channel}-{frame}{switch}{channel},-")?;
+    let row = (b'C', line.as_bytes(), DIGITS, connected.as_str());
+    does(rt, alloc, office, &row)
+}
+
+const DIGITS: &[u8] = b"5550000";
+
+/// A line that has no call, and then two that have.
+const RELEASES: &[Line] = &[
+    (b'R', b"5401", DIGITS, "NOCALL,-,-,-"),
+    (b'R', b"5400", DIGITS, "RELEASED,-,5400-0-450,-"),
+    (b'R', b"9101", DIGITS, "RELEASED,-,9101-1-191,-"),
+];
+
 #[test]
 fn a_hundred_and_twenty_calls_stand(rt: HostRuntime) -> Result<(), Fail> {
     let alloc = rt.alloc();
-    let plan = many_trunks(alloc)?;
+    let plan = Plan::read(alloc, MANY_TRUNKS.as_bytes())?;
     let mut office = Office::open(alloc, &plan);
     for call in 0..CALLS {
-        let (frame, switch, channel) = (call / 10 % 10, call % 10, call / 100);
-        let line = format!(in alloc; "{switch}{frame}0{channel}")?;
-        let dialled = format!(in alloc; "DIALTONE,1,{line}-{channel}-999,-")?;
-        does(&rt, alloc, &mut office, b'D', &line, &dialled)?;
-        let place = format!(in alloc; "{frame}{switch}{channel}")?;
-        let connected = format!(in alloc; "CONNECTED,1,{line}-{channel}-{place},-")?;
-        does(&rt, alloc, &mut office, b'C', &line, &connected)?;
+        calls(&rt, alloc, &mut office, call)?;
     }
-    assert_eq!(rt; office.paths().len(), 120);
-    assert_eq!(rt; office.crosspoints(alloc)?.len(), 480);
-    does(&rt, alloc, &mut office, b'R', "5401", "NOCALL,-,-,-")?;
-    let released = "RELEASED,-,5400-0-450,-";
-    does(&rt, alloc, &mut office, b'R', "5400", released)?;
-    does(
-        &rt,
-        alloc,
-        &mut office,
-        b'R',
-        "9101",
-        "RELEASED,-,9101-1-191,-",
-    )?;
-    assert_eq!(rt; office.paths().len(), 118);
+    check_eq!(rt; office.paths().len(), 120);
+    check_eq!(rt; office.crosspoints(alloc)?.len(), 480);
+    for line in RELEASES {
+        does(&rt, alloc, &mut office, line)?;
+    }
+    check_eq!(rt; office.paths().len(), 118);
     Ok(())
 }
 
@@ -81,18 +77,23 @@ const RECORDS: u64 = 100_500;
 
 /// The first job gets dial tone. After it the same line asks again and again, and is busy, in turn with
 /// a line that has no register.
-fn many_records(alloc: Global) -> Result<Vec<Record>, Fail> {
+fn record_at(turn: u64) -> Record {
     let path = near_path();
-    let busy = path.line;
-    let other = Job::Complete(Len::parse(b"1000")?, Dialled::parse(b"5551234")?);
+    let (job, end) = match (turn, turn % 2) {
+        (0, _) => (Job::Dial(path.line), End::DialTone { path, trial: 1 }),
+        (_, 0) => (Job::Dial(path.line), End::LineBusy),
+        _ => (
+            Job::Complete(Len::new(1, 0, 0), Dialled::new(5_551_234)),
+            End::NoRegister,
+        ),
+    };
+    record(turn, job, end)
+}
+
+fn many_records(alloc: Global) -> Result<Vec<Record>, Fail> {
     let mut records = Vec::new(alloc);
     for turn in 0..RECORDS {
-        let (job, end) = match (turn, turn % 2) {
-            (0, _) => (Job::Dial(busy), End::DialTone { path, trial: 1 }),
-            (_, 0) => (Job::Dial(busy), End::LineBusy),
-            _ => (other, End::NoRegister),
-        };
-        records.push(record(turn, job, end))?;
+        records.push(record_at(turn))?;
     }
     Ok(records)
 }
@@ -109,9 +110,25 @@ fn refused(
     let Err(fault) = audit(alloc, &plan, records) else {
         panic!(rt; "the records aren't legal");
     };
-    assert_eq!(rt; fault, wanted);
-    assert_eq!(rt; format!(in alloc; "{fault}")?.as_str(), text);
+    check_eq!(rt; fault, wanted);
+    check_eq!(rt; format!(in alloc; "{fault}")?.as_str(), text);
     Ok(())
+}
+
+/// One reply more is another one, and is told, since it comes before those that are.
+fn other_reply(
+    rt: &impl Abort,
+    alloc: Global,
+    records: &mut [Record],
+    turn: usize,
+    end: End,
+    text: &str,
+) -> Result<(), Fail> {
+    if let Some(record) = records.get_mut(turn) {
+        record.reply = Reply::plain(end);
+    }
+    let wanted = AuditFault::Reply { turn: turn as u64 };
+    refused(rt, alloc, records, wanted, text)
 }
 
 #[test]
@@ -119,19 +136,11 @@ fn a_hundred_thousand_records_are_audited(rt: HostRuntime) -> Result<(), Fail> {
     let alloc = rt.alloc();
     let plan = Plan::example(alloc)?;
     let mut records = many_records(alloc)?;
-    assert_eq!(rt; audit(alloc, &plan, &records)?.paths().len(), 1);
-    if let Some(record) = records.get_mut(100_400) {
-        record.reply = Reply::plain(End::RegistersBusy);
-    }
-    let reply = AuditFault::Reply { turn: 100_400 };
+    check_eq!(rt; audit(alloc, &plan, &records)?.paths().len(), 1);
     let text = "the reply of turn 100400 is another";
-    refused(&rt, alloc, &records, reply, text)?;
-    if let Some(record) = records.get_mut(70_001) {
-        record.reply = Reply::plain(End::NoCall);
-    }
-    let reply = AuditFault::Reply { turn: 70_001 };
+    other_reply(&rt, alloc, &mut records, 100_400, End::RegistersBusy, text)?;
     let text = "the reply of turn 70001 is another";
-    refused(&rt, alloc, &records, reply, text)?;
+    other_reply(&rt, alloc, &mut records, 70_001, End::NoCall, text)?;
     if let Some(record) = records.get_mut(100_450) {
         record.turn = 100_451;
     }

@@ -1,5 +1,6 @@
 //! Where memory is refused. Each of these tests passes whichever allocation is refused.
 
+use crate::checks::{check, check_eq};
 use crate::fixtures::record;
 use std::alloc::AllocError;
 use std::process::Abort;
@@ -90,7 +91,7 @@ fn whole(rt: &impl Abort, office: &mut Office<'_>, job: &Job) -> Result<Reply, A
     if let Ok(reply) = office.whole(*job) {
         return Ok(reply);
     }
-    assert!(rt; has_paths(office, &before));
+    check!(rt; has_paths(office, &before));
     office.whole(*job)
 }
 
@@ -103,9 +104,9 @@ fn a_job_that_was_refused_memory_is_done_right_once_more(rt: HostRuntime) -> Res
     let mut office = Office::open(alloc, &plan);
     for record in &records() {
         let reply = whole(&rt, &mut office, &record.job)?;
-        assert!(rt; reply == record.reply, "turn {}", record.turn);
+        check!(rt; reply == record.reply, "turn {}", record.turn);
     }
-    assert_eq!(rt; office.paths().len(), 5);
+    check_eq!(rt; office.paths().len(), 5);
     Ok(())
 }
 
@@ -116,7 +117,7 @@ fn an_audit_is_refused_memory_or_right(rt: HostRuntime) {
         return;
     };
     match audit(alloc, &plan, &records()) {
-        Err(fault) => assert_eq!(rt; fault, AuditFault::Memory),
-        Ok(office) => assert_eq!(rt; office.paths().len(), 5),
+        Err(fault) => check_eq!(rt; fault, AuditFault::Memory),
+        Ok(office) => check_eq!(rt; office.paths().len(), 5),
     }
 }

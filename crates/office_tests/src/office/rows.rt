@@ -1,56 +1,40 @@
 //! Jobs one after another in an office, each with its reply.
 
-use super::plans::{Places, plan};
-use super::texts::{job, text};
+use super::plans::plan;
+use super::texts::{Line, does};
+use crate::checks::check_eq;
 use std::alloc::Global;
 use std::process::Abort;
 use std::test::Fail;
 use xbar_office::Office;
 
-/// A job's kind, line and digits, and the text of its reply.
-type Line<'a> = (u8, &'a [u8], &'a [u8], &'a str);
-
 /// A plan, jobs in it, in parts that cases share, and the paths that stand after them.
-#[derive(Clone, Copy)]
 struct Case<'a> {
-    registers: &'a [Places<'a>],
-    second: &'a [&'a [u8]],
-    faults: &'a [&'a [u8]],
+    name: &'a str,
+    registers: &'a str,
+    second: &'a str,
+    faults: &'a str,
     jobs: &'a [&'a [Line<'a>]],
     paths: usize,
 }
 
-const THREE: &[Places] = &[(b"417", b""), (b"418", b""), (b"509", b"")];
+const THREE: &str = "417 418 509";
 
-const ONE: &[Places] = &[(b"417", b"")];
+const ONE: &str = "417";
 
-const TWELVE: &[Places] = &[
-    (b"410", b""),
-    (b"411", b""),
-    (b"412", b""),
-    (b"413", b""),
-    (b"414", b""),
-    (b"415", b""),
-    (b"416", b""),
-    (b"417", b""),
-    (b"418", b""),
-    (b"419", b""),
-    (b"420", b""),
-    (b"500", b""),
-];
+const TWELVE: &str = "410 411 412 413 414 415 416 417 418 419 420 500";
 
-const SECOND: &[&[u8]] = &[b"3052"];
+const SECOND: &str = "3052";
 
-const HUNTED: &[&[u8]] = &[b"3052", b"3100"];
+const HUNTED: &str = "3052 3100";
 
 fn run(rt: &impl Abort, alloc: Global, case: &Case<'_>) -> Result<(), Fail> {
     let plan = plan(alloc, case.registers, case.second, case.faults)?;
     let mut office = Office::open(alloc, &plan);
-    for (kind, line, digits, wanted) in case.jobs.iter().copied().flatten() {
-        let reply = office.whole(job(*kind, line, digits)?)?;
-        assert_eq!(rt; text(alloc, &reply)?.as_str(), *wanted);
+    for line in case.jobs.iter().copied().flatten() {
+        does(rt, alloc, &mut office, line)?;
     }
-    assert_eq!(rt; office.paths().len(), case.paths);
+    check_eq!(rt; office.paths().len(), case.paths, "{}", case.name);
     Ok(())
 }
 
@@ -184,58 +168,138 @@ const RELEASED_OUTSIDE: &[Line] = &[
     (b'R', b"3041", b"", "RELEASED,-,3041-0-800,-"),
 ];
 
+const REGISTERS_FOUND: &[Case] = &[
+    Case {
+        name: "busy",
+        registers: ONE,
+        second: SECOND,
+        faults: "",
+        jobs: &[BUSY],
+        paths: 1,
+    },
+    Case {
+        name: "no link",
+        registers: TWELVE,
+        second: SECOND,
+        faults: "",
+        jobs: &[TEN_LINES, NO_LINK],
+        paths: 10,
+    },
+    Case {
+        name: "no junctor",
+        registers: TWELVE,
+        second: SECOND,
+        faults: "",
+        jobs: &[TEN_LINES, NO_JUNCTOR],
+        paths: 11,
+    },
+    Case {
+        name: "faulty once",
+        registers: THREE,
+        second: SECOND,
+        faults: "\"JU340\"",
+        jobs: &[FAULTY_ONCE],
+        paths: 1,
+    },
+    Case {
+        name: "faulty twice",
+        registers: THREE,
+        second: SECOND,
+        faults: "\"JU340\", \"JU345\"",
+        jobs: &[FAULTY_TWICE],
+        paths: 0,
+    },
+    Case {
+        name: "faulty to the same register",
+        registers: ONE,
+        second: SECOND,
+        faults: "\"JU340\"",
+        jobs: &[FAULTY_SAME],
+        paths: 1,
+    },
+];
+
 #[test]
 fn registers_are_found(rt: HostRuntime) -> Result<(), Fail> {
-    let plain = |registers, faults, jobs, paths| Case {
-        registers,
-        second: SECOND,
-        faults,
-        jobs,
-        paths,
-    };
-    let cases = [
-        plain(ONE, &[], &[BUSY], 1),
-        plain(TWELVE, &[], &[TEN_LINES, NO_LINK], 10),
-        plain(TWELVE, &[], &[TEN_LINES, NO_JUNCTOR], 11),
-        plain(THREE, &[b"JU340"], &[FAULTY_ONCE], 1),
-        plain(THREE, &[b"JU340", b"JU345"], &[FAULTY_TWICE], 0),
-        plain(ONE, &[b"JU340"], &[FAULTY_SAME], 1),
-    ];
-    run_all(&rt, rt.alloc(), &cases)
+    run_all(&rt, rt.alloc(), REGISTERS_FOUND)
 }
+
+const COMPLETED: &[Case] = &[
+    Case {
+        name: "routes",
+        registers: THREE,
+        second: SECOND,
+        faults: "",
+        jobs: &[ROUTES],
+        paths: 3,
+    },
+    Case {
+        name: "called lines that are busy",
+        registers: THREE,
+        second: SECOND,
+        faults: "",
+        jobs: &[CALLED_BUSY],
+        paths: 1,
+    },
+    Case {
+        name: "inside",
+        registers: THREE,
+        second: SECOND,
+        faults: "",
+        jobs: &[INSIDE, INSIDE_TOO],
+        paths: 4,
+    },
+    Case {
+        name: "vacant",
+        registers: THREE,
+        second: SECOND,
+        faults: "",
+        jobs: &[VACANT],
+        paths: 0,
+    },
+    Case {
+        name: "hunting",
+        registers: THREE,
+        second: HUNTED,
+        faults: "",
+        jobs: &[HUNTING],
+        paths: 3,
+    },
+    Case {
+        name: "own number",
+        registers: THREE,
+        second: HUNTED,
+        faults: "",
+        jobs: &[OWN_NUMBER],
+        paths: 2,
+    },
+];
 
 #[test]
 fn calls_are_completed(rt: HostRuntime) -> Result<(), Fail> {
-    let plain = |second, jobs, paths| Case {
-        registers: THREE,
-        second,
-        faults: &[],
-        jobs,
-        paths,
-    };
-    let cases = [
-        plain(SECOND, &[ROUTES], 3),
-        plain(SECOND, &[CALLED_BUSY], 1),
-        plain(SECOND, &[INSIDE, INSIDE_TOO], 4),
-        plain(SECOND, &[VACANT], 0),
-        plain(HUNTED, &[HUNTING], 3),
-        plain(HUNTED, &[OWN_NUMBER], 2),
-    ];
-    run_all(&rt, rt.alloc(), &cases)
+    run_all(&rt, rt.alloc(), COMPLETED)
 }
+
+const RELEASED: &[Case] = &[
+    Case {
+        name: "released inside",
+        registers: THREE,
+        second: SECOND,
+        faults: "",
+        jobs: &[INSIDE, RELEASED_INSIDE],
+        paths: 1,
+    },
+    Case {
+        name: "released outside",
+        registers: THREE,
+        second: SECOND,
+        faults: "",
+        jobs: &[RELEASED_OUTSIDE],
+        paths: 0,
+    },
+];
 
 #[test]
 fn calls_are_released(rt: HostRuntime) -> Result<(), Fail> {
-    let plain = |jobs, paths| Case {
-        registers: THREE,
-        second: SECOND,
-        faults: &[],
-        jobs,
-        paths,
-    };
-    let cases = [
-        plain(&[INSIDE, RELEASED_INSIDE], 1),
-        plain(&[RELEASED_OUTSIDE], 0),
-    ];
-    run_all(&rt, rt.alloc(), &cases)
+    run_all(&rt, rt.alloc(), RELEASED)
 }

@@ -1,6 +1,7 @@
 //! Where memory is refused. Each of these tests passes whichever allocation is refused.
 
 use super::writing::answer_the_same;
+use crate::checks::{check, check_eq};
 use xbar_plan::{Plan, PlanFault};
 
 /// The text of `Plan::example`, as the formats have it.
@@ -20,10 +21,10 @@ faults = []
 fn a_plan_is_refused_for_memory_or_read_right(rt: HostRuntime) {
     let alloc = rt.alloc();
     match Plan::read(alloc, EXAMPLE.as_bytes()) {
-        Err(fault) => assert_eq!(rt; fault, PlanFault::Memory),
+        Err(fault) => check_eq!(rt; fault, PlanFault::Memory),
         Ok(plan) => {
             if let Ok(example) = Plan::example(alloc) {
-                assert!(rt; answer_the_same(&plan, &example));
+                check!(rt; answer_the_same(&plan, &example));
             }
         }
     }

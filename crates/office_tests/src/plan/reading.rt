@@ -1,7 +1,10 @@
 //! Plans read from texts, and the fault of each other text.
 
-use crate::fixtures::example_lines;
+use super::writing::have_the_same_group;
+use crate::checks::{check, check_eq};
+use crate::fixtures::{EXAMPLE_LINES, EXAMPLE_ROUTES, check_lines, check_routes};
 use std::alloc::{AllocError, Global};
+use std::ops::Range;
 use std::process::Abort;
 use std::test::Fail;
 use xbar_equip::{DirNo, Len};
@@ -53,29 +56,14 @@ fn changed(lines: Lines, at: usize, line: &'static str) -> Lines {
 #[test]
 fn text_of_the_example_reads_as_it(rt: HostRuntime) -> Result<(), Fail> {
     let alloc = rt.alloc();
-    let Ok(plan) = Plan::read(alloc, document(alloc, EXAMPLE)?.as_bytes()) else {
-        return Err("it is lawful".into());
-    };
+    let plan = Plan::read(alloc, document(alloc, EXAMPLE)?.as_bytes())?;
     let example = Plan::example(alloc)?;
-    assert_eq!(rt; plan.group_count(), 4);
+    check_eq!(rt; plan.group_count(), 4);
     for number in 0..4 {
-        assert!(rt; number < plan.group_count() && number < example.group_count());
-        let (read, made) = (plan.group(number), example.group(number));
-        assert!(rt; read.name() == made.name(), "{number}");
-        assert_eq!(rt; read.kind(), made.kind(), "{number}");
-        assert!(rt; read.members() == made.members(), "{number}");
+        check!(rt; have_the_same_group(&plan, &example, number), "group {number}");
     }
-    for (code, groups) in [(234, [1, 1]), (555, [2, 3])] {
-        let route = plan.route(code).ok_or("a code")?;
-        assert!(rt;
-            route.first() == Some(&groups[0]) && route.last() == Some(&groups[1]),
-            "{code}"
-        );
-    }
-    for (number, line) in example_lines() {
-        let lines = plan.stations(number).ok_or("a number")?;
-        assert!(rt; lines == [line].as_slice(), "{number}");
-    }
+    check_routes(&rt, &plan, EXAMPLE_ROUTES);
+    check_lines(&rt, &plan, EXAMPLE_LINES);
     Ok(())
 }
 
@@ -88,7 +76,7 @@ fn each_has(
     lines: &[&'static str],
 ) -> Result<(), Fail> {
     for line in lines {
-        assert_eq!(rt;
+        check_eq!(rt;
             fault_of(alloc, changed(EXAMPLE, at, *line))?,
             fault,
             "{line}"
@@ -236,7 +224,7 @@ fn lesser_is_told(
 ) -> Result<(), Fail> {
     for (fault, (at, line), (other, more)) in rows {
         let lines = changed(changed(EXAMPLE, *at, *line), *other, *more);
-        assert_eq!(rt; fault_of(alloc, lines)?, Some(*fault), "{line}");
+        check_eq!(rt; fault_of(alloc, lines)?, Some(*fault), "{line}");
     }
     Ok(())
 }
@@ -314,65 +302,73 @@ fn second_version_has_one_to_ten_lines_a_number(rt: HostRuntime) -> Result<(), F
         ),
     ];
     for (fault, line) in rows {
-        assert_eq!(rt; fault_of(alloc, changed(second, 2, line))?, fault, "{line}");
+        check_eq!(rt; fault_of(alloc, changed(second, 2, line))?, fault, "{line}");
     }
     Ok(())
 }
 
-/// A register group with 999, and so many groups, numbers, codes and faults; the first of the other
-/// groups has so many members.
+/// Groups G2 to G15, behind a comma.
+const FOURTEEN: &str =
+    r#", "G2 outgoing 902", "G3 outgoing 903", "G4 outgoing 904", "G5 outgoing 905", "G6 outgoing 906", "G7 outgoing 907", "G8 outgoing 908", "G9 outgoing 909", "G10 outgoing 910", "G11 outgoing 911", "G12 outgoing 912", "G13 outgoing 913", "G14 outgoing 914", "G15 outgoing 915""#;
+
+/// The numbers up to this one, of so many digits, each between these texts.
+fn counted(
+    alloc: Global,
+    numbers: Range<u32>,
+    digits: usize,
+    before: &str,
+    after: &str,
+) -> Result<String, AllocError> {
+    let mut text = String::new(alloc);
+    for number in numbers {
+        text.push_str(&format!(in alloc; "{before}{number:0digits$}{after}")?)?;
+    }
+    Ok(text)
+}
+
+/// A register group with 999, a group G1 with so many members, these groups, and so many numbers,
+/// codes and faults.
 fn sized(
     alloc: Global,
-    groups: u32,
+    groups: &str,
     members: u32,
     numbers: u32,
     codes: u32,
-    faults: u32,
+    faults: usize,
 ) -> Result<String, AllocError> {
-    let mut text = String::from_str(alloc, "version = 1\ngroups = [\"REG register 999\"")?;
-    for group in 1..groups {
-        text.push_str(format!(in alloc; ", \"G{group} outgoing 9{group:02}")?.as_str())?;
-        if group == 1 {
-            for member in 1..members {
-                text.push_str(format!(in alloc; " {member:03}")?.as_str())?;
-            }
-        }
-        text.push_str("\"")?;
-    }
-    text.push_str("]\nnumbers = [")?;
-    for number in 0..numbers {
-        text.push_str(format!(in alloc; "\"{number:04} 3041\",")?.as_str())?;
-    }
-    text.push_str("]\ncodes = [")?;
-    for code in 0..codes {
-        text.push_str(format!(in alloc; "\"{code:03} G1\",")?.as_str())?;
-    }
-    text.push_str("]\nfaults = [")?;
-    for _fault in 0..faults {
-        text.push_str("\"JU340\",")?;
-    }
-    text.push_str("]\n")?;
-    Ok(text)
+    let members = counted(alloc, 1..members, 3, " ", "")?;
+    let numbers = counted(alloc, 0..numbers, 4, "\"", " 3041\",")?;
+    let codes = counted(alloc, 0..codes, 3, "\"", " G1\",")?;
+    let faults = "\"JU340\",".repeat(alloc, faults)?;
+    format!(in alloc;
+        "version = 1\n\
+groups = [\"REG register 999\", \"G1 outgoing 901{members}\"{groups}]\n\
+numbers = [{numbers}]\ncodes = [{codes}]\nfaults = [{faults}]\n"
+    )
 }
+
+/// The plan of the largest size, but that it has one group more.
+const ONE_MORE: &str = r#", "G16 outgoing 916""#;
 
 #[test]
 fn limits_are_the_last_that_are_taken(rt: HostRuntime) -> Result<(), Fail> {
     let alloc = rt.alloc();
     let rows = [
-        (None, 16, 40, 3000, 64, 100),
-        (Some(PlanFault::Limit), 17, 40, 3000, 64, 100),
-        (Some(PlanFault::Limit), 16, 41, 3000, 64, 100),
-        (Some(PlanFault::Limit), 16, 40, 3001, 64, 100),
-        (Some(PlanFault::Limit), 16, 40, 3000, 65, 100),
-        (Some(PlanFault::Limit), 16, 40, 3000, 64, 101),
+        (None, "", 40, 3000, 64, 100),
+        (Some(PlanFault::Limit), ONE_MORE, 40, 3000, 64, 100),
+        (Some(PlanFault::Limit), "", 41, 3000, 64, 100),
+        (Some(PlanFault::Limit), "", 40, 3001, 64, 100),
+        (Some(PlanFault::Limit), "", 40, 3000, 65, 100),
+        (Some(PlanFault::Limit), "", 40, 3000, 64, 101),
     ];
-    for (fault, groups, members, numbers, codes, faults) in rows {
-        let text = sized(alloc, groups, members, numbers, codes, faults)?;
+    for (fault, more, members, numbers, codes, faults) in rows {
+        let groups = format!(in alloc; "{FOURTEEN}{more}")?;
+        let text = sized(alloc, &groups, members, numbers, codes, faults)?;
         let found = Plan::read(alloc, text.as_bytes()).err();
-        assert_eq!(rt;
+        check_eq!(rt;
             found,
             fault,
-            "{groups} {members} {numbers} {codes} {faults}"
+            "{more} {members} {numbers} {codes} {faults}"
         );
     }
     Ok(())
@@ -382,10 +378,8 @@ fn limits_are_the_last_that_are_taken(rt: HostRuntime) -> Result<(), Fail> {
 #[test]
 fn three_thousand_numbers_are_read(rt: HostRuntime) -> Result<(), Fail> {
     let alloc = rt.alloc();
-    let text = sized(alloc, 2, 2, 3000, 1, 0)?;
-    let Ok(plan) = Plan::read(alloc, text.as_bytes()) else {
-        return Err("it is lawful".into());
-    };
+    let text = sized(alloc, "", 2, 3000, 1, 0)?;
+    let plan = Plan::read(alloc, text.as_bytes())?;
     let line = [Len::new(3, 0, 21)];
     for number in 0..10_000 {
         let lines = plan.stations(DirNo::new(number));
@@ -394,7 +388,7 @@ fn three_thousand_numbers_are_read(rt: HostRuntime) -> Result<(), Fail> {
         } else {
             None
         };
-        assert!(rt; lines == wanted, "{number}");
+        check!(rt; lines == wanted, "{number}");
     }
     Ok(())
 }
@@ -404,12 +398,12 @@ fn three_thousand_numbers_are_read(rt: HostRuntime) -> Result<(), Fail> {
 fn a_code_that_stands_twice_is_told(rt: HostRuntime) -> Result<(), Fail> {
     let alloc = rt.alloc();
     for (from, to) in [("000", "001"), ("063", "000"), ("063", "062")] {
-        let text = sized(alloc, 16, 40, 3000, 64, 100)?;
+        let text = sized(alloc, FOURTEEN, 40, 3000, 64, 100)?;
         let from = format!(in alloc; "\"{from} G1\"")?;
         let to = format!(in alloc; "\"{to} G1\"")?;
         let text = text.as_str().replace(alloc, from.as_str(), to.as_str())?;
         let fault = Plan::read(alloc, text.as_bytes()).err();
-        assert_eq!(rt; fault, Some(PlanFault::CodeTwice), "{to}");
+        check_eq!(rt; fault, Some(PlanFault::CodeTwice), "{to}");
     }
     Ok(())
 }

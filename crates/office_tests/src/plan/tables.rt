@@ -1,6 +1,7 @@
 //! Plans made of tables, and what they answer.
 
-use crate::fixtures::example_lines;
+use crate::checks::{check, check_eq};
+use crate::fixtures::{EXAMPLE_LINES, EXAMPLE_ROUTES, NumberLines, check_lines, check_routes};
 use std::alloc::{AllocError, Global};
 use std::test::Fail;
 use xbar_equip::{DirNo, Len, Link, LinkKind, Ten};
@@ -51,11 +52,20 @@ fn groups(
 
 const KINDS: [GroupKind; 3] = [GroupKind::Register, GroupKind::Intra, GroupKind::Outgoing];
 
+/// Group `number` of the plan has this name and kind, and so many members.
+fn has_group(plan: &Plan, number: u8, name: &str, kind: GroupKind, members: usize) -> bool {
+    if number >= plan.group_count() {
+        return false;
+    }
+    let group = plan.group(number);
+    group.name() == name && group.kind() == kind && group.members().len() == members
+}
+
 #[test]
 fn example_has_its_groups(rt: HostRuntime) -> Result<(), Fail> {
     let plan = Plan::example(rt.alloc())?;
-    assert_eq!(rt; plan.group_count(), 4);
-    assert_eq!(rt; plan.register_group(), 0);
+    check_eq!(rt; plan.group_count(), 4);
+    check_eq!(rt; plan.register_group(), 0);
     let groups = [
         (0, "REG", GroupKind::Register, 3),
         (1, "INTRA", GroupKind::Intra, 2),
@@ -63,37 +73,47 @@ fn example_has_its_groups(rt: HostRuntime) -> Result<(), Fail> {
         (3, "OUTB", GroupKind::Outgoing, 2),
     ];
     for (number, name, kind, members) in groups {
-        assert!(rt; number < plan.group_count());
-        let group = plan.group(number);
-        assert!(rt; group.name() == name, "{name}");
-        assert_eq!(rt; group.kind(), kind, "{name}");
-        assert_eq!(rt; group.members().len(), members, "{name}");
+        check!(rt; has_group(&plan, number, name, kind, members), "{name}");
     }
     Ok(())
+}
+
+/// The member at this place has this group, this index and this other place. Texts that name no place
+/// are none.
+fn has_member(plan: &Plan, place: &[u8], group: u8, index: u8, other: &[u8]) -> bool {
+    let Ok(place) = Ten::parse(place) else {
+        return false;
+    };
+    let member = MemberPlace {
+        group,
+        index,
+        other: Ten::parse(other).ok(),
+    };
+    plan.member_of(place) == Some(member)
+}
+
+fn has_no_member(plan: &Plan, place: &[u8]) -> bool {
+    Ten::parse(place).is_ok_and(|place| plan.member_of(place).is_none())
 }
 
 #[test]
 fn members_are_found_by_their_places(rt: HostRuntime) -> Result<(), Fail> {
     let plan = Plan::example(rt.alloc())?;
     let found = [
-        (Ten::new(4, 1, 7), 0, 0, None),
-        (Ten::new(5, 0, 9), 0, 2, None),
-        (Ten::new(6, 0, 0), 1, 0, Some(Ten::new(6, 0, 1))),
-        (Ten::new(6, 0, 1), 1, 0, Some(Ten::new(6, 0, 0))),
-        (Ten::new(7, 1, 1), 1, 1, Some(Ten::new(7, 0, 0))),
-        (Ten::new(8, 0, 0), 2, 0, None),
-        (Ten::new(9, 0, 2), 3, 1, None),
+        ("417", 0, 0, ""),
+        ("509", 0, 2, ""),
+        ("600", 1, 0, "601"),
+        ("601", 1, 0, "600"),
+        ("711", 1, 1, "700"),
+        ("800", 2, 0, ""),
+        ("902", 3, 1, ""),
     ];
     for (place, group, index, other) in found {
-        let member = MemberPlace {
-            group,
-            index,
-            other,
-        };
-        assert_eq!(rt; plan.member_of(place), Some(member), "{place}");
+        let is_found = has_member(&plan, place.as_bytes(), group, index, other.as_bytes());
+        check!(rt; is_found, "{place}");
     }
-    for place in [Ten::new(9, 9, 9), Ten::new(4, 1, 9), Ten::new(7, 0, 1)] {
-        assert_eq!(rt; plan.member_of(place), None, "{place}");
+    for place in ["999", "419", "701"] {
+        check!(rt; has_no_member(&plan, place.as_bytes()), "{place}");
     }
     Ok(())
 }
@@ -101,44 +121,50 @@ fn members_are_found_by_their_places(rt: HostRuntime) -> Result<(), Fail> {
 #[test]
 fn codes_and_numbers_are_looked_up(rt: HostRuntime) -> Result<(), Fail> {
     let plan = Plan::example(rt.alloc())?;
-    assert!(rt; plan.route(234).ok_or("234")? == [1].as_slice());
-    assert!(rt; plan.route(555).ok_or("555")? == [2, 3].as_slice());
-    for code in [0, 999, 556, 65535] {
-        assert!(rt; plan.route(code).is_none(), "{code}");
-    }
-    for (number, line) in example_lines() {
-        let lines = plan.stations(number).ok_or("a number")?;
-        assert!(rt; lines == [line].as_slice(), "{line}");
-    }
-    for number in [0, 5, 9999] {
-        assert!(rt; plan.stations(DirNo::new(number)).is_none(), "{number}");
-    }
-    assert!(rt; !plan.faulty(Link::new(LinkKind::Junctor, 3, 4, 0)));
+    check_routes(&rt, &plan, EXAMPLE_ROUTES);
+    let vacant = [(0, None), (999, None), (556, None), (65535, None)];
+    check_routes(&rt, &plan, &vacant);
+    check_lines(&rt, &plan, EXAMPLE_LINES);
+    let vacant: [NumberLines; 3] = [(b"0000", None), (b"0005", None), (b"9999", None)];
+    check_lines(&rt, &plan, &vacant);
+    check!(rt; !plan.faulty(Link::new(LinkKind::Junctor, 3, 4, 0)));
     Ok(())
+}
+
+/// A plan of the groups above, with such stations, routes and links out of order, or its fault.
+fn plan_with(
+    alloc: Global,
+    stations: Vec<Station>,
+    routes: Vec<Route>,
+    faults: Vec<Link>,
+) -> Result<Result<Plan, PlanFault>, AllocError> {
+    let groups = groups(alloc, KINDS, Ten::new(6, 9, 9), Ten::new(8, 0, 0))?;
+    Ok(Plan::try_new(alloc, groups, stations, routes, faults))
+}
+
+/// Number 7 has two lines, 100 leads to the trunk out, twice, and two junctors are out of order.
+fn lawful_plan(alloc: Global) -> Result<Plan, Fail> {
+    let lines = vec![in alloc; Len::new(3, 0, 21), Len::new(3, 0, 27)]?;
+    let stations = vec![in alloc; Station::new(DirNo::new(7), lines)]?;
+    let routes = vec![in alloc; Route::new(100, vec![in alloc; 2, 2]?)]?;
+    let faults = vec![in alloc;
+        Link::new(LinkKind::Junctor, 3, 4, 0),
+        Link::new(LinkKind::Junctor, 3, 4, 5),
+    ]?;
+    Ok(plan_with(alloc, stations, routes, faults)??)
 }
 
 #[test]
 fn lawful_tables_make_a_plan(rt: HostRuntime) -> Result<(), Fail> {
-    let alloc = rt.alloc();
-    let lines = vec![in alloc; Len::new(3, 0, 21), Len::new(3, 0, 27)]?;
-    let plan = Plan::try_new(
-        alloc,
-        groups(alloc, KINDS, Ten::new(6, 9, 9), Ten::new(8, 0, 0))?,
-        vec![in alloc; Station::new(DirNo::new(7), lines)]?,
-        vec![in alloc; Route::new(100, vec![in alloc; 2, 2]?)]?,
-        vec![in alloc;
-            Link::new(LinkKind::Junctor, 3, 4, 0),
-            Link::new(LinkKind::Junctor, 3, 4, 5),
-        ]?,
-    )?;
+    let plan = lawful_plan(rt.alloc())?;
     for (channel, faulty) in [(0, true), (1, false), (5, true)] {
         let junctor = Link::new(LinkKind::Junctor, 3, 4, channel);
-        assert_eq!(rt; plan.faulty(junctor), faulty, "{junctor}");
+        check_eq!(rt; plan.faulty(junctor), faulty, "{junctor}");
         let line_link = Link::new(LinkKind::LineLink, 3, 4, channel);
-        assert!(rt; !plan.faulty(line_link), "{line_link}");
+        check!(rt; !plan.faulty(line_link), "{line_link}");
     }
-    assert_eq!(rt; plan.stations(DirNo::new(7)).ok_or("a number")?.len(), 2);
-    assert!(rt; plan.route(100).ok_or("a code")? == [2, 2].as_slice());
+    check_lines(&rt, &plan, &[(b"0007", Some(&[b"3041", b"3052"]))]);
+    check_routes(&rt, &plan, &[(100, Some(&[2, 2]))]);
     Ok(())
 }
 
@@ -165,7 +191,7 @@ fn faults_of_kinds_are_told(rt: HostRuntime) -> Result<(), Fail> {
     ];
     for (fault, kinds) in rows {
         let told = told_of_groups(rt.alloc(), kinds, Ten::new(6, 9, 0), Ten::new(8, 0, 0))?;
-        assert_eq!(rt; told, Some(fault));
+        check_eq!(rt; told, Some(fault));
     }
     Ok(())
 }
@@ -180,7 +206,7 @@ fn faults_of_places_are_told(rt: HostRuntime) -> Result<(), Fail> {
     for (fault, called, outgoing) in rows {
         let called = Ten::new(called.0, called.1, 0);
         let outgoing = Ten::new(outgoing.0, outgoing.1, 0);
-        assert_eq!(rt;
+        check_eq!(rt;
             told_of_groups(rt.alloc(), KINDS, called, outgoing)?,
             Some(fault)
         );
@@ -188,35 +214,37 @@ fn faults_of_places_are_told(rt: HostRuntime) -> Result<(), Fail> {
     Ok(())
 }
 
+/// The fault of a plan in which this code leads to these groups, if it has one.
+fn told_of_route(alloc: Global, code: u16, groups: [u8; 2]) -> Result<Option<PlanFault>, Fail> {
+    let routes = vec![in alloc; Route::new(code, groups.to_vec(alloc)?)]?;
+    Ok(plan_with(alloc, Vec::new(alloc), routes, Vec::new(alloc))?.err())
+}
+
+/// The fault of a plan in which the first of these numbers has a line, and the second has it twice.
+fn told_of_numbers(alloc: Global, first: DirNo, second: DirNo) -> Result<Option<PlanFault>, Fail> {
+    let line = Len::new(0, 0, 0);
+    let stations = vec![in alloc;
+        Station::new(first, vec![in alloc; line]?),
+        Station::new(second, vec![in alloc; line, line]?),
+    ]?;
+    Ok(plan_with(alloc, stations, Vec::new(alloc), Vec::new(alloc))?.err())
+}
+
 #[test]
 fn faults_of_routes_and_numbers_are_told(rt: HostRuntime) -> Result<(), Fail> {
     let alloc = rt.alloc();
-    let lawful = Ten::new(6, 9, 9);
     let routes = [
         (PlanFault::Malformed, 1000, [2, 2]),
         (PlanFault::MixedRoute, 100, [2, 0]),
         (PlanFault::UnknownGroup, 100, [3, 2]),
         (PlanFault::MixedRoute, 100, [1, 2]),
     ];
-    for (fault, code, numbers) in routes {
-        let plan = Plan::try_new(
-            alloc,
-            groups(alloc, KINDS, lawful, Ten::new(8, 0, 0))?,
-            Vec::new(alloc),
-            vec![in alloc; Route::new(code, numbers.to_vec(alloc)?)]?,
-            Vec::new(alloc),
-        );
-        assert_eq!(rt; plan.err(), Some(fault), "{code}");
+    for (fault, code, groups) in routes {
+        check_eq!(rt; told_of_route(alloc, code, groups)?, Some(fault), "{code} {groups:?}");
     }
-    for (first, second, fault) in [(1, 2, None), (1, 1, Some(PlanFault::NumberTwice))] {
-        let line = Len::new(0, 0, 0);
-        let stations = vec![in alloc;
-            Station::new(DirNo::new(first), vec![in alloc; line]?),
-            Station::new(DirNo::new(second), vec![in alloc; line, line]?),
-        ]?;
-        let groups = groups(alloc, KINDS, lawful, Ten::new(8, 0, 0))?;
-        let plan = Plan::try_new(alloc, groups, stations, Vec::new(alloc), Vec::new(alloc));
-        assert_eq!(rt; plan.err(), fault);
+    let (one, two) = (DirNo::new(1), DirNo::new(2));
+    for (second, fault) in [(two, None), (one, Some(PlanFault::NumberTwice))] {
+        check_eq!(rt; told_of_numbers(alloc, one, second)?, fault, "{second}");
     }
     Ok(())
 }
@@ -245,6 +273,6 @@ fn faults_are_told_by_their_numbers(rt: HostRuntime) -> Result<(), Fail> {
     for fault in faults {
         all.push_str(format!(in alloc; "{fault} ")?.as_str())?;
     }
-    assert!(rt; all.as_str() == "P1 P2 P3 P4 P5 P6 P7 P8 P9 P10 P11 P12 P13 P14 MEMORY ");
+    check!(rt; all.as_str() == "P1 P2 P3 P4 P5 P6 P7 P8 P9 P10 P11 P12 P13 P14 MEMORY ");
     Ok(())
 }

@@ -1,8 +1,10 @@
 //! Plans written out, and read again.
 
+use crate::checks::{check, check_eq};
+use crate::fixtures::{check_lines, check_routes};
 use std::alloc::Global;
 use std::test::Fail;
-use xbar_equip::{DirNo, Len, Link, LinkKind};
+use xbar_equip::{DirNo, Link, LinkKind};
 use xbar_plan::Plan;
 
 /// The text of `Plan::example`.
@@ -42,7 +44,7 @@ fn read(alloc: Global, text: &[u8]) -> Result<Plan, Fail> {
     }
 }
 
-fn have_the_same_group(one: &Plan, other: &Plan, number: u8) -> bool {
+pub fn have_the_same_group(one: &Plan, other: &Plan, number: u8) -> bool {
     if number >= one.group_count() || number >= other.group_count() {
         return number >= one.group_count() && number >= other.group_count();
     }
@@ -63,7 +65,7 @@ pub fn answer_the_same(one: &Plan, other: &Plan) -> bool {
 fn text_of_the_example_has_a_line_for_each_item(rt: HostRuntime) -> Result<(), Fail> {
     let alloc = rt.alloc();
     let text = Plan::example(alloc)?.version_2(alloc)?;
-    assert!(rt; text.as_slice() == EXAMPLE.as_bytes());
+    check!(rt; text.as_slice() == EXAMPLE.as_bytes());
     Ok(())
 }
 
@@ -72,7 +74,7 @@ fn example_is_read_again(rt: HostRuntime) -> Result<(), Fail> {
     let alloc = rt.alloc();
     let example = Plan::example(alloc)?;
     let again = read(alloc, &example.version_2(alloc)?)?;
-    assert!(rt; answer_the_same(&again, &example));
+    check!(rt; answer_the_same(&again, &example));
     Ok(())
 }
 
@@ -81,12 +83,15 @@ fn second_lines_and_links_are_read_again(rt: HostRuntime) -> Result<(), Fail> {
     let alloc = rt.alloc();
     let plan = read(alloc, HUNTING.as_bytes())?;
     let again = read(alloc, &plan.version_2(alloc)?)?;
-    assert!(rt; answer_the_same(&again, &plan));
-    let lines = again.stations(DirNo::new(2)).ok_or("0002")?;
-    assert!(rt; lines == [Len::new(3, 0, 27), Len::new(3, 1, 0)].as_slice());
-    assert!(rt; again.route(7) == Some([3, 2].as_slice()));
-    assert!(rt; again.faulty(Link::new(LinkKind::Junctor, 3, 4, 0)));
-    assert!(rt; again.faulty(Link::new(LinkKind::TrunkLink, 9, 9, 9)));
-    assert!(rt; !again.faulty(Link::new(LinkKind::Junctor, 3, 4, 1)));
+    check!(rt; answer_the_same(&again, &plan));
+    check_lines(&rt, &again, &[(b"0002", Some(&[b"3052", b"3100"]))]);
+    check_routes(&rt, &again, &[(7, Some(&[3, 2]))]);
+    for (link, faulty) in [
+        (Link::new(LinkKind::Junctor, 3, 4, 0), true),
+        (Link::new(LinkKind::TrunkLink, 9, 9, 9), true),
+        (Link::new(LinkKind::Junctor, 3, 4, 1), false),
+    ] {
+        check_eq!(rt; again.faulty(link), faulty, "{link}");
+    }
     Ok(())
 }

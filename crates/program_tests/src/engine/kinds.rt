@@ -1,18 +1,19 @@
 //! The kinds of the markers, as a text and by their number.
 
 use super::*;
+use crate::checks::{check, check_eq};
 
 #[test]
 fn kinds_are_named_by_letters(rt: HostRuntime) -> Result<(), Fail> {
     let kinds = kinds_of(rt.alloc(), "DCX")?;
     let wanted = [Kind::Dial, Kind::Completing, Kind::Combined];
-    assert_eq!(rt; kinds.as_slice(), wanted.as_slice());
+    check_eq!(rt; kinds.as_slice(), wanted.as_slice());
     let most = "X".repeat(rt.alloc(), 48)?;
-    assert_eq!(rt; kinds_of(rt.alloc(), &most)?.len(), 48);
+    check_eq!(rt; kinds_of(rt.alloc(), &most)?.len(), 48);
     let too_many = "X".repeat(rt.alloc(), 49)?;
     for text in ["", "d", "XY", "X X", "X\n", "\u{e9}", too_many.as_str()] {
         let refused = kinds_of(rt.alloc(), text).err();
-        assert_eq!(rt; refused, Some(EngineFault::Markers));
+        check_eq!(rt; refused, Some(EngineFault::Markers));
     }
     Ok(())
 }
@@ -31,8 +32,8 @@ fn an_office_has_1_to_48_markers(rt: HostRuntime) -> Result<(), Fail> {
             &mut source,
             &mut sink,
         );
-        assert_eq!(rt; ended, Err(EngineFault::Markers));
-        assert!(rt; sink.get_ref().is_empty());
+        check_eq!(rt; ended, Err(EngineFault::Markers));
+        check!(rt; sink.get_ref().is_empty());
     }
     let plan = plan_with(rt.alloc(), "")?;
     for count in [1, 48] {

@@ -1,28 +1,28 @@
 //! Replays, rows and reports that are large.
 
 use super::*;
-
-/// Frames of trunks to other offices, with forty trunks each.
-const FRAMES: u32 = 4;
+use crate::checks::{check, check_eq};
 
 const CALLS: u32 = 120;
 
 /// A plan with forty registers on frame 0, and trunks for code 555 on frames 1 to 4, four on each switch.
-fn wide_plan(alloc: Global) -> Result<String, AllocError> {
-    let mut plan = String::from_str(alloc, "version = 1\ngroups = [\"REG register")?;
-    for place in 0..40 {
-        write!(plan, " 0{place:02}")?;
-    }
-    for frame in 1..=FRAMES {
-        write!(plan, "\", \"OUT{frame} outgoing")?;
-        for place in 0..40 {
-            write!(plan, " {frame}{}{}", place % 10, place / 10)?;
-        }
-    }
-    plan.push_str("\"]\nnumbers = []\nfaults = []\n")?;
-    plan.push_str("codes = [\"555 OUT1 OUT2 OUT3 OUT4\"]\n")?;
-    Ok(plan)
-}
+const WIDE_PLAN: &str = "version = 1
+groups = [
+  \"REG register 000 001 002 003 004 005 006 007 008 009 010 011 012 013 014 015 016 017 018 019 \
+020 021 022 023 024 025 026 027 028 029 030 031 032 033 034 035 036 037 038 039\",
+  \"OUT1 outgoing 100 110 120 130 140 150 160 170 180 190 101 111 121 131 141 151 161 171 181 191 \
+102 112 122 132 142 152 162 172 182 192 103 113 123 133 143 153 163 173 183 193\",
+  \"OUT2 outgoing 200 210 220 230 240 250 260 270 280 290 201 211 221 231 241 251 261 271 281 291 \
+202 212 222 232 242 252 262 272 282 292 203 213 223 233 243 253 263 273 283 293\",
+  \"OUT3 outgoing 300 310 320 330 340 350 360 370 380 390 301 311 321 331 341 351 361 371 381 391 \
+302 312 322 332 342 352 362 372 382 392 303 313 323 333 343 353 363 373 383 393\",
+  \"OUT4 outgoing 400 410 420 430 440 450 460 470 480 490 401 411 421 431 441 451 461 471 481 491 \
+402 412 422 432 442 452 462 472 482 492 403 413 423 433 443 453 463 473 483 493\",
+]
+numbers = []
+codes = [\"555 OUT1 OUT2 OUT3 OUT4\"]
+faults = []
+";
 
 /// Calls to other offices, each of a line of its own, one after another.
 fn calls(alloc: Global) -> Result<String, AllocError> {
@@ -39,16 +39,15 @@ fn calls(alloc: Global) -> Result<String, AllocError> {
 
 #[test]
 fn more_than_a_hundred_paths(rt: HostRuntime) -> Result<(), Fail> {
-    let plan = wide_plan(rt.alloc())?;
     let traffic = calls(rt.alloc())?;
-    let (written, status) = replayed(rt.alloc(), &plan, &TWO, traffic.as_bytes())?;
+    let (written, status) = replayed(rt.alloc(), WIDE_PLAN, &TWO, traffic.as_bytes())?;
     let text = str::from_utf8(&written).unwrap_or("this is no text");
-    assert_eq!(rt; status, Status::Fine);
-    assert!(rt; text.ends_with("\nPATHS,120\nCLOSED,480\n"), "{text}");
+    check_eq!(rt; status, Status::Fine);
+    check!(rt; text.ends_with("\nPATHS,120\nCLOSED,480\n"), "{text}");
     // A line for each job, and two for the counts.
-    assert_eq!(rt; text.lines().count(), 242);
-    assert_eq!(rt; text.matches(",DIALTONE,").count(), 120);
-    assert_eq!(rt; text.matches(",CONNECTED,").count(), 120);
+    check_eq!(rt; text.lines().count(), 242);
+    check_eq!(rt; text.matches(",DIALTONE,").count(), 120);
+    check_eq!(rt; text.matches(",CONNECTED,").count(), 120);
     Ok(())
 }
 

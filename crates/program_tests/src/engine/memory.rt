@@ -1,6 +1,7 @@
 //! Where an allocation is refused, a replay says so with nothing written, or comes to what it comes to.
 
 use super::*;
+use crate::checks::{check, check_eq};
 
 /// A replay of this traffic comes to this text, or to want of memory with nothing written.
 fn comes_to_it_or_memory(
@@ -13,12 +14,12 @@ fn comes_to_it_or_memory(
     let mut source = Counted::new(traffic);
     let mut sink = Counted::new(Vec::new(alloc));
     match run_replay(alloc, plan.as_bytes(), &TWO, &mut source, &mut sink) {
-        Ok(_) => assert_eq!(rt; sink.get_ref().as_slice(), text.as_bytes()),
+        Ok(_) => check_eq!(rt; sink.get_ref().as_slice(), text.as_bytes()),
         // The sink grows too: what went out before it couldn't is a beginning of the text.
-        Err(EngineFault::Device) => assert!(rt; text.as_bytes().starts_with(sink.get_ref())),
+        Err(EngineFault::Device) => check!(rt; text.as_bytes().starts_with(sink.get_ref())),
         Err(fault) => {
-            assert_eq!(rt; fault, EngineFault::Memory);
-            assert!(rt; sink.get_ref().is_empty());
+            check_eq!(rt; fault, EngineFault::Memory);
+            check!(rt; sink.get_ref().is_empty());
         }
     }
     Ok(())

@@ -39,6 +39,15 @@ fn the_next_idle_line_is_called(rt: HostRuntime) -> Result<(), Fail> {
     check_done(&rt, rt.alloc(), HUNTING, traffic, text)
 }
 
+/// The plan is judged before the traffic.
+fn is_refused(rt: &impl Abort, alloc: Global, plan: &str, text: &str) -> Result<(), Fail> {
+    for traffic in [FIRST, "Q"] {
+        let wanted = (text, Status::PlanRefused);
+        check_replay(rt, alloc, plan, &TWO, traffic.as_bytes(), wanted)?;
+    }
+    Ok(())
+}
+
 #[test]
 fn plans_are_refused(rt: HostRuntime) -> Result<(), Fail> {
     let head = "version = 1\nnumbers = []\nfaults = []\n";
@@ -62,18 +71,7 @@ fn plans_are_refused(rt: HostRuntime) -> Result<(), Fail> {
         ),
     ] {
         let plan = format!(in rt.alloc(); "{head}{rest}")?;
-        // The plan is judged before the traffic.
-        for traffic in [FIRST, "Q"] {
-            let status = Status::PlanRefused;
-            check_replay(
-                &rt,
-                rt.alloc(),
-                &plan,
-                &TWO,
-                traffic.as_bytes(),
-                (text, status),
-            )?;
-        }
+        is_refused(&rt, rt.alloc(), &plan, text)?;
     }
     Ok(())
 }

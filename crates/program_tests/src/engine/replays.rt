@@ -43,41 +43,28 @@ fn traffic_that_is_done(rt: HostRuntime) -> Result<(), Fail> {
 #[test]
 fn traffic_that_is_refused(rt: HostRuntime) -> Result<(), Fail> {
     let plan = plan_with(rt.alloc(), "")?;
-    for (traffic, text) in [
-        ("J,0,\"1,D,3041\n", "FAULT,T1,1\n"),
-        ("Q,0,1,D,3041\n", "FAULT,T2,1\n"),
-        ("J,0,1,E,3041\n", "FAULT,T2,1\n"),
-        ("J,0,1,D,3060\n", "FAULT,T3,1\n"),
-        ("J,0,01,D,3041\n", "FAULT,T3,1\n"),
-        ("J,100,1,D,3041\n", "FAULT,T3,1\n"),
-        ("S,0,10000,,\n", "FAULT,T3,1\n"),
-        ("S,0,1,x,\n", "FAULT,T3,1\n"),
-        ("J,0,1,D,3041\nS,0,96,,\nJ,0,1,D,1000\n", "FAULT,T4,3\n"),
-        ("J,2,1,D,3041\n", "FAULT,T5,1,C1\n"),
-        ("S,2,1,,\n", "FAULT,T5,1,C1\n"),
-        ("J,0,1,D,3041\nS,0,27,,\nJ,0,2,D,1000\n", "FAULT,T5,3,C2\n"),
-        ("C,7,3041,5551234,R\n", "FAULT,T6,1\n"),
+    let rows: [(&[u8], &str); 15] = [
+        (b"\xff,0,1,D,3041\n", "FAULT,T2,1\n"),
+        (b"J,0,\"1,D,3041\n", "FAULT,T1,1\n"),
+        (b"Q,0,1,D,3041\n", "FAULT,T2,1\n"),
+        (b"J,0,1,E,3041\n", "FAULT,T2,1\n"),
+        (b"J,0,1,D,3060\n", "FAULT,T3,1\n"),
+        (b"J,0,01,D,3041\n", "FAULT,T3,1\n"),
+        (b"J,100,1,D,3041\n", "FAULT,T3,1\n"),
+        (b"S,0,10000,,\n", "FAULT,T3,1\n"),
+        (b"S,0,1,x,\n", "FAULT,T3,1\n"),
+        (b"J,0,1,D,3041\nS,0,96,,\nJ,0,1,D,1000\n", "FAULT,T4,3\n"),
+        (b"J,2,1,D,3041\n", "FAULT,T5,1,C1\n"),
+        (b"S,2,1,,\n", "FAULT,T5,1,C1\n"),
+        (b"J,0,1,D,3041\nS,0,27,,\nJ,0,2,D,1000\n", "FAULT,T5,3,C2\n"),
+        (b"C,7,3041,5551234,R\n", "FAULT,T6,1\n"),
         // A record that is there already is not written where a later row is refused.
-        ("J,0,1,D,3041\nS,0,96,,\nQ,0,2,D,3041\n", "FAULT,T2,3\n"),
-    ] {
-        let status = Status::TrafficRefused;
-        check_replay(
-            &rt,
-            rt.alloc(),
-            &plan,
-            &TWO,
-            traffic.as_bytes(),
-            (text, status),
-        )?;
+        (b"J,0,1,D,3041\nS,0,96,,\nQ,0,2,D,3041\n", "FAULT,T2,3\n"),
+    ];
+    for (traffic, text) in rows {
+        let wanted = (text, Status::TrafficRefused);
+        check_replay(&rt, rt.alloc(), &plan, &TWO, traffic, wanted)?;
     }
-    check_replay(
-        &rt,
-        rt.alloc(),
-        &plan,
-        &TWO,
-        b"\xff,0,1,D,3041\n",
-        ("FAULT,T2,1\n", Status::TrafficRefused),
-    )?;
     Ok(())
 }
 

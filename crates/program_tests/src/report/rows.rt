@@ -1,12 +1,13 @@
 //! Texts that replays write, read and written again.
 
+use crate::checks::{check, check_eq};
 use std::alloc::Global;
 use std::process::Abort;
 use std::test::Fail;
 use xbar_report::{Counts, read, report};
 
 /// What replays of worked rows write.
-const TEXTS: [&str; 23] = [
+const TEXTS: [&str; 21] = [
     "0,1,0,D,3041,-,DIALTONE,1,3041-0-417,-\n\
     PATHS,1\n\
     CLOSED,4\n",
@@ -108,33 +109,6 @@ const TEXTS: [&str; 23] = [
     3,4,0,C,3052,2340003,CONNECTED,1,3052-1-700,1000-0-711\n\
     PATHS,4\n\
     CLOSED,16\n",
-    "0,1,0,D,3000,-,DIALTONE,1,3000-0-410,-\n\
-    1,2,0,D,3001,-,DIALTONE,1,3001-1-411,-\n\
-    2,3,0,D,3002,-,DIALTONE,1,3002-2-412,-\n\
-    3,4,0,D,3003,-,DIALTONE,1,3003-3-413,-\n\
-    4,5,0,D,3004,-,DIALTONE,1,3004-4-414,-\n\
-    5,6,0,D,3010,-,DIALTONE,1,3010-5-415,-\n\
-    6,7,0,D,3011,-,DIALTONE,1,3011-6-416,-\n\
-    7,8,0,D,3012,-,DIALTONE,1,3012-7-417,-\n\
-    8,9,0,D,3013,-,DIALTONE,1,3013-8-418,-\n\
-    9,10,0,D,3014,-,DIALTONE,1,3014-9-419,-\n\
-    10,11,0,D,3020,-,NOPATH,-,-,-\n\
-    11,12,0,C,3003,5551234,CONNECTED,1,3003-3-800,-\n\
-    PATHS,10\n\
-    CLOSED,40\n",
-    "0,1,0,D,3000,-,DIALTONE,1,3000-0-410,-\n\
-    1,2,0,D,3001,-,DIALTONE,1,3001-1-411,-\n\
-    2,3,0,D,3002,-,DIALTONE,1,3002-2-412,-\n\
-    3,4,0,D,3003,-,DIALTONE,1,3003-3-413,-\n\
-    4,5,0,D,3004,-,DIALTONE,1,3004-4-414,-\n\
-    5,6,0,D,3010,-,DIALTONE,1,3010-5-415,-\n\
-    6,7,0,D,3011,-,DIALTONE,1,3011-6-416,-\n\
-    7,8,0,D,3012,-,DIALTONE,1,3012-7-417,-\n\
-    8,9,0,D,3013,-,DIALTONE,1,3013-8-418,-\n\
-    9,10,0,D,3014,-,DIALTONE,1,3014-9-419,-\n\
-    10,11,0,D,3100,-,DIALTONE,2,3100-5-500,-\n\
-    PATHS,11\n\
-    CLOSED,44\n",
     "0,1,0,D,3041,-,DIALTONE,2,3041-5-418,-\n\
     TROUBLE,0,1,1,JU340\n\
     PATHS,1\n\
@@ -153,13 +127,13 @@ const TEXTS: [&str; 23] = [
 /// A text is read, and what was read is written as that text.
 fn check_again(rt: &impl Abort, alloc: Global, text: &str) -> Result<(), Fail> {
     let report_read = read(alloc, text.as_bytes())?;
-    assert!(rt; report_read.counts.is_some());
+    check!(rt; report_read.counts.is_some());
     let counts = report_read.counts.unwrap_or(Counts {
         paths: 0,
         closed: 0,
     });
     let again = report(alloc, &report_read.records, counts.paths, counts.closed)?;
-    assert_eq!(rt; str::from_utf8(&again).unwrap_or("this is no text"), text);
+    check_eq!(rt; str::from_utf8(&again).unwrap_or("this is no text"), text);
     Ok(())
 }
 
@@ -171,14 +145,20 @@ fn what_replays_write_is_read(rt: HostRuntime) -> Result<(), Fail> {
     Ok(())
 }
 
+/// The records of a text are read, and written again as they stand in it.
+fn check_without_counts(rt: &impl Abort, alloc: Global, text: &str) -> Result<(), Fail> {
+    let (records, _counts) = text.split_once("PATHS").unwrap_or((text, ""));
+    let report_read = read(alloc, records.as_bytes())?;
+    check!(rt; report_read.counts.is_none(), "{text}");
+    let again = report(alloc, &report_read.records, 0, 0)?;
+    check!(rt; again.starts_with(records.as_bytes()), "{text}");
+    Ok(())
+}
+
 #[test]
 fn a_text_without_counts_is_read(rt: HostRuntime) -> Result<(), Fail> {
     for text in TEXTS {
-        let (records, _counts) = text.split_once("PATHS").unwrap_or((text, ""));
-        let report_read = read(rt.alloc(), records.as_bytes())?;
-        assert!(rt; report_read.counts.is_none());
-        let again = report(rt.alloc(), &report_read.records, 0, 0)?;
-        assert!(rt; again.starts_with(records.as_bytes()));
+        check_without_counts(&rt, rt.alloc(), text)?;
     }
     Ok(())
 }

@@ -1,5 +1,6 @@
 //! Texts that are no report's, and what is wrong with them.
 
+use crate::checks::check_eq;
 use std::alloc::Global;
 use std::process::Abort;
 use std::test::Fail;
@@ -83,34 +84,41 @@ const SPOILED: [(&str, &str, usize); 42] = [
 ];
 
 /// The right text with its part `old` replaced by `new`.
-fn spoiled(alloc: Global, old: &str, new: &str) -> Result<String, Fail> {
-    let (front, rest) = RIGHT.split_once(old).unwrap_or((RIGHT, ""));
+fn spoiled(alloc: Global, right: &str, old: &str, new: &str) -> Result<String, Fail> {
+    let (front, rest) = right.split_once(old).unwrap_or((right, ""));
     Ok(format!(in alloc; "{front}{new}{rest}")?)
 }
 
-#[test]
-fn the_right_text_is_read(rt: HostRuntime) -> Result<(), Fail> {
-    assert_eq!(rt; fault_of(rt.alloc(), RIGHT), None);
-    assert_eq!(rt; fault_of(rt.alloc(), ""), None);
-    assert_eq!(rt; fault_of(rt.alloc(), "PATHS,0\nCLOSED,0\n"), None);
+/// The right text, so spoiled, has this fault.
+fn check_spoiled(
+    rt: &impl Abort,
+    alloc: Global,
+    old: &str,
+    new: &str,
+    wanted: ReadFault,
+) -> Result<(), Fail> {
+    let text = spoiled(alloc, RIGHT, old, new)?;
+    check_eq!(rt; fault_of(alloc, &text), Some(wanted), "{text}");
     Ok(())
+}
+
+#[test]
+fn the_right_text_is_read(rt: HostRuntime) {
+    for text in [RIGHT, "", "PATHS,0\nCLOSED,0\n"] {
+        check_eq!(rt; fault_of(rt.alloc(), text), None, "{text}");
+    }
 }
 
 #[test]
 fn a_spoiled_text_is_refused_at_its_line(rt: HostRuntime) -> Result<(), Fail> {
     for (old, new, number) in SPOILED {
-        let text = spoiled(rt.alloc(), old, new)?;
-        let fault = fault_of(rt.alloc(), &text);
-        assert_eq!(rt;
-            (text.as_str(), fault),
-            (text.as_str(), Some(ReadFault::Line { number }))
-        );
+        check_spoiled(&rt, rt.alloc(), old, new, ReadFault::Line { number })?;
     }
     Ok(())
 }
 
 #[test]
-fn lines_behind_their_place_are_refused(rt: HostRuntime) -> Result<(), Fail> {
+fn lines_behind_their_place_are_refused(rt: HostRuntime) {
     let texts = [
         ("\n", 1),
         ("CLOSED,0\nPATHS,0\n", 1),
@@ -123,22 +131,17 @@ fn lines_behind_their_place_are_refused(rt: HostRuntime) -> Result<(), Fail> {
     ];
     for (text, number) in texts {
         let fault = fault_of(rt.alloc(), text);
-        assert_eq!(rt; (text, fault), (text, Some(ReadFault::Line { number })));
+        check_eq!(rt; fault, Some(ReadFault::Line { number }), "{text}");
     }
-    Ok(())
 }
 
 #[test]
 fn a_wrong_turn_is_told_before_whose_the_cards_are(rt: HostRuntime) -> Result<(), Fail> {
-    let text = spoiled(rt.alloc(), "1,2,1,D,3052", "2,2,1,D,3052")?;
-    assert_eq!(rt;
-        fault_of(rt.alloc(), &text),
-        Some(ReadFault::Turns { place: 1 })
-    );
-    let text = spoiled(rt.alloc(), "0,1,0,D", "1,1,0,D")?;
-    assert_eq!(rt;
-        fault_of(rt.alloc(), &text),
-        Some(ReadFault::Turns { place: 0 })
-    );
+    for (old, new, place) in [
+        ("1,2,1,D,3052", "2,2,1,D,3052", 1),
+        ("0,1,0,D", "1,1,0,D", 0),
+    ] {
+        check_spoiled(&rt, rt.alloc(), old, new, ReadFault::Turns { place })?;
+    }
     Ok(())
 }

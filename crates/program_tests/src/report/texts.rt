@@ -1,5 +1,6 @@
 //! The texts of records of every end.
 
+use crate::checks::{check, check_eq};
 use std::alloc::Global;
 use std::test::Fail;
 use xbar_equip::{Channel, Dialled, Len, Link, LinkKind, Path, Ten};
@@ -101,7 +102,7 @@ fn records(alloc: Global) -> Result<Vec<Record>, Fail> {
 #[test]
 fn the_text_of_no_record(rt: HostRuntime) -> Result<(), Fail> {
     let text = report(rt.alloc(), &[], 0, 0)?;
-    assert_eq!(rt; text.as_slice(), b"PATHS,0\nCLOSED,0\n".as_slice());
+    check_eq!(rt; text.as_slice(), b"PATHS,0\nCLOSED,0\n".as_slice());
     Ok(())
 }
 
@@ -118,7 +119,7 @@ fn the_text_of_records(rt: HostRuntime) -> Result<(), Fail> {
         TROUBLE,0,1,2,JU345\n\
         PATHS,1\n\
         CLOSED,4\n";
-    assert_eq!(rt; text.as_slice(), want.as_slice());
+    check_eq!(rt; text.as_slice(), want.as_slice());
     Ok(())
 }
 
@@ -130,9 +131,9 @@ fn the_text_of_many_records(rt: HostRuntime) -> Result<(), Fail> {
     }
     let text = report(rt.alloc(), &records, 0, 0)?;
     // The turns have 488,896 digits, and each line has 29 bytes more.
-    assert_eq!(rt; text.len(), 3_388_942);
+    check_eq!(rt; text.len(), 3_388_942);
     let last = b"\n100000,7,0,D,3041,-,LINEBUSY,-,-,-\nPATHS,0\nCLOSED,0\n";
-    assert!(rt; text.ends_with(last));
+    check!(rt; text.ends_with(last));
     Ok(())
 }
 
@@ -182,6 +183,6 @@ fn the_text_of_calls(rt: HostRuntime) -> Result<(), Fail> {
         9,10,0,R,3041,-,NOCALL,-,-,-\n\
         PATHS,0\n\
         CLOSED,0\n";
-    assert_eq!(rt; text.as_slice(), want.as_slice());
+    check_eq!(rt; text.as_slice(), want.as_slice());
     Ok(())
 }

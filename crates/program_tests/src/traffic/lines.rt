@@ -1,6 +1,7 @@
 //! The codes of faults, and the lines of those that no row has by itself.
 
 use super::*;
+use crate::checks::check_eq;
 
 #[test]
 fn marker_faults_are_told(rt: HostRuntime) -> Result<(), Fail> {
@@ -16,7 +17,7 @@ fn marker_faults_are_told(rt: HostRuntime) -> Result<(), Fail> {
     for (why, row, wanted) in table {
         let fault = RowFault::Marker(why);
         let text = TrafficFault { row, fault }.text(rt.alloc())?;
-        assert_eq!(rt; text.as_str(), wanted);
+        check_eq!(rt; text.as_str(), wanted);
     }
     Ok(())
 }
@@ -31,14 +32,14 @@ fn faults_print_their_codes(rt: HostRuntime) -> Result<(), Fail> {
         (RowFault::Marker(MarkerFault::NoMarker), "T5"),
         (RowFault::OtherMode, "T6"),
     ] {
-        assert_eq!(rt; fault.to_string(rt.alloc())?.as_str(), wanted);
+        check_eq!(rt; fault.to_string(rt.alloc())?.as_str(), wanted);
     }
     for (fault, wanted) in [
         (MarkerFault::NoMarker, "C1"),
         (MarkerFault::NotIdle, "C2"),
         (MarkerFault::WrongKind, "C3"),
     ] {
-        assert_eq!(rt; fault.to_string(rt.alloc())?.as_str(), wanted);
+        check_eq!(rt; fault.to_string(rt.alloc())?.as_str(), wanted);
     }
     Ok(())
 }

@@ -45,7 +45,7 @@ fn add_members(text: &mut String, members: &[Member]) -> Result<(), AllocError>
 }
 
 /// The name, the kind and the members of a group.
-#[tactic(auto, using(crate::proofs::Joined::flat_map_map))]
+#[tactic(auto, using(crate::proofs::Joined::joined))]
 pub fn group_text(alloc: Global, group: &Group) -> Result<String, AllocError>
     ensures { IfOk result (λ text. string_bytes text ≡ text_of_group group.now) }
 {
@@ -67,7 +67,7 @@ fn add_lines(text: &mut String, lines: &[Len]) -> Result<(), AllocError>
 }
 
 /// A directory number and its lines.
-#[tactic(auto, using(crate::proofs::Joined::flat_map_map))]
+#[tactic(auto, using(crate::proofs::Joined::joined))]
 pub fn station_text(alloc: Global, station: &Station) -> Result<String, AllocError>
     ensures { IfOk result (λ text. string_bytes text ≡ text_of_station station.now) }
 {
@@ -116,7 +116,7 @@ fn add_names(text: &mut String, groups: &[Group], numbers: &[u8]) -> Result<(), 
 }
 
 /// A code and the names of its groups.
-#[tactic(auto, using(crate::proofs::Joined::flat_map_map))]
+#[tactic(auto, using(crate::proofs::Joined::joined))]
 pub fn route_text(alloc: Global, groups: &[Group], route: &Route) -> Result<String, AllocError>
     ensures { IfOk result (λ text. string_bytes text ≡ text_of_route groups.now route.now) }
 {

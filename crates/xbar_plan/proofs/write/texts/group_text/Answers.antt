@@ -2,14 +2,14 @@ use Rattle.std.proofs.Common.{rules, ◌≡◌, ◌∷◌, ◌++◌, ℕ, List, 
 use Rattle.std.specs.Prelude.{flat_map}
 use Rattle.std.proofs.lemmas.List.{append_assoc}
 use Rattle.xbar_plan.specs.Written.{kind_text, member_text}
-use Rattle.xbar_plan.proofs.Joined.{flat_map_map}
+use Rattle.std.proofs.lemmas.List.Folds.{flat_map-map}
 use Rattle.xbar_plan.proofs.write.texts.group_text.Goals as goal
 
 pub returns : goal.returns
 returns c =
     let group = c.args.group.now in
     let begun : string_bytes c.in_ok-text.text ≡ group.name ++ 32 ∷ kind_text group.kind = search rules in
-    let joined = flat_map_map (λ part. 32 ∷ part) member_text group.members in
+    let joined = flat_map-map (λ part. 32 ∷ part) member_text group.members in
     let others : List ℕ = flat_map (λ member. 32 ∷ member_text member) group.members in
     let added : string_bytes c.add_members.new.text ≡ string_bytes c.in_ok-text.text ++ others = search rules in
     added ∙ ap (λ (front : List ℕ). front ++ others) begun ∙ append_assoc group.name (32 ∷ kind_text group.kind) others

@@ -1,4 +1,0 @@
-mod calls;
-mod devices;
-mod fakes;
-mod large;

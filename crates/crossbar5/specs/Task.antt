@@ -1,0 +1,28 @@
+use Rattle.std.specs.Prelude.{◌⊎◌, ℕ, List, length}
+use Rattle.xbar_plan.specs.Document.{plan_of}
+use Rattle.xbar_plan.specs.Tables.{Tables}
+use Rattle.crossbar5.specs.Audit.{IsAuditUnder}
+use Rattle.crossbar5.specs.Faults.{IsMarkerCount}
+use Rattle.crossbar5.specs.PlanRefusal.{IsAnswerOf, IsRefusedPlan}
+use Rattle.crossbar5.specs.Run.{IsReplayUnder}
+use Rattle.crossbar5.specs.declared.status.Status.{Status}
+use Rattle.crossbar5.specs.declared.task.Task.{Task}
+use Rattle.crossbar5.specs.declared.task.Task.TheVariants.{Replay, Audit}
+
+-- a replay wants markers, and an audit none
+abbrev pub HasItsMarkers : Task → Type 0
+HasItsMarkers (Replay kinds) = IsMarkerCount (length kinds.now)
+HasItsMarkers Audit = Unit {0}
+
+-- under a plan's tables, the text and the status are those of the task
+abbrev pub IsDoneUnder : Task → Tables → List ℕ → List ℕ → Status → Type 0
+IsDoneUnder (Replay kinds) plan input text status = IsReplayUnder plan kinds.now input text status
+IsDoneUnder Audit plan input text status = IsAuditUnder plan input text status
+
+-- and with a plan's text
+abbrev pub IsDone : Task → List ℕ → List ℕ → List ℕ → Status → Type 0
+IsDone task plan input text status = IsAnswerOf (IsDoneUnder task) (plan_of plan) input text status
+
+-- what refuses a task before any input is read
+abbrev pub IsUnreadTask : Task → List ℕ → Type 0
+IsUnreadTask task plan = ¬ HasItsMarkers task ⊎ IsRefusedPlan plan

@@ -1,0 +1,132 @@
+//! An audit: records judged by the one-marker office alone.
+
+ghost use Rattle.std.specs.Prelude.{◌≡◌, ◌↔◌, IfOk, IsTrue, List, Option};
+ghost use Rattle.xbar_office.specs.Audit.{IsFirstWrongReply};
+ghost use Rattle.xbar_office.specs.Legal.{HaveTurns, IsLegal, after};
+ghost use Rattle.xbar_office.specs.declared.reply.Record.{Record as TheRecord};
+ghost use Rattle.xbar_report.specs.Sheet.{IsReport};
+ghost use Rattle.xbar_report.specs.Text.{records_text};
+ghost use Rattle.xbar_report.specs.declared.counts.Counts.{Counts as TheCounts};
+ghost use Rattle.crossbar5.specs.Audit.{AreRightCounts, IsAuditUnder, IsFoundIn, IsFoundOf, righted, standing_after};
+
+use crate::finding::{Finding, Standing};
+use crate::written::Written;
+use std::alloc::{AllocError, Global};
+use xbar_office::{AuditFault, Office, Record, Reply, audit};
+use xbar_plan::Plan;
+use xbar_report::{Counts, ReadFault, Report, read};
+
+/// What is written of a text of records.
+pub fn audit_text(alloc: Global, plan: &Plan, text: &[u8]) -> Result<Written, AllocError>
+    ensures { IfOk result (λ written.
+        IsAuditUnder plan.now text.now written.text.items written.status) }
+{
+    let finding = find(alloc, plan, text)?;
+    Ok(Written {
+        text: finding.text(alloc)?.into_bytes(),
+        status: finding.status(),
+    })
+}
+
+/// What is found in a text.
+fn find(alloc: Global, plan: &Plan, text: &[u8]) -> Result<Finding, AllocError>
+    ensures found { IfOk result (IsFoundIn plan.now text.now) }
+    ensures only { (list : List TheRecord) (counts : Option TheCounts) → IsReport list counts →
+        text.now ≡ records_text list counts → IfOk result (IsFoundOf plan.now list counts) }
+{
+    match read(alloc, text) {
+        Ok(report) => judge(alloc, plan, &report),
+        Err(ReadFault::Line { number }) => Ok(Finding::NoReport { line: number }),
+        Err(ReadFault::Turns { place }) => Ok(Finding::WrongTurn { place }),
+        Err(ReadFault::Memory) => Err(AllocError),
+    }
+}
+
+/// What is found of records at their turns, and of their counts.
+fn judge(alloc: Global, plan: &Plan, report: &Report) -> Result<Finding, AllocError>
+    requires { HaveTurns 0 report.now.records.items }
+    ensures { IfOk result (IsFoundOf plan.now report.now.records.items report.now.counts) }
+{
+    match audit(alloc, plan, &report.records) {
+        Ok(office) => judge_counts(alloc, &office, report),
+        Err(AuditFault::Reply { turn }) => wrong_reply(alloc, plan, &report.records, turn),
+        Err(AuditFault::Turns { .. }) => unreachable!(),
+        Err(AuditFault::Memory) => Err(AllocError),
+    }
+}
+
+/// What is found of legal records, which leave this office, and of their counts.
+fn judge_counts(alloc: Global, office: &Office<'_>, report: &Report) -> Result<Finding, AllocError>
+    requires legal { IsLegal office.now.plan report.now.records.items }
+    requires paths { office.now.paths ≡ after office.now.plan report.now.records.items }
+    ensures { IfOk result (IsFoundOf office.now.plan report.now.records.items report.now.counts) }
+{
+    let standing = Standing {
+        paths: office.paths().len(),
+        closed: office.crosspoints(alloc)?.len(),
+    };
+    if !are_right(&report.counts, standing) {
+        return Ok(Finding::WrongCounts { standing });
+    }
+    let count = report.records.len();
+    Ok(Finding::Legal { count, standing })
+}
+
+/// Whether counts, if there are any, are those of what stands.
+fn are_right(counts: &Option<Counts>, standing: Standing) -> bool
+    ensures { IsTrue result ↔ AreRightCounts counts.now standing }
+{
+    match counts {
+        Some(counts) => {
+            usize::from(counts.paths) == standing.paths
+                && usize::from(counts.closed) == standing.closed
+        }
+        None => true,
+    }
+}
+
+/// The record of this turn, which is the first with a wrong reply, and what it has to be.
+fn wrong_reply(
+    alloc: Global,
+    plan: &Plan,
+    records: &[Record],
+    turn: u64,
+) -> Result<Finding, AllocError>
+    requires turns { HaveTurns 0 records.now }
+    requires wrong { IsFirstWrongReply plan.now records.now turn }
+    ensures { (counts : Option TheCounts) → IfOk result (IsFoundOf plan.now records.now counts) }
+{
+    let (before, rest) = records.split_at(turn as usize);
+    let Some(given) = rest.first() else {
+        unreachable!()
+    };
+    let mut office = office_after(alloc, plan, before)?;
+    let reply = office.whole(given.job)?;
+    Ok(Finding::WrongReply {
+        given: with_reply(given, given.reply.copy()),
+        right: with_reply(given, reply),
+    })
+}
+
+/// The office after the jobs of records, whatever replies they have.
+fn office_after<'p>(
+    alloc: Global,
+    plan: &'p Plan,
+    records: &[Record],
+) -> Result<Office<'p>, AllocError>
+    ensures { IfOk result (λ office.
+        office ≡ record { plan = plan.now; paths = after plan.now records.now }) }
+{
+    let mut office = Office::open(alloc, plan);
+    for record in records {
+        office.whole(record.job)?;
+    }
+    Ok(office)
+}
+
+/// The record with this reply in place of its own.
+fn with_reply(given: &Record, reply: Reply) -> Record
+    ensures { result ≡ record given.now { reply = reply } }
+{
+    Record { reply, ..*given }
+}

@@ -1,0 +1,42 @@
+use crate::audit::audit_text;
+use crate::run::replay;
+use crate::written::Written;
+use std::alloc::{AllocError, Global};
+use xbar_core::{Kind, MOST_MARKERS};
+use xbar_plan::Plan;
+
+/// What the engine does with a plan and what it reads.
+#[derive(Clone, Copy)]
+pub enum Task<'a> {
+    /// A replay of traffic, by markers of these kinds.
+    Replay { kinds: &'a [Kind] },
+    /// An audit of records.
+    Audit,
+}
+
+impl Task<'_> {
+    ghost use Rattle.std.specs.Prelude.{◌↔◌, IfOk, IsTrue};
+    ghost use Rattle.crossbar5.specs.Task.{HasItsMarkers, IsDoneUnder};
+
+    /// Whether its markers are 1 to 48, if it has any.
+    pub fn has_its_markers(self) -> bool
+        ensures { IsTrue result ↔ HasItsMarkers self.entry }
+    {
+        match self {
+            Task::Replay { kinds } => !kinds.is_empty() && kinds.len() <= MOST_MARKERS,
+            Task::Audit => true,
+        }
+    }
+
+    /// What is written of it with this plan, for all that was read.
+    pub fn written(self, alloc: Global, plan: &Plan, input: &[u8]) -> Result<Written, AllocError>
+        requires { HasItsMarkers self }
+        ensures { IfOk result (λ written.
+            IsDoneUnder self.entry plan.now input.now written.text.items written.status) }
+    {
+        match self {
+            Task::Replay { kinds } => replay(alloc, plan, kinds, input),
+            Task::Audit => audit_text(alloc, plan, input),
+        }
+    }
+}

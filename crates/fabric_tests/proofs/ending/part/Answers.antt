@@ -1,0 +1,18 @@
+use Rattle.std.proofs.Common.{rules, suc, ◌∷◌, ◌<◌, List, arith, length, subst}
+use Rattle.std.specs.Prelude.{All}
+use Rattle.std.specs.Vec.Iter.{into_iter_items}
+use Rattle.xbar_fabric.specs.Views.{IsDeskOf}
+use Rattle.fabric_tests.proofs.ending.part.Goals as goal
+
+pub loop-shift-preserved : goal.loop-shift-preserved
+loop-shift-preserved c =
+    let fabric = c.args.fabric.now in
+    let put = c.in_ok-put_desk.ensures in
+    let next = c.in-Some.ensures.steps in
+    let count = c.loop-shift.invariant.left in
+    let left = subst (All (λ shift. IsDeskOf shift.desk fabric)) next.0 c.loop-shift.invariant.rest in
+    record {
+      rest = λ k d below. left (suc k) d (omega (arith, below));
+      left = omega (arith, next.1, put.count, count);
+      order = put.order;
+    }

@@ -1,0 +1,4 @@
+pub mod Joining
+pub mod Moves
+pub mod Totals
+pub mod Weights

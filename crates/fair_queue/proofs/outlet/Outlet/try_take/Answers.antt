@@ -1,0 +1,8 @@
+use Rattle.fair_queue.proofs.Joining.{parts_inside}
+use Rattle.fair_queue.proofs.Moves.{takes, learns}
+use Rattle.fair_queue.proofs.outlet.Outlet.try_take.Goals as goal
+
+pub try_recv_as-requires-clause-rule : goal.try_recv_as-requires-clause-rule
+try_recv_as-requires-clause-rule g c =
+    let part = parts_inside c.ticket.view_is c.requires.ticket.1 in
+    (takes g.X.Item.sound _ _ part, learns g.X.Item.sound _ _)

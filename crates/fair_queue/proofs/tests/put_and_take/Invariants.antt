@@ -1,0 +1,9 @@
+use Rattle.std.proofs.Common.{◌<◌}
+use Rattle.fair_queue.specs.Tickets.{IsTicketOf}
+use Rattle.fair_queue.proofs.tests.put_and_take.Given as goal
+
+abbrev pub invariant-loop-number : goal.invariant-loop-number
+invariant-loop-number g l = record {
+  queue : IsTicketOf l.worker.ticket l.inlet;
+  part : 0 < l.worker.ticket.parts;
+}
