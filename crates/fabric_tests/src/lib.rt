@@ -6,6 +6,8 @@ mod driving;
 #[cfg(test)]
 mod ending;
 #[cfg(test)]
+mod handing;
+#[cfg(test)]
 mod many_desks;
 #[cfg(test)]
 mod two_desks;
