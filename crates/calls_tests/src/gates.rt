@@ -1,0 +1,131 @@
+//! Gates at which markers wait for one another.
+
+use std::sync::atomic::{AtomicU64, Ordering};
+use std::thread;
+use xbar_markers::Gate;
+
+/// How often a gate lets other threads run before it passes all the same.
+const PATIENCE: u32 = 1_000_000;
+
+/// How far a marker is: at so many steps it has come to its gate, and it has ended so many jobs.
+#[derive(Clone, Copy, Debug)]
+pub struct Point {
+    pub steps: u64,
+    pub jobs: u64,
+}
+
+/// A marker waits, once it has come to a point, until another has come to one.
+#[derive(Clone, Copy, Debug)]
+pub struct Meeting {
+    pub at: Point,
+    pub other: u32,
+    pub until: Point,
+}
+
+/// How far one marker is, for the gates of the others to see.
+#[derive(Default, Drop)]
+struct Progress {
+    steps: AtomicU64,
+    jobs: AtomicU64,
+}
+
+impl Progress {
+    fn has_come_to(&self, point: Point) -> bool {
+        self.steps.load(Ordering::SeqCst) >= point.steps
+            && self.jobs.load(Ordering::SeqCst) >= point.jobs
+    }
+}
+
+/// What the gates of a run share, and how they fared.
+#[derive(Default, Drop)]
+pub struct Board {
+    markers: [Progress; 3],
+    kept: AtomicU64,
+    missed: AtomicU64,
+    miscounted: AtomicU64,
+}
+
+/// How often markers met, how often one waited in vain, and how often a gate was told a wrong number.
+#[derive(Clone, Copy, Debug, PartialEq, Eq)]
+pub struct Tally {
+    pub kept: u64,
+    pub missed: u64,
+    pub miscounted: u64,
+}
+
+impl Board {
+    fn progress(&self, marker: u32) -> Option<&Progress> {
+        self.markers.get(marker as usize)
+    }
+
+    pub fn tally(&self) -> Tally {
+        Tally {
+            kept: self.kept.load(Ordering::SeqCst),
+            missed: self.missed.load(Ordering::SeqCst),
+            miscounted: self.miscounted.load(Ordering::SeqCst),
+        }
+    }
+
+    fn wait(&self, meeting: Meeting) {
+        for _turn in 0..PATIENCE {
+            if self
+                .progress(meeting.other)
+                .is_some_and(|other| other.has_come_to(meeting.until))
+            {
+                let _kept = self.kept.fetch_add(1, Ordering::SeqCst);
+                return;
+            }
+            thread::yield_now();
+        }
+        let _missed = self.missed.fetch_add(1, Ordering::SeqCst);
+    }
+}
+
+/// Tells the board how far its marker is, and waits at one point at most.
+#[derive(Drop)]
+pub struct MeetingGate<'a> {
+    board: &'a Board,
+    marker: u32,
+    meeting: Option<Meeting>,
+}
+
+impl<'a> MeetingGate<'a> {
+    pub fn new(board: &'a Board, marker: u32, meeting: Option<Meeting>) -> Self {
+        MeetingGate {
+            board,
+            marker,
+            meeting,
+        }
+    }
+
+    fn count_mistake(&self) {
+        let _mistakes = self.board.miscounted.fetch_add(1, Ordering::SeqCst);
+    }
+}
+
+impl Gate for MeetingGate<'_> {
+    fn pass(&mut self, marker: u32, step: u64) {
+        let Some(own) = self.board.progress(marker) else {
+            return self.count_mistake();
+        };
+        if marker != self.marker || own.steps.fetch_add(1, Ordering::SeqCst) != step {
+            self.count_mistake();
+        }
+        if let Some(meeting) = self.meeting {
+            if own.has_come_to(meeting.at) {
+                self.meeting = None;
+                self.board.wait(meeting);
+            }
+        }
+    }
+
+    fn finished(&mut self, marker: u32, _job_no: u32) {
+        let Some(own) = self.board.progress(marker) else {
+            return self.count_mistake();
+        };
+        if marker != self.marker {
+            self.count_mistake();
+        }
+        let _jobs = own.jobs.fetch_add(1, Ordering::SeqCst);
+    }
+}

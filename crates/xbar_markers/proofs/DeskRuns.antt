@@ -1,0 +1,169 @@
+-- seats in two parts, those that dial and those that complete calls, and what one of their workers does at the end
+use Rattle.std.proofs.Common.{◌≡◌, ℕ, zero, suc, ◌+◌, ◌<◌, List, [], ◌∷◌, ◌++◌, map, length, take, drop, sym, refl, ap, ◌∙◌, subst, arith, All, flat_map, get_or, sum_by}
+use Rattle.std.proofs.lemmas.List.{get_or-drop, get_or-map, get_or-take, length-drop, length-map, length-take, map-append, map-set, take-append-drop}
+use Rattle.std.proofs.lemmas.List.Elements.{All-head}
+use Rattle.std.proofs.lemmas.List.Sums.{sum_by-append}
+use Rattle.std.proofs.lemmas.Option.{slice_get-map}
+use Rattle.std.specs.Prelude.{OnOk, Some, Result, Ok, Err, option_map, slice_get, slice_set}
+use Rattle.fair_queue.specs.Tickets.{TicketView, with_fewer_parts}
+use Rattle.xbar_core.specs.declared.kind.Kind.{Kind}
+use Rattle.xbar_core.specs.declared.kind.Kind.TheVariants.{Completing, Dial}
+use Rattle.xbar_fabric.specs.Views.{DeskView, FabricView}
+use Rattle.xbar_markers.specs.Seats.{AreSeatsOf, HaveServed, IsSeat, IsThere, StayOf, desk_at, desks_at}
+use Rattle.xbar_markers.specs.Shares.{HasServed, HasStopped, IsFilled, IsShareOf, in_tasks, out_of}
+use Rattle.xbar_markers.specs.Staff.{kinds_of}
+use Rattle.xbar_markers.specs.Work.{AreShort}
+use Rattle.xbar_markers.specs.Calls.{HasDialTone, IsServed, records_of}
+use Rattle.xbar_markers.specs.declared.call.Call.{Call}
+use Rattle.xbar_markers.specs.declared.call_records.CallRecords.{CallRecords}
+use Rattle.xbar_markers.specs.declared.queues.Queues.{Queues}
+use Rattle.xbar_markers.specs.declared.seat.Seat.{Seat}
+use Rattle.xbar_markers.specs.declared.share.Share.{Share}
+use Rattle.xbar_markers.specs.declared.task.Task.{Task}
+use Rattle.xbar_markers.specs.declared.worker.Worker.{Worker}
+use Rattle.xbar_markers.proofs.StaffKinds.{are_split}
+
+module _ {G : Type 0} where
+  -- the first seats are of the first desks, and the others of the others
+  pub first_seats : (n : ℕ) (befores : List DeskView) (seats : List (Seat DeskView G)) → AreSeatsOf befores seats → AreSeatsOf (take n befores) (take n seats)
+  first_seats zero befores seats are = tt
+  first_seats (suc n) [] [] are = tt
+  first_seats (suc n) [] (seat ∷ seats) are = absurd are
+  first_seats (suc n) (before ∷ befores) [] are = absurd are
+  first_seats (suc n) (before ∷ befores) (seat ∷ seats) are = (are.0, first_seats n befores seats are.1)
+
+  pub last_seats : (n : ℕ) (befores : List DeskView) (seats : List (Seat DeskView G)) → AreSeatsOf befores seats → AreSeatsOf (drop n befores) (drop n seats)
+  last_seats zero befores seats are = are
+  last_seats (suc n) [] [] are = tt
+  last_seats (suc n) [] (seat ∷ seats) are = absurd are
+  last_seats (suc n) (before ∷ befores) [] are = absurd are
+  last_seats (suc n) (before ∷ befores) (seat ∷ seats) are = last_seats n befores seats are.1
+
+  -- a seat of some kind is one of its desk's kind
+  abbrev AnySeat : FabricView → Queues → Seat DeskView G → Type 0
+  AnySeat fabric queues seat = IsSeat (desk_at seat).kind fabric queues seat
+
+  module _ (dialling completing : ℕ) (fabric : FabricView) (queues : Queues) (desks : List DeskView) (seats : List (Seat DeskView G))
+      (kinds : map (λ (d : DeskView). d.kind) desks ≡ kinds_of dialling completing) (theirs : map desk_at seats ≡ desks) (all : All (AnySeat fabric queues) seats) where
+    as_many : length seats ≡ dialling + completing
+    as_many =
+        let count = (are_split dialling completing desks kinds).count in
+        let same = ap (length {A = DeskView}) theirs in
+        omega (arith, count, same, length-map seats (λ (s : Seat DeskView G). desk_at s))
+
+    kind_at : (i : ℕ) (e : Seat DeskView G) → i < length seats → get_or desks i (desk_at e) ≡ desk_at (get_or seats i e)
+    kind_at i e below = sym (ap (λ (l : List DeskView). get_or l i (desk_at e)) theirs) ∙ get_or-map desk_at seats i e (desk_at e) below
+
+    pub diallers : All (IsSeat Dial fabric queues) (take dialling seats)
+    diallers i e below =
+        let count = as_many in
+        let near : i < dialling = omega (arith, below, length-take dialling seats) in
+        let within : i < length seats = omega (arith, near, count) in
+        let kind : (desk_at (get_or seats i e)).kind ≡ Dial = sym (ap (λ (d : DeskView). d.kind) (kind_at i e within)) ∙ (are_split dialling completing desks kinds).first i (desk_at e) near in
+        subst (IsSeat Dial fabric queues) (sym (get_or-take dialling seats i e near))
+        (subst (λ (k : Kind). IsSeat k fabric queues (get_or seats i e)) kind (all i e within))
+
+    pub completers : All (IsSeat Completing fabric queues) (drop dialling seats)
+    completers i e below =
+        let count = as_many in
+        let within : dialling + i < length seats = omega (arith, below, length-drop dialling seats, count) in
+        let kind : (desk_at (get_or seats (dialling + i) e)).kind ≡ Completing =
+        sym (ap (λ (d : DeskView). d.kind) (kind_at (dialling + i) e within))
+        ∙ (are_split dialling completing desks kinds).last (dialling + i) (desk_at e) (omega arith) (omega (arith, within, count)) in
+        subst (IsSeat Completing fabric queues) (sym (get_or-drop dialling seats i e))
+        (subst (λ (k : Kind). IsSeat k fabric queues (get_or seats (dialling + i) e)) kind (all (dialling + i) e within))
+
+    -- as many of each as there are desks of the kind
+    pub first_count : length (take dialling seats) ≡ dialling
+    first_count = let count = as_many in omega (arith, count, length-take dialling seats)
+
+    pub last_count : length (drop dialling seats) ≡ completing
+    last_count = let count = as_many in omega (arith, count, length-drop dialling seats)
+
+  abbrev worker_of : Seat DeskView G → Worker DeskView G
+  worker_of seat = seat.worker
+
+  -- the desks of the workers at seats are the desks at the seats
+  desks_there : (seats : List (Seat DeskView G)) → desks_at (map worker_of seats) ≡ map desk_at seats
+  desks_there [] = refl
+  desks_there (seat ∷ seats) = ap (λ (l : List DeskView). desk_at seat ∷ l) (desks_there seats)
+
+  -- who dials stands first
+  pub there_first : (fabric : FabricView) (queues : Queues) (dialled completed : List (Seat DeskView G)) → All (IsSeat Dial fabric queues) dialled → 0 < length dialled → IsThere Dial fabric (map worker_of dialled ++ map worker_of completed) 0
+  there_first fabric queues [] completed all some = absurd (omega (arith, some))
+  there_first fabric queues (seat ∷ dialled) completed all some =
+      let first = All-head (IsSeat Dial fabric queues) seat dialled all in
+      (first.ready, first.kind_is)
+
+  -- and behind them who completes calls
+  pub there_next : (fabric : FabricView) (queues : Queues) (dialled completed : List (Seat DeskView G)) → All (IsSeat Completing fabric queues) completed → 0 < length completed
+      → IsThere Completing fabric (map worker_of dialled ++ map worker_of completed) (length dialled)
+  there_next fabric queues [] [] all some = absurd (omega (arith, some))
+  there_next fabric queues [] (seat ∷ completed) all some =
+      let first = All-head (IsSeat Completing fabric queues) seat completed all in
+      (first.ready, first.kind_is)
+  there_next fabric queues (seat ∷ dialled) completed all some = there_next fabric queues dialled completed all some
+
+  -- what gathering the shares of seats does to a share
+  abbrev Gathers : List (Seat DeskView G) → Share → Share → Type 0
+  Gathers seats share after = (befores desks others : List DeskView) → IsShareOf befores desks share → AreSeatsOf others seats
+      → IsShareOf (befores ++ others) (desks ++ map desk_at seats) after
+
+  -- once all shares are in one, it is that of all desks
+  pub all_gathered : (n : ℕ) (befores : List DeskView) (seats first last dialled completed : List (Seat DeskView G)) (whole one two : Share) (workers : List (Worker DeskView G))
+      → AreSeatsOf befores seats → first ≡ take n seats → last ≡ drop n seats → StayOf first dialled → StayOf last completed → IsShareOf [] [] whole → Gathers dialled whole one → Gathers completed one two
+      → workers ≡ map worker_of dialled ++ map worker_of completed → IsShareOf befores (desks_at workers) two
+  all_gathered n befores seats first last dialled completed whole one two workers are first_is last_is stay_first stay_last none gathers_one gathers_two workers_are =
+      let of_first = stay_first (take n befores) (subst (AreSeatsOf (take n befores)) (sym first_is) (first_seats n befores seats are)) in
+      let of_last = stay_last (drop n befores) (subst (AreSeatsOf (drop n befores)) (sym last_is) (last_seats n befores seats are)) in
+      let both = gathers_two (take n befores) (map desk_at dialled) (drop n befores) (gathers_one [] [] (take n befores) none of_first) of_last in
+      let desks_are : desks_at workers ≡ map desk_at dialled ++ map desk_at completed =
+      ap desks_at workers_are ∙ map-append (λ (w : Worker DeskView G). w.desk) (map worker_of dialled) (map worker_of completed)
+      ∙ (λ i. desks_there dialled i ++ desks_there completed i) in
+      subst (λ (l : List DeskView). IsShareOf befores l two) (sym desks_are)
+      (subst (λ (l : List DeskView). IsShareOf l (map desk_at dialled ++ map desk_at completed) two) (take-append-drop n befores) both)
+
+  -- what one of the workers did, they all did
+  pub served_at : (k : ℕ) (workers : List (Worker DeskView G)) (w after : Worker DeskView G) (share share_after : Share) → slice_get workers k ≡ Some w → HasServed w.desk share after.desk share_after
+      → HaveServed workers share (slice_set workers k after) share_after
+  served_at k workers w after share share_after there served befores of =
+      let desk_there : slice_get (desks_at workers) k ≡ Some w.desk = slice_get-map (λ (x : Worker DeskView G). x.desk) workers k ∙ ap (option_map (λ (x : Worker DeskView G). x.desk)) there in
+      subst (λ (l : List DeskView). IsShareOf befores l share_after) (sym (map-set (λ (x : Worker DeskView G). x.desk) workers k after))
+      (served befores (desks_at workers) k desk_there of)
+
+-- what follows from what holds if all went well
+pub on_ok : {T E P Q : Type 0} (result : Result T E) → (P → Q) → OnOk result P → OnOk result Q
+on_ok (Ok value) f p = f p
+on_ok (Err why) f p = tt
+
+-- a share to which nothing came is nobody's
+pub nobodys : (share : Share) → share.calls.taken ≡ [] → share.tasks.taken ≡ [] → in_tasks share.tasks.put ≡ [] → share.kept.items ≡ [] → share.ended.items ≡ [] → IsShareOf [] [] share
+nobodys share no_calls no_tasks none_put none_kept none_ended =
+    let out_none : out_of share ≡ [] = λ i. none_put i ++ none_kept i ++ none_ended i in record {
+      done = [];
+      worked = λ h. refl;
+      balanced = record {
+        calls = λ h.
+            let taken : sum_by h share.calls.taken ≡ 0 = ap (sum_by h) no_calls in
+            let tasks : sum_by h (map (λ (c : CallRecords). c.call) (in_tasks share.tasks.taken)) ≡ 0 = ap (λ l. sum_by h (map (λ (c : CallRecords). c.call) (in_tasks l))) no_tasks in
+            let out : sum_by h (map (λ (c : CallRecords). c.call) (out_of share)) ≡ 0 = ap (λ (l : List CallRecords). sum_by h (map (λ (c : CallRecords). c.call) l)) out_none in
+            omega (arith, taken, tasks, out, sum_by-append h share.calls.taken (map (λ (c : CallRecords). c.call) (in_tasks share.tasks.taken)));
+        records = λ h.
+            let tasks : sum_by h (flat_map records_of (in_tasks share.tasks.taken)) ≡ 0 = ap (λ l. sum_by h (flat_map records_of (in_tasks l))) no_tasks in
+            let out : sum_by h (flat_map records_of (out_of share)) ≡ 0 = ap (λ (l : List CallRecords). sum_by h (flat_map records_of l)) out_none in
+            tasks ∙ sym out;
+      };
+      kept = subst (All HasDialTone) (sym none_kept) (λ i d below. absurd (omega (arith, below)));
+      ended = subst (All (IsServed (AreShort []))) (sym none_ended) (λ i d below. absurd (omega (arith, below)));
+    }
+
+-- nor is what is left of it once seats have their parts and the stops are put
+pub nobodys_after : (queues : Queues) (calls : List Call) (n : ℕ) (filled hired after : Share) → IsFilled queues calls filled → hired.calls ≡ with_fewer_parts filled.calls n → hired.tasks ≡ with_fewer_parts filled.tasks n
+    → hired.kept.items ≡ filled.kept.items → hired.ended.items ≡ filled.ended.items → HasStopped hired after → IsShareOf [] [] after
+nobodys_after queues calls n filled hired after is calls_are tasks_are kept_is ended_is stopped =
+    nobodys after
+    (ap (λ (s : Share). s.calls.taken) stopped.same ∙ ap (λ (t : TicketView Call). t.taken) calls_are ∙ ap (λ (t : TicketView Call). t.taken) is.calls_are)
+    (ap (λ (s : Share). s.tasks.taken) stopped.same ∙ ap (λ (t : TicketView Task). t.taken) tasks_are ∙ ap (λ (t : TicketView Task). t.taken) is.tasks)
+    (stopped.stops ∙ ap (λ (t : TicketView Task). in_tasks t.put) tasks_are ∙ ap (λ (t : TicketView Task). in_tasks t.put) is.tasks)
+    (ap (λ (s : Share). s.kept.items) stopped.same ∙ kept_is ∙ is.kept)
+    (ap (λ (s : Share). s.ended.items) stopped.same ∙ ended_is ∙ is.ended)

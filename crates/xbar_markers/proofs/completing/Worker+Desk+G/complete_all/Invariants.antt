@@ -1,0 +1,14 @@
+use Rattle.std.proofs.Common.{◌≡◌}
+use Rattle.xbar_core.specs.declared.kind.Kind.TheVariants.{Completing}
+use Rattle.xbar_markers.specs.Shares.{HasServed, HasTickets, MayUse}
+use Rattle.xbar_markers.specs.Work.{IsReady}
+use Rattle.xbar_markers.proofs.completing.Worker+Desk+G.complete_all.Given as goal
+
+abbrev pub invariant-loop : goal.invariant-loop
+invariant-loop g l = record {
+  may : MayUse l.share l.queues;
+  ready : IsReady l.self.desk l.fabric;
+  kind : l.self.desk.kind ≡ Completing;
+  tickets : HasTickets l.initial.share l.share;
+  served : HasServed l.initial.self.desk l.initial.share l.self.desk l.share;
+}

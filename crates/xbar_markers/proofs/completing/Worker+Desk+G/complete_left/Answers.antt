@@ -1,0 +1,32 @@
+use Rattle.std.proofs.Common.{◌∙◌, refl}
+use Rattle.xbar_markers.proofs.HeldTickets.{may_on, tickets_on, tickets_same}
+use Rattle.xbar_markers.proofs.Serving.{served_none, served_on}
+use Rattle.xbar_markers.proofs.completing.Worker+Desk+G.complete_left.Goals as goal
+
+pub loop-init : goal.loop-init
+loop-init g c = record {
+  may = c.requires.may;
+  ready = c.requires.ready;
+  kind = c.requires.kind;
+  tickets = tickets_same c.args.share.now;
+  same_kept = refl;
+  same_calls = refl;
+  served = served_none c.args.self.now.desk c.args.share.now;
+}
+
+pub returns-then-eq-clause-served : goal.returns-then-eq-clause-served
+returns-then-eq-clause-served g c =
+    served_on c.args.self.now.desk c.loop.self.desk c.complete_next.new.self.desk c.args.share.now c.loop.share c.complete_next.new.share c.loop.invariant.served c.in_ok-complete_next.ensures.served
+
+pub loop-preserved : goal.loop-preserved
+loop-preserved g c =
+    let inv = c.loop.invariant in
+    let next = c.in_ok-complete_next.ensures in record {
+      may = may_on next.tickets inv.may;
+      ready = next.ready;
+      kind = next.kind;
+      tickets = tickets_on inv.tickets next.tickets;
+      same_kept = next.kept ∙ inv.same_kept;
+      same_calls = next.calls ∙ inv.same_calls;
+      served = served_on c.args.self.now.desk c.loop.self.desk c.complete_next.new.self.desk c.args.share.now c.loop.share c.complete_next.new.share inv.served next.served;
+    }

@@ -1,0 +1,29 @@
+use Rattle.std.proofs.Common.{ap, refl}
+use Rattle.xbar_markers.specs.Calls.{HasDialTone, is_dial_tone}
+use Rattle.xbar_markers.proofs.ServedSteps.{dialled_ended, dialled_passed}
+use Rattle.xbar_markers.proofs.Serving.{served_none}
+use Rattle.xbar_markers.proofs.Tones.{not_tone}
+use Rattle.xbar_markers.proofs.Works.{done_worked}
+use Rattle.xbar_markers.proofs.dialling.Worker+Desk+G.dial_next.Goals as goal
+
+pub returns-in_default-clause-served : goal.returns-in_default-clause-served
+returns-in_default-clause-served g c =
+    rw c.in_default.ensures.none (served_none c.args.self.now.desk c.args.share.now)
+
+pub returns-in_ok-pass_on-clause-served : goal.returns-in_ok-pass_on-clause-served
+returns-in_ok-pass_on-clause-served g c =
+    let dialled = c.dial-call.ensures.dialled in
+    let tone : HasDialTone c.dial-call.result = record { dialled = dialled; tone = ap is_dial_tone c.in-DialTone.is } in
+    dialled_passed c.args.self.now.desk c.dial-call.new.self.desk c.in-Some.call c.dial-call.result c.args.share.now record c.args.share.now { calls = c.try_take.new.ticket } c.pass_on.new.self
+    record { calls = c.in-Some.ensures.taken; tasks = refl; kept = refl; ended = refl }
+    c.in_ok-pass_on.ensures.passed c.dial-call.ensures.call tone
+    (done_worked c.dial-call.ensures.done (rw c.requires.kind refl))
+
+pub returns-in_ok-push-clause-served : goal.returns-in_ok-push-clause-served
+returns-in_ok-push-clause-served g c =
+    dialled_ended c.args.self.now.desk c.dial-call.new.self.desk c.in-Some.call c.dial-call.result c.args.share.now record c.args.share.now { calls = c.try_take.new.ticket } record c.args.share.now { calls = c.try_take.new.ticket; ended = c.push.new.self }
+    record { calls = c.in-Some.ensures.taken; tasks = refl; kept = refl; ended = refl }
+    record { calls = refl; tasks = refl; kept = refl; ended = c.in_ok-push.ensures.items }
+    c.dial-call.ensures.call c.dial-call.ensures.dialled
+    (not_tone c.dial-call.result.dial.reply.end c.in_default-end.not-DialTone)
+    (done_worked c.dial-call.ensures.done (rw c.requires.kind refl))

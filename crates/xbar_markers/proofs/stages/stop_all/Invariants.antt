@@ -1,0 +1,5 @@
+use Rattle.xbar_markers.specs.Shares.{HasStopped}
+use Rattle.xbar_markers.proofs.stages.stop_all.Given as goal
+
+abbrev pub invariant-loop : goal.invariant-loop
+invariant-loop g l = HasStopped l.fn.whole l.whole

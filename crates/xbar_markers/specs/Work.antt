@@ -1,0 +1,64 @@
+-- What desks have done between two moments.
+use Rattle.std.specs.Prelude.{◌≡◌, ℕ, ◌≤◌, ◌<◌, ◌^◌, Option, Some, IfSome, true, List, [], ◌∷◌, ◌++◌, All, length}
+use Rattle.fair_queue.specs.Items.{SameItems}
+use Rattle.desks.specs.Parts.{Begins}
+use Rattle.xbar_office.specs.declared.job.Job.{Job}
+use Rattle.xbar_office.specs.declared.reply.Record.{Record}
+use Rattle.xbar_core.specs.Exchange.{is_idle}
+use Rattle.xbar_core.specs.declared.event.Event.{Event}
+use Rattle.xbar_core.specs.declared.event.Event.TheVariants.{Finished}
+use Rattle.xbar_fabric.specs.Advances.{HasAdvanced}
+use Rattle.xbar_core.specs.Kinds.{takes}
+use Rattle.xbar_fabric.specs.Histories.{job_at, turned_of}
+use Rattle.xbar_fabric.specs.Views.{DeskView, FabricView, IsDeskOf, mine}
+
+-- the desk is at this job under this number, and has done nothing else since this start: its own
+-- records are more by just the job's, once that has turned
+pub record IsDoing (number : ℕ) (job : Job) (start desk : DeskView) : Type 0 where
+  pub same : desk ≡ record start { work = desk.work; seen = desk.seen }
+  pub seen : Begins start.seen desk.seen
+  pub mine_are : mine desk ≡ mine start ++ turned_of desk
+  pub at : job_at desk.work ≡ Some (number, job)
+
+-- the desk did this job under this number, and nothing else
+pub record HasDone (before after : DeskView) (number : ℕ) (job : Job) (r : Record) : Type 0 where
+  pub same : after ≡ record before { work = after.work; seen = after.seen }
+  pub idle : is_idle after.work ≡ true
+  pub seen : Begins before.seen after.seen
+  pub mine_are : mine after ≡ mine before ++ r ∷ []
+  pub marker : r.marker ≡ before.marker
+  pub number_is : r.job_no ≡ number
+  pub job_is : r.job ≡ job
+  pub turn : length after.seen < 2 ^ 64 → (length before.seen ≤ r.turn) × (r.turn < length after.seen)
+
+-- the desk has worked, and is idle again: its own records are these more, of jobs that it takes
+pub record HasWorked (before after : DeskView) (its : List Record) : Type 0 where
+  pub same : after ≡ record before { work = after.work; seen = after.seen }
+  pub idle : is_idle after.work ≡ true
+  pub seen : Begins before.seen after.seen
+  pub mine_are : mine after ≡ mine before ++ its
+  pub taken : All (λ r. takes before.kind r.job ≡ true) its
+
+-- each of the desks has worked, and all their records together are these
+abbrev pub HaveWorked : List DeskView → List DeskView → List Record → Type 0
+HaveWorked [] [] records = SameItems [] records
+HaveWorked (before ∷ befores) (after ∷ afters) records =
+    (its : List Record) × (others : List Record) × SameItems (its ++ others) records
+    × HasWorked before after its × HaveWorked befores afters others
+HaveWorked _ _ records = ⊥
+
+-- each has seen fewer turns than turn numbers tell apart
+abbrev pub AreShort : List DeskView → Type 0
+AreShort desks = All (λ desk. length desk.seen < 2 ^ 64) desks
+
+-- an idle desk of these shared words
+pub record IsReady (desk : DeskView) (fabric : FabricView) : Type 0 where
+  pub desk_of : IsDeskOf desk fabric
+  pub idle : is_idle desk.work ≡ true
+
+-- the desk advanced, and this record is what it was told, if its job ended
+pub record HasStepped (before after : DeskView) (told : Option Record) : Type 0 where
+  pub event : Event
+  pub advanced : HasAdvanced before after event
+  pub same : after ≡ record before { work = after.work; seen = after.seen }
+  pub told_is : IfSome told (λ r. event ≡ Finished r)

@@ -1,0 +1,174 @@
+//! What those workers do who complete calls and release them.
+
+ghost use Rattle.std.specs.Prelude.{◌≡◌, ◌+◌, ◌*◌, ◌++◌, [], All, OnOk, Ok};
+ghost use Rattle.fair_queue.specs.Items.{SameItems};
+ghost use Rattle.fair_queue.specs.Tickets.{IsWhole};
+ghost use Rattle.xbar_core.specs.declared.kind.Kind.TheVariants.{Completing};
+ghost use Rattle.xbar_markers.specs.Calls.{HasDialTone, is_connected as is_connected_end};
+ghost use Rattle.xbar_markers.specs.Shares.{AreOpen, HasCompleted, HasServed, HasTickets, MayUse};
+ghost use Rattle.xbar_markers.specs.Work.{IsReady};
+ghost use Rattle.xbar_markers.specs.declared.completing.Next.TheVariants.{Nothing};
+
+use crate::call_records::CallRecords;
+use crate::gate::Gate;
+use crate::queues::Queues;
+use crate::share::Share;
+use crate::task::Task;
+use crate::worker::Worker;
+use std::alloc::AllocError;
+use std::sync::Wait;
+use xbar_fabric::{Desk, Fabric};
+use xbar_office::{End, Job, Record};
+
+/// What came from the second queue.
+#[derive(Clone, Copy, PartialEq)]
+enum Next {
+    Call,
+    Stop,
+    Nothing,
+}
+
+fn is_connected(complete: &Record) -> bool
+    ensures { result ≡ is_connected_end complete.now.reply.end }
+{
+    matches!(complete.reply.end, End::Connected { .. })
+}
+
+impl<G: Gate + Drop> Worker<Desk, G> {
+    /// Does what is left to do for a call whose line has dial tone.
+    fn complete<R: Wait>(&mut self, rt: &R, fabric: &Fabric, call: CallRecords) -> CallRecords
+        requires ready { IsReady self.old.desk fabric.now }
+        requires kind { self.old.desk.kind ≡ Completing }
+        requires tone { HasDialTone call }
+        ensures { HasCompleted self.old.desk self.new.desk call result }
+    {
+        let CallRecords { call, dial, .. } = call;
+        let first = 3 * call.call_no;
+        let complete = self.do_job(rt, fabric, first + 1, Job::Complete(call.line, call.digits));
+        let release = if call.release && is_connected(&complete) {
+            Some(self.do_job(rt, fabric, first + 2, Job::Release(call.line)))
+        } else {
+            None
+        };
+        CallRecords {
+            call,
+            dial,
+            complete: Some(complete),
+            release,
+        }
+    }
+
+    /// Takes a task, waiting for one if so asked, and does it. Tells what came.
+    fn complete_next<R: Wait>(
+        &mut self,
+        rt: &R,
+        fabric: &Fabric,
+        queues: &Queues,
+        share: &mut Share,
+        wait: bool,
+    ) -> Result<Next, AllocError>
+        requires open { AreOpen queues.now }
+        requires may { MayUse share.old queues.now }
+        requires ready { IsReady self.old.desk fabric.now }
+        requires kind { self.old.desk.kind ≡ Completing }
+        ensures ready { IsReady self.new.desk fabric.now }
+        ensures kind { self.new.desk.kind ≡ Completing }
+        ensures tickets { HasTickets share.old share.new }
+        ensures put { share.new.tasks.put ≡ share.old.tasks.put }
+        ensures calls { share.new.calls ≡ share.old.calls }
+        ensures kept { share.new.kept.items ≡ share.old.kept.items }
+        ensures served { OnOk result (HasServed self.old.desk share.old self.new.desk share.new) }
+        ensures nothing { result ≡ Ok Nothing → IsWhole share.old.tasks →
+            SameItems share.new.tasks.put share.new.tasks.taken }
+    {
+        let task = if wait {
+            queues.tasks_out.take(rt, &mut share.tasks)
+        } else {
+            queues.tasks_out.try_take(rt, &mut share.tasks)
+        };
+        match task {
+            None => Ok(Next::Nothing),
+            Some(Task::Stop) => Ok(Next::Stop),
+            Some(Task::Complete(call)) => {
+                share.ended.push(self.complete(rt, fabric, call))?;
+                Ok(Next::Call)
+            }
+        }
+    }
+
+    /// Completes calls until it is told to stop.
+    pub fn complete_all<R: Wait>(
+        &mut self,
+        rt: &R,
+        fabric: &Fabric,
+        queues: &Queues,
+        share: &mut Share,
+    ) -> Result<(), AllocError>
+        requires open { AreOpen queues.now }
+        requires may { MayUse share.old queues.now }
+        requires ready { IsReady self.old.desk fabric.now }
+        requires kind { self.old.desk.kind ≡ Completing }
+        ensures ready { IsReady self.new.desk fabric.now }
+        ensures kind { self.new.desk.kind ≡ Completing }
+        ensures tickets { HasTickets share.old share.new }
+        ensures served { OnOk result (HasServed self.old.desk share.old self.new.desk share.new) }
+    {
+        for _ in rt.forever() {
+            if self.complete_next(rt, fabric, queues, share, true)? != Next::Call {
+                return Ok(());
+            }
+        }
+        unreachable!()
+    }
+
+    /// Completes the calls that are still in the second queue, and doesn't wait for more.
+    pub fn complete_left<R: Wait>(
+        &mut self,
+        rt: &R,
+        fabric: &Fabric,
+        queues: &Queues,
+        share: &mut Share,
+    ) -> Result<(), AllocError>
+        requires open { AreOpen queues.now }
+        requires may { MayUse share.old queues.now }
+        requires ready { IsReady self.old.desk fabric.now }
+        requires kind { self.old.desk.kind ≡ Completing }
+        ensures ready { IsReady self.new.desk fabric.now }
+        ensures kind { self.new.desk.kind ≡ Completing }
+        ensures tickets { HasTickets share.old share.new }
+        ensures calls { share.new.calls ≡ share.old.calls }
+        ensures kept { share.new.kept.items ≡ share.old.kept.items }
+        ensures served { OnOk result (HasServed self.old.desk share.old self.new.desk share.new) }
+        ensures nothing { OnOk result (IsWhole share.old.tasks →
+            SameItems share.new.tasks.put share.new.tasks.taken) }
+    {
+        for _ in rt.forever() {
+            if self.complete_next(rt, fabric, queues, share, false)? == Next::Nothing {
+                return Ok(());
+            }
+        }
+        unreachable!()
+    }
+
+    /// Completes the calls that the second queue handed back.
+    pub fn complete_kept<R: Wait>(
+        &mut self,
+        rt: &R,
+        fabric: &Fabric,
+        share: &mut Share,
+    ) -> Result<(), AllocError>
+        requires ready { IsReady self.old.desk fabric.now }
+        requires kind { self.old.desk.kind ≡ Completing }
+        requires kept { All HasDialTone share.old.kept.items }
+        ensures ready { IsReady self.new.desk fabric.now }
+        ensures kind { self.new.desk.kind ≡ Completing }
+        ensures tickets { (share.new.calls ≡ share.old.calls) × (share.new.tasks ≡ share.old.tasks) }
+        ensures none { OnOk result (share.new.kept.items ≡ []) }
+        ensures served { OnOk result (HasServed self.old.desk share.old self.new.desk share.new) }
+    {
+        while let Some(call) = share.kept.pop() {
+            share.ended.push(self.complete(rt, fabric, call))?;
+        }
+        Ok(())
+    }
+}

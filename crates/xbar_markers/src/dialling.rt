@@ -1,0 +1,101 @@
+//! What those workers do who take calls at the beginning.
+
+ghost use Rattle.std.specs.Prelude.{◌≡◌, ◌+◌, ◌*◌, OnOk, Ok, None, false};
+ghost use Rattle.fair_queue.specs.Items.{SameItems};
+ghost use Rattle.fair_queue.specs.Tickets.{IsWhole};
+ghost use Rattle.xbar_office.specs.declared.job.Job.TheVariants as job;
+ghost use Rattle.xbar_core.specs.declared.kind.Kind.TheVariants.{Dial};
+ghost use Rattle.xbar_markers.specs.Calls.{HasCallNo, IsDialled};
+ghost use Rattle.xbar_markers.specs.Shares.{AreOpen, HasServed, HasTickets, MayUse};
+ghost use Rattle.xbar_markers.specs.Work.{HasDone, IsReady};
+
+use crate::call::Call;
+use crate::call_records::CallRecords;
+use crate::gate::Gate;
+use crate::queues::Queues;
+use crate::share::Share;
+use crate::worker::Worker;
+use std::alloc::AllocError;
+use std::sync::Wait;
+use xbar_fabric::{Desk, Fabric};
+use xbar_office::{End, Job};
+
+impl<G: Gate + Drop> Worker<Desk, G> {
+    /// Does a call's first job.
+    fn dial<R: Wait>(&mut self, rt: &R, fabric: &Fabric, call: Call) -> CallRecords
+        requires ready { IsReady self.old.desk fabric.now }
+        requires kind { self.old.desk.kind ≡ Dial }
+        requires call_no { HasCallNo call }
+        ensures call { result.call ≡ call }
+        ensures dialled { IsDialled result }
+        ensures done { HasDone self.old.desk self.new.desk (3 * call.call_no) (job.Dial call.line)
+            result.dial }
+    {
+        let dial = self.do_job(rt, fabric, 3 * call.call_no, Job::Dial(call.line));
+        CallRecords {
+            call,
+            dial,
+            complete: None,
+            release: None,
+        }
+    }
+
+    /// Takes a call, does its first job, and passes it on if its line has dial tone. Tells whether
+    /// there was a call.
+    fn dial_next<R: Wait>(
+        &mut self,
+        rt: &R,
+        fabric: &Fabric,
+        queues: &Queues,
+        share: &mut Share,
+    ) -> Result<bool, AllocError>
+        requires open { AreOpen queues.now }
+        requires may { MayUse share.old queues.now }
+        requires ready { IsReady self.old.desk fabric.now }
+        requires kind { self.old.desk.kind ≡ Dial }
+        ensures ready { IsReady self.new.desk fabric.now }
+        ensures kind { self.new.desk.kind ≡ Dial }
+        ensures tickets { HasTickets share.old share.new }
+        ensures served { OnOk result (HasServed self.old.desk share.old self.new.desk share.new) }
+        ensures none { result ≡ Ok false → IsWhole share.old.calls →
+            SameItems share.new.calls.put share.new.calls.taken }
+    {
+        let Some(call) = queues.calls_out.try_take(rt, &mut share.calls) else {
+            return Ok(false);
+        };
+        let call = self.dial(rt, fabric, call);
+        if let End::DialTone { .. } = call.dial.reply.end {
+            share.pass_on(rt, queues, call)?;
+        } else {
+            share.ended.push(call)?;
+        }
+        Ok(true)
+    }
+
+    /// Does the first jobs of calls until there are no more.
+    pub fn dial_all<R: Wait>(
+        &mut self,
+        rt: &R,
+        fabric: &Fabric,
+        queues: &Queues,
+        share: &mut Share,
+    ) -> Result<(), AllocError>
+        requires open { AreOpen queues.now }
+        requires may { MayUse share.old queues.now }
+        requires ready { IsReady self.old.desk fabric.now }
+        requires kind { self.old.desk.kind ≡ Dial }
+        ensures ready { IsReady self.new.desk fabric.now }
+        ensures kind { self.new.desk.kind ≡ Dial }
+        ensures tickets { HasTickets share.old share.new }
+        ensures served { OnOk result (HasServed self.old.desk share.old self.new.desk share.new) }
+        ensures none { OnOk result (IsWhole share.old.calls →
+            SameItems share.new.calls.put share.new.calls.taken) }
+    {
+        for _ in rt.forever() {
+            if !self.dial_next(rt, fabric, queues, share)? {
+                return Ok(());
+            }
+        }
+        unreachable!()
+    }
+}

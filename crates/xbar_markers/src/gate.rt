@@ -1,0 +1,19 @@
+/// Told of a marker's steps and jobs by the thread that makes them. It may wait.
+pub trait Gate {
+    /// Before each step, with the number of steps that the marker has made before, which stays at
+    /// `u64::MAX` once it is there.
+    fn pass(&mut self, marker: u32, step: u64);
+
+    /// After each job.
+    fn finished(&mut self, marker: u32, job_no: u32);
+}
+
+/// A gate that does nothing.
+#[derive(Clone, Copy, Debug, Default)]
+pub struct OpenGate;
+
+impl Gate for OpenGate {
+    fn pass(&mut self, _marker: u32, _step: u64) {}
+
+    fn finished(&mut self, _marker: u32, _job_no: u32) {}
+}

@@ -1,0 +1,76 @@
+//! What is left in workers' hands at the end of a run.
+
+ghost use Rattle.std.specs.Prelude.{◌≡◌, ◌++◌, IfOk, IsPermutation, OnOk, flat_map, length, map};
+ghost use Rattle.std.specs.List.Sorted.{IsNonDecreasingBy};
+ghost use Rattle.fair_queue.specs.Items.{SameItems};
+ghost use Rattle.xbar_markers.specs.Calls.{records_of};
+
+use crate::call_records::CallRecords;
+use crate::worker::Worker;
+use std::alloc::{AllocError, Global};
+use xbar_fabric::Desk;
+use xbar_office::Record;
+
+/// Puts a call's records behind others.
+fn put_records(records: &mut Vec<Record>, call: CallRecords) -> Result<(), AllocError>
+    ensures { OnOk result (records.new.items ≡ records.old.items ++ records_of call) }
+{
+    let CallRecords {
+        dial,
+        complete,
+        release,
+        ..
+    } = call;
+    records.push(dial)?;
+    if let Some(complete) = complete {
+        records.push(complete)?;
+    }
+    if let Some(release) = release {
+        records.push(release)?;
+    }
+    Ok(())
+}
+
+/// The records of all calls, one call behind the other.
+fn all_records(alloc: Global, calls: Vec<CallRecords>) -> Result<Vec<Record>, AllocError>
+    ensures { IfOk result (λ records. records.items ≡ flat_map records_of calls.items) }
+{
+    let mut records = Vec::new(alloc);
+    for call in calls {
+        put_records(&mut records, call)?;
+    }
+    Ok(records)
+}
+
+fn sort_by_turn(records: &mut [Record])
+    ensures permuted { IsPermutation records.old records.new }
+    ensures count { length records.new ≡ length records.old }
+    ensures order { IsNonDecreasingBy (λ r. r.turn) records.new }
+{
+    records.sort_unstable_by_key(|record| record.turn);
+}
+
+/// The records of all calls, in the order of their turns.
+pub fn in_turn_order(alloc: Global, calls: Vec<CallRecords>) -> Result<Vec<Record>, AllocError>
+    ensures records { IfOk result (λ records.
+        SameItems (flat_map records_of calls.items) records.items) }
+    ensures order { IfOk result (λ records. IsNonDecreasingBy (λ r. r.turn) records.items) }
+{
+    let mut records = all_records(alloc, calls)?;
+    sort_by_turn(records.as_mut_slice());
+    Ok(records)
+}
+
+/// The desks of workers, in their order.
+pub fn desks_of<G: Drop>(
+    alloc: Global,
+    workers: Vec<Worker<Desk, G>>,
+) -> Result<Vec<Desk>, AllocError>
+    ensures { IfOk result (λ desks. desks.items ≡ map (λ worker. worker.desk) workers.items) }
+{
+    let mut desks = Vec::with_capacity(alloc, workers.len())?;
+    for worker in workers {
+        desks.push(worker.desk)?;
+    }
+    Ok(desks)
+}

@@ -1,0 +1,188 @@
+//! A job that one worker begins and another brings to its end.
+
+ghost use Rattle.std.specs.Prelude.{◌≡◌, ℕ, Some, None, MatchResult, true, false};
+ghost use Rattle.std.specs.Thread.{IsSend, IsSync};
+ghost use Rattle.xbar_office.specs.Legal.{IsJob};
+ghost use Rattle.xbar_core.specs.Moves.{refusal_of};
+ghost use Rattle.xbar_fabric.specs.Views.{DeskView, IsDeskOf, marker_of};
+ghost use Rattle.xbar_markers.specs.Handing.{HasGiven, IsAtHand, IsBegun, IsHanded};
+ghost use Rattle.xbar_markers.specs.Work.{HasDone, IsDoing};
+
+use crate::worker::make_step;
+use std::sync::Wait;
+use std::thread::{Threads, join};
+use xbar_fabric::{AssignFault, Desk, Fabric, Given};
+use xbar_office::{Job, Record};
+
+/// What the second worker does with a job that the first has not ended.
+#[derive(Clone, Copy, Debug, PartialEq, Eq)]
+pub enum Then {
+    /// It brings the job to its end.
+    Finish,
+    /// It gives back what the desk holds, unless the job is past its turn: then it ends it.
+    GiveBack,
+}
+
+/// What came of a job that was handed over.
+#[derive(Debug, Drop, PartialEq, Eq)]
+pub enum Handed {
+    Finished(Record),
+    /// The desk holds nothing, and is at the beginning of its job.
+    Given,
+}
+
+/// Why a job can't be handed over, with the desk, unchanged.
+#[derive(Drop)]
+pub struct HandFault {
+    pub desk: Desk,
+    pub why: AssignFault,
+}
+
+/// Makes the desk's next step, and gives the record of a job that it ends.
+fn step_on(fabric: &Fabric, desk: &mut Desk) -> Option<Record>
+    requires { IsDeskOf desk.old fabric.now }
+    ensures desk { IsDeskOf desk.new fabric.now }
+    ensures hand { (before : DeskView) (number : ℕ) (job : Job) →
+        IsDoing number job before desk.old → IsAtHand before number job desk.new result }
+{
+    // Called for their clauses alone.
+    xbar_fabric::laws::own_records_are_of_own_jobs();
+    xbar_fabric::laws::next_records_have_later_turns();
+    let ended = make_step(fabric, desk);
+    let _marker = desk.marker();
+    ended
+}
+
+/// What the first worker does: it has the record if the job ends within so many steps.
+fn begin(
+    fabric: &Fabric,
+    mut desk: Desk,
+    job_no: u32,
+    job: Job,
+    stop: u32,
+) -> (Desk, Result<Option<Record>, AssignFault>)
+    requires desk { IsDeskOf desk fabric.now }
+    requires job { IsJob job }
+    ensures desk { IsDeskOf result.0 fabric.now }
+    ensures begun { IsBegun desk job_no job result.0 result.1 }
+{
+    if let Err(why) = desk.assign(job_no, job) {
+        return (desk, Err(why));
+    }
+    for _ in 0..stop {
+        if let Some(record) = step_on(fabric, &mut desk) {
+            return (desk, Ok(Some(record)));
+        }
+    }
+    (desk, Ok(None))
+}
+
+fn bring_to_end<R: Wait>(rt: &R, fabric: &Fabric, desk: &mut Desk) -> Record
+    requires { IsDeskOf desk.old fabric.now }
+    ensures { (before : DeskView) (number : ℕ) (job : Job) →
+        IsDoing number job before desk.old → HasDone before desk.new number job result }
+{
+    for _ in rt.forever() {
+        if let Some(record) = step_on(fabric, desk) {
+            return record;
+        }
+    }
+    unreachable!()
+}
+
+/// Has the desk give back what it holds, unless it is past its turn. Tells whether it did.
+fn gives_back(fabric: &Fabric, desk: &mut Desk) -> bool
+    requires { IsDeskOf desk.old fabric.now }
+    ensures given { result ≡ true → (before : DeskView) (number : ℕ) (job : Job) →
+        IsDoing number job before desk.old → HasGiven before desk.new number job }
+    ensures kept { result ≡ false → desk.new ≡ desk.old }
+{
+    // Called for its clauses alone.
+    xbar_fabric::laws::own_records_are_of_own_jobs();
+    match desk.give_back(fabric) {
+        Given::Given => true,
+        Given::PastTurn | Given::Idle => false,
+    }
+}
+
+/// What the second worker does with a job that the first began, and, if it has ended, its record.
+fn go_on<R: Wait>(
+    rt: &R,
+    fabric: &Fabric,
+    mut desk: Desk,
+    ended: Option<Record>,
+    then: Then,
+) -> (Desk, Handed)
+    requires { IsDeskOf desk fabric.now }
+    ensures { (before : DeskView) (number : ℕ) (job : Job) →
+        IsAtHand before number job desk ended →
+        IsHanded before number job then result.0 result.1 }
+{
+    if let Some(record) = ended {
+        return (desk, Handed::Finished(record));
+    }
+    if let Then::GiveBack = then {
+        if gives_back(fabric, &mut desk) {
+            return (desk, Handed::Given);
+        }
+    }
+    let record = bring_to_end(rt, fabric, &mut desk);
+    (desk, Handed::Finished(record))
+}
+
+/// Does the work on a thread of its own, where one can be made.
+fn on_thread<A: Send + Drop, B: Send, F: Fn(A) -> B + Sync, R: Threads>(
+    rt: &R,
+    work: &F,
+    on: A,
+) -> B
+    requires { F.pre work.now on }
+    ensures { F.post work.now on result }
+{
+    let (made, ()) = join(
+        rt,
+        move || -> B
+            requires { IsSync F.row × IsSend A.row × F.pre work.now on }
+            ensures { F.post work.entry.now on result }
+        { work(on) },
+        || (),
+    );
+    made
+}
+
+/// A first worker assigns the job to the desk and makes so many of its steps, fewer if the job ends.
+/// The desk then moves to a second worker, on another thread, which goes on from there. Where no
+/// thread can be made, the calling one does the work.
+pub fn hand_over<R: Threads + Wait + Sync>(
+    rt: &R,
+    fabric: &Fabric,
+    desk: Desk,
+    job_no: u32,
+    job: Job,
+    stop: u32,
+    then: Then,
+) -> Result<(Desk, Handed), HandFault>
+    requires desk { IsDeskOf desk fabric.now }
+    requires job { IsJob job }
+    ensures { MatchResult result
+        (λ handed. (refusal_of (marker_of desk) job ≡ None)
+        × IsHanded desk job_no job then handed.0 handed.1)
+        (λ fault. (refusal_of (marker_of desk) job ≡ Some fault.why) × (fault.desk ≡ desk)) }
+{
+    let first = |desk: Desk| -> (Desk, Result<Option<Record>, AssignFault>)
+        requires { IsDeskOf desk fabric.now × IsJob job }
+        ensures { IsDeskOf result.0 fabric.entry.now × IsBegun desk job_no job result.0 result.1 }
+    { begin(fabric, desk, job_no, job, stop) };
+    let (desk, begun) = on_thread(rt, &first, desk);
+    let ended = match begun {
+        Ok(ended) => ended,
+        Err(why) => return Err(HandFault { desk, why }),
+    };
+    let second = |(desk, ended): (Desk, Option<Record>)| -> (Desk, Handed)
+        requires { IsSync R.row × IsDeskOf desk fabric.now }
+        ensures { (before : DeskView) (number : ℕ) (job : Job)
+            → IsAtHand before number job desk ended
+            → IsHanded before number job then result.0 result.1 }
+    { go_on(rt, fabric, desk, ended, then) };
+    Ok(on_thread(rt, &second, (desk, ended)))
+}

@@ -1,0 +1,38 @@
+ghost use Rattle.std.specs.Prelude.{◌≤◌, IfOk};
+ghost use Rattle.xbar_markers.specs.Shares.{AreOpen, IsNewShare};
+
+use crate::call::Call;
+use crate::share::Share;
+use crate::task::Task;
+use fair_queue::{Inlet, Outlet, bounded};
+use std::alloc::{AllocError, Global};
+
+/// The two queues: calls to those who dial, and from them to those who complete.
+#[derive(Drop)]
+pub struct Queues {
+    pub calls_in: Inlet<Call>,
+    pub calls_out: Outlet<Call>,
+    pub tasks_in: Inlet<Task>,
+    pub tasks_out: Outlet<Task>,
+}
+
+impl Queues {
+    /// Queues for so many calls and so many workers, with the share of all parts. The second has room
+    /// for the stops too.
+    pub fn open(alloc: Global, calls: usize, workers: usize) -> Result<(Queues, Share), AllocError>
+        ensures open { IfOk result (λ opened. AreOpen opened.0) }
+        ensures room { IfOk result (λ opened. calls ≤ opened.0.calls_in.capacity) }
+        ensures share { IfOk result (λ opened. IsNewShare opened.0 opened.1) }
+    {
+        let (calls_in, calls_out, calls_ticket) = bounded(alloc, calls.max(1))?;
+        let room = calls.saturating_add(workers).max(1);
+        let (tasks_in, tasks_out, tasks_ticket) = bounded(alloc, room)?;
+        let queues = Queues {
+            calls_in,
+            calls_out,
+            tasks_in,
+            tasks_out,
+        };
+        Ok((queues, Share::new(alloc, calls_ticket, tasks_ticket)))
+    }
+}

@@ -1,0 +1,23 @@
+ghost use Rattle.std.specs.Prelude.{◌≡◌};
+ghost use Rattle.xbar_markers.specs.declared.run_fault.RunFault.TheVariants.{Memory};
+
+use std::alloc::AllocError;
+use thiserror::Error;
+
+/// Why calls can't be done.
+#[derive(Debug, Drop, Clone, Copy, PartialEq, Eq, Error)]
+pub enum RunFault {
+    /// There is at least one marker of each kind, and at most 48 in all.
+    #[error("calls want a marker of each kind, and an office has at most 48")]
+    Markers,
+    #[error("memory ran out")]
+    Memory,
+}
+
+impl From<AllocError> for RunFault {
+    ghost from_gives = { λ _ fault. fault ≡ Memory };
+
+    fn from(_why: AllocError) -> Self {
+        RunFault::Memory
+    }
+}

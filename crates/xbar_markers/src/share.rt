@@ -1,0 +1,98 @@
+ghost use Rattle.std.specs.Prelude.{◌≡◌, ◌<◌, ◌++◌, [], ◌∷◌, OnOk};
+ghost use Rattle.fair_queue.specs.Tickets.{new_ticket, ticket_of_both, with_fewer_parts};
+ghost use Rattle.xbar_markers.specs.Calls.{HasDialTone};
+ghost use Rattle.xbar_markers.specs.Shares.{HasPassedOn, HasTickets, MayUse};
+
+use crate::call::Call;
+use crate::call_records::CallRecords;
+use crate::queues::Queues;
+use crate::task::Task;
+use fair_queue::Ticket;
+use std::alloc::{AllocError, Global};
+use std::sync::Wait;
+
+/// A worker's share of the work: what came to it through the queues, and what became of that.
+#[derive(Drop)]
+pub struct Share {
+    pub calls: Ticket<Call>,
+    pub tasks: Ticket<Task>,
+    /// Calls whose lines have dial tone, which the second queue handed back.
+    pub kept: Vec<CallRecords>,
+    /// Calls for which all is done.
+    pub ended: Vec<CallRecords>,
+}
+
+impl Share {
+    /// A share that was given these tickets, and nothing came to yet.
+    pub fn new(alloc: Global, calls: Ticket<Call>, tasks: Ticket<Task>) -> Share
+        ensures tickets { (result.calls ≡ calls) × (result.tasks ≡ tasks) }
+        ensures none { (result.kept.items ≡ []) × (result.ended.items ≡ []) }
+    {
+        Share {
+            calls,
+            tasks,
+            kept: Vec::new(alloc),
+            ended: Vec::new(alloc),
+        }
+    }
+
+    /// Passes on a call whose line has dial tone, or keeps it where it is handed back.
+    pub fn pass_on<R: Wait>(
+        &mut self,
+        rt: &R,
+        queues: &Queues,
+        call: CallRecords,
+    ) -> Result<(), AllocError>
+        requires may { MayUse self.old queues.now }
+        requires tone { HasDialTone call }
+        ensures tickets { HasTickets self.old self.new }
+        ensures passed { OnOk result (HasPassedOn call self.old self.new) }
+    {
+        match queues
+            .tasks_in
+            .put(rt, &mut self.tasks, Task::Complete(call))
+        {
+            Ok(()) | Err(Task::Stop) => {}
+            Err(Task::Complete(call)) => self.kept.push(call)?,
+        }
+        Ok(())
+    }
+
+    /// Cuts a share of one part of each queue off, to which nothing came yet.
+    pub fn cut(&mut self, alloc: Global, queues: &Queues) -> Share
+        requires may { MayUse self.old queues.now }
+        requires parts { (1 < self.old.calls.parts) × (1 < self.old.tasks.parts) }
+        ensures calls { self.new.calls ≡ with_fewer_parts self.old.calls 1 }
+        ensures tasks { self.new.tasks ≡ with_fewer_parts self.old.tasks 1 }
+        ensures lists { (self.new.kept ≡ self.old.kept) × (self.new.ended ≡ self.old.ended) }
+        ensures cut_calls { result.calls ≡ new_ticket self.old.calls.queue }
+        ensures cut_tasks { result.tasks ≡ new_ticket self.old.tasks.queue }
+        ensures none { (result.kept.items ≡ []) × (result.ended.items ≡ []) }
+    {
+        let calls = self.calls.cut(&queues.calls_in);
+        let tasks = self.tasks.cut(&queues.tasks_in);
+        Share::new(alloc, calls, tasks)
+    }
+
+    /// What came to another worker came to this one.
+    pub fn join(&mut self, queues: &Queues, other: Share) -> Result<(), AllocError>
+        requires may { MayUse self.old queues.now }
+        requires other { MayUse other queues.now }
+        ensures calls { self.new.calls ≡ ticket_of_both self.old.calls other.calls }
+        ensures tasks { self.new.tasks ≡ ticket_of_both self.old.tasks other.tasks }
+        ensures kept { OnOk result (self.new.kept.items ≡ self.old.kept.items ++ other.kept.items) }
+        ensures ended { OnOk result
+            (self.new.ended.items ≡ self.old.ended.items ++ other.ended.items) }
+    {
+        let Share {
+            calls,
+            tasks,
+            mut kept,
+            mut ended,
+        } = other;
+        self.calls.join(&queues.calls_in, calls);
+        self.tasks.join(&queues.tasks_in, tasks);
+        self.kept.append(&mut kept)?;
+        self.ended.append(&mut ended)
+    }
+}

@@ -1,0 +1,24 @@
+use crate::call::Call;
+use crate::call_records::CallRecords;
+use fair_queue::Item;
+
+/// What goes to those who complete calls.
+#[derive(Debug, Drop)]
+pub enum Task {
+    /// A call whose line has dial tone.
+    Complete(CallRecords),
+    /// There is no more to do.
+    Stop,
+}
+
+impl Item for Call {
+    ghost use Rattle.xbar_markers.specs.Calls.{HasCallNo};
+
+    ghost sound = { HasCallNo };
+}
+
+impl Item for Task {
+    ghost use Rattle.xbar_markers.specs.Tasks.{IsSound};
+
+    ghost sound = { IsSound };
+}
