@@ -1,5 +1,5 @@
 -- desks that have worked are the staff that they were
-use Rattle.std.proofs.Common.{◌≡◌, ℕ, zero, suc, ◌<◌, true, List, [], ◌∷◌, All, map, length, ap, ◌∙◌, arith, refl}
+use Rattle.std.proofs.Common.{◌≡◌, ℕ, zero, suc, true, List, [], ◌∷◌, All, map, length, ap, ◌∙◌, arith, refl}
 use Rattle.std.specs.Prelude.{IfSome, slice_get}
 use Rattle.xbar_office.specs.declared.reply.Record.{Record}
 use Rattle.xbar_core.specs.Exchange.{is_idle}

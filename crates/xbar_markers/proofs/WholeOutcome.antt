@@ -1,5 +1,5 @@
 -- a run from the opening of a fabric to its shutting: its records are one legal history of just these calls
-use Rattle.std.proofs.Common.{◌≡◌, ℕ, zero, suc, ◌+◌, ◌<◌, ◌≤◌, ◌^◌, true, List, [], ◌∷◌, All, map, length, length-append, sym, refl, ap, ◌∙◌, subst, arith, get_or}
+use Rattle.std.proofs.Common.{◌≡◌, ℕ, zero, suc, ◌<◌, ◌≤◌, ◌^◌, List, [], ◌∷◌, All, map, length, length-append, sym, refl, ap, ◌∙◌, subst, arith, get_or}
 use Rattle.std.proofs.lemmas.Option.{slice_get-get_or}
 use Rattle.std.specs.List.Sorted.{IsNonDecreasingBy}
 use Rattle.std.specs.Prelude.{Contains, IfSome, Option, Some, None, slice_get, ⊤}
@@ -9,10 +9,9 @@ use Rattle.xbar_plan.specs.Tables.{Tables}
 use Rattle.xbar_office.specs.Legal.{IsLegal, after}
 use Rattle.xbar_office.specs.declared.reply.Record.{Record}
 use Rattle.xbar_jobs.specs.Office.{ShowsOffice}
-use Rattle.xbar_core.specs.Exchange.{is_idle}
 use Rattle.xbar_core.specs.declared.kind.Kind.{Kind}
-use Rattle.xbar_fabric.specs.Meetings.{AreAllIdle, AreWordsAfter, HasClosed}
-use Rattle.xbar_fabric.specs.Views.{DeskView, FabricView, IsDeskOf, new_desks, own}
+use Rattle.xbar_fabric.specs.Meetings.{AreWordsAfter, HasClosed}
+use Rattle.xbar_fabric.specs.Views.{DeskView, FabricView, new_desks, own}
 use Rattle.xbar_markers.specs.Calls.{AreServed}
 use Rattle.xbar_markers.specs.Outcomes.{AreTaken}
 use Rattle.xbar_markers.specs.Staff.{AreStaff, kinds_of}
@@ -43,35 +42,12 @@ module _ (fabric : FabricView) where
     ready = subst (All (λ desk. IsReady desk fabric)) (sym are) (ready_new 0 kinds);
   }
 
-  -- once they have worked they are idle again, each at its place
+  -- as many come back
   as_many : (k : ℕ) (kinds : List Kind) (desks : List DeskView) (records : List Record) → HaveWorked (new_desks fabric k kinds) desks records → length desks ≡ length kinds
   as_many k [] [] records worked = refl
   as_many k [] (d ∷ desks) records worked = absurd worked
   as_many k (kind ∷ kinds) [] records worked = absurd worked
   as_many k (kind ∷ kinds) (d ∷ desks) records worked = let rest = as_many (suc k) kinds desks worked.1 worked.4 in omega (arith, rest)
-
-  abbrev IsThereAgain : ℕ → DeskView → Type 0
-  IsThereAgain k desk = IsDeskOf desk fabric × (desk.marker ≡ k) × (is_idle desk.work ≡ true)
-
-  there_again : (k : ℕ) (kinds : List Kind) (desks : List DeskView) (records : List Record) → HaveWorked (new_desks fabric k kinds) desks records → (i : ℕ) → IfSome (slice_get desks i) (IsThereAgain (k + i))
-  there_again k [] [] records worked i = tt
-  there_again k [] (d ∷ desks) records worked i = absurd worked
-  there_again k (kind ∷ kinds) [] records worked i = absurd worked
-  there_again k (kind ∷ kinds) (d ∷ desks) records worked zero =
-      let same = worked.3.same in (
-        record { table_is = ap (λ (x : DeskView). x.table) same; plan_is = ap (λ (x : DeskView). x.plan) same },
-        ap (λ (x : DeskView). x.marker) same ∙ omega arith,
-        worked.3.idle,
-      )
-  there_again k (kind ∷ kinds) (d ∷ desks) records worked (suc i) =
-      subst (λ (n : ℕ). IfSome (slice_get desks i) (IsThereAgain n)) (omega arith) (there_again (suc k) kinds desks worked.1 worked.4 i)
-
-  pub all_idle : (kinds : List Kind) (befores desks : List DeskView) (records : List Record) → befores ≡ new_desks fabric 0 kinds → fabric.count ≡ length kinds → HaveWorked befores desks records → AreAllIdle desks fabric
-  all_idle kinds befores desks records are count worked =
-      let began = subst (λ (l : List DeskView). HaveWorked l desks records) are worked in record {
-        count = as_many 0 kinds desks records began ∙ sym count;
-        each = λ i. subst (λ (n : ℕ). IfSome (slice_get desks i) (IsThereAgain n)) (omega arith) (there_again 0 kinds desks records began i);
-      }
 
 both_of : (o : Option DeskView) (P Q : DeskView → Type 0) → IfSome o (λ d. P d × Q d) → IfSome o Q
 both_of None P Q it = tt
