@@ -3,7 +3,7 @@
 #![tactic(auto)]
 
 pub use counted_io::{Counted, Sink, Source};
-pub use engine::{run_audit, run_replay};
+pub use engine::{run_audit, run_live, run_replay};
 pub use engine_fault::EngineFault;
 pub use kinds::kinds_of;
 pub use status::Status;
@@ -13,7 +13,9 @@ mod audit;
 mod engine;
 mod engine_fault;
 mod finding;
+mod input;
 mod kinds;
+mod live;
 mod rows;
 mod run;
 mod status;
