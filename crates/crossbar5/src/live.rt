@@ -95,7 +95,15 @@ pub fn live<G: Gate + Send + Drop, R: Threads + Wait + Sync>(
         return refused(alloc, fault);
     }
     let calls = calls(alloc, traffic.rows.as_slice())?;
-    match run_calls(rt, alloc, plan, calls.as_slice(), dialling, completing, gates) {
+    match run_calls(
+        rt,
+        alloc,
+        plan,
+        calls.as_slice(),
+        dialling,
+        completing,
+        gates,
+    ) {
         Ok(outcome) => Ok(Written {
             text: text_of_calls(alloc, &outcome)?,
             status: Status::Fine,
