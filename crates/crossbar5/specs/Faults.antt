@@ -1,4 +1,4 @@
-use Rattle.std.specs.Prelude.{ℕ, ◌<◌, ◌≤◌, ⊤}
+use Rattle.std.specs.Prelude.{ℕ, ◌+◌, ◌<◌, ◌≤◌, ⊤}
 use Rattle.counted_io.specs.declared.read_fault.ReadFault.{ReadFault}
 use Rattle.counted_io.specs.declared.read_fault.ReadFault.TheVariants as read
 use Rattle.counted_io.specs.declared.write_fault.WriteFault.{WriteFault}
@@ -9,6 +9,10 @@ use Rattle.crossbar5.specs.declared.engine_fault.EngineFault.TheVariants.{Marker
 -- an office has 1 to 48 markers
 abbrev pub IsMarkerCount : ℕ → Type 0
 IsMarkerCount count = (0 < count) × (count ≤ 48)
+
+-- calls want at least one marker that dials and one that completes them
+abbrev pub IsStaffCount : ℕ → ℕ → Type 0
+IsStaffCount dialling completing = (0 < dialling) × (0 < completing) × (dialling + completing ≤ 48)
 
 -- what a fault of reading, or of writing, is to the engine
 abbrev pub of_read : ReadFault → EngineFault

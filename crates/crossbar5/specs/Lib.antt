@@ -14,3 +14,5 @@ pub mod Rows
 pub mod Run
 pub mod Audit
 pub mod Task
+pub mod Live
+pub mod Input

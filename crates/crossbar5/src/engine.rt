@@ -1,38 +1,28 @@
-//! The engine's two jobs, a replay and an audit: from the bytes of a plan and an input to those of
+//! The engine's jobs, a replay, live calls and an audit: from the bytes of a plan and an input to those of
 //! the output.
 
-ghost use Rattle.std.specs.Prelude.{◌≡◌, ◌≢◌, ◌↔◌, ◌⊎◌, Err, IfErr, IfOk, IfSome, List, OnOk, ℕ, length};
+ghost use Rattle.std.specs.Prelude.{◌≡◌, ◌≢◌, ◌↔◌, ◌⊎◌, Err, IfErr, IfOk, IfSome, List, OnOk, ℕ, ◌+◌, length, vec_len};
 ghost use Rattle.std.specs.Io.KnownBytes.{Appends, IsAtEnd, Keeps};
 ghost use Rattle.counted_io.specs.Counts.{HasFailed, ReadsUsedUp};
-ghost use Rattle.crossbar5.specs.Faults.{ComesFirst, IsMarkerCount};
+ghost use Rattle.crossbar5.specs.Faults.{ComesFirst, IsMarkerCount, IsStaffCount};
 ghost use Rattle.crossbar5.specs.Audit.{IsAudit};
-ghost use Rattle.crossbar5.specs.PlanRefusal.{IsPlanRefusal, IsRefusedPlan};
+ghost use Rattle.crossbar5.specs.Live.{IsLive, IsLiveUnread};
+ghost use Rattle.crossbar5.specs.PlanRefusal.{IsRefusedPlan};
 ghost use Rattle.crossbar5.specs.Run.{IsRefusedUnread, IsReplay};
 ghost use Rattle.crossbar5.specs.Task.{HasItsMarkers, IsDone, IsUnreadTask};
 
 use crate::engine_fault::EngineFault;
+use crate::input::{Input, read_input};
+use crate::live::live;
 use crate::status::Status;
 use crate::task::Task;
 use crate::written::Written;
-use counted_io::{Sink, Source, read_all, write_all};
+use counted_io::{Sink, Source, write_all};
 use std::alloc::Global;
-use xbar_core::Kind;
-use xbar_plan::{Plan, PlanFault};
-
-/// What is written for a plan that is refused, if it is not for want of memory.
-fn refuse_plan(alloc: Global, fault: PlanFault) -> Result<Written, EngineFault>
-    ensures written { IfOk result (λ written. (fault ≢ PlanFault.Memory) ×
-        IsPlanRefusal fault written.text.items written.status) }
-    ensures why { IfErr result (λ why. why ≡ EngineFault.Memory) }
-{
-    if fault == PlanFault::Memory {
-        return Err(EngineFault::Memory);
-    }
-    Ok(Written {
-        text: format!(in alloc; "FAULT,{fault}\n")?.into_bytes(),
-        status: Status::PlanRefused,
-    })
-}
+use std::sync::Wait;
+use std::thread::Threads;
+use xbar_core::{Kind, MOST_MARKERS};
+use xbar_markers::Gate;
 
 /// What is written of a task with a plan's text, for all that the source gives.
 pub fn comes_to<R: Source>(
@@ -57,12 +47,9 @@ pub fn comes_to<R: Source>(
     if !task.has_its_markers() {
         return Err(EngineFault::Markers);
     }
-    match Plan::read(alloc, plan) {
-        Ok(plan) => {
-            let input = read_all(alloc, source)?;
-            Ok(task.written(alloc, &plan, &input)?)
-        }
-        Err(fault) => refuse_plan(alloc, fault),
+    match read_input(alloc, plan, source)? {
+        Input::Read { plan, bytes } => Ok(task.written(alloc, &plan, &bytes)?),
+        Input::Refused(written) => Ok(written),
     }
 }
 
@@ -99,6 +86,85 @@ pub fn run_replay<R: Source, W: Sink>(
         Keeps (W.contents sink.old) (W.contents sink.new)) }
 {
     let written = comes_to(alloc, Task::Replay { kinds }, plan, source)?;
+    write_all(sink, &written.text)?;
+    Ok(written.status)
+}
+
+/// What is written of live traffic with a plan's text, for all that the source gives.
+fn live_comes_to<G: Gate + Send + Drop, T: Threads + Wait + Sync, R: Source>(
+    rt: &T,
+    alloc: Global,
+    plan: &[u8],
+    dialling: usize,
+    completing: usize,
+    gates: Vec<G>,
+    source: &mut R,
+) -> Result<Written, EngineFault>
+    requires { vec_len gates ≡ dialling + completing }
+    ensures live { IfOk result (λ written. (traffic : List ℕ) ×
+        IfSome (R.remaining source.old) (λ all. traffic ≡ all) ×
+        IsLive plan.now dialling completing traffic written.text.items written.status) }
+    ensures markers { (result ≡ Err EngineFault.Markers) ↔ ¬ IsStaffCount dialling completing }
+    ensures device { result ≡ Err EngineFault.Device
+        → HasFailed (R.failure_count source.old) (R.failure_count source.new) }
+    ensures no_failure { result ≢ Err EngineFault.Device
+        → R.failure_count source.new ≡ R.failure_count source.old }
+    ensures long { result ≡ Err EngineFault.Long →
+        ReadsUsedUp (R.read_count source.old) (R.read_count source.new) }
+    ensures unread { IsLiveUnread plan.now dialling completing → source.new ≡ source.old }
+    ensures end { OnOk result (¬ IsLiveUnread plan.now dialling completing
+        → IsAtEnd (R.remaining source.new)) }
+{
+    if dialling == 0 || completing == 0 || dialling.saturating_add(completing) > MOST_MARKERS {
+        return Err(EngineFault::Markers);
+    }
+    match read_input(alloc, plan, source)? {
+        Input::Read { plan, bytes } => Ok(live(
+            rt, alloc, &plan, dialling, completing, gates, &bytes,
+        )?),
+        Input::Refused(written) => Ok(written),
+    }
+}
+
+/// Does the calls of the live traffic that the source gives, in an office with the plan of this text,
+/// by so many markers that dial and so many that complete calls, each on a thread of its own, and
+/// writes what comes of them to the sink. The first gates are for those that dial.
+///
+/// The markers are judged first, then the plan, then the traffic, of which all rows are judged before
+/// a call is done. Markers or a plan that are refused leave the source unread. The output is written
+/// in one go once all is known. Of how much went out before `Device` nothing is said, nor that the
+/// calls come to an end.
+pub fn run_live<G: Gate + Send + Drop, T: Threads + Wait + Sync, R: Source, W: Sink>(
+    rt: &T,
+    alloc: Global,
+    plan: &[u8],
+    dialling: usize,
+    completing: usize,
+    gates: Vec<G>,
+    source: &mut R,
+    sink: &mut W,
+) -> Result<Status, EngineFault>
+    requires { vec_len gates ≡ dialling + completing }
+    ensures live { IfOk result (λ status. (traffic text : List ℕ) ×
+        IfSome (R.remaining source.old) (λ all. traffic ≡ all) ×
+        IsLive plan.now dialling completing traffic text status ×
+        Appends (W.contents sink.old) (W.contents sink.new) text) }
+    ensures markers { (result ≡ Err EngineFault.Markers) ↔ ¬ IsStaffCount dialling completing }
+    ensures device { result ≡ Err EngineFault.Device
+        → HasFailed (R.failure_count source.old) (R.failure_count source.new)
+        ⊎ HasFailed (W.failure_count sink.old) (W.failure_count sink.new) }
+    ensures no_failure { result ≢ Err EngineFault.Device
+        → (R.failure_count source.new ≡ R.failure_count source.old)
+        × (W.failure_count sink.new ≡ W.failure_count sink.old) }
+    ensures long { result ≡ Err EngineFault.Long →
+        ReadsUsedUp (R.read_count source.old) (R.read_count source.new) }
+    ensures unread { IsLiveUnread plan.now dialling completing → source.new ≡ source.old }
+    ensures end { OnOk result (¬ IsLiveUnread plan.now dialling completing
+        → IsAtEnd (R.remaining source.new)) }
+    ensures unwritten { IfErr result (λ fault. ComesFirst fault →
+        Keeps (W.contents sink.old) (W.contents sink.new)) }
+{
+    let written = live_comes_to(rt, alloc, plan, dialling, completing, gates, source)?;
     write_all(sink, &written.text)?;
     Ok(written.status)
 }

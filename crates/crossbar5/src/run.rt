@@ -31,7 +31,8 @@ fn open<'p>(alloc: Global, plan: &'p Plan, kinds: &[Kind]) -> Result<Exchange<'p
     }
 }
 
-fn refused(alloc: Global, fault: TrafficFault) -> Result<Written, AllocError>
+/// What is written for traffic that is refused.
+pub fn refused(alloc: Global, fault: TrafficFault) -> Result<Written, AllocError>
     ensures { IfOk result (λ written. IsWrittenOf
         (RefusesTraffic fault) written.text.items written.status) }
 {

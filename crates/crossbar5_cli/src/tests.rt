@@ -41,9 +41,13 @@ fn plans_are_found(rt: HostRuntime) {
 }
 
 /// The words behind the program's name, parted by spaces.
-fn exit_of(rt: &HostRuntime, line: &str) -> Result<u8, Fail> {
+fn exit_of<T: Threads + Wait + Sync>(
+    rt: &HostRuntime,
+    threads: &T,
+    line: &str,
+) -> Result<u8, Fail> {
     let words: Vec<&str> = line.split(' ').collect(rt.alloc())?;
-    Ok(do_as_asked(rt, &words).status())
+    Ok(do_as_asked(rt, threads, &words).status())
 }
 
 #[test]
@@ -52,16 +56,28 @@ fn words_end_with_their_status(rt: HostRuntime) -> Result<(), Fail> {
         ("crossbar5 --help", 0),
         ("crossbar5 replay --help", 0),
         ("crossbar5 --version", 0),
-        ("crossbar5 live", 2),
+        ("crossbar5 live --help", 0),
+        ("crossbar5 live --dial 0", 2),
+        ("crossbar5 live --dial 48", 2),
+        ("crossbar5 live --markers XX", 2),
+        ("crossbar5 live --dial 30 --completing 30", 2),
+        (
+            "crossbar5 live --dial 30 --completing 30 --plan missing.toml",
+            2,
+        ),
+        ("crossbar5 live --plan /dev/null", 3),
+        ("crossbar5 live --plan missing.toml", 6),
         ("crossbar5 --markers XX", 2),
         ("crossbar5 replay --markers DCY", 2),
         ("crossbar5 replay --plan missing.toml --markers DCY", 2),
+        ("crossbar5 replay --plan /dev/null", 3),
         ("crossbar5 replay --plan missing.toml", 6),
         ("crossbar5 audit --help", 0),
         ("crossbar5 audit --markers XX", 2),
+        ("crossbar5 audit --plan /dev/null", 3),
         ("crossbar5 audit --plan missing.toml", 6),
     ] {
-        assert_eq!(rt; exit_of(&rt, line)?, number, "{line}");
+        assert_eq!(rt; exit_of(&rt, &rt, line)?, number, "{line}");
     }
     Ok(())
 }

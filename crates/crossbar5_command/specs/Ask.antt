@@ -1,19 +1,30 @@
-use Rattle.std.specs.Prelude.{◌≡◌, List, Option, Some, None, codes, option_map, unwrap_or}
+use Rattle.std.specs.Prelude.{◌≡◌, ◌<◌, ◌^◌, ℕ, List, Option, Some, None, codes, option_map, unwrap_or}
 use Rattle.std.specs.String.{string_bytes}
+use Rattle.std.specs.Str.Parse.{IsNumeral, digits_value, without_leading_plus}
 use Rattle.clap.specs.Words.{Row, Text, first_of}
-use Rattle.crossbar5_command.specs.Program.{audit, default_kinds, replay}
+use Rattle.crossbar5_command.specs.Program.{audit, default_kinds, live, one, replay}
 use Rattle.crossbar5_command.specs.declared.ask.Ask.{Ask}
-use Rattle.crossbar5_command.specs.declared.ask.Ask.TheVariants.{Audit, Replay}
+use Rattle.crossbar5_command.specs.declared.ask.Ask.TheVariants.{Audit, Live, Replay}
 
 -- the name of the subcommand that is asked for
 abbrev pub name_of : Ask → Text
 name_of (Replay file letters) = replay.name
+name_of (Live file dial completing) = live.name
 name_of (Audit file) = audit.name
+
+-- where the text is that of a number of 32 bits, a plus before it or none, it is this one
+abbrev pub IsNumberOf : Text → ℕ → Type 0
+IsNumberOf text n = IsNumeral 10 (without_leading_plus text)
+    → digits_value 10 (without_leading_plus text) < 2 ^ 32
+    → n ≡ digits_value 10 (without_leading_plus text)
 
 -- what is asked, by the values of the options, is this
 abbrev pub HasValues : (Text → Option Text) → Ask → Type 0
 HasValues values (Replay file letters) = (option_map string_bytes file ≡ values (codes "plan"))
     × (string_bytes letters ≡ unwrap_or (values (codes "markers")) default_kinds)
+HasValues values (Live file dial completing) = (option_map string_bytes file ≡ values (codes "plan"))
+    × IsNumberOf (unwrap_or (values (codes "dial")) one) dial
+    × IsNumberOf (unwrap_or (values (codes "completing")) one) completing
 HasValues values (Audit file) = option_map string_bytes file ≡ values (codes "plan")
 
 -- the ask is for this subcommand, with these values of its options

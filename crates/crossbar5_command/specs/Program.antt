@@ -5,6 +5,7 @@ use Rattle.clap.specs.Words.{App, Rule, Shape, Text, new_rule}
 use Rattle.clap.specs.declared.builder.action.ArgAction.{ArgAction}
 use Rattle.clap.specs.declared.builder.action.ArgAction.TheVariants.{SetTrue}
 use Rattle.clap.specs.declared.builder.value_parser.ValueParser.{ValueParser}
+use Rattle.clap.specs.declared.builder.value_parser.ValueParser.TheVariants.{Unsigned}
 use Rattle.crossbar5_command.specs.Subcommand.{Argument, NamedOption, Subcommand, nothing, value}
 
 -- ---- the subcommands
@@ -24,11 +25,28 @@ markers = record { name = codes "markers"; argument = value None (Some default_k
 abbrev pub replay : Subcommand
 replay = record { name = codes "replay"; options = plan ∷ markers ∷ [] }
 
+-- one marker
+abbrev pub one : Text
+one = codes "1"
+
+-- how many markers, 1 to 47, as another kind wants one at least: `--dial N`, `--completing N`
+abbrev pub marker_count : Text → NamedOption
+marker_count name = record { name = name; argument = value (Some (Unsigned 1 47)) (Some one) }
+
+abbrev pub dial : NamedOption
+dial = marker_count (codes "dial")
+
+abbrev pub completing : NamedOption
+completing = marker_count (codes "completing")
+
+abbrev pub live : Subcommand
+live = record { name = codes "live"; options = plan ∷ dial ∷ completing ∷ [] }
+
 abbrev pub audit : Subcommand
 audit = record { name = codes "audit"; options = plan ∷ [] }
 
 abbrev pub subcommands : List Subcommand
-subcommands = replay ∷ audit ∷ []
+subcommands = replay ∷ live ∷ audit ∷ []
 
 -- ---- as clap sees them
 

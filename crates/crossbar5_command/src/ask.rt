@@ -8,6 +8,15 @@ pub enum Ask {
         /// A letter for the kind of each marker, marker 0 first. Nobody has looked at them yet.
         kinds: String,
     },
+    /// To do the calls on standard input, on threads.
+    Live {
+        /// The name of the file with the plan. Without one the plan is the example plan.
+        plan: Option<String>,
+        /// How many markers dial, 1 to 47.
+        dial: u32,
+        /// How many complete calls and release them, 1 to 47.
+        completing: u32,
+    },
     /// To audit the records on standard input.
     Audit {
         /// The name of the file with the plan. Without one the plan is the example plan.

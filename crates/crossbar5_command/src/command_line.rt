@@ -4,14 +4,16 @@ ghost use Rattle.std.specs.String.{string_bytes};
 ghost use Rattle.clap.specs.Walk.{texts};
 ghost use Rattle.clap.specs.Words.{fault_of, first_value, found_of, subcommand_of};
 ghost use Rattle.clap.specs.Words.{subcommand_rows_of, takes};
-ghost use Rattle.crossbar5_command.specs.Ask.{IsAskOf, IsAskWith, IsUnnamedAsk, name_of};
+ghost use Rattle.crossbar5_command.specs.Ask.{IsAskOf, IsAskWith, IsNumberOf, IsUnnamedAsk, name_of};
 ghost use Rattle.crossbar5_command.specs.Fault.{IsFaultAmong};
-ghost use Rattle.crossbar5_command.specs.Program.{audit, program, replay, subcommands};
+ghost use Rattle.crossbar5_command.specs.Program.{audit, live, program, replay, subcommands};
 ghost use Rattle.crossbar5_command.specs.Subcommand.{AreValues, AskFor, GivenOption, NamesOnly};
 ghost use Rattle.crossbar5_command.specs.Subcommand.{Subcommand, subcommand_named, value_of};
 ghost use Rattle.crossbar5_command.specs.declared.command_fault.CommandFault.TheVariants.{Memory};
 
-use crate::program::{AUDIT, DEFAULT_KINDS, MARKERS, PLAN, REPLAY, program};
+use crate::program::{
+    AUDIT, COMPLETING, DEFAULT_KINDS, DIAL, LIVE, MARKERS, ONE, PLAN, REPLAY, program,
+};
 use crate::{Ask, CommandFault};
 use clap::ArgMatches;
 use std::alloc::{AllocError, Global};
@@ -50,10 +52,31 @@ fn ask_of(alloc: Global, matches: &ArgMatches) -> Result<Ask, AllocError>
         (λ met. IsSome (subcommand_named subcommands met.0))
         → IfOk result (IsAskOf (subcommand_rows_of matches.now)) }
 {
+    if let Some(options) = matches.subcommand_matches(LIVE) {
+        return live_of(alloc, options);
+    }
     if let Some(options) = matches.subcommand_matches(AUDIT) {
         return audit_of(alloc, options);
     }
     replay_of(alloc, matches.subcommand_matches(REPLAY))
+}
+
+/// The live calls with the values of their options.
+fn live_of(alloc: Global, options: &ArgMatches) -> Result<Ask, AllocError>
+    ensures { IfOk result (IsAskWith live.name (first_value (found_of options.now))) }
+{
+    Ok(Ask::Live {
+        plan: copy_of(alloc, options.get_str(PLAN))?,
+        dial: number_of(options.get_str(DIAL).unwrap_or(ONE)),
+        completing: number_of(options.get_str(COMPLETING).unwrap_or(ONE)),
+    })
+}
+
+/// The number of this text.
+fn number_of(text: &str) -> u32
+    ensures { IsNumberOf text.now result }
+{
+    text.parse::<u32>().unwrap_or(1)
 }
 
 /// The audit with the values of its options.

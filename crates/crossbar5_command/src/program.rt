@@ -1,16 +1,19 @@
 //! The program as clap sees it.
 
-ghost use Rattle.std.specs.Prelude.{◌≡◌, IfOk, false};
+ghost use Rattle.std.specs.Prelude.{◌≡◌, ◌∷◌, [], IfOk, false};
 ghost use Rattle.clap.specs.Words.{app_of, rule_of};
 ghost use Rattle.clap.specs.declared.builder.command.Command.TheViews.{out-Command};
-ghost use Rattle.crossbar5_command.specs.Program.{audit, markers, plan, program, replay};
+ghost use Rattle.crossbar5_command.specs.Program.{audit, live, marker_count, markers, plan, program, program_of, replay};
 ghost use Rattle.crossbar5_command.specs.Program.{rule_for, shape_for};
 
+use clap::builder::ValueParser;
 use clap::{Arg, Command};
 use std::alloc::{AllocError, Global};
 
 /// The names of the subcommands.
 pub const REPLAY: &str = "replay";
+
+pub const LIVE: &str = "live";
 
 pub const AUDIT: &str = "audit";
 
@@ -20,6 +23,16 @@ pub const PLAN: &str = "plan";
 /// The id of the option for the kinds of the markers, and its name.
 pub const MARKERS: &str = "markers";
 
+/// The ids of the options for how many markers dial, and how many complete calls, and their names.
+pub const DIAL: &str = "dial";
+
+pub const COMPLETING: &str = "completing";
+
+/// How many markers of a kind there are where no number is given, and at most.
+pub const ONE: &str = "1";
+
+const MOST_OF_A_KIND: u64 = 47;
+
 /// The kinds of the markers where none are given: two markers for all jobs.
 pub const DEFAULT_KINDS: &str = "XX";
 
@@ -28,6 +41,8 @@ Replays traffic from standard input in a simulated No. 5 Crossbar telephone
 office, and writes what came of each job to standard output. Without a command
 it replays with the example plan and two markers for all jobs. The options of
 replay, --plan FILE and --markers KINDS, are told by 'crossbar5 replay --help'.
+With the command live it does calls from standard input by markers that run on
+threads.
 With the command audit it reads such output, a replay's or one that was worked
 out by hand, and tells whether it is right.";
 
@@ -36,10 +51,14 @@ out by hand, and tells whether it is right.";
 const USAGE: &str = "\
 crossbar5 [COMMAND]
        crossbar5 replay [--plan <FILE>] [--markers <KINDS>]
+       crossbar5 live [--plan <FILE>] [--dial <N>] [--completing <N>]
        crossbar5 audit [--plan <FILE>]";
 
 const ABOUT_REPLAY: &str = "\
 Replays traffic from standard input with a plan and markers of your choice";
+
+const ABOUT_LIVE: &str = "\
+Does the calls on standard input, by markers that run on threads";
 
 const ABOUT_AUDIT: &str = "\
 Tells whether the output of a replay, on standard input, is right";
@@ -51,6 +70,12 @@ The kind of each marker, marker 0 first, 1 to 48 letters:{n}\
 D for dial tone jobs{n}\
 C for completing jobs and releases{n}\
 X for all jobs";
+
+const ABOUT_DIAL: &str = "How many markers dial, 1 to 47";
+
+const ABOUT_COMPLETING: &str = "\
+How many markers complete calls and release them, 1 to 47,{n}\
+and with those that dial at most 48";
 
 const EXAMPLE_AND_STATUSES: &str = "\
 Example:
@@ -64,12 +89,15 @@ Example:
 
   crossbar5 replay < TRAFFIC | crossbar5 audit   checks a replay.
 
+  printf 'C,7,3041,5551234,R\\n' | crossbar5 live   has line 3041 call: call 7
+  is dialled, completed and, for the R, released. With K it is kept.
+
   All rows, plans, output and fault lines are defined in docs/FORMATS.md;
   plans and traffic to begin from are in examples.
 
 Exit status:
   0  All is fine
-  2  The command line is refused, or the KINDS of the markers
+  2  The command line is refused, or the KINDS or the number of the markers
   3  The plan is refused
   4  The traffic is refused, or what is to be audited is no text of records;
      or that is too long, or the plan's FILE is
@@ -81,13 +109,20 @@ Exit status:
 pub fn program<'a>(alloc: Global) -> Result<Command<'a>, AllocError>
     ensures { IfOk result (λ made. app_of made ≡ program) }
 {
+    offices(alloc)?.subcommand(audit(alloc)?)
+}
+
+/// The program with the subcommands that open an office.
+fn offices<'a>(alloc: Global) -> Result<Command<'a>, AllocError>
+    ensures app { IfOk result (λ made. app_of made ≡ program_of (replay ∷ live ∷ [])) }
+{
     Command::new(alloc, "crossbar5")
         .version("0.1.0")
         .about(ABOUT)
         .after_help(EXAMPLE_AND_STATUSES)
         .override_usage(USAGE)
         .subcommand(replay(alloc)?)?
-        .subcommand(audit(alloc)?)
+        .subcommand(live(alloc)?)
 }
 
 fn replay<'a>(alloc: Global) -> Result<Command<'a>, AllocError>
@@ -99,6 +134,18 @@ fn replay<'a>(alloc: Global) -> Result<Command<'a>, AllocError>
         .after_help(EXAMPLE_AND_STATUSES)
         .arg(plan_option(alloc))?
         .arg(markers_option(alloc))
+}
+
+fn live<'a>(alloc: Global) -> Result<Command<'a>, AllocError>
+    ensures shape { IfOk result (λ made. (app_of made).top ≡ shape_for live) }
+    ensures local { IfOk result (λ made. (out-Command made).has_globals ≡ false) }
+{
+    Command::new(alloc, LIVE)
+        .about(ABOUT_LIVE)
+        .after_help(EXAMPLE_AND_STATUSES)
+        .arg(plan_option(alloc))?
+        .arg(count_option(alloc, DIAL, ABOUT_DIAL))?
+        .arg(count_option(alloc, COMPLETING, ABOUT_COMPLETING))
 }
 
 fn audit<'a>(alloc: Global) -> Result<Command<'a>, AllocError>
@@ -130,4 +177,17 @@ fn markers_option<'a>(alloc: Global) -> Arg<'a>
         .value_name("KINDS")
         .default_value(DEFAULT_KINDS)
         .help(ABOUT_MARKERS)
+}
+
+/// An option for how many markers of a kind there are.
+fn count_option<'a>(alloc: Global, name: &'a str, about: &'a str) -> Arg<'a>
+    ensures rule { rule_of result ≡ rule_for (marker_count name.now) }
+    ensures local { result.global ≡ false }
+{
+    Arg::new(alloc, name)
+        .long(name)
+        .value_name("N")
+        .value_parser(ValueParser::unsigned(1, MOST_OF_A_KIND))
+        .default_value(ONE)
+        .help(about)
 }

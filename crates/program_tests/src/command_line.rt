@@ -102,6 +102,38 @@ fn words_ask_for_an_audit(rt: HostRuntime) -> Result<(), Fail> {
     Ok(())
 }
 
+/// Lines of words that ask for live calls, each with the plan's file, if one is asked for, and how
+/// many markers dial and how many complete calls.
+const ASKED_LIVE: &[(&str, Option<&str>, u32, u32)] = &[
+    ("crossbar5 live", None, 1, 1),
+    ("crossbar5 live --dial 47", None, 47, 1),
+    ("crossbar5 live --completing 47", None, 1, 47),
+    ("crossbar5 live --dial=30 --completing=31", None, 30, 31),
+    (
+        "crossbar5 live --completing 3 --plan a --dial 2",
+        Some("a"),
+        2,
+        3,
+    ),
+];
+
+#[test]
+fn words_ask_for_live_calls(rt: HostRuntime) -> Result<(), Fail> {
+    for (line, file, dialling, completing) in ASKED_LIVE {
+        let Ask::Live {
+            plan,
+            dial,
+            completing: others,
+        } = asked(rt.alloc(), line)?
+        else {
+            return Err(Fail::from("another subcommand was asked for"));
+        };
+        let found = (plan.as_ref().map(|name| name.as_str()), dial, others);
+        check_eq!(rt; found, (*file, *dialling, *completing), "{line}");
+    }
+    Ok(())
+}
+
 #[test]
 fn no_words_ask_for_a_replay(rt: HostRuntime) -> Result<(), Fail> {
     let ask = match command(rt.alloc(), &[]) {
@@ -123,9 +155,9 @@ fn refused(alloc: Global, line: &str) -> Result<clap::Error, Fail> {
 
 /// Lines of words that clap refuses, each with the kind of its error.
 const REFUSED: &[(&str, ErrorKind)] = &[
-    ("crossbar5 live", ErrorKind::InvalidSubcommand),
+    ("crossbar5 call", ErrorKind::InvalidSubcommand),
     ("crossbar5 Replay", ErrorKind::InvalidSubcommand),
-    ("crossbar5 help live", ErrorKind::InvalidSubcommand),
+    ("crossbar5 help call", ErrorKind::InvalidSubcommand),
     ("crossbar5 ", ErrorKind::InvalidSubcommand),
     ("crossbar5 -- replay", ErrorKind::UnknownArgument),
     ("crossbar5 --plan a.toml", ErrorKind::UnknownArgument),
@@ -147,6 +179,23 @@ const REFUSED: &[(&str, ErrorKind)] = &[
     (
         "crossbar5 a b c d e f g h i j k l m n o p",
         ErrorKind::InvalidSubcommand,
+    ),
+    ("crossbar5 live stray", ErrorKind::UnknownArgument),
+    ("crossbar5 live --markers X", ErrorKind::UnknownArgument),
+    ("crossbar5 --dial 1", ErrorKind::UnknownArgument),
+    ("crossbar5 live --dial", ErrorKind::InvalidValue),
+    ("crossbar5 live --dial 0", ErrorKind::ValueValidation),
+    ("crossbar5 live --dial 48", ErrorKind::ValueValidation),
+    ("crossbar5 live --dial one", ErrorKind::ValueValidation),
+    (
+        "crossbar5 live --dial 4294967297",
+        ErrorKind::ValueValidation,
+    ),
+    ("crossbar5 live --completing 0", ErrorKind::ValueValidation),
+    ("crossbar5 live --completing 48", ErrorKind::ValueValidation),
+    (
+        "crossbar5 live --dial 1 --dial 2",
+        ErrorKind::ArgumentConflict,
     ),
     ("crossbar5 audit stray", ErrorKind::UnknownArgument),
     ("crossbar5 audit --markers X", ErrorKind::UnknownArgument),
@@ -198,7 +247,8 @@ fn help_and_version_are_for_standard_output(rt: HostRuntime) -> Result<(), Fail>
         ("crossbar5 -h", ErrorKind::DisplayHelp),
         ("crossbar5 help", ErrorKind::DisplayHelp),
         ("crossbar5 help replay", ErrorKind::DisplayHelp),
-        ("crossbar5 --help live", ErrorKind::DisplayHelp),
+        ("crossbar5 help live", ErrorKind::DisplayHelp),
+        ("crossbar5 --help call", ErrorKind::DisplayHelp),
         ("crossbar5 --help a b c d e f g h", ErrorKind::DisplayHelp),
         ("crossbar5 replay --help", ErrorKind::DisplayHelp),
         ("crossbar5 replay --plan a -h", ErrorKind::DisplayHelp),
@@ -227,9 +277,18 @@ const OPTION_OF_KINDS: &str = "
                          X for all jobs [default: XX]
 ";
 
+/// All that help says of the numbers of markers.
+const OPTIONS_OF_COUNTS: &str = "
+      --dial <N>        How many markers dial, 1 to 47 [default: 1]
+      --completing <N>  How many markers complete calls and release them, 1 to 47,
+                        and with those that dial at most 48 [default: 1]
+";
+
 const WITHOUT_OPTIONS: &str = "Without a command
 it replays with the example plan and two markers for all jobs. The options of
 replay, --plan FILE and --markers KINDS, are told by 'crossbar5 replay --help'.
+With the command live it does calls from standard input by markers that run on
+threads.
 With the command audit it reads such output, a replay's or one that was worked
 out by hand, and tells whether it is right.
 ";
@@ -241,13 +300,19 @@ const TOLD: &[(&str, &str)] = &[
         "      --plan <FILE>      The file with the office's plan [default: the example plan]\n",
     ),
     ("crossbar5 replay --help", OPTION_OF_KINDS),
+    ("crossbar5 live --help", OPTIONS_OF_COUNTS),
     ("crossbar5 --help", WITHOUT_OPTIONS),
     ("crossbar5 --plan a.toml", USAGE_OF_REPLAY),
     ("crossbar5 --markers D", USAGE_OF_REPLAY),
+    ("crossbar5 --dial 2", USAGE_OF_LIVE),
 ];
 
-/// An option in the place of `replay` is told where it belongs.
+/// An option in the place of a subcommand is told where it belongs.
 const USAGE_OF_REPLAY: &str = "\n       crossbar5 replay [--plan <FILE>] [--markers <KINDS>]\n";
+
+const USAGE_OF_LIVE: &str = "
+       crossbar5 live [--plan <FILE>] [--dial <N>] [--completing <N>]
+";
 
 fn check_told(rt: &impl Abort, alloc: Global, line: &str, part: &str) -> Result<(), Fail> {
     let text = text_of(alloc, line)?;
@@ -269,7 +334,8 @@ const STARTS: &[&str] = &[
     "of ten fields: turn, job number, marker, kind of job, line, dialled digits,\n",
     "  crossbar5 replay < TRAFFIC | crossbar5 audit   checks a replay.\n",
     "  0  All is fine\n",
-    "  2  The command line is refused, or the KINDS of the markers\n",
+    "  printf 'C,7,3041,5551234,R\\n' | crossbar5 live   has line 3041 call: call 7\n",
+    "  2  The command line is refused, or the KINDS or the number of the markers\n",
     "  3  The plan is refused\n",
     "  4  The traffic is refused, or what is to be audited is no text of records;\n",
     "  5  Memory ran out\n",
@@ -283,6 +349,7 @@ fn help_tells_how_to_start(rt: HostRuntime) -> Result<(), Fail> {
         "crossbar5 --help",
         "crossbar5 -h",
         "crossbar5 replay --help",
+        "crossbar5 live --help",
         "crossbar5 audit --help",
     ] {
         for part in STARTS {
@@ -304,6 +371,7 @@ fn help_as_a_word_is_help_as_an_option(rt: HostRuntime) -> Result<(), Fail> {
     for (word, option) in [
         ("crossbar5 help", "crossbar5 --help"),
         ("crossbar5 help replay", "crossbar5 replay --help"),
+        ("crossbar5 help live", "crossbar5 live --help"),
         ("crossbar5 help audit", "crossbar5 audit --help"),
     ] {
         check_same(&rt, rt.alloc(), word, option)?;
@@ -320,8 +388,8 @@ fn the_version_is_printed(rt: HostRuntime) -> Result<(), Fail> {
 
 #[test]
 fn a_refused_word_is_named(rt: HostRuntime) -> Result<(), Fail> {
-    let text = text_of(rt.alloc(), "crossbar5 live")?;
-    let head = "error: unrecognized subcommand 'live'\n";
+    let text = text_of(rt.alloc(), "crossbar5 call")?;
+    let head = "error: unrecognized subcommand 'call'\n";
     check!(rt; text.as_str().starts_with(head), "{text}");
     Ok(())
 }

@@ -4,5 +4,5 @@
 use std::process::ExitCode;
 
 fn main(rt: HostRuntime) -> ExitCode {
-    crossbar5_cli::run(&rt)
+    crossbar5_cli::run(&rt, &rt)
 }

@@ -1,0 +1,10 @@
+use Rattle.std.proofs.Common.{◌≡◌, All, take}
+use Rattle.xbar_markers.specs.Calls.{HasCallNo}
+use Rattle.crossbar5.specs.Live.{calls_of}
+use Rattle.crossbar5.proofs.live.calls.Given as goal
+
+abbrev pub invariant-loop-row : goal.invariant-loop-row
+invariant-loop-row l = record {
+  calls : l.calls.items ≡ calls_of (take l.row-index l.rows);
+  call_nos : All HasCallNo l.calls.items;
+}

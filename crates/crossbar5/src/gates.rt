@@ -1,0 +1,25 @@
+ghost use Rattle.std.specs.Prelude.{◌≡◌, ◌+◌, ◌↔◌, Err, IfOk, vec_len};
+ghost use Rattle.crossbar5.specs.Faults.{IsStaffCount};
+
+use crate::engine_fault::EngineFault;
+use std::alloc::Global;
+use xbar_core::MOST_MARKERS;
+use xbar_markers::OpenGate;
+
+/// A gate that does nothing for each of the markers of live calls. `Markers` unless there is at least
+/// one of each kind, and at most 48 in all.
+pub fn open_gates(
+    alloc: Global,
+    dialling: usize,
+    completing: usize,
+) -> Result<Vec<OpenGate>, EngineFault>
+    ensures gates { IfOk result (λ gates. vec_len gates ≡ dialling + completing) }
+    ensures markers { (result ≡ Err EngineFault.Markers) ↔ ¬ IsStaffCount dialling completing }
+{
+    if dialling == 0 || completing == 0 || dialling.saturating_add(completing) > MOST_MARKERS {
+        return Err(EngineFault::Markers);
+    }
+    let mut gates = Vec::new(alloc);
+    gates.resize(dialling + completing, OpenGate)?;
+    Ok(gates)
+}
