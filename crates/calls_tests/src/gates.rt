@@ -4,8 +4,9 @@ use std::sync::atomic::{AtomicU64, Ordering};
 use std::thread;
 use xbar_markers::Gate;
 
-/// How often a gate lets other threads run before it passes all the same.
-const PATIENCE: u32 = 1_000_000;
+/// How often a gate lets other threads run before it passes all the same: half a minute and more,
+/// since a machine with much else to do may keep a thread from running for a second.
+const PATIENCE: u32 = 100_000_000;
 
 /// How far a marker is: at so many steps it has come to its gate, and it has ended so many jobs.
 #[derive(Clone, Copy, Debug)]

@@ -20,7 +20,7 @@ pub enum Input {
     Refused(Written),
 }
 
-/// What is written for a plan that is refused, if it is not for want of memory.
+/// What is written for a plan that is refused, if it is not that memory ran out.
 fn refuse_plan(alloc: Global, fault: PlanFault) -> Result<Written, EngineFault>
     ensures written { IfOk result (λ written. (fault ≢ PlanFault.Memory) ×
         IsPlanRefusal fault written.text.items written.status) }

@@ -89,7 +89,7 @@ pub fn shut_all_into<F: Jobs>(
 }
 
 /// Shuts the room with all of its desks, which are idle and each at the place of its number, and gives its
-/// words. For want of memory all are handed back.
+/// words. Out of memory all are handed back.
 pub fn shut_all<F: Jobs>(
     alloc: Global,
     room: Room<F>,
@@ -109,7 +109,7 @@ pub fn shut_all<F: Jobs>(
     }
 }
 
-/// Shuts the room with one of its desks, and gives its words. For want of memory both are handed back.
+/// Shuts the room with one of its desks, and gives its words. Out of memory both are handed back.
 pub fn shut<F: Jobs>(
     alloc: Global,
     room: Room<F>,

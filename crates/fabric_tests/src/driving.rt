@@ -10,7 +10,7 @@ use xbar_fabric::{Desk, Fabric, Progress};
 use xbar_office::{Job, Record};
 
 /// How often a desk gives back and begins its job anew before it leaves the job undone.
-const TRIES: u32 = 1_000_000;
+const TRIES: u32 = 100_000_000;
 
 /// More steps than a job takes that nobody puts off.
 pub const MOST_STEPS_ALONE: u32 = 128;

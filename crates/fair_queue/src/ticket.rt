@@ -47,7 +47,7 @@ impl<X: Item + Drop> Ticket<X> {
         Ticket { pass }
     }
 
-    /// Cuts so many tickets of one part each off, or for want of memory none.
+    /// Cuts so many tickets of one part each off, or, out of memory, none.
     pub fn cut_many(
         &mut self,
         alloc: Global,

@@ -19,7 +19,7 @@ pub type SlotDesk = Desk<SlotJobs>;
 pub type SlotTold = Told<Job, Taken>;
 
 /// How often a desk begins a job anew before it gives up.
-const TRIES: u32 = 1_000_000;
+const TRIES: u32 = 100_000_000;
 
 /// A desk at work, and the records of the jobs that it has done.
 #[derive(Drop)]

@@ -157,7 +157,7 @@ fn work_all<G: Gate + Send + Drop, R: Threads + Wait + Sync>(
 /// Does all calls with all desks of a fabric, each on a thread of its own, and gives the desks back
 /// with the records of all jobs, in turn order. The first gate is for marker 0.
 ///
-/// For want of memory the desks are lost, and the turns that they made stay in the fabric.
+/// Out of memory the desks are lost, and the turns that they made stay in the fabric.
 pub fn run_desks<G: Gate + Send + Drop, R: Threads + Wait + Sync>(
     rt: &R,
     alloc: Global,

@@ -3,7 +3,7 @@
 use super::*;
 use crate::checks::{check, check_eq};
 
-/// A replay of this traffic comes to this text, or to want of memory with nothing written.
+/// A replay of this traffic comes to this text, or to being out of memory with nothing written.
 fn comes_to_it_or_memory(
     rt: &impl Abort,
     alloc: Global,

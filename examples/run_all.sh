@@ -1,0 +1,52 @@
+#!/usr/bin/env bash
+# Runs every example and compares what comes of it with the file NAME.out; live calls, which may come in other
+# turns, are judged by an audit: run_all.sh [PROGRAM]
+#
+# Prints a line for each, and ends with status 1 where one differs.
+set -euo pipefail
+
+here=$(cd "$(dirname "$(readlink -f "${BASH_SOURCE[0]}")")" && pwd)
+program=${1:-$here/../bin/crossbar5}
+[[ $program == /* ]] || program=$PWD/$program
+folder=$(mktemp -d)
+trap 'rm -r "$folder"' EXIT
+failures=0
+
+tell() {
+    echo "$1: $2"
+    [[ $2 == as\ wanted ]] || failures=$((failures + 1))
+}
+
+# A replay of NAME.csv, by the words that follow.
+replay() {
+    local name=$1
+    shift
+    if "$program" replay "$@" <"$here/$name.csv" >"$folder/out" && cmp -s "$folder/out" "$here/$name.out"; then
+        tell "$name" "as wanted"
+    else
+        tell "$name" "differs from $name.out"
+    fi
+}
+
+# Live calls of NAME.csv, by the markers that the words ask for.
+live() {
+    local name=$1
+    shift
+    if "$program" live "$@" <"$here/$name.csv" | "$program" audit >"$folder/out"; then
+        tell "$name $*" "as wanted"
+    else
+        tell "$name $*" "not legal: $(head -n 1 "$folder/out")"
+    fi
+}
+
+replay three_dials
+replay calls
+replay inside_call
+replay two_markers --markers XX
+replay trouble --plan "$here/small_town.toml"
+replay hunting --plan "$here/hunting.toml"
+replay ten_calls_from_one_frame --plan "$here/many_registers.toml"
+live live_calls --dial 1 --completing 1
+live live_calls --dial 2 --completing 2
+
+exit $((failures > 0))

@@ -1,0 +1,49 @@
+#!/usr/bin/env bash
+# Makes the traffic that docs/SPEED.md speaks of, has the built program replay it or do its calls, and prints
+# for each the least and the most milliseconds of nine whole processes: speed.sh [PROGRAM]
+set -euo pipefail
+
+root=$(cd "$(dirname "$(readlink -f "${BASH_SOURCE[0]}")")/.." && pwd)
+program=${1:-$root/crates/crossbar5_program/out/crossbar5_program}
+[[ -x $program ]] || { echo "speed.sh: $program isn't built; bin/crossbar5 --version builds it" >&2; exit 1; }
+folder=$(mktemp -d)
+trap 'rm -r "$folder"' EXIT
+
+# A job of each row's number on a line, Dial, Complete and Release in turn, and 128 steps for its marker.
+jobs() {
+    seq 0 9998 | awk -v markers="$1" '{
+        m = markers == 2 ? $1 % 2 : int($1 / 3) % markers
+        line = markers == 2 ? (m ? 3052 : 3041) : m % 10 "" int(m / 10) "00"
+        k = markers == 2 ? int($1 / 2) % 3 : $1 % 3
+        print "J," m "," $1 "," (k == 0 ? "D," line : k == 1 ? "C," line " 5551234" : "R," line)
+        print "S," m ",128,,"
+    }'
+}
+
+seq 1 9999 | awk '{ print "J,0," $1 ",D,3041"; print "S,0,96,," }' >"$folder/dials.csv"
+for ((row = 0; row < 100000; row++)); do echo S,0,9999,,; done >"$folder/idle.csv"
+jobs 2 >"$folder/calls.csv"
+jobs 48 >"$folder/calls48.csv"
+seq 0 9999 | awk '{ print "C," $1 "," $1 % 10 int($1 / 10) % 10 int($1 / 100) % 6 int($1 / 600) % 5 ",5551234,R" }' \
+    >"$folder/live.csv"
+
+# Measures nine runs of the program with a file and words.
+measure() {
+    local file=$1 start end k
+    shift
+    for k in 1 2 3 4 5 6 7 8 9; do
+        start=$(date +%s%N)
+        "$program" "$@" <"$folder/$file" >"$folder/out" || true
+        end=$(date +%s%N)
+        echo $(((end - start) / 100000)) "$k"
+    done | awk -v what="$file, $*" '{ if (!least || $1 < least) least = $1; if ($1 > most) most = $1 }
+        END { printf "%5.1f to %5.1f ms  %s\n", least / 10, most / 10, what }'
+}
+
+grep -m 1 "model name" /proc/cpuinfo || true
+measure dials.csv replay
+measure idle.csv replay
+measure calls.csv replay
+measure calls48.csv replay --markers "$(printf 'X%.0s' {1..48})"
+measure live.csv live
+measure live.csv live --dial 2 --completing 2
