@@ -4,7 +4,7 @@ use Rattle.svg.specs.Escape.{escaped}
 use Rattle.svg.specs.Figure.{Figure, figure_text}
 
 -- what a drawing of this size begins with, and its style sheet
-abbrev pub head_text : ℕ → ℕ → List ℕ → List ℕ
+unfoldable pub head_text : ℕ → ℕ → List ℕ → List ℕ
 head_text width height style =
     concat (codes "<svg xmlns=\"http://www.w3.org/2000/svg\" viewBox=\"0 0 " ∷ decimal width ∷ codes " " ∷ decimal height
     ∷ codes "\" width=\"" ∷ decimal width ∷ codes "\" height=\"" ∷ decimal height ∷ codes "\">\n<style>" ∷ escaped style ∷ codes "</style>\n" ∷ [])

@@ -24,7 +24,7 @@ abbrev pub in_class : List ℕ → List ℕ
 in_class class = concat (codes " class=\"" ∷ escaped class ∷ codes "\"" ∷ [])
 
 -- the element of what is drawn, on a line of its own, part by part
-abbrev pub figure_text : Figure → List ℕ
+unfoldable pub figure_text : Figure → List ℕ
 figure_text (Rectangle corner width height class) =
     concat (codes "<rect x=\"" ∷ decimal corner.x ∷ codes "\" y=\"" ∷ decimal corner.y
     ∷ codes "\" width=\"" ∷ decimal width ∷ codes "\" height=\"" ∷ decimal height ∷ codes "\"" ∷ in_class class ∷ codes "/>\n" ∷ [])

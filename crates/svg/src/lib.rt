@@ -4,7 +4,7 @@
 pub use drawing::{add_drawing, add_foot, add_head};
 pub use escape::add_escaped;
 pub use shape::{Point, Shape};
-pub use write::add_shape;
+pub use write::{add_circle, add_line, add_rectangle, add_shape, add_words};
 
 mod drawing;
 mod escape;

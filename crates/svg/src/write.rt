@@ -28,7 +28,9 @@ pub fn add_shape(text: &mut String, shape: &Shape<'_>) -> Result<(), AllocError>
     }
 }
 
-fn add_rectangle(
+/// Adds a rectangle of this upper left corner, as `add_shape` does.
+#[tactic(auto, unfolding(crate::specs::Figure::figure_text))]
+pub fn add_rectangle(
     text: &mut String,
     corner: Point,
     width: u16,
@@ -48,7 +50,9 @@ fn add_rectangle(
     Ok(())
 }
 
-fn add_line(text: &mut String, from: Point, to: Point, class: &str) -> Result<(), AllocError>
+/// Adds a line, as `add_shape` does.
+#[tactic(auto, unfolding(crate::specs::Figure::figure_text))]
+pub fn add_line(text: &mut String, from: Point, to: Point, class: &str) -> Result<(), AllocError>
     ensures { OnOk result (string_bytes text.new ≡ string_bytes text.old ++
         figure_text (Line from to class.now)) }
 {
@@ -63,7 +67,14 @@ fn add_line(text: &mut String, from: Point, to: Point, class: &str) -> Result<()
     Ok(())
 }
 
-fn add_circle(text: &mut String, center: Point, radius: u16, class: &str) -> Result<(), AllocError>
+/// Adds a circle, as `add_shape` does.
+#[tactic(auto, unfolding(crate::specs::Figure::figure_text))]
+pub fn add_circle(
+    text: &mut String,
+    center: Point,
+    radius: u16,
+    class: &str,
+) -> Result<(), AllocError>
     ensures { OnOk result (string_bytes text.new ≡ string_bytes text.old ++
         figure_text (Circle center radius class.now)) }
 {
@@ -74,7 +85,9 @@ fn add_circle(text: &mut String, center: Point, radius: u16, class: &str) -> Res
     Ok(())
 }
 
-fn add_words(text: &mut String, at: Point, class: &str, content: &str) -> Result<(), AllocError>
+/// Adds a line of text, as `add_shape` does.
+#[tactic(auto, unfolding(crate::specs::Figure::figure_text))]
+pub fn add_words(text: &mut String, at: Point, class: &str, content: &str) -> Result<(), AllocError>
     ensures { OnOk result (string_bytes text.new ≡ string_bytes text.old ++
         figure_text (Words at class.now content.now)) }
 {
