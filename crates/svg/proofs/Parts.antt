@@ -1,7 +1,7 @@
 use Rattle.std.proofs.Common.{◌≡◌, ℕ, Bool, true, false, cond, List, [], ◌∷◌, refl, inl, inr}
 use Rattle.std.specs.Prelude.{◌==◌, codes, encode_utf8, flat_map}
 use Rattle.std.specs.Str.{chars}
-use Rattle.svg.specs.Escape.{escaped, escaped_character, is_allowed, plain_character, is_plain, IsPart, IsContent, Nothing, Behind}
+use Rattle.svg.specs.Escape.{escaped, escaped_character, is_allowed, plain_character, IsPart, IsContent, Nothing, Behind}
 
 plain_by : (character : ℕ) (allowed : Bool) → is_allowed character ≡ allowed → (character == 38) ≡ false → (character == 60) ≡ false
     → (character == 62) ≡ false → (character == 34) ≡ false → IsPart (cond allowed (encode_utf8 character) (encode_utf8 0xfffd))

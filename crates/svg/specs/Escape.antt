@@ -1,4 +1,4 @@
-use Rattle.std.specs.Prelude.{◌≡◌, ◌⊎◌, ◌==◌, ◌&&◌, ℕ, nat_le, not, true, Bool, List, [], ◌∷◌, ◌++◌, codes, encode_utf8, flat_map, if◌then◌else◌}
+use Rattle.std.specs.Prelude.{◌≡◌, ◌⊎◌, ◌==◌, ◌&&◌, ℕ, nat_le, not, true, Bool, List, [], ◌++◌, codes, encode_utf8, flat_map, if◌then◌else◌}
 use Rattle.std.specs.Str.{chars}
 
 -- whether XML has the character, and it is no control character

@@ -6,7 +6,6 @@ use Rattle.xbar_equip.specs.Len.{line_text}
 use Rattle.xbar_equip.specs.Link.{link_text}
 use Rattle.xbar_equip.specs.Path.{path_text, line_link, junctor, trunk_link}
 use Rattle.xbar_equip.specs.Ten.{place_text}
-use Rattle.xbar_equip.specs.declared.crosspoint.Crosspoint.{Crosspoint}
 use Rattle.xbar_equip.specs.declared.path.Path.{Path}
 
 -- which line comes to what, over which channel
