@@ -52,8 +52,14 @@ impl<L, J, D, P, const READINGS: usize, const HELD: usize> Model
     } };
 }
 
-impl<L: Copy + Default + Drop, J: Drop, D: Drop, P: Drop, const READINGS: usize, const HELD: usize>
-    Attempt<L, J, D, P, READINGS, HELD> {
+impl<
+    L: Copy + Default + Drop,
+    J: Drop,
+    D: Drop,
+    P: Drop,
+    const READINGS: usize,
+    const HELD: usize,
+> Attempt<L, J, D, P, READINGS, HELD> {
     /// An attempt at a job that seizes this lock first, from this point on.
     pub(crate) fn new(job: J, first: L, point: P) -> Self
         ensures { result

@@ -12,7 +12,9 @@ use turns::Phase;
 
 /// An attempt that has made no step, whatever the setting will be.
 #[tactic(auto, using(crate::proofs::Walking::stands_start))]
-pub fn begin<S: Scripts<READINGS, HELD>, const READINGS: usize, const HELD: usize>(job: S::Job) -> AttemptOf<S, READINGS, HELD>
+pub fn begin<S: Scripts<READINGS, HELD>, const READINGS: usize, const HELD: usize>(
+    job: S::Job,
+) -> AttemptOf<S, READINGS, HELD>
     ensures begins { (setting : S.Setting) →
         attempt_of S.reply_of S.effects_of result
         ≡ begin_of (system_with S.Lock.eq S.reply_of S.effects_of (S.system setting)) job }
@@ -53,8 +55,8 @@ pub(crate) fn give_back<S: Scripts<READINGS, HELD>, const READINGS: usize, const
         attempt_of S.reply_of S.effects_of program.new
         ≡ freed O (attempt_of S.reply_of S.effects_of program.old) program.old.held }
     ensures point { let O = system_with S.Lock.eq S.reply_of S.effects_of (S.system setting.now) in
-        PointStandsIn O (S.rest setting.now) (attempt_of S.reply_of S.effects_of program.new) program.new.point
-        program.new.phase }
+        PointStandsIn O (S.rest setting.now) (attempt_of S.reply_of S.effects_of program.new)
+        program.new.point program.new.phase }
     ensures count { program.new.count ≡ program.old.count }
 {
     if program.held.is_empty() {
@@ -73,8 +75,8 @@ fn give_up<S: Scripts<READINGS, HELD>, const READINGS: usize, const HELD: usize>
         attempt_of S.reply_of S.effects_of program.new
         ≡ freed O (forgotten (attempt_of S.reply_of S.effects_of program.old)) program.old.held }
     ensures point { let O = system_with S.Lock.eq S.reply_of S.effects_of (S.system setting.now) in
-        PointStandsIn O (S.rest setting.now) (attempt_of S.reply_of S.effects_of program.new) program.new.point
-        program.new.phase }
+        PointStandsIn O (S.rest setting.now) (attempt_of S.reply_of S.effects_of program.new)
+        program.new.point program.new.phase }
     ensures count { program.new.count ≡ program.old.count }
 {
     if program.held.is_empty() {
@@ -95,8 +97,8 @@ fn go_back<S: Scripts<READINGS, HELD>, const READINGS: usize, const HELD: usize>
         attempt_of S.reply_of S.effects_of program.new
         ≡ restarted O (attempt_of S.reply_of S.effects_of program.old) }
     ensures point { let O = system_with S.Lock.eq S.reply_of S.effects_of (S.system setting.now) in
-        PointStandsIn O (S.rest setting.now) (attempt_of S.reply_of S.effects_of program.new) program.new.point
-        program.new.phase }
+        PointStandsIn O (S.rest setting.now) (attempt_of S.reply_of S.effects_of program.new)
+        program.new.point program.new.phase }
     ensures count { program.new.count ≡ program.old.count }
 {
     let phase = program.phase;

@@ -7,9 +7,9 @@ ghost use Rattle.attempts.specs.Standing.{CanWalk, PointStandsIn, Stands, attemp
 ghost use Rattle.attempts.specs.SystemWith.{system_with};
 
 use crate::attempt::AttemptOf;
-use crate::showing::next_effect;
 use crate::scripts::Scripts;
 use crate::seen::Seen;
+use crate::showing::next_effect;
 use crate::starting::give_back;
 use turns::{Answer, Phase, Reading};
 
@@ -25,8 +25,8 @@ fn walk_on<S: Scripts<READINGS, HELD>, const READINGS: usize, const HELD: usize>
         attempt_of S.reply_of S.effects_of program.new
         ≡ walks_on O (attempt_of S.reply_of S.effects_of program.old) }
     ensures point { let O = system_with S.Lock.eq S.reply_of S.effects_of (S.system setting.now) in
-        PointStandsIn O (S.rest setting.now) (attempt_of S.reply_of S.effects_of program.new) program.new.point
-        program.new.phase }
+        PointStandsIn O (S.rest setting.now) (attempt_of S.reply_of S.effects_of program.new)
+        program.new.point program.new.phase }
     ensures count { program.new.count ≡ program.old.count }
 {
     let seen = Seen::new(program.held.as_slice(), program.readings.as_slice());
@@ -46,10 +46,11 @@ fn take_request<S: Scripts<READINGS, HELD>, const READINGS: usize, const HELD: u
         (S.rest setting.now) READINGS HELD program.old }
     ensures change { let O = system_with S.Lock.eq S.reply_of S.effects_of (S.system setting.now) in
         attempt_of S.reply_of S.effects_of program.new
-        ≡ changed O (attempt_of S.reply_of S.effects_of program.old) program.old.phase (Answer.Asked word) }
+        ≡ changed O (attempt_of S.reply_of S.effects_of program.old)
+        program.old.phase (Answer.Asked word) }
     ensures point { let O = system_with S.Lock.eq S.reply_of S.effects_of (S.system setting.now) in
-        PointStandsIn O (S.rest setting.now) (attempt_of S.reply_of S.effects_of program.new) program.new.point
-        program.new.phase }
+        PointStandsIn O (S.rest setting.now) (attempt_of S.reply_of S.effects_of program.new)
+        program.new.point program.new.phase }
     ensures count { program.new.count ≡ program.old.count }
 {
     let phase = program.phase;
@@ -74,10 +75,11 @@ fn take_again<S: Scripts<READINGS, HELD>, const READINGS: usize, const HELD: usi
         (S.rest setting.now) READINGS HELD program.old }
     ensures change { let O = system_with S.Lock.eq S.reply_of S.effects_of (S.system setting.now) in
         attempt_of S.reply_of S.effects_of program.new
-        ≡ changed O (attempt_of S.reply_of S.effects_of program.old) program.old.phase (Answer.Again word) }
+        ≡ changed O (attempt_of S.reply_of S.effects_of program.old)
+        program.old.phase (Answer.Again word) }
     ensures point { let O = system_with S.Lock.eq S.reply_of S.effects_of (S.system setting.now) in
-        PointStandsIn O (S.rest setting.now) (attempt_of S.reply_of S.effects_of program.new) program.new.point
-        program.new.phase }
+        PointStandsIn O (S.rest setting.now) (attempt_of S.reply_of S.effects_of program.new)
+        program.new.point program.new.phase }
     ensures count { program.new.count ≡ program.old.count }
 {
     let phase = program.phase;
@@ -101,13 +103,15 @@ fn take_refusal<S: Scripts<READINGS, HELD>, const READINGS: usize, const HELD: u
         (S.rest setting.now) READINGS HELD program.old }
     ensures held { let O = system_with S.Lock.eq S.reply_of S.effects_of (S.system setting.now) in
         (holder : ℕ) → attempt_of S.reply_of S.effects_of program.new
-        ≡ changed O (attempt_of S.reply_of S.effects_of program.old) program.old.phase (Answer.Held holder) }
+        ≡ changed O (attempt_of S.reply_of S.effects_of program.old)
+        program.old.phase (Answer.Held holder) }
     ensures preferred { let O = system_with S.Lock.eq S.reply_of S.effects_of (S.system setting.now) in
         (other : ℕ) → attempt_of S.reply_of S.effects_of program.new
-        ≡ changed O (attempt_of S.reply_of S.effects_of program.old) program.old.phase (Answer.Preferred other) }
+        ≡ changed O (attempt_of S.reply_of S.effects_of program.old)
+        program.old.phase (Answer.Preferred other) }
     ensures point { let O = system_with S.Lock.eq S.reply_of S.effects_of (S.system setting.now) in
-        PointStandsIn O (S.rest setting.now) (attempt_of S.reply_of S.effects_of program.new) program.new.point
-        program.new.phase }
+        PointStandsIn O (S.rest setting.now) (attempt_of S.reply_of S.effects_of program.new)
+        program.new.point program.new.phase }
     ensures count { program.new.count ≡ program.old.count }
 {
     if let Some(lock) = program.to_ask() {
@@ -125,10 +129,11 @@ fn take_lock<S: Scripts<READINGS, HELD>, const READINGS: usize, const HELD: usiz
         (S.rest setting.now) READINGS HELD program.old }
     ensures change { let O = system_with S.Lock.eq S.reply_of S.effects_of (S.system setting.now) in
         attempt_of S.reply_of S.effects_of program.new
-        ≡ changed O (attempt_of S.reply_of S.effects_of program.old) program.old.phase Answer.Seized }
+        ≡ changed O (attempt_of S.reply_of S.effects_of program.old)
+        program.old.phase Answer.Seized }
     ensures point { let O = system_with S.Lock.eq S.reply_of S.effects_of (S.system setting.now) in
-        PointStandsIn O (S.rest setting.now) (attempt_of S.reply_of S.effects_of program.new) program.new.point
-        program.new.phase }
+        PointStandsIn O (S.rest setting.now) (attempt_of S.reply_of S.effects_of program.new)
+        program.new.point program.new.phase }
     ensures count { program.new.count ≡ program.old.count }
 {
     if let Some(lock) = program.to_seize() {
@@ -148,11 +153,12 @@ fn take_reading<S: Scripts<READINGS, HELD>, const READINGS: usize, const HELD: u
         (S.rest setting.now) READINGS HELD program.old }
     ensures change { let O = system_with S.Lock.eq S.reply_of S.effects_of (S.system setting.now) in
         attempt_of S.reply_of S.effects_of program.new
-        ≡ changed O (attempt_of S.reply_of S.effects_of program.old) program.old.phase (Answer.Value value) }
+        ≡ changed O (attempt_of S.reply_of S.effects_of program.old)
+        program.old.phase (Answer.Value value) }
     ensures fits { value < 2 ^ 64 }
     ensures point { let O = system_with S.Lock.eq S.reply_of S.effects_of (S.system setting.now) in
-        PointStandsIn O (S.rest setting.now) (attempt_of S.reply_of S.effects_of program.new) program.new.point
-        program.new.phase }
+        PointStandsIn O (S.rest setting.now) (attempt_of S.reply_of S.effects_of program.new)
+        program.new.point program.new.phase }
     ensures count { program.new.count ≡ program.old.count }
 {
     if let Some(word) = program.to_test() {
@@ -171,10 +177,11 @@ fn take_turn<S: Scripts<READINGS, HELD>, const READINGS: usize, const HELD: usiz
         (S.rest setting.now) READINGS HELD program.old }
     ensures change { let O = system_with S.Lock.eq S.reply_of S.effects_of (S.system setting.now) in
         attempt_of S.reply_of S.effects_of program.new
-        ≡ changed O (attempt_of S.reply_of S.effects_of program.old) program.old.phase (Answer.Turn number) }
+        ≡ changed O (attempt_of S.reply_of S.effects_of program.old)
+        program.old.phase (Answer.Turn number) }
     ensures point { let O = system_with S.Lock.eq S.reply_of S.effects_of (S.system setting.now) in
-        PointStandsIn O (S.rest setting.now) (attempt_of S.reply_of S.effects_of program.new) program.new.point
-        program.new.phase }
+        PointStandsIn O (S.rest setting.now) (attempt_of S.reply_of S.effects_of program.new)
+        program.new.point program.new.phase }
     ensures count { program.new.count ≡ program.old.count }
 {
     let phase = program.phase;
@@ -214,8 +221,8 @@ fn free_on<S: Scripts<READINGS, HELD>, const READINGS: usize, const HELD: usize>
         attempt_of S.reply_of S.effects_of program.new
         ≡ freed O (attempt_of S.reply_of S.effects_of program.old) (rest_of program.old.held) }
     ensures point { let O = system_with S.Lock.eq S.reply_of S.effects_of (S.system setting.now) in
-        PointStandsIn O (S.rest setting.now) (attempt_of S.reply_of S.effects_of program.new) program.new.point
-        program.new.phase }
+        PointStandsIn O (S.rest setting.now) (attempt_of S.reply_of S.effects_of program.new)
+        program.new.point program.new.phase }
     ensures count { program.new.count ≡ program.old.count }
 {
     program.free_first();
@@ -233,8 +240,8 @@ fn take_done<S: Scripts<READINGS, HELD>, const READINGS: usize, const HELD: usiz
         attempt_of S.reply_of S.effects_of program.new
         ≡ changed O (attempt_of S.reply_of S.effects_of program.old) program.old.phase Answer.Done }
     ensures point { let O = system_with S.Lock.eq S.reply_of S.effects_of (S.system setting.now) in
-        PointStandsIn O (S.rest setting.now) (attempt_of S.reply_of S.effects_of program.new) program.new.point
-        program.new.phase }
+        PointStandsIn O (S.rest setting.now) (attempt_of S.reply_of S.effects_of program.new)
+        program.new.point program.new.phase }
     ensures count { program.new.count ≡ program.old.count }
 {
     let phase = program.phase;
