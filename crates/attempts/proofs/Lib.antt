@@ -6,4 +6,3 @@ pub mod Walking
 pub mod Onward
 pub mod Giving
 pub mod Counts
-pub mod Steps

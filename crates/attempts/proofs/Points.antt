@@ -27,16 +27,6 @@ module _ {Lock : Type 0} (same : Lock → Lock → Bool) where
     pub goes_later : (seen mid : Seen Lock) (one two : Script Lock A) → Extends same seen mid → GoesTo same seen one two → GoesTo same mid one two
     goes_later seen mid one two grows to more extends = to more (extends_twice seen mid more grows extends)
 
-    -- a word that was read is gone past
-    pub goes_past_test : (seen : Seen Lock) (word value : ℕ) (script : ℕ → Script Lock A) → value_read seen.readings word ≡ Some value → GoesTo same seen (TestThen word script) (script value)
-    unfolding walk left left_of_test
-    goes_past_test seen word value script read more extends = rw (extends.readings word value read) refl
-
-    -- a lock that is held is gone past
-    pub goes_past_seizing : (seen : Seen Lock) (lock : Lock) (script : Script Lock A) → is_held same seen.held lock ≡ true → GoesTo same seen (SeizeThen lock script) script
-    unfolding walk left left_of_seizing
-    goes_past_seizing seen lock script held more extends = rw (extends.held lock held) refl
-
     -- what was gone through is gone through with more
     pub gone_through : (seen more : Seen Lock) (script : Script Lock A) (found : A) → Extends same seen more → walk same seen script ≡ Ok found → walk same more script ≡ Ok found
     unfolding walk left left_of_test left_of_seizing first_wanted
