@@ -1,9 +1,8 @@
 -- what was seized or read leaves a way point standing, and has room
-use Rattle.std.proofs.Common.{◌≡◌, ℕ, ◌<◌, ◌^◌, Bool, true, List, [], ◌∷◌, ◌++◌, length, refl, sym, ◌∙◌, ap, subst}
+use Rattle.std.proofs.Common.{◌≡◌, ℕ, ◌<◌, Bool, true, List, [], ◌∷◌, ◌++◌, length, refl, sym, ◌∙◌, ap, subst}
 use Rattle.std.specs.Prelude.{None}
-use Rattle.turns.specs.Attempt.{Act, act, change, restarted, seen_of}
+use Rattle.turns.specs.Attempt.{Act, act, change, restarted}
 use Rattle.turns.specs.Script.{Script, AsksAtMost}
-use Rattle.turns.specs.Seen.{Seen}
 use Rattle.turns.specs.System.{System, IsSystem}
 use Rattle.turns.specs.World.{place}
 use Rattle.turns.specs.declared.answer.Answer.{Answer}

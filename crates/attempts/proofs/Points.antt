@@ -1,11 +1,8 @@
 -- way points: where what is left from a point on is what is left of a script
-use Rattle.std.proofs.Common.{◌≡◌, ℕ, Bool, true, false, refl, sym, ◌∙◌, ap}
-use Rattle.std.specs.Prelude.{Option, Some, None, List, [], ◌∷◌, ◌++◌, Result, Ok, Err}
+use Rattle.std.proofs.Common.{◌≡◌, ℕ, Bool, true, false, refl, ◌∙◌}
+use Rattle.std.specs.Prelude.{Option, Some, None, Ok}
 use Rattle.turns.specs.Script.{Script, Ends, TestThen, SeizeThen, ◌>>=◌, is_held, value_read, left, left_of_test, left_of_seizing, first_wanted, walk}
 use Rattle.turns.specs.Seen.{Seen}
-use Rattle.turns.specs.declared.reading.Reading.{Reading}
-use Rattle.turns.specs.declared.wanted.Wanted.{Wanted}
-use Rattle.turns.specs.declared.wanted.Wanted.TheVariants.{Seize, Test}
 use Rattle.turns.proofs.Walks.{walk_goes_on}
 use Rattle.attempts.specs.Points.{Extends, GoesTo}
 

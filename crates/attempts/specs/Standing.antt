@@ -1,4 +1,4 @@
-use Rattle.std.specs.Prelude.{◌≡◌, ◌<◌, ◌-◌, ℕ, Bool, Option, Some, None, List, [], drop, length, option_map, ⊤}
+use Rattle.std.specs.Prelude.{◌<◌, ◌-◌, ℕ, Bool, Option, Some, None, List, [], drop, length, option_map, ⊤}
 use Rattle.turns.specs.Among.{IsIn}
 use Rattle.turns.specs.Attempt as generic
 use Rattle.turns.specs.Script.{Script, AsksAtMost, left}

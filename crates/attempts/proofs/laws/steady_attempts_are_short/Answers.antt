@@ -1,4 +1,4 @@
-use Rattle.std.proofs.Common.{◌*◌, ◌+◌, arith}
+use Rattle.std.proofs.Common.{arith}
 use Rattle.turns.specs.Attempt.{begin}
 use Rattle.turns.proofs.Standing.{stands_begin}
 use Rattle.turns.proofs.SteadyAttempts.{steady_within, within_begin}
