@@ -1,11 +1,10 @@
 use Rattle.std.proofs.Common.{◌≡◌, ℕ, ◌<◌, ◌≤◌, List, [], length, get_or, map, refl, sym, ◌∙◌, ap, arith}
-use Rattle.std.specs.Prelude.{Option, Some, None, slice_get, find, position, option_map, nat_lt, ◌==◌, Bool}
+use Rattle.std.specs.Prelude.{Option, Some, None, slice_get, find, position, option_map, nat_lt, ◌==◌}
 use Rattle.std.proofs.lemmas.List.Quantifiers.{position-Some}
-use Rattle.std.proofs.lemmas.Option.{same_Some, slice_get-get_or, slice_get_within}
+use Rattle.std.proofs.lemmas.Option.{same_Some, slice_get-get_or}
 use Rattle.std.proofs.lemmas.Bool.{leb-true, ltb-true}
 use borrow.Author.Tests.{eqb-true}
 use Rattle.xbar_equip.proofs.Lists.{each_passes, found_passes}
-use Rattle.xbar_equip.specs.Len.{Line}
 use Rattle.xbar_plan.specs.Tables.{Tables, Station, Route, lines_of, route_of}
 use Rattle.xbar_plan.specs.Lawful.{IsLawful}
 use Rattle.xbar_plan.specs.Directory.{Directory, IsDirectoryOf}

@@ -34,8 +34,7 @@ pub fn link_number(link: Link) -> u16
         LinkKind::Junctor => 1000,
         LinkKind::TrunkLink => 2000,
     };
-    before
-        + (100 * u16::from(link.frame()) + 10 * u16::from(link.at()) + u16::from(link.channel()))
+    before + (100 * u16::from(link.frame()) + 10 * u16::from(link.at()) + u16::from(link.channel()))
 }
 
 pub fn station_numbers(alloc: Global, stations: &[Station]) -> Result<Vec<u16>, AllocError>

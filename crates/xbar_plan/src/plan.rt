@@ -35,12 +35,12 @@ impl Model for Plan {
     } };
 
     ghost invariant = { λ a. IsKept
-      (record {
-        groups = a.groups.items;
-        stations = a.stations.items;
-        routes = a.routes.items;
-        faults = a.faults.items;
-      }) a.directory };
+        (record {
+          groups = a.groups.items;
+          stations = a.stations.items;
+          routes = a.routes.items;
+          faults = a.faults.items;
+        }) a.directory };
 }
 
 impl Plan {
@@ -120,13 +120,7 @@ impl Plan {
         let groups = example::groups(alloc)?;
         let stations = example::stations(alloc)?;
         let routes = example::routes(alloc)?;
-        Ok(Plan::new(
-            alloc,
-            groups,
-            stations,
-            routes,
-            Vec::new(alloc),
-        )?)
+        Ok(Plan::new(alloc, groups, stations, routes, Vec::new(alloc))?)
     }
 
     /// A TOML text of the plan in version 2 of its form, which reads back as the same plan.
@@ -185,10 +179,11 @@ impl Plan {
         ensures route { option_copied result ≡ route_of self.now code }
         ensures lawful { IsLawful self.now }
     {
+        let directory = &self.directory;
         if code >= 1000 {
             return None;
         }
-        let place = self.directory.route_of(code)?;
+        let place = directory.route_of(code)?;
         Some(self.routes[usize::from(place)].groups())
     }
 

@@ -37,7 +37,10 @@ pub fn places_of(alloc: Global, groups: &[Group]) -> Result<Vec<Ten>, AllocError
 fn numbers_of(alloc: Global, places: &[Ten]) -> Result<Vec<u16>, AllocError>
     ensures { IfOk result (λ numbers. numbers.items ≡ map number_of_place places.now) }
 {
-    places.iter().map(|place| place_number(*place)).collect(alloc)
+    places
+        .iter()
+        .map(|place| place_number(*place))
+        .collect(alloc)
 }
 
 pub fn are_places_distinct(alloc: Global, groups: &[Group]) -> Result<bool, AllocError>

@@ -19,17 +19,17 @@ loop-place-preserved c =
             first = placed c.loop-place.places.items c.args.numbers.now c.loop-place.place c.from-number.result c.args.count c.loop-place-test.true c.from-number.ensures size below free c.loop-place.invariant.first;
           })
       | else-number-count w ↦ rw w.places-is (record {
-          size = size;
-          first = kept c.loop-place.places.items c.args.numbers.now c.loop-place.place c.from-number.result c.args.count c.loop-place-test.true c.from-number.ensures
-          (elim w.else-number-count.branch as (λ _. c.from-number.result < c.args.count → is_some (get_or c.loop-place.places.items c.from-number.result None) ≡ true) [
-            | else-number-count-via-then-number-count+else-is_none v ↦ λ below.
-                let fits : c.from-number.result < length c.loop-place.places.items = omega (arith, size, below) in
-                let read = get_or_read c.loop-place.places.items c.from-number.result v.index.result.now fits v.index.ensures None in
-                ap is_some (sym read) ∙ v.if-is_none.ensures
-            | else-number-count-via-else-number-count v ↦ λ below.
-                let past = v.if-number-count.false in
-                absurd (omega (arith, below, past))
-          ])
-          c.loop-place.invariant.first;
-        })
+        size = size;
+        first = kept c.loop-place.places.items c.args.numbers.now c.loop-place.place c.from-number.result c.args.count c.loop-place-test.true c.from-number.ensures
+            (elim w.else-number-count.branch as (λ _. c.from-number.result < c.args.count → is_some (get_or c.loop-place.places.items c.from-number.result None) ≡ true) [
+              | else-number-count-via-then-number-count+else-is_none v ↦ λ below.
+                  let fits : c.from-number.result < length c.loop-place.places.items = omega (arith, size, below) in
+                  let read = get_or_read c.loop-place.places.items c.from-number.result v.index.result.now fits v.index.ensures None in
+                  ap is_some (sym read) ∙ v.if-is_none.ensures
+              | else-number-count-via-else-number-count v ↦ λ below.
+                  let past = v.if-number-count.false in
+                  absurd (omega (arith, below, past))
+            ])
+            c.loop-place.invariant.first;
+      })
     ]

@@ -1,6 +1,6 @@
-use Rattle.std.proofs.Common.{rules, ◌≡◌, ◌≤◌, length, map, ◌∙◌, ap, arith}
+use Rattle.std.proofs.Common.{rules, ◌≡◌, length, map, ◌∙◌, ap, arith}
 use Rattle.std.proofs.lemmas.List.{length-map}
-use Rattle.xbar_plan.specs.Tables.{Tables, Station, Route}
+use Rattle.xbar_plan.specs.Tables.{Station, Route}
 use Rattle.xbar_plan.proofs.LawfulPlans.{group_count-range, member_count-range}
 use Rattle.xbar_plan.proofs.LawfulDirectories.{few-stations, few-routes, first-items}
 use Rattle.xbar_plan.proofs.directory.Directory.new.Goals as goal

@@ -1,6 +1,5 @@
-use Rattle.std.proofs.Common.{rules, ◌≡◌, ◌<◌, length, true, sym, ◌∙◌, subst, arith}
+use Rattle.std.proofs.Common.{rules, ◌≡◌, ◌<◌, length, true, ◌∙◌, arith}
 use Rattle.std.proofs.lemmas.List.{length-set}
-use Rattle.xbar_equip.specs.Link.{Link, IsLink}
 use Rattle.xbar_plan.specs.Numbered.{link_number}
 use Rattle.xbar_plan.proofs.MarkedLinks.{marks-more, all-marked}
 use Rattle.xbar_plan.proofs.directory.faults.marked_links.Goals as goal
