@@ -1,15 +1,50 @@
-use desks::Jobs;
-use slots::{Effect, Job, Program, Taken};
+ghost use Rattle.std.specs.Prelude.{◌≡◌, ◌<◌, ◌+◌, ◌^◌, IfSome, map, slice_get};
+ghost use Rattle.slots.specs.Few.{list_of};
+
+use crate::walks::{Point, walk_on};
+use attempts::{Attempts, Scripts, Seen};
+use slots::{Decision, Effect, Job, Taken, UpToTwo};
 use std::alloc::{AllocError, Global};
-use turns::{Answer, Operation, Phase};
+use turns::{Operation, Wanted};
+
+/// The mark at a place among those of the slots that are taken.
+fn mark_at(taken: UpToTwo<u32>, place: usize) -> Option<Effect>
+    ensures mark { result ≡ slice_get (map Effect.Mark (list_of taken)) place }
+    ensures more { IfSome result (λ effect. place + 1 < 2 ^ 64) }
+{
+    match taken {
+        UpToTwo::Empty => None,
+        UpToTwo::One(slot) => {
+            if place == 0 {
+                Some(Effect::Mark(slot))
+            } else {
+                None
+            }
+        }
+        UpToTwo::Two(slot, other) => {
+            if place == 0 {
+                Some(Effect::Mark(slot))
+            } else if place == 1 {
+                Some(Effect::Mark(other))
+            } else {
+                None
+            }
+        }
+    }
+}
+
+/// The slots by their scripts.
+pub struct SlotScripts;
 
 /// The slots as jobs that desks do.
-pub struct SlotJobs;
+pub type SlotJobs = Attempts<SlotScripts, 2, 2>;
 
-impl Jobs for SlotJobs {
-    ghost use Rattle.slots.specs.Programs.{Keeps, attempt_of};
+impl Scripts<2, 2> for SlotScripts {
+    ghost use Rattle.attempts.specs.SystemWith.{with};
+    ghost use Rattle.slots.proofs.SlotBounds.{slots_bounded};
     ghost use Rattle.slots.proofs.SlotsSystem.{slots_system};
-    ghost use Rattle.slots.specs.System.{slots_over};
+    ghost use Rattle.slots.specs.System.{effects_of, reply_of, slots_over};
+    ghost use Rattle.slot_desks.specs.SlotWalks.{rest};
 
     type Setting = ();
 
@@ -23,22 +58,74 @@ impl Jobs for SlotJobs {
 
     type Effect = Effect;
 
-    type Program = Program;
+    type Decision = Decision;
+
+    type Point = Point;
 
     ghost kept = { λ unit. unit };
 
-    ghost system = { λ _. slots_over };
+    ghost system = { λ _. with slots_over };
+
+    ghost reply_of = { reply_of };
+
+    ghost effects_of = { effects_of };
 
     ghost IsSetting = { λ _. Unit {0} };
 
-    ghost attempt = { attempt_of };
-
-    ghost Stands = { λ _ program. Keeps program };
+    ghost rest = { λ _ job point. rest job point };
 
     fn keep(_setting: &()) {}
 
-    fn begin(_setting: &(), job: Job) -> Program {
-        Program::new(job)
+    fn first(job: &Job) -> u32 {
+        match job {
+            Job::Take => 0,
+            Job::TakeBoth => 0,
+            Job::Give(slot) => slot / 4,
+        }
+    }
+
+    fn start(_job: &Job) -> Point {
+        Point::Start
+    }
+
+    fn walk(
+        _setting: &(),
+        job: &Job,
+        point: &mut Point,
+        seen: &Seen<u32>,
+    ) -> Result<Decision, Wanted<u32, usize>> {
+        walk_on(*job, point, seen)
+    }
+
+    fn reply(decision: &Decision) -> Taken {
+        match decision {
+            Decision::Takes(taken) => Taken::new(taken.slots()),
+            Decision::Gives(_) => Taken::new(UpToTwo::Empty),
+        }
+    }
+
+    fn effect(decision: &Decision, place: usize) -> Option<Effect> {
+        match decision {
+            Decision::Takes(taken) => mark_at(taken.slots(), place),
+            Decision::Gives(slot) => {
+                if place == 0 {
+                    Some(Effect::Clear(*slot))
+                } else {
+                    None
+                }
+            }
+        }
+    }
+
+    fn effect_word(_setting: &(), effect: Effect) -> usize {
+        match effect {
+            Effect::Mark(slot) => (slot / 4) as usize,
+            Effect::Clear(slot) => (slot / 4) as usize,
+        }
+    }
+
+    fn effect_operation(_setting: &(), effect: Effect) -> Operation {
+        effect.operation()
     }
 
     fn size(_setting: &()) -> usize {
@@ -53,47 +140,11 @@ impl Jobs for SlotJobs {
         4
     }
 
-    fn rests(program: &Program) -> bool {
-        program.rests()
-    }
-
-    fn is_given_up(program: &Program) -> bool {
-        match program.phase() {
-            Phase::Withdraws(_) => true,
-            Phase::GivesBack => true,
-            Phase::Requests(_) => false,
-            Phase::Seizes(_, _) => false,
-            Phase::Tests(_) => false,
-            Phase::Turns => false,
-            Phase::Operates(_) => false,
-        }
-    }
-
-    fn outcome(program: &Program) -> Option<(u64, Job, Taken)> {
-        let Phase::Operates(turn) = program.phase() else {
-            return None;
-        };
-        match program.reply() {
-            Some(taken) => Some((turn, program.job(), Taken::new(taken))),
-            None => None,
-        }
-    }
-
-    fn place(_setting: &(), program: &Program) -> usize {
-        program.place()
-    }
-
-    fn operation(_setting: &(), actor: u32, program: &Program) -> Operation {
-        program.operation(actor)
-    }
-
-    fn take(_setting: &(), actor: u32, program: &mut Program, found: u64) -> Answer {
-        program.take(actor, found)
-    }
-
-    fn restart(_setting: &(), program: &mut Program) {
-        program.restart();
+    fn lock_word(_setting: &(), lock: u32) -> usize {
+        2 + lock as usize
     }
 
     ghost is_system = { λ _ _. slots_system };
+
+    ghost asks = { λ _ job _ right. slots_bounded.asks job right };
 }

@@ -4,4 +4,3 @@ pub mod SlotsSystem
 pub mod TakenOnce
 pub mod SlotBounds
 pub mod RunByHand
-mod JobWalks

@@ -3,7 +3,9 @@ use Rattle.std.proofs.Common.{ℕ, ◌≤◌, [], length, arith}
 use Rattle.std.specs.Prelude.{Option, Some, None}
 use Rattle.turns.specs.Bounds.{AreBounded, EndsIn}
 use Rattle.turns.specs.Script.{Script, Ends, TestThen, SeizeThen, AsksAtMost}
-use Rattle.slots.specs.System.{Decision, Takes, free_in, taken_or, both_or_none, and_upper, effects_of, script, slots}
+use Rattle.slots.specs.System.{free_in, taken_or, both_or_none, and_upper, effects_of, script, slots}
+use Rattle.slots.specs.declared.decision.Decision.{Decision}
+use Rattle.slots.specs.declared.decision.Decision.TheVariants.{Takes}
 use Rattle.slots.specs.declared.job.Job.{Job}
 use Rattle.slots.specs.declared.job.Job.TheVariants.{Take, TakeBoth, Give}
 

@@ -14,9 +14,11 @@ use Rattle.turns.specs.declared.wanted.Wanted.TheVariants.{Seize}
 use Rattle.turns.proofs.Words.{zeros_below}
 use Rattle.turns.proofs.Preferring.{preferring_is, zero_unused}
 use Rattle.slots.specs.Slots.{Busy, none_busy, lowest_free, both_of, took, whole}
-use Rattle.slots.specs.System.{Shows, Decision, Takes, Gives, slot_of, operation_of, free_in, taken_or, both_or_none, and_upper, script, first_lock, IsJob, slots}
+use Rattle.slots.specs.System.{Shows, slot_of, operation_of, free_in, taken_or, both_or_none, and_upper, script, first_lock, IsJob, slots}
 use Rattle.slots.specs.declared.effect.Effect.{Effect}
 use Rattle.slots.specs.declared.effect.Effect.TheVariants.{Mark, Clear}
+use Rattle.slots.specs.declared.decision.Decision.{Decision}
+use Rattle.slots.specs.declared.decision.Decision.TheVariants.{Takes, Gives}
 use Rattle.slots.specs.declared.job.Job.{Job}
 use Rattle.slots.specs.declared.job.Job.TheVariants.{Take, TakeBoth, Give}
 use Rattle.slots.proofs.FreeSlots.{AreFree, or_first, lowest_split, lowest_same, lowest_found, one_free, both_free}

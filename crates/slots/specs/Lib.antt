@@ -3,5 +3,3 @@ pub mod System
 pub mod Taken
 pub mod WorkedRun
 pub mod Few
-pub mod Come
-pub mod Programs

@@ -6,6 +6,8 @@ use Rattle.turns.specs.System.{System, SystemOver, system_of}
 use Rattle.turns.specs.declared.operation.Operation.{Operation}
 use Rattle.turns.specs.declared.operation.Operation.TheVariants.{Or, And}
 use Rattle.slots.specs.Slots.{Busy, none_busy, lowest_free, whole}
+use Rattle.slots.specs.declared.decision.Decision.{Decision}
+use Rattle.slots.specs.declared.decision.Decision.TheVariants.{Takes, Gives}
 use Rattle.slots.specs.declared.effect.Effect.{Effect}
 use Rattle.slots.specs.declared.effect.Effect.TheVariants.{Mark, Clear}
 use Rattle.slots.specs.declared.job.Job.{Job}
@@ -35,11 +37,7 @@ abbrev pub Due : Effect → ℕ → Type 0
 Due (Mark slot) word = bit_at word (slot % 4) ≡ 0
 Due (Clear slot) word = ⊤
 
--- what a job comes to
-pub data Decision : Type 0 where
-  Takes : List ℕ → Decision
-  Gives : ℕ → Decision
-
+-- what a job comes to: its reply, and its effects in their order
 abbrev pub reply_of : Decision → List ℕ
 reply_of (Takes slots) = slots
 reply_of (Gives slot) = []

@@ -4,21 +4,16 @@
 //! own. A job takes the lowest free slot, takes one of each bank at once, or gives one back.
 #![tactic(auto)]
 
-pub use choice::Choice;
+pub use decision::Decision;
 pub use effect::Effect;
 pub use job::Job;
-pub use program::Program;
 pub use taken::Taken;
 pub use up_to_two::UpToTwo;
 
 pub mod bank;
-mod choice;
-mod coming;
+mod decision;
 mod effect;
 mod job;
 pub mod laws;
-mod placing;
-mod program;
 mod taken;
-mod taking;
 mod up_to_two;

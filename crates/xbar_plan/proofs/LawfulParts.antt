@@ -84,7 +84,9 @@ formed plan lawful =
 pub record AreWithin (plan : Tables) : Type 0 where
   pub groups : nat_le (length plan.groups) 16 ≡ true
   pub members : list_all (λ group. is_between 1 40 (length group.members)) plan.groups ≡ true
+  pub few_stations : nat_le (length plan.stations) 3000 ≡ true
   pub lines : list_all (λ station. is_between 1 10 (length station.lines)) plan.stations ≡ true
+  pub few_routes : nat_le (length plan.routes) 64 ≡ true
   pub routes : list_all (λ route. is_between 1 4 (length route.groups)) plan.routes ≡ true
 
 pub within : (plan : Tables) → IsLawful plan → AreWithin plan
@@ -98,4 +100,4 @@ within plan lawful =
     let g = both (nat_le (length plan.groups) 16) (list_all (λ group. is_between 1 40 (length group.members)) plan.groups) e2.0 in
     let s = both (nat_le (length plan.stations) 3000) (list_all (λ station. is_between 1 10 (length station.lines)) plan.stations) e2.1 in
     let r = both (nat_le (length plan.routes) 64) (list_all (λ route. is_between 1 4 (length route.groups)) plan.routes) e3.1 in
-    record { groups = g.0; members = g.1; lines = s.1; routes = r.1 }
+    record { groups = g.0; members = g.1; few_stations = s.0; lines = s.1; few_routes = r.0; routes = r.1 }

@@ -9,6 +9,10 @@ pub mod LawfulPlans
 pub mod LawfulLookups
 pub mod OtherPlaces
 pub mod MemberPlaces
+pub mod FirstPlaces
+pub mod PlacedMembers
+pub mod MarkedLinks
+pub mod LawfulDirectories
 pub mod ReadAll
 pub mod WhoseText
 pub mod Parts

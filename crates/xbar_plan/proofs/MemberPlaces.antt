@@ -11,12 +11,8 @@ use Rattle.xbar_plan.proofs.Lists.{position-none, position-some}
 use Rattle.xbar_plan.proofs.LawfulPlans.{member-numbers, place_at-range, stands_at-has}
 use Rattle.xbar_plan.proofs.OtherPlaces.{others}
 
--- the first item that passes is at its position
-first_with-is : {X : Type 0} (test : X → Bool) (xs : List X) (n : ℕ) (x : X) → position test xs ≡ Some n → slice_get xs n ≡ Some x → first_with test xs ≡ Some (n, x)
-first_with-is {X} test xs n x at here =
-    ap (option_and_then (λ number. option_map {U = ℕ × X} (λ item. (number, item)) (slice_get xs number))) at ∙ ap (option_map {U = ℕ × X} (λ item. (n, item))) here
-
-first_with-none : {X : Type 0} (test : X → Bool) (xs : List X) → position test xs ≡ None → first_with test xs ≡ None
+-- where no item passes nothing is found
+pub first_with-none : {X : Type 0} (test : X → Bool) (xs : List X) → position test xs ≡ None → first_with test xs ≡ None
 first_with-none {X} test xs e = ap (option_and_then (λ number. option_map {U = ℕ × X} (λ item. (number, item)) (slice_get xs number))) e
 
 -- what is found is an item that passes
@@ -24,7 +20,7 @@ pub record IsFirst {X : Type 0} (test : X → Bool) (xs : List X) (n : ℕ) (x :
   pub here : slice_get xs n ≡ Some x
   pub passes : test x ≡ true
 
-first_with-found : {X : Type 0} (test : X → Bool) (xs : List X) (n : ℕ) (x : X) → first_with test xs ≡ Some (n, x) → IsFirst test xs n x
+pub first_with-found : {X : Type 0} (test : X → Bool) (xs : List X) (n : ℕ) (x : X) → first_with test xs ≡ Some (n, x) → IsFirst test xs n x
 first_with-found {X} test xs n x e = of (position test xs) refl e where
   found : (m : ℕ) (o : Option X) → slice_get xs m ≡ o → IsSomeAnd o (λ y. test y ≡ true) → option_map {U = ℕ × X} (λ item. (m, item)) o ≡ Some (n, x) → IsFirst test xs n x
   found m None is passes e = absurd passes
@@ -45,7 +41,7 @@ first_with-found {X} test xs n x e = of (position test xs) refl e where
   of (Some m) at e = found m (slice_get xs m) refl (position-some test m xs at) e
 
 -- where nothing is found no item passes
-first_with-fails : {X : Type 0} (test : X → Bool) (xs : List X) → first_with test xs ≡ None → (i : ℕ) → IfSome (slice_get xs i) (λ x. test x ≡ false)
+pub first_with-fails : {X : Type 0} (test : X → Bool) (xs : List X) → first_with test xs ≡ None → (i : ℕ) → IfSome (slice_get xs i) (λ x. test x ≡ false)
 first_with-fails {X} test xs e = of (position test xs) refl e where
   found : (m : ℕ) (o : Option X) → IsSomeAnd o (λ y. test y ≡ true) → option_map {U = ℕ × X} (λ item. (m, item)) o ≡ None → (i : ℕ) → IfSome (slice_get xs i) (λ x. test x ≡ false)
   found m None passes e = absurd passes
@@ -54,24 +50,6 @@ first_with-fails {X} test xs e = of (position test xs) refl e where
   of : (o : Option ℕ) → position test xs ≡ o → option_and_then (λ number. option_map {U = ℕ × X} (λ item. (number, item)) (slice_get xs number)) o ≡ None → (i : ℕ) → IfSome (slice_get xs i) (λ x. test x ≡ false)
   of None at e = position-none test xs at
   of (Some m) at e = found m (slice_get xs m) (position-some test m xs at) e
-
--- the member at the position found in the group found is the answer
-pub member_place-is : (plan : Tables) (place : TrunkPlace) (number index : ℕ) (group : TrunkGroup) (member : Member) → position (has_member_at place) plan.groups ≡ Some number → slice_get plan.groups number ≡ Some group → position (λ own. stands_at own place) group.members ≡ Some index → slice_get group.members index ≡ Some member → member_place plan place ≡ Some (record { group = number; index = index; other = other_place member place })
-member_place-is plan place number index group member at here in_group there =
-    ap (option_and_then (λ found. member_within found.0 found.1 place)) (first_with-is (has_member_at place) plan.groups number group at here)
-    ∙ ap (option_map (λ found. record { group = number; index = found.0; other = other_place found.1 place }))
-    (first_with-is (λ own. stands_at own place) group.members index member in_group there)
-
--- no answer where no group has such a member
-pub member_place-none : (plan : Tables) (place : TrunkPlace) → position (has_member_at place) plan.groups ≡ None → member_place plan place ≡ None
-member_place-none plan place e =
-    ap (option_and_then (λ found. member_within found.0 found.1 place)) (first_with-none (has_member_at place) plan.groups e)
-
-pub member_place-no_member : (plan : Tables) (place : TrunkPlace) (number : ℕ) (group : TrunkGroup) → position (has_member_at place) plan.groups ≡ Some number → slice_get plan.groups number ≡ Some group → position (λ own. stands_at own place) group.members ≡ None → member_place plan place ≡ None
-member_place-no_member plan place number group at here none =
-    ap (option_and_then (λ found. member_within found.0 found.1 place)) (first_with-is (has_member_at place) plan.groups number group at here)
-    ∙ ap (option_map (λ found. record { group = number; index = found.0; other = other_place found.1 place }))
-    (first_with-none (λ own. stands_at own place) group.members none)
 
 neither : (a b : Bool) → (a || b) ≡ false → (a ≡ false) × (b ≡ false)
 neither true b e = cc
@@ -82,7 +60,7 @@ any_fails test [] e i = tt
 any_fails test (x ∷ xs) e zero = (neither (test x) (list_any test xs) e).0
 any_fails test (x ∷ xs) e (suc i) = any_fails test xs (neither (test x) (list_any test xs) e).1 i
 
-none_of_any : {X : Type 0} (test : X → Bool) (xs : List X) → ((i : ℕ) → IfSome (slice_get xs i) (λ x. test x ≡ false)) → list_any test xs ≡ true → ⊥
+pub none_of_any : {X : Type 0} (test : X → Bool) (xs : List X) → ((i : ℕ) → IfSome (slice_get xs i) (λ x. test x ≡ false)) → list_any test xs ≡ true → ⊥
 none_of_any test [] none e = cc
 none_of_any test (x ∷ xs) none e = none_of_any test xs (λ i. none (suc i)) (ap (λ b. b || list_any test xs) (sym (none zero)) ∙ e)
 

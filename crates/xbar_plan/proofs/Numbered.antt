@@ -10,7 +10,7 @@ use Rattle.xbar_plan.specs.Lawful.{are_distinct}
 use Rattle.xbar_plan.specs.Numbered.{place_number}
 
 -- places in range have one number only where they are one
-one_place : (a b : TrunkPlace) → IsTrunkPlace a → IsTrunkPlace b → place_number a ≡ place_number b → a ≡ b
+pub one_place : (a b : TrunkPlace) → IsTrunkPlace a → IsTrunkPlace b → place_number a ≡ place_number b → a ≡ b
 one_place a b h k e =
     let ha = h.appearance in
     let hs = h.switch in

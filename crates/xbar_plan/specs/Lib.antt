@@ -6,6 +6,7 @@ pub mod Tables
 pub mod Fault
 pub mod Lawful
 pub mod Numbered
+pub mod Directory
 pub mod Texts
 pub mod Document
 pub mod Written

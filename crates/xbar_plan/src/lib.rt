@@ -8,11 +8,13 @@ pub use plan::Plan;
 pub use route::Route;
 pub use station::Station;
 
+mod directory;
 mod example;
 mod fault;
 mod group;
 mod lawful;
 pub mod laws;
+mod numbers;
 mod plan;
 mod read;
 mod route;

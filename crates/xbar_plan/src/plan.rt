@@ -1,7 +1,7 @@
 ghost use Rattle.std.specs.Prelude.{◌≡◌, ◌<◌, IfOk, option_copied, length, position};
 ghost use Rattle.xbar_plan.specs.Group.{is_register};
-ghost use Rattle.xbar_plan.specs.Tables.{has_member_at};
 
+use crate::directory::Directory;
 use crate::fault::PlanFault;
 use crate::group::{Group, MemberPlace};
 use crate::route::Route;
@@ -18,11 +18,12 @@ pub struct Plan {
     stations: Vec<Station>,
     routes: Vec<Route>,
     faults: Vec<Link>,
+    directory: Directory,
 }
 
 impl Model for Plan {
     ghost use Rattle.xbar_plan.specs.Tables.{Tables};
-    ghost use Rattle.xbar_plan.specs.Lawful.{IsLawful};
+    ghost use Rattle.xbar_plan.specs.Directory.{IsKept};
 
     ghost Value = { Tables };
 
@@ -33,12 +34,13 @@ impl Model for Plan {
       faults = a.faults.items;
     } };
 
-    ghost invariant = { λ a. IsLawful (record {
-      groups = a.groups.items;
-      stations = a.stations.items;
-      routes = a.routes.items;
-      faults = a.faults.items;
-    }) };
+    ghost invariant = { λ a. IsKept
+        (record {
+          groups = a.groups.items;
+          stations = a.stations.items;
+          routes = a.routes.items;
+          faults = a.faults.items;
+        }) a.directory };
 }
 
 impl Plan {
@@ -51,30 +53,33 @@ impl Plan {
 
     /// Makes a plan of tables that are known to be lawful.
     pub fn new(
+        alloc: Global,
         groups: Vec<Group>,
         stations: Vec<Station>,
         routes: Vec<Route>,
         faults: Vec<Link>,
-    ) -> Self
+    ) -> Result<Self, AllocError>
         requires { IsLawful (record {
           groups = groups.items;
           stations = stations.items;
           routes = routes.items;
           faults = faults.items;
         }) }
-        ensures { result ≡ record {
+        ensures { IfOk result (λ plan. plan ≡ record {
           groups = groups.items;
           stations = stations.items;
           routes = routes.items;
           faults = faults.items;
-        } }
+        }) }
     {
-        Plan {
+        let directory = Directory::new(alloc, &groups, &stations, &routes, &faults)?;
+        Ok(Plan {
             groups,
             stations,
             routes,
             faults,
-        }
+            directory,
+        })
     }
 
     /// Makes a plan of tables, or tells the least fault that they have.
@@ -93,7 +98,7 @@ impl Plan {
         }) result }
     {
         match lawful::fault_in(alloc, &groups, &stations, &routes, &faults)? {
-            None => Ok(Plan::new(groups, stations, routes, faults)),
+            None => Ok(Plan::new(alloc, groups, stations, routes, faults)?),
             Some(fault) => Err(fault),
         }
     }
@@ -112,12 +117,10 @@ impl Plan {
     pub fn example(alloc: Global) -> Result<Self, AllocError>
         ensures { IfOk result (λ plan. plan ≡ the_example) }
     {
-        Ok(Plan::new(
-            example::groups(alloc)?,
-            example::stations(alloc)?,
-            example::routes(alloc)?,
-            Vec::new(alloc),
-        ))
+        let groups = example::groups(alloc)?;
+        let stations = example::stations(alloc)?;
+        let routes = example::routes(alloc)?;
+        Ok(Plan::new(alloc, groups, stations, routes, Vec::new(alloc))?)
     }
 
     /// A TOML text of the plan in version 2 of its form, which reads back as the same plan.
@@ -165,15 +168,9 @@ impl Plan {
         ensures member { result ≡ member_place self.now place }
         ensures lawful { IsLawful self.now }
     {
-        let number = position_at(&self.groups, place)?;
-        let group = &self.groups[number];
-        let index = group.position_of(place)?;
-        let member = group.members()[index];
-        Some(MemberPlace {
-            group: number as u8,
-            index: index as u8,
-            other: member.other_place(place),
-        })
+        // Called for its clauses alone.
+        xbar_equip::laws::place_is_in_range(place);
+        self.directory.member_at(place)
     }
 
     /// The groups of a code, by their numbers, in the order in which they are tried; none for a
@@ -182,10 +179,12 @@ impl Plan {
         ensures route { option_copied result ≡ route_of self.now code }
         ensures lawful { IsLawful self.now }
     {
-        self.routes
-            .iter()
-            .find(|route| route.code() == code)
-            .map(|route| route.groups())
+        let directory = &self.directory;
+        if code >= 1000 {
+            return None;
+        }
+        let place = directory.route_of(code)?;
+        Some(self.routes[usize::from(place)].groups())
     }
 
     /// The lines of a directory number, one to ten, in the order in which they are hunted; none for
@@ -194,10 +193,10 @@ impl Plan {
         ensures lines { option_copied result ≡ lines_of self.now number }
         ensures lawful { IsLawful self.now }
     {
-        self.stations
-            .iter()
-            .find(|station| station.number() == number)
-            .map(|station| station.lines())
+        // Called for its range.
+        let _number = number.number();
+        let place = self.directory.station_of(number)?;
+        Some(self.stations[usize::from(place)].lines())
     }
 
     /// Whether the link is out of order.
@@ -205,15 +204,10 @@ impl Plan {
         ensures faulty { result ≡ is_faulty self.now link }
         ensures lawful { IsLawful self.now }
     {
-        self.faults.contains(&link)
+        // Called for its clauses alone.
+        xbar_equip::laws::link_is_in_range(link);
+        self.directory.is_faulty(link)
     }
-}
-
-/// The first group that has a member at the place.
-fn position_at(groups: &[Group], place: Ten) -> Option<usize>
-    ensures { result ≡ position (has_member_at place) groups.now }
-{
-    groups.iter().position(|group| group.has_member_at(place))
 }
 
 fn register_position(groups: &[Group]) -> Option<usize>

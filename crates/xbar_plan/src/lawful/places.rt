@@ -3,10 +3,11 @@
 ghost use Rattle.std.specs.Prelude.{◌≡◌, ◌++◌, IfOk, OnOk, map};
 ghost use Rattle.std.specs.List.{list_all};
 ghost use Rattle.xbar_plan.specs.Lawful.{is_on_one_frame as stands_on_one_frame, group_places, all_places, are_places_distinct as are_places_apart, are_pairs_on_one_frame as are_pairs_on_frames};
-ghost use Rattle.xbar_plan.specs.Numbered.{place_number};
+ghost use Rattle.xbar_plan.specs.Numbered.{place_number as number_of_place};
 
 use super::distinct::are_numbers_distinct;
 use crate::group::{Group, Member};
+use crate::numbers::place_number;
 use std::alloc::{AllocError, Global};
 use xbar_equip::Ten;
 
@@ -33,19 +34,13 @@ pub fn places_of(alloc: Global, groups: &[Group]) -> Result<Vec<Ten>, AllocError
     Ok(places)
 }
 
-/// A number for each place, and another for each other place.
-fn number_of(place: Ten) -> u16
-    ensures { result ≡ place_number place }
-{
-    // Called for its clauses alone.
-    xbar_equip::laws::place_is_in_range(place);
-    100 * u16::from(place.frame()) + 10 * u16::from(place.switch()) + u16::from(place.appearance())
-}
-
 fn numbers_of(alloc: Global, places: &[Ten]) -> Result<Vec<u16>, AllocError>
-    ensures { IfOk result (λ numbers. numbers.items ≡ map place_number places.now) }
+    ensures { IfOk result (λ numbers. numbers.items ≡ map number_of_place places.now) }
 {
-    places.iter().map(|place| number_of(*place)).collect(alloc)
+    places
+        .iter()
+        .map(|place| place_number(*place))
+        .collect(alloc)
 }
 
 pub fn are_places_distinct(alloc: Global, groups: &[Group]) -> Result<bool, AllocError>

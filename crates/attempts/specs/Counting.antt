@@ -1,0 +1,45 @@
+use Rattle.std.specs.Prelude.{ℕ, ◌+◌, ◌-◌, ◌^◌, ◌==◌, Bool, false, List, [], ◌∷◌, length, if◌then◌else◌}
+use Rattle.turns.specs.Attempt.{AttemptOf, begin, change}
+use Rattle.turns.specs.System.{System}
+use Rattle.turns.specs.declared.answer.Answer.{Answer}
+use Rattle.turns.specs.declared.phase.Phase.{Phase}
+use Rattle.turns.specs.declared.phase.Phase.TheVariants.{Requests, Seizes, Tests, Turns, Withdraws, GivesBack, Operates}
+
+-- one step more is counted, as far as 32 bits count
+abbrev pub counted : ℕ → ℕ
+counted count = if count == 2 ^ 32 - 1 then count else count + 1
+
+-- what is to request a lock while it holds none has made no step
+abbrev pub has_made_none : {Lock : Type 0} → Phase Lock ℕ → List Lock → Bool
+has_made_none (Requests lock) held = length held == 0
+has_made_none (Seizes lock expected) held = false
+has_made_none (Tests word) held = false
+has_made_none Turns held = false
+has_made_none (Withdraws lock) held = false
+has_made_none GivesBack held = false
+has_made_none (Operates turn) held = false
+
+-- what begins anew counts from 0
+abbrev pub count_in : {Lock : Type 0} → Phase Lock ℕ → List Lock → ℕ → ℕ
+count_in phase held count = if has_made_none phase held then 0 else count
+
+module _ (O : System) where
+  -- an attempt, and how many steps it took so far
+  pub record Counted : Type 0 where
+    pub attempt : AttemptOf O
+    pub count : ℕ
+
+  -- one that has made no step
+  abbrev pub fresh : O.Job → Counted
+  fresh job = record { attempt = begin O job; count = 0 }
+
+  -- after an answer to its next step
+  abbrev pub after_answer : Counted → Answer → Counted
+  after_answer p answer =
+      let after : AttemptOf O = change O p.attempt answer in
+      record { attempt = after; count = count_in after.phase after.held (counted p.count) }
+
+  -- and after answers one after another, each to the step that is next then
+  abbrev pub after_answers : Counted → List Answer → Counted
+  after_answers p [] = p
+  after_answers p (answer ∷ answers) = after_answers (after_answer p answer) answers

@@ -1,0 +1,5 @@
+pub mod SystemWith
+pub mod Points
+pub mod Standing
+pub mod Steps
+pub mod Counting

@@ -1,0 +1,127 @@
+use Rattle.std.specs.Prelude.{◌<◌, ◌-◌, ℕ, Bool, Option, Some, None, List, [], drop, length, option_map, ⊤}
+use Rattle.turns.specs.Among.{IsIn}
+use Rattle.turns.specs.Attempt as generic
+use Rattle.turns.specs.Script.{Script, AsksAtMost, left}
+use Rattle.turns.specs.Seen.{Seen, AreReadWords}
+use Rattle.turns.specs.System.{System}
+use Rattle.turns.specs.declared.phase.Phase.{Phase}
+use Rattle.turns.specs.declared.phase.Phase.TheVariants.{Requests, Seizes, Tests, Turns, Withdraws, GivesBack, Operates}
+use Rattle.turns.specs.declared.reading.Reading.{Reading}
+use Rattle.turns.specs.declared.wanted.Wanted.{Wanted}
+use Rattle.turns.specs.declared.wanted.Wanted.TheVariants.{Seize, Test}
+use Rattle.attempts.specs.Points.{GoesTo}
+use Rattle.attempts.specs.SystemWith.{SystemWith, system_with}
+
+-- what an attempt is at run time
+pub record Program (Lock Job Decision Point : Type 0) : Type 0 where
+  pub job : Job
+  pub point : Point
+  pub readings : List (Reading ℕ)
+  pub held : List Lock
+  pub phase : Phase Lock ℕ
+  pub decision : Option Decision
+  -- how many of the decision's effects are made
+  pub made : ℕ
+  -- how many steps it took since it began
+  pub count : ℕ
+
+-- what it is at next where its walk wants this
+abbrev pub wanted_phase : {Lock : Type 0} → Wanted Lock ℕ → Phase Lock ℕ
+wanted_phase (Seize lock) = Requests lock
+wanted_phase (Test word) = Tests word
+
+-- its phase is another than this
+abbrev pub NotSeizing : {Lock : Type 0} → Phase Lock ℕ → Type 0
+NotSeizing (Requests lock) = ⊤
+NotSeizing (Seizes lock expected) = ⊥
+NotSeizing (Tests word) = ⊤
+NotSeizing Turns = ⊤
+NotSeizing (Withdraws lock) = ⊤
+NotSeizing GivesBack = ⊤
+NotSeizing (Operates turn) = ⊤
+
+abbrev pub NotTesting : {Lock : Type 0} → Phase Lock ℕ → Type 0
+NotTesting (Requests lock) = ⊤
+NotTesting (Seizes lock expected) = ⊤
+NotTesting (Tests word) = ⊥
+NotTesting Turns = ⊤
+NotTesting (Withdraws lock) = ⊤
+NotTesting GivesBack = ⊤
+NotTesting (Operates turn) = ⊤
+
+-- the effects that are still to be made
+abbrev pub effects_left : {Decision Effect : Type 0} → (Decision → List Effect) → Option Decision → ℕ → List Effect
+effects_left effects_of None made = []
+effects_left effects_of (Some decision) made = drop made (effects_of decision)
+
+-- the attempt that it is
+abbrev pub attempt_of : {Lock Job Reply Effect Decision Point : Type 0} → (Decision → Reply) → (Decision → List Effect) → Program Lock Job Decision Point → generic.Attempt Lock Job Reply Effect
+attempt_of reply_of effects_of p = record {
+  job = p.job;
+  readings = p.readings;
+  held = p.held;
+  phase = p.phase;
+  reply = option_map reply_of p.decision;
+  effects = effects_left effects_of p.decision p.made;
+}
+
+module _ (O : System) (most_readings most_held : ℕ) where
+  open O use {Lock}
+
+  -- the attempt has room for what is left of its script
+  abbrev pub HasRoom : generic.AttemptOf O → Type 0
+  HasRoom a = AsksAtMost (most_readings - length a.readings) (most_held - length a.held) (left O.same (generic.seen_of a) (O.script a.job))
+
+  -- it needs room only as long as it goes through its script
+  abbrev pub HasRoomIn : generic.AttemptOf O → Phase Lock ℕ → Type 0
+  HasRoomIn a (Requests lock) = HasRoom a
+  HasRoomIn a (Seizes lock expected) = HasRoom a
+  HasRoomIn a (Tests word) = HasRoom a
+  HasRoomIn a Turns = ⊤
+  HasRoomIn a (Withdraws lock) = ⊤
+  HasRoomIn a GivesBack = ⊤
+  HasRoomIn a (Operates turn) = ⊤
+
+  abbrev pub AreLocks : List Lock → Type 0
+  AreLocks held = (lock : Lock) → IsIn lock held → O.IsLock lock
+
+  -- each effect is on one of the words
+  abbrev pub AreThere : List O.Effect → Type 0
+  AreThere effects = (effect : O.Effect) → IsIn effect effects → O.effect_word effect < O.size
+
+  -- an attempt stands where its job brings it, with room for what it will come by
+  pub record HasPlace (a : generic.AttemptOf O) : Type 0 where
+    pub job : O.IsJob a.job
+    pub comes : generic.Stands O a
+    pub room : HasRoomIn a a.phase
+    pub held : AreLocks a.held
+    pub read : AreReadWords a.readings
+    pub effects : AreThere a.effects
+
+-- a way point stands where what is left from it on is what is left of the script
+module _ (O : System) {Point : Type 0} (rest : O.Job → Point → Script O.Lock O.Decision) where
+  open O use {Lock}
+
+  pub record PointStands (job : O.Job) (seen : Seen Lock) (point : Point) : Type 0 where
+    pub goes : GoesTo O.same seen (O.script job) (rest job point)
+
+  -- it matters only as long as the attempt goes through its script
+  abbrev pub PointStandsIn : generic.AttemptOf O → Point → Phase Lock ℕ → Type 0
+  PointStandsIn a point (Requests lock) = PointStands a.job (generic.seen_of a) point
+  PointStandsIn a point (Seizes lock expected) = PointStands a.job (generic.seen_of a) point
+  PointStandsIn a point (Tests word) = PointStands a.job (generic.seen_of a) point
+  PointStandsIn a point Turns = ⊤
+  PointStandsIn a point (Withdraws lock) = ⊤
+  PointStandsIn a point GivesBack = ⊤
+  PointStandsIn a point (Operates turn) = ⊤
+
+module _ {Lock Job Reply Effect Decision Point : Type 0} (same : Lock → Lock → Bool) (reply_of : Decision → Reply) (effects_of : Decision → List Effect) (S : SystemWith Lock Job Reply Effect Decision) (rest : Job → Point → Script Lock Decision) where
+  -- an attempt stands where its job brings it, and so does its way point
+  pub record Stands (most_readings most_held : ℕ) (p : Program Lock Job Decision Point) : Type 0 where
+    pub place : HasPlace (system_with same reply_of effects_of S) most_readings most_held (attempt_of reply_of effects_of p)
+    pub point : PointStandsIn (system_with same reply_of effects_of S) rest (attempt_of reply_of effects_of p) p.point p.phase
+
+  -- it may go on from its way point
+  pub record CanWalk (p : Program Lock Job Decision Point) : Type 0 where
+    pub job : S.IsJob p.job
+    pub point : PointStands (system_with same reply_of effects_of S) rest p.job (generic.seen_of (attempt_of reply_of effects_of p)) p.point

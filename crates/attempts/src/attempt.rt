@@ -1,0 +1,304 @@
+ghost use Rattle.std.specs.Prelude.{◌≡◌, ◌<◌, ◌^◌, ◌++◌, ◌∷◌, [], ℕ, None, Some, IfNone, IfSome, length};
+ghost use Rattle.turns.specs.Attempt.{asked_in, rest_of, turn_in};
+ghost use Rattle.desks.specs.Outcomes.{is_given_up as is_given_up_in};
+ghost use Rattle.attempts.specs.Counting.{count_in, counted, has_made_none};
+ghost use Rattle.attempts.specs.Standing.{NotSeizing, NotTesting, wanted_phase};
+
+use crate::scripts::Scripts;
+use arrayvec::ArrayVec;
+use std::marker::Model;
+use turns::{Phase, Reading, Wanted};
+
+/// What an actor knows of its job since it last began it. It has a fixed size, and holds no borrow
+/// of the setting.
+#[derive(Drop)]
+pub struct Attempt<L, J, D, P, const READINGS: usize, const HELD: usize> {
+    pub(crate) job: J,
+    pub(crate) point: P,
+    pub(crate) readings: ArrayVec<Reading<usize>, READINGS>,
+    pub(crate) held: ArrayVec<L, HELD>,
+    pub(crate) phase: Phase<L, usize>,
+    pub(crate) decision: Option<D>,
+    /// How many of the decision's effects are made.
+    pub(crate) made: usize,
+    pub(crate) count: u32,
+}
+
+/// The attempts at jobs that are given so.
+pub type AttemptOf<S, const READINGS: usize, const HELD: usize> = Attempt<
+    <S as Scripts<READINGS, HELD>>::Lock,
+    <S as Scripts<READINGS, HELD>>::Job,
+    <S as Scripts<READINGS, HELD>>::Decision,
+    <S as Scripts<READINGS, HELD>>::Point,
+    READINGS,
+    HELD,
+>;
+
+impl<L, J, D, P, const READINGS: usize, const HELD: usize> Model
+    for Attempt<L, J, D, P, READINGS, HELD> {
+    ghost use Rattle.attempts.specs.Standing.{Program};
+
+    ghost Value = { Program L J D P };
+
+    ghost view = { λ a. record {
+      job = a.job;
+      point = a.point;
+      readings = a.readings.items;
+      held = a.held.items;
+      phase = a.phase;
+      decision = a.decision;
+      made = a.made;
+      count = a.count;
+    } };
+}
+
+impl<
+    L: Copy + Default + Drop,
+    J: Drop,
+    D: Drop,
+    P: Drop,
+    const READINGS: usize,
+    const HELD: usize,
+> Attempt<L, J, D, P, READINGS, HELD> {
+    /// An attempt at a job that seizes this lock first, from this point on.
+    pub(crate) fn new(job: J, first: L, point: P) -> Self
+        ensures { result
+            ≡ record {
+              job = job;
+              point = point;
+              readings = [];
+              held = [];
+              phase = Phase.Requests first;
+              decision = None;
+              made = 0;
+              count = 0;
+            } }
+    {
+        Attempt {
+            job,
+            point,
+            readings: ArrayVec::new(),
+            held: ArrayVec::new(),
+            phase: Phase::Requests(first),
+            decision: None,
+            made: 0,
+            count: 0,
+        }
+    }
+
+    /// The job from its beginning, with nothing held.
+    pub(crate) fn begin_anew(&mut self, first: L, point: P)
+        ensures { self.new
+            ≡ record self.old {
+              point = point;
+              readings = [];
+              held = [];
+              phase = Phase.Requests first;
+              decision = None;
+              made = 0;
+            } }
+    {
+        self.held.clear();
+        self.phase = Phase::Requests(first);
+        self.point = point;
+        self.forget();
+    }
+
+    /// Nothing read or decided is remembered.
+    pub(crate) fn forget(&mut self)
+        ensures { self.new ≡ record self.old { readings = []; decision = None; made = 0 } }
+    {
+        self.readings.clear();
+        self.decision = None;
+        self.made = 0;
+    }
+
+    /// Its request for this lock is to be withdrawn.
+    pub(crate) fn put_off(&mut self, lock: L)
+        ensures { self.new
+            ≡ record self.old {
+              readings = [];
+              decision = None;
+              made = 0;
+              phase = Phase.Withdraws lock;
+            } }
+    {
+        self.phase = Phase::Withdraws(lock);
+        self.forget();
+    }
+
+    pub(crate) fn free_first(&mut self)
+        ensures { self.new ≡ record self.old { held = rest_of self.old.held } }
+    {
+        if !self.held.is_empty() {
+            self.held.remove(0);
+        }
+    }
+
+    pub(crate) fn decide(&mut self, decision: D)
+        ensures { self.new
+            ≡ record self.old { phase = Phase.Turns; decision = Some decision; made = 0 } }
+    {
+        self.phase = Phase::Turns;
+        self.decision = Some(decision);
+        self.made = 0;
+    }
+
+    pub(crate) fn want(&mut self, wanted: Wanted<L, usize>)
+        ensures { self.new ≡ record self.old { phase = wanted_phase wanted } }
+    {
+        match wanted {
+            Wanted::Seize(lock) => self.phase = Phase::Requests(lock),
+            Wanted::Test(word) => self.phase = Phase::Tests(word),
+        }
+    }
+
+    /// The lock that it requests or seizes next.
+    pub(crate) fn to_ask(&self) -> Option<L>
+        ensures { result ≡ asked_in self.now.phase }
+    {
+        let phase = self.phase;
+        match phase {
+            Phase::Requests(lock) => Some(lock),
+            Phase::Seizes(lock, _) => Some(lock),
+            Phase::Tests(_)
+            | Phase::Turns
+            | Phase::Withdraws(_)
+            | Phase::GivesBack
+            | Phase::Operates(_) => None,
+        }
+    }
+
+    /// The lock that it seizes next.
+    pub(crate) fn to_seize(&self) -> Option<L>
+        ensures some { IfSome result
+            (λ lock. (expected : ℕ) × (self.now.phase ≡ Phase.Seizes lock expected)) }
+        ensures none { IfNone result (NotSeizing self.now.phase) }
+    {
+        let phase = self.phase;
+        match phase {
+            Phase::Seizes(lock, _) => Some(lock),
+            Phase::Requests(_)
+            | Phase::Tests(_)
+            | Phase::Turns
+            | Phase::Withdraws(_)
+            | Phase::GivesBack
+            | Phase::Operates(_) => None,
+        }
+    }
+
+    /// The word that it tests next.
+    pub(crate) fn to_test(&self) -> Option<usize>
+        ensures some { IfSome result (λ word. self.now.phase ≡ Phase.Tests word) }
+        ensures none { IfNone result (NotTesting self.now.phase) }
+    {
+        let phase = self.phase;
+        match phase {
+            Phase::Tests(word) => Some(word),
+            Phase::Requests(_)
+            | Phase::Seizes(_, _)
+            | Phase::Turns
+            | Phase::Withdraws(_)
+            | Phase::GivesBack
+            | Phase::Operates(_) => None,
+        }
+    }
+
+    pub(crate) fn hold(&mut self, lock: L)
+        requires { length self.old.held < HELD }
+        ensures { self.new ≡ record self.old { held = self.old.held ++ lock ∷ [] } }
+    {
+        self.held.push(lock);
+    }
+
+    pub(crate) fn note(&mut self, reading: Reading<usize>)
+        requires { length self.old.readings < READINGS }
+        ensures { self.new ≡ record self.old { readings = self.old.readings ++ reading ∷ [] } }
+    {
+        self.readings.push(reading);
+    }
+
+    /// Whether it has made no step yet.
+    fn is_fresh(&self) -> bool
+        ensures { result ≡ has_made_none self.now.phase self.now.held }
+    {
+        let phase = self.phase;
+        match phase {
+            Phase::Requests(_) => self.held.is_empty(),
+            Phase::Seizes(_, _)
+            | Phase::Tests(_)
+            | Phase::Turns
+            | Phase::Withdraws(_)
+            | Phase::GivesBack
+            | Phase::Operates(_) => false,
+        }
+    }
+
+    /// One step more is counted; what begins anew counts from 0.
+    pub(crate) fn count_step(&mut self)
+        ensures { self.new
+            ≡ record self.old {
+              count = count_in self.old.phase self.old.held (counted self.old.count);
+            } }
+    {
+        self.count = if self.is_fresh() {
+            0
+        } else {
+            self.count.saturating_add(1)
+        };
+    }
+
+    pub(crate) fn count_beginning(&mut self)
+        ensures { self.new
+            ≡ record self.old { count = count_in self.old.phase self.old.held self.old.count } }
+    {
+        if self.is_fresh() {
+            self.count = 0;
+        }
+    }
+
+    pub fn job(&self) -> &J
+        ensures { result.now ≡ self.now.job }
+    {
+        &self.job
+    }
+
+    /// The number of the turn, once it is taken.
+    pub fn turn(&self) -> Option<u64>
+        ensures { result ≡ turn_in self.now.phase }
+    {
+        let phase = self.phase;
+        match phase {
+            Phase::Operates(turn) => Some(turn),
+            Phase::Requests(_)
+            | Phase::Seizes(_, _)
+            | Phase::Tests(_)
+            | Phase::Turns
+            | Phase::Withdraws(_)
+            | Phase::GivesBack => None,
+        }
+    }
+
+    /// Whether it was given up, and has a request to withdraw or locks to free.
+    pub fn is_given_up(&self) -> bool
+        ensures { result ≡ is_given_up_in self.now.phase }
+    {
+        let phase = self.phase;
+        match phase {
+            Phase::Withdraws(_) => true,
+            Phase::GivesBack => true,
+            Phase::Requests(_)
+            | Phase::Seizes(_, _)
+            | Phase::Tests(_)
+            | Phase::Turns
+            | Phase::Operates(_) => false,
+        }
+    }
+
+    /// The steps of this attempt so far. It stays at `u32::MAX` once there.
+    pub fn count(&self) -> u32
+        ensures { result ≡ self.now.count }
+    {
+        self.count
+    }
+}

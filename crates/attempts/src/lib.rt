@@ -1,0 +1,21 @@
+//! An actor's attempt at a job, at run time, for any jobs of `turns` that are given by a walk.
+#![tactic(auto)]
+
+pub use attempt::{Attempt, AttemptOf};
+pub use jobs::Attempts;
+pub use scripts::Scripts;
+pub use seen::Seen;
+pub use showing::{is_done, next, outcome};
+pub use starting::{begin, restart};
+pub use step::{Step, answer, operation, place};
+pub use taking::take;
+
+mod attempt;
+mod jobs;
+pub mod laws;
+mod scripts;
+mod seen;
+mod showing;
+mod starting;
+mod step;
+mod taking;

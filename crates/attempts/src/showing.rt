@@ -1,0 +1,103 @@
+//! What an attempt does next, and what is to be seen of it.
+
+ghost use Rattle.std.specs.Prelude.{◌≡◌, ◌<◌, ◌+◌, ◌∷◌, ◌^◌, [], IfNone, IfSome};
+ghost use Rattle.turns.specs.Attempt.{act, closing_act, free_act};
+ghost use Rattle.turns.specs.Runs.{is_rest};
+ghost use Rattle.desks.specs.Outcomes.{outcome_of};
+ghost use Rattle.attempts.specs.Standing.{attempt_of, effects_left};
+ghost use Rattle.attempts.specs.Steps.{act_of};
+
+use crate::attempt::AttemptOf;
+use crate::scripts::Scripts;
+use crate::step::Step;
+use turns::Phase;
+
+fn next_free<S: Scripts<READINGS, HELD>, const READINGS: usize, const HELD: usize>(
+    program: &AttemptOf<S, READINGS, HELD>,
+) -> Step<S::Lock, S::Effect>
+    ensures { act_of result ≡ free_act program.now.held }
+{
+    match program.held.first() {
+        Some(lock) => Step::Free(*lock),
+        None => Step::Rest,
+    }
+}
+
+/// The next of the decision's effects.
+#[tactic(auto, using(crate::proofs::EffectsLeft::left_none))]
+pub(crate) fn next_effect<S: Scripts<READINGS, HELD>, const READINGS: usize, const HELD: usize>(
+    program: &AttemptOf<S, READINGS, HELD>,
+) -> Option<S::Effect>
+    ensures some { IfSome result (λ effect.
+        effects_left S.effects_of program.now.decision program.now.made
+        ≡ effect ∷ effects_left S.effects_of program.now.decision (program.now.made + 1)) }
+    ensures none { IfNone result
+        (effects_left S.effects_of program.now.decision program.now.made ≡ []) }
+    ensures more { IfSome result (λ effect. program.now.made + 1 < 2 ^ 64) }
+{
+    match &program.decision {
+        Some(decision) => S::effect(decision, program.made),
+        None => None,
+    }
+}
+
+fn next_closing<S: Scripts<READINGS, HELD>, const READINGS: usize, const HELD: usize>(
+    program: &AttemptOf<S, READINGS, HELD>,
+) -> Step<S::Lock, S::Effect>
+    ensures { act_of result
+        ≡ closing_act (attempt_of S.reply_of S.effects_of program.now).effects program.now.held }
+{
+    match next_effect::<S, READINGS, HELD>(program) {
+        Some(effect) => Step::Make(effect),
+        None => next_free::<S, READINGS, HELD>(program),
+    }
+}
+
+/// The step that the attempt wants made next.
+pub fn next<S: Scripts<READINGS, HELD>, const READINGS: usize, const HELD: usize>(
+    program: &AttemptOf<S, READINGS, HELD>,
+) -> Step<S::Lock, S::Effect>
+    ensures { act_of result ≡ act (attempt_of S.reply_of S.effects_of program.now) }
+{
+    let phase = program.phase;
+    match phase {
+        Phase::Requests(lock) => Step::Ask(lock),
+        Phase::Seizes(lock, expected) => Step::Take(lock, expected),
+        Phase::Tests(word) => Step::Look(word),
+        Phase::Turns => Step::Turn,
+        Phase::Withdraws(lock) => Step::Leave(lock),
+        Phase::GivesBack => next_free::<S, READINGS, HELD>(program),
+        Phase::Operates(_) => next_closing::<S, READINGS, HELD>(program),
+    }
+}
+
+/// Whether its job is done, and it holds nothing.
+pub fn is_done<S: Scripts<READINGS, HELD>, const READINGS: usize, const HELD: usize>(
+    program: &AttemptOf<S, READINGS, HELD>,
+) -> bool
+    ensures { result ≡ is_rest (act (attempt_of S.reply_of S.effects_of program.now)) }
+{
+    match next::<S, READINGS, HELD>(program) {
+        Step::Rest => true,
+        Step::Ask(_) => false,
+        Step::Take(_, _) => false,
+        Step::Leave(_) => false,
+        Step::Free(_) => false,
+        Step::Look(_) => false,
+        Step::Turn => false,
+        Step::Make(_) => false,
+    }
+}
+
+/// Past its turn, the turn's number, its job and its reply.
+pub fn outcome<S: Scripts<READINGS, HELD>, const READINGS: usize, const HELD: usize>(
+    program: &AttemptOf<S, READINGS, HELD>,
+) -> Option<(u64, S::Job, S::Reply)>
+    ensures { result ≡ outcome_of (attempt_of S.reply_of S.effects_of program.now) }
+{
+    let turn = program.turn()?;
+    match &program.decision {
+        Some(decision) => Some((turn, program.job, S::reply(decision))),
+        None => None,
+    }
+}

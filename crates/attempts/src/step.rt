@@ -1,0 +1,114 @@
+//! An attempt's next step: its word, the operation that makes it there, and what it is told.
+
+ghost use Rattle.std.specs.Prelude.{◌≡◌, ◌<◌};
+ghost use Rattle.turns.specs.Attempt.{answer_to, unless_put_off};
+ghost use Rattle.turns.specs.World.{operation as operation_of, place as place_of};
+ghost use Rattle.attempts.specs.Steps.{act_of};
+ghost use Rattle.attempts.specs.SystemWith.{system_with};
+
+use crate::scripts::Scripts;
+use turns::lock_word::{asked_by, request_bit, taken_by};
+use turns::{Answer, Judgement, Operation};
+
+/// The next step of an attempt.
+#[derive(Clone, Copy, Debug, PartialEq, Eq)]
+pub enum Step<L, E> {
+    /// None: the job is done, and nothing is held.
+    Rest,
+    Ask(L),
+    /// Seize the lock where its word is this one.
+    Take(L, u64),
+    Leave(L),
+    Free(L),
+    Look(usize),
+    Turn,
+    Make(E),
+}
+
+/// The answer to a request or a seizing that may go on by this one.
+fn tell(answer: Answer, judgement: Judgement) -> Answer
+    ensures { result ≡ unless_put_off answer judgement }
+{
+    match judgement {
+        Judgement::Free => answer,
+        Judgement::Held(holder) => Answer::Held(holder),
+        Judgement::Preferred(other) => Answer::Preferred(other),
+    }
+}
+
+/// The number of the word that a step is made on.
+pub fn place<S: Scripts<READINGS, HELD>, const READINGS: usize, const HELD: usize>(
+    setting: &S::Setting,
+    step: Step<S::Lock, S::Effect>,
+) -> usize
+    ensures { let O = system_with S.Lock.eq S.reply_of S.effects_of (S.system setting.now) in
+        result ≡ place_of O (act_of step) }
+{
+    match step {
+        Step::Ask(lock) => S::lock_word(setting, lock),
+        Step::Take(lock, _) => S::lock_word(setting, lock),
+        Step::Leave(lock) => S::lock_word(setting, lock),
+        Step::Free(lock) => S::lock_word(setting, lock),
+        Step::Look(word) => word,
+        Step::Turn => S::turn_word(setting),
+        Step::Rest => S::turn_word(setting),
+        Step::Make(effect) => S::effect_word(setting, effect),
+    }
+}
+
+/// The operation by which an actor makes a step on its word.
+pub fn operation<S: Scripts<READINGS, HELD>, const READINGS: usize, const HELD: usize>(
+    setting: &S::Setting,
+    actor: u32,
+    step: Step<S::Lock, S::Effect>,
+) -> Operation
+    requires { actor < 48 }
+    ensures { let O = system_with S.Lock.eq S.reply_of S.effects_of (S.system setting.now) in
+        result ≡ operation_of O actor (act_of step) }
+{
+    match step {
+        Step::Ask(_) => Operation::Or(request_bit(actor)),
+        Step::Take(_, expected) => Operation::CompareExchange {
+            expected,
+            new: taken_by(actor, expected),
+        },
+        Step::Leave(_) => Operation::And(!request_bit(actor)),
+        Step::Free(_) => Operation::And(!63),
+        Step::Look(_) => Operation::Load,
+        Step::Turn => Operation::Add(1),
+        Step::Rest => Operation::Load,
+        Step::Make(effect) => S::effect_operation(setting, effect),
+    }
+}
+
+/// What an actor is told of its step that found this number.
+pub fn answer<S: Scripts<READINGS, HELD>, const READINGS: usize, const HELD: usize>(
+    setting: &S::Setting,
+    actor: u32,
+    step: Step<S::Lock, S::Effect>,
+    found: u64,
+) -> Answer
+    requires { actor < 48 }
+    ensures { let O = system_with S.Lock.eq S.reply_of S.effects_of (S.system setting.now) in
+        result ≡ answer_to O actor (act_of step) found }
+{
+    match step {
+        Step::Ask(_) => {
+            let word = asked_by(actor, found);
+            tell(Answer::Asked(word), Judgement::of(actor, word))
+        }
+        Step::Take(_, expected) => {
+            if found == expected {
+                Answer::Seized
+            } else {
+                tell(Answer::Again(found), Judgement::of(actor, found))
+            }
+        }
+        Step::Look(_) => Answer::Value(found),
+        Step::Turn => Answer::Turn(found),
+        Step::Leave(_) => Answer::Done,
+        Step::Free(_) => Answer::Done,
+        Step::Make(_) => Answer::Done,
+        Step::Rest => Answer::Done,
+    }
+}

@@ -1,0 +1,302 @@
+//! What an attempt makes of the answer to its next step.
+
+ghost use Rattle.std.specs.Prelude.{◌≡◌, ◌<◌, ◌^◌, ℕ};
+ghost use Rattle.turns.specs.Attempt.{change, changed, freed, operated, rest_of, walks_on};
+ghost use Rattle.attempts.specs.Counting.{count_in, counted};
+ghost use Rattle.attempts.specs.Standing.{CanWalk, PointStandsIn, Stands, attempt_of};
+ghost use Rattle.attempts.specs.SystemWith.{system_with};
+
+use crate::attempt::AttemptOf;
+use crate::scripts::Scripts;
+use crate::seen::Seen;
+use crate::showing::next_effect;
+use crate::starting::give_back;
+use turns::{Answer, Phase, Reading};
+
+/// Goes on through the job from where it stands, as far as it goes.
+fn walk_on<S: Scripts<READINGS, HELD>, const READINGS: usize, const HELD: usize>(
+    program: &mut AttemptOf<S, READINGS, HELD>,
+    setting: &S::Setting,
+)
+    requires setting { S.IsSetting setting.now }
+    requires walk { CanWalk S.Lock.eq S.reply_of S.effects_of (S.system setting.now)
+        (S.rest setting.now) program.old }
+    ensures walk { let O = system_with S.Lock.eq S.reply_of S.effects_of (S.system setting.now) in
+        attempt_of S.reply_of S.effects_of program.new
+        ≡ walks_on O (attempt_of S.reply_of S.effects_of program.old) }
+    ensures point { let O = system_with S.Lock.eq S.reply_of S.effects_of (S.system setting.now) in
+        PointStandsIn O (S.rest setting.now) (attempt_of S.reply_of S.effects_of program.new)
+        program.new.point program.new.phase }
+    ensures count { program.new.count ≡ program.old.count }
+{
+    let seen = Seen::new(program.held.as_slice(), program.readings.as_slice());
+    match S::walk(setting, &program.job, &mut program.point, &seen) {
+        Ok(decision) => program.decide(decision),
+        Err(wanted) => program.want(wanted),
+    }
+}
+
+/// Its request stands.
+fn take_request<S: Scripts<READINGS, HELD>, const READINGS: usize, const HELD: usize>(
+    program: &mut AttemptOf<S, READINGS, HELD>,
+    setting: &S::Setting,
+    word: u64,
+)
+    requires stands { Stands S.Lock.eq S.reply_of S.effects_of (S.system setting.now)
+        (S.rest setting.now) READINGS HELD program.old }
+    ensures change { let O = system_with S.Lock.eq S.reply_of S.effects_of (S.system setting.now) in
+        attempt_of S.reply_of S.effects_of program.new
+        ≡ changed O (attempt_of S.reply_of S.effects_of program.old)
+        program.old.phase (Answer.Asked word) }
+    ensures point { let O = system_with S.Lock.eq S.reply_of S.effects_of (S.system setting.now) in
+        PointStandsIn O (S.rest setting.now) (attempt_of S.reply_of S.effects_of program.new)
+        program.new.point program.new.phase }
+    ensures count { program.new.count ≡ program.old.count }
+{
+    let phase = program.phase;
+    match phase {
+        Phase::Requests(lock) => program.phase = Phase::Seizes(lock, word),
+        Phase::Seizes(_, _)
+        | Phase::Tests(_)
+        | Phase::Turns
+        | Phase::Withdraws(_)
+        | Phase::GivesBack
+        | Phase::Operates(_) => {}
+    }
+}
+
+/// The lock's word was another than expected.
+fn take_again<S: Scripts<READINGS, HELD>, const READINGS: usize, const HELD: usize>(
+    program: &mut AttemptOf<S, READINGS, HELD>,
+    setting: &S::Setting,
+    word: u64,
+)
+    requires stands { Stands S.Lock.eq S.reply_of S.effects_of (S.system setting.now)
+        (S.rest setting.now) READINGS HELD program.old }
+    ensures change { let O = system_with S.Lock.eq S.reply_of S.effects_of (S.system setting.now) in
+        attempt_of S.reply_of S.effects_of program.new
+        ≡ changed O (attempt_of S.reply_of S.effects_of program.old)
+        program.old.phase (Answer.Again word) }
+    ensures point { let O = system_with S.Lock.eq S.reply_of S.effects_of (S.system setting.now) in
+        PointStandsIn O (S.rest setting.now) (attempt_of S.reply_of S.effects_of program.new)
+        program.new.point program.new.phase }
+    ensures count { program.new.count ≡ program.old.count }
+{
+    let phase = program.phase;
+    match phase {
+        Phase::Seizes(lock, _) => program.phase = Phase::Seizes(lock, word),
+        Phase::Requests(_)
+        | Phase::Tests(_)
+        | Phase::Turns
+        | Phase::Withdraws(_)
+        | Phase::GivesBack
+        | Phase::Operates(_) => {}
+    }
+}
+
+/// Another actor holds the lock, or is preferred.
+fn take_refusal<S: Scripts<READINGS, HELD>, const READINGS: usize, const HELD: usize>(
+    program: &mut AttemptOf<S, READINGS, HELD>,
+    setting: &S::Setting,
+)
+    requires stands { Stands S.Lock.eq S.reply_of S.effects_of (S.system setting.now)
+        (S.rest setting.now) READINGS HELD program.old }
+    ensures held { let O = system_with S.Lock.eq S.reply_of S.effects_of (S.system setting.now) in
+        (holder : ℕ) → attempt_of S.reply_of S.effects_of program.new
+        ≡ changed O (attempt_of S.reply_of S.effects_of program.old)
+        program.old.phase (Answer.Held holder) }
+    ensures preferred { let O = system_with S.Lock.eq S.reply_of S.effects_of (S.system setting.now) in
+        (other : ℕ) → attempt_of S.reply_of S.effects_of program.new
+        ≡ changed O (attempt_of S.reply_of S.effects_of program.old)
+        program.old.phase (Answer.Preferred other) }
+    ensures point { let O = system_with S.Lock.eq S.reply_of S.effects_of (S.system setting.now) in
+        PointStandsIn O (S.rest setting.now) (attempt_of S.reply_of S.effects_of program.new)
+        program.new.point program.new.phase }
+    ensures count { program.new.count ≡ program.old.count }
+{
+    if let Some(lock) = program.to_ask() {
+        program.put_off(lock);
+    }
+}
+
+/// The lock is its own.
+fn take_lock<S: Scripts<READINGS, HELD>, const READINGS: usize, const HELD: usize>(
+    program: &mut AttemptOf<S, READINGS, HELD>,
+    setting: &S::Setting,
+)
+    requires setting { S.IsSetting setting.now }
+    requires stands { Stands S.Lock.eq S.reply_of S.effects_of (S.system setting.now)
+        (S.rest setting.now) READINGS HELD program.old }
+    ensures change { let O = system_with S.Lock.eq S.reply_of S.effects_of (S.system setting.now) in
+        attempt_of S.reply_of S.effects_of program.new
+        ≡ changed O (attempt_of S.reply_of S.effects_of program.old)
+        program.old.phase Answer.Seized }
+    ensures point { let O = system_with S.Lock.eq S.reply_of S.effects_of (S.system setting.now) in
+        PointStandsIn O (S.rest setting.now) (attempt_of S.reply_of S.effects_of program.new)
+        program.new.point program.new.phase }
+    ensures count { program.new.count ≡ program.old.count }
+{
+    if let Some(lock) = program.to_seize() {
+        program.hold(lock);
+        walk_on::<S, READINGS, HELD>(program, setting);
+    }
+}
+
+/// The word that it tested has this value.
+fn take_reading<S: Scripts<READINGS, HELD>, const READINGS: usize, const HELD: usize>(
+    program: &mut AttemptOf<S, READINGS, HELD>,
+    setting: &S::Setting,
+    value: u64,
+)
+    requires setting { S.IsSetting setting.now }
+    requires stands { Stands S.Lock.eq S.reply_of S.effects_of (S.system setting.now)
+        (S.rest setting.now) READINGS HELD program.old }
+    ensures change { let O = system_with S.Lock.eq S.reply_of S.effects_of (S.system setting.now) in
+        attempt_of S.reply_of S.effects_of program.new
+        ≡ changed O (attempt_of S.reply_of S.effects_of program.old)
+        program.old.phase (Answer.Value value) }
+    ensures fits { value < 2 ^ 64 }
+    ensures point { let O = system_with S.Lock.eq S.reply_of S.effects_of (S.system setting.now) in
+        PointStandsIn O (S.rest setting.now) (attempt_of S.reply_of S.effects_of program.new)
+        program.new.point program.new.phase }
+    ensures count { program.new.count ≡ program.old.count }
+{
+    if let Some(word) = program.to_test() {
+        program.note(Reading { word, value });
+        walk_on::<S, READINGS, HELD>(program, setting);
+    }
+}
+
+/// It took its turn, which has this number.
+fn take_turn<S: Scripts<READINGS, HELD>, const READINGS: usize, const HELD: usize>(
+    program: &mut AttemptOf<S, READINGS, HELD>,
+    setting: &S::Setting,
+    number: u64,
+)
+    requires stands { Stands S.Lock.eq S.reply_of S.effects_of (S.system setting.now)
+        (S.rest setting.now) READINGS HELD program.old }
+    ensures change { let O = system_with S.Lock.eq S.reply_of S.effects_of (S.system setting.now) in
+        attempt_of S.reply_of S.effects_of program.new
+        ≡ changed O (attempt_of S.reply_of S.effects_of program.old)
+        program.old.phase (Answer.Turn number) }
+    ensures point { let O = system_with S.Lock.eq S.reply_of S.effects_of (S.system setting.now) in
+        PointStandsIn O (S.rest setting.now) (attempt_of S.reply_of S.effects_of program.new)
+        program.new.point program.new.phase }
+    ensures count { program.new.count ≡ program.old.count }
+{
+    let phase = program.phase;
+    match phase {
+        Phase::Turns => program.phase = Phase::Operates(number),
+        Phase::Requests(_)
+        | Phase::Seizes(_, _)
+        | Phase::Tests(_)
+        | Phase::Withdraws(_)
+        | Phase::GivesBack
+        | Phase::Operates(_) => {}
+    }
+}
+
+/// Past the turn: an effect was made, or what was held first was freed.
+fn operate<S: Scripts<READINGS, HELD>, const READINGS: usize, const HELD: usize>(
+    program: &mut AttemptOf<S, READINGS, HELD>,
+)
+    ensures operates { attempt_of S.reply_of S.effects_of program.new
+        ≡ operated (attempt_of S.reply_of S.effects_of program.old)
+        (attempt_of S.reply_of S.effects_of program.old).effects }
+    ensures phase { program.new.phase ≡ program.old.phase }
+    ensures count { program.new.count ≡ program.old.count }
+{
+    match next_effect::<S, READINGS, HELD>(program) {
+        Some(_) => program.made += 1,
+        None => program.free_first(),
+    }
+}
+
+/// What was held first is freed, and the rest is still to be given back.
+fn free_on<S: Scripts<READINGS, HELD>, const READINGS: usize, const HELD: usize>(
+    program: &mut AttemptOf<S, READINGS, HELD>,
+    setting: &S::Setting,
+)
+    ensures frees { let O = system_with S.Lock.eq S.reply_of S.effects_of (S.system setting.now) in
+        attempt_of S.reply_of S.effects_of program.new
+        ≡ freed O (attempt_of S.reply_of S.effects_of program.old) (rest_of program.old.held) }
+    ensures point { let O = system_with S.Lock.eq S.reply_of S.effects_of (S.system setting.now) in
+        PointStandsIn O (S.rest setting.now) (attempt_of S.reply_of S.effects_of program.new)
+        program.new.point program.new.phase }
+    ensures count { program.new.count ≡ program.old.count }
+{
+    program.free_first();
+    give_back::<S, READINGS, HELD>(program, setting);
+}
+
+/// A step was made of which there is no more to tell.
+fn take_done<S: Scripts<READINGS, HELD>, const READINGS: usize, const HELD: usize>(
+    program: &mut AttemptOf<S, READINGS, HELD>,
+    setting: &S::Setting,
+)
+    requires stands { Stands S.Lock.eq S.reply_of S.effects_of (S.system setting.now)
+        (S.rest setting.now) READINGS HELD program.old }
+    ensures change { let O = system_with S.Lock.eq S.reply_of S.effects_of (S.system setting.now) in
+        attempt_of S.reply_of S.effects_of program.new
+        ≡ changed O (attempt_of S.reply_of S.effects_of program.old) program.old.phase Answer.Done }
+    ensures point { let O = system_with S.Lock.eq S.reply_of S.effects_of (S.system setting.now) in
+        PointStandsIn O (S.rest setting.now) (attempt_of S.reply_of S.effects_of program.new)
+        program.new.point program.new.phase }
+    ensures count { program.new.count ≡ program.old.count }
+{
+    let phase = program.phase;
+    match phase {
+        Phase::Withdraws(_) => give_back::<S, READINGS, HELD>(program, setting),
+        Phase::GivesBack => free_on::<S, READINGS, HELD>(program, setting),
+        Phase::Operates(_) => operate::<S, READINGS, HELD>(program),
+        Phase::Requests(_) | Phase::Seizes(_, _) | Phase::Tests(_) | Phase::Turns => {}
+    }
+}
+
+fn take_answer<S: Scripts<READINGS, HELD>, const READINGS: usize, const HELD: usize>(
+    program: &mut AttemptOf<S, READINGS, HELD>,
+    setting: &S::Setting,
+    answer: Answer,
+)
+    requires setting { S.IsSetting setting.now }
+    requires stands { Stands S.Lock.eq S.reply_of S.effects_of (S.system setting.now)
+        (S.rest setting.now) READINGS HELD program.old }
+    ensures change { let O = system_with S.Lock.eq S.reply_of S.effects_of (S.system setting.now) in
+        attempt_of S.reply_of S.effects_of program.new
+        ≡ change O (attempt_of S.reply_of S.effects_of program.old) answer }
+    ensures stands { Stands S.Lock.eq S.reply_of S.effects_of (S.system setting.now)
+        (S.rest setting.now) READINGS HELD program.new }
+    ensures count { program.new.count ≡ program.old.count }
+{
+    match answer {
+        Answer::Asked(word) => take_request::<S, READINGS, HELD>(program, setting, word),
+        Answer::Again(word) => take_again::<S, READINGS, HELD>(program, setting, word),
+        Answer::Held(_) => take_refusal::<S, READINGS, HELD>(program, setting),
+        Answer::Preferred(_) => take_refusal::<S, READINGS, HELD>(program, setting),
+        Answer::Seized => take_lock::<S, READINGS, HELD>(program, setting),
+        Answer::Value(value) => take_reading::<S, READINGS, HELD>(program, setting, value),
+        Answer::Turn(number) => take_turn::<S, READINGS, HELD>(program, setting, number),
+        Answer::Done => take_done::<S, READINGS, HELD>(program, setting),
+    }
+}
+
+/// Changes as the answer to its next step wants it.
+pub fn take<S: Scripts<READINGS, HELD>, const READINGS: usize, const HELD: usize>(
+    program: &mut AttemptOf<S, READINGS, HELD>,
+    setting: &S::Setting,
+    answer: Answer,
+)
+    requires setting { S.IsSetting setting.now }
+    requires stands { Stands S.Lock.eq S.reply_of S.effects_of (S.system setting.now)
+        (S.rest setting.now) READINGS HELD program.old }
+    ensures change { let O = system_with S.Lock.eq S.reply_of S.effects_of (S.system setting.now) in
+        attempt_of S.reply_of S.effects_of program.new
+        ≡ change O (attempt_of S.reply_of S.effects_of program.old) answer }
+    ensures count { program.new.count
+        ≡ count_in program.new.phase program.new.held (counted program.old.count) }
+    ensures stands { Stands S.Lock.eq S.reply_of S.effects_of (S.system setting.now)
+        (S.rest setting.now) READINGS HELD program.new }
+{
+    take_answer::<S, READINGS, HELD>(program, setting, answer);
+    program.count_step();
+}

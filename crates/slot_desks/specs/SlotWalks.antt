@@ -1,0 +1,42 @@
+use Rattle.std.specs.Prelude.{ℕ, ◌/◌, Option, Some, None, []}
+use Rattle.turns.specs.Script.{Script, Ends, ◌>>=◌, ◌>>◌, seize, test}
+use Rattle.slots.specs.System.{and_upper, both_or_none, free_in, taken_or}
+use Rattle.slots.specs.declared.decision.Decision.{Decision}
+use Rattle.slots.specs.declared.decision.Decision.TheVariants.{Takes, Gives}
+use Rattle.slots.specs.declared.job.Job.{Job}
+use Rattle.slots.specs.declared.job.Job.TheVariants.{Take, TakeBoth, Give}
+use Rattle.slot_desks.specs.declared.walks.Point.{Point}
+use Rattle.slot_desks.specs.declared.walks.Point.TheVariants.{Start, Upper, UpperToo}
+
+-- the lowest free slot of a bank, once its lock is seized
+unfoldable pub slot_steps : ℕ → Script ℕ (Option ℕ)
+slot_steps bank = seize bank >> (test bank >>= (λ word. Ends (free_in bank word)))
+
+-- a slot of the upper bank, or none
+unfoldable pub upper_steps : Script ℕ Decision
+upper_steps = slot_steps 1 >>= (λ upper. taken_or upper (Ends (Takes [])))
+
+-- with this slot of the lower bank, one of the upper bank too
+unfoldable pub too_steps : ℕ → Script ℕ Decision
+too_steps lower = slot_steps 1 >>= both_or_none (Some lower)
+
+unfoldable pub take_steps : Script ℕ Decision
+take_steps = slot_steps 0 >>= (λ lower. taken_or lower upper_steps)
+
+unfoldable pub both_steps : Script ℕ Decision
+both_steps = slot_steps 0 >>= and_upper
+
+unfoldable pub give_steps : ℕ → Script ℕ Decision
+give_steps slot = seize (slot / 4) >> Ends (Gives slot)
+
+-- what a job does
+abbrev pub job_steps : Job → Script ℕ Decision
+job_steps Take = take_steps
+job_steps TakeBoth = both_steps
+job_steps (Give slot) = give_steps slot
+
+-- what is left of it from a point on
+abbrev pub rest : Job → Point → Script ℕ Decision
+rest job Start = job_steps job
+rest job Upper = upper_steps
+rest job (UpperToo lower) = too_steps lower

@@ -1,0 +1,18 @@
+use Rattle.std.specs.Prelude.{ℕ, List, [], ◌∷◌, ◌++◌, codes, decimal, flat_map}
+use Rattle.std.specs.List.{concat}
+use Rattle.svg.specs.Escape.{escaped}
+use Rattle.svg.specs.Figure.{Figure, figure_text}
+
+-- what a drawing of this size begins with, and its style sheet
+unfoldable pub head_text : ℕ → ℕ → List ℕ → List ℕ
+head_text width height style =
+    concat (codes "<svg xmlns=\"http://www.w3.org/2000/svg\" viewBox=\"0 0 " ∷ decimal width ∷ codes " " ∷ decimal height
+    ∷ codes "\" width=\"" ∷ decimal width ∷ codes "\" height=\"" ∷ decimal height ∷ codes "\">\n<style>" ∷ escaped style ∷ codes "</style>\n" ∷ [])
+
+-- what it ends with
+abbrev pub foot_text : List ℕ
+foot_text = codes "</svg>\n"
+
+-- a drawing: what is drawn, each behind and so over the one before
+abbrev pub drawing_text : ℕ → ℕ → List ℕ → List Figure → List ℕ
+drawing_text width height style figures = head_text width height style ++ flat_map figure_text figures ++ foot_text

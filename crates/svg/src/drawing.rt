@@ -1,0 +1,58 @@
+ghost use Rattle.std.specs.Prelude.{◌≡◌, ◌++◌, OnOk, codes, flat_map, map, string_bytes};
+ghost use Rattle.svg.specs.Drawing.{drawing_text, foot_text, head_text};
+ghost use Rattle.svg.specs.Figure.{figure_of, figure_text};
+
+use crate::escape::add_escaped;
+use crate::shape::Shape;
+use crate::write::add_shape;
+use std::alloc::AllocError;
+
+/// Adds a whole drawing. Where memory runs out, a part of it may have been added.
+pub fn add_drawing(
+    text: &mut String,
+    width: u16,
+    height: u16,
+    style: &str,
+    shapes: &[Shape<'_>],
+) -> Result<(), AllocError>
+    ensures { OnOk result (string_bytes text.new ≡ string_bytes text.old ++
+        drawing_text width height style.now (map figure_of shapes.now)) }
+{
+    add_head(text, width, height, style)?;
+    add_shapes(text, shapes)?;
+    add_foot(text)
+}
+
+/// Adds what a drawing begins with, up to its first shape. Where memory runs out, a part of it may
+/// have been added.
+pub fn add_head(text: &mut String, width: u16, height: u16, style: &str) -> Result<(), AllocError>
+    ensures { OnOk result (string_bytes text.new ≡ string_bytes text.old ++
+        head_text width height style.now) }
+{
+    text.push_str("<svg xmlns=\"http://www.w3.org/2000/svg\" viewBox=\"0 0 ")?;
+    write!(
+        text,
+        "{width} {height}\" width=\"{width}\" height=\"{height}\">\n<style>"
+    )?;
+    add_escaped(text, style)?;
+    text.push_str("</style>\n")?;
+    Ok(())
+}
+
+/// Adds what a drawing ends with, behind its last shape.
+pub fn add_foot(text: &mut String) -> Result<(), AllocError>
+    ensures { OnOk result (string_bytes text.new ≡ string_bytes text.old ++ foot_text) }
+{
+    text.push_str("</svg>\n")?;
+    Ok(())
+}
+
+fn add_shapes(text: &mut String, shapes: &[Shape<'_>]) -> Result<(), AllocError>
+    ensures { OnOk result (string_bytes text.new ≡ string_bytes text.old ++
+        flat_map figure_text (map figure_of shapes.now)) }
+{
+    for shape in shapes {
+        add_shape(text, shape)?;
+    }
+    Ok(())
+}

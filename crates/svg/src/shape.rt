@@ -1,0 +1,44 @@
+/// A place in a drawing, in units from its left and its upper edge.
+#[derive(Clone, Copy, Debug, PartialEq, Eq)]
+pub struct Point {
+    pub x: u16,
+    pub y: u16,
+}
+
+impl Point {
+    ghost use Rattle.std.specs.Prelude.{◌≡◌};
+
+    pub fn new(x: u16, y: u16) -> Self
+        ensures { result ≡ record { x = x; y = y } }
+    {
+        Point { x, y }
+    }
+}
+
+/// A shape of a drawing. How it looks is said for its class by the drawing's style sheet.
+#[derive(Clone, Copy, Debug)]
+pub enum Shape<'a> {
+    /// Of the upper left corner.
+    Rectangle {
+        corner: Point,
+        width: u16,
+        height: u16,
+        class: &'a str,
+    },
+    Line {
+        from: Point,
+        to: Point,
+        class: &'a str,
+    },
+    Circle {
+        center: Point,
+        radius: u16,
+        class: &'a str,
+    },
+    /// One line of text, which begins at the place or, as its class says, has its middle or its end there.
+    Text {
+        at: Point,
+        class: &'a str,
+        content: &'a str,
+    },
+}

@@ -1,0 +1,110 @@
+ghost use Rattle.std.specs.Prelude.{◌≡◌, ◌++◌, OnOk, string_bytes};
+ghost use Rattle.svg.specs.Figure.{Rectangle, Line, Circle, Words, figure_of, figure_text, in_class};
+
+use crate::escape::add_escaped;
+use crate::shape::{Point, Shape};
+use std::alloc::AllocError;
+
+/// Adds the element of a shape, on a line of its own. Where memory runs out, a part of it may have
+/// been added.
+pub fn add_shape(text: &mut String, shape: &Shape<'_>) -> Result<(), AllocError>
+    ensures { OnOk result (string_bytes text.new ≡ string_bytes text.old ++
+        figure_text (figure_of shape.now)) }
+{
+    match *shape {
+        Shape::Rectangle {
+            corner,
+            width,
+            height,
+            class,
+        } => add_rectangle(text, corner, width, height, class),
+        Shape::Line { from, to, class } => add_line(text, from, to, class),
+        Shape::Circle {
+            center,
+            radius,
+            class,
+        } => add_circle(text, center, radius, class),
+        Shape::Text { at, class, content } => add_words(text, at, class, content),
+    }
+}
+
+/// Adds a rectangle of this upper left corner, as `add_shape` does.
+#[tactic(auto, unfolding(crate::specs::Figure::figure_text))]
+pub fn add_rectangle(
+    text: &mut String,
+    corner: Point,
+    width: u16,
+    height: u16,
+    class: &str,
+) -> Result<(), AllocError>
+    ensures { OnOk result (string_bytes text.new ≡ string_bytes text.old ++
+        figure_text (Rectangle corner width height class.now)) }
+{
+    let Point { x, y } = corner;
+    write!(
+        text,
+        "<rect x=\"{x}\" y=\"{y}\" width=\"{width}\" height=\"{height}\""
+    )?;
+    add_class(text, class)?;
+    text.push_str("/>\n")?;
+    Ok(())
+}
+
+/// Adds a line, as `add_shape` does.
+#[tactic(auto, unfolding(crate::specs::Figure::figure_text))]
+pub fn add_line(text: &mut String, from: Point, to: Point, class: &str) -> Result<(), AllocError>
+    ensures { OnOk result (string_bytes text.new ≡ string_bytes text.old ++
+        figure_text (Line from to class.now)) }
+{
+    let Point { x, y } = from;
+    write!(
+        text,
+        "<line x1=\"{x}\" y1=\"{y}\" x2=\"{}\" y2=\"{}\"",
+        to.x, to.y
+    )?;
+    add_class(text, class)?;
+    text.push_str("/>\n")?;
+    Ok(())
+}
+
+/// Adds a circle, as `add_shape` does.
+#[tactic(auto, unfolding(crate::specs::Figure::figure_text))]
+pub fn add_circle(
+    text: &mut String,
+    center: Point,
+    radius: u16,
+    class: &str,
+) -> Result<(), AllocError>
+    ensures { OnOk result (string_bytes text.new ≡ string_bytes text.old ++
+        figure_text (Circle center radius class.now)) }
+{
+    let Point { x, y } = center;
+    write!(text, "<circle cx=\"{x}\" cy=\"{y}\" r=\"{radius}\"")?;
+    add_class(text, class)?;
+    text.push_str("/>\n")?;
+    Ok(())
+}
+
+/// Adds a line of text, as `add_shape` does.
+#[tactic(auto, unfolding(crate::specs::Figure::figure_text))]
+pub fn add_words(text: &mut String, at: Point, class: &str, content: &str) -> Result<(), AllocError>
+    ensures { OnOk result (string_bytes text.new ≡ string_bytes text.old ++
+        figure_text (Words at class.now content.now)) }
+{
+    let Point { x, y } = at;
+    write!(text, "<text x=\"{x}\" y=\"{y}\"")?;
+    add_class(text, class)?;
+    text.push_str(">")?;
+    add_escaped(text, content)?;
+    text.push_str("</text>\n")?;
+    Ok(())
+}
+
+fn add_class(text: &mut String, class: &str) -> Result<(), AllocError>
+    ensures { OnOk result (string_bytes text.new ≡ string_bytes text.old ++ in_class class.now) }
+{
+    text.push_str(" class=\"")?;
+    add_escaped(text, class)?;
+    text.push_str("\"")?;
+    Ok(())
+}

@@ -1,0 +1,112 @@
+//! What a plan is looked up in, so that no look-up goes through a list.
+
+mod faults;
+mod members;
+
+ghost use Rattle.std.specs.Prelude.{IfOk};
+ghost use Rattle.xbar_plan.specs.Lawful.{IsLawful};
+ghost use Rattle.xbar_plan.specs.Directory.{IsDirectoryOf};
+
+use crate::group::{Group, MemberPlace};
+use crate::numbers::{first_places, link_number, place_number, route_codes, station_numbers};
+use crate::route::Route;
+use crate::station::Station;
+use std::alloc::{AllocError, Global};
+use std::marker::Model;
+use xbar_equip::{DirNo, Link, Ten};
+
+/// Where the stations, routes and members of a plan are, by their numbers, and which links are out
+/// of order.
+#[derive(Debug, Drop)]
+pub struct Directory {
+    stations: Vec<Option<u16>>,
+    routes: Vec<Option<u16>>,
+    members: Vec<Option<MemberPlace>>,
+    faults: Vec<bool>,
+}
+
+impl Model for Directory {
+    ghost use Rattle.xbar_plan.specs.Directory.{Directory as TheDirectory};
+
+    ghost Value = { TheDirectory };
+
+    ghost view = { λ a. record {
+      stations = a.stations.items;
+      routes = a.routes.items;
+      members = a.members.items;
+      faults = a.faults.items;
+    } };
+}
+
+impl Directory {
+    ghost use Rattle.std.specs.Prelude.{◌≡◌, ◌<◌, Some, length, slice_get};
+    ghost use Rattle.xbar_plan.specs.Numbered.{place_number as number_of_place, link_number as number_of_link};
+
+    /// The directory of lawful tables.
+    pub fn new(
+        alloc: Global,
+        groups: &[Group],
+        stations: &[Station],
+        routes: &[Route],
+        faults: &[Link],
+    ) -> Result<Self, AllocError>
+        requires { IsLawful (record {
+          groups = groups.now;
+          stations = stations.now;
+          routes = routes.now;
+          faults = faults.now;
+        }) }
+        ensures { IfOk result (λ directory. IsDirectoryOf
+            (record {
+              groups = groups.now;
+              stations = stations.now;
+              routes = routes.now;
+              faults = faults.now;
+            }) directory) }
+    {
+        let numbers = station_numbers(alloc, stations)?;
+        let codes = route_codes(alloc, routes)?;
+        let stations = first_places(alloc, 10000, &numbers)?;
+        let routes = first_places(alloc, 1000, &codes)?;
+        let members = members::placed_members(alloc, groups)?;
+        let faults = faults::marked_links(alloc, faults)?;
+        Ok(Directory {
+            stations,
+            routes,
+            members,
+            faults,
+        })
+    }
+
+    /// Where the first station of this number stands.
+    pub fn station_of(&self, number: DirNo) -> Option<u16>
+        requires { number < length self.now.stations }
+        ensures { slice_get self.now.stations number ≡ Some result }
+    {
+        self.stations[usize::from(number.number())]
+    }
+
+    /// Where the first route of this code stands.
+    pub fn route_of(&self, code: u16) -> Option<u16>
+        requires { code < length self.now.routes }
+        ensures { slice_get self.now.routes code ≡ Some result }
+    {
+        self.routes[usize::from(code)]
+    }
+
+    /// Which member stands first at the place.
+    pub fn member_at(&self, place: Ten) -> Option<MemberPlace>
+        requires { number_of_place place < length self.now.members }
+        ensures { slice_get self.now.members (number_of_place place) ≡ Some result }
+    {
+        self.members[usize::from(place_number(place))]
+    }
+
+    /// Whether the link is out of order.
+    pub fn is_faulty(&self, link: Link) -> bool
+        requires { number_of_link link < length self.now.faults }
+        ensures { slice_get self.now.faults (number_of_link link) ≡ Some result }
+    {
+        self.faults[usize::from(link_number(link))]
+    }
+}
