@@ -51,7 +51,7 @@ first_with-fails {X} test xs e = of (position test xs) refl e where
   of None at e = position-none test xs at
   of (Some m) at e = found m (slice_get xs m) (position-some test m xs at) e
 
-neither : (a b : Bool) → (a || b) ≡ false → (a ≡ false) × (b ≡ false)
+pub neither : (a b : Bool) → (a || b) ≡ false → (a ≡ false) × (b ≡ false)
 neither true b e = cc
 neither false b e = (refl, e)
 

@@ -15,7 +15,7 @@ use Rattle.xbar_plan.specs.Directory.{member_here, first_member, ArePlaced}
 use Rattle.xbar_plan.specs.declared.group.Member.{Member}
 use Rattle.xbar_plan.specs.declared.group.MemberPlace.{MemberPlace}
 use Rattle.xbar_plan.proofs.Numbered.{one_place}
-use Rattle.xbar_plan.proofs.MemberPlaces.{first_with-none, first_with-found, first_with-fails, none_of_any}
+use Rattle.xbar_plan.proofs.MemberPlaces.{first_with-none, first_with-found, first_with-fails, neither, none_of_any}
 use Rattle.xbar_plan.proofs.FirstPlaces.{here, position-last, or-none, no_item, some_item}
 
 -- ---- the first of two answers
@@ -172,14 +172,10 @@ abbrev pub among_groups : List TrunkGroup → TrunkPlace → Option MemberPlace
 among_groups groups place =
     option_and_then (λ found. member_within found.0 found.1 place) (first_with (has_member_at place) groups)
 
-either_fails : (a b : Bool) → (a || b) ≡ false → (a ≡ false) × (b ≡ false)
-either_fails true b e = cc
-either_fails false b e = (refl, e)
-
 from-none : {X : Type 0} (p : X → Bool) (i : ℕ) (xs : List X) → list_any p xs ≡ false → position_from p i xs ≡ None
 from-none p i [] e = refl
 from-none p i (x ∷ xs) e =
-    let parts = either_fails (p x) (list_any p xs) e in
+    let parts = neither (p x) (list_any p xs) e in
     ap (λ (b : Bool). cond b (Some i) (position_from p (i + 1) xs)) parts.0 ∙ from-none p (i + 1) xs parts.1
 
 -- a group gives a member exactly where one of its members stands at the place

@@ -17,6 +17,7 @@ pub mod laws;
 mod numbers;
 mod plan;
 mod read;
+pub mod reading;
 mod route;
 mod station;
 mod write;

@@ -4,7 +4,8 @@
 
 pub use fault::{MarkerFault, RowFault, TrafficFault};
 pub use mode::Mode;
-pub use row::Row;
+pub use number::read_number;
+pub use row::{MARKER_LIMIT, NUMBER_LIMIT, Row, read_job};
 pub use traffic::Traffic;
 
 mod fault;

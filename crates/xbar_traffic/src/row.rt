@@ -44,9 +44,9 @@ pub enum Row {
 }
 
 /// The highest number of a marker in a row.
-const MARKER_LIMIT: u32 = 99;
+pub const MARKER_LIMIT: u32 = 99;
 /// The highest number of a job or a call, and the most steps.
-const NUMBER_LIMIT: u32 = 9999;
+pub const NUMBER_LIMIT: u32 = 9999;
 
 impl Row {
     /// Reads a record as a row, whatever rows came before it.
@@ -133,7 +133,7 @@ impl Row {
 }
 
 /// The job of these last two fields of a row.
-fn read_job(kind: &[u8], args: &[u8]) -> Result<Job, RowFault>
+pub fn read_job(kind: &[u8], args: &[u8]) -> Result<Job, RowFault>
     ensures { IsJobReadAs kind.now args.now result }
 {
     match kind {

@@ -61,7 +61,8 @@ fn read_entry_parts(alloc: Global, parts: &[&[u8]]) -> Result<CodeEntry, PlanFau
     }
 }
 
-fn read_entry(alloc: Global, text: &[u8]) -> Result<CodeEntry, PlanFault>
+/// The code of an item of `codes`, with its names, be they groups' or not.
+pub fn read_entry(alloc: Global, text: &[u8]) -> Result<CodeEntry, PlanFault>
     ensures { IsReadAs (λ entry. entry) (code_entry_of text.now) result }
 {
     let parts = split_parts(alloc, text)?;

@@ -35,6 +35,7 @@ fn value_at<'d>(document: &'d Table, key: &str) -> Option<&'d Value>
     document.get(key)
 }
 
+/// The version that a document says it has.
 pub fn version_of(document: &Table) -> Option<Version>
     ensures { result ≡ version_of_document (table_view document.now) }
 {

@@ -35,7 +35,8 @@ fn read_single(text: &[u8]) -> Option<Member>
     })
 }
 
-fn read_member(kind: GroupKind, text: &[u8]) -> Option<Member>
+/// A member of a group of this kind, if a part of its text is one.
+pub fn read_member(kind: GroupKind, text: &[u8]) -> Option<Member>
     ensures { result ≡ member_of_text kind text.now }
 {
     match kind {
@@ -59,7 +60,8 @@ fn read_members(alloc: Global, kind: GroupKind, parts: &[&[u8]]) -> Result<Vec<M
     Ok(members)
 }
 
-fn read_kind(text: &[u8]) -> Option<GroupKind>
+/// The kind that a part of a group's text names, if it names one.
+pub fn read_kind(text: &[u8]) -> Option<GroupKind>
     ensures { result ≡ kind_of text.now }
 {
     if text == b"register".as_slice() {
@@ -115,7 +117,8 @@ fn read_group_parts(alloc: Global, parts: &[&[u8]]) -> Result<Group, PlanFault>
     }
 }
 
-fn read_group(alloc: Global, text: &[u8]) -> Result<Group, PlanFault>
+/// The group of an item of `groups`.
+pub fn read_group(alloc: Global, text: &[u8]) -> Result<Group, PlanFault>
     ensures { IsReadAs (λ group. group) (group_of text.now) result }
 {
     let parts = split_parts(alloc, text)?;

@@ -6,7 +6,7 @@ mod faults;
 mod groups;
 mod numbers;
 mod text;
-pub mod version;
+mod version;
 
 ghost use Rattle.std.specs.Prelude.{◌≡◌, map};
 ghost use Rattle.toml.specs.View.{view, table_view};
@@ -16,11 +16,15 @@ use crate::fault::PlanFault;
 use crate::group::Group;
 use crate::plan::Plan;
 use crate::station::Station;
-use codes::CodeEntry;
+pub use codes::{CodeEntry, read_entry};
 use document::Values;
+pub use document::{parse, texts_of, version_of};
+pub use groups::{read_group, read_kind, read_member};
+pub use numbers::read_station;
 use std::alloc::Global;
+pub use text::{read_code, read_link, split_parts};
 use toml::Table;
-use version::Version;
+pub use version::Version;
 use xbar_equip::Link;
 
 /// The plan that bytes hold, or the least fault that they have.

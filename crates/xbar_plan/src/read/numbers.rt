@@ -67,7 +67,8 @@ fn read_station_parts(
     }
 }
 
-fn read_station(alloc: Global, version: Version, text: &[u8]) -> Result<Station, PlanFault>
+/// The number of an item of `numbers`, with its lines.
+pub fn read_station(alloc: Global, version: Version, text: &[u8]) -> Result<Station, PlanFault>
     ensures { IsReadAs (λ station. station) (station_of version text.now) result }
 {
     let parts = split_parts(alloc, text)?;

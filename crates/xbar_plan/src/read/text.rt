@@ -54,6 +54,7 @@ pub fn read_number(text: &[u8]) -> Option<DirNo>
     DirNo::parse(text).ok()
 }
 
+/// The link of an item of `faults`.
 pub fn read_link(text: &[u8]) -> Option<Link>
     ensures { result ≡ fault_of text.now }
 {
