@@ -10,6 +10,7 @@ pub use Rattle.counted_io.specs.Counts
 pub mod Faults
 pub mod Kinds
 pub mod PlanRefusal
+pub mod Refusal
 pub mod Rows
 pub mod Run
 pub mod Audit

@@ -25,6 +25,7 @@ pub fn audit_text(alloc: Global, plan: &Plan, text: &[u8]) -> Result<Written, Al
     Ok(Written {
         text: finding.text(alloc)?.into_bytes(),
         status: finding.status(),
+        slip: None,
     })
 }
 

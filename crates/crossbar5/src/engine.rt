@@ -1,5 +1,5 @@
 //! The engine's jobs, a replay, live calls and an audit: from the bytes of a plan and an input to those of
-//! the output.
+//! the output, with a slip where the plan or the traffic is refused.
 
 ghost use Rattle.std.specs.Prelude.{◌≡◌, ◌≢◌, ◌↔◌, ◌⊎◌, Err, IfErr, IfOk, IfSome, List, OnOk, ℕ, ◌+◌, length, vec_len};
 ghost use Rattle.std.specs.Io.KnownBytes.{Appends, IsAtEnd, Keeps};
@@ -8,13 +8,14 @@ ghost use Rattle.crossbar5.specs.Faults.{ComesFirst, IsMarkerCount, IsStaffCount
 ghost use Rattle.crossbar5.specs.Audit.{IsAudit};
 ghost use Rattle.crossbar5.specs.Live.{IsLive, IsLiveUnread};
 ghost use Rattle.crossbar5.specs.PlanRefusal.{IsRefusedPlan};
+ghost use Rattle.crossbar5.specs.Refusal.{TellsItsRefusal};
 ghost use Rattle.crossbar5.specs.Run.{IsRefusedUnread, IsReplay};
 ghost use Rattle.crossbar5.specs.Task.{HasItsMarkers, IsDone, IsUnreadTask};
 
+use crate::answer::Answer;
 use crate::engine_fault::EngineFault;
 use crate::input::{Input, read_input};
 use crate::live::live;
-use crate::status::Status;
 use crate::task::Task;
 use crate::written::Written;
 use counted_io::{Sink, Source, write_all};
@@ -59,17 +60,20 @@ pub fn comes_to<R: Source>(
 /// The markers are judged first, then the plan, then the traffic. Markers or a plan that are refused
 /// leave the source unread. The input is read to its end before a row is looked at, and the output is written in
 /// one go once all is known. Of how much went out before `Device` nothing is said.
-pub fn run_replay<R: Source, W: Sink>(
+pub fn answer_replay<R: Source, W: Sink>(
     alloc: Global,
     plan: &[u8],
     kinds: &[Kind],
     source: &mut R,
     sink: &mut W,
-) -> Result<Status, EngineFault>
-    ensures replay { IfOk result (λ status. (traffic text : List ℕ) ×
+) -> Result<Answer, EngineFault>
+    ensures replay { IfOk result (λ answer. (traffic text : List ℕ) ×
         IfSome (R.remaining source.old) (λ all. traffic ≡ all) ×
-        IsReplay plan.now kinds.now traffic text status ×
+        IsReplay plan.now kinds.now traffic text answer.status ×
         Appends (W.contents sink.old) (W.contents sink.new) text) }
+    ensures slip { IfOk result (λ answer. (text : List ℕ) ×
+        Appends (W.contents sink.old) (W.contents sink.new) text ×
+        TellsItsRefusal answer.slip text answer.status) }
     ensures markers { (result ≡ Err EngineFault.Markers) ↔ ¬ IsMarkerCount (length kinds.now) }
     ensures device { result ≡ Err EngineFault.Device
         → HasFailed (R.failure_count source.old) (R.failure_count source.new)
@@ -85,9 +89,9 @@ pub fn run_replay<R: Source, W: Sink>(
     ensures unwritten { IfErr result (λ fault. ComesFirst fault →
         Keeps (W.contents sink.old) (W.contents sink.new)) }
 {
-    let written = comes_to(alloc, Task::Replay { kinds }, plan, source)?;
-    write_all(sink, &written.text)?;
-    Ok(written.status)
+    let Written { text, status, slip } = comes_to(alloc, Task::Replay { kinds }, plan, source)?;
+    write_all(sink, &text)?;
+    Ok(Answer { status, slip })
 }
 
 /// What is written of live traffic with a plan's text, for all that the source gives.
@@ -134,7 +138,7 @@ fn live_comes_to<G: Gate + Send + Drop, T: Threads + Wait + Sync, R: Source>(
 /// a call is done. Markers or a plan that are refused leave the source unread. The output is written
 /// in one go once all is known. Of how much went out before `Device` nothing is said, nor that the
 /// calls come to an end.
-pub fn run_live<G: Gate + Send + Drop, T: Threads + Wait + Sync, R: Source, W: Sink>(
+pub fn answer_live<G: Gate + Send + Drop, T: Threads + Wait + Sync, R: Source, W: Sink>(
     rt: &T,
     alloc: Global,
     plan: &[u8],
@@ -143,12 +147,15 @@ pub fn run_live<G: Gate + Send + Drop, T: Threads + Wait + Sync, R: Source, W: S
     gates: Vec<G>,
     source: &mut R,
     sink: &mut W,
-) -> Result<Status, EngineFault>
+) -> Result<Answer, EngineFault>
     requires { vec_len gates ≡ dialling + completing }
-    ensures live { IfOk result (λ status. (traffic text : List ℕ) ×
+    ensures live { IfOk result (λ answer. (traffic text : List ℕ) ×
         IfSome (R.remaining source.old) (λ all. traffic ≡ all) ×
-        IsLive plan.now dialling completing traffic text status ×
+        IsLive plan.now dialling completing traffic text answer.status ×
         Appends (W.contents sink.old) (W.contents sink.new) text) }
+    ensures slip { IfOk result (λ answer. (text : List ℕ) ×
+        Appends (W.contents sink.old) (W.contents sink.new) text ×
+        TellsItsRefusal answer.slip text answer.status) }
     ensures markers { (result ≡ Err EngineFault.Markers) ↔ ¬ IsStaffCount dialling completing }
     ensures device { result ≡ Err EngineFault.Device
         → HasFailed (R.failure_count source.old) (R.failure_count source.new)
@@ -164,9 +171,9 @@ pub fn run_live<G: Gate + Send + Drop, T: Threads + Wait + Sync, R: Source, W: S
     ensures unwritten { IfErr result (λ fault. ComesFirst fault →
         Keeps (W.contents sink.old) (W.contents sink.new)) }
 {
-    let written = live_comes_to(rt, alloc, plan, dialling, completing, gates, source)?;
-    write_all(sink, &written.text)?;
-    Ok(written.status)
+    let Written { text, status, slip } = live_comes_to(rt, alloc, plan, dialling, completing, gates, source)?;
+    write_all(sink, &text)?;
+    Ok(Answer { status, slip })
 }
 
 /// Audits the text of records that the source gives, by the one-marker office with the plan of this
@@ -175,16 +182,19 @@ pub fn run_live<G: Gate + Send + Drop, T: Threads + Wait + Sync, R: Source, W: S
 /// A plan that is refused leaves the source unread. The input is read to its end before a line is
 /// looked at, and the output is written in one go once all is known. Of how much went out before
 /// `Device` nothing is said.
-pub fn run_audit<R: Source, W: Sink>(
+pub fn answer_audit<R: Source, W: Sink>(
     alloc: Global,
     plan: &[u8],
     source: &mut R,
     sink: &mut W,
-) -> Result<Status, EngineFault>
-    ensures audit { IfOk result (λ status. (records text : List ℕ) ×
+) -> Result<Answer, EngineFault>
+    ensures audit { IfOk result (λ answer. (records text : List ℕ) ×
         IfSome (R.remaining source.old) (λ all. records ≡ all) ×
-        IsAudit plan.now records text status ×
+        IsAudit plan.now records text answer.status ×
         Appends (W.contents sink.old) (W.contents sink.new) text) }
+    ensures slip { IfOk result (λ answer. (text : List ℕ) ×
+        Appends (W.contents sink.old) (W.contents sink.new) text ×
+        TellsItsRefusal answer.slip text answer.status) }
     ensures markers { result ≢ Err EngineFault.Markers }
     ensures device { result ≡ Err EngineFault.Device
         → HasFailed (R.failure_count source.old) (R.failure_count source.new)
@@ -199,7 +209,7 @@ pub fn run_audit<R: Source, W: Sink>(
     ensures unwritten { IfErr result (λ fault. ComesFirst fault →
         Keeps (W.contents sink.old) (W.contents sink.new)) }
 {
-    let written = comes_to(alloc, Task::Audit, plan, source)?;
-    write_all(sink, &written.text)?;
-    Ok(written.status)
+    let Written { text, status, slip } = comes_to(alloc, Task::Audit, plan, source)?;
+    write_all(sink, &text)?;
+    Ok(Answer { status, slip })
 }

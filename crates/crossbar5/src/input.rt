@@ -1,17 +1,20 @@
 //! What the engine is given: a plan, and all that a source gives.
 
-ghost use Rattle.std.specs.Prelude.{◌≡◌, ◌≢◌, Err, IfErr, IfOk, OnOk};
+ghost use Rattle.std.specs.Prelude.{◌≡◌, ◌≢◌, Err, IfErr, IfOk, IfSome, OnOk};
 ghost use Rattle.std.specs.Io.KnownBytes.{IsAtEnd};
 ghost use Rattle.counted_io.specs.Counts.{HasFailed, ReadsUsedUp};
 ghost use Rattle.crossbar5.specs.Input.{IsInputOf};
-ghost use Rattle.crossbar5.specs.PlanRefusal.{IsPlanRefusal, IsRefusedPlan};
+ghost use Rattle.crossbar5.specs.PlanRefusal.{IsPlanRefusal, IsRefusedPlan, plan_fault_line};
+ghost use Rattle.crossbar5.specs.Refusal.{line_of, status_of};
 
 use crate::engine_fault::EngineFault;
+use crate::slip::Slip;
 use crate::status::Status;
 use crate::written::Written;
 use counted_io::{Source, read_all};
 use std::alloc::Global;
 use xbar_plan::{Plan, PlanFault};
+use xbar_slips::plan_slip;
 
 /// A plan with the input, or what is written for a plan that is refused.
 #[derive(Drop)]
@@ -20,8 +23,8 @@ pub enum Input {
     Refused(Written),
 }
 
-/// What is written for a plan that is refused, if it is not that memory ran out.
-fn refuse_plan(alloc: Global, fault: PlanFault) -> Result<Written, EngineFault>
+/// What is written for a plan's text that is refused, if it is not that memory ran out.
+fn refuse_plan(alloc: Global, plan: &[u8], fault: PlanFault) -> Result<Written, EngineFault>
     ensures written { IfOk result (λ written. (fault ≢ PlanFault.Memory) ×
         IsPlanRefusal fault written.text.items written.status) }
     ensures why { IfErr result (λ why. why ≡ EngineFault.Memory) }
@@ -32,7 +35,20 @@ fn refuse_plan(alloc: Global, fault: PlanFault) -> Result<Written, EngineFault>
     Ok(Written {
         text: format!(in alloc; "FAULT,{fault}\n")?.into_bytes(),
         status: Status::PlanRefused,
+        slip: slip_of(alloc, plan, fault),
     })
+}
+
+/// What is wrong with a plan's text that is refused for this fault, if it is found and there is memory
+/// for it.
+fn slip_of(alloc: Global, plan: &[u8], fault: PlanFault) -> Option<Slip>
+    ensures line { IfSome result (λ slip. line_of slip ≡ plan_fault_line fault) }
+    ensures status { IfSome result (λ slip. status_of slip ≡ Status.PlanRefused) }
+{
+    match plan_slip(alloc, plan, fault) {
+        Ok(Some(slip)) => Some(Slip::Plan(slip)),
+        Ok(None) | Err(_) => None,
+    }
 }
 
 /// Reads the plan of this text and then the input to its end; where the plan is refused the source
@@ -58,6 +74,6 @@ pub fn read_input<R: Source>(
             let bytes = read_all(alloc, source)?;
             Ok(Input::Read { plan, bytes })
         }
-        Err(fault) => Ok(Input::Refused(refuse_plan(alloc, fault)?)),
+        Err(fault) => Ok(Input::Refused(refuse_plan(alloc, plan, fault)?)),
     }
 }

@@ -3,14 +3,18 @@
 //! a plan and such a text in, and what an audit finds out.
 #![tactic(auto)]
 
+pub use answer::Answer;
 pub use counted_io::{Counted, Sink, Source};
-pub use engine::{run_audit, run_live, run_replay};
+pub use engine::{answer_audit, answer_live, answer_replay};
 pub use engine_fault::EngineFault;
 pub use gates::open_gates;
 pub use kinds::kinds_of;
+pub use runs::{run_audit, run_live, run_replay};
+pub use slip::Slip;
 pub use status::Status;
 pub use xbar_report::report;
 
+mod answer;
 mod audit;
 mod engine;
 mod engine_fault;
@@ -21,6 +25,8 @@ mod kinds;
 mod live;
 mod rows;
 mod run;
+mod runs;
+mod slip;
 mod status;
 mod task;
 mod written;

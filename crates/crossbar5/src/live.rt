@@ -92,7 +92,7 @@ pub fn live<G: Gate + Send + Drop, R: Threads + Wait + Sync>(
     xbar_traffic::laws::rows_are_in_range();
     let traffic = Traffic::read(alloc, Mode::Live, bytes)?;
     if let Some(fault) = traffic.refusal() {
-        return refused(alloc, fault);
+        return refused(alloc, Mode::Live, bytes, fault);
     }
     let calls = calls(alloc, traffic.rows.as_slice())?;
     match run_calls(
@@ -107,6 +107,7 @@ pub fn live<G: Gate + Send + Drop, R: Threads + Wait + Sync>(
         Ok(outcome) => Ok(Written {
             text: text_of_calls(alloc, &outcome)?,
             status: Status::Fine,
+            slip: None,
         }),
         Err(RunFault::Memory) => Err(AllocError),
         Err(RunFault::Markers) => unreachable!(),

@@ -1,0 +1,190 @@
+//! The first item that hasn't the form that its list asks for, and what is wanted in it.
+
+ghost use Rattle.std.specs.Prelude.{◌≡◌, IfOk, Some, map, not};
+ghost use Rattle.toml.specs.View.{table_view};
+ghost use Rattle.xbar_slips.specs.Lists.{TellsItem, has_form, item_of, malformed_in, malformed_of_document};
+
+use super::list::PlanList;
+use super::lists::texts_in;
+use super::reason::PlanReason;
+use super::slip::{ItemText, PlanPlace, PlanWrong};
+use super::wanted::PlanWanted;
+use std::alloc::{AllocError, Global};
+use toml::Table;
+use xbar_equip::{DirNo, Len};
+use xbar_plan::reading::{self, Version};
+use xbar_plan::{GroupKind, PlanFault};
+
+/// The first item of the first list that has one which hasn't its form.
+pub fn malformed_item(alloc: Global, document: &Table) -> Result<Option<PlanWrong>, AllocError>
+    ensures { IfOk result (λ wrong. TellsItem wrong (malformed_of_document
+        (table_view document.now))) }
+{
+    let Some(version) = reading::version_of(document) else {
+        return Ok(None);
+    };
+    for list in PlanList::ALL {
+        let Some(texts) = texts_in(alloc, document, list)? else {
+            return Ok(None);
+        };
+        if let Some(wrong) = malformed_item_in(alloc, version, list, &texts)? {
+            return Ok(Some(wrong));
+        }
+    }
+    Ok(None)
+}
+
+/// The first item of a list that hasn't its form.
+fn malformed_item_in(
+    alloc: Global,
+    version: Version,
+    list: PlanList,
+    texts: &[&[u8]],
+) -> Result<Option<PlanWrong>, AllocError>
+    ensures { IfOk result (λ wrong. TellsItem wrong (malformed_in version list
+        (map (λ text. text.now) texts.now))) }
+{
+    for (index, text) in texts.iter().enumerate() {
+        if is_malformed(alloc, version, list, text)? {
+            return Ok(Some(wrong_item(alloc, version, list, index + 1, text)?));
+        }
+    }
+    Ok(None)
+}
+
+fn is_malformed(
+    alloc: Global,
+    version: Version,
+    list: PlanList,
+    text: &[u8],
+) -> Result<bool, AllocError>
+    ensures { IfOk result (λ malformed. malformed ≡ not (has_form version list text.now)) }
+{
+    let fault = match list {
+        PlanList::Groups => reading::read_group(alloc, text).err(),
+        PlanList::Numbers => reading::read_station(alloc, version, text).err(),
+        PlanList::Codes => reading::read_entry(alloc, text).err(),
+        PlanList::Faults => return Ok(reading::read_link(text).is_none()),
+    };
+    match fault {
+        None => Ok(false),
+        Some(PlanFault::Memory) => Err(AllocError),
+        Some(_) => Ok(true),
+    }
+}
+
+/// What is wanted in an item: of one of its parts, counted from 0, or of the whole text.
+#[derive(Clone, Copy)]
+struct Want {
+    part: Option<usize>,
+    wanted: PlanWanted,
+}
+
+impl Want {
+    fn whole(wanted: PlanWanted) -> Self {
+        Want { part: None, wanted }
+    }
+
+    fn part(part: usize, wanted: PlanWanted) -> Self {
+        Want {
+            part: Some(part),
+            wanted,
+        }
+    }
+}
+
+/// What is wanted in an item of this number, counted from 1, which hasn't its form.
+fn wrong_item(
+    alloc: Global,
+    version: Version,
+    list: PlanList,
+    number: usize,
+    text: &[u8],
+) -> Result<PlanWrong, AllocError>
+    ensures { IfOk result (λ wrong. item_of wrong.place ≡
+        Some (record { list = list; number = number; text = text.now })) }
+{
+    let parts = reading::split_parts(alloc, text)?;
+    let Want { part, wanted } = want_in(version, list, text, &parts);
+    let item = ItemText {
+        list,
+        number,
+        text: text.to_vec(alloc)?,
+    };
+    let place = match part.and_then(|part| Some((part, *parts.get(part)?))) {
+        Some((part, text)) => PlanPlace::Part {
+            item,
+            number: part.saturating_add(1),
+            text: text.to_vec(alloc)?,
+        },
+        None => PlanPlace::ItemText(item),
+    };
+    Ok(PlanWrong {
+        place,
+        reason: PlanReason::Wanted(wanted),
+    })
+}
+
+fn want_in(version: Version, list: PlanList, text: &[u8], parts: &[&[u8]]) -> Want {
+    let form = form_of(version, list);
+    if list == PlanList::Faults || text.is_empty() {
+        return Want::whole(form);
+    }
+    if text.first() == Some(&b' ') || text.last() == Some(&b' ') {
+        return Want::whole(PlanWanted::NoSpace);
+    }
+    if parts.iter().any(|part| part.is_empty()) {
+        return Want::whole(PlanWanted::OneSpace);
+    }
+    let want = match (list, parts) {
+        (PlanList::Groups, [name, kind, members @ ..]) => want_in_group(name, kind, members),
+        (PlanList::Numbers, [number, lines @ ..]) => want_in_number(number, lines),
+        (PlanList::Codes, [code, names @ ..]) => want_in_code(code, names),
+        _ => None,
+    };
+    want.unwrap_or(Want::whole(form))
+}
+
+/// What an item of the list is as a whole.
+fn form_of(version: Version, list: PlanList) -> PlanWanted {
+    match (list, version) {
+        (PlanList::Groups, _) => PlanWanted::Group,
+        (PlanList::Numbers, Version::One) => PlanWanted::NumberWithOneLine,
+        (PlanList::Numbers, Version::Two) => PlanWanted::NumberWithLines,
+        (PlanList::Codes, _) => PlanWanted::CodeWithGroups,
+        (PlanList::Faults, _) => PlanWanted::Link,
+    }
+}
+
+fn want_in_group(name: &[u8], kind: &[u8], members: &[&[u8]]) -> Option<Want> {
+    if !reading::is_name(name) {
+        return Some(Want::part(0, PlanWanted::Name));
+    }
+    let Some(kind) = reading::read_kind(kind) else {
+        return Some(Want::part(1, PlanWanted::Kind));
+    };
+    let index = members
+        .iter()
+        .position(|member| reading::read_member(kind, member).is_none())?;
+    let wanted = match kind {
+        GroupKind::Intra => PlanWanted::Pair,
+        GroupKind::Register | GroupKind::Outgoing => PlanWanted::Place,
+    };
+    Some(Want::part(index.saturating_add(2), wanted))
+}
+
+fn want_in_number(number: &[u8], lines: &[&[u8]]) -> Option<Want> {
+    if DirNo::parse(number).is_err() {
+        return Some(Want::part(0, PlanWanted::Number));
+    }
+    let index = lines.iter().position(|line| Len::parse(line).is_err())?;
+    Some(Want::part(index.saturating_add(1), PlanWanted::Line))
+}
+
+fn want_in_code(code: &[u8], names: &[&[u8]]) -> Option<Want> {
+    if reading::read_code(code).is_none() {
+        return Some(Want::part(0, PlanWanted::Code));
+    }
+    let index = names.iter().position(|name| !reading::is_name(name))?;
+    Some(Want::part(index.saturating_add(1), PlanWanted::Name))
+}

@@ -1,0 +1,87 @@
+use super::list::PlanList;
+use super::reason::PlanReason;
+use crate::quoted::Quoted;
+use std::fmt;
+use xbar_plan::PlanFault;
+
+/// An item of a list with its text.
+#[derive(Debug, Drop)]
+pub struct ItemText {
+    pub list: PlanList,
+    /// Counted from 1.
+    pub number: usize,
+    pub text: Vec<u8>,
+}
+
+impl fmt::Display for ItemText {
+    fn fmt<W: fmt::Write>(&self, f: &mut fmt::Formatter<W>) -> fmt::Result {
+        let ItemText { list, number, text } = self;
+        let text = Quoted(text);
+        write!(f, "{list}, item {number} {text}")
+    }
+}
+
+/// Where something is wrong with a plan.
+#[derive(Debug, Drop)]
+pub enum PlanPlace {
+    /// In the text, both counted from 1; a column counts characters.
+    Text {
+        line: usize,
+        column: usize,
+    },
+    /// The key `version`.
+    Version,
+    /// The key of a list, or the list as a whole.
+    List(PlanList),
+    /// An item of a list, counted from 1.
+    Item {
+        list: PlanList,
+        number: usize,
+    },
+    /// The text of an item.
+    ItemText(ItemText),
+    /// A part of an item's text, counted from 1.
+    Part {
+        item: ItemText,
+        number: usize,
+        text: Vec<u8>,
+    },
+}
+
+impl fmt::Display for PlanPlace {
+    fn fmt<W: fmt::Write>(&self, f: &mut fmt::Formatter<W>) -> fmt::Result {
+        match self {
+            PlanPlace::Text { line, column } => write!(f, "line {line}, column {column}"),
+            PlanPlace::Version => f.write_str("version"),
+            PlanPlace::List(list) => write!(f, "{list}"),
+            PlanPlace::Item { list, number } => write!(f, "{list}, item {number}"),
+            PlanPlace::ItemText(item) => write!(f, "{item}"),
+            PlanPlace::Part { item, number, text } => {
+                let text = Quoted(text);
+                write!(f, "{item}, part {number} {text}")
+            }
+        }
+    }
+}
+
+/// What is wrong with a plan, and where.
+#[derive(Debug, Drop)]
+pub struct PlanWrong {
+    pub place: PlanPlace,
+    pub reason: PlanReason,
+}
+
+/// What is wrong with a plan that was refused. Its sentence begins with the place.
+#[derive(Debug, Drop)]
+pub struct PlanSlip {
+    pub fault: PlanFault,
+    pub wrong: PlanWrong,
+}
+
+impl fmt::Display for PlanSlip {
+    fn fmt<W: fmt::Write>(&self, f: &mut fmt::Formatter<W>) -> fmt::Result {
+        let PlanSlip { fault, wrong } = self;
+        let PlanWrong { place, reason } = wrong;
+        write!(f, "{place}: {reason} ({fault})")
+    }
+}
