@@ -1,3 +1,5 @@
+ghost use Rattle.crossbar5.specs.Refusal.{HasItsStatus};
+
 use crate::slip::Slip;
 use crate::status::Status;
 
@@ -8,4 +10,5 @@ pub struct Answer {
     /// What is wrong with the plan or the traffic that was refused. None where nothing was refused, and
     /// where memory for it was.
     pub slip: Option<Slip>,
+    pub ghost refusal: { HasItsStatus slip status },
 }

@@ -171,7 +171,9 @@ pub fn answer_live<G: Gate + Send + Drop, T: Threads + Wait + Sync, R: Source, W
     ensures unwritten { IfErr result (λ fault. ComesFirst fault →
         Keeps (W.contents sink.old) (W.contents sink.new)) }
 {
-    let Written { text, status, slip } = live_comes_to(rt, alloc, plan, dialling, completing, gates, source)?;
+    let Written { text, status, slip } = live_comes_to(
+        rt, alloc, plan, dialling, completing, gates, source,
+    )?;
     write_all(sink, &text)?;
     Ok(Answer { status, slip })
 }

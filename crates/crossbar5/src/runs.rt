@@ -81,9 +81,7 @@ pub fn run_live<G: Gate + Send + Drop, T: Threads + Wait + Sync, R: Source, W: S
     ensures unwritten { IfErr result (λ fault. ComesFirst fault →
         Keeps (W.contents sink.old) (W.contents sink.new)) }
 {
-    let answer = answer_live(
-        rt, alloc, plan, dialling, completing, gates, source, sink,
-    )?;
+    let answer = answer_live(rt, alloc, plan, dialling, completing, gates, source, sink)?;
     Ok(answer.status)
 }
 

@@ -1,4 +1,4 @@
-use Rattle.std.specs.Prelude.{ℕ, List, Option, Some, None, Result, Ok, Err, codes}
+use Rattle.std.specs.Prelude.{ℕ, List, Option, Some, None, codes}
 use Rattle.crossbar5.specs.declared.status.Status.{Status}
 use Rattle.crossbar5.specs.declared.status.Status.TheVariants.{Fine, PlanRefused, TrafficRefused, ReportRefused, FoundWrong}
 use Rattle.crossbar5.specs.declared.engine_fault.EngineFault.{EngineFault}
@@ -7,11 +7,6 @@ use Rattle.crossbar5_cli.specs.declared.ending.Ending.{Ending}
 use Rattle.crossbar5_cli.specs.declared.ending.Ending.TheVariants.{Answered, Told, Refused, NotText, Failed}
 use Rattle.crossbar5_cli.specs.declared.stream.Stream.{Stream}
 use Rattle.crossbar5_cli.specs.declared.stream.Stream.TheVariants.{Errors}
-
--- how a run ends whose replay or audit was answered so
-abbrev pub ending_of : Result Status EngineFault → Ending
-ending_of (Ok status) = Answered status
-ending_of (Err fault) = Failed fault
 
 -- the exit status of each ending
 abbrev pub exit_of : Ending → ℕ

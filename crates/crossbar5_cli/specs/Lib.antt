@@ -1,3 +1,4 @@
 pub mod Endings
 pub mod Streams
 pub mod Causes
+pub mod Sentences

@@ -1,5 +1,5 @@
 ghost use Rattle.std.specs.Prelude.{◌≡◌, option_map};
-ghost use Rattle.crossbar5_cli.specs.Endings.{ending_of as ending_of_answer, exit_of, line_of};
+ghost use Rattle.crossbar5_cli.specs.Endings.{exit_of, line_of};
 ghost use Rattle.crossbar5.specs.declared.engine_fault.EngineFault.TheVariants.{Memory};
 ghost use Rattle.crossbar5_cli.specs.declared.ending.Ending.TheVariants.{Failed};
 
@@ -20,16 +20,6 @@ pub enum Ending {
     NotText,
     /// Something is wrong with the markers, a device, memory or the length of what was read.
     Failed(EngineFault),
-}
-
-/// How a run ends whose replay or audit was answered so.
-pub fn ending_of(answer: Result<Status, EngineFault>) -> Ending
-    ensures { result ≡ ending_of_answer answer }
-{
-    match answer {
-        Ok(status) => Ending::Answered(status),
-        Err(fault) => Ending::Failed(fault),
-    }
 }
 
 impl From<AllocError> for Ending {

@@ -1,6 +1,7 @@
 //! All of the program `crossbar5`: it replays traffic from standard input in an office with the plan
 //! and the markers that its words ask for, or does the calls of live traffic on threads, and writes
-//! what comes of it to standard output; or it audits such a text.
+//! what comes of it to standard output; or it audits such a text. What is wrong with what it was
+//! given it tells on standard error, in a sentence.
 #![tactic(auto)]
 
 ghost use Rattle.std.specs.Prelude.{◌≡◌, ◌≢◌, ◌↔◌, Err, List};
@@ -11,24 +12,28 @@ ghost use Rattle.crossbar5.specs.Kinds.{Names};
 ghost use Rattle.crossbar5_cli.specs.Endings.{exit_of};
 ghost use Rattle.crossbar5_cli.specs.Streams.{MayEndOf};
 
+use crate::between::{audit_between, live_between, replay_between};
 use crate::causes::ending_without_words;
-use crate::ending::{Ending, ending_of};
+use crate::ended::Ended;
+use crate::ending::Ending;
 use crate::plan_text::plan_text;
 use crate::stream::{Stream, stream_of, told_on};
-use crossbar5::{
-    Counted, EngineFault, Status, kinds_of, open_gates, run_audit, run_live, run_replay,
-};
+use crossbar5::{Counted, EngineFault, kinds_of, open_gates};
 use crossbar5_command::{Ask, CommandFault, command};
 use std::alloc::AllocError;
 use std::fs::File;
+use std::io::IsTerminal;
 use std::process::ExitCode;
 use std::sync::Wait;
 use std::thread::Threads;
 use std::{env, io};
 
+mod between;
 mod causes;
+mod ended;
 mod ending;
 mod plan_text;
+mod sentence;
 mod stream;
 #[cfg(test)]
 mod tests;
@@ -36,11 +41,10 @@ mod tests;
 /// Runs the program, and tells the status that it ends with. The second handle is for live calls:
 /// the runtime itself, where it may make threads and wait for them.
 pub fn run<T: Threads + Wait + Sync>(rt: &HostRuntime, threads: &T) -> ExitCode {
-    let ending = match words(rt) {
+    match words(rt) {
         Ok(words) => run_words(rt, threads, &words),
-        Err(error) => ending_without_words(&error),
-    };
-    finish(rt, ending)
+        Err(error) => finish(rt, &Ended::plainly(ending_without_words(&error))),
+    }
 }
 
 /// The words of the command line, the program's name first.
@@ -48,65 +52,92 @@ fn words(rt: &HostRuntime) -> io::Result<Vec<String>> {
     Ok(env::args(rt)?.collect(rt.alloc())?)
 }
 
-fn run_words<T: Threads + Wait + Sync>(rt: &HostRuntime, threads: &T, words: &[String]) -> Ending {
+fn run_words<T: Threads + Wait + Sync>(
+    rt: &HostRuntime,
+    threads: &T,
+    words: &[String],
+) -> ExitCode {
     let words: Result<Vec<&str>, AllocError> = words
         .iter()
         .map(|word| word.as_str())
         .collect(rt.alloc());
     match words {
-        Ok(words) => do_as_asked(rt, threads, &words),
-        Err(error) => error.into(),
+        Ok(words) => {
+            let asked = command(rt.alloc(), &words);
+            finish(rt, &do_as_asked(rt, threads, &asked))
+        }
+        Err(error) => finish(rt, &Ended::plainly(error.into())),
     }
 }
 
-fn do_as_asked<T: Threads + Wait + Sync>(rt: &HostRuntime, threads: &T, words: &[&str]) -> Ending {
-    match command(rt.alloc(), words) {
-        Ok(Ask::Replay { plan, kinds }) => ending_of(replay(rt, &plan, &kinds)),
+/// Does what is asked for, or tells why nothing is.
+fn do_as_asked<'w, T: Threads + Wait + Sync>(
+    rt: &HostRuntime,
+    threads: &T,
+    asked: &'w Result<Ask, CommandFault>,
+) -> Ended<'w> {
+    match asked {
+        Ok(Ask::Replay { plan, kinds }) => replay(rt, plan.as_deref(), kinds.as_str()),
         Ok(
             Ask::Live {
                 plan,
                 dial,
                 completing,
             },
-        ) => ending_of(live(rt, threads, &plan, dial, completing)),
-        Ok(Ask::Audit { plan }) => ending_of(audit(rt, &plan)),
-        Err(fault) => tell(rt, &fault),
+        ) => live(rt, threads, plan.as_deref(), *dial, *completing),
+        Ok(Ask::Audit { plan }) => audit(rt, plan.as_deref()),
+        Err(fault) => Ended::of_telling(tell(rt, fault)),
     }
 }
 
 /// Kinds that are refused are so whatever the plan's file is.
-fn replay(rt: &HostRuntime, plan: &Option<String>, kinds: &str) -> Result<Status, EngineFault>
-    ensures { (result ≡ Err EngineFault.Markers)
+fn replay<'w>(rt: &HostRuntime, file: Option<&'w str>, kinds: &'w str) -> Ended<'w>
+    ensures { (result.ending ≡ Ending.Failed EngineFault.Markers)
         ↔ ((named : List Kind) → ¬ Names kinds.now named) }
 {
-    let kinds = kinds_of(rt.alloc(), kinds)?;
-    let plan = plan_named(rt, plan)?;
+    let named = match kinds_of(rt.alloc(), kinds) {
+        Ok(named) => named,
+        Err(fault) => return Ended::of_kinds(fault, kinds),
+    };
+    let plan = match plan_named(rt, file) {
+        Ok(plan) => plan,
+        Err(fault) => return Ended::of_plan_file(fault, file),
+    };
+    hint_at_end(rt, "rows");
     let mut source = Counted::new(rt.stdin());
     let mut sink = Counted::new(rt.stdout());
-    run_replay(rt.alloc(), &plan, &kinds, &mut source, &mut sink)
+    replay_between(rt.alloc(), file, &plan, &named, &mut source, &mut sink)
 }
 
 /// Markers that are too few or too many are refused whatever the plan's file is.
-fn live<T: Threads + Wait + Sync>(
+fn live<'w, T: Threads + Wait + Sync>(
     rt: &HostRuntime,
     threads: &T,
-    plan: &Option<String>,
+    file: Option<&'w str>,
     dial: u32,
     completing: u32,
-) -> Result<Status, EngineFault>
-    ensures { (result ≡ Err EngineFault.Markers) ↔ ¬ IsStaffCount dial completing }
+) -> Ended<'w>
+    ensures { (result.ending ≡ Ending.Failed EngineFault.Markers)
+        ↔ ¬ IsStaffCount dial completing }
 {
-    let (dial, completing) = (dial as usize, completing as usize);
-    let gates = open_gates(rt.alloc(), dial, completing)?;
-    let plan = plan_named(rt, plan)?;
+    let gates = match open_gates(rt.alloc(), dial as usize, completing as usize) {
+        Ok(gates) => gates,
+        Err(fault) => return Ended::of_staff(fault, dial, completing),
+    };
+    let plan = match plan_named(rt, file) {
+        Ok(plan) => plan,
+        Err(fault) => return Ended::of_plan_file(fault, file),
+    };
+    hint_at_end(rt, "rows");
     let mut source = Counted::new(rt.stdin());
     let mut sink = Counted::new(rt.stdout());
-    run_live(
+    live_between(
         threads,
         rt.alloc(),
+        file,
         &plan,
-        dial,
-        completing,
+        dial as usize,
+        completing as usize,
         gates,
         &mut source,
         &mut sink,
@@ -114,20 +145,33 @@ fn live<T: Threads + Wait + Sync>(
 }
 
 /// An audit has no markers that could be refused.
-fn audit(rt: &HostRuntime, plan: &Option<String>) -> Result<Status, EngineFault>
-    ensures { result ≢ Err EngineFault.Markers }
+fn audit<'w>(rt: &HostRuntime, file: Option<&'w str>) -> Ended<'w>
+    ensures { result.ending ≢ Ending.Failed EngineFault.Markers }
 {
-    let plan = plan_named(rt, plan)?;
+    let plan = match plan_named(rt, file) {
+        Ok(plan) => plan,
+        Err(fault) => return Ended::of_plan_file(fault, file),
+    };
+    hint_at_end(rt, "records");
     let mut source = Counted::new(rt.stdin());
     let mut sink = Counted::new(rt.stdout());
-    run_audit(rt.alloc(), &plan, &mut source, &mut sink)
+    audit_between(rt.alloc(), file, &plan, &mut source, &mut sink)
+}
+
+/// Tells who types the input how it ends. That this can't be written changes nothing.
+fn hint_at_end(rt: &HostRuntime, what: &str) {
+    if rt.stdin().is_terminal() {
+        let _told = eprintln!(rt;
+            "crossbar5: standard input is a terminal; {what} are read up to Ctrl-D"
+        );
+    }
 }
 
 /// The text of the plan's file, or of the example plan where none is named.
-fn plan_named(rt: &HostRuntime, plan: &Option<String>) -> Result<Vec<u8>, EngineFault>
+fn plan_named(rt: &HostRuntime, file: Option<&str>) -> Result<Vec<u8>, EngineFault>
     ensures { result ≢ Err EngineFault.Markers }
 {
-    let asked = plan.as_ref().map(|name| File::open(rt, name));
+    let asked = file.map(|name| File::open(rt, name));
     plan_text(rt.alloc(), asked)
 }
 
@@ -146,15 +190,19 @@ fn tell(rt: &HostRuntime, fault: &CommandFault) -> Ending
     told_on(stream, told.is_ok())
 }
 
-/// Writes the line of an ending. That it can't be written changes nothing.
-fn finish(rt: &HostRuntime, ending: Ending) -> ExitCode
-    ensures { exit_status result ≡ exit_of ending }
+/// Writes the line of an ending, and then the sentence on it. That they can't be written changes
+/// nothing.
+fn finish(rt: &HostRuntime, ended: &Ended<'_>) -> ExitCode
+    ensures { exit_status result ≡ exit_of ended.now.ending }
 {
-    if let Some((stream, line)) = ending.line() {
+    if let Some((stream, line)) = ended.ending.line() {
         let _told = match stream {
             Stream::Output => rt.println(line),
             Stream::Errors => rt.eprintln(line),
         };
     }
-    ExitCode::from(ending.status())
+    if let Some(sentence) = &ended.sentence {
+        let _told = rt.eprintln(sentence);
+    }
+    ExitCode::from(ended.ending.status())
 }

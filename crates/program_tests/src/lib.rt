@@ -1,5 +1,5 @@
-//! Tests of the command line, of counted reads and writes, and of the rows of traffic, of the text of
-//! a run, and of the engine, by texts that were worked out outside.
+//! Tests of the command line, of counted reads and writes, and of the rows of traffic, of slips, of the
+//! text of a run, and of the engine, by texts that were worked out outside.
 #![tactic(auto)]
 
 #[cfg(test)]
@@ -12,5 +12,7 @@ mod counted;
 mod engine;
 #[cfg(test)]
 mod report;
+#[cfg(test)]
+mod slips;
 #[cfg(test)]
 mod traffic;

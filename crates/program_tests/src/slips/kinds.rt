@@ -1,6 +1,7 @@
 //! Kinds of markers.
 
 use super::*;
+use crate::checks::{check, check_eq};
 
 #[test]
 fn sentences_about_kinds(rt: HostRuntime) -> Result<(), Fail> {
@@ -21,10 +22,10 @@ fn sentences_about_kinds(rt: HostRuntime) -> Result<(), Fail> {
     ];
     for (kinds, wanted) in table {
         let slip = kinds_slip(kinds).ok_or("a slip")?;
-        assert_eq!(rt; slip.to_string(rt.alloc())?.as_str(), wanted);
+        check_eq!(rt; slip.to_string(rt.alloc())?.as_str(), wanted);
     }
     for kinds in ["X", "XX", "DCX", forty_nine.get(1..).unwrap_or("")] {
-        assert!(rt; kinds_slip(kinds).is_none(), "{kinds}");
+        check!(rt; kinds_slip(kinds).is_none(), "{kinds}");
     }
     Ok(())
 }

@@ -2,6 +2,7 @@
 //! then, and never another one.
 
 use super::*;
+use crate::checks::{check, check_eq};
 use xbar_plan::PlanFault;
 use xbar_traffic::{Mode, RowFault, TrafficFault};
 
@@ -44,9 +45,9 @@ faults = ["JU340", "JX340"]
         if let Ok(slip) = plan_slip(alloc, plan.as_bytes(), fault) {
             let told = slip.map(|slip| slip.to_string(alloc));
             if let Some(Ok(told)) = told {
-                assert_eq!(rt; told.as_str(), wanted);
+                check_eq!(rt; told.as_str(), wanted);
             } else {
-                assert!(rt; told.is_some(), "a slip of {fault}");
+                check!(rt; told.is_some(), "a slip of {fault}");
             }
         }
     }
@@ -56,9 +57,9 @@ faults = ["JU340", "JX340"]
 fn slips_of_texts_are_right_or_not_told(rt: HostRuntime) {
     let alloc = rt.alloc();
     if let Ok(slip) = plan_slip(alloc, b"version = 1\nversion = 2", PlanFault::NotToml) {
-        assert!(rt; slip.is_some());
+        check!(rt; slip.is_some());
         if let Some(Ok(told)) = slip.map(|slip| slip.to_string(alloc)) {
-            assert_eq!(rt; told.as_str(), "line 2, column 1: duplicate key (P1)");
+            check_eq!(rt; told.as_str(), "line 2, column 1: duplicate key (P1)");
         }
     }
 }
@@ -80,9 +81,9 @@ fn slips_of_traffic_are_right_or_not_told(rt: HostRuntime) {
     for (fault, wanted) in table {
         let fault = TrafficFault { row: 2, fault };
         if let Ok(slip) = traffic_slip(alloc, Mode::Replay, bytes, fault) {
-            assert!(rt; slip.is_some());
+            check!(rt; slip.is_some());
             if let Some(Ok(told)) = slip.map(|slip| slip.to_string(alloc)) {
-                assert_eq!(rt; told.as_str(), wanted);
+                check_eq!(rt; told.as_str(), wanted);
             }
         }
     }

@@ -1,6 +1,7 @@
 //! Plans.
 
 use super::*;
+use crate::checks::{check, check_eq};
 use xbar_plan::{Plan, PlanFault};
 
 /// The five lines of the example plan.
@@ -50,7 +51,7 @@ fn each_is_told(
 ) -> Result<(), Fail> {
     for (line, wanted) in table {
         let text = changed(alloc, at, line)?;
-        assert_eq!(rt;
+        check_eq!(rt;
             sentence(alloc, text.as_bytes())?.as_str(),
             *wanted,
             "{line}"
@@ -85,7 +86,7 @@ fn sentences_about_documents(rt: HostRuntime) -> Result<(), Fail> {
         ),
     ];
     for (text, wanted) in table {
-        assert_eq!(rt; sentence(rt.alloc(), text)?.as_str(), wanted);
+        check_eq!(rt; sentence(rt.alloc(), text)?.as_str(), wanted);
     }
     Ok(())
 }
@@ -324,7 +325,7 @@ fn sentences_about_limits(rt: HostRuntime) -> Result<(), Fail> {
     ];
     for ((groups, lines, faults), wanted) in table {
         let text = many(rt.alloc(), groups, lines, faults)?;
-        assert_eq!(rt; sentence(rt.alloc(), text.as_bytes())?.as_str(), wanted);
+        check_eq!(rt; sentence(rt.alloc(), text.as_bytes())?.as_str(), wanted);
     }
     Ok(())
 }
@@ -351,7 +352,7 @@ fn no_slip_is_told_where_its_fault_is_not(rt: HostRuntime) -> Result<(), Fail> {
         PlanFault::Memory,
     ];
     for fault in faults {
-        assert!(rt;
+        check!(rt;
             plan_slip(alloc, text.as_bytes(), fault)?.is_none(),
             "{fault}"
         );

@@ -1,6 +1,7 @@
 //! Traffic.
 
 use super::*;
+use crate::checks::{check, check_eq};
 use xbar_traffic::{MarkerFault, Mode, RowFault, Traffic, TrafficFault};
 
 /// Each traffic of this mode is refused by its rows alone, and is told so.
@@ -15,7 +16,7 @@ fn each_is_told(
             .refusal()
             .ok_or("a fault")?;
         let slip = traffic_slip(alloc, mode, bytes, fault)?.ok_or("a slip")?;
-        assert_eq!(rt; slip.to_string(alloc)?.as_str(), *wanted);
+        check_eq!(rt; slip.to_string(alloc)?.as_str(), *wanted);
     }
     Ok(())
 }
@@ -166,7 +167,7 @@ fn sentences_about_markers(rt: HostRuntime) -> Result<(), Fail> {
             fault: RowFault::Marker(why),
         };
         let slip = traffic_slip(rt.alloc(), Mode::Replay, bytes, fault)?.ok_or("a slip")?;
-        assert_eq!(rt; slip.to_string(rt.alloc())?.as_str(), wanted);
+        check_eq!(rt; slip.to_string(rt.alloc())?.as_str(), wanted);
     }
     Ok(())
 }
@@ -186,7 +187,7 @@ fn no_slip_is_told_without_its_row_or_fault(rt: HostRuntime) -> Result<(), Fail>
     ];
     for (row, fault) in table {
         let fault = TrafficFault { row, fault };
-        assert!(rt;
+        check!(rt;
             traffic_slip(rt.alloc(), Mode::Replay, bytes, fault)?.is_none(),
             "{fault:?}"
         );
