@@ -1,6 +1,11 @@
 use super::*;
+use crossbar5::Status;
 use std::test::Fail;
 use xbar_plan::Plan;
+
+mod memory;
+mod refused;
+mod sentences;
 
 #[test]
 fn each_ending_has_its_status_and_line(rt: HostRuntime) {
@@ -47,7 +52,8 @@ fn exit_of<T: Threads + Wait + Sync>(
     line: &str,
 ) -> Result<u8, Fail> {
     let words: Vec<&str> = line.split(' ').collect(rt.alloc())?;
-    Ok(do_as_asked(rt, threads, &words).status())
+    let asked = command(rt.alloc(), &words);
+    Ok(do_as_asked(rt, threads, &asked).ending.status())
 }
 
 #[test]

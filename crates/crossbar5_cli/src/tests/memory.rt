@@ -1,0 +1,66 @@
+//! Where memory is refused. Each of these tests passes whichever allocation is refused: the fault line
+//! and the status stay, and the sentence is the right one or none.
+
+use super::refused::{FILE, NOTHING, VERSION, changed};
+use super::*;
+use std::alloc::Global;
+use std::process::Abort;
+
+/// A replay by two markers is refused with this output, status and sentence, or without the sentence,
+/// or is out of memory before all that.
+fn is_refused_or_out_of_memory(
+    rt: &impl Abort,
+    alloc: Global,
+    plan: &str,
+    traffic: &[u8],
+    output: &[u8],
+    sentence: &str,
+) {
+    let Ok(kinds) = kinds_of(alloc, "XX") else {
+        return;
+    };
+    let mut source = Counted::new(traffic);
+    let mut sink = Counted::new(Vec::new(alloc));
+    let ended = replay_between(
+        alloc,
+        Some(FILE),
+        plan.as_bytes(),
+        &kinds,
+        &mut source,
+        &mut sink,
+    );
+    if let Ending::Failed(_) = ended.ending {
+        return;
+    }
+    assert_eq!(rt; sink.get_ref().as_slice(), output);
+    if let Some(found) = &ended.sentence {
+        if let Ok(told) = found.to_string(alloc) {
+            assert_eq!(rt; told.as_str(), sentence);
+        }
+    }
+}
+
+#[test]
+fn a_fault_line_needs_no_sentence(rt: HostRuntime) {
+    let alloc = rt.alloc();
+    if let Ok(plan) = changed(alloc, VERSION, "version = 3") {
+        is_refused_or_out_of_memory(
+            &rt,
+            alloc,
+            plan.as_str(),
+            b"",
+            b"FAULT,P2\n",
+            "crossbar5: town.toml: version: 3 stands there; 1 or 2 is wanted (P2)",
+        );
+    }
+    if let Ok(plan) = changed(alloc, NOTHING, "") {
+        is_refused_or_out_of_memory(
+            &rt,
+            alloc,
+            plan.as_str(),
+            b"S,0,1,,\n\nJ,0,1,D,3045\n",
+            b"FAULT,T3,2\n",
+            r#"crossbar5: traffic line 3 (row 2), field 5 "3045": a line of four digits, the third at most 5 and the fourth at most 4, is wanted (T3)"#,
+        );
+    }
+}
