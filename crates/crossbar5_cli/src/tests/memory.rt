@@ -2,7 +2,9 @@
 //! and the status stay, and the sentence is the right one or none.
 
 use super::refused::{FILE, NOTHING, VERSION, changed};
-use super::*;
+use crate::between::replay_between;
+use crate::ending::Ending;
+use crossbar5::{Counted, kinds_of};
 use std::alloc::Global;
 use std::process::Abort;
 

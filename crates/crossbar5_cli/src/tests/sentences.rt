@@ -4,9 +4,13 @@ use super::refused::{
     CODES, FAULTS, GROUPS, NOTHING, NUMBERS, VERSION, changed, check_audit, check_ended,
     check_live, check_replay,
 };
-use super::*;
+use crate::ended::Ended;
+use crate::ending::Ending;
+use crate::{audit, live, replay};
+use crossbar5::EngineFault;
 use std::alloc::Global;
 use std::process::Abort;
+use std::test::Fail;
 
 /// A dial tone job that is done alone.
 const FIRST: &str = "J,0,1,D,3041\nS,0,96,,\n";
