@@ -9,8 +9,8 @@ use std::alloc::Global;
 // One of so many reads has to find the end.
 const MOST_READS: u64 = 1_048_576;
 
-// Small enough that the longest input fits in memory.
-const CHUNK: usize = 512;
+// The longest input has 4 GiB of such reads.
+const CHUNK: usize = 4096;
 
 /// Reads all that there is, by at most 1,048,576 reads as the source counts them.
 ///

@@ -51,6 +51,10 @@ is_turned work = on_job false (λ number a. is_some (turn_in a.phase)) work
 abbrev pub gives_up_at : TheWork → Bool
 gives_up_at work = on_job false (λ number a. gives_up (next_step a)) work
 
+-- the step that a marker makes next; Finished where it has no job, or nothing is left of it
+abbrev pub next_step_at : TheWork → Step
+next_step_at work = on_job step.Finished (λ number a. next_step a) work
+
 -- a marker that is to begin its job anew gives up its request, or a connector, or is there already
 abbrev pub IsBackingIn : Attempt → Phase → Type 0
 IsBackingIn a (Withdraws conn) = ⊤

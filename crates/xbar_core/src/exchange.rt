@@ -4,7 +4,7 @@ ghost use Rattle.std.specs.Prelude.{◌≡◌, ◌↔◌, ◌<◌, ◌≤◌, �
 ghost use Rattle.turns.specs.World.{Idle};
 ghost use Rattle.xbar_equip.specs.Word.{word_count};
 ghost use Rattle.xbar_office.specs.Legal.{IsJob};
-ghost use Rattle.xbar_core.specs.AtWork.{IsBackingAt};
+ghost use Rattle.xbar_core.specs.AtWork.{IsBackingAt, gives_up_at, is_turned, next_step_at};
 ghost use Rattle.xbar_core.specs.Ends.{Settles};
 ghost use Rattle.xbar_core.specs.Exchange.{IsLawfulExchange, Marker as TheMarker, is_idle as is_idle_work, fresh_exchange};
 ghost use Rattle.xbar_core.specs.Moves.{assigned, begun_anew, event_at_step, frees_left, given_at, given_back, refusal, after_step, steps};
@@ -19,6 +19,7 @@ use crate::open_fault::OpenFault;
 use std::alloc::{AllocError, Global};
 use std::marker::Model;
 use xbar_equip::WORD_COUNT;
+use xbar_jobs::Step;
 use xbar_office::{Job, Record};
 use xbar_plan::Plan;
 
@@ -144,6 +145,33 @@ impl<'p> Exchange<'p> {
         self.marker(marker).is_idle()
     }
 
+    /// The step that the marker makes next: `Finished` where it is idle.
+    pub fn next_step(&self, marker: u32) -> Step
+        requires { marker < length self.now.exchange.markers }
+        ensures { (m : TheMarker) → slice_get self.now.exchange.markers marker ≡ Some m →
+            result ≡ next_step_at m.work }
+    {
+        self.marker(marker).next_step()
+    }
+
+    /// Whether the marker's job, or its last one, has taken its turn.
+    pub fn is_past_turn(&self, marker: u32) -> bool
+        requires { marker < length self.now.exchange.markers }
+        ensures { (m : TheMarker) → slice_get self.now.exchange.markers marker ≡ Some m →
+            result ≡ is_turned m.work }
+    {
+        self.marker(marker).is_past_turn()
+    }
+
+    /// Whether the marker's next step withdraws a request, or frees a connector.
+    pub fn is_giving_up(&self, marker: u32) -> bool
+        requires { marker < length self.now.exchange.markers }
+        ensures { (m : TheMarker) → slice_get self.now.exchange.markers marker ≡ Some m →
+            result ≡ gives_up_at m.work }
+    {
+        self.marker(marker).is_giving_up()
+    }
+
     /// Why the job can't be assigned to the marker.
     fn refuses(&self, marker: u32, job: &Job) -> Option<AssignFault>
         ensures { result ≡ refusal self.now.exchange marker job.now }
@@ -194,8 +222,9 @@ impl<'p> Exchange<'p> {
         )
     }
 
-    /// The marker is to begin its job anew, unless it is past its turn.
-    fn restart(&mut self, marker: u32)
+    /// The marker is to begin its job anew, unless it is past its turn: its next steps withdraw its
+    /// request and free what it holds. `give_back` makes these steps too.
+    pub fn restart(&mut self, marker: u32)
         requires { marker < length self.old.exchange.markers }
         ensures { self.new
             ≡ record self.old { exchange = begun_anew self.old.plan marker self.old.exchange } }

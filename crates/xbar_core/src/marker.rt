@@ -5,7 +5,7 @@ ghost use Rattle.xbar_equip.specs.Word.{word_count};
 ghost use Rattle.xbar_office.specs.Legal.{IsJob};
 ghost use Rattle.xbar_plan.specs.Tables.{Tables};
 ghost use Rattle.xbar_jobs.specs.Jobs.{first_conn};
-ghost use Rattle.xbar_core.specs.AtWork.{gives_up_at, is_turned};
+ghost use Rattle.xbar_core.specs.AtWork.{gives_up_at, is_turned, next_step_at};
 ghost use Rattle.xbar_core.specs.Exchange.{Marker as TheMarker, is_idle as is_idle_at};
 ghost use Rattle.xbar_core.specs.Moves.{event_by, given_by, refusal_of, after_step, work_anew};
 ghost use Rattle.xbar_core.specs.Standing.{StandsAt, waits};
@@ -16,6 +16,7 @@ use crate::given::Given;
 use crate::kind::Kind;
 use crate::work::Work;
 use std::marker::Model;
+use xbar_jobs::Step;
 use xbar_office::{Job, Record};
 use xbar_plan::Plan;
 
@@ -57,6 +58,16 @@ impl Marker {
         match &self.work {
             None => true,
             Some(work) => work.is_done(),
+        }
+    }
+
+    /// The step that it makes next: `Finished` where it has no job, or nothing is left of it.
+    pub fn next_step(&self) -> Step
+        ensures { result ≡ next_step_at self.now.work }
+    {
+        match &self.work {
+            None => Step::Finished,
+            Some(work) => work.next_step(),
         }
     }
 

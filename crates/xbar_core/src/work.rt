@@ -37,6 +37,13 @@ impl Work {
         }
     }
 
+    /// The step that is to be made next, `Finished` once nothing is left of the job.
+    pub fn next_step(&self) -> Step
+        ensures { result ≡ next_step self.now.program.attempt }
+    {
+        self.program.next()
+    }
+
     /// Whether nothing is left of the job.
     pub fn is_done(&self) -> bool
         ensures { result ≡ is_rest (act self.now.program.attempt) }

@@ -67,10 +67,10 @@ fn each_failure_is_the_device_s_own(rt: HostRuntime) {
 
 #[test]
 fn all_is_read_by_full_chunks(rt: HostRuntime) -> Result<(), Fail> {
-    let text = vec![in rt.alloc(); b'x'; 1300]?;
+    let text = vec![in rt.alloc(); b'x'; 10_000]?;
     let mut source = Counted::new(Recorder::new(rt.alloc(), text.as_slice()));
-    check_eq!(rt; read_all(rt.alloc(), &mut source)?.len(), 1300);
-    let wanted = [Call::Read(512); 4];
+    check_eq!(rt; read_all(rt.alloc(), &mut source)?.len(), 10_000);
+    let wanted = [Call::Read(4096); 4];
     check_eq!(rt; source.get_ref().calls.as_slice(), wanted.as_slice());
     Ok(())
 }

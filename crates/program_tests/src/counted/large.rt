@@ -12,8 +12,8 @@ fn large_input_is_read(rt: HostRuntime) -> Result<(), Fail> {
     let mut source = Counted::new(text.as_slice());
     let read = read_all(rt.alloc(), &mut source)?;
     check!(rt; read.as_slice() == text.as_slice());
-    // 2,200,000 is 4,296 chunks of 512 bytes and a part of one.
-    check_eq!(rt; source.reads(), 4297);
+    // 2,200,000 is 537 chunks of 4,096 bytes and a part of one.
+    check_eq!(rt; source.reads(), 538);
     Ok(())
 }
 

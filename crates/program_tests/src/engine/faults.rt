@@ -34,7 +34,7 @@ fn output_goes_out_in_one_write_and_one_flush(rt: HostRuntime) {
     let ended = replay_example(rt.alloc(), &mut source, &mut sink);
     check_eq!(rt; ended, Ok(Status::Fine));
     // The second read finds the end.
-    let reads = [Call::Read(512); 2];
+    let reads = [Call::Read(4096); 2];
     check_eq!(rt; source.get_ref().calls.as_slice(), reads.as_slice());
     let writes = [Call::Write(FIRST_TEXT.len()), Call::Flush];
     check_eq!(rt; sink.get_ref().calls.as_slice(), writes.as_slice());

@@ -9,6 +9,6 @@ use Rattle.xbar_traffic.proofs.traffic.Traffic.read.Given as goal
 abbrev pub invariant-loop-row : goal.invariant-loop-row
 invariant-loop-row l =
     record {
-      reading : IsUnderWay l.fn.mode (strip_bom l.fn.bytes) l.row-iterator.rdr l.row-iterator.left l.rows.items;
+      reading : IsUnderWay l.fn.mode (strip_bom l.fn.bytes) l.reader l.rows.items;
       numbers : (number : ℕ) → contains nat_cmp l.numbers number ≡ stands_in l.rows.items number;
     }
