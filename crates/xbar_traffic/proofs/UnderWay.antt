@@ -1,5 +1,5 @@
 use Rattle.std.proofs.Common.{◌≡◌, ◌∷◌, ◌++◌, [], Bor, true, ℕ, List, refl, sym, subst, ◌∙◌, inl}
-use Rattle.std.specs.Prelude.{Bool, false, Option, Some, None, Ok, Err}
+use Rattle.std.specs.Prelude.{false, Option, Some, None, Ok, Err}
 use Rattle.csv.specs.Reading.{ReadRecord, Reached, Ready, default_config, is_flexible, reader_config, reader_state, reader_trim, records, source_of, took_first}
 use Rattle.csv.specs.declared.parser.State.TheVariants as st
 use Rattle.csv.specs.declared.reader.Reader.{Reader}

@@ -24,8 +24,32 @@ loop-row-init c =
       numbers = λ number. refl;
     }
 
+pub returns-in-Ok-false : goal.returns-in-Ok-false
+returns-in-Ok-false c =
+    let u = c.loop-row.invariant.reading in
+    let ended = rw c.in-Ok-false.field-0-test at (c.in-Ok-false.ensures.reads u.trim u.ready) in
+    ends c.args.mode (strip_bom c.args.bytes.now) c.loop-row.reader c.read_byte_record.new.self c.loop-row.rows.items (fields_of c.read_byte_record.new.row) u ended
+
 pub returns-in-Err-2 : goal.returns-in-Err-2
-returns-in-Err-2 c = ?
+returns-in-Err-2 c =
+    let u = c.loop-row.invariant.reading in
+    let took = rw c.in-Ok-true.field-0-test at (c.in-Ok-true.ensures.reads u.trim u.ready) in
+    let judged = rw c.in-Err-2.is at c.in_ok-row.ensures.judged in
+    stops c.args.mode (strip_bom c.args.bytes.now) c.loop-row.reader c.read_byte_record.new.self c.loop-row.rows.items (fields_of c.read_byte_record.new.row) c.in-Err-2.fault u took
+    (judged_by_same c.args.mode (contains nat_cmp c.loop-row.numbers) (stands_in c.loop-row.rows.items) c.loop-row.invariant.numbers (fields_of c.read_byte_record.new.row) (Err c.in-Err-2.fault) judged)
 
 pub loop-row-preserved : goal.loop-row-preserved
-loop-row-preserved c = ?
+loop-row-preserved c =
+    let u = c.loop-row.invariant.reading in
+    let took = rw c.in-Ok-true.field-0-test at (c.in-Ok-true.ensures.reads u.trim u.ready) in
+    let judged = rw c.in-Ok.is at c.in_ok-row.ensures.judged in
+    let numbers = rw c.in-Ok.is at c.in_ok-row.ensures.numbers in
+    let good : is_ok c.extend_from_slice.result ≡ true = search rules in
+    let items = rw good at c.extend_from_slice.ensures.items in
+    rw items record {
+      reading = goes_on c.args.mode (strip_bom c.args.bytes.now) c.loop-row.reader c.read_byte_record.new.self c.loop-row.rows.items (fields_of c.read_byte_record.new.row) c.in-Ok.row u took
+          (c.in-Ok-true.ensures.ready u.trim) c.in-Ok-true.ensures.flexible
+          (judged_by_same c.args.mode (contains nat_cmp c.loop-row.numbers) (stands_in c.loop-row.rows.items) c.loop-row.invariant.numbers (fields_of c.read_byte_record.new.row) (Ok c.in-Ok.row) judged);
+      numbers = λ number. numbers number ∙ ap (λ (stood : Bool). stood || has_number number c.in-Ok.row) (c.loop-row.invariant.numbers number)
+          ∙ sym (stands_in-more c.loop-row.rows.items c.in-Ok.row number);
+    }
