@@ -32,8 +32,9 @@ impl<'w> Ended<'w> {
         ensures ending { result.ending ≡ Ending.Answered answer.status }
         ensures told { IsSome answer.slip → IsSome file.entry → IsSome result.sentence }
     {
-        let ending = Ending::Answered(answer.status);
-        let Some(slip) = answer.slip else {
+        let Answer { status, slip } = answer;
+        let ending = Ending::Answered(status);
+        let Some(slip) = slip else {
             return Ended::plainly(ending);
         };
         Ended {
