@@ -1,0 +1,11 @@
+use Rattle.std.specs.Prelude.{ℕ, List, ◌++◌, codes, if◌then◌else◌}
+use Rattle.xbar_equip.specs.declared.path.Path.{Path}
+use Rattle.xbar_office.specs.Standing.{ends_at_register}
+use Rattle.xbar_picture.specs.Lines.{path_lines}
+use Rattle.xbar_plan.specs.Tables.{Tables}
+use Rattle.xbar_office_text.specs.Ends.{end_text}
+
+-- a path in its eight lines, below an empty line and a heading
+unfoldable pub picture : Tables → Path → List ℕ
+picture plan path =
+    (if ends_at_register plan path then codes "\nA REGISTER'S PATH\n" else codes "\nA CALL'S PATH\n") ++ path_lines path (end_text plan path)
