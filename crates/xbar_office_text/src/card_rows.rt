@@ -24,7 +24,8 @@ fn add_filled(text: &mut String, places: usize, content: &str) -> Result<(), All
         filled places content.now) }
 {
     text.push_str(content)?;
-    add_blanks(text, places.saturating_sub(content.len()))
+    add_blanks(text, places.saturating_sub(content.len()))?;
+    Ok(())
 }
 
 /// Adds a row of a card: its left edge, a text with blanks behind it, and the right edge.
@@ -68,7 +69,8 @@ fn add_digit_row(
 {
     let mut content = String::from_str(alloc, name)?;
     add_ten_places(&mut content, digit)?;
-    add_row(text, SIDE, content.as_str())
+    add_row(text, SIDE, content.as_str())?;
+    Ok(())
 }
 
 #[tactic(auto, unfolding(crate::specs::CardRows::kind_row))]
@@ -80,7 +82,8 @@ fn add_kind_row(alloc: Global, text: &mut String, kind: LinkKind) -> Result<(), 
     let trunk_link = mark(kind == LinkKind::TrunkLink);
     let content =
         format!(in alloc; "{line_link} line link   {junctor} junctor   {trunk_link} trunk link")?;
-    add_row(text, SIDE, content.as_str())
+    add_row(text, SIDE, content.as_str())?;
+    Ok(())
 }
 
 fn first_name(kind: LinkKind) -> &'static str
@@ -112,5 +115,6 @@ pub fn add_link_rows(alloc: Global, text: &mut String, link: Link) -> Result<(),
     add_row(text, SIDE, "                   0 1 2 3 4 5 6 7 8 9")?;
     add_digit_row(alloc, text, first_name(kind), link.frame())?;
     add_digit_row(alloc, text, second_name(kind), link.at())?;
-    add_digit_row(alloc, text, "channel           ", link.channel())
+    add_digit_row(alloc, text, "channel           ", link.channel())?;
+    Ok(())
 }

@@ -52,7 +52,8 @@ fn add_title_row(alloc: Global, text: &mut String, card: &Card) -> Result<(), Al
     ensures { OnOk result (string_bytes text.new ≡ string_bytes text.old ++ title_row card.now) }
 {
     let content = format!(in alloc; "TROUBLE CARD: {} is faulty", card.link)?;
-    add_row(text, "  /  ", content.as_str())
+    add_row(text, "  /  ", content.as_str())?;
+    Ok(())
 }
 
 #[tactic(auto, unfolding(crate::specs::Cards::job_row))]
@@ -60,7 +61,8 @@ fn add_job_row(alloc: Global, text: &mut String, owner: &Record) -> Result<(), A
     ensures { OnOk result (string_bytes text.new ≡ string_bytes text.old ++ job_row owner.now) }
 {
     let content = format!(in alloc; "turn {}, job {}", owner.turn, owner.job_no)?;
-    add_row(text, " /   ", content.as_str())
+    add_row(text, " /   ", content.as_str())?;
+    Ok(())
 }
 
 #[tactic(auto, unfolding(crate::specs::Cards::trial_row))]
@@ -74,5 +76,6 @@ fn add_trial_row(
         trial_row owner.now card.now) }
 {
     let content = format!(in alloc; "marker {}, trial {}", owner.marker, card.trial)?;
-    add_row(text, "|    ", content.as_str())
+    add_row(text, "|    ", content.as_str())?;
+    Ok(())
 }

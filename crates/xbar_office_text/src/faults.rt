@@ -16,7 +16,8 @@ pub fn add_faults(alloc: Global, text: &mut String, plan: &Plan) -> Result<(), A
         fault_lines (faults_of_plan plan.now)) }
 {
     let links = faults_of(alloc, plan)?;
-    add_fault_lines(text, &links)
+    add_fault_lines(text, &links)?;
+    Ok(())
 }
 
 #[tactic(auto, unfolding(crate::specs::Faults::faults_of))]

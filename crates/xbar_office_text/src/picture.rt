@@ -40,5 +40,6 @@ fn add_picture(
     };
     text.push_str(heading)?;
     let end = path_end(alloc, plan, path)?;
-    add_path_lines(text, path, end.as_str())
+    add_path_lines(text, path, end.as_str())?;
+    Ok(())
 }

@@ -2,5 +2,5 @@ use Rattle.std.proofs.Common.{◌≡◌, ◌++◌, replicate}
 use Rattle.std.specs.Prelude.{string_bytes}
 use Rattle.xbar_office_text.proofs.card_rows.add_blanks.Given as goal
 
-abbrev pub invariant-loop-index : goal.invariant-loop-index
-invariant-loop-index l = string_bytes l.text ≡ string_bytes l.initial.text ++ replicate l.index 32
+abbrev pub invariant-loop : goal.invariant-loop
+invariant-loop l = string_bytes l.text ≡ string_bytes l.initial.text ++ replicate l.counter 32
