@@ -5,8 +5,9 @@ use super::texts::job;
 use crate::checks::check_eq;
 use std::alloc::Global;
 use std::test::Fail;
-use xbar_office::{Office, Record};
-use xbar_office_text::office_text;
+use xbar_equip::{Channel, Len, Link, Path, Ten};
+use xbar_office::{Card, Cards, End, Job, Office, Record, Reply};
+use xbar_office_text::{laws, office_text};
 use xbar_plan::Plan;
 
 /// A job's kind, line and digits.
@@ -197,5 +198,79 @@ fn two_cards_of_one_job(rt: HostRuntime) -> Result<(), Fail> {
     let jobs: &[Asked] = &[(b'R', b"3041", b""), (b'D', b"3041", b"")];
     let text = text_after(rt.alloc(), &plan, jobs)?;
     check_eq!(rt; text.as_str(), BOTH_TRIALS);
+    Ok(())
+}
+
+/// A plan with the longest name and the highest number of a member: pair 39, at 278 and 279.
+fn wide_plan(alloc: Global) -> Result<Plan, Fail> {
+    let mut text = String::new(alloc);
+    text.push_str("version = 2\ngroups = [\"REG register 417\", \"INTRA999 intra")?;
+    for pair in 0..40 {
+        let first = 200 + 2 * pair;
+        let second = 201 + 2 * pair;
+        write!(text, " {first}-{second}")?;
+    }
+    text.push_str("\"]\nnumbers = []\ncodes = []\nfaults = []\n")?;
+    Ok(Plan::read(alloc, text.as_bytes())?)
+}
+
+const WIDE: &str = "\
+PATHS AT A GLANCE
+2954 --[frame 2]-- channel 9 --[frame 2]-- 278   call: INTRA999 39, with 279
+
+A CALL'S PATH
+2954-9-278: line 2954 to trunk INTRA999 39, channel 9
+         +-- line link frame 2 --+         +- trunk link frame 2 --+
+2954 ----X-------- LL299 --------X--JU229--X-------- TL279 --------X---- 278
+         +-----------------------+         +-----------------------+
+switch  2,9                     2,9       2,9                     2,7
+word     49                      59       259                     247
+field     9                       2         2                       9
+holds    30                      10         8                       9
+
+   .---------------------------------------------.
+  /  TROUBLE CARD: TL999 is faulty               |
+ /   turn 18446744073709551615, job 4294967295   |
+|    marker 4294967295, trial 255                |
+|    . line link   . junctor   # trunk link      |
+|                       0 1 2 3 4 5 6 7 8 9      |
+|    trunk link frame   . . . . . . . . . #      |
+|    trunk switch       . . . . . . . . . #      |
+|    channel            . . . . . . . . . #      |
+'------------------------------------------------'
+";
+
+#[test]
+fn the_longest_texts(rt: HostRuntime) -> Result<(), Fail> {
+    let plan = wide_plan(rt.alloc())?;
+    let line = Len::parse(b"2954")?;
+    let path = Path {
+        line,
+        channel: Channel::new(9),
+        place: Ten::parse(b"278")?,
+    };
+    let card = Card {
+        trial: 255,
+        link: Link::parse(b"TL999")?,
+    };
+    let record = Record {
+        turn: u64::MAX,
+        marker: u32::MAX,
+        job_no: u32::MAX,
+        job: Job::Dial(line),
+        reply: Reply {
+            end: End::Trouble,
+            cards: Cards::one(card),
+        },
+    };
+    let text = office_text(rt.alloc(), &plan, &[path], &[record])?;
+    check_eq!(rt; text.as_str(), WIDE);
+    Ok(())
+}
+
+#[test]
+fn laws_of_the_text_can_be_called() -> Result<(), Fail> {
+    laws::each_path_has_one_line();
+    laws::each_card_is_drawn_once();
     Ok(())
 }
