@@ -1,5 +1,5 @@
 ghost use Rattle.std.specs.Prelude.{◌≡◌, ◌++◌, OnOk, flat_map, string_bytes};
-ghost use Rattle.xbar_office_text.specs.Picture.{picture};
+ghost use Rattle.xbar_office_text.specs.Picture.{heading as heading_of, picture};
 
 use crate::ends::{ends_at_register, path_end};
 use std::alloc::{AllocError, Global};
@@ -23,6 +23,17 @@ pub fn add_pictures(
     Ok(())
 }
 
+#[tactic(auto, unfolding(crate::specs::Picture::heading))]
+fn heading(plan: &Plan, path: &Path) -> &'static str
+    ensures { result.now ≡ heading_of plan.now path.now }
+{
+    if ends_at_register(plan, path) {
+        "\nA REGISTER'S PATH\n"
+    } else {
+        "\nA CALL'S PATH\n"
+    }
+}
+
 #[tactic(auto, unfolding(crate::specs::Picture::picture))]
 fn add_picture(
     alloc: Global,
@@ -33,12 +44,7 @@ fn add_picture(
     ensures { OnOk result (string_bytes text.new ≡ string_bytes text.old ++
         picture plan.now path.now) }
 {
-    let heading = if ends_at_register(plan, path) {
-        "\nA REGISTER'S PATH\n"
-    } else {
-        "\nA CALL'S PATH\n"
-    };
-    text.push_str(heading)?;
+    text.push_str(heading(plan, path))?;
     let end = path_end(alloc, plan, path)?;
     add_path_lines(text, path, end.as_str())?;
     Ok(())
