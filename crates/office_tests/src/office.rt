@@ -3,6 +3,7 @@
 mod audits;
 mod large;
 mod memory;
+mod picture;
 mod plans;
 mod rows;
 mod texts;
