@@ -11,13 +11,9 @@ use Rattle.xbar_office.specs.declared.reply.Record.{Record}
 use Rattle.xbar_office_text.specs.CardRows.{row, filled, mark, ten_places, digit_row, kind_row, first_name, second_name, link_rows}
 use Rattle.xbar_office_text.specs.Cards.{title_row, job_row, trial_row, card_text, cards_of}
 use Rattle.xbar_office_text.specs.TextLines.{lines, is_title}
+use Rattle.xbar_office_text.proofs.OtherLines.{IsOther, past_other, at_title}
 use Rattle.xbar_office_text.proofs.PlainTexts.{plain_blanks, plain_decimal, plain_flat_map, plain_link}
-use Rattle.xbar_office_text.proofs.WholeLines.{lacks_feed, IsPlain, IsWhole, plain_append, plain_nothing, plain_with, whole_append, whole_feed, whole_first, whole_with, lines_of_nothing}
-
--- a line of a card that is no title
-record IsOther (line : List ℕ) : Type 0 where
-  whole : IsWhole line
-  other : is_title line ≡ false
+use Rattle.xbar_office_text.proofs.WholeLines.{lacks_feed, IsPlain, IsWhole, plain_append, plain_nothing, plain_with, whole_append, whole_feed, whole_with, lines_of_nothing}
 
 plain_filled : (places : ℕ) (text : List ℕ) → IsPlain text → IsPlain (filled places text)
 unfolding filled
@@ -93,13 +89,6 @@ title_whole card =
 title_is : (card : Card) → is_title (title_row card) ≡ true
 unfolding title_row row filled
 title_is card = refl
-
--- the titles of a text that begins with a line that is none, and with one that is
-past_other : (line rest : List ℕ) → IsOther line → filter is_title (lines (line ++ rest)) ≡ filter is_title (lines rest)
-past_other line rest h = ap (filter is_title) (whole_first line rest h.whole) ∙ rw h.other
-
-at_title : (line rest : List ℕ) → IsWhole line → is_title line ≡ true → filter is_title (lines (line ++ rest)) ≡ line ∷ filter is_title (lines rest)
-at_title line rest w h = ap (filter is_title) (whole_first line rest w) ∙ rw h
 
 titles_of_link : (link : Link) (rest : List ℕ) → filter is_title (lines (link_rows link ++ rest)) ≡ filter is_title (lines rest)
 unfolding link_rows

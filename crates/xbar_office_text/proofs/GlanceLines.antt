@@ -1,5 +1,5 @@
 -- A path at a glance is one line, since the names of groups have letters and digits alone.
-use Rattle.std.proofs.Common.{◌≡◌, ℕ, Bool, true, false, List, [], ◌∷◌, ◌++◌, map, refl, sym, ap, ◌∙◌, subst, append-nil}
+use Rattle.std.proofs.Common.{◌≡◌, ℕ, Bool, true, false, List, [], ◌∷◌, ◌++◌, map, refl, sym, ap, ◌∙◌, subst, append_assoc}
 use Rattle.std.specs.Prelude.{◌==◌, not, codes, decimal, flat_map, Option, Some, None, option_and_then, slice_get}
 use Rattle.std.specs.List.{list_all}
 use Rattle.std.specs.Option.{option_map_or}
@@ -18,7 +18,7 @@ use Rattle.xbar_office_text.specs.Ends.{group_name, member_name, member_text, ot
 use Rattle.xbar_office_text.specs.Glance.{glance, glance_line}
 use Rattle.xbar_office_text.specs.TextLines.{lines}
 use Rattle.xbar_office_text.proofs.PlainTexts.{plain_choice, plain_channel, plain_decimal, plain_line, plain_place}
-use Rattle.xbar_office_text.proofs.WholeLines.{lacks_feed, IsPlain, IsWhole, plain_append, plain_nothing, plain_with, whole_append, whole_feed, whole_first, whole_with, lines_of_nothing}
+use Rattle.xbar_office_text.proofs.WholeLines.{lacks_feed, IsPlain, IsWhole, plain_append, plain_nothing, plain_with, whole_append, whole_feed, whole_first, whole_with}
 
 -- a character of a name is no line feed
 character_unlike : (x : ℕ) (b : Bool) → (x == 10) ≡ b → is_name_character x ≡ true → not b ≡ true
@@ -49,7 +49,7 @@ plain_member : (plan : Tables) → IsLawful plan → (found : Option MemberPlace
 plain_member plan lawful None = record { lacks = refl }
 plain_member plan lawful (Some member) = plain_member_name plan lawful member
 
-plain_member_text : (plan : Tables) → IsLawful plan → (path : Path) → IsPlain (member_text plan path)
+pub plain_member_text : (plan : Tables) → IsLawful plan → (path : Path) → IsPlain (member_text plan path)
 unfolding member_text
 plain_member_text plan lawful path = plain_member plan lawful (member_place plan path.place)
 
@@ -74,18 +74,20 @@ glance_line_whole plan lawful path =
     (whole_append (plain_channel path.channel) (whole_with (codes " --[frame ") refl (whole_append (plain_decimal path.place.frame) (whole_with (codes "]-- ") refl
     (whole_append (plain_place path.place) (whole_with (codes "   ") refl (whole_append (plain_use plan lawful path) whole_feed))))))))))
 
-lines_of_paths : (plan : Tables) → IsLawful plan → (paths : List Path) → lines (flat_map (glance_line plan) paths) ≡ map (glance_line plan) paths
-lines_of_paths plan lawful [] = lines_of_nothing
-lines_of_paths plan lawful (path ∷ paths) =
-    whole_first (glance_line plan path) (flat_map (glance_line plan) paths) (glance_line_whole plan lawful path)
-    ∙ ap (λ (more : List (List ℕ)). glance_line plan path ∷ more) (lines_of_paths plan lawful paths)
+lines_of_paths : (plan : Tables) → IsLawful plan → (paths : List Path) (rest : List ℕ) → lines (flat_map (glance_line plan) paths ++ rest) ≡ map (glance_line plan) paths ++ lines rest
+lines_of_paths plan lawful [] rest = refl
+lines_of_paths plan lawful (path ∷ paths) rest =
+    ap lines (append_assoc (glance_line plan path) (flat_map (glance_line plan) paths) rest)
+    ∙ whole_first (glance_line plan path) (flat_map (glance_line plan) paths ++ rest) (glance_line_whole plan lawful path)
+    ∙ ap (λ (more : List (List ℕ)). glance_line plan path ∷ more) (lines_of_paths plan lawful paths rest)
 
 heading_whole : IsWhole (codes "PATHS AT A GLANCE\n")
 heading_whole = whole_with (codes "PATHS AT A GLANCE") refl whole_feed
 
 -- below the heading each path has its line
-pub lines_of_glance : (plan : Tables) (path : Path) (paths : List Path) → IsLawful plan → lines (glance plan (path ∷ paths)) ≡ codes "PATHS AT A GLANCE\n" ∷ map (glance_line plan) (path ∷ paths)
+pub lines_of_glance : (plan : Tables) (path : Path) (paths : List Path) (rest : List ℕ) → IsLawful plan →
+    lines (glance plan (path ∷ paths) ++ rest) ≡ (codes "PATHS AT A GLANCE\n" ∷ map (glance_line plan) (path ∷ paths)) ++ lines rest
 unfolding glance
-lines_of_glance plan path paths lawful =
-    whole_first (codes "PATHS AT A GLANCE\n") (flat_map (glance_line plan) (path ∷ paths)) heading_whole
-    ∙ ap (λ (more : List (List ℕ)). codes "PATHS AT A GLANCE\n" ∷ more) (lines_of_paths plan lawful (path ∷ paths))
+lines_of_glance plan path paths rest lawful =
+    whole_first (codes "PATHS AT A GLANCE\n") (flat_map (glance_line plan) (path ∷ paths) ++ rest) heading_whole
+    ∙ ap (λ (more : List (List ℕ)). codes "PATHS AT A GLANCE\n" ∷ more) (lines_of_paths plan lawful (path ∷ paths) rest)

@@ -58,12 +58,7 @@ fn add_ten_places(text: &mut String, digit: u8) -> Result<(), AllocError>
 }
 
 #[tactic(auto, unfolding(crate::specs::CardRows::digit_row))]
-fn add_digit_row(
-    alloc: Global,
-    text: &mut String,
-    name: &str,
-    digit: u8,
-) -> Result<(), AllocError>
+fn add_digit_row(alloc: Global, text: &mut String, name: &str, digit: u8) -> Result<(), AllocError>
     ensures { OnOk result (string_bytes text.new ≡ string_bytes text.old ++
         digit_row name.now digit) }
 {
@@ -80,8 +75,9 @@ fn add_kind_row(alloc: Global, text: &mut String, kind: LinkKind) -> Result<(), 
     let line_link = mark(kind == LinkKind::LineLink);
     let junctor = mark(kind == LinkKind::Junctor);
     let trunk_link = mark(kind == LinkKind::TrunkLink);
-    let content =
-        format!(in alloc; "{line_link} line link   {junctor} junctor   {trunk_link} trunk link")?;
+    let content = format!(in alloc;
+        "{line_link} line link   {junctor} junctor   {trunk_link} trunk link"
+    )?;
     add_row(text, SIDE, content.as_str())?;
     Ok(())
 }

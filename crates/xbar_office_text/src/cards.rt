@@ -29,12 +29,7 @@ fn add_cards_of(alloc: Global, text: &mut String, owner: &Record) -> Result<(), 
 }
 
 #[tactic(auto, unfolding(crate::specs::Cards::card_text))]
-fn add_card(
-    alloc: Global,
-    text: &mut String,
-    owner: &Record,
-    card: &Card,
-) -> Result<(), AllocError>
+fn add_card(alloc: Global, text: &mut String, owner: &Record, card: &Card) -> Result<(), AllocError>
     ensures { OnOk result (string_bytes text.new ≡ string_bytes text.old ++
         card_text owner.now card.now) }
 {

@@ -35,12 +35,7 @@ fn heading(plan: &Plan, path: &Path) -> &'static str
 }
 
 #[tactic(auto, unfolding(crate::specs::Picture::picture))]
-fn add_picture(
-    alloc: Global,
-    text: &mut String,
-    plan: &Plan,
-    path: &Path,
-) -> Result<(), AllocError>
+fn add_picture(alloc: Global, text: &mut String, plan: &Plan, path: &Path) -> Result<(), AllocError>
     ensures { OnOk result (string_bytes text.new ≡ string_bytes text.old ++
         picture plan.now path.now) }
 {

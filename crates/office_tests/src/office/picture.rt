@@ -10,26 +10,23 @@ use xbar_office::{Card, Cards, End, Job, Office, Record, Reply};
 use xbar_office_text::{laws, office_text};
 use xbar_plan::Plan;
 
-/// A job's kind, line and digits.
-type Asked<'a> = (u8, &'a [u8], &'a [u8]);
+/// A job's number, kind, line and digits.
+type Asked<'a> = (u32, u8, &'a [u8], &'a [u8]);
 
-/// The text of the office under this plan after these jobs, which marker 0 does: they have the turns
-/// from 0 on, and the numbers from 1 on.
+/// The text of the office under this plan after these jobs, which marker 0 does.
 fn text_after(alloc: Global, plan: &Plan, jobs: &[Asked<'_>]) -> Result<String, Fail> {
     let mut office = Office::open(alloc, plan);
     let mut records = Vec::new(alloc);
-    let mut turn: u32 = 0;
-    for (kind, line, digits) in jobs.iter().take(9) {
+    for (turn, (job_no, kind, line, digits)) in jobs.iter().enumerate() {
         let job = job(*kind, line, digits)?;
         let reply = office.whole(job)?;
         records.push(Record {
-            turn: u64::from(turn),
+            turn: turn as u64,
             marker: 0,
-            job_no: turn + 1,
+            job_no: *job_no,
             job,
             reply,
         })?;
-        turn += 1;
     }
     Ok(office_text(alloc, plan, office.paths(), &records)?)
 }
@@ -59,7 +56,7 @@ holds    22                       1         2                       8
 #[test]
 fn a_path_to_a_register(rt: HostRuntime) -> Result<(), Fail> {
     let plan = Plan::example(rt.alloc())?;
-    let text = text_after(rt.alloc(), &plan, &[(b'D', b"3041", b"")])?;
+    let text = text_after(rt.alloc(), &plan, &[(1, b'D', b"3041", b"")])?;
     check_eq!(rt; text.as_str(), DIAL_TONE);
     Ok(())
 }
@@ -82,7 +79,7 @@ holds    22                       1         1                       1
 #[test]
 fn a_call_to_another_office(rt: HostRuntime) -> Result<(), Fail> {
     let plan = Plan::example(rt.alloc())?;
-    let jobs: &[Asked] = &[(b'D', b"3041", b""), (b'C', b"3041", b"5551234")];
+    let jobs: &[Asked] = &[(1, b'D', b"3041", b""), (2, b'C', b"3041", b"5551234")];
     let text = text_after(rt.alloc(), &plan, jobs)?;
     check_eq!(rt; text.as_str(), OUTSIDE);
     Ok(())
@@ -118,7 +115,7 @@ holds     1                       2         1                       2
 #[test]
 fn a_call_inside_the_office(rt: HostRuntime) -> Result<(), Fail> {
     let plan = Plan::example(rt.alloc())?;
-    let jobs: &[Asked] = &[(b'D', b"3041", b""), (b'C', b"3041", b"2340004")];
+    let jobs: &[Asked] = &[(1, b'D', b"3041", b""), (2, b'C', b"3041", b"2340004")];
     let text = text_after(rt.alloc(), &plan, jobs)?;
     check_eq!(rt; text.as_str(), INSIDE);
     Ok(())
@@ -156,7 +153,7 @@ JU340: channel 0, from line link frame 3 to trunk link frame 4
 #[test]
 fn a_trouble_card(rt: HostRuntime) -> Result<(), Fail> {
     let plan = plan(rt.alloc(), "417 418 509", "3052", "\"JU340\"")?;
-    let text = text_after(rt.alloc(), &plan, &[(b'D', b"3041", b"")])?;
+    let text = text_after(rt.alloc(), &plan, &[(1, b'D', b"3041", b"")])?;
     check_eq!(rt; text.as_str(), SECOND_TRIAL);
     Ok(())
 }
@@ -195,7 +192,7 @@ TL415: channel 5, at trunk switch 4,1
 #[test]
 fn two_cards_of_one_job(rt: HostRuntime) -> Result<(), Fail> {
     let plan = plan(rt.alloc(), "417 418 509", "3052", "\"TL415\", \"LL300\"")?;
-    let jobs: &[Asked] = &[(b'R', b"3041", b""), (b'D', b"3041", b"")];
+    let jobs: &[Asked] = &[(1, b'R', b"3041", b""), (2, b'D', b"3041", b"")];
     let text = text_after(rt.alloc(), &plan, jobs)?;
     check_eq!(rt; text.as_str(), BOTH_TRIALS);
     Ok(())
@@ -205,7 +202,7 @@ fn two_cards_of_one_job(rt: HostRuntime) -> Result<(), Fail> {
 fn wide_plan(alloc: Global) -> Result<Plan, Fail> {
     let mut text = String::new(alloc);
     text.push_str("version = 2\ngroups = [\"REG register 417\", \"INTRA999 intra")?;
-    for pair in 0..40 {
+    for pair in 0..40u32 {
         let first = 200 + 2 * pair;
         let second = 201 + 2 * pair;
         write!(text, " {first}-{second}")?;
