@@ -1,7 +1,7 @@
 //! Where memory is refused. Each of these tests passes whichever allocation is refused: the fault line
 //! and the status stay, and the sentence is the right one or none.
 
-use super::refused::{FILE, NOTHING, VERSION, changed};
+use super::refused::FILE;
 use crate::between::replay_between;
 use crate::ending::Ending;
 use crossbar5::{Counted, kinds_of};
@@ -42,27 +42,26 @@ fn is_refused_or_out_of_memory(
     }
 }
 
+/// A plan with one register.
+const PLAN: &str =
+    "version = 1\ngroups = ['REG register 417']\nnumbers = []\ncodes = []\nfaults = []\n";
+
 #[test]
 fn a_fault_line_needs_no_sentence(rt: HostRuntime) {
-    let alloc = rt.alloc();
-    if let Ok(plan) = changed(alloc, VERSION, "version = 3") {
-        is_refused_or_out_of_memory(
-            &rt,
-            alloc,
-            plan.as_str(),
-            b"",
-            b"FAULT,P2\n",
-            "crossbar5: town.toml: version: 3 stands there; 1 or 2 is wanted (P2)",
-        );
-    }
-    if let Ok(plan) = changed(alloc, NOTHING, "") {
-        is_refused_or_out_of_memory(
-            &rt,
-            alloc,
-            plan.as_str(),
-            b"S,0,1,,\n\nJ,0,1,D,3045\n",
-            b"FAULT,T3,2\n",
-            r#"crossbar5: traffic line 3 (row 2), field 5 "3045": a line of four digits, the third at most 5 and the fourth at most 4, is wanted (T3)"#,
-        );
-    }
+    is_refused_or_out_of_memory(
+        &rt,
+        rt.alloc(),
+        "version = 3\n",
+        b"",
+        b"FAULT,P2\n",
+        "crossbar5: town.toml: version: 3 stands there; 1 or 2 is wanted (P2)",
+    );
+    is_refused_or_out_of_memory(
+        &rt,
+        rt.alloc(),
+        PLAN,
+        b"S,0,1,,\n\nJ,0,1,D,3045\n",
+        b"FAULT,T3,2\n",
+        r#"crossbar5: traffic line 3 (row 2), field 5 "3045": a line of four digits, the third at most 5 and the fourth at most 4, is wanted (T3)"#,
+    );
 }
