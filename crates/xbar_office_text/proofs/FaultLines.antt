@@ -1,8 +1,7 @@
 -- The lines of the links that are out of order are whole, and none is the title of a card.
-use Rattle.std.proofs.Common.{◌≡◌, ℕ, true, false, List, [], ◌∷◌, ◌++◌, refl}
-use Rattle.std.specs.Prelude.{codes, decimal, flat_map}
-use Rattle.std.specs.List.{concat}
-use Rattle.xbar_equip.specs.Link.{Link, link_text, letters}
+use Rattle.std.proofs.Common.{◌≡◌, ℕ, false, List, [], ◌∷◌, ◌++◌, refl}
+use Rattle.std.specs.Prelude.{codes, flat_map}
+use Rattle.xbar_equip.specs.Link.{Link, letters}
 use Rattle.xbar_equip.specs.declared.link.LinkKind.{LinkKind}
 use Rattle.xbar_equip.specs.declared.link.LinkKind.TheVariants.{LineLink, Junctor, TrunkLink}
 use Rattle.xbar_office_text.specs.Faults.{whereabouts, fault_line, fault_lines}

@@ -1,6 +1,6 @@
 -- A path at a glance is one line, since the names of groups have letters and digits alone.
-use Rattle.std.proofs.Common.{◌≡◌, ℕ, Bool, true, false, List, [], ◌∷◌, ◌++◌, map, refl, sym, ap, ◌∙◌, subst, append_assoc}
-use Rattle.std.specs.Prelude.{◌==◌, not, codes, decimal, flat_map, Option, Some, None, option_and_then, slice_get}
+use Rattle.std.proofs.Common.{◌≡◌, ℕ, Bool, true, false, List, [], ◌∷◌, ◌++◌, map, refl, ap, ◌∙◌, subst, append_assoc}
+use Rattle.std.specs.Prelude.{◌==◌, not, codes, flat_map, Option, Some, None, option_and_then, slice_get}
 use Rattle.std.specs.List.{list_all}
 use Rattle.std.specs.Option.{option_map_or}
 use borrow.Author.Tests.{eqb-true}
@@ -9,7 +9,7 @@ use Rattle.xbar_equip.specs.Ten.{TrunkPlace}
 use Rattle.xbar_equip.specs.declared.path.Path.{Path}
 use Rattle.xbar_office.specs.Standing.{ends_at_register}
 use Rattle.xbar_plan.specs.Group.{TrunkGroup}
-use Rattle.xbar_plan.specs.Lawful.{IsLawful, is_between, is_name, is_name_character, is_well_formed_group, has_its_places}
+use Rattle.xbar_plan.specs.Lawful.{IsLawful, is_name, is_name_character, is_well_formed_group, has_its_places}
 use Rattle.xbar_plan.specs.Tables.{Tables, member_place}
 use Rattle.xbar_plan.specs.declared.group.MemberPlace.{MemberPlace}
 use Rattle.xbar_plan.proofs.Distinct.{item_passes}

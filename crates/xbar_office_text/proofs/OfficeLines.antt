@@ -1,7 +1,6 @@
 -- What the lines of a whole office's text are.
-use Rattle.std.proofs.Common.{◌≡◌, ℕ, ◌+◌, true, false, List, [], ◌∷◌, ◌++◌, length, map, take, refl, sym, ap, ◌∙◌, arith, append_assoc, append-nil}
-use Rattle.std.specs.Prelude.{codes, filter, flat_map, if◌then◌else◌}
-use Rattle.std.specs.List.{concat}
+use Rattle.std.proofs.Common.{◌≡◌, ℕ, ◌+◌, false, List, [], ◌∷◌, ◌++◌, length, map, take, refl, ap, ◌∙◌, arith, append-nil}
+use Rattle.std.specs.Prelude.{codes, filter, flat_map}
 use Rattle.std.proofs.lemmas.List.{length-map, take_at}
 use Rattle.xbar_equip.specs.declared.path.Path.{Path}
 use Rattle.xbar_office.specs.Standing.{ends_at_register}
@@ -10,7 +9,7 @@ use Rattle.xbar_picture.specs.Lines.{path_lines}
 use Rattle.xbar_plan.specs.Lawful.{IsLawful}
 use Rattle.xbar_plan.specs.Tables.{Tables}
 use Rattle.xbar_office_text.specs.Cards.{cards_of, title_row}
-use Rattle.xbar_office_text.specs.Ends.{end_text, member_text}
+use Rattle.xbar_office_text.specs.Ends.{end_text}
 use Rattle.xbar_office_text.specs.Faults.{faults_of, fault_lines}
 use Rattle.xbar_office_text.specs.Glance.{glance, glance_line}
 use Rattle.xbar_office_text.specs.Picture.{heading, picture}

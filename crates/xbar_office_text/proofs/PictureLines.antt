@@ -1,16 +1,15 @@
 -- The eight lines of a path are whole, and none is the title of a card.
-use Rattle.std.proofs.Common.{◌≡◌, ℕ, ◌+◌, Bool, true, false, List, [], ◌∷◌, ◌++◌, refl, ap, arith}
-use Rattle.std.specs.Prelude.{◌&&◌, ◌==◌, codes, decimal, nat_lt, nat_eq}
+use Rattle.std.proofs.Common.{◌≡◌, ℕ, true, false, List, [], ◌∷◌, refl, arith}
+use Rattle.std.specs.Prelude.{◌==◌, codes, nat_lt}
 use Rattle.std.specs.List.{concat}
 use borrow.Author.Tests.{ne_eqb}
-use Rattle.xbar_equip.specs.Crosspoint.{crosspoints}
 use Rattle.xbar_equip.specs.Digits.{digit}
 use Rattle.xbar_equip.specs.Path.{path_text, line_link, junctor, trunk_link}
 use Rattle.xbar_equip.specs.declared.path.Path.{Path}
 use Rattle.xbar_picture.specs.Lines.{title_line, frames_line, links_line, edges_line, switch_text, switches_line, in_three, numbers_line, words_line, fields_line, values_line, path_lines}
 use Rattle.xbar_office_text.specs.TextLines.{is_title}
 use Rattle.xbar_office_text.proofs.OtherLines.{IsOther, HasNoTitle, none_append, none_line, none_nothing}
-use Rattle.xbar_office_text.proofs.PlainTexts.{plain_channel, plain_choice, plain_decimal, plain_digit, plain_line, plain_link, plain_place}
+use Rattle.xbar_office_text.proofs.PlainTexts.{plain_channel, plain_choice, plain_decimal, plain_line, plain_link, plain_place}
 use Rattle.xbar_office_text.proofs.WholeLines.{lacks_feed, IsPlain, IsWhole, plain_append, plain_nothing, plain_with, whole_append, whole_feed, whole_with}
 
 -- a digit is no blank, with which a title begins

@@ -1,10 +1,9 @@
 -- Texts of numbers, paths, links and members have no line feed.
-use Rattle.std.proofs.Common.{◌≡◌, ℕ, zero, suc, ◌+◌, ◌/◌, ◌%◌, ◌<◌, ◌≤◌, Bool, true, false, cond, List, [], ◌∷◌, ◌++◌, refl, sym, ap, ◌∙◌, subst, arith, replicate}
-use Rattle.std.specs.Prelude.{◌==◌, not, nat_lt, codes, decimal, flat_map, Option, Some, None, slice_get}
+use Rattle.std.proofs.Common.{◌≡◌, ℕ, zero, suc, ◌+◌, ◌/◌, ◌%◌, ◌≤◌, Bool, true, false, cond, List, [], ◌∷◌, refl, ap, arith, replicate}
+use Rattle.std.specs.Prelude.{◌==◌, not, nat_lt, decimal, flat_map}
 use Rattle.std.specs.Fmt.{digits, digits_onto, digit_glyph}
-use Rattle.std.specs.List.{list_all}
-use borrow.Author.Tests.{eqb-true, ne_eqb}
-use Rattle.xbar_equip.proofs.Logic.{both, both_hold}
+use borrow.Author.Tests.{ne_eqb}
+use Rattle.xbar_equip.proofs.Logic.{both_hold}
 use Rattle.xbar_equip.specs.Channel.{channel_text}
 use Rattle.xbar_equip.specs.Digits.{digit}
 use Rattle.xbar_equip.specs.Len.{Line, line_text}

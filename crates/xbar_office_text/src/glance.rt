@@ -46,7 +46,8 @@ fn add_glance_line(text: &mut String, plan: &Plan, path: &Path) -> Result<(), Al
     let path_use = PathUse(plan, path);
     writeln!(
         text,
-        "{line} --[frame {line_frame}]-- channel {channel} --[frame {trunk_frame}]-- {place}   {path_use}"
+        "{line} --[frame {line_frame}]-- channel {channel} \
+        --[frame {trunk_frame}]-- {place}   {path_use}"
     )?;
     Ok(())
 }
