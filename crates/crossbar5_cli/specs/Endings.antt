@@ -1,7 +1,5 @@
 use Rattle.std.specs.Prelude.{ℕ, List, Option, Some, None, codes}
-use Rattle.crossbar5.specs.declared.status.Status.{Status}
 use Rattle.crossbar5.specs.declared.status.Status.TheVariants.{Fine, PlanRefused, TrafficRefused, ReportRefused, FoundWrong}
-use Rattle.crossbar5.specs.declared.engine_fault.EngineFault.{EngineFault}
 use Rattle.crossbar5.specs.declared.engine_fault.EngineFault.TheVariants.{Markers, Memory, Device, Long}
 use Rattle.crossbar5_cli.specs.declared.ending.Ending.{Ending}
 use Rattle.crossbar5_cli.specs.declared.ending.Ending.TheVariants.{Answered, Told, Refused, NotText, Failed}
