@@ -24,7 +24,7 @@ fn texts_of_faults(rt: HostRuntime) -> Result<(), Fail> {
 #[test]
 fn reads_to_the_end(rt: HostRuntime) -> Result<(), Fail> {
     // Two chunks and a part of one.
-    let text = vec![in rt.alloc(); b'x'; 1300]?;
+    let text = vec![in rt.alloc(); b'x'; 10_000]?;
     let mut source = Counted::new(text.as_slice());
     check_eq!(rt;
         read_all(rt.alloc(), &mut source)?.as_slice(),
@@ -39,8 +39,8 @@ fn reads_to_the_end(rt: HostRuntime) -> Result<(), Fail> {
 }
 
 #[test]
-fn a_failed_read_is_no_end(rt: HostRuntime) {
-    let text = [b'x'; 1300];
+fn a_failed_read_is_no_end(rt: HostRuntime) -> Result<(), Fail> {
+    let text = vec![in rt.alloc(); b'x'; 10_000]?;
     // Three reads give bytes, and the fourth finds the end.
     for calls in 0..4 {
         let mut source = Counted::new(FailAt::new(calls, text.as_slice()));
@@ -49,6 +49,7 @@ fn a_failed_read_is_no_end(rt: HostRuntime) {
         check_eq!(rt; source.failures(), 1);
         check_eq!(rt; source.reads(), u64::from(calls));
     }
+    Ok(())
 }
 
 #[test]
