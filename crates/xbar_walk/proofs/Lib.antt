@@ -1,0 +1,2 @@
+pub mod ToldSteps
+pub mod Listed

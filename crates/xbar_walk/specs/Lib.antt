@@ -1,0 +1,5 @@
+pub mod Places
+pub mod Shown
+pub mod Words
+pub mod Lines
+pub mod Walks
