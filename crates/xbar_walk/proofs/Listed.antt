@@ -1,10 +1,10 @@
 -- what a word shows, listed one by one
-use Rattle.std.proofs.Common.{◌≡◌, ℕ, zero, suc, ◌+◌, ◌-◌, ◌<◌, Bool, true, false, List, [], ◌∷◌, ◌++◌, append_assoc, append-nil, refl, sym, ◌∙◌, ap, subst, arith}
-use Rattle.std.specs.Prelude.{filter, flat_map, map, nat_lt, if◌then◌else◌}
+use Rattle.std.proofs.Common.{◌≡◌, ℕ, zero, suc, ◌+◌, Bool, true, false, List, [], ◌∷◌, ◌++◌, append_assoc, append-nil, refl, sym, ◌∙◌, ap, arith}
+use Rattle.std.specs.Prelude.{◌||◌, filter, map, if◌then◌else◌}
 use Rattle.std.specs.List.{range_with_len}
 use Rattle.std.proofs.lemmas.Grind.{common_steps}
-use Rattle.std.proofs.lemmas.List.Elements.{filter-append}
-use Rattle.xbar_walk.specs.Shown.{held_at, item_name, listed, positions, shown, shown_to}
+use Rattle.xbar_equip.proofs.Logic.{or_true, or_false}
+use Rattle.xbar_walk.specs.Shown.{is_shown, item_at, listed, positions, shown, shown_at, shown_to}
 use Rattle.xbar_walk.specs.declared.place.Place.{Place}
 
 -- one number more
@@ -63,35 +63,29 @@ pub record IsListed (place : Place) (word n : ℕ) (head separator first now : L
   pub any_is : any ≡ has_any (shown_to n place word)
   pub text_is : now ≡ first ++ listed [] head separator (shown_to n place word)
 
-tested : (h : ℕ) → 0 < h → nat_lt 0 h ≡ true
-tested h more = grind (arith, common_steps)
-
-not_tested : (h : ℕ) → h ≡ 0 → nat_lt 0 h ≡ false
-not_tested h none = ap (nat_lt 0) none
-
 module _ (place : Place) (word : ℕ) (head separator first now : List ℕ) (any : Bool) where
   pub begins_list : any ≡ false → now ≡ first → IsListed place word 0 head separator first now any
-  unfolding (shown_to, listed)
+  unfolding shown_to listed
   begins_list none same = record { any_is = none; text_is = same ∙ sym (append-nil first) }
 
   module _ (n : ℕ) (so_far : IsListed place word n head separator first now any) where
-    pub open_passes : held_at place word n ≡ 0 → IsListed place word (n + 1) head separator first now any
+    open_passes : (next : List ℕ) (some : Bool) → is_shown place word n ≡ false → some ≡ any → next ≡ now → IsListed place word (n + 1) head separator first next some
     unfolding shown_to
-    open_passes is_open =
-        let same = none_picked (λ position. nat_lt 0 (held_at place word position)) (λ position. item_name place position (held_at place word position - 1)) n (not_tested (held_at place word n) is_open) in
+    open_passes next some is_open stays same =
+        let none = none_picked (is_shown place word) (item_at place word) n is_open in
         record {
-          any_is = so_far.any_is ∙ ap has_any (sym same);
-          text_is = so_far.text_is ∙ ap (λ (texts : List (List ℕ)). first ++ listed [] head separator texts) (sym same);
+          any_is = stays ∙ so_far.any_is ∙ ap has_any (sym none);
+          text_is = same ∙ so_far.text_is ∙ ap (λ (texts : List (List ℕ)). first ++ listed [] head separator texts) (sym none);
         }
 
-    pub closed_adds : (next : List ℕ) → 0 < held_at place word n → next ≡ now ++ (if any then separator else head) ++ item_name place n (held_at place word n - 1) → IsListed place word (n + 1) head separator first next true
+    closed_adds : (next : List ℕ) (some : Bool) → is_shown place word n ≡ true → some ≡ true → next ≡ now ++ (if any then separator else head) ++ item_at place word n → IsListed place word (n + 1) head separator first next some
     unfolding shown_to
-    closed_adds next is_closed adds =
-        let item = item_name place n (held_at place word n - 1) in
+    closed_adds next some is_closed is adds =
+        let item = item_at place word n in
         let texts = shown_to n place word in
-        let more = one_picked (λ position. nat_lt 0 (held_at place word position)) (λ position. item_name place position (held_at place word position - 1)) n (tested (held_at place word n) is_closed) in
+        let more = one_picked (is_shown place word) (item_at place word) n is_closed in
         record {
-          any_is = sym (ap has_any more ∙ any_behind texts item);
+          any_is = is ∙ sym (ap has_any more ∙ any_behind texts item);
           text_is =
               adds ∙ ap (λ (text : List ℕ). text ++ (if any then separator else head) ++ item) so_far.text_is
               ∙ append_assoc first (listed [] head separator texts) ((if any then separator else head) ++ item)
@@ -99,6 +93,21 @@ module _ (place : Place) (word : ℕ) (head separator first now : List ℕ) (any
               ∙ ap (λ (text : List ℕ). first ++ text) (sym (listed_more head separator texts item))
               ∙ ap (λ (all : List (List ℕ)). first ++ listed [] head separator all) (sym more);
         }
+
+    -- one position more
+    pub one_listed : (next : List ℕ) (some : Bool) → some ≡ (any || is_shown place word n) → next ≡ now ++ shown_at place word n (if any then separator else head) → IsListed place word (n + 1) head separator first next some
+    unfolding shown_at
+    one_listed next some is adds = by (is_shown place word n) refl where
+      lead : List ℕ
+      lead = if any then separator else head
+
+      by : (b : Bool) → is_shown place word n ≡ b → IsListed place word (n + 1) head separator first next some
+      by true shows =
+          closed_adds next some shows (is ∙ ap (λ (b : Bool). any || b) shows ∙ or_true any)
+          (adds ∙ ap (λ (b : Bool). now ++ (if b then lead ++ item_at place word n else [])) shows)
+      by false shows =
+          open_passes next some shows (is ∙ ap (λ (b : Bool). any || b) shows ∙ or_false any)
+          (adds ∙ ap (λ (b : Bool). now ++ (if b then lead ++ item_at place word n else [])) shows ∙ append-nil now)
 
     pub ends_with_some : (none : List ℕ) → any ≡ true → n ≡ positions place → now ≡ first ++ listed none head separator (shown place word)
     ends_with_some none is all =

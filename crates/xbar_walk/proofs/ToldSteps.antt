@@ -1,14 +1,22 @@
 -- what a step that is told does to an office, and how far loops over told steps have come
-use Rattle.std.proofs.Common.{◌≡◌, ℕ, zero, suc, ◌+◌, ◌-◌, ◌<◌, Bool, true, false, length, refl, sym, ◌∙◌, ap, subst, arith}
+use Rattle.std.proofs.Common.{◌≡◌, ℕ, zero, suc, ◌+◌, ◌-◌, ◌<◌, ◌≤◌, Bool, true, false, List, ◌++◌, drop, length, length-append, refl, sym, ◌∙◌, ap, arith}
 use Rattle.std.specs.Prelude.{Option, Some, None, if◌then◌else◌, slice_get}
-use Rattle.std.proofs.lemmas.Option.{same_Some}
-use Rattle.xbar_core.specs.Exchange.{Exchange, Marker, OfPlan, at_marker, is_idle, on_job}
-use Rattle.xbar_core.specs.Moves.{after_step, steps}
+use Rattle.xbar_plan.specs.Tables.{Tables}
+use Rattle.xbar_office.specs.declared.reply.Record.{Record}
+use Rattle.xbar_jobs.specs.declared.step.Step.{Step}
+use Rattle.xbar_jobs.specs.declared.step.Step.TheVariants as step
+use Rattle.xbar_core.specs.AtWork.{next_step_at}
+use Rattle.xbar_core.specs.Exchange.{Exchange, Marker, OfPlan, at_marker, is_idle}
+use Rattle.xbar_core.specs.Moves.{after_step, event_at_step}
+use Rattle.xbar_core.specs.Runs.{Steps}
+use Rattle.xbar_core.specs.declared.event.Event.{Event}
+use Rattle.xbar_core.proofs.GrownRecords.{move_begins}
 use Rattle.xbar_core.proofs.Markers.{none_within}
 use Rattle.xbar_core.proofs.StepCases.{step_count}
 use Rattle.xbar_core.proofs.Stepping.{step_idle}
-use Rattle.xbar_walk.specs.Walks.{Walk, added_by, after_told_step, is_idle_in, one_more, told_of, told_steps}
+use Rattle.xbar_walk.specs.Walks.{Walk, added_by, after_told_step, found_by, is_idle_in, next_of, one_more, told_of, told_steps, walk_of}
 use Rattle.xbar_walk.specs.Lines.{step_lines}
+use Rattle.xbar_walk.specs.declared.told.Told.{Told}
 
 -- the office after marker k's next step
 abbrev pub stepped : ℕ → OfPlan → OfPlan
@@ -21,6 +29,11 @@ after_made k w = record {
   number = one_more w.number;
   text = w.text ++ step_lines (one_more w.number) k (told_of w.office.plan k w.office.exchange) (added_by w.office.plan k w.office.exchange);
 }
+
+-- where there is no marker of a number, none makes a step
+nobody_steps : (plan : Tables) (k : ℕ) (e : Exchange) → slice_get e.markers k ≡ None → after_step plan k e ≡ e
+unfolding after_step
+nobody_steps plan k e none = rw none refl
 
 module _ (k : ℕ) (w : Walk) where
   -- an idle marker makes no step, and nothing is told
@@ -39,8 +52,7 @@ module _ (k : ℕ) (w : Walk) where
     same is = ap (λ (e : Exchange). record w.office { exchange = e }) is
 
     by : (found : Option Marker) → slice_get w.office.exchange.markers k ≡ found → stepped k w.office ≡ w.office
-    unfolding after_step
-    by None none = same (ap (at_marker w.office.exchange (λ m. _)) none)
+    by None none = same (nobody_steps w.office.plan k w.office.exchange none)
     by (Some m) there = same (step_idle w.office.plan w.office.exchange k m there (sym (ap (at_marker true (λ o. is_idle o.work)) there) ∙ idle))
 
   pub told_office : (after_told_step k w).office ≡ stepped k w.office
@@ -90,3 +102,42 @@ idle_is e k idle within is = by (slice_get e.markers k) refl where
   by : (found : Option Marker) → slice_get e.markers k ≡ found → is_idle_in e k ≡ idle
   by None none = absurd (none_within e.markers k within none)
   by (Some m) there = ap (at_marker true (λ o. is_idle o.work)) there ∙ sym (is m there)
+
+-- which step it makes next
+pub next_is : (e : Exchange) (k : ℕ) (next : Step) → k < length e.markers → ((m : Marker) → slice_get e.markers k ≡ Some m → next ≡ next_step_at m.work) → next_of e k ≡ next
+next_is e k next within is = by (slice_get e.markers k) refl where
+  by : (found : Option Marker) → slice_get e.markers k ≡ found → next_of e k ≡ next
+  by None none = absurd (none_within e.markers k within none)
+  by (Some m) there = ap (at_marker step.Finished (λ o. next_step_at o.work)) there ∙ sym (is m there)
+
+-- a step leaves as many markers, and all records that there were
+pub step_within : (o next : OfPlan) (k : ℕ) → k < length o.exchange.markers → next ≡ stepped k o → k < length next.exchange.markers
+step_within o next k within is =
+    let same = ap (λ (x : OfPlan). length x.exchange.markers) is ∙ step_count o.plan o.exchange k in
+    omega (arith, same)
+
+pub records_within : (o next : OfPlan) (k : ℕ) → next ≡ stepped k o → length o.exchange.records ≤ length next.exchange.records
+records_within o next k is =
+    let more = move_begins o.plan o.exchange (Steps k) in
+    let size = ap (λ (x : OfPlan). length x.exchange.records) is ∙ ap (length {A = Record}) more.1 ∙ length-append o.exchange.records more.0 in
+    omega (arith, size)
+
+-- all that there is to tell of it
+pub told_is : (o next : OfPlan) (k found : ℕ) (made after : Step) (came : Event) → next_of o.exchange k ≡ made → found ≡ found_by o.exchange.words made → came ≡ event_at_step o.plan k o.exchange
+    → next ≡ stepped k o → next_of next.exchange k ≡ after → ◌≡◌ {A = Told} (record { step = made; found = found; event = came; next = after }) (told_of o.plan k o.exchange)
+told_is o next k found made after came step_is found_is came_is is after_is =
+    let same_found = found_is ∙ ap (found_by o.exchange.words) (sym step_is) in
+    let same_after = sym after_is ∙ ap (λ (x : OfPlan). next_of x.exchange k) is in
+    λ i. record { step = sym step_is i; found = same_found i; event = came_is i; next = same_after i }
+
+-- a step that was made and told is the walk's
+pub made_is : (k : ℕ) (w : Walk) (next : OfPlan) (before number : ℕ) (told : Told) (text : List ℕ) → is_idle_in w.office.exchange k ≡ false → next ≡ stepped k w.office → told ≡ told_of w.office.plan k w.office.exchange
+    → before ≡ length w.office.exchange.records → number ≡ one_more w.number → text ≡ w.text ++ step_lines number k told (drop before next.exchange.records) → walk_of next number text ≡ after_told_step k w
+made_is k w next before number told text goes next_is told_is before_is number_is text_is =
+    let same =
+    text_is
+    ∙ ap (λ (n : ℕ). w.text ++ step_lines n k told (drop before next.exchange.records)) number_is
+    ∙ ap (λ (t : Told). w.text ++ step_lines (one_more w.number) k t (drop before next.exchange.records)) told_is
+    ∙ ap (λ (b : ℕ). w.text ++ step_lines (one_more w.number) k (told_of w.office.plan k w.office.exchange) (drop b next.exchange.records)) before_is
+    ∙ ap (λ (o : OfPlan). w.text ++ step_lines (one_more w.number) k (told_of w.office.plan k w.office.exchange) (drop (length w.office.exchange.records) o.exchange.records)) next_is in
+    (λ i. record { office = next_is i; number = number_is i; text = same i }) ∙ sym (made_is_told k w goes)

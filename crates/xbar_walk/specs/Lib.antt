@@ -3,3 +3,4 @@ pub mod Shown
 pub mod Words
 pub mod Lines
 pub mod Walks
+pub mod Runs

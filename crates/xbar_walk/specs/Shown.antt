@@ -1,4 +1,4 @@
-use Rattle.std.specs.Prelude.{ℕ, ◌-◌, ◌/◌, ◌%◌, ◌^◌, nat_lt, Bool, List, [], ◌∷◌, ◌++◌, codes, decimal, filter, flat_map, map, if◌then◌else◌}
+use Rattle.std.specs.Prelude.{ℕ, ◌-◌, nat_lt, Bool, List, [], ◌∷◌, ◌++◌, codes, decimal, filter, flat_map, map, if◌then◌else◌}
 use Rattle.std.specs.Int.{bit_at}
 use Rattle.std.specs.List.{concat, range_with_len}
 use Rattle.xbar_equip.specs.declared.link.LinkKind.TheVariants.{LineLink, Junctor, TrunkLink}
@@ -42,11 +42,19 @@ item_name (TrunkSwitch frame switch) field place =
 item_name (Group group) member place = decimal member
 item_name (Other word) position place = decimal position
 
--- what a word shows up to a position: its closed fields, or its busy members, one by one
+abbrev pub is_shown : Place → ℕ → ℕ → Bool
+is_shown place word position = nat_lt 0 (held_at place word position)
+
+abbrev pub item_at : Place → ℕ → ℕ → List ℕ
+item_at place word position = item_name place position (held_at place word position - 1)
+
+-- what a position shows, if it shows something, behind a lead
+unfoldable pub shown_at : Place → ℕ → ℕ → List ℕ → List ℕ
+shown_at place word position lead = if is_shown place word position then lead ++ item_at place word position else []
+
+-- what a word shows at the first so many positions: its closed fields, or its busy members, one by one
 unfoldable pub shown_to : ℕ → Place → ℕ → List (List ℕ)
-shown_to count place word =
-    map (λ position. item_name place position (held_at place word position - 1))
-    (filter (λ position. nat_lt 0 (held_at place word position)) (range_with_len 0 count))
+shown_to count place word = map (item_at place word) (filter (is_shown place word) (range_with_len 0 count))
 
 abbrev pub shown : Place → ℕ → List (List ℕ)
 shown place word = shown_to (positions place) place word

@@ -7,6 +7,7 @@ pub use told::Told;
 pub use walk::{walk_step, walk_steps};
 
 mod given_words;
+pub mod laws;
 mod lines;
 mod names;
 mod place;

@@ -5,7 +5,7 @@ use std::fmt;
 use xbar_equip::WordNo;
 
 /// What of the office a word is of: a switch by its frame and its own number there, or a group.
-#[derive(Clone, Copy, Debug, PartialEq, Eq)]
+#[derive(Clone, Copy)]
 pub enum Place {
     LineSwitch(u8, u8),
     LineJunctor(u8, u8),

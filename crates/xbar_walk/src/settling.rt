@@ -73,11 +73,15 @@ fn walk_give_back(
     ensures { OnOk result (walk_of exchange.new number.new (string_bytes text.new)
         ≡ told_give_back marker (walk_of exchange.old number.old (string_bytes text.old))) }
 {
-    if exchange.is_idle(marker) || exchange.is_past_turn(marker) {
+    if exchange.is_idle(marker) {
+        return Ok(());
+    }
+    if exchange.is_past_turn(marker) {
         return Ok(());
     }
     exchange.restart(marker);
-    walk_back(exchange, marker, number, text)
+    walk_back(exchange, marker, number, text)?;
+    Ok(())
 }
 
 fn walk_all_past_turn(
@@ -140,5 +144,6 @@ pub fn walk_settling(
     add_settling(text)?;
     walk_all_past_turn(exchange, number, text)?;
     walk_all_back(exchange, number, text)?;
-    walk_all_to_end(exchange, number, text)
+    walk_all_to_end(exchange, number, text)?;
+    Ok(())
 }

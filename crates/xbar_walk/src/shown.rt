@@ -1,7 +1,7 @@
 //! What a word shows: the closed fields of a switch, or the busy members of a group.
 
-ghost use Rattle.std.specs.Prelude.{◌≡◌, ◌<◌, ◌^◌, ◌++◌, OnOk, Some, string_bytes, if◌then◌else◌};
-ghost use Rattle.xbar_walk.specs.Shown.{held_at as held_at_of, item_name, listed, positions as positions_of, shown};
+ghost use Rattle.std.specs.Prelude.{◌≡◌, ◌<◌, ◌++◌, ◌||◌, IfOk, OnOk, Some, string_bytes, if◌then◌else◌};
+ghost use Rattle.xbar_walk.specs.Shown.{held_at as held_at_of, is_shown, item_name, listed, positions as positions_of, shown, shown_at};
 
 use crate::names::{LineName, LinkName, TrunkName};
 use crate::place::Place;
@@ -93,6 +93,37 @@ fn lead<'t>(any: bool, head: &'t str, separator: &'t str) -> &'t str
     if any { separator } else { head }
 }
 
+/// Adds what a position shows, if it shows something, and tells whether anything stands there now.
+#[tactic(auto, unfolding(crate::specs::Shown::shown_at))]
+fn add_item(
+    text: &mut String,
+    place: Place,
+    word: u64,
+    position: u8,
+    any: bool,
+    head: &str,
+    separator: &str,
+) -> Result<bool, AllocError>
+    requires { position < positions_of place }
+    ensures any { IfOk result (λ some. some ≡ (any || is_shown place word position)) }
+    ensures text { OnOk result (string_bytes text.new ≡ string_bytes text.old ++
+        shown_at place word position (if any then separator.now else head.now)) }
+{
+    let held = held_at(place, word, position);
+    if held == 0 {
+        return Ok(any);
+    }
+    let at = held - 1;
+    let item = Item {
+        place,
+        position,
+        at,
+    };
+    let lead = lead(any, head, separator);
+    write!(text, "{lead}{item}")?;
+    Ok(true)
+}
+
 /// Adds all that a word shows, behind a head and parted by separators; or what is said if that is
 /// nothing.
 pub fn add_shown(
@@ -108,21 +139,12 @@ pub fn add_shown(
 {
     let mut any = false;
     for position in 0..positions(place) {
-        let held = held_at(place, word, position);
-        if held > 0 {
-            let at = held - 1;
-            let item = Item {
-                place,
-                position,
-                at,
-            };
-            let lead = lead(any, head, separator);
-            write!(text, "{lead}{item}")?;
-            any = true;
-        }
+        let some = add_item(text, place, word, position, any, head, separator)?;
+        any = some;
     }
-    if !any {
-        text.push_str(none)?;
+    if any {
+        return Ok(());
     }
+    text.push_str(none)?;
     Ok(())
 }

@@ -6,7 +6,7 @@ use xbar_core::Event;
 use xbar_jobs::Step;
 
 /// What there is to tell of a marker's step, but for the record that it may have added.
-#[derive(Debug, Drop)]
+#[derive(Drop)]
 pub struct Told {
     pub step: Step,
     /// What stood in the word before the step, if it tests or opens something there.
