@@ -78,18 +78,20 @@ module _ (place : Place) (word : ℕ) (head separator first now : List ℕ) (any
           text_is = same ∙ so_far.text_is ∙ ap (λ (texts : List (List ℕ)). first ++ listed [] head separator texts) (sym none);
         }
 
-    closed_adds : (next : List ℕ) (some : Bool) → is_shown place word n ≡ true → some ≡ true → next ≡ now ++ (if any then separator else head) ++ item_at place word n → IsListed place word (n + 1) head separator first next some
+    closed_adds : (next : List ℕ) (some : Bool) → is_shown place word n ≡ true → some ≡ true → next ≡ now ++ ((if any then separator else head) ++ item_at place word n) → IsListed place word (n + 1) head separator first next some
     unfolding shown_to
     closed_adds next some is_closed is adds =
         let item = item_at place word n in
         let texts = shown_to n place word in
+        let so_long = listed [] head separator texts in
         let more = one_picked (is_shown place word) (item_at place word) n is_closed in
         record {
           any_is = is ∙ sym (ap has_any more ∙ any_behind texts item);
           text_is =
-              adds ∙ ap (λ (text : List ℕ). text ++ (if any then separator else head) ++ item) so_far.text_is
-              ∙ append_assoc first (listed [] head separator texts) ((if any then separator else head) ++ item)
-              ∙ ap (λ (b : Bool). first ++ listed [] head separator texts ++ (if b then separator else head) ++ item) so_far.any_is
+              adds ∙ ap (λ (text : List ℕ). text ++ ((if any then separator else head) ++ item)) so_far.text_is
+              ∙ append_assoc first so_long ((if any then separator else head) ++ item)
+              ∙ ap (λ (b : Bool). first ++ (so_long ++ ((if b then separator else head) ++ item))) so_far.any_is
+              ∙ ap (λ (text : List ℕ). first ++ text) (sym (append_assoc so_long (if has_any texts then separator else head) item))
               ∙ ap (λ (text : List ℕ). first ++ text) (sym (listed_more head separator texts item))
               ∙ ap (λ (all : List (List ℕ)). first ++ listed [] head separator all) (sym more);
         }
@@ -98,16 +100,13 @@ module _ (place : Place) (word : ℕ) (head separator first now : List ℕ) (any
     pub one_listed : (next : List ℕ) (some : Bool) → some ≡ (any || is_shown place word n) → next ≡ now ++ shown_at place word n (if any then separator else head) → IsListed place word (n + 1) head separator first next some
     unfolding shown_at
     one_listed next some is adds = by (is_shown place word n) refl where
-      lead : List ℕ
-      lead = if any then separator else head
-
       by : (b : Bool) → is_shown place word n ≡ b → IsListed place word (n + 1) head separator first next some
       by true shows =
           closed_adds next some shows (is ∙ ap (λ (b : Bool). any || b) shows ∙ or_true any)
-          (adds ∙ ap (λ (b : Bool). now ++ (if b then lead ++ item_at place word n else [])) shows)
+          (adds ∙ ap (λ (b : Bool). now ++ (if b then (if any then separator else head) ++ item_at place word n else [])) shows)
       by false shows =
           open_passes next some shows (is ∙ ap (λ (b : Bool). any || b) shows ∙ or_false any)
-          (adds ∙ ap (λ (b : Bool). now ++ (if b then lead ++ item_at place word n else [])) shows ∙ append-nil now)
+          (adds ∙ ap (λ (b : Bool). now ++ (if b then (if any then separator else head) ++ item_at place word n else [])) shows ∙ append-nil now)
 
     pub ends_with_some : (none : List ℕ) → any ≡ true → n ≡ positions place → now ≡ first ++ listed none head separator (shown place word)
     ends_with_some none is all =

@@ -39,20 +39,18 @@ module _ (k : ℕ) (w : Walk) where
   other_stays past = ap (λ (b : Bool). if b then told_end k w else w) past
 
 -- what a marker answers that is asked to give back
-module _ (work : Work) where
-  abbrev answer : Bool → Bool → Given
-  answer idle past = if idle then given.Idle else (if past then given.PastTurn else given.Given)
+abbrev pub answer : Bool → Bool → Given
+answer idle past = if idle then given.Idle else (if past then given.PastTurn else given.Given)
 
-given_of : (work : Work) (idle past : Bool) → is_idle work ≡ idle → is_turned work ≡ past → given_by work ≡ answer work idle past
-given_of Idle idle past is also = ap (λ (b : Bool). answer Idle b past) is
-given_of (Does n a) idle past is also =
-    ap (λ (b : Bool). answer (Does n a) b (is_some (turn_in a.phase))) is ∙ ap (answer (Does n a) idle) also
+given_of : (work : Work) (idle past : Bool) → is_idle work ≡ idle → is_turned work ≡ past → given_by work ≡ answer idle past
+given_of Idle idle past is also = ap (λ (b : Bool). answer b past) is
+given_of (Does n a) idle past is also = ap (λ (b : Bool). answer b (is_some (turn_in a.phase))) is ∙ ap (answer idle) also
 
 -- as an exchange tells it
 pub given_as : (e : Exchange) (k : ℕ) (idle past : Bool) → k < length e.markers → ((m : Marker) → slice_get e.markers k ≡ Some m → idle ≡ is_idle m.work)
-    → ((m : Marker) → slice_get e.markers k ≡ Some m → past ≡ is_turned m.work) → given_at e k ≡ (if idle then given.Idle else (if past then given.PastTurn else given.Given))
+    → ((m : Marker) → slice_get e.markers k ≡ Some m → past ≡ is_turned m.work) → given_at e k ≡ answer idle past
 given_as e k idle past within is also =
-    found_by e k (given_at e k ≡ (if idle then given.Idle else (if past then given.PastTurn else given.Given))) within
+    found_by e k (given_at e k ≡ answer idle past) within
     (λ m there. given_is e k m there ∙ given_of m.work idle past (sym (is m there)) (sym (also m there)))
 
 pub idle_given : (e : Exchange) (k : ℕ) → k < length e.markers → ((m : Marker) → slice_get e.markers k ≡ Some m → true ≡ is_idle m.work) → given_at e k ≡ given.Idle
@@ -147,42 +145,34 @@ steps_make k (suc count) w =
 pub end_makes : Makes ended told_end
 end_makes k w = steps_make k most_steps_alone w
 
+abbrev if_past : OfPlan → ℕ → Work → Exchange
+if_past o k work = on_job o.exchange (λ n a. if is_some (turn_in a.phase) then ended o.plan k o.exchange else o.exchange) work
+
+past_alike : (k : ℕ) (w : Walk) (past : Bool) → (if past then told_end k w else w).office ≡ record w.office { exchange = if past then ended w.office.plan k w.office.exchange else w.office.exchange }
+past_alike k w true = end_makes k w
+past_alike k w false = refl
+
+past_on : (k : ℕ) (w : Walk) (work : Work) → (if is_turned work then told_end k w else w).office ≡ record w.office { exchange = if_past w.office k work }
+past_on k w Idle = refl
+past_on k w (Does n a) = past_alike k w (is_some (turn_in a.phase))
+
+past_found : (k : ℕ) (w : Walk) (found : Option Marker) → (if at_marker false (λ m. is_turned m.work) found then told_end k w else w).office
+    ≡ record w.office { exchange = at_marker w.office.exchange (λ m. if_past w.office k m.work) found }
+past_found k w None = refl
+past_found k w (Some m) = past_on k w m.work
+
 pub past_makes : Makes ended_past_turn told_end_past_turn
-past_makes k w = by (slice_get w.office.exchange.markers k) refl where
-  o : OfPlan
-  o = w.office
+past_makes k w = past_found k w (slice_get w.office.exchange.markers k)
 
-  e : Exchange
-  e = w.office.exchange
-
-  abbrev if_past : Marker → Exchange
-  if_past m = on_job e (λ n a. if is_some (turn_in a.phase) then ended w.office.plan k e else e) m.work
-
-  alike : (past : Bool) → (if past then told_end k w else w).office ≡ record o { exchange = if past then ended o.plan k e else e }
-  alike true = end_makes k w
-  alike false = refl
-
-  on : (work : Work) → (if is_turned work then told_end k w else w).office ≡ record o { exchange = on_job e (λ n a. if is_some (turn_in a.phase) then ended o.plan k e else e) work }
-  on Idle = refl
-  on (Does n a) = alike (is_some (turn_in a.phase))
-
-  by : (found : Option Marker) → slice_get e.markers k ≡ found → (told_end_past_turn k w).office ≡ changed_by ended_past_turn k o
-  by None none = rw none refl
-  by (Some m) there = rw there (on m.work)
+back_alike : (k : ℕ) (w : Walk) (what : Given) → (told_back_as what k w).office
+    ≡ record w.office { exchange = backed_as what (steps w.office.plan k (frees_left w.office.exchange k) (begun_anew w.office.plan k w.office.exchange)) w.office.exchange }
+back_alike k w given.Given = steps_make k (frees_left w.office.exchange k) (to_begin_anew k w)
+back_alike k w given.PastTurn = refl
+back_alike k w given.Idle = refl
 
 pub back_makes : Makes given_back told_give_back
 unfolding told_give_back given_back
-back_makes k w = by (given_at w.office.exchange k) where
-  e : Exchange
-  e = w.office.exchange
-
-  plan : Tables
-  plan = w.office.plan
-
-  by : (what : Given) → (told_back_as what k w).office ≡ record w.office { exchange = backed_as what (steps plan k (frees_left e k) (begun_anew plan k e)) e }
-  by given.Given = steps_make k (frees_left e k) (to_begin_anew k w)
-  by given.PastTurn = refl
-  by given.Idle = refl
+back_makes k w = back_alike k w (given_at w.office.exchange k)
 
 -- so for each of many markers
 pub each_makes : (change : Tables → ℕ → Exchange → Exchange) (part : ℕ → Walk → Walk) → Makes change part → (count : ℕ) (w : Walk)

@@ -22,7 +22,7 @@ marker_line number marker words =
 -- a job is assigned to a marker: no step, so it has no number
 unfoldable pub assignment_line : ℕ → ℕ → Job → List ℕ
 assignment_line marker job_no job =
-    marker_line (codes "    ") marker (concat (codes "is given job " ∷ decimal job_no ∷ codes ": " ∷ job_words job ∷ []))
+    concat (codes "      marker " ∷ decimal marker ∷ codes "  is given job " ∷ decimal job_no ∷ codes ": " ∷ job_words job ∷ codes "\n" ∷ [])
 
 -- a trouble card stands below the turn that gave it
 unfoldable pub card_line : Card → List ℕ

@@ -34,7 +34,7 @@ impl fmt::Display for InFour {
 
 /// Adds that a marker is given a job. Where memory runs out, a part of the line may have been
 /// added, here as below.
-#[tactic(auto, unfolding(crate::specs::Lines::assignment_line, crate::specs::Lines::marker_line))]
+#[tactic(auto, unfolding(crate::specs::Lines::assignment_line))]
 pub fn add_assignment(
     text: &mut String,
     marker: u32,

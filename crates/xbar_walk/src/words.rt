@@ -21,7 +21,11 @@ fn add_found(text: &mut String, place: Place, word: u64) -> Result<(), AllocErro
         Place::Group(_) => {
             add_shown(text, place, word, "all members idle", "busy members: ", ", ")
         }
-        _ => add_shown(text, place, word, "nothing closed", "closed: ", "; "),
+        Place::LineSwitch(_, _)
+        | Place::LineJunctor(_, _)
+        | Place::TrunkSwitch(_, _)
+        | Place::TrunkJunctor(_, _)
+        | Place::Other(_) => add_shown(text, place, word, "nothing closed", "closed: ", "; "),
     }
 }
 
@@ -69,7 +73,11 @@ fn add_close(text: &mut String, place: Place, bits: u64) -> Result<(), AllocErro
 {
     match place {
         Place::Group(_) => add_marked(text, " busy", place, bits),
-        _ => add_switched(text, "closes ", " are joined", place, bits),
+        Place::LineSwitch(_, _)
+        | Place::LineJunctor(_, _)
+        | Place::TrunkSwitch(_, _)
+        | Place::TrunkJunctor(_, _)
+        | Place::Other(_) => add_switched(text, "closes ", " are joined", place, bits),
     }
 }
 
@@ -79,7 +87,11 @@ fn add_open(text: &mut String, place: Place, bits: u64) -> Result<(), AllocError
 {
     match place {
         Place::Group(_) => add_marked(text, " idle", place, bits),
-        _ => add_switched(text, "opens ", " are parted", place, bits),
+        Place::LineSwitch(_, _)
+        | Place::LineJunctor(_, _)
+        | Place::TrunkSwitch(_, _)
+        | Place::TrunkJunctor(_, _)
+        | Place::Other(_) => add_switched(text, "opens ", " are parted", place, bits),
     }
 }
 

@@ -15,15 +15,15 @@ returns-then-is_past_turn c =
     (given_as c.args.exchange.now.exchange c.args.marker false true c.requires c.if-is_idle.ensures c.if-is_past_turn.ensures))
 
 pub walk_back-requires-clause-within : goal.walk_back-requires-clause-within
-walk_back-requires-clause-within c = anew_within c.args.exchange.now c.restart.new.exchange c.args.marker c.requires c.restart.ensures
+walk_back-requires-clause-within c = anew_within c.args.exchange.now c.restart.new.self c.args.marker c.requires c.restart.ensures
 
 pub walk_back-requires-clause-backs : goal.walk_back-requires-clause-backs
 walk_back-requires-clause-backs c =
-    anew_backs c.args.exchange.now c.restart.new.exchange c.args.marker
+    anew_backs c.args.exchange.now c.restart.new.self c.args.marker
     (given_as c.args.exchange.now.exchange c.args.marker false false c.requires c.if-is_idle.ensures c.if-is_past_turn.ensures) c.restart.ensures
 
 pub returns : goal.returns
 returns c =
     c.in_ok-walk_back.ensures
-    ∙ back_told c.args.marker (walk_of c.args.exchange.now c.args.number.now (string_bytes c.args.text.now)) c.restart.new.exchange
+    ∙ back_told c.args.marker (walk_of c.args.exchange.now c.args.number.now (string_bytes c.args.text.now)) c.restart.new.self
     (given_as c.args.exchange.now.exchange c.args.marker false false c.requires c.if-is_idle.ensures c.if-is_past_turn.ensures) c.restart.ensures

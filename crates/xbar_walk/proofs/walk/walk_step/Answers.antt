@@ -1,4 +1,4 @@
-use Rattle.std.proofs.Common.{true, false, length, sym, ap, ◌∙◌, arith}
+use Rattle.std.proofs.Common.{true, false, length, refl, sym, ap, arith}
 use Rattle.std.specs.Prelude.{string_bytes}
 use Rattle.xbar_office.specs.declared.reply.Record.{Record}
 use Rattle.xbar_walk.specs.Walks.{walk_of}
@@ -13,11 +13,11 @@ returns-then-is_idle c =
 pub add_made-requires : goal.add_made-requires
 add_made-requires c =
     let few = records_within c.args.exchange.now c.make_step-told.new.exchange c.args.marker c.make_step-told.ensures.step in
-    let same = ap (length {A = Record}) c.records.ensures.records in
-    omega (arith, few, same, c.len-before.ensures)
+    let same = ap (length {A = Record}) c.records-before.ensures.records in
+    omega (arith, few, same)
 
 pub returns : goal.returns
 returns c =
-    made_is c.args.marker (walk_of c.args.exchange.now c.args.number.now (string_bytes c.args.text.now)) c.make_step-told.new.exchange c.len-before.result _ c.make_step-told.result _
+    made_is c.args.marker (walk_of c.args.exchange.now c.args.number.now (string_bytes c.args.text.now)) c.make_step-told.new.exchange (length c.records-before.result.now) _ c.make_step-told.result _
     (idle_is c.args.exchange.now.exchange c.args.marker false c.requires c.if-is_idle.ensures) c.make_step-told.ensures.step c.make_step-told.ensures.told
-    (c.len-before.ensures ∙ ap (length {A = Record}) c.records.ensures.records) c.wrapping_add.ensures c.in_ok-add_made.ensures
+    (ap (length {A = Record}) c.records-before.ensures.records) refl c.in_ok-add_made.ensures
