@@ -1,8 +1,7 @@
 -- how far a settling that is told has come, and which office it leads to
 use Rattle.std.proofs.Common.{◌≡◌, ℕ, zero, suc, ◌+◌, ◌<◌, Bool, true, false, List, ◌++◌, length, length-set, refl, sym, ◌∙◌, ap, subst, arith}
 use Rattle.std.specs.Prelude.{Option, Some, None, is_some, if◌then◌else◌, slice_get}
-use Rattle.turns.specs.Attempt.{act, turn_in}
-use Rattle.turns.specs.Runs.{is_rest}
+use Rattle.turns.specs.Attempt.{turn_in}
 use Rattle.turns.specs.World.{Idle, Does}
 use Rattle.xbar_plan.specs.Tables.{Tables}
 use Rattle.xbar_jobs.specs.Attempt.{next_step}
@@ -224,17 +223,17 @@ all_done part first now count made all so_far = so_far.is ∙ ap (λ (n : ℕ). 
 abbrev each_of : (ℕ → Walk → Walk) → Walk → Walk
 each_of part w = told_for_each part (length w.office.exchange.markers) w
 
-module _ (w said past given last : Walk) (begins : said ≡ record w { text = w.text ++ settling_line }) (one : past ≡ each_of told_end_past_turn said) (two : given ≡ each_of told_give_back past) (three : last ≡ each_of told_end given) where
+module _ (w said past freed last : Walk) (begins : said ≡ record w { text = w.text ++ settling_line }) (one : past ≡ each_of told_end_past_turn said) (two : freed ≡ each_of told_give_back past) (three : last ≡ each_of told_end freed) where
   pub settling_is : last ≡ told_settling w
   settling_is =
       let n : ℕ = length w.office.exchange.markers in
       let first : Walk = record w { text = w.text ++ settling_line } in
       let ends : past ≡ told_for_each told_end_past_turn n first = one ∙ ap (each_of told_end_past_turn) begins in
       let many = ap (λ (x : Walk). length x.office.exchange.markers) ends ∙ each_size told_end_past_turn past_size n first in
-      let gives : given ≡ told_for_each told_give_back n (told_for_each told_end_past_turn n first) =
+      let gives : freed ≡ told_for_each told_give_back n (told_for_each told_end_past_turn n first) =
       two ∙ ap (λ (count : ℕ). told_for_each told_give_back count past) many ∙ ap (told_for_each told_give_back n) ends in
       let same = ap (λ (x : Walk). length x.office.exchange.markers) gives ∙ each_size told_give_back back_size n (told_for_each told_end_past_turn n first) ∙ each_size told_end_past_turn past_size n first in
-      three ∙ ap (λ (count : ℕ). told_for_each told_end count given) same ∙ ap (told_for_each told_end n) gives
+      three ∙ ap (λ (count : ℕ). told_for_each told_end count freed) same ∙ ap (told_for_each told_end n) gives
 
 pub settling_settles : (w : Walk) → (told_settling w).office ≡ record w.office { exchange = settled w.office.plan w.office.exchange }
 settling_settles w =

@@ -1,4 +1,5 @@
 pub mod Places
+pub mod Groups
 pub mod Shown
 pub mod Words
 pub mod Lines

@@ -69,22 +69,18 @@ fn add_seized(text: &mut String, conn: Conn, next: Step) -> Result<(), AllocErro
     let conn = ConnName(conn);
     match next {
         Step::Seize(_, _) => {
-            write!(text, "would seize {conn}: its word has changed, it tries again")?;
+            write!(
+                text,
+                "would seize {conn}: its word has changed, it tries again"
+            )?;
         }
         _ => write!(text, "seizes {conn}")?,
     }
     Ok(())
 }
 
-#[tactic(auto, unfolding(
-    crate::specs::Words::seize_words, crate::specs::Words::not_seized_words
-))]
-pub fn add_seize(
-    text: &mut String,
-    conn: Conn,
-    event: &Event,
-    next: Step,
-) -> Result<(), AllocError>
+#[tactic(auto, unfolding(crate::specs::Words::seize_words, crate::specs::Words::not_seized_words))]
+pub fn add_seize(text: &mut String, conn: Conn, event: &Event, next: Step) -> Result<(), AllocError>
     ensures { OnOk result (string_bytes text.new ≡ string_bytes text.old ++
         seize_words conn event.now next) }
 {

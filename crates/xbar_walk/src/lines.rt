@@ -63,7 +63,10 @@ fn add_card(text: &mut String, card: &Card) -> Result<(), AllocError>
     ensures { OnOk result (string_bytes text.new ≡ string_bytes text.old ++ card_line card.now) }
 {
     let Card { trial, link } = card;
-    writeln!(text, "                  trouble card: trial {trial}, {link} is faulty")?;
+    writeln!(
+        text,
+        "                  trouble card: trial {trial}, {link} is faulty"
+    )?;
     Ok(())
 }
 

@@ -1,4 +1,5 @@
 ghost use Rattle.std.specs.Prelude.{◌≡◌, Some};
+ghost use Rattle.xbar_walk.specs.Groups.{is_group as is_group_of};
 ghost use Rattle.xbar_walk.specs.Places.{place_name, place_of};
 
 use std::fmt;
@@ -43,6 +44,20 @@ impl Place {
             Place::Group((number - 400) as u8)
         } else {
             Place::Other(number)
+        }
+    }
+
+    /// Whether it has busy bits of a group, and no fields of a switch.
+    pub fn is_group(self) -> bool
+        ensures { result ≡ is_group_of self }
+    {
+        match self {
+            Place::LineSwitch(_, _)
+            | Place::LineJunctor(_, _)
+            | Place::TrunkSwitch(_, _)
+            | Place::TrunkJunctor(_, _)
+            | Place::Other(_) => false,
+            Place::Group(_) => true,
         }
     }
 }

@@ -19,7 +19,14 @@ fn add_found(text: &mut String, place: Place, word: u64) -> Result<(), AllocErro
 {
     match place {
         Place::Group(_) => {
-            add_shown(text, place, word, "all members idle", "busy members: ", ", ")
+            add_shown(
+                text,
+                place,
+                word,
+                "all members idle",
+                "busy members: ",
+                ", ",
+            )
         }
         Place::LineSwitch(_, _)
         | Place::LineJunctor(_, _)
@@ -71,13 +78,10 @@ fn add_close(text: &mut String, place: Place, bits: u64) -> Result<(), AllocErro
     ensures { OnOk result (string_bytes text.new ≡ string_bytes text.old ++
         close_words place bits) }
 {
-    match place {
-        Place::Group(_) => add_marked(text, " busy", place, bits),
-        Place::LineSwitch(_, _)
-        | Place::LineJunctor(_, _)
-        | Place::TrunkSwitch(_, _)
-        | Place::TrunkJunctor(_, _)
-        | Place::Other(_) => add_switched(text, "closes ", " are joined", place, bits),
+    if place.is_group() {
+        add_marked(text, " busy", place, bits)
+    } else {
+        add_switched(text, "closes ", " are joined", place, bits)
     }
 }
 
@@ -85,13 +89,10 @@ fn add_close(text: &mut String, place: Place, bits: u64) -> Result<(), AllocErro
 fn add_open(text: &mut String, place: Place, bits: u64) -> Result<(), AllocError>
     ensures { OnOk result (string_bytes text.new ≡ string_bytes text.old ++ open_words place bits) }
 {
-    match place {
-        Place::Group(_) => add_marked(text, " idle", place, bits),
-        Place::LineSwitch(_, _)
-        | Place::LineJunctor(_, _)
-        | Place::TrunkSwitch(_, _)
-        | Place::TrunkJunctor(_, _)
-        | Place::Other(_) => add_switched(text, "opens ", " are parted", place, bits),
+    if place.is_group() {
+        add_marked(text, " idle", place, bits)
+    } else {
+        add_switched(text, "opens ", " are parted", place, bits)
     }
 }
 
