@@ -5,7 +5,7 @@ use Rattle.xbar_core.specs.Exchange.{OfPlan}
 use Rattle.xbar_core.specs.Moves.{after_step}
 use Rattle.xbar_core.specs.Runs.{Steps, run_from}
 use Rattle.xbar_walk.specs.Lines.{step_lines}
-use Rattle.xbar_walk.specs.Runs.{Made, last_number, made_at, made_by, made_lines, told_run}
+use Rattle.xbar_walk.specs.Runs.{Made, last_number, made_by, made_lines, told_run}
 use Rattle.xbar_walk.specs.Walks.{Walk, added_by, after_told_step, is_idle_in, one_more, told_of, told_steps}
 use Rattle.xbar_walk.proofs.ToldSteps.{idle_tells_none, made_is_told, told_office}
 

@@ -1,4 +1,4 @@
-use Rattle.std.specs.Prelude.{ℕ, ◌-◌, ◌^◌, Option, None, Some, List, [], ◌∷◌, ◌++◌, bit_and, codes, decimal, slice_index}
+use Rattle.std.specs.Prelude.{ℕ, ◌-◌, ◌^◌, Option, None, Some, List, [], ◌∷◌, bit_and, codes, decimal}
 use Rattle.std.specs.List.{concat}
 use Rattle.xbar_equip.specs.Dialled.{dialled_text}
 use Rattle.xbar_equip.specs.Len.{line_text}

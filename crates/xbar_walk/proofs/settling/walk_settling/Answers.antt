@@ -1,4 +1,4 @@
-use Rattle.std.proofs.Common.{◌≡◌, ◌++◌, List, ℕ, ap, ◌∙◌}
+use Rattle.std.proofs.Common.{List, ℕ, ap, ◌∙◌}
 use Rattle.std.specs.Prelude.{string_bytes}
 use Rattle.xbar_walk.specs.Walks.{Walk, walk_of}
 use Rattle.xbar_walk.proofs.Settlings.{settling_is, settling_settles}
