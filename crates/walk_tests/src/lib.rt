@@ -1,0 +1,5 @@
+//! Tests of `xbar_walk`, by lines that were worked out from the office's rules.
+#![tactic(auto)]
+
+#[cfg(test)]
+mod walks;

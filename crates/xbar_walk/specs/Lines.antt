@@ -1,0 +1,44 @@
+use Rattle.std.specs.Prelude.{ℕ, nat_lt, List, [], ◌∷◌, ◌++◌, codes, decimal, flat_map, if◌then◌else◌}
+use Rattle.std.specs.List.{concat}
+use Rattle.xbar_equip.specs.Link.{link_text}
+use Rattle.xbar_office.specs.declared.job.Job.{Job}
+use Rattle.xbar_office.specs.declared.reply.Card.{Card}
+use Rattle.xbar_office.specs.declared.reply.Record.{Record}
+use Rattle.xbar_walk.specs.Words.{job_words, step_words}
+use Rattle.xbar_walk.specs.declared.told.Told.{Told}
+
+-- a number at the right of four places, or of as many as it needs
+unfoldable pub in_four : ℕ → List ℕ
+in_four number =
+    if nat_lt number 10 then codes "   " ++ decimal number
+    else (if nat_lt number 100 then codes "  " ++ decimal number
+    else (if nat_lt number 1000 then codes " " ++ decimal number else decimal number))
+
+-- what is told of a marker
+unfoldable pub marker_line : List ℕ → ℕ → List ℕ → List ℕ
+marker_line number marker words =
+    concat (number ∷ codes "  marker " ∷ decimal marker ∷ codes "  " ∷ words ∷ codes "\n" ∷ [])
+
+-- a job is assigned to a marker: no step, so it has no number
+unfoldable pub assignment_line : ℕ → ℕ → Job → List ℕ
+assignment_line marker job_no job =
+    concat (codes "      marker " ∷ decimal marker ∷ codes "  is given job " ∷ decimal job_no ∷ codes ": " ∷ job_words job ∷ codes "\n" ∷ [])
+
+-- a trouble card stands below the turn that gave it
+unfoldable pub card_line : Card → List ℕ
+card_line card =
+    concat (codes "                  trouble card: trial " ∷ decimal card.trial ∷ codes ", " ∷ link_text card.link ∷ codes " is faulty\n" ∷ [])
+
+abbrev pub card_lines : List Record → List ℕ
+card_lines records = flat_map (λ r. flat_map card_line r.reply.cards) records
+
+-- a marker's step of a number, and the records that it added
+unfoldable pub step_line : ℕ → ℕ → Told → List Record → List ℕ
+step_line number marker told records = marker_line (in_four number) marker (step_words told records)
+
+unfoldable pub step_lines : ℕ → ℕ → Told → List Record → List ℕ
+step_lines number marker told records = step_line number marker told records ++ card_lines records
+
+-- said once, when no row is left
+unfoldable pub settling_line : List ℕ
+settling_line = codes "      the rows are done, and the office settles\n"

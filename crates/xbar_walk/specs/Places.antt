@@ -1,0 +1,59 @@
+use Rattle.std.specs.Prelude.{ℕ, ◌-◌, ◌/◌, ◌%◌, nat_lt, List, [], ◌∷◌, codes, decimal, if◌then◌else◌}
+use Rattle.std.specs.List.{concat}
+use Rattle.xbar_equip.specs.Len.{Line, is_line, line_text}
+use Rattle.xbar_equip.specs.Link.{Link, is_link, link_text}
+use Rattle.xbar_equip.specs.Ten.{TrunkPlace, is_trunk_place, place_text}
+use Rattle.xbar_equip.specs.declared.conn.Conn.{Conn}
+use Rattle.xbar_equip.specs.declared.conn.Conn.TheVariants as conn
+use Rattle.xbar_equip.specs.declared.link.LinkKind.{LinkKind}
+use Rattle.xbar_walk.specs.declared.place.Place.{Place}
+use Rattle.xbar_walk.specs.declared.place.Place.TheVariants.{LineSwitch, LineJunctor, TrunkSwitch, TrunkJunctor, Group, Other}
+
+-- the twenty switches of a frame: ten that lines or trunks end at, and ten for junctors
+abbrev pub on_line_frame : ℕ → ℕ → Place
+on_line_frame frame at = if nat_lt at 10 then LineSwitch frame at else LineJunctor frame (at - 10)
+
+abbrev pub on_trunk_frame : ℕ → ℕ → Place
+on_trunk_frame frame at = if nat_lt at 10 then TrunkSwitch frame at else TrunkJunctor frame (at - 10)
+
+-- what of the office the word of a number is
+unfoldable pub place_of : ℕ → Place
+place_of word =
+    if nat_lt word 200 then on_line_frame (word / 20) (word % 20)
+    else (if nat_lt word 400 then on_trunk_frame ((word - 200) / 20) ((word - 200) % 20)
+    else (if nat_lt word 416 then Group (word - 400) else Other word))
+
+-- a switch, by its frame and its own number there
+unfoldable pub switch_name : List ℕ → ℕ → ℕ → List ℕ
+switch_name kind frame switch = concat (kind ∷ codes " " ∷ decimal frame ∷ codes "," ∷ decimal switch ∷ [])
+
+-- what the office calls it
+unfoldable pub place_name : Place → List ℕ
+place_name (LineSwitch frame switch) = switch_name (codes "line switch") frame switch
+place_name (LineJunctor frame channel) = switch_name (codes "line junctor switch") frame channel
+place_name (TrunkSwitch frame switch) = switch_name (codes "trunk switch") frame switch
+place_name (TrunkJunctor frame channel) = switch_name (codes "trunk junctor switch") frame channel
+place_name (Group group) = concat (codes "group " ∷ decimal group ∷ [])
+place_name (Other word) = concat (codes "word " ∷ decimal word ∷ [])
+
+-- a connector, by what it leads to
+unfoldable pub conn_name : Conn → List ℕ
+conn_name (conn.Llf frame) = concat (codes "line link frame " ∷ decimal frame ∷ [])
+conn_name (conn.Tlf frame) = concat (codes "trunk link frame " ∷ decimal frame ∷ [])
+conn_name (conn.Group group) = concat (codes "group " ∷ decimal group ∷ [])
+
+-- a line, a link and a trunk place by these numbers, if there is one
+unfoldable pub line_name : ℕ → ℕ → ℕ → List ℕ
+line_name frame switch x =
+    let line : Line = record { frame = frame; switch = switch; x = x } in
+    if is_line line then concat (codes "line " ∷ line_text line ∷ []) else codes "no line"
+
+unfoldable pub link_name : LinkKind → ℕ → ℕ → ℕ → List ℕ
+link_name kind frame at channel =
+    let link : Link = record { kind = kind; frame = frame; at = at; channel = channel } in
+    if is_link link then link_text link else codes "no link"
+
+unfoldable pub trunk_name : ℕ → ℕ → ℕ → List ℕ
+trunk_name frame switch appearance =
+    let place : TrunkPlace = record { frame = frame; switch = switch; appearance = appearance } in
+    if is_trunk_place place then concat (codes "place " ∷ place_text place ∷ []) else codes "no place"
