@@ -10,6 +10,7 @@ use xbar_plan::Plan;
 use xbar_walk::{add_assignment, walk_settling, walk_step, walk_steps};
 
 /// An office as it is walked through.
+#[derive(Drop)]
 struct Walk<'p> {
     office: Exchange<'p>,
     number: u64,
