@@ -105,5 +105,5 @@ impl<S: OnWords<READINGS, HELD>, const READINGS: usize, const HELD: usize> Jobs
         restart::<S, READINGS, HELD>(program);
     }
 
-    ghost is_system = { S.is_system };
+    ghost is_system = { λ setting right. (S.are_scripts setting right).is_system };
 }

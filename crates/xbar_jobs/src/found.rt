@@ -22,7 +22,7 @@ pub struct Row {
 
 impl Row {
     /// Nothing was tested.
-    #[tactic(auto, using(crate::proofs::KeptFacts::row_new))]
+    #[tactic(auto, using(crate::proofs::KeptFacts::row_none))]
     pub fn new() -> Self
         ensures { (seen : Seen) → IsRow result seen }
     {

@@ -1,7 +1,7 @@
 use crate::decided::Decided;
 use crate::effect::Effect;
 use crate::found::Found;
-use crate::kinds::{Gathered, Wanted};
+use crate::kinds::Wanted;
 use crate::walk::{first_conn, walk};
 use attempts::{Scripts, Seen};
 use turns::laws::Family;

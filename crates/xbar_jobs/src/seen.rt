@@ -32,6 +32,13 @@ impl<'a, 'm> Model for Seen<'a, 'm> {
     ghost invariant = { λ a. AreEffects a.made.now };
 }
 
+#[tactic(auto, using(crate::proofs::SeenTests::walks_are))]
+fn read(gathered: &Gathered, word: WordNo) -> Result<u64, Wanted>
+    ensures { result ≡ walk gathered.now (TestThen word Ends) }
+{
+    gathered.test(usize::from(word.number()))
+}
+
 impl<'a, 'm> Seen<'a, 'm> {
     ghost use Rattle.turns.specs.Seen.{changed_readings};
     ghost use Rattle.xbar_jobs.specs.Closing.{value_after as made_by};
@@ -66,7 +73,9 @@ impl<'a, 'm> Seen<'a, 'm> {
     pub fn value_of(&self, word: WordNo) -> Result<u64, Wanted>
         ensures { result ≡ walk self.now (TestThen word Ends) }
     {
-        let value = self.gathered.test(usize::from(word.number()))?;
-        Ok(made(self.made, word, value))
+        match read(self.gathered, word) {
+            Ok(value) => Ok(made(self.made, word, value)),
+            Err(wanted) => Err(wanted),
+        }
     }
 }

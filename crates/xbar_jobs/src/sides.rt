@@ -49,7 +49,7 @@ impl Model for Sides {
 }
 
 /// A row of this frame, which keeps what it has if it is one.
-#[tactic(auto, using(crate::proofs::Rows::row_none))]
+#[tactic(auto, using(crate::proofs::KeptFacts::row_none))]
 fn begin_row(row: &mut Row, _seen: &Seen, frame: u8)
     requires { IsRow row.old _seen.now }
     ensures frame { row.new.frame ≡ frame }

@@ -43,7 +43,6 @@ fn known_party(kept: &Option<Kept<Len, Party>>, line: Len) -> Option<Party>
 }
 
 /// Approaches a line, unless that is what is kept.
-#[tactic(auto, using(crate::proofs::KeptFacts::kept_found))]
 pub fn approach_once(
     kept: &mut Option<Kept<Len, Party>>,
     seen: &Seen,
@@ -150,7 +149,6 @@ fn known_path(
 }
 
 /// Traces a line's path, unless that is what is kept.
-#[tactic(auto, using(crate::proofs::KeptFacts::kept_found))]
 pub fn trace_once(
     kept: &mut Option<Kept<Party, Option<Path>>>,
     seen: &Seen,

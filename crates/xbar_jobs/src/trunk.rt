@@ -105,7 +105,6 @@ fn known_trunk(kept: &Option<Kept<Member, Trunk>>, member: &Member) -> Option<Tr
 }
 
 /// Reaches a member, unless that is what is kept.
-#[tactic(auto, using(crate::proofs::KeptFacts::kept_found))]
 pub fn reach_once(
     kept: &mut Option<Kept<Member, Trunk>>,
     seen: &Seen,
