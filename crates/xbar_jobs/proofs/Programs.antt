@@ -11,6 +11,7 @@ use Rattle.turns.proofs.Standing.{come_fits, wanted_lock}
 use Rattle.attempts.specs.Standing as standing
 use Rattle.attempts.specs.Standing.{AreScripts, KnowsIn, effects_left}
 use Rattle.attempts.specs.SystemWith.{system_with, with}
+use Rattle.attempts.proofs.Walking.{known_anywhere}
 use Rattle.xbar_equip.specs.Conn.{IsConn, conn_eq}
 use Rattle.xbar_equip.specs.Word.{word_count}
 use Rattle.xbar_equip.specs.declared.conn.Conn.{Conn}
@@ -20,37 +21,27 @@ use Rattle.xbar_plan.specs.Tables.{Tables}
 use Rattle.xbar_office.specs.Legal.{IsJob}
 use Rattle.xbar_office.specs.declared.job.Job.{Job}
 use Rattle.xbar_office.specs.declared.job.Job.TheVariants.{Dial, Complete, Release}
-use Rattle.xbar_office.specs.declared.reply.Reply.{Reply}
-use Rattle.xbar_jobs.specs.Attempt.{Act, Attempt, Counted, Phase, counted, next_step, step_of, with_count}
+use Rattle.xbar_jobs.specs.Attempt.{Act, Attempt, Counted, Phase, counted, fresh, next_step, step_of, with_count}
 use Rattle.xbar_jobs.specs.Closing.{effects as effects_of}
 use Rattle.xbar_jobs.specs.Found.{Knows}
 use Rattle.xbar_jobs.specs.Jobs.{first_conn}
-use Rattle.xbar_jobs.specs.Keeping.{AreEffects, IsEffect}
+use Rattle.xbar_jobs.specs.Keeping.{AreEffects}
 use Rattle.xbar_jobs.specs.Office.{office, office_over}
 use Rattle.xbar_jobs.specs.Script.{Seen}
-use Rattle.xbar_jobs.specs.Standing.{AreConns, Doing, HasReplyIn, IsAttempt, IsPhase, Stands, attempt_at, most_readings, most_seizings}
-use Rattle.xbar_jobs.specs.Turning.{IsStep}
+use Rattle.xbar_jobs.specs.Standing.{AreConns, Doing, HasReplyIn, IsAttempt, IsPhase, IsProgram, Stands, attempt_at, reply_of, most_readings, most_seizings}
+use Rattle.xbar_jobs.specs.Turning.{IsAct, IsStep}
 use Rattle.xbar_jobs.specs.declared.decision.Decision.{Decision}
 use Rattle.xbar_jobs.specs.declared.effect.Effect.{Effect}
 use Rattle.xbar_jobs.specs.declared.effect.Effect.TheVariants.{Close, Open, SetBit, ClearBit}
 use Rattle.xbar_jobs.specs.declared.found.Found.{Found}
+use Rattle.xbar_jobs.specs.declared.step.Step.{Step}
+use Rattle.xbar_jobs.specs.declared.step.Step.TheVariants.{Request}
 use Rattle.xbar_jobs.proofs.JobBounds.{jobs_bounded}
 use Rattle.xbar_jobs.proofs.KeptFacts.{knows_on}
 use Rattle.xbar_jobs.proofs.OfficeSystem.{office_is}
 use Rattle.xbar_jobs.proofs.SeenTests.{told_apart}
 
--- an act on what there is in the office
-abbrev pub IsAct : Act → Type 0
-IsAct Rest = Unit {0}
-IsAct (Ask conn) = IsConn conn
-IsAct (Take conn expected) = IsConn conn
-IsAct (Leave conn) = IsConn conn
-IsAct (Free conn) = IsConn conn
-IsAct (Look word) = word < word_count
-IsAct Turn = Unit {0}
-IsAct (Make effect) = IsEffect effect
-
--- the step that makes it is on what there is too
+-- the step that makes an act is on what there is too
 pub act_step : (a : Act) → IsAct a → IsStep (step_of a)
 act_step Rest range = tt
 act_step (Ask conn) range = range
@@ -166,9 +157,6 @@ pub attempt_restarted : (plan : Tables) (a new : Attempt) → IsAttempt a → ne
 attempt_restarted plan a new is made = subst IsAttempt (sym made) (attempt_restarted_in plan a a.phase refl is)
 
 -- what the code says of locks that it tells apart, as the law says it
-abbrev reply_of : Decision → Reply
-reply_of decision = decision.reply
-
 abbrev KnowsHere : Job → Found → Seen → Type 0
 KnowsHere job found seen = Knows found seen
 
@@ -195,3 +183,23 @@ no_plan = record { groups = []; stations = []; routes = []; faults = [] }
 -- an attempt and its count, after an answer or anew
 pub count_is : (p : Doing) (before : ℕ) (a : Attempt) → attempt_at p ≡ a → p.count ≡ (with_count before (attempt_at p)).count → record { attempt = attempt_at p; count = p.count } ≡ with_count before a
 count_is p before a made count = ap (λ (n : ℕ). record { attempt = attempt_at p; count = n }) count ∙ ap (with_count before) made
+
+pub begun_is : (p : Doing) (job : Job) → attempt_at p ≡ begin_with (first_conn job) job → p.count ≡ 0 → record { attempt = attempt_at p; count = p.count } ≡ fresh job
+begun_is p job made count = ap (λ (n : ℕ). record { attempt = attempt_at p; count = n }) count ∙ ap (λ (a : Attempt). record { attempt = a; count = 0 }) made
+
+-- what every program keeps, once it has begun, was told something or restarts
+pub program_begun : (p : Doing) (kept : Step) (job : Job) → IsJob job → attempt_at p ≡ begin_with (first_conn job) job → kept ≡ Request (first_conn job) → ((seen : Seen) → Knows p.point seen) → IsProgram p kept
+program_begun p kept job range made is always = record {
+  attempt = subst IsAttempt (sym made) (attempt_begun job range);
+  step = is ∙ ap next_step (sym made);
+  range = subst IsStep (sym is) (first_range job range);
+  knows = known_anywhere KnowsHere (attempt_at p) p.point p.phase always;
+}
+
+pub program_told : (plan : Tables) → IsLawful plan → (p : Doing) (kept : Step) → Stands plan (attempt_at p) → AreEffects (attempt_at p).effects → kept ≡ next_step (attempt_at p) → IsStep kept → KnowsIn KnowsHere (attempt_at p) p.point p.phase → IsProgram p kept
+program_told plan laws p kept stands effects is range knows = record {
+  attempt = is_attempt plan laws (attempt_at p) stands effects;
+  step = is;
+  range = range;
+  knows = knows;
+}

@@ -107,12 +107,15 @@ pub record Stands (plan : Tables) (a : Attempt) : Type 0 where
 abbrev pub Doing : Type 0
 Doing = standing.Program Conn Job Decision Found
 
+abbrev pub reply_of : Decision → Reply
+reply_of decision = decision.reply
+
 abbrev pub attempt_at : Doing → Attempt
-attempt_at p = standing.attempt_of (λ decision. decision.reply) effects_of p
+attempt_at p = standing.attempt_of reply_of effects_of p
 
 -- what every program keeps, whatever the plan: it knows its next step, which is one of the office, and what its walks have found is so
-pub record IsProgram (p : Doing) (step : Step) : Type 0 where
+pub record IsProgram (p : Doing) (kept : Step) : Type 0 where
   pub attempt : IsAttempt (attempt_at p)
-  pub step : step ≡ next_step (attempt_at p)
-  pub range : IsStep step
+  pub step : kept ≡ next_step (attempt_at p)
+  pub range : IsStep kept
   pub knows : KnowsIn (λ job found seen. Knows found seen) (attempt_at p) p.point p.phase

@@ -17,6 +17,7 @@ pub struct Decided {
 }
 
 impl Model for Decided {
+    ghost use Rattle.std.specs.Prelude.{◌≡◌};
     ghost use Rattle.xbar_jobs.specs.Closing.{effects as effects_of};
     ghost use Rattle.xbar_jobs.specs.Keeping.{AreEffects};
     ghost use Rattle.xbar_jobs.specs.declared.decision.Decision.{Decision};

@@ -1,17 +1,18 @@
 ghost use Rattle.std.specs.Prelude.{◌≡◌, ◌<◌, option_copied, is_some};
-ghost use Rattle.xbar_jobs.specs.Attempt.{next_step};
+ghost use Rattle.attempts.specs.Steps.{act_of};
+ghost use Rattle.xbar_jobs.specs.Attempt.{next_step, step_of as step_of_act};
 ghost use Rattle.xbar_jobs.specs.Keeping.{AreEffects};
 ghost use Rattle.xbar_jobs.specs.Standing.{IsAttempt, attempt_at};
-ghost use Rattle.xbar_jobs.specs.Turning.{IsStep};
+ghost use Rattle.xbar_jobs.specs.Turning.{IsAct, IsStep};
 
-use crate::decided::Decided;
+use crate::effect::Effect;
 use crate::offices::Offices;
 use crate::step::Step;
 use crate::walk::first_conn;
 use attempts::{AttemptOf, begin, next, restart, take};
 use std::marker::Model;
 use turns::Answer;
-use xbar_equip::WordNo;
+use xbar_equip::{Conn, WordNo};
 use xbar_office::{Job, Reply};
 use xbar_plan::Plan;
 
@@ -36,7 +37,7 @@ impl Model for Program {
 }
 
 /// The effects that are left are the office's. Called for its clause alone.
-#[tactic(auto, using(crate::proofs::Programs::left_effects))]
+
 fn effects_are(attempt: &AttemptOf<Offices, 42, 19>)
     ensures { AreEffects (attempt_at attempt.now).effects }
 {
@@ -46,13 +47,14 @@ fn effects_are(attempt: &AttemptOf<Offices, 42, 19>)
     }
 }
 
-/// The step that an attempt of the office does next.
-fn step_of(attempt: &AttemptOf<Offices, 42, 19>) -> Step
-    requires { IsAttempt (attempt_at attempt.now) }
-    ensures step { result ≡ next_step (attempt_at attempt.now) }
+/// The step that makes what an attempt does next.
+#[tactic(auto, using(crate::proofs::Programs::act_step))]
+fn step_by(next: attempts::Step<Conn, Effect>) -> Step
+    requires { IsAct (act_of next) }
+    ensures step { result ≡ step_of_act (act_of next) }
     ensures range { IsStep result }
 {
-    match next::<Offices, 42, 19>(attempt) {
+    match next {
         attempts::Step::Rest => Step::Finished,
         attempts::Step::Ask(conn) => Step::Request(conn),
         attempts::Step::Take(conn, expected) => Step::Seize(conn, expected),
@@ -62,6 +64,16 @@ fn step_of(attempt: &AttemptOf<Offices, 42, 19>) -> Step
         attempts::Step::Turn => Step::Turn,
         attempts::Step::Make(effect) => effect.step(),
     }
+}
+
+/// The step that an attempt of the office does next.
+#[tactic(auto, using(crate::proofs::Programs::made_range))]
+fn step_of(attempt: &AttemptOf<Offices, 42, 19>) -> Step
+    requires { IsAttempt (attempt_at attempt.now) }
+    ensures step { result ≡ next_step (attempt_at attempt.now) }
+    ensures range { IsStep result }
+{
+    step_by(next::<Offices, 42, 19>(attempt))
 }
 
 impl Program {

@@ -55,12 +55,12 @@ pub fn approach_once(
     match known_party(kept, line) {
         Some(party) => Ok(party),
         None => {
-            let party = approach(seen, line)?;
+            let party = &approach(seen, line)?;
             *kept = Some(Kept {
                 key: line,
-                value: party,
+                value: *party,
             });
-            Ok(party)
+            Ok(*party)
         }
     }
 }
@@ -161,12 +161,12 @@ pub fn trace_once(
     match known_path(kept, party) {
         Some(path) => Ok(path),
         None => {
-            let path = trace(seen, party)?;
+            let path = &trace(seen, party)?;
             *kept = Some(Kept {
                 key: *party,
-                value: path,
+                value: *path,
             });
-            Ok(path)
+            Ok(*path)
         }
     }
 }

@@ -117,12 +117,12 @@ pub fn reach_once(
     match known_trunk(kept, member) {
         Some(trunk) => Ok(trunk),
         None => {
-            let trunk = reach(seen, member)?;
+            let trunk = &reach(seen, member)?;
             *kept = Some(Kept {
                 key: *member,
-                value: trunk,
+                value: *trunk,
             });
-            Ok(trunk)
+            Ok(*trunk)
         }
     }
 }
