@@ -12,10 +12,12 @@ use Rattle.xbar_equip.specs.Conn.{conn_eq}
 use Rattle.xbar_equip.specs.Len.{Line}
 use Rattle.xbar_equip.specs.declared.path.Path.{Path}
 use Rattle.xbar_plan.specs.declared.group.Member.{Member}
+use Rattle.xbar_jobs.specs.Closing.{leave_effects, value_after}
 use Rattle.xbar_jobs.specs.Found.{IsKept, IsRow, Knows, KnowsCall, seen_after}
 use Rattle.xbar_jobs.specs.Script.{Script, Seen, walk}
 use Rattle.xbar_jobs.specs.Sides.{reach, test_junctors}
 use Rattle.xbar_jobs.specs.Tracing.{approach, trace}
+use Rattle.xbar_jobs.specs.declared.effect.Effect.{Effect}
 use Rattle.xbar_jobs.specs.declared.found.CallFound.{CallFound}
 use Rattle.xbar_jobs.specs.declared.found.Found.{Found}
 use Rattle.xbar_jobs.specs.declared.found.Row.{Row}
@@ -99,3 +101,7 @@ with_calling found kept seen knows is = record { calling = is; own = knows.own; 
 
 pub with_own : (found : Found) (kept : Option (Kept Party (Option Path))) (seen : Seen) → Knows found seen → IsKept trace kept seen → Knows (record found { own = kept }) seen
 with_own found kept seen knows is = record { calling = knows.calling; own = is; call = knows.call }
+
+-- words as they will be once this is let go, by the effects of that
+pub later_is : (leave : Leave) (effects : List Effect) (gathered later : Seen) → effects ≡ leave_effects leave → later ≡ record { held = gathered.held; readings = changed_readings (value_after effects) gathered.readings } → later ≡ seen_after (Some leave) gathered
+later_is leave effects gathered later are is = is ∙ ap (λ (made : List Effect). record { held = gathered.held; readings = changed_readings (value_after made) gathered.readings }) are

@@ -18,7 +18,7 @@ use crate::kinds::{Gathered, Wanted};
 use crate::leave::Leave;
 use crate::party::{CallParties, Party};
 use crate::seen::Seen;
-use crate::tracing::{approach_once, trace_once};
+use crate::tracing::approach_once;
 use xbar_equip::{Conn, Dialled, DirNo, Len, Path};
 use xbar_office::{Aim, End, leads_inside};
 use xbar_plan::{MemberPlace, Plan};
@@ -207,8 +207,7 @@ pub fn complete(
     ensures walk { result ≡ walk gathered.now (complete_steps plan.now line dialled) }
     ensures knows { Knows found.new gathered.now }
 {
-    let seen = Seen::new(gathered);
-    let calling = approach_once(&mut found.calling, &seen, line)?;
-    let own = trace_once(&mut found.own, &seen, &calling)?;
+    let calling = found.approach(gathered, line)?;
+    let own = found.trace(gathered, &calling)?;
     complete_from(plan, found, gathered, &calling, dialled, &own)
 }

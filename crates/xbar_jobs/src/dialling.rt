@@ -11,7 +11,6 @@ use crate::found::Found;
 use crate::kinds::{Gathered, Wanted};
 use crate::party::{CallParties, Party};
 use crate::seen::Seen;
-use crate::tracing::approach_once;
 use xbar_equip::Len;
 use xbar_office::{Aim, End};
 use xbar_plan::Plan;
@@ -53,6 +52,6 @@ pub fn dial(
     ensures walk { result ≡ walk gathered.now (dial_steps plan.now line) }
     ensures knows { Knows found.new gathered.now }
 {
-    let calling = approach_once(&mut found.calling, &Seen::new(gathered), line)?;
+    let calling = found.approach(gathered, line)?;
     serve_idle_line(plan, found, gathered, &calling, calling.channel())
 }

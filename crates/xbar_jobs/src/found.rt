@@ -2,12 +2,15 @@
 
 ghost use Rattle.std.specs.Prelude.{◌≡◌, Some, true};
 ghost use Rattle.xbar_jobs.specs.Found.{IsRow, Knows, KnowsCall, seen_after};
-ghost use Rattle.xbar_jobs.specs.Script.{Seen};
+ghost use Rattle.xbar_jobs.specs.Script.{Seen, walk};
+ghost use Rattle.xbar_jobs.specs.Tracing.{approach, trace};
 
 use crate::kept::Kept;
-use crate::kinds::Gathered;
+use crate::kinds::{Gathered, Wanted};
 use crate::leave::Leave;
 use crate::party::Party;
+use crate::seen::Seen;
+use crate::tracing::{approach_once, trace_once};
 use crate::trunk::Trunk;
 use arrayvec::ArrayVec;
 use xbar_equip::{Len, Path};
@@ -123,5 +126,25 @@ impl Found {
             self.leave = *leave;
             self.call = CallFound::new();
         }
+    }
+
+    /// Approaches the job's line, once for all walks.
+    pub fn approach(&mut self, gathered: &Gathered, line: Len) -> Result<Party, Wanted>
+        requires { Knows self.old gathered.now }
+        ensures walk { result ≡ walk gathered.now (approach line) }
+        ensures knows { Knows self.new gathered.now }
+    {
+        let seen = Seen::new(gathered);
+        approach_once(&mut self.calling, &seen, line)
+    }
+
+    /// Traces the path of the job's line, once for all walks.
+    pub fn trace(&mut self, gathered: &Gathered, party: &Party) -> Result<Option<Path>, Wanted>
+        requires { Knows self.old gathered.now }
+        ensures walk { result ≡ walk gathered.now (trace party.now) }
+        ensures knows { Knows self.new gathered.now }
+    {
+        let seen = Seen::new(gathered);
+        trace_once(&mut self.own, &seen, party)
     }
 }

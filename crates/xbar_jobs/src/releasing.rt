@@ -10,7 +10,7 @@ use crate::found::Found;
 use crate::kinds::{Gathered, Wanted};
 use crate::leave::Leave;
 use crate::seen::Seen;
-use crate::tracing::{approach_once, trace_back, trace_once};
+use crate::tracing::trace_back;
 use xbar_equip::{Conn, Len, Path, Ten};
 use xbar_office::End;
 use xbar_plan::Plan;
@@ -57,8 +57,7 @@ pub fn release(
     ensures walk { result ≡ walk gathered.now (release_steps plan.now line) }
     ensures knows { Knows found.new gathered.now }
 {
-    let seen = Seen::new(gathered);
-    let party = approach_once(&mut found.calling, &seen, line)?;
-    let own = trace_once(&mut found.own, &seen, &party)?;
-    release_from(plan, &seen, &own)
+    let party = found.approach(gathered, line)?;
+    let own = found.trace(gathered, &party)?;
+    release_from(plan, &Seen::new(gathered), &own)
 }
