@@ -2,7 +2,7 @@
 use Rattle.std.proofs.Common.{◌≡◌, ℕ, zero, suc, ◌<◌, Bool, List, [], ◌∷◌, inl, inr, refl, sym, ◌∙◌, ap, subst, arith}
 use Rattle.std.specs.Prelude.{Option, Some, None, IsSome, drop}
 use Rattle.turns.specs.Among.{IsIn}
-use Rattle.turns.specs.Attempt.{Rest, Ask, Take, Leave, Free, Look, Turn, Make, StandsIn, act, act_in, begin, begin_with, change, closing_act, forgotten, free_act, freed, restarted, restarted_in}
+use Rattle.turns.specs.Attempt.{IsAnswerTo, Rest, Ask, Take, Leave, Free, Look, Turn, Make, StandsIn, act, act_in, begin, begin_with, change, closing_act, forgotten, free_act, freed, restarted, restarted_in}
 use Rattle.turns.specs.System.{DecidesUnder}
 use Rattle.turns.specs.declared.answer.Answer.{Answer}
 use Rattle.turns.specs.declared.phase.Phase.TheVariants.{Requests, Seizes, Tests, Turns, Withdraws, GivesBack, Operates}
@@ -36,6 +36,7 @@ use Rattle.xbar_jobs.specs.declared.effect.Effect.TheVariants.{Close, Open, SetB
 use Rattle.xbar_jobs.specs.declared.found.Found.{Found}
 use Rattle.xbar_jobs.specs.declared.step.Step.{Step}
 use Rattle.xbar_jobs.specs.declared.step.Step.TheVariants.{Request}
+use Rattle.xbar_jobs.proofs.AttemptStands.{stands_after}
 use Rattle.xbar_jobs.proofs.JobBounds.{jobs_bounded}
 use Rattle.xbar_jobs.proofs.KeptFacts.{knows_on}
 use Rattle.xbar_jobs.proofs.OfficeSystem.{office_is}
@@ -203,3 +204,7 @@ program_told plan laws p kept stands effects is range knows = record {
   range = range;
   knows = knows;
 }
+
+-- once it was told something, a program's attempt stands again
+pub told_stands : (plan : Tables) → IsLawful plan → (p new : Doing) (answer : Answer) → IsJob p.job → IsAnswerTo (act (attempt_at p)) answer → Stands plan (attempt_at p) → attempt_at new ≡ change (system_with ghosts.eq reply_of effects_of (with (office_over plan))) (attempt_at p) answer → Stands plan (attempt_at new)
+told_stands plan laws p new answer job fits stands made = subst (Stands plan) (sym (changed_here plan (attempt_at p) (attempt_at new) answer made)) (stands_after plan (attempt_at p) answer laws job fits stands)
