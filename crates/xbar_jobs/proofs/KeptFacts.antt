@@ -1,5 +1,6 @@
 -- what was found and is kept
 use Rattle.std.proofs.Common.{◌≡◌, ℕ, List, [], refl, sym, ◌∙◌, ap, subst}
+use Rattle.std.specs.Option.{option_map_or}
 use Rattle.std.specs.Prelude.{Option, Some, None, Ok, option_map}
 use Rattle.turns.specs.Seen.{changed_readings}
 use Rattle.turns.specs.Script.{value_read}
@@ -10,6 +11,7 @@ use Rattle.attempts.specs.Points.{Extends}
 use Rattle.attempts.proofs.Points.{gone_through}
 use Rattle.xbar_equip.specs.Conn.{conn_eq}
 use Rattle.xbar_equip.specs.Len.{Line}
+use Rattle.xbar_equip.specs.declared.conn.Conn.{Conn}
 use Rattle.xbar_equip.specs.declared.path.Path.{Path}
 use Rattle.xbar_plan.specs.declared.group.Member.{Member}
 use Rattle.xbar_jobs.specs.Closing.{leave_effects, value_after}
@@ -65,12 +67,15 @@ pub knows_on : (found : Found) (seen more : Seen) → Extends conn_eq seen more 
 knows_on found seen more extends knows = record {
   calling = kept_on seen more extends approach found.calling knows.calling;
   own = kept_on seen more extends trace found.own knows.own;
-  call = call_on (seen_after found.leave seen) (seen_after found.leave more) (extends_changed _ seen more extends) found.call knows.call;
+  call = call_on (seen_after found.leave seen) (seen_after found.leave more) (extends_changed (value_after (option_map_or leave_effects found.leave [])) seen more extends) found.call knows.call;
 }
+
+abbrev seen_with : List Conn → List (Reading ℕ) → Seen
+seen_with held readings = record { held = held; readings = readings }
 
 -- where nothing is let go, words are seen as they are
 pub plain : (seen : Seen) → seen_after None seen ≡ seen
-plain seen = ap (λ (readings : List (Reading ℕ)). record { held = seen.held; readings = readings }) (unchanged_readings seen.readings)
+plain seen = ap (seen_with seen.held) (unchanged_readings seen.readings)
 
 -- the call of a job, and what it has found with its call
 pub call_known : (found : Found) (leave : Option Leave) (seen : Seen) → Knows found seen → found.leave ≡ leave → KnowsCall found.call (seen_after leave seen)
@@ -104,4 +109,4 @@ with_own found kept seen knows is = record { calling = knows.calling; own = is; 
 
 -- words as they will be once this is let go, by the effects of that
 pub later_is : (leave : Leave) (effects : List Effect) (gathered later : Seen) → effects ≡ leave_effects leave → later ≡ record { held = gathered.held; readings = changed_readings (value_after effects) gathered.readings } → later ≡ seen_after (Some leave) gathered
-later_is leave effects gathered later are is = is ∙ ap (λ (made : List Effect). record { held = gathered.held; readings = changed_readings (value_after made) gathered.readings }) are
+later_is leave effects gathered later are is = is ∙ ap (λ (made : List Effect). seen_with gathered.held (changed_readings (value_after made) gathered.readings)) are

@@ -181,12 +181,15 @@ restarted_here plan a new made = subst (λ (same : Conn → Conn → Bool). new 
 pub no_plan : Tables
 no_plan = record { groups = []; stations = []; routes = []; faults = [] }
 
--- an attempt and its count, after an answer or anew
-pub count_is : (p : Doing) (before : ℕ) (a : Attempt) → attempt_at p ≡ a → p.count ≡ (with_count before (attempt_at p)).count → record { attempt = attempt_at p; count = p.count } ≡ with_count before a
-count_is p before a made count = ap (λ (n : ℕ). record { attempt = attempt_at p; count = n }) count ∙ ap (with_count before) made
+abbrev counted_at : Attempt → ℕ → Counted
+counted_at a count = record { attempt = a; count = count }
 
-pub begun_is : (p : Doing) (job : Job) → attempt_at p ≡ begin_with (first_conn job) job → p.count ≡ 0 → record { attempt = attempt_at p; count = p.count } ≡ fresh job
-begun_is p job made count = ap (λ (n : ℕ). record { attempt = attempt_at p; count = n }) count ∙ ap (λ (a : Attempt). record { attempt = a; count = 0 }) made
+-- an attempt and its count, after an answer or anew
+pub count_is : (p : Doing) (before : ℕ) (a : Attempt) → attempt_at p ≡ a → p.count ≡ (with_count before (attempt_at p)).count → counted_at (attempt_at p) p.count ≡ with_count before a
+count_is p before a made count = ap (counted_at (attempt_at p)) count ∙ ap (with_count before) made
+
+pub begun_is : (p : Doing) (job : Job) → attempt_at p ≡ begin_with (first_conn job) job → p.count ≡ 0 → counted_at (attempt_at p) p.count ≡ fresh job
+begun_is p job made count = ap (counted_at (attempt_at p)) count ∙ ap (λ (a : Attempt). counted_at a 0) made
 
 -- what every program keeps, once it has begun, was told something or restarts
 pub program_begun : (p : Doing) (kept : Step) (job : Job) → IsJob job → attempt_at p ≡ begin_with (first_conn job) job → kept ≡ Request (first_conn job) → ((seen : Seen) → Knows p.point seen) → IsProgram p kept

@@ -1,5 +1,5 @@
 /// What a walk has come to, with what it was asked for, kept for the next walks.
-#[derive(Clone, Copy, Debug, PartialEq, Eq)]
+#[derive(Debug, Drop)]
 pub struct Kept<K, V> {
     pub key: K,
     pub value: V,

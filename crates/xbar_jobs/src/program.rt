@@ -67,7 +67,6 @@ fn step_by(next: attempts::Step<Conn, Effect>) -> Step
 }
 
 /// The step that an attempt of the office does next.
-#[tactic(auto, using(crate::proofs::Programs::made_range))]
 fn step_of(attempt: &AttemptOf<Offices, 42, 19>) -> Step
     requires { IsAttempt (attempt_at attempt.now) }
     ensures step { result ≡ next_step (attempt_at attempt.now) }
