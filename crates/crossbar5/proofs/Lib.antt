@@ -2,6 +2,7 @@ pub mod RunRows
 pub mod Replays
 pub mod PlanRefusals
 pub mod Audits
+pub mod Draws
 pub mod FindingTexts
 pub mod SettledHistory
 pub mod KindLetters
