@@ -102,6 +102,25 @@ fn words_ask_for_an_audit(rt: HostRuntime) -> Result<(), Fail> {
     Ok(())
 }
 
+#[test]
+fn words_ask_for_a_drawing(rt: HostRuntime) -> Result<(), Fail> {
+    for (line, file, as_text) in [
+        ("crossbar5 draw", None, false),
+        ("crossbar5 draw --text", None, true),
+        ("crossbar5 draw --plan a.toml", Some("a.toml"), false),
+        ("crossbar5 draw --text --plan a.toml", Some("a.toml"), true),
+        ("crossbar5 draw --plan=--text --text", Some("--text"), true),
+        ("crossbar5 draw --plan=--text", Some("--text"), false),
+    ] {
+        let Ask::Draw { plan, text } = asked(rt.alloc(), line)? else {
+            return Err(Fail::from("another subcommand was asked for"));
+        };
+        let found = plan.as_ref().map(|name| name.as_str());
+        check_eq!(rt; (found, text), (file, as_text), "{line}");
+    }
+    Ok(())
+}
+
 /// Lines of words that ask for live calls, each with the plan's file, if one is asked for, and how
 /// many markers dial and how many complete calls.
 const ASKED_LIVE: &[(&str, Option<&str>, u32, u32)] = &[
