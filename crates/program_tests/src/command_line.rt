@@ -220,6 +220,10 @@ const REFUSED: &[(&str, ErrorKind)] = &[
     ("crossbar5 audit --markers X", ErrorKind::UnknownArgument),
     ("crossbar5 audit replay", ErrorKind::UnknownArgument),
     ("crossbar5 audit --plan", ErrorKind::InvalidValue),
+    ("crossbar5 audit --text", ErrorKind::UnknownArgument),
+    ("crossbar5 --text", ErrorKind::UnknownArgument),
+    ("crossbar5 draw --text yes", ErrorKind::UnknownArgument),
+    ("crossbar5 draw --text --text", ErrorKind::ArgumentConflict),
     ("crossbar5 replay --plan", ErrorKind::InvalidValue),
     ("crossbar5 replay --markers", ErrorKind::InvalidValue),
     (
@@ -309,7 +313,8 @@ replay, --plan FILE and --markers KINDS, are told by 'crossbar5 replay --help'.
 With the command live it does calls from standard input by markers that run on
 threads.
 With the command audit it reads such output, a replay's or one that was worked
-out by hand, and tells whether it is right.
+out by hand, and tells whether it is right. With the command draw it reads such
+output too, and draws the office as it stands after it.
 ";
 
 /// Lines of words, each with a part of the text that is told.
@@ -321,6 +326,11 @@ const TOLD: &[(&str, &str)] = &[
     ("crossbar5 replay --help", OPTION_OF_KINDS),
     ("crossbar5 live --help", OPTIONS_OF_COUNTS),
     ("crossbar5 --help", WITHOUT_OPTIONS),
+    (
+        "crossbar5 draw --help",
+        "      --text         As text for a terminal of 80 columns\n",
+    ),
+    ("crossbar5 --text", USAGE_OF_DRAW),
     ("crossbar5 --plan a.toml", USAGE_OF_REPLAY),
     ("crossbar5 --markers D", USAGE_OF_REPLAY),
     ("crossbar5 --dial 2", USAGE_OF_LIVE),
@@ -332,6 +342,8 @@ const USAGE_OF_REPLAY: &str = "\n       crossbar5 replay [--plan <FILE>] [--mark
 const USAGE_OF_LIVE: &str = "
        crossbar5 live [--plan <FILE>] [--dial <N>] [--completing <N>]
 ";
+
+const USAGE_OF_DRAW: &str = "\n       crossbar5 draw [--plan <FILE>] [--text]\n";
 
 fn check_told(rt: &impl Abort, alloc: Global, line: &str, part: &str) -> Result<(), Fail> {
     let text = text_of(alloc, line)?;
@@ -352,11 +364,12 @@ const STARTS: &[&str] = &[
     "  printf 'J,0,1,D,3041\\nS,0,128,,\\n' | crossbar5 replay --markers XX\n",
     "of ten fields: turn, job number, marker, kind of job, line, dialled digits,\n",
     "  crossbar5 replay < TRAFFIC | crossbar5 audit   checks a replay.\n",
+    "  crossbar5 replay < TRAFFIC | crossbar5 draw --text   draws what it leaves.\n",
     "  0  All is fine\n",
     "  printf 'C,7,3041,5551234,R\\n' | crossbar5 live   has line 3041 call: call 7\n",
     "  2  The command line is refused, or the KINDS or the number of the markers\n",
     "  3  The plan is refused\n",
-    "  4  The traffic is refused, or what is to be audited is no text of records;\n",
+    "  4  The traffic is refused, or what is to be audited or drawn is no text of\n",
     "  5  Memory ran out\n",
     "  6  A device failed, or FILE can't be read\n",
     "  7  The records, or the counts behind them, aren't right\n",
@@ -370,6 +383,7 @@ fn help_tells_how_to_start(rt: HostRuntime) -> Result<(), Fail> {
         "crossbar5 replay --help",
         "crossbar5 live --help",
         "crossbar5 audit --help",
+        "crossbar5 draw --help",
     ] {
         for part in STARTS {
             check_told(&rt, rt.alloc(), line, part)?;
@@ -392,6 +406,7 @@ fn help_as_a_word_is_help_as_an_option(rt: HostRuntime) -> Result<(), Fail> {
         ("crossbar5 help replay", "crossbar5 replay --help"),
         ("crossbar5 help live", "crossbar5 live --help"),
         ("crossbar5 help audit", "crossbar5 audit --help"),
+        ("crossbar5 help draw", "crossbar5 draw --help"),
     ] {
         check_same(&rt, rt.alloc(), word, option)?;
     }
