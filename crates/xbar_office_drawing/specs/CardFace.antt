@@ -41,10 +41,14 @@ kind_places top kind =
 unfoldable pub digit_head : ℕ → ℕ → List ℕ
 digit_head top digit = words (point (214 + 34 * digit) (top + 140)) (codes "small middle") (decimal digit)
 
--- a digit in a row of ten places, of which one is punched
+-- ten places, of which the one with this number is punched
+abbrev pub ten_punches : ℕ → ℕ → List ℕ
+ten_punches y digit = flat_map (λ place. punch (210 + 34 * place) y (place == digit)) (range_with_len 0 10)
+
+-- a digit in a row of ten places
 unfoldable pub digit_places : ℕ → ℕ → List ℕ → ℕ → List ℕ
 digit_places top row name digit =
-    words (point 194 (top + 162 + 28 * row)) (codes "small end") name ++ flat_map (λ place. punch (210 + 34 * place) (top + 150 + 28 * row) (place == digit)) (range_with_len 0 10)
+    words (point 194 (top + 162 + 28 * row)) (codes "small end") name ++ ten_punches (top + 150 + 28 * row) digit
 
 -- what the first two digits of a link are
 abbrev pub first_name : LinkKind → List ℕ

@@ -1,8 +1,8 @@
 //! A trouble card as a punched card with one corner cut.
 
-ghost use Rattle.std.specs.Prelude.{◌≡◌, ◌++◌, ◌==◌, OnOk, flat_map, string_bytes};
+ghost use Rattle.std.specs.Prelude.{◌≡◌, ◌++◌, OnOk, flat_map, string_bytes};
 ghost use Rattle.std.specs.List.{range_with_len};
-ghost use Rattle.xbar_office_drawing.specs.CardFace.{card_face, card_head, digit_head, digit_places, edges, entry, first_name as first_name_of, kind_place, kind_places, punch, second_name as second_name_of};
+ghost use Rattle.xbar_office_drawing.specs.CardFace.{card_face, card_head, digit_head, digit_places, edges, entry, first_name as first_name_of, kind_place, kind_places, punch, second_name as second_name_of, ten_punches};
 
 use crate::owned_card::OwnedCard;
 use std::alloc::{AllocError, Global};
@@ -160,9 +160,16 @@ fn add_places(text: &mut String, top: u32, row: u8, name: &str, digit: u8) -> Re
 {
     let down = u64::from(top) + 162 + 28 * u64::from(row);
     add_words(text, Point::new(194, down), "small end", name)?;
+    add_ten_punches(text, down - 12, digit)?;
+    Ok(())
+}
+
+fn add_ten_punches(text: &mut String, y: u64, digit: u8) -> Result<(), AllocError>
+    ensures { OnOk result (string_bytes text.new ≡ string_bytes text.old ++
+        ten_punches y digit) }
+{
     for place in 0..10 {
-        let across = 210 + 34 * u64::from(place);
-        add_punch(text, across, down - 12, place == digit)?;
+        add_punch(text, 210 + 34 * u64::from(place), y, place == digit)?;
     }
     Ok(())
 }
