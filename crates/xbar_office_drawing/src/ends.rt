@@ -1,11 +1,12 @@
 //! What a path comes to.
 
-ghost use Rattle.std.specs.Prelude.{◌≡◌, IfOk, string_bytes};
+ghost use Rattle.std.specs.Prelude.{◌≡◌, IfOk, Some, string_bytes};
 ghost use Rattle.xbar_office.specs.Standing.{ends_at_register as ends_at_register_of};
 ghost use Rattle.xbar_office_drawing.specs.OfficeMap.{use_class as use_class_of};
-ghost use Rattle.xbar_office_text.specs.Ends.{end_text, group_name as group_name_of};
+ghost use Rattle.xbar_office_text.specs.Ends.{end_text, group_name as group_name_of, member_text};
 
 use std::alloc::{AllocError, Global};
+use std::fmt;
 use xbar_equip::Path;
 use xbar_plan::Plan;
 
@@ -40,22 +41,32 @@ fn group_name(plan: &Plan, group: u8) -> &str
     }
 }
 
+/// The member that stands where a path ends.
+#[derive(Clone, Copy)]
+struct MemberName<'a>(&'a Plan, &'a Path);
+
+impl fmt::Display for MemberName<'_> {
+    ghost output = { λ name. Some (member_text name.0.now name.1.now) };
+
+    #[tactic(auto, unfolding(xbar_office_text::specs::Ends::member_text))]
+    fn fmt<W: fmt::Write>(&self, f: &mut fmt::Formatter<W>) -> fmt::Result {
+        let MemberName(plan, path) = self;
+        match plan.member_of(path.place) {
+            Some(member) => write!(f, "{} {}", group_name(plan, member.group), member.index),
+            None => f.write_str("no member"),
+        }
+    }
+}
+
 /// What a path comes to: a register, or the trunk of a call.
 #[tactic(auto, unfolding(xbar_office_text::specs::Ends::end_text))]
 pub fn path_end(alloc: Global, plan: &Plan, path: &Path) -> Result<String, AllocError>
     ensures { IfOk result (λ text. string_bytes text ≡ end_text plan.now path.now) }
 {
-    let end = if ends_at_register(plan, path) {
-        "register"
+    let member = MemberName(plan, path);
+    if ends_at_register(plan, path) {
+        format!(in alloc; "register {member}")
     } else {
-        "trunk"
-    };
-    match plan.member_of(path.place) {
-        Some(member) => format!(in alloc;
-            "{end} {} {}",
-            group_name(plan, member.group),
-            member.index
-        ),
-        None => format!(in alloc; "{end} no member"),
+        format!(in alloc; "trunk {member}")
     }
 }
