@@ -56,7 +56,8 @@ pub fn office_drawing(
 
 /// The first 1,000, or all where there are no more.
 fn at_most<T>(items: &[T]) -> &[T]
-    ensures { result.now ≡ take most items.now }
+    ensures first { result.now ≡ take most items.now }
+    ensures few { length result.now ≤ most }
 {
     match items.get(..MOST) {
         Some(first) => first,
