@@ -2,7 +2,6 @@ pub mod RunRows
 pub mod Replays
 pub mod PlanRefusals
 pub mod Audits
-pub mod Draws
 pub mod FindingTexts
 pub mod SettledHistory
 pub mod KindLetters
