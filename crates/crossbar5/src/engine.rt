@@ -17,6 +17,7 @@ use crate::answer::Answer;
 use crate::engine_fault::EngineFault;
 use crate::input::{Input, read_input};
 use crate::live::live;
+use crate::look::Look;
 use crate::task::Task;
 use crate::written::Written;
 use counted_io::{Sink, Source, write_all};
@@ -226,12 +227,13 @@ pub fn answer_audit<R: Source, W: Sink>(
 pub fn answer_draw<R: Source, W: Sink>(
     alloc: Global,
     plan: &[u8],
+    look: Look,
     source: &mut R,
     sink: &mut W,
 ) -> Result<Answer, EngineFault>
     ensures drawing { IfOk result (λ answer. (records text : List ℕ) ×
         IfSome (R.remaining source.old) (λ all. records ≡ all) ×
-        IsDraw plan.now records text answer.status ×
+        IsDraw plan.now look records text answer.status ×
         Appends (W.contents sink.old) (W.contents sink.new) text) }
     ensures slip { IfOk result (λ answer. (text : List ℕ) ×
         Appends (W.contents sink.old) (W.contents sink.new) text ×
@@ -250,7 +252,7 @@ pub fn answer_draw<R: Source, W: Sink>(
     ensures unwritten { IfErr result (λ fault. ComesFirst fault →
         Keeps (W.contents sink.old) (W.contents sink.new)) }
 {
-    let Written { text, status, slip } = comes_to(alloc, Task::Draw, plan, source)?;
+    let Written { text, status, slip } = comes_to(alloc, Task::Draw { look }, plan, source)?;
     write_all(sink, &text)?;
     Ok(Answer { status, slip })
 }

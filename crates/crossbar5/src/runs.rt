@@ -12,6 +12,7 @@ ghost use Rattle.crossbar5.specs.Run.{IsRefusedUnread, IsReplay};
 
 use crate::engine::{answer_audit, answer_draw, answer_live, answer_replay};
 use crate::engine_fault::EngineFault;
+use crate::look::Look;
 use crate::status::Status;
 use counted_io::{Sink, Source};
 use std::alloc::Global;
@@ -119,12 +120,13 @@ pub fn run_audit<R: Source, W: Sink>(
 pub fn run_draw<R: Source, W: Sink>(
     alloc: Global,
     plan: &[u8],
+    look: Look,
     source: &mut R,
     sink: &mut W,
 ) -> Result<Status, EngineFault>
     ensures drawing { IfOk result (λ status. (records text : List ℕ) ×
         IfSome (R.remaining source.old) (λ all. records ≡ all) ×
-        IsDraw plan.now records text status ×
+        IsDraw plan.now look records text status ×
         Appends (W.contents sink.old) (W.contents sink.new) text) }
     ensures markers { result ≢ Err EngineFault.Markers }
     ensures device { result ≡ Err EngineFault.Device
@@ -140,6 +142,6 @@ pub fn run_draw<R: Source, W: Sink>(
     ensures unwritten { IfErr result (λ fault. ComesFirst fault →
         Keeps (W.contents sink.old) (W.contents sink.new)) }
 {
-    let answer = answer_draw(alloc, plan, source, sink)?;
+    let answer = answer_draw(alloc, plan, look, source, sink)?;
     Ok(answer.status)
 }

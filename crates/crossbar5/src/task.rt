@@ -1,5 +1,6 @@
 use crate::audit::audit_text;
 use crate::draw::draw_text;
+use crate::look::Look;
 use crate::run::replay;
 use crate::written::Written;
 use std::alloc::{AllocError, Global};
@@ -14,7 +15,7 @@ pub enum Task<'a> {
     /// An audit of records.
     Audit,
     /// A drawing of the office after records.
-    Draw,
+    Draw { look: Look },
 }
 
 impl Task<'_> {
@@ -27,7 +28,7 @@ impl Task<'_> {
     {
         match self {
             Task::Replay { kinds } => !kinds.is_empty() && kinds.len() <= MOST_MARKERS,
-            Task::Audit | Task::Draw => true,
+            Task::Audit | Task::Draw { .. } => true,
         }
     }
 
@@ -40,7 +41,7 @@ impl Task<'_> {
         match self {
             Task::Replay { kinds } => replay(alloc, plan, kinds, input),
             Task::Audit => audit_text(alloc, plan, input),
-            Task::Draw => draw_text(alloc, plan, input),
+            Task::Draw { look } => draw_text(alloc, plan, look, input),
         }
     }
 }

@@ -4,7 +4,7 @@
 //! is wrong with what it was given it tells on standard error, in a sentence.
 #![tactic(auto)]
 
-ghost use Rattle.std.specs.Prelude.{◌≡◌, ◌≢◌, ◌↔◌, Err, List};
+ghost use Rattle.std.specs.Prelude.{◌≡◌, ◌≢◌, ◌↔◌, Err, List, if◌then◌else◌};
 ghost use Rattle.std.specs.Process.{exit_status};
 ghost use Rattle.xbar_core.specs.declared.kind.Kind.{Kind};
 ghost use Rattle.crossbar5.specs.Faults.{IsStaffCount};
@@ -18,7 +18,7 @@ use crate::ended::Ended;
 use crate::ending::Ending;
 use crate::plan_text::plan_text;
 use crate::stream::{Stream, stream_of, told_on};
-use crossbar5::{Counted, EngineFault, kinds_of, open_gates};
+use crossbar5::{Counted, EngineFault, Look, kinds_of, open_gates};
 use crossbar5_command::{Ask, CommandFault, command};
 use std::alloc::AllocError;
 use std::fs::File;
@@ -86,7 +86,7 @@ fn do_as_asked<'w, T: Threads + Wait + Sync>(
             },
         ) => live(rt, threads, plan.as_deref(), *dial, *completing),
         Ok(Ask::Audit { plan }) => audit(rt, plan.as_deref()),
-        Ok(Ask::Draw { plan, .. }) => draw(rt, plan.as_deref()),
+        Ok(Ask::Draw { plan, text }) => draw(rt, plan.as_deref(), look_of(*text)),
         Err(fault) => Ended::of_telling(tell(rt, fault)),
     }
 }
@@ -159,8 +159,15 @@ fn audit<'w>(rt: &HostRuntime, file: Option<&'w str>) -> Ended<'w>
     audit_between(rt.alloc(), file, &plan, &mut source, &mut sink)
 }
 
+/// How the office is drawn, by whether a text is wanted.
+fn look_of(text: bool) -> Look
+    ensures { result ≡ if text then Look.Text else Look.Drawing }
+{
+    if text { Look::Text } else { Look::Drawing }
+}
+
 /// Nor has a drawing.
-fn draw<'w>(rt: &HostRuntime, file: Option<&'w str>) -> Ended<'w>
+fn draw<'w>(rt: &HostRuntime, file: Option<&'w str>, look: Look) -> Ended<'w>
     ensures { result.ending ≢ Ending.Failed EngineFault.Markers }
 {
     let plan = match plan_named(rt, file) {
@@ -170,7 +177,7 @@ fn draw<'w>(rt: &HostRuntime, file: Option<&'w str>) -> Ended<'w>
     hint_at_end(rt, "records");
     let mut source = Counted::new(rt.stdin());
     let mut sink = Counted::new(rt.stdout());
-    draw_between(rt.alloc(), file, &plan, &mut source, &mut sink)
+    draw_between(rt.alloc(), file, &plan, look, &mut source, &mut sink)
 }
 
 /// Tells who types the input how it ends. That this can't be written changes nothing.
