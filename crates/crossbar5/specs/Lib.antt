@@ -1,5 +1,6 @@
 pub use Rattle.xbar_plan.specs.Tables
 pub use Rattle.xbar_office.specs.Legal
+pub use Rattle.xbar_office_text.specs.Text as OfficeText
 pub use Rattle.xbar_jobs.specs.Office
 pub use Rattle.xbar_core.specs.Exchange
 pub use Rattle.xbar_traffic.specs.Traffic
@@ -14,6 +15,7 @@ pub mod Refusal
 pub mod Rows
 pub mod Run
 pub mod Audit
+pub mod Draw
 pub mod Task
 pub mod Live
 pub mod Input

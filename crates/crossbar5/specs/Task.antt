@@ -2,22 +2,25 @@ use Rattle.std.specs.Prelude.{◌⊎◌, ℕ, List, length}
 use Rattle.xbar_plan.specs.Document.{plan_of}
 use Rattle.xbar_plan.specs.Tables.{Tables}
 use Rattle.crossbar5.specs.Audit.{IsAuditUnder}
+use Rattle.crossbar5.specs.Draw.{IsDrawUnder}
 use Rattle.crossbar5.specs.Faults.{IsMarkerCount}
 use Rattle.crossbar5.specs.PlanRefusal.{IsAnswerOf, IsRefusedPlan}
 use Rattle.crossbar5.specs.Run.{IsReplayUnder}
 use Rattle.crossbar5.specs.declared.status.Status.{Status}
 use Rattle.crossbar5.specs.declared.task.Task.{Task}
-use Rattle.crossbar5.specs.declared.task.Task.TheVariants.{Replay, Audit}
+use Rattle.crossbar5.specs.declared.task.Task.TheVariants.{Replay, Audit, Draw}
 
--- a replay wants markers, and an audit none
+-- a replay wants markers, an audit and a drawing none
 abbrev pub HasItsMarkers : Task → Type 0
 HasItsMarkers (Replay kinds) = IsMarkerCount (length kinds.now)
 HasItsMarkers Audit = Unit {0}
+HasItsMarkers Draw = Unit {0}
 
 -- under a plan's tables, the text and the status are those of the task
 abbrev pub IsDoneUnder : Task → Tables → List ℕ → List ℕ → Status → Type 0
 IsDoneUnder (Replay kinds) plan input text status = IsReplayUnder plan kinds.now input text status
 IsDoneUnder Audit plan input text status = IsAuditUnder plan input text status
+IsDoneUnder Draw plan input text status = IsDrawUnder plan input text status
 
 -- and with a plan's text
 abbrev pub IsDone : Task → List ℕ → List ℕ → List ℕ → Status → Type 0

@@ -1,11 +1,12 @@
-//! The engine's jobs, a replay, live calls and an audit: from the bytes of a plan and an input to those of
-//! the output, with a slip where the plan or the traffic is refused.
+//! The engine's jobs, a replay, live calls, an audit and a drawing: from the bytes of a plan and an
+//! input to those of the output, with a slip where the plan or the traffic is refused.
 
 ghost use Rattle.std.specs.Prelude.{◌≡◌, ◌≢◌, ◌↔◌, ◌⊎◌, Err, IfErr, IfOk, IfSome, List, OnOk, ℕ, ◌+◌, length, vec_len};
 ghost use Rattle.std.specs.Io.KnownBytes.{Appends, IsAtEnd, Keeps};
 ghost use Rattle.counted_io.specs.Counts.{HasFailed, ReadsUsedUp};
 ghost use Rattle.crossbar5.specs.Faults.{ComesFirst, IsMarkerCount, IsStaffCount};
 ghost use Rattle.crossbar5.specs.Audit.{IsAudit};
+ghost use Rattle.crossbar5.specs.Draw.{IsDraw};
 ghost use Rattle.crossbar5.specs.Live.{IsLive, IsLiveUnread};
 ghost use Rattle.crossbar5.specs.PlanRefusal.{IsRefusedPlan};
 ghost use Rattle.crossbar5.specs.Refusal.{TellsItsRefusal};
@@ -212,6 +213,44 @@ pub fn answer_audit<R: Source, W: Sink>(
         Keeps (W.contents sink.old) (W.contents sink.new)) }
 {
     let Written { text, status, slip } = comes_to(alloc, Task::Audit, plan, source)?;
+    write_all(sink, &text)?;
+    Ok(Answer { status, slip })
+}
+
+/// Draws the office after the records that the source gives, with the plan of this text, and writes the
+/// drawing to the sink; or what an audit finds, where it doesn't find them legal.
+///
+/// A plan that is refused leaves the source unread. The input is read to its end before a line is
+/// looked at, and the output is written in one go once all is known. Of how much went out before
+/// `Device` nothing is said.
+pub fn answer_draw<R: Source, W: Sink>(
+    alloc: Global,
+    plan: &[u8],
+    source: &mut R,
+    sink: &mut W,
+) -> Result<Answer, EngineFault>
+    ensures drawing { IfOk result (λ answer. (records text : List ℕ) ×
+        IfSome (R.remaining source.old) (λ all. records ≡ all) ×
+        IsDraw plan.now records text answer.status ×
+        Appends (W.contents sink.old) (W.contents sink.new) text) }
+    ensures slip { IfOk result (λ answer. (text : List ℕ) ×
+        Appends (W.contents sink.old) (W.contents sink.new) text ×
+        TellsItsRefusal answer.slip text answer.status) }
+    ensures markers { result ≢ Err EngineFault.Markers }
+    ensures device { result ≡ Err EngineFault.Device
+        → HasFailed (R.failure_count source.old) (R.failure_count source.new)
+        ⊎ HasFailed (W.failure_count sink.old) (W.failure_count sink.new) }
+    ensures no_failure { result ≢ Err EngineFault.Device
+        → (R.failure_count source.new ≡ R.failure_count source.old)
+        × (W.failure_count sink.new ≡ W.failure_count sink.old) }
+    ensures long { result ≡ Err EngineFault.Long →
+        ReadsUsedUp (R.read_count source.old) (R.read_count source.new) }
+    ensures unread { IsRefusedPlan plan.now → source.new ≡ source.old }
+    ensures end { OnOk result (¬ IsRefusedPlan plan.now → IsAtEnd (R.remaining source.new)) }
+    ensures unwritten { IfErr result (λ fault. ComesFirst fault →
+        Keeps (W.contents sink.old) (W.contents sink.new)) }
+{
+    let Written { text, status, slip } = comes_to(alloc, Task::Draw, plan, source)?;
     write_all(sink, &text)?;
     Ok(Answer { status, slip })
 }

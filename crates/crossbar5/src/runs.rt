@@ -5,11 +5,12 @@ ghost use Rattle.std.specs.Io.KnownBytes.{Appends, IsAtEnd, Keeps};
 ghost use Rattle.counted_io.specs.Counts.{HasFailed, ReadsUsedUp};
 ghost use Rattle.crossbar5.specs.Faults.{ComesFirst, IsMarkerCount, IsStaffCount};
 ghost use Rattle.crossbar5.specs.Audit.{IsAudit};
+ghost use Rattle.crossbar5.specs.Draw.{IsDraw};
 ghost use Rattle.crossbar5.specs.Live.{IsLive, IsLiveUnread};
 ghost use Rattle.crossbar5.specs.PlanRefusal.{IsRefusedPlan};
 ghost use Rattle.crossbar5.specs.Run.{IsRefusedUnread, IsReplay};
 
-use crate::engine::{answer_audit, answer_live, answer_replay};
+use crate::engine::{answer_audit, answer_draw, answer_live, answer_replay};
 use crate::engine_fault::EngineFault;
 use crate::status::Status;
 use counted_io::{Sink, Source};
@@ -111,5 +112,34 @@ pub fn run_audit<R: Source, W: Sink>(
         Keeps (W.contents sink.old) (W.contents sink.new)) }
 {
     let answer = answer_audit(alloc, plan, source, sink)?;
+    Ok(answer.status)
+}
+
+/// Draws as `answer_draw` does.
+pub fn run_draw<R: Source, W: Sink>(
+    alloc: Global,
+    plan: &[u8],
+    source: &mut R,
+    sink: &mut W,
+) -> Result<Status, EngineFault>
+    ensures drawing { IfOk result (λ status. (records text : List ℕ) ×
+        IfSome (R.remaining source.old) (λ all. records ≡ all) ×
+        IsDraw plan.now records text status ×
+        Appends (W.contents sink.old) (W.contents sink.new) text) }
+    ensures markers { result ≢ Err EngineFault.Markers }
+    ensures device { result ≡ Err EngineFault.Device
+        → HasFailed (R.failure_count source.old) (R.failure_count source.new)
+        ⊎ HasFailed (W.failure_count sink.old) (W.failure_count sink.new) }
+    ensures no_failure { result ≢ Err EngineFault.Device
+        → (R.failure_count source.new ≡ R.failure_count source.old)
+        × (W.failure_count sink.new ≡ W.failure_count sink.old) }
+    ensures long { result ≡ Err EngineFault.Long →
+        ReadsUsedUp (R.read_count source.old) (R.read_count source.new) }
+    ensures unread { IsRefusedPlan plan.now → source.new ≡ source.old }
+    ensures end { OnOk result (¬ IsRefusedPlan plan.now → IsAtEnd (R.remaining source.new)) }
+    ensures unwritten { IfErr result (λ fault. ComesFirst fault →
+        Keeps (W.contents sink.old) (W.contents sink.new)) }
+{
+    let answer = answer_draw(alloc, plan, source, sink)?;
     Ok(answer.status)
 }

@@ -1,4 +1,5 @@
 use crate::audit::audit_text;
+use crate::draw::draw_text;
 use crate::run::replay;
 use crate::written::Written;
 use std::alloc::{AllocError, Global};
@@ -12,6 +13,8 @@ pub enum Task<'a> {
     Replay { kinds: &'a [Kind] },
     /// An audit of records.
     Audit,
+    /// A drawing of the office after records.
+    Draw,
 }
 
 impl Task<'_> {
@@ -24,7 +27,7 @@ impl Task<'_> {
     {
         match self {
             Task::Replay { kinds } => !kinds.is_empty() && kinds.len() <= MOST_MARKERS,
-            Task::Audit => true,
+            Task::Audit | Task::Draw => true,
         }
     }
 
@@ -37,6 +40,7 @@ impl Task<'_> {
         match self {
             Task::Replay { kinds } => replay(alloc, plan, kinds, input),
             Task::Audit => audit_text(alloc, plan, input),
+            Task::Draw => draw_text(alloc, plan, input),
         }
     }
 }

@@ -6,7 +6,7 @@ ghost use Rattle.crossbar5.specs.Faults.{IsMarkerCount, IsStaffCount};
 
 use crate::ended::Ended;
 use crate::ending::Ending;
-use crossbar5::{EngineFault, Sink, Source, answer_audit, answer_live, answer_replay};
+use crossbar5::{EngineFault, Sink, Source, answer_audit, answer_draw, answer_live, answer_replay};
 use std::alloc::Global;
 use std::sync::Wait;
 use std::thread::Threads;
@@ -67,6 +67,22 @@ pub fn audit_between<'w, R: Source, W: Sink>(
     ensures { result.ending ≢ Ending.Failed EngineFault.Markers }
 {
     match answer_audit(alloc, plan, source, sink) {
+        Ok(answer) => Ended::answered(answer, file),
+        Err(fault) => Ended::of_run(fault, source.failures()),
+    }
+}
+
+/// Draws the office after records.
+pub fn draw_between<'w, R: Source, W: Sink>(
+    alloc: Global,
+    file: Option<&'w str>,
+    plan: &[u8],
+    source: &mut R,
+    sink: &mut W,
+) -> Ended<'w>
+    ensures { result.ending ≢ Ending.Failed EngineFault.Markers }
+{
+    match answer_draw(alloc, plan, source, sink) {
         Ok(answer) => Ended::answered(answer, file),
         Err(fault) => Ended::of_run(fault, source.failures()),
     }

@@ -1,7 +1,7 @@
 //! All of the program `crossbar5`: it replays traffic from standard input in an office with the plan
 //! and the markers that its words ask for, or does the calls of live traffic on threads, and writes
-//! what comes of it to standard output; or it audits such a text. What is wrong with what it was
-//! given it tells on standard error, in a sentence.
+//! what comes of it to standard output; or it audits such a text, or draws the office after it. What
+//! is wrong with what it was given it tells on standard error, in a sentence.
 #![tactic(auto)]
 
 ghost use Rattle.std.specs.Prelude.{◌≡◌, ◌≢◌, ◌↔◌, Err, List};
@@ -12,7 +12,7 @@ ghost use Rattle.crossbar5.specs.Kinds.{Names};
 ghost use Rattle.crossbar5_cli.specs.Endings.{exit_of};
 ghost use Rattle.crossbar5_cli.specs.Streams.{MayEndOf};
 
-use crate::between::{audit_between, live_between, replay_between};
+use crate::between::{audit_between, draw_between, live_between, replay_between};
 use crate::causes::ending_without_words;
 use crate::ended::Ended;
 use crate::ending::Ending;
@@ -86,6 +86,7 @@ fn do_as_asked<'w, T: Threads + Wait + Sync>(
             },
         ) => live(rt, threads, plan.as_deref(), *dial, *completing),
         Ok(Ask::Audit { plan }) => audit(rt, plan.as_deref()),
+        Ok(Ask::Draw { plan, .. }) => draw(rt, plan.as_deref()),
         Err(fault) => Ended::of_telling(tell(rt, fault)),
     }
 }
@@ -156,6 +157,20 @@ fn audit<'w>(rt: &HostRuntime, file: Option<&'w str>) -> Ended<'w>
     let mut source = Counted::new(rt.stdin());
     let mut sink = Counted::new(rt.stdout());
     audit_between(rt.alloc(), file, &plan, &mut source, &mut sink)
+}
+
+/// Nor has a drawing.
+fn draw<'w>(rt: &HostRuntime, file: Option<&'w str>) -> Ended<'w>
+    ensures { result.ending ≢ Ending.Failed EngineFault.Markers }
+{
+    let plan = match plan_named(rt, file) {
+        Ok(plan) => plan,
+        Err(fault) => return Ended::of_plan_file(fault, file),
+    };
+    hint_at_end(rt, "records");
+    let mut source = Counted::new(rt.stdin());
+    let mut sink = Counted::new(rt.stdout());
+    draw_between(rt.alloc(), file, &plan, &mut source, &mut sink)
 }
 
 /// Tells who types the input how it ends. That this can't be written changes nothing.

@@ -45,8 +45,15 @@ live = record { name = codes "live"; options = plan ∷ dial ∷ completing ∷ 
 abbrev pub audit : Subcommand
 audit = record { name = codes "audit"; options = plan ∷ [] }
 
+-- `--text`
+abbrev pub as_text : NamedOption
+as_text = record { name = codes "text"; argument = nothing }
+
+abbrev pub draw : Subcommand
+draw = record { name = codes "draw"; options = plan ∷ as_text ∷ [] }
+
 abbrev pub subcommands : List Subcommand
-subcommands = replay ∷ live ∷ audit ∷ []
+subcommands = replay ∷ live ∷ audit ∷ draw ∷ []
 
 -- ---- as clap sees them
 

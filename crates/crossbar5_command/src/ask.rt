@@ -22,4 +22,11 @@ pub enum Ask {
         /// The name of the file with the plan. Without one the plan is the example plan.
         plan: Option<String>,
     },
+    /// To draw the office after the records on standard input.
+    Draw {
+        /// The name of the file with the plan. Without one the plan is the example plan.
+        plan: Option<String>,
+        /// Whether a text for a terminal is wanted.
+        text: bool,
+    },
 }

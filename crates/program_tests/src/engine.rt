@@ -8,6 +8,7 @@ use std::test::Fail;
 use xbar_core::Kind;
 
 mod audits;
+mod draws;
 mod faults;
 mod kinds;
 mod large;
