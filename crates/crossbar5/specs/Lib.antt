@@ -6,6 +6,7 @@ pub use Rattle.xbar_core.specs.Exchange
 pub use Rattle.xbar_traffic.specs.Traffic
 pub use Rattle.xbar_traffic.specs.Fault
 pub use Rattle.xbar_report.specs.Text
+pub use Rattle.xbar_walk.specs.Walks
 pub use Rattle.xbar_report.specs.Reading
 pub use Rattle.counted_io.specs.Counts
 pub mod Faults
@@ -19,3 +20,4 @@ pub mod Draw
 pub mod Task
 pub mod Live
 pub mod Input
+pub mod Walk

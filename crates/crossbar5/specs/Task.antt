@@ -6,19 +6,22 @@ use Rattle.crossbar5.specs.Draw.{IsDrawUnder}
 use Rattle.crossbar5.specs.Faults.{IsMarkerCount}
 use Rattle.crossbar5.specs.PlanRefusal.{IsAnswerOf, IsRefusedPlan}
 use Rattle.crossbar5.specs.Run.{IsReplayUnder}
+use Rattle.crossbar5.specs.Walk.{IsWalkUnder}
 use Rattle.crossbar5.specs.declared.status.Status.{Status}
 use Rattle.crossbar5.specs.declared.task.Task.{Task}
-use Rattle.crossbar5.specs.declared.task.Task.TheVariants.{Replay, Audit, Draw}
+use Rattle.crossbar5.specs.declared.task.Task.TheVariants.{Replay, Walk, Audit, Draw}
 
--- a replay wants markers, an audit and a drawing none
+-- a replay and a walk want markers, an audit and a drawing none
 abbrev pub HasItsMarkers : Task → Type 0
 HasItsMarkers (Replay kinds) = IsMarkerCount (length kinds.now)
+HasItsMarkers (Walk kinds) = IsMarkerCount (length kinds.now)
 HasItsMarkers Audit = Unit {0}
 HasItsMarkers Draw = Unit {0}
 
 -- under a plan's tables, the text and the status are those of the task
 abbrev pub IsDoneUnder : Task → Tables → List ℕ → List ℕ → Status → Type 0
 IsDoneUnder (Replay kinds) plan input text status = IsReplayUnder plan kinds.now input text status
+IsDoneUnder (Walk kinds) plan input text status = IsWalkUnder plan kinds.now input text status
 IsDoneUnder Audit plan input text status = IsAuditUnder plan input text status
 IsDoneUnder Draw plan input text status = IsDrawUnder plan input text status
 

@@ -1,17 +1,18 @@
 //! The engine of the program `crossbar5`: a plan and traffic in, of a replay or of live calls on
-//! threads, the text of what came of it out; or
-//! a plan and such a text in, and what an audit finds out, or a drawing of the office.
+//! threads, and out the text of what came of it, or of a replay each step in words; or a plan and such a
+//! text in, and out what an audit finds, or a drawing of the office.
 #![tactic(auto)]
 
 pub use answer::Answer;
 pub use counted_io::{Counted, Sink, Source};
-pub use engine::{answer_audit, answer_draw, answer_live, answer_replay};
+pub use engine::{answer, answer_live};
 pub use engine_fault::EngineFault;
 pub use gates::open_gates;
 pub use kinds::kinds_of;
-pub use runs::{run_audit, run_draw, run_live, run_replay};
+pub use runs::{run_live, run_replay};
 pub use slip::Slip;
 pub use status::Status;
+pub use task::Task;
 pub use xbar_report::report;
 
 mod answer;
@@ -30,4 +31,5 @@ mod runs;
 mod slip;
 mod status;
 mod task;
+mod walk;
 mod written;

@@ -1,6 +1,7 @@
 use crate::audit::audit_text;
 use crate::draw::draw_text;
 use crate::run::replay;
+use crate::walk::walk;
 use crate::written::Written;
 use std::alloc::{AllocError, Global};
 use xbar_core::{Kind, MOST_MARKERS};
@@ -9,11 +10,13 @@ use xbar_plan::Plan;
 /// What the engine does with a plan and what it reads.
 #[derive(Clone, Copy)]
 pub enum Task<'a> {
-    /// A replay of traffic, by markers of these kinds.
+    /// To replay traffic, by markers of these kinds.
     Replay { kinds: &'a [Kind] },
-    /// An audit of records.
+    /// To replay it, and tell each step of these markers in words.
+    Walk { kinds: &'a [Kind] },
+    /// To audit records.
     Audit,
-    /// A drawing of the office after records.
+    /// To draw the office after them.
     Draw,
 }
 
@@ -26,19 +29,27 @@ impl Task<'_> {
         ensures { IsTrue result ↔ HasItsMarkers self.entry }
     {
         match self {
-            Task::Replay { kinds } => !kinds.is_empty() && kinds.len() <= MOST_MARKERS,
+            Task::Replay { kinds } | Task::Walk { kinds } => {
+                !kinds.is_empty() && kinds.len() <= MOST_MARKERS
+            }
             Task::Audit | Task::Draw => true,
         }
     }
 
     /// What is written of it with this plan, for all that was read.
-    pub fn written(self, alloc: Global, plan: &Plan, input: &[u8]) -> Result<Written, AllocError>
+    pub(crate) fn written(
+        self,
+        alloc: Global,
+        plan: &Plan,
+        input: &[u8],
+    ) -> Result<Written, AllocError>
         requires { HasItsMarkers self }
         ensures { IfOk result (λ written.
             IsDoneUnder self.entry plan.now input.now written.text.items written.status) }
     {
         match self {
             Task::Replay { kinds } => replay(alloc, plan, kinds, input),
+            Task::Walk { kinds } => walk(alloc, plan, kinds, input),
             Task::Audit => audit_text(alloc, plan, input),
             Task::Draw => draw_text(alloc, plan, input),
         }
