@@ -163,12 +163,7 @@ fn tell(
 }
 
 /// What is written for the bytes of a whole traffic.
-pub fn walk(
-    alloc: Global,
-    plan: &Plan,
-    kinds: &[Kind],
-    bytes: &[u8],
-) -> Result<Written, AllocError>
+pub fn walk(alloc: Global, plan: &Plan, kinds: &[Kind], bytes: &[u8]) -> Result<Written, AllocError>
     requires { IsMarkerCount (length kinds.now) }
     ensures { IfOk result (λ written.
         IsWalkUnder plan.now kinds.now bytes.now written.text.items written.status) }

@@ -2,13 +2,14 @@ use Rattle.std.specs.Prelude.{◌≡◌, ◌↔◌, ◌<◌, ◌^◌, IsTrue, �
 use Rattle.std.specs.String.{string_bytes}
 use Rattle.std.specs.Str.Parse.{IsNumeral, digits_value, without_leading_plus}
 use Rattle.clap.specs.Words.{Row, Text, first_of}
-use Rattle.crossbar5_command.specs.Program.{audit, default_kinds, draw, live, one, replay}
+use Rattle.crossbar5_command.specs.Program.{audit, default_kinds, draw, live, one, replay, walk}
 use Rattle.crossbar5_command.specs.declared.ask.Ask.{Ask}
-use Rattle.crossbar5_command.specs.declared.ask.Ask.TheVariants.{Audit, Draw, Live, Replay}
+use Rattle.crossbar5_command.specs.declared.ask.Ask.TheVariants.{Audit, Draw, Live, Replay, Walk}
 
 -- the name of the subcommand that is asked for
 abbrev pub name_of : Ask → Text
 name_of (Replay file letters) = replay.name
+name_of (Walk file letters) = walk.name
 name_of (Live file dial completing) = live.name
 name_of (Audit file) = audit.name
 name_of (Draw file text) = draw.name
@@ -26,6 +27,8 @@ IsGiven value = value ≡ Some (codes "true")
 -- what is asked, by the values of the options, is this
 abbrev pub HasValues : (Text → Option Text) → Ask → Type 0
 HasValues values (Replay file letters) = (option_map string_bytes file ≡ values (codes "plan"))
+    × (string_bytes letters ≡ unwrap_or (values (codes "markers")) default_kinds)
+HasValues values (Walk file letters) = (option_map string_bytes file ≡ values (codes "plan"))
     × (string_bytes letters ≡ unwrap_or (values (codes "markers")) default_kinds)
 HasValues values (Live file dial completing) = (option_map string_bytes file ≡ values (codes "plan"))
     × IsNumberOf (unwrap_or (values (codes "dial")) one) dial

@@ -6,13 +6,14 @@ ghost use Rattle.clap.specs.Words.{fault_of, first_value, found_of, subcommand_o
 ghost use Rattle.clap.specs.Words.{subcommand_rows_of, takes};
 ghost use Rattle.crossbar5_command.specs.Ask.{IsAskOf, IsAskWith, IsGiven, IsNumberOf, IsUnnamedAsk, name_of};
 ghost use Rattle.crossbar5_command.specs.Fault.{IsFaultAmong};
-ghost use Rattle.crossbar5_command.specs.Program.{audit, draw, live, program, replay, subcommands};
+ghost use Rattle.crossbar5_command.specs.Program.{audit, draw, live, program, replay, subcommands, walk};
 ghost use Rattle.crossbar5_command.specs.Subcommand.{AreValues, AskFor, GivenOption, NamesOnly};
 ghost use Rattle.crossbar5_command.specs.Subcommand.{Subcommand, subcommand_named, value_of};
 ghost use Rattle.crossbar5_command.specs.declared.command_fault.CommandFault.TheVariants.{Memory};
 
 use crate::program::{
-    AUDIT, COMPLETING, DEFAULT_KINDS, DIAL, DRAW, LIVE, MARKERS, ONE, PLAN, REPLAY, TEXT, program,
+    AUDIT, COMPLETING, DEFAULT_KINDS, DIAL, DRAW, LIVE, MARKERS, ONE, PLAN, REPLAY, TEXT, WALK,
+    program,
 };
 use crate::{Ask, CommandFault};
 use clap::ArgMatches;
@@ -61,7 +62,21 @@ fn ask_of(alloc: Global, matches: &ArgMatches) -> Result<Ask, AllocError>
     if let Some(options) = matches.subcommand_matches(DRAW) {
         return draw_of(alloc, options);
     }
+    if let Some(options) = matches.subcommand_matches(WALK) {
+        return walk_of(alloc, options);
+    }
     replay_of(alloc, matches.subcommand_matches(REPLAY))
+}
+
+/// The walk with the values of its options.
+fn walk_of(alloc: Global, options: &ArgMatches) -> Result<Ask, AllocError>
+    ensures { IfOk result (IsAskWith walk.name (first_value (found_of options.now))) }
+{
+    let kinds = options.get_str(MARKERS).unwrap_or(DEFAULT_KINDS);
+    Ok(Ask::Walk {
+        plan: copy_of(alloc, options.get_str(PLAN))?,
+        kinds: String::from_str(alloc, kinds)?,
+    })
 }
 
 /// The live calls with the values of their options.

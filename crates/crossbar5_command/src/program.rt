@@ -3,7 +3,7 @@
 ghost use Rattle.std.specs.Prelude.{◌≡◌, ◌∷◌, [], IfOk, false};
 ghost use Rattle.clap.specs.Words.{app_of, rule_of};
 ghost use Rattle.clap.specs.declared.builder.command.Command.TheViews.{out-Command};
-ghost use Rattle.crossbar5_command.specs.Program.{as_text, audit, draw, live, marker_count, markers, plan, program, program_of, replay};
+ghost use Rattle.crossbar5_command.specs.Program.{as_text, audit, draw, live, marker_count, markers, plan, program, program_of, replay, walk};
 ghost use Rattle.crossbar5_command.specs.Program.{rule_for, shape_for};
 
 use clap::builder::ValueParser;
@@ -12,6 +12,8 @@ use std::alloc::{AllocError, Global};
 
 /// The names of the subcommands.
 pub const REPLAY: &str = "replay";
+
+pub const WALK: &str = "walk";
 
 pub const LIVE: &str = "live";
 
@@ -46,8 +48,8 @@ Replays traffic from standard input in a simulated No. 5 Crossbar telephone
 office, and writes what came of each job to standard output. Without a command
 it replays with the example plan and two markers for all jobs. The options of
 replay, --plan FILE and --markers KINDS, are told by 'crossbar5 replay --help'.
-With the command live it does calls from standard input by markers that run on
-threads.
+With the command walk it tells such a replay step by step, in words. With the
+command live it does calls from standard input by markers that run on threads.
 With the command audit it reads such output, a replay's or one that was worked
 out by hand, and tells whether it is right. With the command draw it reads such
 output too, and draws the office as it stands after it.";
@@ -57,12 +59,16 @@ output too, and draws the office as it stands after it.";
 const USAGE: &str = "\
 crossbar5 [COMMAND]
        crossbar5 replay [--plan <FILE>] [--markers <KINDS>]
+       crossbar5 walk [--plan <FILE>] [--markers <KINDS>]
        crossbar5 live [--plan <FILE>] [--dial <N>] [--completing <N>]
        crossbar5 audit [--plan <FILE>]
        crossbar5 draw [--plan <FILE>] [--text]";
 
 const ABOUT_REPLAY: &str = "\
 Replays traffic from standard input with a plan and markers of your choice";
+
+const ABOUT_WALK: &str = "\
+Replays traffic from standard input, and tells each step of each marker";
 
 const ABOUT_LIVE: &str = "\
 Does the calls on standard input, by markers that run on threads";
@@ -99,7 +105,8 @@ Example:
   of ten fields: turn, job number, marker, kind of job, line, dialled digits,
   end, trial, and two paths. A field that has nothing is '-'.
 
-  crossbar5 replay < TRAFFIC | crossbar5 audit   checks a replay.
+  crossbar5 walk < TRAFFIC   tells each step of a replay.
+  crossbar5 replay < TRAFFIC | crossbar5 audit   checks it.
   crossbar5 replay < TRAFFIC | crossbar5 draw --text   draws what it leaves.
 
   printf 'C,7,3041,5551234,R\\n' | crossbar5 live   has line 3041 call: call 7
@@ -129,7 +136,14 @@ pub fn program<'a>(alloc: Global) -> Result<Command<'a>, AllocError>
 
 /// The program with the subcommands that open an office.
 fn offices<'a>(alloc: Global) -> Result<Command<'a>, AllocError>
-    ensures app { IfOk result (λ made. app_of made ≡ program_of (replay ∷ live ∷ [])) }
+    ensures app { IfOk result (λ made. app_of made ≡ program_of (replay ∷ walk ∷ live ∷ [])) }
+{
+    replays(alloc)?.subcommand(live(alloc)?)
+}
+
+/// The program with the subcommands that replay traffic.
+fn replays<'a>(alloc: Global) -> Result<Command<'a>, AllocError>
+    ensures app { IfOk result (λ made. app_of made ≡ program_of (replay ∷ walk ∷ [])) }
 {
     Command::new(alloc, "crossbar5")
         .version("0.1.0")
@@ -137,7 +151,7 @@ fn offices<'a>(alloc: Global) -> Result<Command<'a>, AllocError>
         .after_help(EXAMPLE_AND_STATUSES)
         .override_usage(USAGE)
         .subcommand(replay(alloc)?)?
-        .subcommand(live(alloc)?)
+        .subcommand(walk(alloc)?)
 }
 
 fn replay<'a>(alloc: Global) -> Result<Command<'a>, AllocError>
@@ -146,6 +160,17 @@ fn replay<'a>(alloc: Global) -> Result<Command<'a>, AllocError>
 {
     Command::new(alloc, REPLAY)
         .about(ABOUT_REPLAY)
+        .after_help(EXAMPLE_AND_STATUSES)
+        .arg(plan_option(alloc))?
+        .arg(markers_option(alloc))
+}
+
+fn walk<'a>(alloc: Global) -> Result<Command<'a>, AllocError>
+    ensures shape { IfOk result (λ made. (app_of made).top ≡ shape_for walk) }
+    ensures local { IfOk result (λ made. (out-Command made).has_globals ≡ false) }
+{
+    Command::new(alloc, WALK)
+        .about(ABOUT_WALK)
         .after_help(EXAMPLE_AND_STATUSES)
         .arg(plan_option(alloc))?
         .arg(markers_option(alloc))

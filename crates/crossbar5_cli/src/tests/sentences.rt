@@ -6,8 +6,8 @@ use super::refused::{
 };
 use crate::ended::Ended;
 use crate::ending::Ending;
-use crate::{audit, live, replay};
-use crossbar5::EngineFault;
+use crate::{live, perform, replay};
+use crossbar5::{EngineFault, Task};
 use std::alloc::Global;
 use std::process::Abort;
 use std::test::Fail;
@@ -379,7 +379,7 @@ fn markers_files_and_lengths(rt: HostRuntime) -> Result<(), Fail> {
             "crossbar5: nofile.toml: cannot be read",
         ),
         (
-            audit(&rt, Some("nofile.toml")),
+            perform(&rt, Some("nofile.toml"), Task::Audit),
             6,
             "crossbar5: nofile.toml: cannot be read",
         ),
