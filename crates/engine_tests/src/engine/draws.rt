@@ -3,7 +3,6 @@
 
 use super::*;
 use crate::checks::{check, check_eq};
-use crossbar5::run_draw;
 use test_devices::FailAt;
 
 /// A drawing after this text is this one, or what is told in its place, and ends with this status.
@@ -17,7 +16,7 @@ fn check_draw(
     let plan = plan_with(alloc, faults)?;
     let mut source = Counted::new(text.as_bytes());
     let mut sink = Counted::new(Vec::new(alloc));
-    let status = run_draw(alloc, plan.as_bytes(), &mut source, &mut sink)?;
+    let status = run(alloc, Task::Draw, plan.as_str(), &mut source, &mut sink)?;
     let drawing = str::from_utf8(sink.get_ref()).unwrap_or("this is no text");
     check_eq!(rt; (drawing, status), wanted, "{text}");
     Ok(())
@@ -132,16 +131,16 @@ fn other_texts_are_told(rt: HostRuntime) -> Result<(), Fail> {
 #[test]
 fn devices_of_drawings_fail(rt: HostRuntime) -> Result<(), Fail> {
     let plan = plan_with(rt.alloc(), "")?;
-    let plan = plan.as_bytes();
+    let plan = plan.as_str();
     for calls in 0..2 {
         let mut source = Counted::new(FailAt::new(calls, FIRST_TEXT.as_bytes()));
         let mut sink = Counted::new(Vec::new(rt.alloc()));
-        let ended = run_draw(rt.alloc(), plan, &mut source, &mut sink);
+        let ended = run(rt.alloc(), Task::Draw, plan, &mut source, &mut sink);
         check_eq!(rt; ended, Err(EngineFault::Device), "after {calls} reads");
         check!(rt; sink.get_ref().is_empty());
         let mut source = Counted::new(FIRST_TEXT.as_bytes());
         let mut sink = Counted::new(FailAt::new(calls, Vec::new(rt.alloc())));
-        let ended = run_draw(rt.alloc(), plan, &mut source, &mut sink);
+        let ended = run(rt.alloc(), Task::Draw, plan, &mut source, &mut sink);
         check_eq!(rt; ended, Err(EngineFault::Device), "after {calls} writes");
     }
     Ok(())
@@ -155,7 +154,13 @@ fn refused_memory_leaves_no_drawing(rt: HostRuntime) {
     };
     let mut source = Counted::new(FAULTY_RECORD.as_bytes());
     let mut sink = Counted::new(Vec::new(rt.alloc()));
-    match run_draw(rt.alloc(), plan.as_bytes(), &mut source, &mut sink) {
+    match run(
+        rt.alloc(),
+        Task::Draw,
+        plan.as_str(),
+        &mut source,
+        &mut sink,
+    ) {
         Ok(_) => check_eq!(rt; sink.get_ref().as_slice(), FAULTY_DRAWING.as_bytes()),
         // The sink grows too: what went out before it couldn't is a beginning of the drawing.
         Err(EngineFault::Device) => {
