@@ -25,6 +25,7 @@ use xbar_traffic::{MarkerFault, Mode, Row, RowFault, Traffic, TrafficFault};
 use xbar_walk::{add_assignment, walk_settling, walk_steps};
 
 /// What was told of an office so far.
+#[derive(Drop)]
 struct Story {
     /// Of how many steps, modulo 2^64.
     number: u64,
