@@ -58,7 +58,7 @@ fn comes_to<R: Source>(
 /// that are refused leave the source unread. The input is read to its end before a line of it is looked
 /// at, and the output is written in one go once all is known. Of how much went out before `Device`
 /// nothing is said.
-pub fn answer<R: Source, W: Sink>(
+pub fn answer_task<R: Source, W: Sink>(
     alloc: Global,
     task: Task<'_>,
     plan: &[u8],

@@ -5,7 +5,7 @@
 
 pub use answer::Answer;
 pub use counted_io::{Counted, Sink, Source};
-pub use engine::{answer, answer_live};
+pub use engine::{answer_live, answer_task};
 pub use engine_fault::EngineFault;
 pub use gates::open_gates;
 pub use kinds::kinds_of;

@@ -7,7 +7,7 @@ ghost use Rattle.crossbar5.specs.Faults.{ComesFirst, IsMarkerCount, IsStaffCount
 ghost use Rattle.crossbar5.specs.Live.{IsLive, IsLiveUnread};
 ghost use Rattle.crossbar5.specs.Run.{IsRefusedUnread, IsReplay};
 
-use crate::engine::{answer, answer_live};
+use crate::engine::{answer_live, answer_task};
 use crate::engine_fault::EngineFault;
 use crate::status::Status;
 use crate::task::Task;
@@ -19,7 +19,7 @@ use xbar_core::Kind;
 use xbar_markers::Gate;
 
 /// Replays the traffic that the source gives, in an office with the plan of this text and markers of
-/// these kinds, as `answer` does.
+/// these kinds, as `answer_task` does.
 pub fn run_replay<R: Source, W: Sink>(
     alloc: Global,
     plan: &[u8],
@@ -46,7 +46,7 @@ pub fn run_replay<R: Source, W: Sink>(
         → (R.failure_count source.new ≡ R.failure_count source.old)
         × (W.failure_count sink.new ≡ W.failure_count sink.old) }
 {
-    let answer = answer(alloc, Task::Replay { kinds }, plan, source, sink)?;
+    let answer = answer_task(alloc, Task::Replay { kinds }, plan, source, sink)?;
     Ok(answer.status)
 }
 

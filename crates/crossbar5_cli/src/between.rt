@@ -7,7 +7,7 @@ ghost use Rattle.crossbar5.specs.Task.{HasItsMarkers};
 
 use crate::ended::Ended;
 use crate::ending::Ending;
-use crossbar5::{EngineFault, Sink, Source, Task, answer, answer_live};
+use crossbar5::{EngineFault, Sink, Source, Task, answer_live, answer_task};
 use std::alloc::Global;
 use std::sync::Wait;
 use std::thread::Threads;
@@ -24,7 +24,7 @@ pub fn task_between<'w, R: Source, W: Sink>(
 ) -> Ended<'w>
     ensures { (result.ending ≡ Ending.Failed EngineFault.Markers) ↔ ¬ HasItsMarkers task.entry }
 {
-    match answer(alloc, task, plan, source, sink) {
+    match answer_task(alloc, task, plan, source, sink) {
         Ok(answer) => Ended::answered(answer, file),
         Err(fault) => Ended::of_run(fault, source.failures()),
     }

@@ -1,7 +1,7 @@
 //! Replays of traffic, with plans and markers of all kinds; walks, audits and drawings.
 
 use crate::checks::check_eq;
-use crossbar5::{Counted, EngineFault, Sink, Source, Status, Task, answer, kinds_of, run_replay};
+use crossbar5::{Counted, EngineFault, Sink, Source, Status, Task, answer_task, kinds_of, run_replay};
 use std::alloc::{AllocError, Global};
 use std::process::Abort;
 use std::test::Fail;
@@ -44,7 +44,7 @@ fn run<R: Source, W: Sink>(
     source: &mut R,
     sink: &mut W,
 ) -> Result<Status, EngineFault> {
-    let answer = answer(alloc, task, plan.as_bytes(), source, sink)?;
+    let answer = answer_task(alloc, task, plan.as_bytes(), source, sink)?;
     Ok(answer.status)
 }
 
