@@ -39,7 +39,7 @@ A REGISTER'S PATH
 switch  3,0                     3,5       4,5                     4,1
 word     60                      75       295                     281
 field     5                       4         3                       5
-holds    33                       1         2                       9
+holds    28                       1         2                       9
 
 LINKS OUT OF ORDER
 JU340: channel 0, from line link frame 3 to trunk link frame 4

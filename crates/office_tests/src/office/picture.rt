@@ -50,7 +50,7 @@ A REGISTER'S PATH
 switch  3,0                     3,0       4,0                     4,1
 word     60                      70       290                     281
 field     0                       4         3                       0
-holds    33                       1         2                       8
+holds    28                       1         2                       8
 ";
 
 #[test]
