@@ -381,7 +381,11 @@ fn markers_files_and_lengths(rt: HostRuntime) -> Result<(), Fail> {
             "crossbar5: nofile.toml: cannot be read",
         ),
         // What is no file can be opened, but not read.
-        (audit(&rt, Some("/")), 6, "crossbar5: /: cannot be read"),
+        (
+            perform(&rt, Some("/"), Task::Audit),
+            6,
+            "crossbar5: /: cannot be read",
+        ),
         (
             Ended::of_plan_file(EngineFault::Long, Some("endless.toml")),
             4,
