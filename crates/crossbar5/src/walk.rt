@@ -33,6 +33,7 @@ struct Story {
 }
 
 /// Assigns a job to a marker and tells it, or tells why it can't be.
+#[tactic(auto, unfolding(crate::specs::Walk::told_row))]
 fn tell_assignment(
     office: &mut Exchange,
     marker: u32,
@@ -59,6 +60,7 @@ fn tell_assignment(
 }
 
 /// Has a marker make so many steps and tells each, or tells that the office has no such marker.
+#[tactic(auto, unfolding(crate::specs::Walk::told_row))]
 fn tell_steps(
     office: &mut Exchange,
     marker: u32,
@@ -112,7 +114,7 @@ fn tell_row(
 /// Has the office settle and tells it: what is written in all.
 fn tell_settling(mut office: Exchange<'_>, mut story: Story) -> Result<Written, AllocError>
     ensures { IfOk result (λ written. IsTellingOf
-        (told_settling (walk_of office.entry story.entry.number (string_bytes story.entry.text)))
+        (told_settling (walk_of office.entry story.number (string_bytes story.text)))
         (Leaves (settled office.entry.plan office.entry.exchange))
         written.text.items written.status) }
 {
