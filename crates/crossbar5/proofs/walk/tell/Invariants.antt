@@ -1,4 +1,4 @@
-use Rattle.std.specs.Prelude.{◌×◌, string_bytes}
+use Rattle.std.specs.Prelude.{string_bytes}
 use Rattle.xbar_walk.specs.Walks.{walk_of}
 use Rattle.crossbar5.proofs.RunRows.{HasRun}
 use Rattle.crossbar5.proofs.Tellings.{HasTold}
