@@ -1,16 +1,14 @@
 -- how far a walk has come with its rows, and what is written of it
-use Rattle.std.proofs.Common.{◌≡◌, ℕ, ◌+◌, ◌<◌, ◌≤◌, List, ◌∷◌, length, drop, get_or, suc, refl, sym, ◌∙◌, ap, subst, drop-cons, arith}
+use Rattle.std.proofs.Common.{◌≡◌, ℕ, ◌+◌, ◌<◌, ◌≤◌, List, ◌∷◌, length, drop, get_or, suc, sym, ◌∙◌, ap, subst, drop-cons, arith}
 use Rattle.std.proofs.lemmas.List.{drop_all}
 use Rattle.std.specs.Prelude.{Result, Ok, Err, IfOk}
 use Rattle.xbar_plan.specs.Tables.{Tables}
 use Rattle.xbar_traffic.specs.declared.fault.TrafficFault.{TrafficFault}
 use Rattle.xbar_traffic.specs.declared.row.Row.{Row}
-use Rattle.xbar_core.specs.Exchange.{Exchange}
 use Rattle.xbar_core.specs.declared.kind.Kind.{Kind}
 use Rattle.xbar_walk.specs.Walks.{Walk, told_settling}
-use Rattle.crossbar5.specs.Run.{IsWrittenOf, Leaves, Outcome, RefusesTraffic}
+use Rattle.crossbar5.specs.Run.{IsWrittenOf, Outcome, RefusesTraffic}
 use Rattle.crossbar5.specs.Walk.{IsTellingOf, opened, told_row, told_rows}
-use Rattle.crossbar5.specs.declared.status.Status.{Status}
 use Rattle.crossbar5.specs.declared.written.Written.{Written}
 
 -- what was told so far and what is left make up what there is to tell of all rows

@@ -1,13 +1,10 @@
-use Rattle.std.proofs.Common.{List, length, get_or, arith, sym, ◌∙◌, ap, refl}
-use Rattle.std.specs.Prelude.{string_bytes}
+use Rattle.std.proofs.Common.{List, length, get_or, arith, sym, ◌∙◌, ap}
 use Rattle.xbar_plan.specs.Tables.{Tables}
 use Rattle.xbar_core.specs.Settling.{settled}
 use Rattle.xbar_traffic.specs.declared.row.Row.{Row}
-use Rattle.xbar_walk.specs.Walks.{Walk, walk_of}
-use Rattle.crossbar5.specs.Run.{Leaves, Outcome}
-use Rattle.crossbar5.specs.Walk.{opened, whole_walk}
-use Rattle.crossbar5.proofs.RunRows.{end_refused, end_settled, has_opened, row_done, row_refused, rows_done}
-use Rattle.crossbar5.proofs.Tellings.{HasTold, all_told, none_told, refusal_told, row_told, settling_told}
+use Rattle.crossbar5.specs.Run.{Leaves}
+use Rattle.crossbar5.proofs.RunRows.{end_refused, end_settled, row_done, row_refused, rows_done}
+use Rattle.crossbar5.proofs.Tellings.{all_told, refusal_told, row_told, settling_told}
 use Rattle.crossbar5.proofs.walk.tell.Goals as goal
 
 pub returns-in-Some : goal.returns-in-Some
@@ -23,9 +20,10 @@ pub loop-row-preserved : goal.loop-row-preserved
 loop-row-preserved c =
     let same = c.deref-row-items.ensures.value in
     let size = ap length same in
-    let here = c.row-item.is ∙ ap (λ (rows : List Row). get_or rows c.loop-row.row-index c.row-item.result) same in
-    (row_done c.args.plan.now c.args.kinds.now c.args.traffic.now.rows.items c.args.traffic.now.fault c.loop-row.office c.loop-row.number c.loop-row.row-index c.loop-row.invariant.0 c.tell_row.new.office c.row-item.result (omega arith) here (sym c.in_ok-why.ensures.fault ∙ c.in_default.is) (c.in_ok-why.ensures.done c.in_default.is),
-    row_told c.args.plan.now c.args.kinds.now c.args.traffic.now.rows.items _ c.loop-row.row-index c.loop-row.invariant.1 _ c.row-item.result (omega arith) here (c.in_ok-why.ensures.told c.in_default.is))
+    let here = c.row-item.is ∙ ap (λ (rows : List Row). get_or rows c.loop-row.row-index c.row-item.result) same in (
+      row_done c.args.plan.now c.args.kinds.now c.args.traffic.now.rows.items c.args.traffic.now.fault c.loop-row.office c.loop-row.number c.loop-row.row-index c.loop-row.invariant.0 c.tell_row.new.office c.row-item.result (omega arith) here (sym c.in_ok-why.ensures.fault ∙ c.in_default.is) (c.in_ok-why.ensures.done c.in_default.is),
+      row_told c.args.plan.now c.args.kinds.now c.args.traffic.now.rows.items _ c.loop-row.row-index c.loop-row.invariant.1 _ c.row-item.result (omega arith) here (c.in_ok-why.ensures.told c.in_default.is),
+    )
 
 pub returns-in-Some-refusal : goal.returns-in-Some-refusal
 returns-in-Some-refusal c =
