@@ -5,7 +5,7 @@
 //! sentence.
 #![tactic(auto)]
 
-ghost use Rattle.std.specs.Prelude.{◌≡◌, ◌≢◌, ◌↔◌, Err, List};
+ghost use Rattle.std.specs.Prelude.{◌≡◌, ◌≢◌, ◌↔◌, Err, List, false};
 ghost use Rattle.std.specs.Process.{exit_status};
 ghost use Rattle.xbar_core.specs.declared.kind.Kind.{Kind};
 ghost use Rattle.crossbar5.specs.Faults.{IsStaffCount};
@@ -89,7 +89,7 @@ fn do_as_asked<'w, T: Threads + Wait + Sync>(
         ) => live(rt, threads, plan.as_deref(), *dial, *completing),
         Ok(Ask::Walk { plan, kinds }) => walk(rt, plan.as_deref(), kinds.as_str()),
         Ok(Ask::Audit { plan }) => perform(rt, plan.as_deref(), Task::Audit),
-        Ok(Ask::Draw { plan, .. }) => perform(rt, plan.as_deref(), Task::Draw),
+        Ok(Ask::Draw { plan, text }) => draw(rt, plan.as_deref(), *text),
         Err(fault) => Ended::of_telling(tell(rt, fault)),
     }
 }
@@ -114,6 +114,16 @@ fn walk<'w>(rt: &HostRuntime, file: Option<&'w str>, kinds: &'w str) -> Ended<'w
         Ok(named) => perform(rt, file, Task::Walk { kinds: &named }),
         Err(fault) => Ended::of_kinds(fault, kinds),
     }
+}
+
+/// Drawings are made as text alone: another is refused, whatever the plan's file is.
+fn draw<'w>(rt: &HostRuntime, file: Option<&'w str>, text: bool) -> Ended<'w>
+    ensures { text ≡ false → result.ending ≡ Ending.Refused }
+{
+    if !text {
+        return Ended::of_drawing();
+    }
+    perform(rt, file, Task::Draw)
 }
 
 /// Does a task with the plan's file, standard input and output.

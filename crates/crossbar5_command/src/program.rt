@@ -62,7 +62,7 @@ crossbar5 [COMMAND]
        crossbar5 walk [--plan <FILE>] [--markers <KINDS>]
        crossbar5 live [--plan <FILE>] [--dial <N>] [--completing <N>]
        crossbar5 audit [--plan <FILE>]
-       crossbar5 draw [--plan <FILE>] [--text]";
+       crossbar5 draw --text [--plan <FILE>]";
 
 const ABOUT_REPLAY: &str = "\
 Replays traffic from standard input with a plan and markers of your choice";
@@ -93,7 +93,7 @@ const ABOUT_COMPLETING: &str = "\
 How many markers complete calls and release them, 1 to 47,{n}\
 and with those that dial at most 48";
 
-const ABOUT_TEXT: &str = "As text for a terminal of 80 columns";
+const ABOUT_TEXT: &str = "As text for a terminal of 80 columns; no other drawing is made";
 
 const EXAMPLE_AND_STATUSES: &str = "\
 Example:

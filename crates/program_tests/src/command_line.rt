@@ -348,7 +348,7 @@ const TOLD: &[(&str, &str)] = &[
     ("crossbar5 --help", WITHOUT_OPTIONS),
     (
         "crossbar5 draw --help",
-        "      --text         As text for a terminal of 80 columns\n",
+        "      --text         As text for a terminal of 80 columns; no other drawing is made\n",
     ),
     ("crossbar5 --text", USAGE_OF_DRAW),
     ("crossbar5 --text", USAGE_OF_WALK),
@@ -366,7 +366,7 @@ const USAGE_OF_LIVE: &str = "
        crossbar5 live [--plan <FILE>] [--dial <N>] [--completing <N>]
 ";
 
-const USAGE_OF_DRAW: &str = "\n       crossbar5 draw [--plan <FILE>] [--text]\n";
+const USAGE_OF_DRAW: &str = "\n       crossbar5 draw --text [--plan <FILE>]\n";
 
 fn check_told(rt: &impl Abort, alloc: Global, line: &str, part: &str) -> Result<(), Fail> {
     let text = text_of(alloc, line)?;

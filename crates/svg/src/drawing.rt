@@ -10,8 +10,8 @@ use std::alloc::AllocError;
 /// Adds a whole drawing. Where memory runs out, a part of it may have been added.
 pub fn add_drawing(
     text: &mut String,
-    width: u64,
-    height: u64,
+    width: u16,
+    height: u16,
     style: &str,
     shapes: &[Shape<'_>],
 ) -> Result<(), AllocError>
@@ -25,7 +25,7 @@ pub fn add_drawing(
 
 /// Adds what a drawing begins with, up to its first shape. Where memory runs out, a part of it may
 /// have been added.
-pub fn add_head(text: &mut String, width: u64, height: u64, style: &str) -> Result<(), AllocError>
+pub fn add_head(text: &mut String, width: u16, height: u16, style: &str) -> Result<(), AllocError>
     ensures { OnOk result (string_bytes text.new ≡ string_bytes text.old ++
         head_text width height style.now) }
 {

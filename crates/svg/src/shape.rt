@@ -1,14 +1,14 @@
 /// A place in a drawing, in units from its left and its upper edge.
 #[derive(Clone, Copy, Debug, PartialEq, Eq)]
 pub struct Point {
-    pub x: u64,
-    pub y: u64,
+    pub x: u16,
+    pub y: u16,
 }
 
 impl Point {
     ghost use Rattle.std.specs.Prelude.{◌≡◌};
 
-    pub fn new(x: u64, y: u64) -> Self
+    pub fn new(x: u16, y: u16) -> Self
         ensures { result ≡ record { x = x; y = y } }
     {
         Point { x, y }
@@ -21,8 +21,8 @@ pub enum Shape<'a> {
     /// Of the upper left corner.
     Rectangle {
         corner: Point,
-        width: u64,
-        height: u64,
+        width: u16,
+        height: u16,
         class: &'a str,
     },
     Line {
@@ -32,7 +32,7 @@ pub enum Shape<'a> {
     },
     Circle {
         center: Point,
-        radius: u64,
+        radius: u16,
         class: &'a str,
     },
     /// One line of text, which begins at the place or, as its class says, has its middle or its end there.

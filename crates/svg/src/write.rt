@@ -33,8 +33,8 @@ pub fn add_shape(text: &mut String, shape: &Shape<'_>) -> Result<(), AllocError>
 pub fn add_rectangle(
     text: &mut String,
     corner: Point,
-    width: u64,
-    height: u64,
+    width: u16,
+    height: u16,
     class: &str,
 ) -> Result<(), AllocError>
     ensures { OnOk result (string_bytes text.new ≡ string_bytes text.old ++
@@ -72,7 +72,7 @@ pub fn add_line(text: &mut String, from: Point, to: Point, class: &str) -> Resul
 pub fn add_circle(
     text: &mut String,
     center: Point,
-    radius: u64,
+    radius: u16,
     class: &str,
 ) -> Result<(), AllocError>
     ensures { OnOk result (string_bytes text.new ≡ string_bytes text.old ++
