@@ -1,6 +1,7 @@
 pub use Rattle.xbar_plan.specs.Tables
 pub use Rattle.xbar_office.specs.Legal
 pub use Rattle.xbar_office_text.specs.Text as OfficeText
+pub use Rattle.xbar_office_drawing.specs.Drawing
 pub use Rattle.xbar_jobs.specs.Office
 pub use Rattle.xbar_core.specs.Exchange
 pub use Rattle.xbar_traffic.specs.Traffic

@@ -16,14 +16,14 @@ abbrev pub HasItsMarkers : Task → Type 0
 HasItsMarkers (Replay kinds) = IsMarkerCount (length kinds.now)
 HasItsMarkers (Walk kinds) = IsMarkerCount (length kinds.now)
 HasItsMarkers Audit = Unit {0}
-HasItsMarkers Draw = Unit {0}
+HasItsMarkers (Draw look) = Unit {0}
 
 -- under a plan's tables, the text and the status are those of the task
 abbrev pub IsDoneUnder : Task → Tables → List ℕ → List ℕ → Status → Type 0
 IsDoneUnder (Replay kinds) plan input text status = IsReplayUnder plan kinds.now input text status
 IsDoneUnder (Walk kinds) plan input text status = IsWalkUnder plan kinds.now input text status
 IsDoneUnder Audit plan input text status = IsAuditUnder plan input text status
-IsDoneUnder Draw plan input text status = IsDrawUnder plan input text status
+IsDoneUnder (Draw look) plan input text status = IsDrawUnder look plan input text status
 
 -- and with a plan's text
 abbrev pub IsDone : Task → List ℕ → List ℕ → List ℕ → Status → Type 0

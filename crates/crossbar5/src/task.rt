@@ -1,5 +1,6 @@
 use crate::audit::audit_text;
 use crate::draw::draw_text;
+use crate::look::Look;
 use crate::run::replay;
 use crate::walk::walk;
 use crate::written::Written;
@@ -17,7 +18,7 @@ pub enum Task<'a> {
     /// To audit records.
     Audit,
     /// To draw the office after them.
-    Draw,
+    Draw { look: Look },
 }
 
 impl Task<'_> {
@@ -32,7 +33,7 @@ impl Task<'_> {
             Task::Replay { kinds } | Task::Walk { kinds } => {
                 !kinds.is_empty() && kinds.len() <= MOST_MARKERS
             }
-            Task::Audit | Task::Draw => true,
+            Task::Audit | Task::Draw { .. } => true,
         }
     }
 
@@ -51,7 +52,7 @@ impl Task<'_> {
             Task::Replay { kinds } => replay(alloc, plan, kinds, input),
             Task::Walk { kinds } => walk(alloc, plan, kinds, input),
             Task::Audit => audit_text(alloc, plan, input),
-            Task::Draw => draw_text(alloc, plan, input),
+            Task::Draw { look } => draw_text(alloc, plan, look, input),
         }
     }
 }

@@ -4,15 +4,14 @@ use Rattle.crossbar5.specs.declared.engine_fault.EngineFault.{EngineFault}
 use Rattle.crossbar5.specs.declared.engine_fault.EngineFault.TheVariants.{Markers, Memory, Device, Long}
 use Rattle.crossbar5.specs.declared.status.Status.TheVariants.{PlanRefused, TrafficRefused}
 use Rattle.crossbar5_cli.specs.declared.ending.Ending.{Ending}
-use Rattle.crossbar5_cli.specs.declared.ending.Ending.TheVariants.{Answered, Refused, Failed}
+use Rattle.crossbar5_cli.specs.declared.ending.Ending.TheVariants.{Answered, Failed}
 use Rattle.crossbar5_cli.specs.declared.sentence.Sentence.{Sentence}
-use Rattle.crossbar5_cli.specs.declared.sentence.Sentence.TheVariants.{Kinds, Staff, TextUnasked, Plan, Traffic, PlanUnreadable, PlanTooLong, InputUnreadable, InputTooLong, OutputUnwritable}
+use Rattle.crossbar5_cli.specs.declared.sentence.Sentence.TheVariants.{Kinds, Staff, Plan, Traffic, PlanUnreadable, PlanTooLong, InputUnreadable, InputTooLong, OutputUnwritable}
 
 -- the ending that a sentence speaks of
 abbrev pub ending_on : Sentence → Ending
 ending_on (Kinds slip) = Failed Markers
 ending_on (Staff dialling completing) = Failed Markers
-ending_on TextUnasked = Refused
 ending_on (Plan file slip) = Answered PlanRefused
 ending_on (Traffic slip) = Answered TrafficRefused
 ending_on (PlanUnreadable file) = Failed Device

@@ -78,16 +78,6 @@ impl<'w> Ended<'w> {
         }
     }
 
-    /// A drawing was asked for that can't be made: one that isn't text.
-    pub fn of_drawing() -> Self
-        ensures { result.ending ≡ Ending.Refused }
-    {
-        Ended {
-            ending: Ending::Refused,
-            sentence: Some(Sentence::TextUnasked),
-        }
-    }
-
     /// The plan's file, if one is named, comes to this fault.
     pub fn of_plan_file(fault: EngineFault, file: Option<&'w str>) -> Self
         ensures ending { result.ending ≡ Ending.Failed fault }

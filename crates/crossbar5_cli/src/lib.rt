@@ -5,7 +5,7 @@
 //! sentence.
 #![tactic(auto)]
 
-ghost use Rattle.std.specs.Prelude.{◌≡◌, ◌≢◌, ◌↔◌, Err, List, false};
+ghost use Rattle.std.specs.Prelude.{◌≡◌, ◌≢◌, ◌↔◌, Err, List, if◌then◌else◌};
 ghost use Rattle.std.specs.Process.{exit_status};
 ghost use Rattle.xbar_core.specs.declared.kind.Kind.{Kind};
 ghost use Rattle.crossbar5.specs.Faults.{IsStaffCount};
@@ -20,7 +20,7 @@ use crate::ended::Ended;
 use crate::ending::Ending;
 use crate::plan_text::plan_text;
 use crate::stream::{Stream, stream_of, told_on};
-use crossbar5::{Counted, EngineFault, Task, kinds_of, open_gates};
+use crossbar5::{Counted, EngineFault, Look, Task, kinds_of, open_gates};
 use crossbar5_command::{Ask, CommandFault, command};
 use std::alloc::AllocError;
 use std::fs::File;
@@ -89,7 +89,10 @@ fn do_as_asked<'w, T: Threads + Wait + Sync>(
         ) => live(rt, threads, plan.as_deref(), *dial, *completing),
         Ok(Ask::Walk { plan, kinds }) => walk(rt, plan.as_deref(), kinds.as_str()),
         Ok(Ask::Audit { plan }) => perform(rt, plan.as_deref(), Task::Audit),
-        Ok(Ask::Draw { plan, text }) => draw(rt, plan.as_deref(), *text),
+        Ok(Ask::Draw { plan, text }) => {
+            let look = look_of(*text);
+            perform(rt, plan.as_deref(), Task::Draw { look })
+        }
         Err(fault) => Ended::of_telling(tell(rt, fault)),
     }
 }
@@ -116,14 +119,11 @@ fn walk<'w>(rt: &HostRuntime, file: Option<&'w str>, kinds: &'w str) -> Ended<'w
     }
 }
 
-/// Drawings are made as text alone: another is refused, whatever the plan's file is.
-fn draw<'w>(rt: &HostRuntime, file: Option<&'w str>, text: bool) -> Ended<'w>
-    ensures { text ≡ false → result.ending ≡ Ending.Refused }
+/// How an office is drawn, by whether a text is wanted.
+fn look_of(text: bool) -> Look
+    ensures { result ≡ if text then Look.Text else Look.Drawing }
 {
-    if !text {
-        return Ended::of_drawing();
-    }
-    perform(rt, file, Task::Draw)
+    if text { Look::Text } else { Look::Drawing }
 }
 
 /// Does a task with the plan's file, standard input and output.
@@ -145,7 +145,7 @@ fn perform<'w>(rt: &HostRuntime, file: Option<&'w str>, task: Task<'_>) -> Ended
 fn input_of(task: Task<'_>) -> &'static str {
     match task {
         Task::Replay { .. } | Task::Walk { .. } => "rows",
-        Task::Audit | Task::Draw => "records",
+        Task::Audit | Task::Draw { .. } => "records",
     }
 }
 

@@ -9,8 +9,6 @@ pub enum Sentence<'w> {
     Kinds(KindsSlip<'w>),
     /// Live calls can't have so many markers that dial and that complete calls.
     Staff { dialling: u32, completing: u32 },
-    /// A drawing was asked for, but not as text.
-    TextUnasked,
     /// The plan in this file is refused.
     Plan { file: &'w str, slip: PlanSlip },
     /// The traffic is refused.
@@ -35,9 +33,6 @@ impl fmt::Display for Sentence<'_> {
                 f,
                 "--dial {dialling} --completing {completing}: 1 to 48 markers in all are wanted, at least one of each"
             ),
-            Sentence::TextUnasked => {
-                f.write_str("draw: drawings are made as text alone; --text is wanted")
-            }
             Sentence::Plan { file, slip } => write!(f, "{file}: {slip}"),
             Sentence::Traffic(slip) => write!(f, "{slip}"),
             Sentence::PlanUnreadable(file) => write!(f, "{file}: cannot be read"),

@@ -62,7 +62,7 @@ crossbar5 [COMMAND]
        crossbar5 walk [--plan <FILE>] [--markers <KINDS>]
        crossbar5 live [--plan <FILE>] [--dial <N>] [--completing <N>]
        crossbar5 audit [--plan <FILE>]
-       crossbar5 draw --text [--plan <FILE>]";
+       crossbar5 draw [--plan <FILE>] [--text]";
 
 const ABOUT_REPLAY: &str = "\
 Replays traffic from standard input with a plan and markers of your choice";
@@ -93,7 +93,7 @@ const ABOUT_COMPLETING: &str = "\
 How many markers complete calls and release them, 1 to 47,{n}\
 and with those that dial at most 48";
 
-const ABOUT_TEXT: &str = "As text for a terminal of 80 columns; no other drawing is made";
+const ABOUT_TEXT: &str = "As text for a terminal of 80 columns";
 
 const EXAMPLE_AND_STATUSES: &str = "\
 Example:
@@ -107,7 +107,8 @@ Example:
 
   crossbar5 walk < TRAFFIC   tells each step of a replay.
   crossbar5 replay < TRAFFIC | crossbar5 audit   checks it.
-  crossbar5 replay < TRAFFIC | crossbar5 draw --text   draws what it leaves.
+  crossbar5 replay < TRAFFIC | crossbar5 draw > office.svg   draws what it
+  leaves; draw --text draws it for a terminal.
 
   printf 'C,7,3041,5551234,R\\n' | crossbar5 live   has line 3041 call: call 7
   is dialled, completed and, for the R, released. With K it is kept.

@@ -1,7 +1,9 @@
 //! Replays of traffic, with plans and markers of all kinds; walks, audits and drawings.
 
 use crate::checks::check_eq;
-use crossbar5::{Counted, EngineFault, Sink, Source, Status, Task, answer_task, kinds_of, run_replay};
+use crossbar5::{
+    Counted, EngineFault, Sink, Source, Status, Task, answer_task, kinds_of, run_replay,
+};
 use std::alloc::{AllocError, Global};
 use std::process::Abort;
 use std::test::Fail;

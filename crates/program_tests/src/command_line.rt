@@ -348,7 +348,7 @@ const TOLD: &[(&str, &str)] = &[
     ("crossbar5 --help", WITHOUT_OPTIONS),
     (
         "crossbar5 draw --help",
-        "      --text         As text for a terminal of 80 columns; no other drawing is made\n",
+        "      --text         As text for a terminal of 80 columns\n",
     ),
     ("crossbar5 --text", USAGE_OF_DRAW),
     ("crossbar5 --text", USAGE_OF_WALK),
@@ -366,7 +366,7 @@ const USAGE_OF_LIVE: &str = "
        crossbar5 live [--plan <FILE>] [--dial <N>] [--completing <N>]
 ";
 
-const USAGE_OF_DRAW: &str = "\n       crossbar5 draw --text [--plan <FILE>]\n";
+const USAGE_OF_DRAW: &str = "\n       crossbar5 draw [--plan <FILE>] [--text]\n";
 
 fn check_told(rt: &impl Abort, alloc: Global, line: &str, part: &str) -> Result<(), Fail> {
     let text = text_of(alloc, line)?;
@@ -388,7 +388,7 @@ const STARTS: &[&str] = &[
     "of ten fields: turn, job number, marker, kind of job, line, dialled digits,\n",
     "  crossbar5 walk < TRAFFIC   tells each step of a replay.\n",
     "  crossbar5 replay < TRAFFIC | crossbar5 audit   checks it.\n",
-    "  crossbar5 replay < TRAFFIC | crossbar5 draw --text   draws what it leaves.\n",
+    "  crossbar5 replay < TRAFFIC | crossbar5 draw > office.svg   draws what it\n  leaves; draw --text draws it for a terminal.\n",
     "  0  All is fine\n",
     "  printf 'C,7,3041,5551234,R\\n' | crossbar5 live   has line 3041 call: call 7\n",
     "  2  The command line is refused, or the KINDS or the number of the markers\n",

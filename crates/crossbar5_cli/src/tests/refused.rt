@@ -2,7 +2,7 @@
 
 use crate::between::{live_between, task_between};
 use crate::ended::Ended;
-use crossbar5::{Counted, Task, kinds_of, open_gates};
+use crossbar5::{Counted, Look, Task, kinds_of, open_gates};
 use std::alloc::Global;
 use std::process::Abort;
 use std::sync::Wait;
@@ -154,5 +154,6 @@ pub fn check_audit(
     if wanted.1 == 0 {
         return Ok(());
     }
-    check_task(rt, alloc, plan, Task::Draw, records, wanted)
+    let look = Look::Drawing;
+    check_task(rt, alloc, plan, Task::Draw { look }, records, wanted)
 }

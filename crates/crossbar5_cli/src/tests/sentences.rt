@@ -6,7 +6,7 @@ use super::refused::{
 };
 use crate::ended::Ended;
 use crate::ending::Ending;
-use crate::{draw, live, perform, replay};
+use crate::{live, perform, replay};
 use crossbar5::{EngineFault, Task};
 use std::alloc::Global;
 use std::process::Abort;
@@ -377,16 +377,6 @@ fn markers_files_and_lengths(rt: HostRuntime) -> Result<(), Fail> {
         ),
         (
             perform(&rt, Some("nofile.toml"), Task::Audit),
-            6,
-            "crossbar5: nofile.toml: cannot be read",
-        ),
-        (
-            draw(&rt, Some("nofile.toml"), false),
-            2,
-            "crossbar5: draw: drawings are made as text alone; --text is wanted",
-        ),
-        (
-            draw(&rt, Some("nofile.toml"), true),
             6,
             "crossbar5: nofile.toml: cannot be read",
         ),

@@ -3,6 +3,7 @@
 
 use super::*;
 use crate::checks::{check, check_eq};
+use crossbar5::Look;
 use test_devices::FailAt;
 
 /// A drawing after this text is this one, or what is told in its place, and ends with this status.
@@ -16,11 +17,13 @@ fn check_draw(
     let plan = plan_with(alloc, faults)?;
     let mut source = Counted::new(text.as_bytes());
     let mut sink = Counted::new(Vec::new(alloc));
-    let status = run(alloc, Task::Draw, plan.as_str(), &mut source, &mut sink)?;
+    let status = run(alloc, TEXT, plan.as_str(), &mut source, &mut sink)?;
     let drawing = str::from_utf8(sink.get_ref()).unwrap_or("this is no text");
     check_eq!(rt; (drawing, status), wanted, "{text}");
     Ok(())
 }
+
+const TEXT: Task<'static> = Task::Draw { look: Look::Text };
 
 const FAULTY_RECORD: &str = "0,1,0,D,3052,-,DIALTONE,2,3052-5-418,-\nTROUBLE,0,1,1,JU340\n";
 
@@ -75,6 +78,24 @@ fn legal_records_are_drawn(rt: HostRuntime) -> Result<(), Fail> {
     Ok(())
 }
 
+/// Without `--text` it is one whole drawing in SVG, which has the path and the card.
+#[test]
+fn legal_records_are_drawn_in_svg(rt: HostRuntime) -> Result<(), Fail> {
+    let plan = plan_with(rt.alloc(), "\"JU340\"")?;
+    let mut source = Counted::new(FAULTY_RECORD.as_bytes());
+    let mut sink = Counted::new(Vec::new(rt.alloc()));
+    let look = Look::Drawing;
+    let task = Task::Draw { look };
+    let status = run(rt.alloc(), task, plan.as_str(), &mut source, &mut sink)?;
+    check_eq!(rt; status, Status::Fine);
+    let drawing = str::from_utf8(sink.get_ref()).unwrap_or("this is no text");
+    check!(rt; drawing.starts_with("<svg xmlns=\"http://www.w3.org/2000/svg\" "));
+    check!(rt; drawing.ends_with("</g>\n</svg>\n"));
+    check!(rt; drawing.contains(">3052-5-418</text>\n"));
+    check!(rt; drawing.contains(">JU340 is faulty</text>\n"));
+    Ok(())
+}
+
 /// Nothing is drawn of others: what an audit tells is told.
 #[test]
 fn other_texts_are_told(rt: HostRuntime) -> Result<(), Fail> {
@@ -119,12 +140,12 @@ fn devices_of_drawings_fail(rt: HostRuntime) -> Result<(), Fail> {
     for calls in 0..2 {
         let mut source = Counted::new(FailAt::new(calls, FIRST_TEXT.as_bytes()));
         let mut sink = Counted::new(Vec::new(rt.alloc()));
-        let ended = run(rt.alloc(), Task::Draw, plan, &mut source, &mut sink);
+        let ended = run(rt.alloc(), TEXT, plan, &mut source, &mut sink);
         check_eq!(rt; ended, Err(EngineFault::Device), "after {calls} reads");
         check!(rt; sink.get_ref().is_empty());
         let mut source = Counted::new(FIRST_TEXT.as_bytes());
         let mut sink = Counted::new(FailAt::new(calls, Vec::new(rt.alloc())));
-        let ended = run(rt.alloc(), Task::Draw, plan, &mut source, &mut sink);
+        let ended = run(rt.alloc(), TEXT, plan, &mut source, &mut sink);
         check_eq!(rt; ended, Err(EngineFault::Device), "after {calls} writes");
     }
     Ok(())
@@ -138,13 +159,7 @@ fn refused_memory_leaves_no_drawing(rt: HostRuntime) {
     };
     let mut source = Counted::new(FAULTY_RECORD.as_bytes());
     let mut sink = Counted::new(Vec::new(rt.alloc()));
-    match run(
-        rt.alloc(),
-        Task::Draw,
-        plan.as_str(),
-        &mut source,
-        &mut sink,
-    ) {
+    match run(rt.alloc(), TEXT, plan.as_str(), &mut source, &mut sink) {
         Ok(_) => check_eq!(rt; sink.get_ref().as_slice(), FAULTY_DRAWING.as_bytes()),
         // The sink grows too: what went out before it couldn't is a beginning of the drawing.
         Err(EngineFault::Device) => {
