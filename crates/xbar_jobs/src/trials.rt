@@ -1,14 +1,16 @@
 //! Two trials on a trunk group, as far as an attempt has come with them.
 
 ghost use Rattle.std.specs.Prelude.{◌≡◌, ◌<◌, ◌≤◌, length};
+ghost use Rattle.xbar_jobs.specs.Found.{KnowsCall};
 ghost use Rattle.xbar_jobs.specs.Script.{walk};
 ghost use Rattle.xbar_jobs.specs.Trials.{after_first_trial as after_first_script, first_trial_steps, second_trial_at as second_trial_at_script, second_trial_steps, trial_end as trial_end_of, two_trials_steps};
 
+use crate::found::CallFound;
 use crate::kinds::Wanted;
 use crate::party::CallParties;
 use crate::seen::Seen;
 use crate::sides::Sides;
-use crate::trunk::{Reached, Trunk, reach};
+use crate::trunk::{Reached, Trunk, reach_once};
 use crate::trunks::{Trunks, next_clear};
 use xbar_office::{Card, Cards, TrialEnd, Trials};
 use xbar_plan::{Member, Plan};
@@ -32,6 +34,7 @@ fn trial_end(
 #[tactic(auto, using(turns::proofs::Walks::walk_bind, turns::proofs::Walks::walk_end), unfolding(crate::specs::Trials::second_trial_steps))]
 fn second_trial(
     plan: &Plan,
+    found: &mut CallFound,
     seen: &Seen,
     sides: &Sides,
     cards: Cards,
@@ -40,10 +43,12 @@ fn second_trial(
 ) -> Result<Trials, Wanted>
     requires index { index < 40 }
     requires cards { length cards ≤ 1 }
-    ensures { result ≡ walk seen.now
+    requires found { KnowsCall found.old seen.now }
+    ensures walk { result ≡ walk seen.now
         (second_trial_steps plan.now sides.now cards index member.now) }
+    ensures found { KnowsCall found.new seen.now }
 {
-    let trunk = reach(seen, member)?;
+    let trunk = reach_once(&mut found.second, seen, member)?;
     let end = trial_end(plan, sides, 5, trunk.first, trunk.second);
     Ok(Trials::second(cards, index as u8, end))
 }
@@ -51,6 +56,7 @@ fn second_trial(
 #[tactic(auto, unfolding(crate::specs::Trials::second_trial_at))]
 fn second_trial_at(
     plan: &Plan,
+    found: &mut CallFound,
     seen: &Seen,
     sides: &Sides,
     trunks: &Trunks,
@@ -60,17 +66,20 @@ fn second_trial_at(
     requires index { index < length trunks.now.members }
     requires size { length trunks.now.members ≤ 40 }
     requires cards { length cards ≤ 1 }
-    ensures { result ≡ walk seen.now
+    requires found { KnowsCall found.old seen.now }
+    ensures walk { result ≡ walk seen.now
         (second_trial_at_script plan.now sides.now trunks.now cards index) }
+    ensures found { KnowsCall found.new seen.now }
 {
     let member = &trunks.members[index];
-    second_trial(plan, seen, sides, cards, index, member)
+    second_trial(plan, found, seen, sides, cards, index, member)
 }
 
 /// What follows the first trial: its own end, or a second trial by the same line junctor switches.
 #[tactic(auto, using(turns::proofs::Walks::walk_end), unfolding(crate::specs::Trials::after_first_trial))]
 fn after_first_trial(
     plan: &Plan,
+    found: &mut CallFound,
     seen: &Seen,
     sides: &Sides,
     trunks: &Trunks,
@@ -79,7 +88,9 @@ fn after_first_trial(
 ) -> Result<Trials, Wanted>
     requires index { first < length trunks.now.members }
     requires size { length trunks.now.members ≤ 40 }
-    ensures { result ≡ walk seen.now (after_first_script plan.now sides.now trunks.now first end) }
+    requires found { KnowsCall found.old seen.now }
+    ensures walk { result ≡ walk seen.now (after_first_script plan.now sides.now trunks.now first end) }
+    ensures found { KnowsCall found.new seen.now }
 {
     let cards = match end {
         TrialEnd::Chosen(call) => return Ok(Trials::first(first as u8, &call)),
@@ -87,13 +98,14 @@ fn after_first_trial(
         TrialEnd::NoChannel => Cards::new(),
     };
     let next = next_clear(trunks.word, trunks.members.len(), first);
-    second_trial_at(plan, seen, sides, trunks, cards, next)
+    second_trial_at(plan, found, seen, sides, trunks, cards, next)
 }
 
 /// Both trials, the first one on this member.
 #[tactic(auto, using(turns::proofs::Walks::walk_bind), unfolding(crate::specs::Trials::first_trial_steps))]
 fn first_trial(
     plan: &Plan,
+    found: &mut CallFound,
     seen: &Seen,
     parties: &CallParties,
     trunks: &Trunks,
@@ -102,19 +114,22 @@ fn first_trial(
 ) -> Result<Trials, Wanted>
     requires index { first < length trunks.now.members }
     requires size { length trunks.now.members ≤ 40 }
-    ensures { result ≡ walk seen.now
+    requires found { KnowsCall found.old seen.now }
+    ensures walk { result ≡ walk seen.now
         (first_trial_steps plan.now parties.now trunks.now first member.now) }
+    ensures found { KnowsCall found.new seen.now }
 {
-    let trunk = reach(seen, member)?;
-    let sides = Sides::test(seen, parties)?;
+    let trunk = reach_once(&mut found.first, seen, member)?;
+    let sides = Sides::test(found, seen, parties)?;
     let end = trial_end(plan, &sides, 0, trunk.first, trunk.second);
-    after_first_trial(plan, seen, &sides, trunks, first, end)
+    after_first_trial(plan, found, seen, &sides, trunks, first, end)
 }
 
 /// Two trials on the group's members, from one that is idle on.
 #[tactic(auto, unfolding(crate::specs::Trials::two_trials_steps))]
 pub fn two_trials(
     plan: &Plan,
+    found: &mut CallFound,
     seen: &Seen,
     parties: &CallParties,
     trunks: &Trunks,
@@ -122,7 +137,9 @@ pub fn two_trials(
 ) -> Result<Trials, Wanted>
     requires index { first < length trunks.now.members }
     requires size { length trunks.now.members ≤ 40 }
-    ensures { result ≡ walk seen.now (two_trials_steps plan.now parties.now trunks.now first) }
+    requires found { KnowsCall found.old seen.now }
+    ensures walk { result ≡ walk seen.now (two_trials_steps plan.now parties.now trunks.now first) }
+    ensures found { KnowsCall found.new seen.now }
 {
-    first_trial(plan, seen, parties, trunks, first, &trunks.members[first])
+    first_trial(plan, found, seen, parties, trunks, first, &trunks.members[first])
 }
