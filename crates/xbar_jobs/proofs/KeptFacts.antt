@@ -1,5 +1,5 @@
 -- what was found and is kept
-use Rattle.std.proofs.Common.{◌≡◌, ℕ, List, [], refl, sym, ◌∙◌, ap, subst}
+use Rattle.std.proofs.Common.{◌≡◌, ℕ, List, [], length, refl, sym, ◌∙◌, ap, subst}
 use Rattle.std.specs.Option.{option_map_or}
 use Rattle.std.specs.Prelude.{Option, Some, None, Ok, option_map}
 use Rattle.turns.specs.Seen.{changed_readings}
@@ -13,11 +13,10 @@ use Rattle.xbar_equip.specs.Conn.{conn_eq}
 use Rattle.xbar_equip.specs.Len.{Line}
 use Rattle.xbar_equip.specs.declared.conn.Conn.{Conn}
 use Rattle.xbar_equip.specs.declared.path.Path.{Path}
-use Rattle.xbar_plan.specs.declared.group.Member.{Member}
 use Rattle.xbar_jobs.specs.Closing.{leave_effects, value_after}
 use Rattle.xbar_jobs.specs.Found.{IsKept, IsRow, Knows, KnowsCall, seen_after}
 use Rattle.xbar_jobs.specs.Script.{Script, Seen, walk}
-use Rattle.xbar_jobs.specs.Sides.{reach, test_junctors}
+use Rattle.xbar_jobs.specs.Sides.{test_junctors}
 use Rattle.xbar_jobs.specs.Tracing.{approach, trace}
 use Rattle.xbar_jobs.specs.declared.effect.Effect.{Effect}
 use Rattle.xbar_jobs.specs.declared.found.CallFound.{CallFound}
@@ -26,7 +25,6 @@ use Rattle.xbar_jobs.specs.declared.found.Row.{Row}
 use Rattle.xbar_jobs.specs.declared.kept.Kept.{Kept}
 use Rattle.xbar_jobs.specs.declared.leave.Leave.{Leave}
 use Rattle.xbar_jobs.specs.declared.party.Party.{Party}
-use Rattle.xbar_jobs.specs.declared.trunk.Trunk.{Trunk}
 use Rattle.xbar_jobs.proofs.SeenTests.{unchanged_readings}
 
 -- what is kept for what is asked is what the script comes to
@@ -34,9 +32,9 @@ pub kept_found : {Key A : Type 0} (script : Key → Script A) (kept : Option (Ke
 kept_found {Key} {A} script kept key value seen is e = sym (subst (λ (k : Option (Kept Key A)). IsKept script k seen) e is)
 
 -- no line junctor switch is none
-pub row_none : (row : Row) (seen : Seen) → row.words.items ≡ [] → IsRow row seen
+pub row_none : (frame : ℕ) (words : List ℕ) (seen : Seen) → words ≡ [] → walk seen (test_junctors frame 0 (length words)) ≡ Ok words
 unfolding test_junctors
-row_none row seen none = rw none (walk_end conn_eq seen [])
+row_none frame words seen none = rw none (walk_end conn_eq seen [])
 
 -- with more that was come by, what was found is so
 module _ (seen more : Seen) (extends : Extends conn_eq seen more) where
@@ -50,8 +48,6 @@ module _ (seen more : Seen) (extends : Extends conn_eq seen more) where
   pub call_on : (found : CallFound) → KnowsCall found seen → KnowsCall found more
   call_on found knows = record {
     called = kept_on approach found.called knows.called;
-    first = kept_on reach found.first knows.first;
-    second = kept_on reach found.second knows.second;
     calling_row = row_on found.calling_row knows.calling_row;
     called_row = row_on found.called_row knows.called_row;
   }
@@ -90,16 +86,10 @@ with_call found new call leave seen knows is made known = subst (λ (f : Found).
 
 -- with one thing found anew, what was found is so
 pub with_called : (found : CallFound) (kept : Option (Kept Line Party)) (seen : Seen) → KnowsCall found seen → IsKept approach kept seen → KnowsCall (record found { called = kept }) seen
-with_called found kept seen knows is = record { called = is; first = knows.first; second = knows.second; calling_row = knows.calling_row; called_row = knows.called_row }
-
-pub with_first : (found : CallFound) (kept : Option (Kept Member Trunk)) (seen : Seen) → KnowsCall found seen → IsKept reach kept seen → KnowsCall (record found { first = kept }) seen
-with_first found kept seen knows is = record { called = knows.called; first = is; second = knows.second; calling_row = knows.calling_row; called_row = knows.called_row }
-
-pub with_second : (found : CallFound) (kept : Option (Kept Member Trunk)) (seen : Seen) → KnowsCall found seen → IsKept reach kept seen → KnowsCall (record found { second = kept }) seen
-with_second found kept seen knows is = record { called = knows.called; first = knows.first; second = is; calling_row = knows.calling_row; called_row = knows.called_row }
+with_called found kept seen knows is = record { called = is; calling_row = knows.calling_row; called_row = knows.called_row }
 
 pub with_rows : (found : CallFound) (calling called : Row) (seen : Seen) → KnowsCall found seen → IsRow calling seen → IsRow called seen → KnowsCall (record found { calling_row = calling; called_row = called }) seen
-with_rows found calling called seen knows one other = record { called = knows.called; first = knows.first; second = knows.second; calling_row = one; called_row = other }
+with_rows found calling called seen knows one other = record { called = knows.called; calling_row = one; called_row = other }
 
 pub with_calling : (found : Found) (kept : Option (Kept Line Party)) (seen : Seen) → Knows found seen → IsKept approach kept seen → Knows (record found { calling = kept }) seen
 with_calling found kept seen knows is = record { calling = is; own = knows.own; call = knows.call }

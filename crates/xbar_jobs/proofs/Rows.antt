@@ -1,14 +1,12 @@
 -- the line junctor switches of a frame, tested one after another
 use Rattle.std.proofs.Common.{◌≡◌, ℕ, zero, suc, ◌+◌, ◌<◌, List, [], ◌∷◌, ◌++◌, length, length-append, refl, sym, ◌∙◌, ap, subst, arith}
 use Rattle.std.specs.Prelude.{Result, Ok, Err}
-use Rattle.turns.specs.Script.{Ends, ◌>>=◌}
+use Rattle.turns.specs.Script.{Ends, TestThen, ◌>>=◌}
 use Rattle.turns.proofs.Walks.{then_walk, walk_bind, walk_end, walk_goes_on, walk_stops}
 use Rattle.xbar_equip.specs.Conn.{conn_eq}
-use Rattle.xbar_equip.specs.Word.{LineJunctor}
-use Rattle.xbar_jobs.specs.Found.{IsRow}
+use Rattle.xbar_equip.specs.Word.{LineJunctor, word_number}
 use Rattle.xbar_jobs.specs.Script.{Script, Seen, Wanted, test, walk}
 use Rattle.xbar_jobs.specs.Sides.{test_junctors}
-use Rattle.xbar_jobs.specs.declared.found.Row.{Row}
 
 -- a walk that comes to an end has come to one in its first part
 record Before {A B : Type 0} (seen : Seen) (script : Script A) (next : A → Script B) (end : B) : Type 0 where
@@ -62,22 +60,16 @@ module _ (seen : Seen) (frame : ℕ) where
       walk_goes_on conn_eq seen (test (LineJunctor frame channel)) (row_rest frame channel total) head.found head.first
       ∙ walk_stops conn_eq seen (test_junctors frame (channel + 1) total) (λ ws. Ends (head.found ∷ ws)) wanted later
 
--- a row with one switch more
-pub row_next : (row new : Row) (word : ℕ) (seen : Seen) → IsRow row seen → walk seen (test (LineJunctor row.frame (length row.words.items))) ≡ Ok word → new.frame ≡ row.frame → new.words.items ≡ row.words.items ++ word ∷ [] → IsRow new seen
-row_next row new word seen is one frame more =
-    let size : length new.words.items ≡ suc (length row.words.items) = ap (length {A = ℕ}) more ∙ length-append row.words.items (word ∷ []) ∙ omega arith in
-    let same : length row.words.items ≡ zero + length row.words.items = omega arith in
-    let all = row_more seen row.frame zero (length row.words.items) row.words.items word is (subst (λ (k : ℕ). walk seen (test (LineJunctor row.frame k)) ≡ Ok word) same one) in
-    subst (λ (f : ℕ). walk seen (test_junctors f zero (length new.words.items)) ≡ Ok new.words.items) (sym frame)
-    (subst (λ (n : ℕ). walk seen (test_junctors row.frame zero n) ≡ Ok new.words.items) (sym size)
-    (all ∙ ap Ok (sym more)))
+module _ (seen : Seen) (frame channel : ℕ) (words : List ℕ) (number : ℕ) (is : walk seen (test_junctors frame 0 (length words)) ≡ Ok words) (size : length words ≡ channel) (named : number ≡ word_number (LineJunctor frame channel)) where
+  here : {r : Result ℕ Wanted} → walk seen (TestThen number Ends) ≡ r → walk seen (test (LineJunctor frame (0 + length words))) ≡ r
+  here {r} one = subst (λ (n : ℕ). walk seen (TestThen n Ends) ≡ r) (named ∙ ap (λ (k : ℕ). word_number (LineJunctor frame k)) (omega (arith, size))) one
 
--- the ten are wanted from the first one on that was not tested
-pub row_wants : (row : Row) (seen : Seen) (wanted : Wanted) → IsRow row seen → length row.words.items < 10 → walk seen (test (LineJunctor row.frame (length row.words.items))) ≡ Err wanted → walk seen (test_junctors row.frame 0 10) ≡ Err wanted
-row_wants row seen wanted is below one =
-    let same : length row.words.items ≡ zero + length row.words.items = omega arith in
-    row_stops seen row.frame zero (length row.words.items) 10 row.words.items wanted below is (subst (λ (k : ℕ). walk seen (test (LineJunctor row.frame k)) ≡ Err wanted) same one)
+  -- a row with one switch more
+  pub row_next : (word : ℕ) (more : List ℕ) → walk seen (TestThen number Ends) ≡ Ok word → more ≡ words ++ word ∷ [] → walk seen (test_junctors frame 0 (length more)) ≡ Ok more
+  row_next word more one made =
+      let length_more : length more ≡ suc (length words) = ap (length {A = ℕ}) made ∙ length-append words (word ∷ []) ∙ omega arith in
+      subst (λ (n : ℕ). walk seen (test_junctors frame 0 n) ≡ Ok more) (sym length_more) (row_more seen frame 0 (length words) words word is (here one) ∙ ap Ok (sym made))
 
--- and with ten they are all
-pub row_full : (row : Row) (seen : Seen) → IsRow row seen → length row.words.items ≡ 10 → walk seen (test_junctors row.frame 0 10) ≡ Ok row.words.items
-row_full row seen is all = subst (λ (n : ℕ). walk seen (test_junctors row.frame 0 n) ≡ Ok row.words.items) all is
+  -- the ten are wanted from the first one on that was not tested
+  pub row_wants : (wanted : Wanted) → channel < 10 → walk seen (TestThen number Ends) ≡ Err wanted → walk seen (test_junctors frame 0 10) ≡ Err wanted
+  row_wants wanted below one = row_stops seen frame 0 (length words) 10 words wanted (subst (λ (n : ℕ). n < 10) (sym size) below) is (here one)

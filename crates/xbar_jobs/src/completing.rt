@@ -143,7 +143,7 @@ fn call_without(
     ensures knows { Knows found.new gathered.now }
 {
     Seen::new(gathered).require_held(Conn::Group(leave.group))?;
-    found.let_go(gathered, &Some(leave));
+    found.let_go(&Some(leave));
     let mut effects = Effects::new();
     leave.add_effects(&mut effects);
     let effects = effects.as_slice();

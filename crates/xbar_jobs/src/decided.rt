@@ -62,5 +62,7 @@ impl Decided {
     /// Its effects are the office's. Called for its clause alone.
     pub fn is_of_the_office(&self)
         ensures { AreEffects (effects_of self.now) }
-    {}
+    {
+        let _ = &self.decision;
+    }
 }

@@ -35,7 +35,7 @@ fn serve_idle_line(
     xbar_plan::laws::one_group_has_registers();
     let parties = CallParties::alone(calling);
     let groups = [plan.register_group()];
-    found.let_go(gathered, &None);
+    found.let_go(&None);
     let seen = Seen::new(gathered);
     connect(plan, &mut found.call, &seen, Aim::DialTone, &parties, &groups)
 }

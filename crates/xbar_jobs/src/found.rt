@@ -1,8 +1,8 @@
 //! What walks through a job have found so far, for the next ones to go on with.
 
-ghost use Rattle.std.specs.Prelude.{◌≡◌, Some, true};
-ghost use Rattle.xbar_jobs.specs.Found.{IsRow, Knows, KnowsCall, seen_after};
-ghost use Rattle.xbar_jobs.specs.Script.{Seen, walk};
+ghost use Rattle.std.specs.Prelude.{◌≡◌};
+ghost use Rattle.xbar_jobs.specs.Found.{IsRow, Knows, KnowsCall};
+ghost use Rattle.xbar_jobs.specs.Script.{Seen as SeenBy, walk};
 ghost use Rattle.xbar_jobs.specs.Tracing.{approach, trace};
 
 use crate::kept::Kept;
@@ -11,10 +11,8 @@ use crate::leave::Leave;
 use crate::party::Party;
 use crate::seen::Seen;
 use crate::tracing::{approach_once, trace_once};
-use crate::trunk::Trunk;
 use arrayvec::ArrayVec;
 use xbar_equip::{Len, Path};
-use xbar_plan::Member;
 
 /// What the line junctor switches of a frame were, as far as they were tested, from the first on.
 #[derive(Debug, Drop)]
@@ -27,7 +25,7 @@ impl Row {
     /// Nothing was tested.
     #[tactic(auto, using(crate::proofs::KeptFacts::row_none))]
     pub fn new() -> Self
-        ensures { (seen : Seen) → IsRow result seen }
+        ensures { (seen : SeenBy) → IsRow result seen }
     {
         Row {
             frame: 0,
@@ -36,13 +34,10 @@ impl Row {
     }
 }
 
-/// What was found for a call: the line that was hunted last, the members on trial, and the parties'
-/// line junctor switches.
+/// What was found for a call: the line that was hunted last, and the parties' line junctor switches.
 #[derive(Debug, Drop)]
 pub struct CallFound {
     pub called: Option<Kept<Len, Party>>,
-    pub first: Option<Kept<Member, Trunk>>,
-    pub second: Option<Kept<Member, Trunk>>,
     pub calling_row: Row,
     pub called_row: Row,
 }
@@ -50,12 +45,10 @@ pub struct CallFound {
 impl CallFound {
     /// Nothing was found.
     pub fn new() -> Self
-        ensures { (seen : Seen) → KnowsCall result seen }
+        ensures { (seen : SeenBy) → KnowsCall result seen }
     {
         CallFound {
             called: None,
-            first: None,
-            second: None,
             calling_row: Row::new(),
             called_row: Row::new(),
         }
@@ -72,41 +65,10 @@ pub struct Found {
     pub call: CallFound,
 }
 
-fn is_same_path(one: &Path, other: &Path) -> bool
-    ensures { result ≡ true → one.now ≡ other.now }
-{
-    // Called for its clauses alone.
-    xbar_equip::laws::equality_tests_are_equality();
-    one.line == other.line && one.channel == other.channel && one.place == other.place
-}
-
-/// Whether two are surely one, which have no other path.
-fn is_same_leave(one: &Leave, other: &Leave) -> bool
-    ensures { result ≡ true → one.now ≡ other.now }
-{
-    one.group == other.group
-        && one.index == other.index
-        && one.other.is_none()
-        && other.other.is_none()
-        && is_same_path(&one.own, &other.own)
-}
-
-fn is_same(one: &Option<Leave>, other: &Option<Leave>) -> bool
-    ensures { result ≡ true → one.now ≡ other.now }
-{
-    match one {
-        None => other.is_none(),
-        Some(one) => match other {
-            None => false,
-            Some(other) => is_same_leave(one, other),
-        },
-    }
-}
-
 impl Found {
     /// Nothing was found.
     pub fn new() -> Self
-        ensures { (seen : Seen) → Knows result seen }
+        ensures { (seen : SeenBy) → Knows result seen }
     {
         Found {
             calling: None,
@@ -117,12 +79,11 @@ impl Found {
     }
 
     /// What was found for a call counts on words as they will be once this is let go.
-    pub fn let_go(&mut self, _gathered: &Gathered, leave: &Option<Leave>)
-        requires { Knows self.old _gathered.now }
+    pub fn let_go(&mut self, leave: &Option<Leave>)
         ensures leave { self.new.leave ≡ leave.now }
-        ensures knows { Knows self.new _gathered.now }
+        ensures knows { (seen : SeenBy) → Knows self.old seen → Knows self.new seen }
     {
-        if !is_same(&self.leave, leave) {
+        if self.leave != *leave {
             self.leave = *leave;
             self.call = CallFound::new();
         }

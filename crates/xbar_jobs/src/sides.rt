@@ -3,7 +3,7 @@
 ghost use Rattle.std.specs.Prelude.{◌≡◌, ◌<◌, Err, IfErr, IfOk, length, option_map};
 ghost use Rattle.xbar_jobs.specs.Found.{IsRow, KnowsCall};
 ghost use Rattle.xbar_jobs.specs.Keeping.{AreEffects};
-ghost use Rattle.xbar_jobs.specs.Script.{walk};
+ghost use Rattle.xbar_jobs.specs.Script.{Seen as SeenBy, walk};
 ghost use Rattle.xbar_jobs.specs.Sides.{join as join_of, join_called as join_called_of, junctors_after as junctors_after_of, open_path as open_path_of, test_called as test_called_script, test_junctors as junctors_script, test_side as test_side_script, test_sides as test_sides_script};
 
 use crate::effect::Effect;
@@ -50,10 +50,9 @@ impl Model for Sides {
 
 /// A row of this frame, which keeps what it has if it is one.
 #[tactic(auto, using(crate::proofs::KeptFacts::row_none))]
-fn begin_row(row: &mut Row, _seen: &Seen, frame: u8)
-    requires { IsRow row.old _seen.now }
+fn begin_row(row: &mut Row, frame: u8)
     ensures frame { row.new.frame ≡ frame }
-    ensures row { IsRow row.new _seen.now }
+    ensures row { (seen : SeenBy) → IsRow row.old seen → IsRow row.new seen }
 {
     if row.frame != frame {
         row.frame = frame;
@@ -85,7 +84,7 @@ fn test_junctors(row: &mut Row, seen: &Seen, frame: u8) -> Result<[u64; 10], Wan
     ensures walk { result ≡ walk seen.now (junctors_script frame 0 10) }
     ensures row { IsRow row.new seen.now }
 {
-    begin_row(row, seen, frame);
+    begin_row(row, frame);
     go_on_row(row, seen)?;
     let mut words = [0; 10];
     words.copy_from_slice(row.words.as_slice());

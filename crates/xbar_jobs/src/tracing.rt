@@ -1,6 +1,6 @@
 //! Paths, traced from switch to switch as far as an attempt has come with them.
 
-ghost use Rattle.std.specs.Prelude.{◌≡◌, ◌<◌, IfSome, Some};
+ghost use Rattle.std.specs.Prelude.{◌≡◌, ◌<◌, IfSome};
 ghost use Rattle.xbar_jobs.specs.Found.{IsKept};
 ghost use Rattle.xbar_jobs.specs.Script.{walk};
 ghost use Rattle.xbar_jobs.specs.Tracing.{approach as approach_script, trace as trace_script, trace_at as trace_at_script, trace_to as trace_to_script, trace_by as trace_by_script, trace_back as trace_back_script, trace_back_at as trace_back_at_script, trace_back_to as trace_back_to_script, trace_back_by as trace_back_by_script};
@@ -24,24 +24,6 @@ fn approach(seen: &Seen, line: Len) -> Result<Party, Wanted>
     Ok(Party { line, word })
 }
 
-fn known_party(kept: &Option<Kept<Len, Party>>, line: Len) -> Option<Party>
-    ensures { IfSome result
-        (λ party. kept.now ≡ Some (record { key = line; value = party })) }
-{
-    // Called for its clauses alone.
-    xbar_equip::laws::equality_tests_are_equality();
-    match kept {
-        None => None,
-        Some(kept) => {
-            if kept.key == line {
-                Some(kept.value)
-            } else {
-                None
-            }
-        }
-    }
-}
-
 /// Approaches a line, unless that is what is kept.
 pub fn approach_once(
     kept: &mut Option<Kept<Len, Party>>,
@@ -52,7 +34,7 @@ pub fn approach_once(
     ensures walk { result ≡ walk seen.now (approach_script line) }
     ensures kept { IsKept approach_script kept.new seen.now }
 {
-    match known_party(kept, line) {
+    match Kept::value_for(kept, &line) {
         Some(party) => Ok(party),
         None => {
             let party = &approach(seen, line)?;
@@ -127,27 +109,6 @@ fn trace(seen: &Seen, party: &Party) -> Result<Option<Path>, Wanted>
     trace_by(seen, party.line, party.channel())
 }
 
-fn known_path(
-    kept: &Option<Kept<Party, Option<Path>>>,
-    party: &Party,
-) -> Option<Option<Path>>
-    ensures { IfSome result
-        (λ path. kept.now ≡ Some (record { key = party.now; value = path })) }
-{
-    // Called for its clauses alone.
-    xbar_equip::laws::equality_tests_are_equality();
-    match kept {
-        None => None,
-        Some(kept) => {
-            if kept.key.line == party.line && kept.key.word == party.word {
-                Some(kept.value)
-            } else {
-                None
-            }
-        }
-    }
-}
-
 /// Traces a line's path, unless that is what is kept.
 pub fn trace_once(
     kept: &mut Option<Kept<Party, Option<Path>>>,
@@ -158,7 +119,7 @@ pub fn trace_once(
     ensures walk { result ≡ walk seen.now (trace_script party.now) }
     ensures kept { IsKept trace_script kept.new seen.now }
 {
-    match known_path(kept, party) {
+    match Kept::value_for(kept, party) {
         Some(path) => Ok(path),
         None => {
             let path = &trace(seen, party)?;

@@ -10,7 +10,7 @@ use crate::kinds::Wanted;
 use crate::party::CallParties;
 use crate::seen::Seen;
 use crate::sides::Sides;
-use crate::trunk::{Reached, Trunk, reach_once};
+use crate::trunk::{Reached, Trunk, reach};
 use crate::trunks::{Trunks, next_clear};
 use xbar_office::{Card, Cards, TrialEnd, Trials};
 use xbar_plan::{Member, Plan};
@@ -34,7 +34,6 @@ fn trial_end(
 #[tactic(auto, using(turns::proofs::Walks::walk_bind, turns::proofs::Walks::walk_end), unfolding(crate::specs::Trials::second_trial_steps))]
 fn second_trial(
     plan: &Plan,
-    found: &mut CallFound,
     seen: &Seen,
     sides: &Sides,
     cards: Cards,
@@ -43,12 +42,10 @@ fn second_trial(
 ) -> Result<Trials, Wanted>
     requires index { index < 40 }
     requires cards { length cards ≤ 1 }
-    requires found { KnowsCall found.old seen.now }
-    ensures walk { result ≡ walk seen.now
+    ensures { result ≡ walk seen.now
         (second_trial_steps plan.now sides.now cards index member.now) }
-    ensures found { KnowsCall found.new seen.now }
 {
-    let trunk = reach_once(&mut found.second, seen, member)?;
+    let trunk = reach(seen, member)?;
     let end = trial_end(plan, sides, 5, trunk.first, trunk.second);
     Ok(Trials::second(cards, index as u8, end))
 }
@@ -56,7 +53,6 @@ fn second_trial(
 #[tactic(auto, unfolding(crate::specs::Trials::second_trial_at))]
 fn second_trial_at(
     plan: &Plan,
-    found: &mut CallFound,
     seen: &Seen,
     sides: &Sides,
     trunks: &Trunks,
@@ -66,20 +62,17 @@ fn second_trial_at(
     requires index { index < length trunks.now.members }
     requires size { length trunks.now.members ≤ 40 }
     requires cards { length cards ≤ 1 }
-    requires found { KnowsCall found.old seen.now }
-    ensures walk { result ≡ walk seen.now
+    ensures { result ≡ walk seen.now
         (second_trial_at_script plan.now sides.now trunks.now cards index) }
-    ensures found { KnowsCall found.new seen.now }
 {
     let member = &trunks.members[index];
-    second_trial(plan, found, seen, sides, cards, index, member)
+    second_trial(plan, seen, sides, cards, index, member)
 }
 
 /// What follows the first trial: its own end, or a second trial by the same line junctor switches.
 #[tactic(auto, using(turns::proofs::Walks::walk_end), unfolding(crate::specs::Trials::after_first_trial))]
 fn after_first_trial(
     plan: &Plan,
-    found: &mut CallFound,
     seen: &Seen,
     sides: &Sides,
     trunks: &Trunks,
@@ -88,9 +81,7 @@ fn after_first_trial(
 ) -> Result<Trials, Wanted>
     requires index { first < length trunks.now.members }
     requires size { length trunks.now.members ≤ 40 }
-    requires found { KnowsCall found.old seen.now }
-    ensures walk { result ≡ walk seen.now (after_first_script plan.now sides.now trunks.now first end) }
-    ensures found { KnowsCall found.new seen.now }
+    ensures { result ≡ walk seen.now (after_first_script plan.now sides.now trunks.now first end) }
 {
     let cards = match end {
         TrialEnd::Chosen(call) => return Ok(Trials::first(first as u8, &call)),
@@ -98,7 +89,7 @@ fn after_first_trial(
         TrialEnd::NoChannel => Cards::new(),
     };
     let next = next_clear(trunks.word, trunks.members.len(), first);
-    second_trial_at(plan, found, seen, sides, trunks, cards, next)
+    second_trial_at(plan, seen, sides, trunks, cards, next)
 }
 
 /// Both trials, the first one on this member.
@@ -119,10 +110,10 @@ fn first_trial(
         (first_trial_steps plan.now parties.now trunks.now first member.now) }
     ensures found { KnowsCall found.new seen.now }
 {
-    let trunk = reach_once(&mut found.first, seen, member)?;
+    let trunk = reach(seen, member)?;
     let sides = Sides::test(found, seen, parties)?;
     let end = trial_end(plan, &sides, 0, trunk.first, trunk.second);
-    after_first_trial(plan, found, seen, &sides, trunks, first, end)
+    after_first_trial(plan, seen, &sides, trunks, first, end)
 }
 
 /// Two trials on the group's members, from one that is idle on.

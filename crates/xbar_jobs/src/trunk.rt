@@ -1,12 +1,10 @@
-ghost use Rattle.std.specs.Prelude.{◌≡◌, IfSome, Some, true};
+ghost use Rattle.std.specs.Prelude.{◌≡◌};
 ghost use Rattle.xbar_jobs.specs.Keeping.{AreEffects};
-ghost use Rattle.xbar_jobs.specs.Found.{IsKept};
 ghost use Rattle.xbar_jobs.specs.Script.{walk};
 ghost use Rattle.xbar_jobs.specs.Sides.{reach as reach_script, test_place as test_place_script, test_second as test_second_script};
 
 use crate::effect::Effect;
 use crate::effects::made;
-use crate::kept::Kept;
 use crate::kinds::Wanted;
 use crate::seen::Seen;
 use xbar_equip::{Conn, Ten, trunk_switch};
@@ -63,66 +61,11 @@ fn test_second(seen: &Seen, place: Option<Ten>) -> Result<Option<Reached>, Wante
 
 /// Reaches a member: its trunk link frame is seized, and the trunk switches of its places are tested.
 #[tactic(auto, using(turns::proofs::Walks::walk_bind, turns::proofs::Walks::walk_end), unfolding(crate::specs::Sides::reach))]
-fn reach(seen: &Seen, member: &Member) -> Result<Trunk, Wanted>
+pub fn reach(seen: &Seen, member: &Member) -> Result<Trunk, Wanted>
     ensures { result ≡ walk seen.now (reach_script member.now) }
 {
     seen.require_held(Conn::Tlf(member.first.frame()))?;
     let first = test_place(seen, member.first)?;
     let second = test_second(seen, member.second)?;
     Ok(Trunk { first, second })
-}
-
-fn is_same_place(one: Option<Ten>, other: Option<Ten>) -> bool
-    ensures { result ≡ true → one ≡ other }
-{
-    // Called for its clauses alone.
-    xbar_equip::laws::equality_tests_are_equality();
-    match one {
-        None => other.is_none(),
-        Some(one) => match other {
-            None => false,
-            Some(other) => one == other,
-        },
-    }
-}
-
-fn known_trunk(kept: &Option<Kept<Member, Trunk>>, member: &Member) -> Option<Trunk>
-    ensures { IfSome result
-        (λ trunk. kept.now ≡ Some (record { key = member.now; value = trunk })) }
-{
-    match kept {
-        None => None,
-        Some(kept) => {
-            if is_same_place(Some(kept.key.first), Some(member.first))
-                && is_same_place(kept.key.second, member.second)
-            {
-                Some(kept.value)
-            } else {
-                None
-            }
-        }
-    }
-}
-
-/// Reaches a member, unless that is what is kept.
-pub fn reach_once(
-    kept: &mut Option<Kept<Member, Trunk>>,
-    seen: &Seen,
-    member: &Member,
-) -> Result<Trunk, Wanted>
-    requires { IsKept reach_script kept.old seen.now }
-    ensures walk { result ≡ walk seen.now (reach_script member.now) }
-    ensures kept { IsKept reach_script kept.new seen.now }
-{
-    match known_trunk(kept, member) {
-        Some(trunk) => Ok(trunk),
-        None => {
-            let trunk = &reach(seen, member)?;
-            *kept = Some(Kept {
-                key: *member,
-                value: *trunk,
-            });
-            Ok(*trunk)
-        }
-    }
 }
