@@ -27,10 +27,6 @@ use Rattle.xbar_jobs.specs.declared.leave.Leave.{Leave}
 use Rattle.xbar_jobs.specs.declared.party.Party.{Party}
 use Rattle.xbar_jobs.proofs.SeenTests.{unchanged_readings}
 
--- what is kept for what is asked is what the script comes to
-pub kept_found : {Key A : Type 0} (script : Key → Script A) (kept : Option (Kept Key A)) (key : Key) (value : A) (seen : Seen) → IsKept script kept seen → kept ≡ Some (record { key = key; value = value }) → Ok value ≡ walk seen (script key)
-kept_found {Key} {A} script kept key value seen is e = sym (subst (λ (k : Option (Kept Key A)). IsKept script k seen) e is)
-
 -- no line junctor switch is none
 pub row_none : (frame : ℕ) (words : List ℕ) (seen : Seen) → words ≡ [] → walk seen (test_junctors frame 0 (length words)) ≡ Ok words
 unfolding test_junctors
@@ -70,33 +66,5 @@ abbrev seen_with : List Conn → List (Reading ℕ) → Seen
 seen_with held readings = record { held = held; readings = readings }
 
 -- where nothing is let go, words are seen as they are
-pub plain : (seen : Seen) → seen_after None seen ≡ seen
-plain seen = ap (seen_with seen.held) (unchanged_readings seen.readings)
-
--- the call of a job, and what it has found with its call
-pub call_known : (found : Found) (leave : Option Leave) (seen : Seen) → Knows found seen → found.leave ≡ leave → KnowsCall found.call (seen_after leave seen)
-call_known found leave seen knows is = subst (λ (l : Option Leave). KnowsCall found.call (seen_after l seen)) is knows.call
-
-pub with_call : (found new : Found) (call : CallFound) (leave : Option Leave) (seen : Seen) → Knows found seen → found.leave ≡ leave → new ≡ record found { call = call } → KnowsCall call (seen_after leave seen) → Knows new seen
-with_call found new call leave seen knows is made known = subst (λ (f : Found). Knows f seen) (sym made) (record {
-  calling = knows.calling;
-  own = knows.own;
-  call = subst (λ (l : Option Leave). KnowsCall call (seen_after l seen)) (sym is) known;
-})
-
--- with one thing found anew, what was found is so
-pub with_called : (found : CallFound) (kept : Option (Kept Line Party)) (seen : Seen) → KnowsCall found seen → IsKept approach kept seen → KnowsCall (record found { called = kept }) seen
-with_called found kept seen knows is = record { called = is; calling_row = knows.calling_row; called_row = knows.called_row }
-
-pub with_rows : (found : CallFound) (calling called : Row) (seen : Seen) → KnowsCall found seen → IsRow calling seen → IsRow called seen → KnowsCall (record found { calling_row = calling; called_row = called }) seen
-with_rows found calling called seen knows one other = record { called = knows.called; calling_row = one; called_row = other }
-
-pub with_calling : (found : Found) (kept : Option (Kept Line Party)) (seen : Seen) → Knows found seen → IsKept approach kept seen → Knows (record found { calling = kept }) seen
-with_calling found kept seen knows is = record { calling = is; own = knows.own; call = knows.call }
-
-pub with_own : (found : Found) (kept : Option (Kept Party (Option Path))) (seen : Seen) → Knows found seen → IsKept trace kept seen → Knows (record found { own = kept }) seen
-with_own found kept seen knows is = record { calling = knows.calling; own = is; call = knows.call }
-
--- words as they will be once this is let go, by the effects of that
-pub later_is : (leave : Leave) (effects : List Effect) (gathered later : Seen) → effects ≡ leave_effects leave → later ≡ record { held = gathered.held; readings = changed_readings (value_after effects) gathered.readings } → later ≡ seen_after (Some leave) gathered
-later_is leave effects gathered later are is = is ∙ ap (λ (made : List Effect). seen_with gathered.held (changed_readings (value_after made) gathered.readings)) are
+pub plain : (leave : Option Leave) (gathered seen : Seen) → leave ≡ None → seen ≡ gathered → seen_after leave gathered ≡ seen
+plain leave gathered seen none is = ap (λ (l : Option Leave). seen_after l gathered) none ∙ ap (seen_with gathered.held) (unchanged_readings gathered.readings) ∙ sym is

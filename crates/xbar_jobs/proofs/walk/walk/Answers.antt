@@ -1,6 +1,8 @@
-use Rattle.std.proofs.Common.{Ok, sym, subst, ◌∙◌}
+use Rattle.std.proofs.Common.{sym, ◌∙◌}
 use Rattle.xbar_jobs.proofs.Covered.{decision_range}
 use Rattle.xbar_jobs.proofs.walk.walk.Goals as goal
 
 pub new-requires : goal.new-requires
-new-requires c = decision_range c.args.plan.now c.args.gathered.now c.args.job.now c.in-Ok.decision c.every_plan_is_lawful.ensures c.requires.job c.requires.read (sym c.in-Ok.is ∙ c.follow.ensures.walk)
+new-requires c =
+    let range = decision_range c.args.plan.now c.args.gathered.now c.args.job.now c.in-Ok.decision c.every_plan_is_lawful.ensures c.requires.job c.requires.read (sym c.in-Ok.is ∙ c.follow.ensures.walk) in
+    record { effects = range.0; few = range.1 }

@@ -7,14 +7,14 @@ use Rattle.xbar_jobs.proofs.AttemptStands.{stands_again}
 use Rattle.xbar_jobs.proofs.Programs.{attempt_restarted, count_is, no_plan, restarted_here}
 use Rattle.xbar_jobs.proofs.program.Program.restart.Goals as goal
 
-pub step_of-requires : goal.step_of-requires
-step_of-requires c = attempt_restarted no_plan (attempt_at c.self.inside.attempt) (attempt_at c.restart.new.program) c.self.invariant.attempt (restarted_here no_plan (attempt_at c.self.inside.attempt) (attempt_at c.restart.new.program) (c.restart.ensures.restarts no_plan))
+pub step_of-self-inside-requires : goal.step_of-self-inside-requires
+step_of-self-inside-requires c = attempt_restarted no_plan (attempt_at c.self.inside.attempt) (attempt_at c.restart.new.program) c.self.invariant.attempt (restarted_here no_plan (attempt_at c.self.inside.attempt) (attempt_at c.restart.new.program) (c.restart.ensures.restarts no_plan))
 
 pub invariant_of-self : goal.invariant_of-self
 invariant_of-self c = record {
   attempt = attempt_restarted no_plan (attempt_at c.self.inside.attempt) (attempt_at c.restart.new.program) c.self.invariant.attempt (restarted_here no_plan (attempt_at c.self.inside.attempt) (attempt_at c.restart.new.program) (c.restart.ensures.restarts no_plan));
-  step = c.step_of.ensures.step;
-  range = c.step_of.ensures.range;
+  step = c.step_of-self-inside.ensures.step;
+  range = c.step_of-self-inside.ensures.range;
   knows = c.restart.ensures.point no_plan c.self.invariant.knows;
 }
 

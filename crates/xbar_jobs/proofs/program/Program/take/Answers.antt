@@ -9,20 +9,20 @@ use Rattle.xbar_jobs.proofs.JobTurns.{turn_does}
 use Rattle.xbar_jobs.proofs.Programs.{changed_here, count_is, is_attempt, program_told, scripts_are, stands_here, told_stands}
 use Rattle.xbar_jobs.proofs.program.Program.take.Goals as goal
 
-pub take-requires-clause-scripts : goal.take-requires-clause-scripts
-take-requires-clause-scripts c = scripts_are c.args.plan.now c.every_plan_is_lawful.ensures
-
-pub take-requires-clause-stands : goal.take-requires-clause-stands
-take-requires-clause-stands c =
+pub take-requires : goal.take-requires
+take-requires c =
     let plan = c.args.plan.now in
     let laws = c.every_plan_is_lawful.ensures in
     let same = ap (λ (p : Counted). p.attempt) (sym c.self.view_is) in
     let stands = subst (λ (a : Attempt). Stands plan a) same c.requires.plan in
-    let fits = subst (λ (a : Attempt). IsAnswerTo (act a) c.args.answer) same c.requires.answer in
-    stands_here plan c.self.inside.attempt stands c.self.invariant.knows
+    record {
+      setting = laws;
+      scripts = scripts_are plan laws;
+      stands = stands_here plan c.self.inside.attempt stands c.self.invariant.knows;
+    }
 
-pub step_of-requires : goal.step_of-requires
-step_of-requires c =
+pub step_of-self-inside-requires : goal.step_of-self-inside-requires
+step_of-self-inside-requires c =
     let plan = c.args.plan.now in
     let laws = c.every_plan_is_lawful.ensures in
     let same = ap (λ (p : Counted). p.attempt) (sym c.self.view_is) in
@@ -37,7 +37,7 @@ invariant_of-self c =
     let same = ap (λ (p : Counted). p.attempt) (sym c.self.view_is) in
     let stands = subst (λ (a : Attempt). Stands plan a) same c.requires.plan in
     let fits = subst (λ (a : Attempt). IsAnswerTo (act a) c.args.answer) same c.requires.answer in
-    program_told plan laws c.take.new.program c.step_of.result (told_stands plan laws c.self.inside.attempt c.take.new.program c.args.answer c.self.invariant.attempt.job fits stands c.take.ensures.change) c.effects_are.ensures c.step_of.ensures.step c.step_of.ensures.range c.take.ensures.stands.point
+    program_told plan laws c.take.new.program c.step_of-self-inside.result (told_stands plan laws c.self.inside.attempt c.take.new.program c.args.answer c.self.invariant.attempt.job fits stands c.take.ensures.change) c.effects_are.ensures c.step_of-self-inside.ensures.step c.step_of-self-inside.ensures.range c.take.ensures.stands.point
 
 pub returns-clause-change : goal.returns-clause-change
 returns-clause-change c =
