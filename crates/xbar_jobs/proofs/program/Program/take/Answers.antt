@@ -1,4 +1,4 @@
-use Rattle.std.proofs.Common.{ap, subst, sym, ◌∙◌}
+use Rattle.std.proofs.Common.{arith, ap, subst, sym, ◌∙◌}
 use Rattle.turns.specs.Attempt.{IsAnswerTo, act, change}
 use Rattle.xbar_jobs.specs.Attempt.{Attempt, Counted, counted}
 use Rattle.xbar_jobs.specs.Counting.{after_answer}
@@ -15,11 +15,7 @@ take-requires c =
     let laws = c.every_plan_is_lawful.ensures in
     let same = ap (λ (p : Counted). p.attempt) (sym c.self.view_is) in
     let stands = subst (λ (a : Attempt). Stands plan a) same c.requires.plan in
-    record {
-      setting = laws;
-      scripts = scripts_are plan laws;
-      stands = stands_here plan c.self.inside.attempt stands c.self.invariant.knows;
-    }
+    (omega arith, (laws, (scripts_are plan laws, stands_here plan c.self.inside.attempt stands c.self.invariant.knows)))
 
 pub step_of-self-inside-requires : goal.step_of-self-inside-requires
 step_of-self-inside-requires c =
