@@ -5,6 +5,7 @@ use Rattle.turns.specs.Among.{IsIn}
 use Rattle.turns.specs.Attempt.{IsAnswerTo, Rest, Ask, Take, Leave, Free, Look, Turn, Make, StandsIn, act, act_in, begin, begin_with, change, closing_act, forgotten, free_act, freed, restarted, restarted_in}
 use Rattle.turns.specs.System.{DecidesUnder}
 use Rattle.turns.specs.declared.answer.Answer.{Answer}
+use Rattle.turns.specs.declared.answer.Answer.TheVariants.{Turn as Turned}
 use Rattle.turns.specs.declared.phase.Phase.TheVariants.{Requests, Seizes, Tests, Turns, Withdraws, GivesBack, Operates}
 use Rattle.turns.proofs.Keeping.{WalkFits}
 use Rattle.turns.proofs.Standing.{come_fits, wanted_lock}
@@ -29,7 +30,7 @@ use Rattle.xbar_jobs.specs.Keeping.{AreEffects}
 use Rattle.xbar_jobs.specs.Office.{office, office_over}
 use Rattle.xbar_jobs.specs.Script.{Seen}
 use Rattle.xbar_jobs.specs.Standing.{AreConns, Doing, HasReplyIn, IsAttempt, IsPhase, IsProgram, Stands, attempt_at, reply_of, most_readings, most_seizings}
-use Rattle.xbar_jobs.specs.Turning.{IsAct, IsStep}
+use Rattle.xbar_jobs.specs.Turning.{DoesAsOffice, IsAct, IsStep}
 use Rattle.xbar_jobs.specs.declared.decision.Decision.{Decision}
 use Rattle.xbar_jobs.specs.declared.effect.Effect.{Effect}
 use Rattle.xbar_jobs.specs.declared.effect.Effect.TheVariants.{Close, Open, SetBit, ClearBit}
@@ -38,6 +39,7 @@ use Rattle.xbar_jobs.specs.declared.step.Step.{Step}
 use Rattle.xbar_jobs.specs.declared.step.Step.TheVariants.{Request}
 use Rattle.xbar_jobs.proofs.AttemptStands.{stands_after}
 use Rattle.xbar_jobs.proofs.JobBounds.{jobs_bounded}
+use Rattle.xbar_jobs.proofs.JobTurns.{turn_does}
 use Rattle.xbar_jobs.proofs.KeptFacts.{knows_on}
 use Rattle.xbar_jobs.proofs.OfficeSystem.{office_is}
 use Rattle.xbar_jobs.proofs.SeenTests.{told_apart}
@@ -200,14 +202,19 @@ program_begun p kept job range made is always = record {
   knows = known_anywhere KnowsHere (attempt_at p) p.point p.phase always;
 }
 
-pub program_told : (plan : Tables) → IsLawful plan → (p : Doing) (kept : Step) → Stands plan (attempt_at p) → AreEffects (attempt_at p).effects → kept ≡ next_step (attempt_at p) → IsStep kept → KnowsIn KnowsHere (attempt_at p) p.point p.phase → IsProgram p kept
-program_told plan laws p kept stands effects is range knows = record {
-  attempt = is_attempt plan laws (attempt_at p) stands effects;
-  step = is;
-  range = range;
-  knows = knows;
-}
+-- what becomes of a program that was told something
+pub record Told (plan : Tables) (p new : Doing) (answer : Answer) : Type 0 where
+  pub change : attempt_at new ≡ change (office plan) (attempt_at p) answer
+  pub stands : Stands plan (attempt_at new)
+  pub turn : (number : ℕ) → answer ≡ Turned number → DoesAsOffice plan (attempt_at new)
 
--- once it was told something, a program's attempt stands again
-pub told_stands : (plan : Tables) → IsLawful plan → (p new : Doing) (answer : Answer) → IsJob p.job → IsAnswerTo (act (attempt_at p)) answer → Stands plan (attempt_at p) → attempt_at new ≡ change (system_with ghosts.eq reply_of effects_of (with (office_over plan))) (attempt_at p) answer → Stands plan (attempt_at new)
-told_stands plan laws p new answer job fits stands made = subst (Stands plan) (sym (changed_here plan (attempt_at p) (attempt_at new) answer made)) (stands_after plan (attempt_at p) answer laws job fits stands)
+pub told : (plan : Tables) → IsLawful plan → (p new : Doing) (answer : Answer) (a : Attempt) → attempt_at p ≡ a → IsJob p.job → IsAnswerTo (act a) answer → Stands plan a → attempt_at new ≡ change (system_with ghosts.eq reply_of effects_of (with (office_over plan))) (attempt_at p) answer → Told plan p new answer
+told plan laws p new answer a same job fits stands made =
+    let changed = changed_here plan (attempt_at p) (attempt_at new) answer made in
+    let fits_here = subst (λ (b : Attempt). IsAnswerTo (act b) answer) (sym same) fits in
+    let stands_now = subst (Stands plan) (sym same) stands in
+    record {
+      change = changed;
+      stands = subst (Stands plan) (sym changed) (stands_after plan (attempt_at p) answer laws job fits_here stands_now);
+      turn = λ number is. subst (DoesAsOffice plan) (sym changed) (turn_does plan (attempt_at p) answer number laws job fits_here stands_now.place.comes is);
+    }
