@@ -1,5 +1,5 @@
 -- whatever comes of its steps, an attempt stands where its job brings it, and has room
-use Rattle.std.proofs.Common.{ℕ, arith}
+use Rattle.std.proofs.Common.{arith}
 use Rattle.turns.specs.Attempt.{Act, IsAnswerTo, Look, act, begin_with, change, restarted}
 use Rattle.turns.specs.declared.answer.Answer.{Answer}
 use Rattle.turns.specs.declared.answer.Answer.TheVariants.{Asked, Seized, Held, Preferred, Again, Value, Turn, Done}

@@ -1,5 +1,5 @@
 -- what an attempt holds after answers one after another
-use Rattle.std.proofs.Common.{ℕ, ◌≤◌, List, [], ◌∷◌, length}
+use Rattle.std.proofs.Common.{◌≤◌, List, [], ◌∷◌, length}
 use Rattle.turns.specs.Attempt.{begin_with}
 use Rattle.turns.specs.declared.answer.Answer.{Answer}
 use Rattle.turns.proofs.SteadyAttempts.{job_stays}

@@ -1,5 +1,5 @@
 -- what an attempt holds is few, whatever comes of its steps
-use Rattle.std.proofs.Common.{◌≡◌, ℕ, ◌-◌, ◌<◌, ◌≤◌, Bool, true, false, List, [], ◌∷◌, ◌++◌, length, length-append, inl, inr, refl, sym, ◌∙◌, ap, subst, arith}
+use Rattle.std.proofs.Common.{◌≡◌, ℕ, ◌-◌, ◌≤◌, Bool, true, false, List, [], ◌∷◌, ◌++◌, length, inl, inr, refl, sym, ◌∙◌, ap, subst, arith}
 use Rattle.std.specs.Prelude.{Option, Some, None, Result, Ok, Err}
 use Rattle.turns.specs.Seen.{AreReadWords}
 use Rattle.turns.specs.Attempt.{StandsIn, begin_with, change, changed, come_to, forgotten, freed, goes_on, operated, rest_of, restarted, restarted_in, seen_of}

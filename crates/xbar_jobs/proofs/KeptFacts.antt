@@ -1,5 +1,5 @@
 -- what was found and is kept
-use Rattle.std.proofs.Common.{◌≡◌, ℕ, List, [], length, refl, sym, ◌∙◌, ap, subst}
+use Rattle.std.proofs.Common.{◌≡◌, ℕ, List, [], length, refl, sym, ◌∙◌, ap}
 use Rattle.std.specs.Option.{option_map_or}
 use Rattle.std.specs.Prelude.{Option, Some, None, Ok, option_map}
 use Rattle.turns.specs.Seen.{changed_readings}
@@ -10,21 +10,17 @@ use Rattle.turns.proofs.Walks.{walk_end}
 use Rattle.attempts.specs.Points.{Extends}
 use Rattle.attempts.proofs.Points.{gone_through}
 use Rattle.xbar_equip.specs.Conn.{conn_eq}
-use Rattle.xbar_equip.specs.Len.{Line}
 use Rattle.xbar_equip.specs.declared.conn.Conn.{Conn}
-use Rattle.xbar_equip.specs.declared.path.Path.{Path}
 use Rattle.xbar_jobs.specs.Closing.{leave_effects, value_after}
 use Rattle.xbar_jobs.specs.Found.{IsKept, IsRow, Knows, KnowsCall, seen_after}
 use Rattle.xbar_jobs.specs.Script.{Script, Seen, walk}
 use Rattle.xbar_jobs.specs.Sides.{test_junctors}
 use Rattle.xbar_jobs.specs.Tracing.{approach, trace}
-use Rattle.xbar_jobs.specs.declared.effect.Effect.{Effect}
 use Rattle.xbar_jobs.specs.declared.found.CallFound.{CallFound}
 use Rattle.xbar_jobs.specs.declared.found.Found.{Found}
 use Rattle.xbar_jobs.specs.declared.found.Row.{Row}
 use Rattle.xbar_jobs.specs.declared.kept.Kept.{Kept}
 use Rattle.xbar_jobs.specs.declared.leave.Leave.{Leave}
-use Rattle.xbar_jobs.specs.declared.party.Party.{Party}
 use Rattle.xbar_jobs.proofs.SeenTests.{unchanged_readings}
 
 -- no line junctor switch is none

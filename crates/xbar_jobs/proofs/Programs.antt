@@ -1,8 +1,7 @@
 -- a program's attempt is one of the office, and stands as the law's does
-use Rattle.std.proofs.Common.{◌≡◌, ℕ, zero, suc, ◌<◌, Bool, List, [], ◌∷◌, inl, inr, refl, sym, ◌∙◌, ap, subst, arith}
+use Rattle.std.proofs.Common.{◌≡◌, ℕ, zero, suc, Bool, List, [], ◌∷◌, inl, inr, refl, sym, ◌∙◌, ap, subst, arith}
 use Rattle.std.specs.Prelude.{Option, Some, None, IsSome, drop}
-use Rattle.turns.specs.Among.{IsIn}
-use Rattle.turns.specs.Attempt.{IsAnswerTo, Rest, Ask, Take, Leave, Free, Look, Turn, Make, StandsIn, act, act_in, begin, begin_with, change, closing_act, forgotten, free_act, freed, restarted, restarted_in}
+use Rattle.turns.specs.Attempt.{IsAnswerTo, Rest, Ask, Take, Leave, Free, Look, Turn, Make, StandsIn, act, act_in, begin_with, change, closing_act, forgotten, free_act, freed, restarted, restarted_in}
 use Rattle.turns.specs.System.{DecidesUnder}
 use Rattle.turns.specs.declared.answer.Answer.{Answer}
 use Rattle.turns.specs.declared.answer.Answer.TheVariants.{Turn as Turned}
@@ -13,8 +12,7 @@ use Rattle.attempts.specs.Standing as standing
 use Rattle.attempts.specs.Standing.{AreScripts, KnowsIn, effects_left}
 use Rattle.attempts.specs.SystemWith.{system_with, with}
 use Rattle.attempts.proofs.Walking.{known_anywhere}
-use Rattle.xbar_equip.specs.Conn.{IsConn, conn_eq}
-use Rattle.xbar_equip.specs.Word.{word_count}
+use Rattle.xbar_equip.specs.Conn.{IsConn}
 use Rattle.xbar_equip.specs.declared.conn.Conn.{Conn}
 use Rattle.xbar_equip.specs.contracts.conn.ConnPartialEq.TheImpl.{ghosts}
 use Rattle.xbar_plan.specs.Lawful.{IsLawful}
@@ -22,7 +20,7 @@ use Rattle.xbar_plan.specs.Tables.{Tables}
 use Rattle.xbar_office.specs.Legal.{IsJob}
 use Rattle.xbar_office.specs.declared.job.Job.{Job}
 use Rattle.xbar_office.specs.declared.job.Job.TheVariants.{Dial, Complete, Release}
-use Rattle.xbar_jobs.specs.Attempt.{Act, Attempt, Counted, Phase, counted, fresh, next_step, step_of, with_count}
+use Rattle.xbar_jobs.specs.Attempt.{Act, Attempt, Counted, Phase, fresh, next_step, step_of, with_count}
 use Rattle.xbar_jobs.specs.Closing.{effects as effects_of}
 use Rattle.xbar_jobs.specs.Found.{Knows}
 use Rattle.xbar_jobs.specs.Jobs.{first_conn}
@@ -80,9 +78,6 @@ act_range a is = at a.phase is.phase where
 
 pub made_range : (a : Attempt) (one : Act) → IsAttempt a → one ≡ act a → IsAct one
 made_range a one is same = subst IsAct (sym same) (act_range a is)
-
-pub step_range : (a : Attempt) → IsAttempt a → IsStep (next_step a)
-step_range a is = act_step (act a) (act_range a is)
 
 -- the effects that are left are among those of the decision
 dropped : (n : ℕ) (effects : List Effect) → AreEffects effects → AreEffects (drop n effects)

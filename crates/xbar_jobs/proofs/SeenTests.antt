@@ -1,6 +1,6 @@
 -- what is seen as effects will leave it
 use Rattle.std.proofs.Common.{◌≡◌, ℕ, Bool, List, [], refl, sym, ◌∙◌, ap}
-use Rattle.std.specs.Prelude.{Result, Ok, Err, ⊤}
+use Rattle.std.specs.Prelude.{Result, Ok, Err}
 use Rattle.std.proofs.lemmas.List.{map-id}
 use mathlib.Core.Path.{fun_ext}
 use Rattle.turns.specs.Seen.{changed_readings}

@@ -148,7 +148,13 @@ fn call_without(
     leave.add_effects(&mut effects);
     let effects = effects.as_slice();
     let later = Seen::as_if_made(gathered, effects);
-    let decision = call(plan, &mut found.call, &later, &calling.after(effects), dialled)?;
+    let decision = call(
+        plan,
+        &mut found.call,
+        &later,
+        &calling.after(effects),
+        dialled,
+    )?;
     Ok(decision.leaving(leave))
 }
 

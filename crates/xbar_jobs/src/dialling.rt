@@ -37,7 +37,14 @@ fn serve_idle_line(
     let groups = [plan.register_group()];
     found.let_go(&None);
     let seen = Seen::new(gathered);
-    connect(plan, &mut found.call, &seen, Aim::DialTone, &parties, &groups)
+    connect(
+        plan,
+        &mut found.call,
+        &seen,
+        Aim::DialTone,
+        &parties,
+        &groups,
+    )
 }
 
 /// Goes through a dial tone job, to its decision or to what is wanted first.

@@ -37,7 +37,6 @@ impl Model for Program {
 }
 
 /// The effects that are left are the office's. Called for its clause alone.
-
 fn effects_are(attempt: &AttemptOf<Offices, 42, 19>)
     ensures { AreEffects (attempt_at attempt.now).effects }
 {
@@ -67,6 +66,7 @@ fn step_by(next: attempts::Step<Conn, Effect>) -> Step
 }
 
 /// The step that an attempt of the office does next.
+#[tactic(auto, using(crate::proofs::Programs::made_range))]
 fn step_of(attempt: &AttemptOf<Offices, 42, 19>) -> Step
     requires { IsAttempt (attempt_at attempt.now) }
     ensures step { result ≡ next_step (attempt_at attempt.now) }

@@ -155,11 +155,7 @@ impl Side {
 }
 
 #[tactic(auto, using(turns::proofs::Walks::walk_bind, turns::proofs::Walks::walk_end), unfolding(crate::specs::Sides::test_called))]
-fn test_called(
-    row: &mut Row,
-    seen: &Seen,
-    party: &Option<Party>,
-) -> Result<Option<Side>, Wanted>
+fn test_called(row: &mut Row, seen: &Seen, party: &Option<Party>) -> Result<Option<Side>, Wanted>
     requires { IsRow row.old seen.now }
     ensures walk { result ≡ walk seen.now (test_called_script party.now) }
     ensures row { IsRow row.new seen.now }
@@ -201,11 +197,7 @@ fn join_called(
 impl Sides {
     /// Tests the line junctor switches of the parties' frames.
     #[tactic(auto, using(turns::proofs::Walks::walk_bind, turns::proofs::Walks::walk_end), unfolding(crate::specs::Sides::test_sides))]
-    pub fn test(
-        found: &mut CallFound,
-        seen: &Seen,
-        parties: &CallParties,
-    ) -> Result<Sides, Wanted>
+    pub fn test(found: &mut CallFound, seen: &Seen, parties: &CallParties) -> Result<Sides, Wanted>
         requires { KnowsCall found.old seen.now }
         ensures walk { result ≡ walk seen.now (test_sides_script parties.now) }
         ensures found { KnowsCall found.new seen.now }

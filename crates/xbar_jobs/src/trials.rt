@@ -132,5 +132,13 @@ pub fn two_trials(
     ensures walk { result ≡ walk seen.now (two_trials_steps plan.now parties.now trunks.now first) }
     ensures found { KnowsCall found.new seen.now }
 {
-    first_trial(plan, found, seen, parties, trunks, first, &trunks.members[first])
+    first_trial(
+        plan,
+        found,
+        seen,
+        parties,
+        trunks,
+        first,
+        &trunks.members[first],
+    )
 }

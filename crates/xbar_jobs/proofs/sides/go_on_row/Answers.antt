@@ -1,5 +1,5 @@
 use Rattle.std.proofs.Common.{◌≡◌, ℕ, arith, rules, sym, subst, ◌∙◌}
-use Rattle.std.specs.Prelude.{Err, IfErr}
+use Rattle.std.specs.Prelude.{Err}
 use Rattle.xbar_jobs.specs.Script.{walk}
 use Rattle.xbar_jobs.specs.Sides.{test_junctors}
 use Rattle.xbar_jobs.proofs.Rows.{row_next, row_wants}

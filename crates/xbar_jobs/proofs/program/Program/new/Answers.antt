@@ -1,5 +1,5 @@
-use Rattle.std.proofs.Common.{refl, subst, sym, ap}
-use Rattle.xbar_jobs.specs.Attempt.{Attempt, Counted}
+use Rattle.std.proofs.Common.{subst, sym, ap}
+use Rattle.xbar_jobs.specs.Attempt.{Attempt}
 use Rattle.xbar_jobs.specs.Standing.{Stands}
 use Rattle.xbar_jobs.specs.declared.step.Step.TheVariants.{Request}
 use Rattle.xbar_jobs.proofs.AttemptStands.{stands_begun}

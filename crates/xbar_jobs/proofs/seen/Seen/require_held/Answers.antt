@@ -1,4 +1,4 @@
-use Rattle.std.proofs.Common.{ap, sym, ◌∙◌}
+use Rattle.std.proofs.Common.{ap, ◌∙◌}
 use Rattle.turns.specs.Script.{seize}
 use Rattle.xbar_jobs.specs.Script.{Seen, walk}
 use Rattle.xbar_jobs.proofs.SeenTests.{held_after}
