@@ -11,8 +11,10 @@ use crate::leave::Leave;
 use crate::party::Party;
 use crate::seen::Seen;
 use crate::tracing::{approach_once, trace_once};
+use crate::trunk::Trunk;
 use arrayvec::ArrayVec;
 use xbar_equip::{Len, Path};
+use xbar_plan::Member;
 
 /// What the line junctor switches of a frame were, as far as they were tested, from the first on.
 #[derive(Debug, Drop)]
@@ -34,10 +36,12 @@ impl Row {
     }
 }
 
-/// What was found for a call: the line that was hunted last, and the parties' line junctor switches.
+/// What was found for a call: the line that was hunted last, the first member on trial, and the
+/// parties' line junctor switches.
 #[derive(Debug, Drop)]
 pub struct CallFound {
     pub called: Option<Kept<Len, Party>>,
+    pub first: Option<Kept<Member, Trunk>>,
     pub calling_row: Row,
     pub called_row: Row,
 }
@@ -49,6 +53,7 @@ impl CallFound {
     {
         CallFound {
             called: None,
+            first: None,
             calling_row: Row::new(),
             called_row: Row::new(),
         }

@@ -10,7 +10,7 @@ use crate::kinds::Wanted;
 use crate::party::CallParties;
 use crate::seen::Seen;
 use crate::sides::Sides;
-use crate::trunk::{Reached, Trunk, reach};
+use crate::trunk::{Reached, Trunk, reach, reach_once};
 use crate::trunks::{Trunks, next_clear};
 use xbar_office::{Card, Cards, TrialEnd, Trials};
 use xbar_plan::{Member, Plan};
@@ -110,7 +110,7 @@ fn first_trial(
         (first_trial_steps plan.now parties.now trunks.now first member.now) }
     ensures found { KnowsCall found.new seen.now }
 {
-    let trunk = reach(seen, member)?;
+    let trunk = reach_once(&mut found.first, seen, member)?;
     let sides = Sides::test(found, seen, parties)?;
     let end = trial_end(plan, &sides, 0, trunk.first, trunk.second);
     after_first_trial(plan, seen, &sides, trunks, first, end)
