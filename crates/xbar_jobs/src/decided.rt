@@ -31,8 +31,6 @@ impl Model for Decided {
 }
 
 impl Decided {
-    // Not inlined into every walk: each would pay for its locals.
-    #[inline(never)]
     pub fn new(decision: Decision) -> Self
         requires effects { AreEffects (effects_of decision) }
         requires few { length (effects_of decision) ≤ most_effects }

@@ -50,6 +50,7 @@ fn follow(
 }
 
 /// Goes through a job with what an attempt has come by: to its decision, or to what it wants first.
+#[inline(never)]
 pub fn walk(
     plan: &Plan,
     job: &Job,
@@ -64,8 +65,6 @@ pub fn walk(
 {
     // Called for its clauses alone.
     xbar_plan::laws::every_plan_is_lawful(plan);
-    match follow(plan, job, found, gathered) {
-        Ok(decision) => Ok(Decided::new(decision)),
-        Err(wanted) => Err(wanted),
-    }
+    let decision = follow(plan, job, found, gathered)?;
+    Ok(Decided::new(decision))
 }
