@@ -16,6 +16,7 @@ use Rattle.xbar_jobs.specs.Found.{IsKept, IsRow, Knows, KnowsCall, seen_after}
 use Rattle.xbar_jobs.specs.Script.{Script, Seen, walk}
 use Rattle.xbar_jobs.specs.Sides.{reach, test_junctors}
 use Rattle.xbar_jobs.specs.Tracing.{approach, trace}
+use Rattle.xbar_jobs.specs.Trunks.{test_group}
 use Rattle.xbar_jobs.specs.declared.found.CallFound.{CallFound}
 use Rattle.xbar_jobs.specs.declared.found.Found.{Found}
 use Rattle.xbar_jobs.specs.declared.found.Row.{Row}
@@ -40,6 +41,7 @@ module _ (seen more : Seen) (extends : Extends conn_eq seen more) where
   pub call_on : (found : CallFound) → KnowsCall found seen → KnowsCall found more
   call_on found knows = record {
     called = kept_on approach found.called knows.called;
+    group = kept_on test_group found.group knows.group;
     first = kept_on reach found.first knows.first;
     calling_row = row_on found.calling_row knows.calling_row;
     called_row = row_on found.called_row knows.called_row;

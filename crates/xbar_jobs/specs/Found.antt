@@ -5,6 +5,7 @@ use Rattle.xbar_jobs.specs.Closing.{leave_effects, value_after}
 use Rattle.xbar_jobs.specs.Script.{Script, Seen, walk}
 use Rattle.xbar_jobs.specs.Sides.{reach, test_junctors}
 use Rattle.xbar_jobs.specs.Tracing.{approach, trace}
+use Rattle.xbar_jobs.specs.Trunks.{test_group}
 use Rattle.xbar_jobs.specs.declared.found.CallFound.{CallFound}
 use Rattle.xbar_jobs.specs.declared.found.Found.{Found}
 use Rattle.xbar_jobs.specs.declared.found.Row.{Row}
@@ -23,6 +24,7 @@ IsRow row seen = walk seen (test_junctors row.frame 0 (length row.words.items)) 
 -- what was found for a call is so
 pub record KnowsCall (found : CallFound) (seen : Seen) : Type 0 where
   pub called : IsKept approach found.called seen
+  pub group : IsKept test_group found.group seen
   pub first : IsKept reach found.first seen
   pub calling_row : IsRow found.calling_row seen
   pub called_row : IsRow found.called_row seen

@@ -63,6 +63,6 @@ pub fn connect(
     ensures walk { result ≡ walk seen.now (connect_script plan.now aim parties.now groups.now) }
     ensures found { KnowsCall found.new seen.now }
 {
-    let idle = find_trunk(plan, seen, groups)?;
+    let idle = find_trunk(plan, &mut found.group, seen, groups)?;
     try_trunk(plan, found, seen, aim, parties, &idle)
 }

@@ -36,11 +36,12 @@ impl Row {
     }
 }
 
-/// What was found for a call: the line that was hunted last, the first member on trial, and the
-/// parties' line junctor switches.
+/// What was found for a call: the line that was hunted last, the word of the group that was asked
+/// last, the first member on trial, and the parties' line junctor switches.
 #[derive(Debug, Drop)]
 pub struct CallFound {
     pub called: Option<Kept<Len, Party>>,
+    pub group: Option<Kept<u8, u64>>,
     pub first: Option<Kept<Member, Trunk>>,
     pub calling_row: Row,
     pub called_row: Row,
@@ -53,6 +54,7 @@ impl CallFound {
     {
         CallFound {
             called: None,
+            group: None,
             first: None,
             calling_row: Row::new(),
             called_row: Row::new(),
