@@ -98,11 +98,7 @@ fn test_group(seen: &Seen, group: u8) -> Result<u64, Wanted>
 }
 
 /// A group's word, unless that is what is kept.
-fn test_group_once(
-    kept: &mut Option<Kept<u8, u64>>,
-    seen: &Seen,
-    group: u8,
-) -> Result<u64, Wanted>
+fn test_group_once(kept: &mut Option<Kept<u8, u64>>, seen: &Seen, group: u8) -> Result<u64, Wanted>
     requires group { group < 16 }
     requires kept { IsKept test_group_script kept.old seen.now }
     ensures walk { result ≡ walk seen.now (test_group_script group) }

@@ -1,4 +1,4 @@
-use Rattle.std.proofs.Common.{◌≡◌, ℕ, rules, arith, ◌<◌, length, slice_index, None, Err, sym, ap, subst, ◌∙◌}
+use Rattle.std.proofs.Common.{◌≡◌, rules, arith, ◌<◌, length, slice_index, None, Err, sym, ap, subst, ◌∙◌}
 use Rattle.std.proofs.lemmas.Option.{slice_get-get_or}
 use Rattle.xbar_equip.specs.First.{first_below}
 use Rattle.xbar_jobs.specs.Trunks.{Trunks, first_clear, is_bit_clear, trunks_of}
