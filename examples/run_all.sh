@@ -1,6 +1,6 @@
 #!/usr/bin/env bash
-# Runs every example and compares what comes of it with the file NAME.out; live calls, which may come in other
-# turns, are judged by an audit: run_all.sh [PROGRAM]
+# Runs every example and compares what comes of it with the file NAME.out, NAME.walk of a walk, NAME.svg or NAME.txt
+# of a drawing; live calls, which may come in other turns, are judged by an audit: run_all.sh [PROGRAM]
 #
 # Prints a line for each, and ends with status 1 where one differs.
 set -euo pipefail
@@ -28,6 +28,28 @@ replay() {
     fi
 }
 
+# A walk of NAME.csv, by the words that follow.
+walk() {
+    local name=$1
+    shift
+    if "$program" walk "$@" <"$here/$name.csv" >"$folder/out" && cmp -s "$folder/out" "$here/$name.walk"; then
+        tell "$name, walked through" "as wanted"
+    else
+        tell "$name, walked through" "differs from $name.walk"
+    fi
+}
+
+# The drawing of the office after NAME.out, by the words that follow, is the file FILE.
+draw() {
+    local name=$1 file=$2
+    shift 2
+    if "$program" draw "$@" <"$here/$name.out" >"$folder/out" && cmp -s "$folder/out" "$here/$file"; then
+        tell "$file" "as wanted"
+    else
+        tell "$file" "differs"
+    fi
+}
+
 # Live calls of NAME.csv, by the markers that the words ask for.
 live() {
     local name=$1
@@ -43,7 +65,12 @@ replay three_dials
 replay calls
 replay inside_call
 replay two_markers --markers XX
+replay meeting --markers XX
+walk meeting --markers XX
 replay trouble --plan "$here/small_town.toml"
+walk trouble --plan "$here/small_town.toml"
+draw trouble trouble.svg --plan "$here/small_town.toml"
+draw trouble trouble.txt --plan "$here/small_town.toml" --text
 replay hunting --plan "$here/hunting.toml"
 replay ten_calls_from_one_frame --plan "$here/many_registers.toml"
 live live_calls --dial 1 --completing 1

@@ -5,3 +5,4 @@ pub mod Audits
 pub mod FindingTexts
 pub mod SettledHistory
 pub mod KindLetters
+pub mod Tellings

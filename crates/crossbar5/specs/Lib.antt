@@ -1,10 +1,13 @@
 pub use Rattle.xbar_plan.specs.Tables
 pub use Rattle.xbar_office.specs.Legal
+pub use Rattle.xbar_office_text.specs.Text as OfficeText
+pub use Rattle.xbar_office_drawing.specs.Drawing
 pub use Rattle.xbar_jobs.specs.Office
 pub use Rattle.xbar_core.specs.Exchange
 pub use Rattle.xbar_traffic.specs.Traffic
 pub use Rattle.xbar_traffic.specs.Fault
 pub use Rattle.xbar_report.specs.Text
+pub use Rattle.xbar_walk.specs.Walks
 pub use Rattle.xbar_report.specs.Reading
 pub use Rattle.counted_io.specs.Counts
 pub mod Faults
@@ -14,6 +17,8 @@ pub mod Refusal
 pub mod Rows
 pub mod Run
 pub mod Audit
+pub mod Draw
 pub mod Task
 pub mod Live
 pub mod Input
+pub mod Walk

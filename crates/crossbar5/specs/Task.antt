@@ -2,22 +2,28 @@ use Rattle.std.specs.Prelude.{◌⊎◌, ℕ, List, length}
 use Rattle.xbar_plan.specs.Document.{plan_of}
 use Rattle.xbar_plan.specs.Tables.{Tables}
 use Rattle.crossbar5.specs.Audit.{IsAuditUnder}
+use Rattle.crossbar5.specs.Draw.{IsDrawUnder}
 use Rattle.crossbar5.specs.Faults.{IsMarkerCount}
 use Rattle.crossbar5.specs.PlanRefusal.{IsAnswerOf, IsRefusedPlan}
 use Rattle.crossbar5.specs.Run.{IsReplayUnder}
+use Rattle.crossbar5.specs.Walk.{IsWalkUnder}
 use Rattle.crossbar5.specs.declared.status.Status.{Status}
 use Rattle.crossbar5.specs.declared.task.Task.{Task}
-use Rattle.crossbar5.specs.declared.task.Task.TheVariants.{Replay, Audit}
+use Rattle.crossbar5.specs.declared.task.Task.TheVariants.{Replay, Walk, Audit, Draw}
 
--- a replay wants markers, and an audit none
+-- a replay and a walk want markers, an audit and a drawing none
 abbrev pub HasItsMarkers : Task → Type 0
 HasItsMarkers (Replay kinds) = IsMarkerCount (length kinds.now)
+HasItsMarkers (Walk kinds) = IsMarkerCount (length kinds.now)
 HasItsMarkers Audit = Unit {0}
+HasItsMarkers (Draw look) = Unit {0}
 
 -- under a plan's tables, the text and the status are those of the task
 abbrev pub IsDoneUnder : Task → Tables → List ℕ → List ℕ → Status → Type 0
 IsDoneUnder (Replay kinds) plan input text status = IsReplayUnder plan kinds.now input text status
+IsDoneUnder (Walk kinds) plan input text status = IsWalkUnder plan kinds.now input text status
 IsDoneUnder Audit plan input text status = IsAuditUnder plan input text status
+IsDoneUnder (Draw look) plan input text status = IsDrawUnder look plan input text status
 
 -- and with a plan's text
 abbrev pub IsDone : Task → List ℕ → List ℕ → List ℕ → Status → Type 0

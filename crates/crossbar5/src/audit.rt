@@ -110,7 +110,7 @@ fn wrong_reply(
 }
 
 /// The office after the jobs of records, whatever replies they have.
-fn office_after<'p>(
+pub fn office_after<'p>(
     alloc: Global,
     plan: &'p Plan,
     records: &[Record],

@@ -1,15 +1,12 @@
-//! The engine's jobs, a replay, live calls and an audit: from the bytes of a plan and an input to those of
-//! the output, with a slip where the plan or the traffic is refused.
+//! The engine: from the bytes of a plan and an input to those of the output, with a slip where the plan
+//! or the traffic is refused.
 
-ghost use Rattle.std.specs.Prelude.{◌≡◌, ◌≢◌, ◌↔◌, ◌⊎◌, Err, IfErr, IfOk, IfSome, List, OnOk, ℕ, ◌+◌, length, vec_len};
+ghost use Rattle.std.specs.Prelude.{◌≡◌, ◌≢◌, ◌↔◌, ◌⊎◌, Err, IfErr, IfOk, IfSome, List, OnOk, ℕ, ◌+◌, vec_len};
 ghost use Rattle.std.specs.Io.KnownBytes.{Appends, IsAtEnd, Keeps};
 ghost use Rattle.counted_io.specs.Counts.{HasFailed, ReadsUsedUp};
-ghost use Rattle.crossbar5.specs.Faults.{ComesFirst, IsMarkerCount, IsStaffCount};
-ghost use Rattle.crossbar5.specs.Audit.{IsAudit};
+ghost use Rattle.crossbar5.specs.Faults.{ComesFirst, IsStaffCount};
 ghost use Rattle.crossbar5.specs.Live.{IsLive, IsLiveUnread};
-ghost use Rattle.crossbar5.specs.PlanRefusal.{IsRefusedPlan};
 ghost use Rattle.crossbar5.specs.Refusal.{TellsItsRefusal};
-ghost use Rattle.crossbar5.specs.Run.{IsRefusedUnread, IsReplay};
 ghost use Rattle.crossbar5.specs.Task.{HasItsMarkers, IsDone, IsUnreadTask};
 
 use crate::answer::Answer;
@@ -22,11 +19,11 @@ use counted_io::{Sink, Source, write_all};
 use std::alloc::Global;
 use std::sync::Wait;
 use std::thread::Threads;
-use xbar_core::{Kind, MOST_MARKERS};
+use xbar_core::MOST_MARKERS;
 use xbar_markers::Gate;
 
 /// What is written of a task with a plan's text, for all that the source gives.
-pub fn comes_to<R: Source>(
+fn comes_to<R: Source>(
     alloc: Global,
     task: Task<'_>,
     plan: &[u8],
@@ -54,42 +51,42 @@ pub fn comes_to<R: Source>(
     }
 }
 
-/// Replays the traffic that the source gives, in an office with the plan of this text and markers of
-/// these kinds, and writes what comes of it to the sink.
+/// Does a task with the plan of this text and what the source gives, and writes what comes of it to the
+/// sink.
 ///
-/// The markers are judged first, then the plan, then the traffic. Markers or a plan that are refused
-/// leave the source unread. The input is read to its end before a row is looked at, and the output is written in
-/// one go once all is known. Of how much went out before `Device` nothing is said.
-pub fn answer_replay<R: Source, W: Sink>(
+/// The markers of a replay or a walk are judged first, then the plan, then the input. Markers or a plan
+/// that are refused leave the source unread. The input is read to its end before a line of it is looked
+/// at, and the output is written in one go once all is known. Of how much went out before `Device`
+/// nothing is said.
+pub fn answer_task<R: Source, W: Sink>(
     alloc: Global,
+    task: Task<'_>,
     plan: &[u8],
-    kinds: &[Kind],
     source: &mut R,
     sink: &mut W,
 ) -> Result<Answer, EngineFault>
-    ensures replay { IfOk result (λ answer. (traffic text : List ℕ) ×
-        IfSome (R.remaining source.old) (λ all. traffic ≡ all) ×
-        IsReplay plan.now kinds.now traffic text answer.status ×
+    ensures done { IfOk result (λ answer. (input text : List ℕ) ×
+        IfSome (R.remaining source.old) (λ all. input ≡ all) ×
+        IsDone task.entry plan.now input text answer.status ×
         Appends (W.contents sink.old) (W.contents sink.new) text) }
     ensures slip { IfOk result (λ answer. (text : List ℕ) ×
         Appends (W.contents sink.old) (W.contents sink.new) text ×
         TellsItsRefusal answer.slip text answer.status) }
-    ensures markers { (result ≡ Err EngineFault.Markers) ↔ ¬ IsMarkerCount (length kinds.now) }
+    ensures markers { (result ≡ Err EngineFault.Markers) ↔ ¬ HasItsMarkers task.entry }
     ensures device { result ≡ Err EngineFault.Device
         → HasFailed (R.failure_count source.old) (R.failure_count source.new)
         ⊎ HasFailed (W.failure_count sink.old) (W.failure_count sink.new) }
     ensures no_failure { result ≢ Err EngineFault.Device
         → (R.failure_count source.new ≡ R.failure_count source.old)
         × (W.failure_count sink.new ≡ W.failure_count sink.old) }
+    ensures unread { IsUnreadTask task.entry plan.now → source.new ≡ source.old }
+    ensures end { OnOk result (¬ IsUnreadTask task.entry plan.now → IsAtEnd (R.remaining source.new)) }
     ensures long { result ≡ Err EngineFault.Long →
         ReadsUsedUp (R.read_count source.old) (R.read_count source.new) }
-    ensures unread { IsRefusedUnread plan.now kinds.now → source.new ≡ source.old }
-    ensures end { OnOk result (¬ IsRefusedUnread plan.now kinds.now
-        → IsAtEnd (R.remaining source.new)) }
     ensures unwritten { IfErr result (λ fault. ComesFirst fault →
         Keeps (W.contents sink.old) (W.contents sink.new)) }
 {
-    let Written { text, status, slip } = comes_to(alloc, Task::Replay { kinds }, plan, source)?;
+    let Written { text, status, slip } = comes_to(alloc, task, plan, source)?;
     write_all(sink, &text)?;
     Ok(Answer { status, slip })
 }
@@ -174,44 +171,6 @@ pub fn answer_live<G: Gate + Send + Drop, T: Threads + Wait + Sync, R: Source, W
     let Written { text, status, slip } = live_comes_to(
         rt, alloc, plan, dialling, completing, gates, source,
     )?;
-    write_all(sink, &text)?;
-    Ok(Answer { status, slip })
-}
-
-/// Audits the text of records that the source gives, by the one-marker office with the plan of this
-/// text, and writes what is found to the sink.
-///
-/// A plan that is refused leaves the source unread. The input is read to its end before a line is
-/// looked at, and the output is written in one go once all is known. Of how much went out before
-/// `Device` nothing is said.
-pub fn answer_audit<R: Source, W: Sink>(
-    alloc: Global,
-    plan: &[u8],
-    source: &mut R,
-    sink: &mut W,
-) -> Result<Answer, EngineFault>
-    ensures audit { IfOk result (λ answer. (records text : List ℕ) ×
-        IfSome (R.remaining source.old) (λ all. records ≡ all) ×
-        IsAudit plan.now records text answer.status ×
-        Appends (W.contents sink.old) (W.contents sink.new) text) }
-    ensures slip { IfOk result (λ answer. (text : List ℕ) ×
-        Appends (W.contents sink.old) (W.contents sink.new) text ×
-        TellsItsRefusal answer.slip text answer.status) }
-    ensures markers { result ≢ Err EngineFault.Markers }
-    ensures device { result ≡ Err EngineFault.Device
-        → HasFailed (R.failure_count source.old) (R.failure_count source.new)
-        ⊎ HasFailed (W.failure_count sink.old) (W.failure_count sink.new) }
-    ensures no_failure { result ≢ Err EngineFault.Device
-        → (R.failure_count source.new ≡ R.failure_count source.old)
-        × (W.failure_count sink.new ≡ W.failure_count sink.old) }
-    ensures long { result ≡ Err EngineFault.Long →
-        ReadsUsedUp (R.read_count source.old) (R.read_count source.new) }
-    ensures unread { IsRefusedPlan plan.now → source.new ≡ source.old }
-    ensures end { OnOk result (¬ IsRefusedPlan plan.now → IsAtEnd (R.remaining source.new)) }
-    ensures unwritten { IfErr result (λ fault. ComesFirst fault →
-        Keeps (W.contents sink.old) (W.contents sink.new)) }
-{
-    let Written { text, status, slip } = comes_to(alloc, Task::Audit, plan, source)?;
     write_all(sink, &text)?;
     Ok(Answer { status, slip })
 }

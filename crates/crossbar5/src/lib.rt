@@ -1,21 +1,24 @@
 //! The engine of the program `crossbar5`: a plan and traffic in, of a replay or of live calls on
-//! threads, the text of what came of it out; or
-//! a plan and such a text in, and what an audit finds out.
+//! threads, and out the text of what came of it, or of a replay each step in words; or a plan and such a
+//! text in, and out what an audit finds, or a drawing of the office.
 #![tactic(auto)]
 
 pub use answer::Answer;
 pub use counted_io::{Counted, Sink, Source};
-pub use engine::{answer_audit, answer_live, answer_replay};
+pub use engine::{answer_live, answer_task};
 pub use engine_fault::EngineFault;
 pub use gates::open_gates;
 pub use kinds::kinds_of;
-pub use runs::{run_audit, run_live, run_replay};
+pub use look::Look;
+pub use runs::{run_live, run_replay};
 pub use slip::Slip;
 pub use status::Status;
+pub use task::Task;
 pub use xbar_report::report;
 
 mod answer;
 mod audit;
+mod draw;
 mod engine;
 mod engine_fault;
 mod finding;
@@ -23,10 +26,12 @@ mod gates;
 mod input;
 mod kinds;
 mod live;
+mod look;
 mod rows;
 mod run;
 mod runs;
 mod slip;
 mod status;
 mod task;
+mod walk;
 mod written;

@@ -13,7 +13,7 @@ use xbar_office::Job;
 use xbar_traffic::{MarkerFault, Row};
 
 /// Assigns a job to a marker, or tells why it can't be.
-fn assign(
+pub fn assign(
     office: &mut Exchange,
     marker: u32,
     job_no: u32,

@@ -23,7 +23,7 @@ use xbar_slips::traffic_slip;
 use xbar_traffic::{Mode, RowFault, Traffic, TrafficFault};
 
 /// Opens an office; how many markers it has is known to be in range.
-fn open<'p>(alloc: Global, plan: &'p Plan, kinds: &[Kind]) -> Result<Exchange<'p>, AllocError>
+pub fn open<'p>(alloc: Global, plan: &'p Plan, kinds: &[Kind]) -> Result<Exchange<'p>, AllocError>
     requires { IsMarkerCount (length kinds.now) }
     ensures { IfOk result (λ office. office ≡
         record { plan = plan.now; exchange = fresh_exchange kinds.now }) }

@@ -1,17 +1,16 @@
-//! The engine's jobs for whoever wants no slip: what each ends with is the status of its answer.
+//! Replays and live calls for whoever wants no slip: what each ends with is the status of its answer.
 
 ghost use Rattle.std.specs.Prelude.{◌≡◌, ◌≢◌, ◌↔◌, ◌⊎◌, Err, IfErr, IfOk, IfSome, List, OnOk, ℕ, ◌+◌, length, vec_len};
 ghost use Rattle.std.specs.Io.KnownBytes.{Appends, IsAtEnd, Keeps};
 ghost use Rattle.counted_io.specs.Counts.{HasFailed, ReadsUsedUp};
 ghost use Rattle.crossbar5.specs.Faults.{ComesFirst, IsMarkerCount, IsStaffCount};
-ghost use Rattle.crossbar5.specs.Audit.{IsAudit};
 ghost use Rattle.crossbar5.specs.Live.{IsLive, IsLiveUnread};
-ghost use Rattle.crossbar5.specs.PlanRefusal.{IsRefusedPlan};
 ghost use Rattle.crossbar5.specs.Run.{IsRefusedUnread, IsReplay};
 
-use crate::engine::{answer_audit, answer_live, answer_replay};
+use crate::engine::{answer_live, answer_task};
 use crate::engine_fault::EngineFault;
 use crate::status::Status;
+use crate::task::Task;
 use counted_io::{Sink, Source};
 use std::alloc::Global;
 use std::sync::Wait;
@@ -19,7 +18,8 @@ use std::thread::Threads;
 use xbar_core::Kind;
 use xbar_markers::Gate;
 
-/// Replays as `answer_replay` does.
+/// Replays the traffic that the source gives, in an office with the plan of this text and markers of
+/// these kinds, as `answer_task` does.
 pub fn run_replay<R: Source, W: Sink>(
     alloc: Global,
     plan: &[u8],
@@ -32,21 +32,21 @@ pub fn run_replay<R: Source, W: Sink>(
         IsReplay plan.now kinds.now traffic text status ×
         Appends (W.contents sink.old) (W.contents sink.new) text) }
     ensures markers { (result ≡ Err EngineFault.Markers) ↔ ¬ IsMarkerCount (length kinds.now) }
+    ensures unread { IsRefusedUnread plan.now kinds.now → source.new ≡ source.old }
+    ensures end { OnOk result (¬ IsRefusedUnread plan.now kinds.now
+        → IsAtEnd (R.remaining source.new)) }
+    ensures long { result ≡ Err EngineFault.Long →
+        ReadsUsedUp (R.read_count source.old) (R.read_count source.new) }
+    ensures unwritten { IfErr result (λ fault. ComesFirst fault →
+        Keeps (W.contents sink.old) (W.contents sink.new)) }
     ensures device { result ≡ Err EngineFault.Device
         → HasFailed (R.failure_count source.old) (R.failure_count source.new)
         ⊎ HasFailed (W.failure_count sink.old) (W.failure_count sink.new) }
     ensures no_failure { result ≢ Err EngineFault.Device
         → (R.failure_count source.new ≡ R.failure_count source.old)
         × (W.failure_count sink.new ≡ W.failure_count sink.old) }
-    ensures long { result ≡ Err EngineFault.Long →
-        ReadsUsedUp (R.read_count source.old) (R.read_count source.new) }
-    ensures unread { IsRefusedUnread plan.now kinds.now → source.new ≡ source.old }
-    ensures end { OnOk result (¬ IsRefusedUnread plan.now kinds.now
-        → IsAtEnd (R.remaining source.new)) }
-    ensures unwritten { IfErr result (λ fault. ComesFirst fault →
-        Keeps (W.contents sink.old) (W.contents sink.new)) }
 {
-    let answer = answer_replay(alloc, plan, kinds, source, sink)?;
+    let answer = answer_task(alloc, Task::Replay { kinds }, plan, source, sink)?;
     Ok(answer.status)
 }
 
@@ -67,14 +67,14 @@ pub fn run_live<G: Gate + Send + Drop, T: Threads + Wait + Sync, R: Source, W: S
         IsLive plan.now dialling completing traffic text status ×
         Appends (W.contents sink.old) (W.contents sink.new) text) }
     ensures markers { (result ≡ Err EngineFault.Markers) ↔ ¬ IsStaffCount dialling completing }
+    ensures long { result ≡ Err EngineFault.Long →
+        ReadsUsedUp (R.read_count source.old) (R.read_count source.new) }
     ensures device { result ≡ Err EngineFault.Device
         → HasFailed (R.failure_count source.old) (R.failure_count source.new)
         ⊎ HasFailed (W.failure_count sink.old) (W.failure_count sink.new) }
     ensures no_failure { result ≢ Err EngineFault.Device
         → (R.failure_count source.new ≡ R.failure_count source.old)
         × (W.failure_count sink.new ≡ W.failure_count sink.old) }
-    ensures long { result ≡ Err EngineFault.Long →
-        ReadsUsedUp (R.read_count source.old) (R.read_count source.new) }
     ensures unread { IsLiveUnread plan.now dialling completing → source.new ≡ source.old }
     ensures end { OnOk result (¬ IsLiveUnread plan.now dialling completing
         → IsAtEnd (R.remaining source.new)) }
@@ -82,34 +82,5 @@ pub fn run_live<G: Gate + Send + Drop, T: Threads + Wait + Sync, R: Source, W: S
         Keeps (W.contents sink.old) (W.contents sink.new)) }
 {
     let answer = answer_live(rt, alloc, plan, dialling, completing, gates, source, sink)?;
-    Ok(answer.status)
-}
-
-/// Audits as `answer_audit` does.
-pub fn run_audit<R: Source, W: Sink>(
-    alloc: Global,
-    plan: &[u8],
-    source: &mut R,
-    sink: &mut W,
-) -> Result<Status, EngineFault>
-    ensures audit { IfOk result (λ status. (records text : List ℕ) ×
-        IfSome (R.remaining source.old) (λ all. records ≡ all) ×
-        IsAudit plan.now records text status ×
-        Appends (W.contents sink.old) (W.contents sink.new) text) }
-    ensures markers { result ≢ Err EngineFault.Markers }
-    ensures device { result ≡ Err EngineFault.Device
-        → HasFailed (R.failure_count source.old) (R.failure_count source.new)
-        ⊎ HasFailed (W.failure_count sink.old) (W.failure_count sink.new) }
-    ensures no_failure { result ≢ Err EngineFault.Device
-        → (R.failure_count source.new ≡ R.failure_count source.old)
-        × (W.failure_count sink.new ≡ W.failure_count sink.old) }
-    ensures long { result ≡ Err EngineFault.Long →
-        ReadsUsedUp (R.read_count source.old) (R.read_count source.new) }
-    ensures unread { IsRefusedPlan plan.now → source.new ≡ source.old }
-    ensures end { OnOk result (¬ IsRefusedPlan plan.now → IsAtEnd (R.remaining source.new)) }
-    ensures unwritten { IfErr result (λ fault. ComesFirst fault →
-        Keeps (W.contents sink.old) (W.contents sink.new)) }
-{
-    let answer = answer_audit(alloc, plan, source, sink)?;
     Ok(answer.status)
 }

@@ -1,5 +1,8 @@
 use crate::audit::audit_text;
+use crate::draw::draw_text;
+use crate::look::Look;
 use crate::run::replay;
+use crate::walk::walk;
 use crate::written::Written;
 use std::alloc::{AllocError, Global};
 use xbar_core::{Kind, MOST_MARKERS};
@@ -8,10 +11,14 @@ use xbar_plan::Plan;
 /// What the engine does with a plan and what it reads.
 #[derive(Clone, Copy)]
 pub enum Task<'a> {
-    /// A replay of traffic, by markers of these kinds.
+    /// To replay traffic, by markers of these kinds.
     Replay { kinds: &'a [Kind] },
-    /// An audit of records.
+    /// To replay it, and tell each step of these markers in words.
+    Walk { kinds: &'a [Kind] },
+    /// To audit records.
     Audit,
+    /// To draw the office after them.
+    Draw { look: Look },
 }
 
 impl Task<'_> {
@@ -23,20 +30,29 @@ impl Task<'_> {
         ensures { IsTrue result ↔ HasItsMarkers self.entry }
     {
         match self {
-            Task::Replay { kinds } => !kinds.is_empty() && kinds.len() <= MOST_MARKERS,
-            Task::Audit => true,
+            Task::Replay { kinds } | Task::Walk { kinds } => {
+                !kinds.is_empty() && kinds.len() <= MOST_MARKERS
+            }
+            Task::Audit | Task::Draw { .. } => true,
         }
     }
 
     /// What is written of it with this plan, for all that was read.
-    pub fn written(self, alloc: Global, plan: &Plan, input: &[u8]) -> Result<Written, AllocError>
+    pub(crate) fn written(
+        self,
+        alloc: Global,
+        plan: &Plan,
+        input: &[u8],
+    ) -> Result<Written, AllocError>
         requires { HasItsMarkers self }
         ensures { IfOk result (λ written.
             IsDoneUnder self.entry plan.now input.now written.text.items written.status) }
     {
         match self {
             Task::Replay { kinds } => replay(alloc, plan, kinds, input),
+            Task::Walk { kinds } => walk(alloc, plan, kinds, input),
             Task::Audit => audit_text(alloc, plan, input),
+            Task::Draw { look } => draw_text(alloc, plan, look, input),
         }
     }
 }

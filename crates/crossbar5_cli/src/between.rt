@@ -1,31 +1,30 @@
 //! Runs between any two devices, with the sentence on what they refuse or on what failed. The plan's
 //! text stood in this file, if one is named.
 
-ghost use Rattle.std.specs.Prelude.{◌≡◌, ◌≢◌, ◌+◌, ◌↔◌, length, vec_len};
-ghost use Rattle.crossbar5.specs.Faults.{IsMarkerCount, IsStaffCount};
+ghost use Rattle.std.specs.Prelude.{◌≡◌, ◌+◌, ◌↔◌, vec_len};
+ghost use Rattle.crossbar5.specs.Faults.{IsStaffCount};
+ghost use Rattle.crossbar5.specs.Task.{HasItsMarkers};
 
 use crate::ended::Ended;
 use crate::ending::Ending;
-use crossbar5::{EngineFault, Sink, Source, answer_audit, answer_live, answer_replay};
+use crossbar5::{EngineFault, Sink, Source, Task, answer_live, answer_task};
 use std::alloc::Global;
 use std::sync::Wait;
 use std::thread::Threads;
-use xbar_core::Kind;
 use xbar_markers::Gate;
 
-/// Replays traffic.
-pub fn replay_between<'w, R: Source, W: Sink>(
+/// Does a task.
+pub fn task_between<'w, R: Source, W: Sink>(
     alloc: Global,
     file: Option<&'w str>,
     plan: &[u8],
-    kinds: &[Kind],
+    task: Task<'_>,
     source: &mut R,
     sink: &mut W,
 ) -> Ended<'w>
-    ensures { (result.ending ≡ Ending.Failed EngineFault.Markers)
-        ↔ ¬ IsMarkerCount (length kinds.now) }
+    ensures { (result.ending ≡ Ending.Failed EngineFault.Markers) ↔ ¬ HasItsMarkers task.entry }
 {
-    match answer_replay(alloc, plan, kinds, source, sink) {
+    match answer_task(alloc, task, plan, source, sink) {
         Ok(answer) => Ended::answered(answer, file),
         Err(fault) => Ended::of_run(fault, source.failures()),
     }
@@ -51,22 +50,6 @@ pub fn live_between<'w, G: Gate + Send + Drop, T: Threads + Wait + Sync, R: Sour
         threads, alloc, plan, dialling, completing, gates, source, sink,
     );
     match answer {
-        Ok(answer) => Ended::answered(answer, file),
-        Err(fault) => Ended::of_run(fault, source.failures()),
-    }
-}
-
-/// Audits records.
-pub fn audit_between<'w, R: Source, W: Sink>(
-    alloc: Global,
-    file: Option<&'w str>,
-    plan: &[u8],
-    source: &mut R,
-    sink: &mut W,
-) -> Ended<'w>
-    ensures { result.ending ≢ Ending.Failed EngineFault.Markers }
-{
-    match answer_audit(alloc, plan, source, sink) {
         Ok(answer) => Ended::answered(answer, file),
         Err(fault) => Ended::of_run(fault, source.failures()),
     }

@@ -1,24 +1,26 @@
 //! All of the program `crossbar5`: it replays traffic from standard input in an office with the plan
-//! and the markers that its words ask for, or does the calls of live traffic on threads, and writes
-//! what comes of it to standard output; or it audits such a text. What is wrong with what it was
-//! given it tells on standard error, in a sentence.
+//! and the markers that its words ask for, or tells such a replay step by step, or does the calls of
+//! live traffic on threads, and writes what comes of it to standard output; or it audits such a text, or
+//! draws the office after it. What is wrong with what it was given it tells on standard error, in a
+//! sentence.
 #![tactic(auto)]
 
-ghost use Rattle.std.specs.Prelude.{◌≡◌, ◌≢◌, ◌↔◌, Err, List};
+ghost use Rattle.std.specs.Prelude.{◌≡◌, ◌≢◌, ◌↔◌, Err, List, if◌then◌else◌};
 ghost use Rattle.std.specs.Process.{exit_status};
 ghost use Rattle.xbar_core.specs.declared.kind.Kind.{Kind};
 ghost use Rattle.crossbar5.specs.Faults.{IsStaffCount};
 ghost use Rattle.crossbar5.specs.Kinds.{Names};
+ghost use Rattle.crossbar5.specs.Task.{HasItsMarkers};
 ghost use Rattle.crossbar5_cli.specs.Endings.{exit_of};
 ghost use Rattle.crossbar5_cli.specs.Streams.{MayEndOf};
 
-use crate::between::{audit_between, live_between, replay_between};
+use crate::between::{live_between, task_between};
 use crate::causes::ending_without_words;
 use crate::ended::Ended;
 use crate::ending::Ending;
 use crate::plan_text::plan_text;
 use crate::stream::{Stream, stream_of, told_on};
-use crossbar5::{Counted, EngineFault, kinds_of, open_gates};
+use crossbar5::{Counted, EngineFault, Look, Task, kinds_of, open_gates};
 use crossbar5_command::{Ask, CommandFault, command};
 use std::alloc::AllocError;
 use std::fs::File;
@@ -85,7 +87,12 @@ fn do_as_asked<'w, T: Threads + Wait + Sync>(
                 completing,
             },
         ) => live(rt, threads, plan.as_deref(), *dial, *completing),
-        Ok(Ask::Audit { plan }) => audit(rt, plan.as_deref()),
+        Ok(Ask::Walk { plan, kinds }) => walk(rt, plan.as_deref(), kinds.as_str()),
+        Ok(Ask::Audit { plan }) => perform(rt, plan.as_deref(), Task::Audit),
+        Ok(Ask::Draw { plan, text }) => {
+            let look = look_of(*text);
+            perform(rt, plan.as_deref(), Task::Draw { look })
+        }
         Err(fault) => Ended::of_telling(tell(rt, fault)),
     }
 }
@@ -95,18 +102,51 @@ fn replay<'w>(rt: &HostRuntime, file: Option<&'w str>, kinds: &'w str) -> Ended<
     ensures { (result.ending ≡ Ending.Failed EngineFault.Markers)
         ↔ ((named : List Kind) → ¬ Names kinds.now named) }
 {
-    let named = match kinds_of(rt.alloc(), kinds) {
-        Ok(named) => named,
-        Err(fault) => return Ended::of_kinds(fault, kinds),
-    };
+    match kinds_of(rt.alloc(), kinds) {
+        Ok(named) => perform(rt, file, Task::Replay { kinds: &named }),
+        Err(fault) => Ended::of_kinds(fault, kinds),
+    }
+}
+
+/// So they are where the steps are told.
+fn walk<'w>(rt: &HostRuntime, file: Option<&'w str>, kinds: &'w str) -> Ended<'w>
+    ensures { (result.ending ≡ Ending.Failed EngineFault.Markers)
+        ↔ ((named : List Kind) → ¬ Names kinds.now named) }
+{
+    match kinds_of(rt.alloc(), kinds) {
+        Ok(named) => perform(rt, file, Task::Walk { kinds: &named }),
+        Err(fault) => Ended::of_kinds(fault, kinds),
+    }
+}
+
+/// How an office is drawn, by whether a text is wanted.
+fn look_of(text: bool) -> Look
+    ensures { result ≡ if text then Look.Text else Look.Drawing }
+{
+    if text { Look::Text } else { Look::Drawing }
+}
+
+/// Does a task with the plan's file, standard input and output.
+fn perform<'w>(rt: &HostRuntime, file: Option<&'w str>, task: Task<'_>) -> Ended<'w>
+    requires { HasItsMarkers task }
+    ensures { result.ending ≢ Ending.Failed EngineFault.Markers }
+{
     let plan = match plan_named(rt, file) {
         Ok(plan) => plan,
         Err(fault) => return Ended::of_plan_file(fault, file),
     };
-    hint_at_end(rt, "rows");
+    hint_at_end(rt, input_of(task));
     let mut source = Counted::new(rt.stdin());
     let mut sink = Counted::new(rt.stdout());
-    replay_between(rt.alloc(), file, &plan, &named, &mut source, &mut sink)
+    task_between(rt.alloc(), file, &plan, task, &mut source, &mut sink)
+}
+
+/// What a task reads.
+fn input_of(task: Task<'_>) -> &'static str {
+    match task {
+        Task::Replay { .. } | Task::Walk { .. } => "rows",
+        Task::Audit | Task::Draw { .. } => "records",
+    }
 }
 
 /// Markers that are too few or too many are refused whatever the plan's file is.
@@ -142,20 +182,6 @@ fn live<'w, T: Threads + Wait + Sync>(
         &mut source,
         &mut sink,
     )
-}
-
-/// An audit has no markers that could be refused.
-fn audit<'w>(rt: &HostRuntime, file: Option<&'w str>) -> Ended<'w>
-    ensures { result.ending ≢ Ending.Failed EngineFault.Markers }
-{
-    let plan = match plan_named(rt, file) {
-        Ok(plan) => plan,
-        Err(fault) => return Ended::of_plan_file(fault, file),
-    };
-    hint_at_end(rt, "records");
-    let mut source = Counted::new(rt.stdin());
-    let mut sink = Counted::new(rt.stdout());
-    audit_between(rt.alloc(), file, &plan, &mut source, &mut sink)
 }
 
 /// Tells who types the input how it ends. That this can't be written changes nothing.

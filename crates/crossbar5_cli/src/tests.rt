@@ -82,6 +82,17 @@ fn words_end_with_their_status(rt: HostRuntime) -> Result<(), Fail> {
         ("crossbar5 audit --markers XX", 2),
         ("crossbar5 audit --plan /dev/null", 3),
         ("crossbar5 audit --plan missing.toml", 6),
+        ("crossbar5 draw --help", 0),
+        ("crossbar5 draw --text yes", 2),
+        ("crossbar5 audit --text", 2),
+        ("crossbar5 draw --text --plan /dev/null", 3),
+        ("crossbar5 draw --plan missing.toml --text", 6),
+        ("crossbar5 draw --plan missing.toml", 6),
+        ("crossbar5 walk --help", 0),
+        ("crossbar5 walk --text", 2),
+        ("crossbar5 walk --markers Y --plan missing.toml", 2),
+        ("crossbar5 walk --plan /dev/null", 3),
+        ("crossbar5 walk --plan missing.toml", 6),
     ] {
         assert_eq!(rt; exit_of(&rt, &rt, line)?, number, "{line}");
     }

@@ -1,16 +1,18 @@
-use Rattle.std.specs.Prelude.{◌≡◌, ◌<◌, ◌^◌, ℕ, List, Option, Some, None, codes, option_map, unwrap_or}
+use Rattle.std.specs.Prelude.{◌≡◌, ◌↔◌, ◌<◌, ◌^◌, IsTrue, ℕ, List, Option, Some, None, codes, option_map, unwrap_or}
 use Rattle.std.specs.String.{string_bytes}
 use Rattle.std.specs.Str.Parse.{IsNumeral, digits_value, without_leading_plus}
 use Rattle.clap.specs.Words.{Row, Text, first_of}
-use Rattle.crossbar5_command.specs.Program.{audit, default_kinds, live, one, replay}
+use Rattle.crossbar5_command.specs.Program.{audit, default_kinds, draw, live, one, replay, walk}
 use Rattle.crossbar5_command.specs.declared.ask.Ask.{Ask}
-use Rattle.crossbar5_command.specs.declared.ask.Ask.TheVariants.{Audit, Live, Replay}
+use Rattle.crossbar5_command.specs.declared.ask.Ask.TheVariants.{Audit, Draw, Live, Replay, Walk}
 
 -- the name of the subcommand that is asked for
 abbrev pub name_of : Ask → Text
 name_of (Replay file letters) = replay.name
+name_of (Walk file letters) = walk.name
 name_of (Live file dial completing) = live.name
 name_of (Audit file) = audit.name
+name_of (Draw file text) = draw.name
 
 -- where the text is that of a number of 32 bits, a plus before it or none, it is this one
 abbrev pub IsNumberOf : Text → ℕ → Type 0
@@ -18,14 +20,22 @@ IsNumberOf text n = IsNumeral 10 (without_leading_plus text)
     → digits_value 10 (without_leading_plus text) < 2 ^ 32
     → n ≡ digits_value 10 (without_leading_plus text)
 
+-- an option that stands alone is given: its value is `true`
+abbrev pub IsGiven : Option Text → Type 0
+IsGiven value = value ≡ Some (codes "true")
+
 -- what is asked, by the values of the options, is this
 abbrev pub HasValues : (Text → Option Text) → Ask → Type 0
 HasValues values (Replay file letters) = (option_map string_bytes file ≡ values (codes "plan"))
+    × (string_bytes letters ≡ unwrap_or (values (codes "markers")) default_kinds)
+HasValues values (Walk file letters) = (option_map string_bytes file ≡ values (codes "plan"))
     × (string_bytes letters ≡ unwrap_or (values (codes "markers")) default_kinds)
 HasValues values (Live file dial completing) = (option_map string_bytes file ≡ values (codes "plan"))
     × IsNumberOf (unwrap_or (values (codes "dial")) one) dial
     × IsNumberOf (unwrap_or (values (codes "completing")) one) completing
 HasValues values (Audit file) = option_map string_bytes file ≡ values (codes "plan")
+HasValues values (Draw file text) = (option_map string_bytes file ≡ values (codes "plan"))
+    × (IsTrue text ↔ IsGiven (values (codes "text")))
 
 -- the ask is for this subcommand, with these values of its options
 abbrev pub IsAskWith : Text → (Text → Option Text) → Ask → Type 0

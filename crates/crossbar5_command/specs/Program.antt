@@ -25,6 +25,9 @@ markers = record { name = codes "markers"; argument = value None (Some default_k
 abbrev pub replay : Subcommand
 replay = record { name = codes "replay"; options = plan ∷ markers ∷ [] }
 
+abbrev pub walk : Subcommand
+walk = record { name = codes "walk"; options = plan ∷ markers ∷ [] }
+
 -- one marker
 abbrev pub one : Text
 one = codes "1"
@@ -45,8 +48,15 @@ live = record { name = codes "live"; options = plan ∷ dial ∷ completing ∷ 
 abbrev pub audit : Subcommand
 audit = record { name = codes "audit"; options = plan ∷ [] }
 
+-- `--text`
+abbrev pub as_text : NamedOption
+as_text = record { name = codes "text"; argument = nothing }
+
+abbrev pub draw : Subcommand
+draw = record { name = codes "draw"; options = plan ∷ as_text ∷ [] }
+
 abbrev pub subcommands : List Subcommand
-subcommands = replay ∷ live ∷ audit ∷ []
+subcommands = replay ∷ walk ∷ live ∷ audit ∷ draw ∷ []
 
 -- ---- as clap sees them
 

@@ -8,6 +8,13 @@ pub enum Ask {
         /// A letter for the kind of each marker, marker 0 first. Nobody has looked at them yet.
         kinds: String,
     },
+    /// To replay the traffic on standard input, and tell each step in words.
+    Walk {
+        /// The name of the file with the plan. Without one the plan is the example plan.
+        plan: Option<String>,
+        /// A letter for the kind of each marker, as of a replay.
+        kinds: String,
+    },
     /// To do the calls on standard input, on threads.
     Live {
         /// The name of the file with the plan. Without one the plan is the example plan.
@@ -21,5 +28,12 @@ pub enum Ask {
     Audit {
         /// The name of the file with the plan. Without one the plan is the example plan.
         plan: Option<String>,
+    },
+    /// To draw the office after the records on standard input.
+    Draw {
+        /// The name of the file with the plan. Without one the plan is the example plan.
+        plan: Option<String>,
+        /// Whether a text for a terminal is wanted.
+        text: bool,
     },
 }

@@ -1,18 +1,19 @@
-ghost use Rattle.std.specs.Prelude.{◌≡◌, ◌≤◌, [], List, MatchResult, IfErr, IfOk, IfSome};
-ghost use Rattle.std.specs.Prelude.{IsSome, length, option_and_then, option_map, true};
+ghost use Rattle.std.specs.Prelude.{◌≡◌, ◌↔◌, ◌≤◌, [], List, MatchResult, IfErr, IfOk, IfSome};
+ghost use Rattle.std.specs.Prelude.{IsSome, IsTrue, length, option_and_then, option_map, true};
 ghost use Rattle.std.specs.String.{string_bytes};
 ghost use Rattle.clap.specs.Walk.{texts};
 ghost use Rattle.clap.specs.Words.{fault_of, first_value, found_of, subcommand_of};
 ghost use Rattle.clap.specs.Words.{subcommand_rows_of, takes};
-ghost use Rattle.crossbar5_command.specs.Ask.{IsAskOf, IsAskWith, IsNumberOf, IsUnnamedAsk, name_of};
+ghost use Rattle.crossbar5_command.specs.Ask.{IsAskOf, IsAskWith, IsGiven, IsNumberOf, IsUnnamedAsk, name_of};
 ghost use Rattle.crossbar5_command.specs.Fault.{IsFaultAmong};
-ghost use Rattle.crossbar5_command.specs.Program.{audit, live, program, replay, subcommands};
+ghost use Rattle.crossbar5_command.specs.Program.{audit, draw, live, program, replay, subcommands, walk};
 ghost use Rattle.crossbar5_command.specs.Subcommand.{AreValues, AskFor, GivenOption, NamesOnly};
 ghost use Rattle.crossbar5_command.specs.Subcommand.{Subcommand, subcommand_named, value_of};
 ghost use Rattle.crossbar5_command.specs.declared.command_fault.CommandFault.TheVariants.{Memory};
 
 use crate::program::{
-    AUDIT, COMPLETING, DEFAULT_KINDS, DIAL, LIVE, MARKERS, ONE, PLAN, REPLAY, program,
+    AUDIT, COMPLETING, DEFAULT_KINDS, DIAL, DRAW, LIVE, MARKERS, ONE, PLAN, REPLAY, TEXT, WALK,
+    program,
 };
 use crate::{Ask, CommandFault};
 use clap::ArgMatches;
@@ -58,7 +59,24 @@ fn ask_of(alloc: Global, matches: &ArgMatches) -> Result<Ask, AllocError>
     if let Some(options) = matches.subcommand_matches(AUDIT) {
         return audit_of(alloc, options);
     }
+    if let Some(options) = matches.subcommand_matches(DRAW) {
+        return draw_of(alloc, options);
+    }
+    if let Some(options) = matches.subcommand_matches(WALK) {
+        return walk_of(alloc, options);
+    }
     replay_of(alloc, matches.subcommand_matches(REPLAY))
+}
+
+/// The walk with the values of its options.
+fn walk_of(alloc: Global, options: &ArgMatches) -> Result<Ask, AllocError>
+    ensures { IfOk result (IsAskWith walk.name (first_value (found_of options.now))) }
+{
+    let kinds = options.get_str(MARKERS).unwrap_or(DEFAULT_KINDS);
+    Ok(Ask::Walk {
+        plan: copy_of(alloc, options.get_str(PLAN))?,
+        kinds: String::from_str(alloc, kinds)?,
+    })
 }
 
 /// The live calls with the values of their options.
@@ -86,6 +104,26 @@ fn audit_of(alloc: Global, options: &ArgMatches) -> Result<Ask, AllocError>
     Ok(Ask::Audit {
         plan: copy_of(alloc, options.get_str(PLAN))?,
     })
+}
+
+/// The drawing with the values of its options.
+fn draw_of(alloc: Global, options: &ArgMatches) -> Result<Ask, AllocError>
+    ensures { IfOk result (IsAskWith draw.name (first_value (found_of options.now))) }
+{
+    Ok(Ask::Draw {
+        plan: copy_of(alloc, options.get_str(PLAN))?,
+        text: is_given(options.get_str(TEXT)),
+    })
+}
+
+/// Whether an option that stands alone is given, by its value.
+fn is_given(value: Option<&str>) -> bool
+    ensures { IsTrue result ↔ IsGiven (option_map (λ s. s.now) value.entry) }
+{
+    match value {
+        Some(value) => value == "true",
+        None => false,
+    }
 }
 
 /// The replay with the values of its options, where there are matches of them.

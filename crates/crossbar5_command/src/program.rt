@@ -3,19 +3,23 @@
 ghost use Rattle.std.specs.Prelude.{◌≡◌, ◌∷◌, [], IfOk, false};
 ghost use Rattle.clap.specs.Words.{app_of, rule_of};
 ghost use Rattle.clap.specs.declared.builder.command.Command.TheViews.{out-Command};
-ghost use Rattle.crossbar5_command.specs.Program.{audit, live, marker_count, markers, plan, program, program_of, replay};
+ghost use Rattle.crossbar5_command.specs.Program.{as_text, audit, draw, live, marker_count, markers, plan, program, program_of, replay, walk};
 ghost use Rattle.crossbar5_command.specs.Program.{rule_for, shape_for};
 
 use clap::builder::ValueParser;
-use clap::{Arg, Command};
+use clap::{Arg, ArgAction, Command};
 use std::alloc::{AllocError, Global};
 
 /// The names of the subcommands.
 pub const REPLAY: &str = "replay";
 
+pub const WALK: &str = "walk";
+
 pub const LIVE: &str = "live";
 
 pub const AUDIT: &str = "audit";
+
+pub const DRAW: &str = "draw";
 
 /// The id of the option for the plan, and its name.
 pub const PLAN: &str = "plan";
@@ -27,6 +31,9 @@ pub const MARKERS: &str = "markers";
 pub const DIAL: &str = "dial";
 
 pub const COMPLETING: &str = "completing";
+
+/// The id of the option for a text in place of a drawing, and its name.
+pub const TEXT: &str = "text";
 
 /// How many markers of a kind there are where no number is given, and at most.
 pub const ONE: &str = "1";
@@ -41,27 +48,36 @@ Replays traffic from standard input in a simulated No. 5 Crossbar telephone
 office, and writes what came of each job to standard output. Without a command
 it replays with the example plan and two markers for all jobs. The options of
 replay, --plan FILE and --markers KINDS, are told by 'crossbar5 replay --help'.
-With the command live it does calls from standard input by markers that run on
-threads.
+With the command walk it tells such a replay step by step, in words. With the
+command live it does calls from standard input by markers that run on threads.
 With the command audit it reads such output, a replay's or one that was worked
-out by hand, and tells whether it is right.";
+out by hand, and tells whether it is right. With the command draw it reads such
+output too, and draws the office as it stands after it.";
 
 // The usage stands under each refusal too, so that options with no subcommand are told where they
 // belong.
 const USAGE: &str = "\
 crossbar5 [COMMAND]
        crossbar5 replay [--plan <FILE>] [--markers <KINDS>]
+       crossbar5 walk [--plan <FILE>] [--markers <KINDS>]
        crossbar5 live [--plan <FILE>] [--dial <N>] [--completing <N>]
-       crossbar5 audit [--plan <FILE>]";
+       crossbar5 audit [--plan <FILE>]
+       crossbar5 draw [--plan <FILE>] [--text]";
 
 const ABOUT_REPLAY: &str = "\
 Replays traffic from standard input with a plan and markers of your choice";
+
+const ABOUT_WALK: &str = "\
+Replays traffic from standard input, and tells each step of each marker";
 
 const ABOUT_LIVE: &str = "\
 Does the calls on standard input, by markers that run on threads";
 
 const ABOUT_AUDIT: &str = "\
 Tells whether the output of a replay, on standard input, is right";
+
+const ABOUT_DRAW: &str = "\
+Draws the office after the output of a replay, on standard input";
 
 const ABOUT_PLAN: &str = "The file with the office's plan [default: the example plan]";
 
@@ -77,6 +93,8 @@ const ABOUT_COMPLETING: &str = "\
 How many markers complete calls and release them, 1 to 47,{n}\
 and with those that dial at most 48";
 
+const ABOUT_TEXT: &str = "As text for a terminal of 80 columns";
+
 const EXAMPLE_AND_STATUSES: &str = "\
 Example:
   printf 'J,0,1,D,3041\\nS,0,128,,\\n' | crossbar5 replay --markers XX
@@ -87,7 +105,10 @@ Example:
   of ten fields: turn, job number, marker, kind of job, line, dialled digits,
   end, trial, and two paths. A field that has nothing is '-'.
 
-  crossbar5 replay < TRAFFIC | crossbar5 audit   checks a replay.
+  crossbar5 walk < TRAFFIC   tells each step of a replay.
+  crossbar5 replay < TRAFFIC | crossbar5 audit   checks it.
+  crossbar5 replay < TRAFFIC | crossbar5 draw > office.svg   draws what it
+  leaves; draw --text draws it for a terminal.
 
   printf 'C,7,3041,5551234,R\\n' | crossbar5 live   has line 3041 call: call 7
   is dialled, completed and, for the R, released. With K it is kept.
@@ -99,8 +120,8 @@ Exit status:
   0  All is fine
   2  The command line is refused, or the KINDS or the number of the markers
   3  The plan is refused
-  4  The traffic is refused, or what is to be audited is no text of records;
-     or that is too long, or the plan's FILE is
+  4  The traffic is refused, or what is to be audited or drawn is no text of
+     records; or that is too long, or the plan's FILE is
   5  Memory ran out
   6  A device failed, or FILE can't be read
   7  The records, or the counts behind them, aren't right";
@@ -109,12 +130,21 @@ Exit status:
 pub fn program<'a>(alloc: Global) -> Result<Command<'a>, AllocError>
     ensures { IfOk result (λ made. app_of made ≡ program) }
 {
-    offices(alloc)?.subcommand(audit(alloc)?)
+    offices(alloc)?
+        .subcommand(audit(alloc)?)?
+        .subcommand(draw(alloc)?)
 }
 
 /// The program with the subcommands that open an office.
 fn offices<'a>(alloc: Global) -> Result<Command<'a>, AllocError>
-    ensures app { IfOk result (λ made. app_of made ≡ program_of (replay ∷ live ∷ [])) }
+    ensures app { IfOk result (λ made. app_of made ≡ program_of (replay ∷ walk ∷ live ∷ [])) }
+{
+    replays(alloc)?.subcommand(live(alloc)?)
+}
+
+/// The program with the subcommands that replay traffic.
+fn replays<'a>(alloc: Global) -> Result<Command<'a>, AllocError>
+    ensures app { IfOk result (λ made. app_of made ≡ program_of (replay ∷ walk ∷ [])) }
 {
     Command::new(alloc, "crossbar5")
         .version("0.1.0")
@@ -122,7 +152,7 @@ fn offices<'a>(alloc: Global) -> Result<Command<'a>, AllocError>
         .after_help(EXAMPLE_AND_STATUSES)
         .override_usage(USAGE)
         .subcommand(replay(alloc)?)?
-        .subcommand(live(alloc)?)
+        .subcommand(walk(alloc)?)
 }
 
 fn replay<'a>(alloc: Global) -> Result<Command<'a>, AllocError>
@@ -131,6 +161,17 @@ fn replay<'a>(alloc: Global) -> Result<Command<'a>, AllocError>
 {
     Command::new(alloc, REPLAY)
         .about(ABOUT_REPLAY)
+        .after_help(EXAMPLE_AND_STATUSES)
+        .arg(plan_option(alloc))?
+        .arg(markers_option(alloc))
+}
+
+fn walk<'a>(alloc: Global) -> Result<Command<'a>, AllocError>
+    ensures shape { IfOk result (λ made. (app_of made).top ≡ shape_for walk) }
+    ensures local { IfOk result (λ made. (out-Command made).has_globals ≡ false) }
+{
+    Command::new(alloc, WALK)
+        .about(ABOUT_WALK)
         .after_help(EXAMPLE_AND_STATUSES)
         .arg(plan_option(alloc))?
         .arg(markers_option(alloc))
@@ -156,6 +197,17 @@ fn audit<'a>(alloc: Global) -> Result<Command<'a>, AllocError>
         .about(ABOUT_AUDIT)
         .after_help(EXAMPLE_AND_STATUSES)
         .arg(plan_option(alloc))
+}
+
+fn draw<'a>(alloc: Global) -> Result<Command<'a>, AllocError>
+    ensures shape { IfOk result (λ made. (app_of made).top ≡ shape_for draw) }
+    ensures local { IfOk result (λ made. (out-Command made).has_globals ≡ false) }
+{
+    Command::new(alloc, DRAW)
+        .about(ABOUT_DRAW)
+        .after_help(EXAMPLE_AND_STATUSES)
+        .arg(plan_option(alloc))?
+        .arg(text_option(alloc))
 }
 
 fn plan_option<'a>(alloc: Global) -> Arg<'a>
@@ -190,4 +242,14 @@ fn count_option<'a>(alloc: Global, name: &'a str, about: &'a str) -> Arg<'a>
         .value_parser(ValueParser::unsigned(1, MOST_OF_A_KIND))
         .default_value(ONE)
         .help(about)
+}
+
+fn text_option<'a>(alloc: Global) -> Arg<'a>
+    ensures rule { rule_of result ≡ rule_for as_text }
+    ensures local { result.global ≡ false }
+{
+    Arg::new(alloc, TEXT)
+        .long(TEXT)
+        .action(ArgAction::SetTrue)
+        .help(ABOUT_TEXT)
 }

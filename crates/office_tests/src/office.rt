@@ -1,6 +1,7 @@
 //! The one-marker office: its jobs, its audits, and what memory it wants.
 
 mod audits;
+mod drawing;
 mod large;
 mod memory;
 mod picture;

@@ -87,6 +87,23 @@ fn words_ask_for_a_replay(rt: HostRuntime) -> Result<(), Fail> {
 }
 
 #[test]
+fn words_ask_for_a_walk(rt: HostRuntime) -> Result<(), Fail> {
+    for (line, file, letters) in [
+        ("crossbar5 walk", None, "XX"),
+        ("crossbar5 walk --markers DC", None, "DC"),
+        ("crossbar5 walk --plan a.toml", Some("a.toml"), "XX"),
+        ("crossbar5 walk --markers=X --plan=a", Some("a"), "X"),
+    ] {
+        let Ask::Walk { plan, kinds } = asked(rt.alloc(), line)? else {
+            return Err(Fail::from("another subcommand was asked for"));
+        };
+        let found = plan.as_ref().map(|name| name.as_str());
+        check_eq!(rt; (found, kinds.as_str()), (file, letters), "{line}");
+    }
+    Ok(())
+}
+
+#[test]
 fn words_ask_for_an_audit(rt: HostRuntime) -> Result<(), Fail> {
     for (line, file) in [
         ("crossbar5 audit", None),
@@ -98,6 +115,25 @@ fn words_ask_for_an_audit(rt: HostRuntime) -> Result<(), Fail> {
         };
         let found = plan.as_ref().map(|name| name.as_str());
         check_eq!(rt; found, file, "{line}");
+    }
+    Ok(())
+}
+
+#[test]
+fn words_ask_for_a_drawing(rt: HostRuntime) -> Result<(), Fail> {
+    for (line, file, as_text) in [
+        ("crossbar5 draw", None, false),
+        ("crossbar5 draw --text", None, true),
+        ("crossbar5 draw --plan a.toml", Some("a.toml"), false),
+        ("crossbar5 draw --text --plan a.toml", Some("a.toml"), true),
+        ("crossbar5 draw --plan=--text --text", Some("--text"), true),
+        ("crossbar5 draw --plan=--text", Some("--text"), false),
+    ] {
+        let Ask::Draw { plan, text } = asked(rt.alloc(), line)? else {
+            return Err(Fail::from("another subcommand was asked for"));
+        };
+        let found = plan.as_ref().map(|name| name.as_str());
+        check_eq!(rt; (found, text), (file, as_text), "{line}");
     }
     Ok(())
 }
@@ -201,6 +237,13 @@ const REFUSED: &[(&str, ErrorKind)] = &[
     ("crossbar5 audit --markers X", ErrorKind::UnknownArgument),
     ("crossbar5 audit replay", ErrorKind::UnknownArgument),
     ("crossbar5 audit --plan", ErrorKind::InvalidValue),
+    ("crossbar5 audit --text", ErrorKind::UnknownArgument),
+    ("crossbar5 --text", ErrorKind::UnknownArgument),
+    ("crossbar5 draw --text yes", ErrorKind::UnknownArgument),
+    ("crossbar5 draw --text --text", ErrorKind::ArgumentConflict),
+    ("crossbar5 walk stray", ErrorKind::UnknownArgument),
+    ("crossbar5 walk --text", ErrorKind::UnknownArgument),
+    ("crossbar5 walk --markers", ErrorKind::InvalidValue),
     ("crossbar5 replay --plan", ErrorKind::InvalidValue),
     ("crossbar5 replay --markers", ErrorKind::InvalidValue),
     (
@@ -287,10 +330,11 @@ const OPTIONS_OF_COUNTS: &str = "
 const WITHOUT_OPTIONS: &str = "Without a command
 it replays with the example plan and two markers for all jobs. The options of
 replay, --plan FILE and --markers KINDS, are told by 'crossbar5 replay --help'.
-With the command live it does calls from standard input by markers that run on
-threads.
+With the command walk it tells such a replay step by step, in words. With the
+command live it does calls from standard input by markers that run on threads.
 With the command audit it reads such output, a replay's or one that was worked
-out by hand, and tells whether it is right.
+out by hand, and tells whether it is right. With the command draw it reads such
+output too, and draws the office as it stands after it.
 ";
 
 /// Lines of words, each with a part of the text that is told.
@@ -302,6 +346,12 @@ const TOLD: &[(&str, &str)] = &[
     ("crossbar5 replay --help", OPTION_OF_KINDS),
     ("crossbar5 live --help", OPTIONS_OF_COUNTS),
     ("crossbar5 --help", WITHOUT_OPTIONS),
+    (
+        "crossbar5 draw --help",
+        "      --text         As text for a terminal of 80 columns\n",
+    ),
+    ("crossbar5 --text", USAGE_OF_DRAW),
+    ("crossbar5 --text", USAGE_OF_WALK),
     ("crossbar5 --plan a.toml", USAGE_OF_REPLAY),
     ("crossbar5 --markers D", USAGE_OF_REPLAY),
     ("crossbar5 --dial 2", USAGE_OF_LIVE),
@@ -310,9 +360,13 @@ const TOLD: &[(&str, &str)] = &[
 /// An option in the place of a subcommand is told where it belongs.
 const USAGE_OF_REPLAY: &str = "\n       crossbar5 replay [--plan <FILE>] [--markers <KINDS>]\n";
 
+const USAGE_OF_WALK: &str = "\n       crossbar5 walk [--plan <FILE>] [--markers <KINDS>]\n";
+
 const USAGE_OF_LIVE: &str = "
        crossbar5 live [--plan <FILE>] [--dial <N>] [--completing <N>]
 ";
+
+const USAGE_OF_DRAW: &str = "\n       crossbar5 draw [--plan <FILE>] [--text]\n";
 
 fn check_told(rt: &impl Abort, alloc: Global, line: &str, part: &str) -> Result<(), Fail> {
     let text = text_of(alloc, line)?;
@@ -332,12 +386,14 @@ fn options_are_told(rt: HostRuntime) -> Result<(), Fail> {
 const STARTS: &[&str] = &[
     "  printf 'J,0,1,D,3041\\nS,0,128,,\\n' | crossbar5 replay --markers XX\n",
     "of ten fields: turn, job number, marker, kind of job, line, dialled digits,\n",
-    "  crossbar5 replay < TRAFFIC | crossbar5 audit   checks a replay.\n",
+    "  crossbar5 walk < TRAFFIC   tells each step of a replay.\n",
+    "  crossbar5 replay < TRAFFIC | crossbar5 audit   checks it.\n",
+    "  crossbar5 replay < TRAFFIC | crossbar5 draw > office.svg   draws what it\n  leaves; draw --text draws it for a terminal.\n",
     "  0  All is fine\n",
     "  printf 'C,7,3041,5551234,R\\n' | crossbar5 live   has line 3041 call: call 7\n",
     "  2  The command line is refused, or the KINDS or the number of the markers\n",
     "  3  The plan is refused\n",
-    "  4  The traffic is refused, or what is to be audited is no text of records;\n",
+    "  4  The traffic is refused, or what is to be audited or drawn is no text of\n",
     "  5  Memory ran out\n",
     "  6  A device failed, or FILE can't be read\n",
     "  7  The records, or the counts behind them, aren't right\n",
@@ -349,8 +405,10 @@ fn help_tells_how_to_start(rt: HostRuntime) -> Result<(), Fail> {
         "crossbar5 --help",
         "crossbar5 -h",
         "crossbar5 replay --help",
+        "crossbar5 walk --help",
         "crossbar5 live --help",
         "crossbar5 audit --help",
+        "crossbar5 draw --help",
     ] {
         for part in STARTS {
             check_told(&rt, rt.alloc(), line, part)?;
@@ -371,8 +429,10 @@ fn help_as_a_word_is_help_as_an_option(rt: HostRuntime) -> Result<(), Fail> {
     for (word, option) in [
         ("crossbar5 help", "crossbar5 --help"),
         ("crossbar5 help replay", "crossbar5 replay --help"),
+        ("crossbar5 help walk", "crossbar5 walk --help"),
         ("crossbar5 help live", "crossbar5 live --help"),
         ("crossbar5 help audit", "crossbar5 audit --help"),
+        ("crossbar5 help draw", "crossbar5 draw --help"),
     ] {
         check_same(&rt, rt.alloc(), word, option)?;
     }

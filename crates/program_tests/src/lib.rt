@@ -1,5 +1,5 @@
-//! Tests of the command line, of counted reads and writes, and of the rows of traffic, of slips, of the
-//! text of a run, and of the engine, by texts that were worked out outside.
+//! Tests of the command line, of counted reads and writes, of the rows of traffic, of slips, and of the
+//! text of a run, by texts that were worked out outside.
 #![tactic(auto)]
 
 #[cfg(test)]
@@ -8,8 +8,6 @@ mod checks;
 mod command_line;
 #[cfg(test)]
 mod counted;
-#[cfg(test)]
-mod engine;
 #[cfg(test)]
 mod report;
 #[cfg(test)]

@@ -13,6 +13,13 @@ head_text width height style =
 abbrev pub foot_text : List ℕ
 foot_text = codes "</svg>\n"
 
+-- what a group begins with that is drawn this far further down, and what it ends with
+abbrev pub group_text : ℕ → List ℕ
+group_text down = concat (codes "<g transform=\"translate(0 " ∷ decimal down ∷ codes ")\">\n" ∷ [])
+
+abbrev pub group_end_text : List ℕ
+group_end_text = codes "</g>\n"
+
 -- a drawing: what is drawn, each behind and so over the one before
 abbrev pub drawing_text : ℕ → ℕ → List ℕ → List Figure → List ℕ
 drawing_text width height style figures = head_text width height style ++ flat_map figure_text figures ++ foot_text

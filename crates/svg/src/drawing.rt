@@ -1,5 +1,5 @@
 ghost use Rattle.std.specs.Prelude.{◌≡◌, ◌++◌, OnOk, codes, flat_map, map, string_bytes};
-ghost use Rattle.svg.specs.Drawing.{drawing_text, foot_text, head_text};
+ghost use Rattle.svg.specs.Drawing.{drawing_text, foot_text, group_end_text, group_text, head_text};
 ghost use Rattle.svg.specs.Figure.{figure_of, figure_text};
 
 use crate::escape::add_escaped;
@@ -11,7 +11,7 @@ use std::alloc::AllocError;
 pub fn add_drawing(
     text: &mut String,
     width: u16,
-    height: u16,
+    height: u128,
     style: &str,
     shapes: &[Shape<'_>],
 ) -> Result<(), AllocError>
@@ -25,7 +25,7 @@ pub fn add_drawing(
 
 /// Adds what a drawing begins with, up to its first shape. Where memory runs out, a part of it may
 /// have been added.
-pub fn add_head(text: &mut String, width: u16, height: u16, style: &str) -> Result<(), AllocError>
+pub fn add_head(text: &mut String, width: u16, height: u128, style: &str) -> Result<(), AllocError>
     ensures { OnOk result (string_bytes text.new ≡ string_bytes text.old ++
         head_text width height style.now) }
 {
@@ -44,6 +44,22 @@ pub fn add_foot(text: &mut String) -> Result<(), AllocError>
     ensures { OnOk result (string_bytes text.new ≡ string_bytes text.old ++ foot_text) }
 {
     text.push_str("</svg>\n")?;
+    Ok(())
+}
+
+/// Adds what a group begins with. All that stands in it is drawn this far further down.
+pub fn add_group(text: &mut String, down: u128) -> Result<(), AllocError>
+    ensures { OnOk result (string_bytes text.new ≡ string_bytes text.old ++ group_text down) }
+{
+    writeln!(text, "<g transform=\"translate(0 {down})\">")?;
+    Ok(())
+}
+
+/// Adds what a group ends with, behind its last shape.
+pub fn add_group_end(text: &mut String) -> Result<(), AllocError>
+    ensures { OnOk result (string_bytes text.new ≡ string_bytes text.old ++ group_end_text) }
+{
+    text.push_str("</g>\n")?;
     Ok(())
 }
 

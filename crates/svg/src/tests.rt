@@ -93,3 +93,16 @@ fn a_drawing_is_whole(rt: HostRuntime) -> Result<(), Fail> {
     );
     Ok(())
 }
+
+#[test]
+fn groups_are_drawn_further_down(rt: HostRuntime) -> Result<(), Fail> {
+    let mut text = String::new(rt.alloc());
+    add_group(&mut text, 18446744073709551616)?;
+    add_circle(&mut text, Point::new(1, 2), 3, "a")?;
+    add_group_end(&mut text)?;
+    assert_eq!(rt;
+        text.as_str(),
+        "<g transform=\"translate(0 18446744073709551616)\">\n<circle cx=\"1\" cy=\"2\" r=\"3\" class=\"a\"/>\n</g>\n"
+    );
+    Ok(())
+}

@@ -8,3 +8,4 @@ pub mod PathOrder
 pub mod PathSets
 pub mod PathTests
 pub mod Meeting
+pub mod WholeLines

@@ -13,3 +13,4 @@ pub mod Word
 pub mod Crosspoint
 pub mod First
 pub mod Paths
+pub mod TextLines

@@ -10,16 +10,18 @@ use Rattle.xbar_office.specs.declared.reply.Card.{Card}
 use Rattle.xbar_office.specs.declared.reply.Record.{Record}
 use Rattle.xbar_office_text.specs.CardRows.{row, filled, mark, ten_places, digit_row, kind_row, first_name, second_name, link_rows}
 use Rattle.xbar_office_text.specs.Cards.{title_row, job_row, trial_row, card_text, cards_of}
-use Rattle.xbar_office_text.specs.TextLines.{lines, is_title}
+use Rattle.xbar_equip.specs.TextLines.{lines, IsWholeLine}
+use Rattle.xbar_office_text.specs.Titles.{is_title}
 use Rattle.xbar_office_text.proofs.OtherLines.{IsOther, past_other, at_title}
 use Rattle.xbar_office_text.proofs.PlainTexts.{plain_blanks, plain_decimal, plain_flat_map, plain_link}
-use Rattle.xbar_office_text.proofs.WholeLines.{lacks_feed, IsPlain, IsWhole, plain_append, plain_nothing, plain_with, whole_append, whole_feed, whole_with, lines_of_nothing}
+use Rattle.xbar_equip.proofs.WholeLines.{lines_of_nothing}
+use Rattle.xbar_office_text.proofs.WholeLines.{lacks_feed, IsPlain, plain_append, plain_nothing, plain_with, whole_append, whole_feed, whole_with}
 
 plain_filled : (places : ℕ) (text : List ℕ) → IsPlain text → IsPlain (filled places text)
 unfolding filled
 plain_filled places text p = plain_append p (plain_blanks (places - length text))
 
-row_whole : (edge text : List ℕ) → lacks_feed edge ≡ true → IsPlain text → IsWhole (row edge text)
+row_whole : (edge text : List ℕ) → lacks_feed edge ≡ true → IsPlain text → IsWholeLine (row edge text)
 unfolding row
 row_whole edge text h p = whole_with edge h (whole_append (plain_filled 44 text p) (whole_with (codes "|") refl whole_feed))
 
@@ -80,7 +82,7 @@ trial_other owner card =
     side (concat (codes "marker " ∷ decimal owner.marker ∷ codes ", trial " ∷ decimal card.trial ∷ []))
     (plain_with (codes "marker ") refl (plain_append (plain_decimal owner.marker) (plain_with (codes ", trial ") refl (plain_append (plain_decimal card.trial) plain_nothing))))
 
-title_whole : (card : Card) → IsWhole (title_row card)
+title_whole : (card : Card) → IsWholeLine (title_row card)
 unfolding title_row
 title_whole card =
     row_whole (codes "  /  ") (concat (codes "TROUBLE CARD: " ∷ link_text card.link ∷ codes " is faulty" ∷ [])) refl

@@ -5,10 +5,11 @@ use Rattle.xbar_equip.specs.Link.{Link, letters}
 use Rattle.xbar_equip.specs.declared.link.LinkKind.{LinkKind}
 use Rattle.xbar_equip.specs.declared.link.LinkKind.TheVariants.{LineLink, Junctor, TrunkLink}
 use Rattle.xbar_office_text.specs.Faults.{whereabouts, fault_line, fault_lines}
-use Rattle.xbar_office_text.specs.TextLines.{is_title}
+use Rattle.xbar_office_text.specs.Titles.{is_title}
 use Rattle.xbar_office_text.proofs.OtherLines.{IsOther, HasNoTitle, none_append, none_flat_map, none_line, none_nothing}
 use Rattle.xbar_office_text.proofs.PlainTexts.{plain_decimal, plain_link}
-use Rattle.xbar_office_text.proofs.WholeLines.{IsPlain, IsWhole, plain_append, plain_nothing, plain_with, whole_append, whole_feed, whole_with}
+use Rattle.xbar_equip.specs.TextLines.{IsWholeLine}
+use Rattle.xbar_office_text.proofs.WholeLines.{IsPlain, plain_append, plain_nothing, plain_with, whole_append, whole_feed, whole_with}
 
 plain_whereabouts : (kind : LinkKind) (link : Link) → IsPlain (whereabouts kind link)
 plain_whereabouts LineLink link =
@@ -23,7 +24,7 @@ letters_unlike LineLink digits rest = refl
 letters_unlike Junctor digits rest = refl
 letters_unlike TrunkLink digits rest = refl
 
-fault_line_whole : (link : Link) → IsWhole (fault_line link)
+fault_line_whole : (link : Link) → IsWholeLine (fault_line link)
 unfolding fault_line
 fault_line_whole link =
     whole_append (plain_link link) (whole_with (codes ": channel ") refl (whole_append (plain_decimal link.channel) (whole_with (codes ", ") refl

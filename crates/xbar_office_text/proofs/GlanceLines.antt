@@ -16,9 +16,10 @@ use Rattle.xbar_plan.proofs.Distinct.{item_passes}
 use Rattle.xbar_plan.proofs.LawfulParts.{formed}
 use Rattle.xbar_office_text.specs.Ends.{group_name, member_name, member_text, other_text, use_text, with_place}
 use Rattle.xbar_office_text.specs.Glance.{glance, glance_line}
-use Rattle.xbar_office_text.specs.TextLines.{lines}
+use Rattle.xbar_equip.specs.TextLines.{lines, IsWholeLine}
 use Rattle.xbar_office_text.proofs.PlainTexts.{plain_choice, plain_channel, plain_decimal, plain_line, plain_place}
-use Rattle.xbar_office_text.proofs.WholeLines.{lacks_feed, IsPlain, IsWhole, plain_append, plain_nothing, plain_with, whole_append, whole_feed, whole_first, whole_with}
+use Rattle.xbar_equip.proofs.WholeLines.{whole_line_first}
+use Rattle.xbar_office_text.proofs.WholeLines.{lacks_feed, IsPlain, plain_append, plain_nothing, plain_with, whole_append, whole_feed, whole_with}
 
 -- a character of a name is no line feed
 character_unlike : (x : ℕ) (b : Bool) → (x == 10) ≡ b → is_name_character x ≡ true → not b ≡ true
@@ -67,7 +68,7 @@ plain_use plan lawful path =
     plain_append (plain_choice (ends_at_register plan path) {x = codes "register's path: "} {y = codes "call: "} (record { lacks = refl }) (record { lacks = refl }))
     (plain_append (plain_member_text plan lawful path) (plain_append (plain_other_text plan path) plain_nothing))
 
-pub glance_line_whole : (plan : Tables) → IsLawful plan → (path : Path) → IsWhole (glance_line plan path)
+pub glance_line_whole : (plan : Tables) → IsLawful plan → (path : Path) → IsWholeLine (glance_line plan path)
 unfolding glance_line
 glance_line_whole plan lawful path =
     whole_append (plain_line path.line) (whole_with (codes " --[frame ") refl (whole_append (plain_decimal path.line.frame) (whole_with (codes "]-- channel ") refl
@@ -78,10 +79,10 @@ lines_of_paths : (plan : Tables) → IsLawful plan → (paths : List Path) (rest
 lines_of_paths plan lawful [] rest = refl
 lines_of_paths plan lawful (path ∷ paths) rest =
     ap lines (append_assoc (glance_line plan path) (flat_map (glance_line plan) paths) rest)
-    ∙ whole_first (glance_line plan path) (flat_map (glance_line plan) paths ++ rest) (glance_line_whole plan lawful path)
+    ∙ whole_line_first (glance_line plan path) (flat_map (glance_line plan) paths ++ rest) (glance_line_whole plan lawful path)
     ∙ ap (λ (more : List (List ℕ)). glance_line plan path ∷ more) (lines_of_paths plan lawful paths rest)
 
-heading_whole : IsWhole (codes "PATHS AT A GLANCE\n")
+heading_whole : IsWholeLine (codes "PATHS AT A GLANCE\n")
 heading_whole = whole_with (codes "PATHS AT A GLANCE") refl whole_feed
 
 -- below the heading each path has its line
@@ -89,5 +90,5 @@ pub lines_of_glance : (plan : Tables) (path : Path) (paths : List Path) (rest : 
     lines (glance plan (path ∷ paths) ++ rest) ≡ (codes "PATHS AT A GLANCE\n" ∷ map (glance_line plan) (path ∷ paths)) ++ lines rest
 unfolding glance
 lines_of_glance plan path paths rest lawful =
-    whole_first (codes "PATHS AT A GLANCE\n") (flat_map (glance_line plan) (path ∷ paths) ++ rest) heading_whole
+    whole_line_first (codes "PATHS AT A GLANCE\n") (flat_map (glance_line plan) (path ∷ paths) ++ rest) heading_whole
     ∙ ap (λ (more : List (List ℕ)). codes "PATHS AT A GLANCE\n" ∷ more) (lines_of_paths plan lawful (path ∷ paths) rest)

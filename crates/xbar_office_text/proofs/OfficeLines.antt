@@ -14,7 +14,8 @@ use Rattle.xbar_office_text.specs.Faults.{faults_of, fault_lines}
 use Rattle.xbar_office_text.specs.Glance.{glance, glance_line}
 use Rattle.xbar_office_text.specs.Picture.{heading, picture}
 use Rattle.xbar_office_text.specs.Text.{office_text}
-use Rattle.xbar_office_text.specs.TextLines.{lines, is_title}
+use Rattle.xbar_equip.specs.TextLines.{lines}
+use Rattle.xbar_office_text.specs.Titles.{is_title}
 use Rattle.xbar_office_text.proofs.CardLines.{titles_of_records}
 use Rattle.xbar_office_text.proofs.FaultLines.{none_in_faults}
 use Rattle.xbar_office_text.proofs.GlanceLines.{glance_line_whole, lines_of_glance, plain_member_text}

@@ -1,20 +1,21 @@
 -- Texts of whole lines, none of which is the title of a card.
 use Rattle.std.proofs.Common.{◌≡◌, ℕ, Bool, true, false, cond, List, [], ◌∷◌, ◌++◌, refl, ap, ◌∙◌, append_assoc}
 use Rattle.std.specs.Prelude.{filter, flat_map}
-use Rattle.xbar_office_text.specs.TextLines.{lines, is_title}
-use Rattle.xbar_office_text.proofs.WholeLines.{IsWhole, whole_first}
+use Rattle.xbar_equip.specs.TextLines.{lines, IsWholeLine}
+use Rattle.xbar_office_text.specs.Titles.{is_title}
+use Rattle.xbar_equip.proofs.WholeLines.{whole_line_first}
 
 -- a line that is no title
 pub record IsOther (line : List ℕ) : Type 0 where
-  pub whole : IsWhole line
+  pub whole : IsWholeLine line
   pub other : is_title line ≡ false
 
 -- the titles of a text that begins with a line that is none, and with one that is
 pub past_other : (line rest : List ℕ) → IsOther line → filter is_title (lines (line ++ rest)) ≡ filter is_title (lines rest)
-past_other line rest h = ap (filter is_title) (whole_first line rest h.whole) ∙ rw h.other
+past_other line rest h = ap (filter is_title) (whole_line_first line rest h.whole) ∙ rw h.other
 
-pub at_title : (line rest : List ℕ) → IsWhole line → is_title line ≡ true → filter is_title (lines (line ++ rest)) ≡ line ∷ filter is_title (lines rest)
-at_title line rest w h = ap (filter is_title) (whole_first line rest w) ∙ rw h
+pub at_title : (line rest : List ℕ) → IsWholeLine line → is_title line ≡ true → filter is_title (lines (line ++ rest)) ≡ line ∷ filter is_title (lines rest)
+at_title line rest w h = ap (filter is_title) (whole_line_first line rest w) ∙ rw h
 
 -- before whatever it stands, the text adds no title
 pub record HasNoTitle (text : List ℕ) : Type 0 where

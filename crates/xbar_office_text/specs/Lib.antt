@@ -5,4 +5,4 @@ pub mod Faults
 pub mod CardRows
 pub mod Cards
 pub mod Text
-pub mod TextLines
+pub mod Titles

@@ -8,7 +8,8 @@ ghost use Rattle.xbar_plan.specs.Tables.{Tables};
 ghost use Rattle.xbar_office_text.specs.Cards.{title_row};
 ghost use Rattle.xbar_office_text.specs.Glance.{glance_line};
 ghost use Rattle.xbar_office_text.specs.Text.{office_text};
-ghost use Rattle.xbar_office_text.specs.TextLines.{is_title, lines};
+ghost use Rattle.xbar_equip.specs.TextLines.{lines};
+ghost use Rattle.xbar_office_text.specs.Titles.{is_title};
 
 /// The first lines of the text are a heading and one line for each path of the set, in its order.
 pub fn each_path_has_one_line()

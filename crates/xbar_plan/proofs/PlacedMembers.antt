@@ -2,8 +2,9 @@ use Rattle.std.proofs.Common.{◌≡◌, ◌≢◌, ℕ, zero, suc, ◌+◌, ◌
 use Rattle.std.specs.Prelude.{Option, Some, None, is_some, position, slice_get, option_map, option_and_then, ◌||◌, if◌then◌else◌}
 use Rattle.std.specs.Option.{option_or}
 use Rattle.std.specs.List.{list_any, position_from}
+use Rattle.std.proofs.Math.Seq.{get_or-append_seam}
 use Rattle.std.proofs.lemmas.Iterator.Adapters.{position_from-zero}
-use Rattle.std.proofs.lemmas.List.{take_more, take_all, length-take-le, length-set, get_or-set_same, get_or-set_other}
+use Rattle.std.proofs.lemmas.List.{take_more, take_all, length-take-le, length-append, length-set, get_or-set_same, get_or-set_other, get_or_append_left}
 use Rattle.std.proofs.lemmas.List.Quantifiers.{position-Some}
 use Rattle.std.proofs.lemmas.Option.{slice_get-get_or}
 use Rattle.xbar_equip.specs.Ten.{TrunkPlace, IsTrunkPlace, place_eq}
@@ -116,15 +117,6 @@ put-pair before between after number index member second e =
 
 -- ---- the members of a group
 
-front : {X : Type 0} (xs ys : List X) (i : ℕ) (x : X) → slice_get xs i ≡ Some x → slice_get (xs ++ ys) i ≡ Some x
-front [] ys i x e = cc
-front (y ∷ xs) ys zero x e = e
-front (y ∷ xs) ys (suc i) x e = front xs ys i x e
-
-last : {X : Type 0} (xs : List X) (x : X) → slice_get (xs ++ x ∷ []) (length xs) ≡ Some x
-last [] x = refl
-last (y ∷ xs) x = last xs x
-
 -- the item at a place that was found
 abbrev at_found : {X : Type 0} → List X → Option ℕ → Option (ℕ × X)
 at_found {X} xs o = option_and_then (λ number. option_map {U = ℕ × X} (λ item. (number, item)) (slice_get xs number)) o
@@ -133,12 +125,17 @@ at_found {X} xs o = option_and_then (λ number. option_map {U = ℕ × X} (λ it
 first_with-last : {X : Type 0} (test : X → Bool) (xs : List X) (x : X) → first_with test (xs ++ x ∷ []) ≡ option_or (first_with test xs) (if test x then Some (length xs, x) else None)
 first_with-last {X} test xs x = ap (at_found (xs ++ x ∷ [])) (position-last test xs x) ∙ of (position test xs) refl (test x) where
   of : (o : Option ℕ) → position test xs ≡ o → (b : Bool) → at_found (xs ++ x ∷ []) (option_or o (here b (length xs))) ≡ option_or (at_found xs o) (if b then Some (length xs, x) else None)
-  of None e true = ap (option_map {U = ℕ × X} (λ item. (length xs, item))) (last xs x)
+  of None e true =
+      let size = length-append xs (x ∷ []) in
+      let last : slice_get (xs ++ x ∷ []) (length xs) ≡ Some x = slice_get-get_or (xs ++ x ∷ []) (length xs) x (omega (arith, size)) ∙ ap Some (get_or-append_seam xs x [] x) in
+      ap (option_map {U = ℕ × X} (λ item. (length xs, item))) last
   of None e false = refl
   of (Some i) e b =
       let within = (position-Some test xs i x e).0 in
       let there : slice_get xs i ≡ Some (get_or xs i x) = slice_get-get_or xs i x within in
-      ap (option_map {U = ℕ × X} (λ item. (i, item))) (front xs (x ∷ []) i (get_or xs i x) there)
+      let size = length-append xs (x ∷ []) in
+      let front : slice_get (xs ++ x ∷ []) i ≡ Some (get_or xs i x) = slice_get-get_or (xs ++ x ∷ []) i x (omega (arith, size, within)) ∙ ap Some (get_or_append_left xs (x ∷ []) x i within) in
+      ap (option_map {U = ℕ × X} (λ item. (i, item))) front
       ∙ sym (ap (λ (o : Option X). option_or (option_map {U = ℕ × X} (λ item. (i, item)) o) (if b then Some (length xs, x) else None)) there)
 
 within-last : (number : ℕ) (members : List Member) (member : Member) (place : TrunkPlace) → first_member number (members ++ member ∷ []) place ≡ option_or (first_member number members place) (member_here number (length members) member place)

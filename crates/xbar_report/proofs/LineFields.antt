@@ -20,7 +20,7 @@ use Rattle.xbar_office.specs.declared.reply.End.{End}
 use Rattle.xbar_office.specs.declared.reply.End.TheVariants.{DialTone, Connected, Released, CalledBusy, LineBusy, RegistersBusy, TrunksBusy, NoPath, Trouble, VacantCode, VacantNumber, NoRegister, NoCall}
 use Rattle.xbar_report.specs.Parts.{job_kind, job_line, job_dialled, end_name, end_trial, end_first, end_second}
 use Rattle.xbar_report.specs.Ranges.{IsEnd}
-use Rattle.xbar_report.specs.Split.{Lacks}
+use Rattle.xbar_equip.specs.TextLines.{Lacks}
 use Rattle.xbar_report.specs.Text.{line_with, job_fields, end_fields, path_field}
 
 -- one more byte that is another

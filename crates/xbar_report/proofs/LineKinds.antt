@@ -7,7 +7,7 @@ use Rattle.std.proofs.lemmas.Fmt.{decimal_nonempty, digits_decimal}
 use Rattle.xbar_report.specs.Bare.{bare_line}
 use Rattle.xbar_report.specs.Line.{IsLine, line_text}
 use Rattle.xbar_report.specs.Ranges.{IsTroubleLine}
-use Rattle.xbar_report.specs.Split.{Lacks}
+use Rattle.xbar_equip.specs.TextLines.{Lacks}
 use Rattle.xbar_report.specs.Text.{count_line, end_fields, job_fields, line_with, record_line, trouble_line}
 use Rattle.xbar_report.proofs.LineFields.{line_cut}
 use Rattle.xbar_office.specs.declared.reply.Record.{Record as TheRecord}

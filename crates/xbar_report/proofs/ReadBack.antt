@@ -11,13 +11,13 @@ use Rattle.xbar_report.specs.Bare.{bare_record}
 use Rattle.xbar_report.specs.Dealt.{dealt_records, left_of}
 use Rattle.xbar_report.specs.Draft.{IsLineFault, IsReadAs}
 use Rattle.xbar_report.specs.Line.{line_text, lines_of_sheet}
-use Rattle.xbar_report.specs.Reading.{lines}
+use Rattle.xbar_equip.specs.TextLines.{lines}
 use Rattle.xbar_report.specs.Sheet.{Sheet, sheet_text, IsSheet, IsReport}
 use Rattle.xbar_report.specs.Text.{record_line, trouble_line, count_lines, records_text, troubles_of}
 use Rattle.xbar_report.specs.declared.counts.Counts.{Counts}
 use Rattle.xbar_report.specs.declared.read_fault.ReadFault.{ReadFault}
 use Rattle.xbar_report.specs.declared.read_fault.ReadFault.TheVariants as fault
-use Rattle.xbar_report.proofs.Lines.{joined_lines}
+use Rattle.xbar_equip.proofs.WholeLines.{joined_lines}
 use Rattle.xbar_report.proofs.Reports.{dealt_lines, dealt_range, dealt_turns, taken_and_left}
 use Rattle.xbar_report.proofs.Sheets.{range_of_sheet, sheet_text_is, texts_are, texts_range}
 use Rattle.xbar_report.proofs.Uniques.{only_sheet, own_dealt, report_range, report_text_is, sheet_of}

@@ -8,7 +8,7 @@ use Rattle.xbar_report.specs.Bare.{bare_line}
 use Rattle.xbar_report.specs.Draft.{AreTextsOf, IsTextOf}
 use Rattle.xbar_report.specs.Line.{IsLine, line_text, lines_of_sheet, lines_of_counts}
 use Rattle.xbar_report.specs.Ranges.{AreCounts}
-use Rattle.xbar_report.specs.Reading.{lines}
+use Rattle.xbar_equip.specs.TextLines.{lines}
 use Rattle.xbar_report.specs.Sheet.{Sheet, sheet_text, IsSheet}
 use Rattle.xbar_report.specs.Text.{record_line, trouble_line, count_lines}
 use Rattle.xbar_report.specs.declared.counts.Counts.{Counts}

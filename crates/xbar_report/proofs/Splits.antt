@@ -4,7 +4,7 @@ use Rattle.std.specs.List.{list_all, position_or_len}
 use borrow.Author.Tests.{eqb-true, eq-eqb, ltb-true, ltb-false}
 use Rattle.std.proofs.lemmas.List.{take_all}
 use Rattle.xbar_equip.proofs.Logic.{both, both_hold, not_both}
-use Rattle.xbar_report.specs.Split.{Lacks}
+use Rattle.xbar_equip.specs.TextLines.{Lacks}
 
 -- a text is cut at the first byte of a kind: what stands before it, and from it on
 record IsCutAt (byte : ℕ) (text : List ℕ) (n : ℕ) : Type 0 where

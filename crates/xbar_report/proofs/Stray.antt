@@ -5,9 +5,9 @@ use Rattle.std.proofs.lemmas.List.{append-nil, length-map, length-append, length
 use Rattle.xbar_office.specs.declared.reply.Record.{Record as TheRecord}
 use Rattle.xbar_report.specs.Draft.{AreTextsOf, IsReadAs, IsTextOf, stage_behind, tally_lines}
 use Rattle.xbar_report.specs.Line.{IsLine, line_text, lines_of_counts, lines_of_sheet, next_stage, Stage, AtRecords, AtPaths}
-use Rattle.xbar_report.specs.Reading.{lines, HaveSameLines, IsFirstStrayLine}
+use Rattle.xbar_equip.specs.TextLines.{IsWholeLine, Lacks, lines}
+use Rattle.xbar_report.specs.Reading.{HaveSameLines, IsFirstStrayLine}
 use Rattle.xbar_report.specs.Sheet.{Sheet, sheet_text, IsSheetText}
-use Rattle.xbar_report.specs.Split.{IsWholeLine, Lacks}
 use Rattle.xbar_report.specs.declared.counts.Counts.{Counts}
 use Rattle.xbar_report.specs.declared.draft.Tally.{Tally}
 use Rattle.xbar_report.specs.declared.draft.Tally.TheVariants.{Missing, Begun, Whole}
@@ -16,7 +16,8 @@ use Rattle.xbar_report.specs.declared.line.Line.TheVariants.{Record, Trouble, Cl
 use Rattle.xbar_report.specs.declared.trouble_line.TroubleLine.{TroubleLine}
 use Rattle.xbar_report.proofs.Order.{next-bare, stage_after, stage_after-append, stage_after-take, stage_after-bare, stage_of_lines, stage_of_sheet}
 use Rattle.xbar_report.proofs.Sheets.{all_append, all_parts, all_take, lines_of_text, sheet_range, range_of_sheet, texts_range, texts_are, texts_only, texts_more, texts_count}
-use Rattle.xbar_report.proofs.Lines.{lines_of_nothing, lines_of_rest, line_text_whole, whole_line_first}
+use Rattle.xbar_equip.proofs.WholeLines.{lines_of_nothing, lines_of_rest, whole_line_first}
+use Rattle.xbar_report.proofs.Lines.{line_text_whole}
 use Rattle.xbar_report.proofs.Splits.{has_byte}
 
 -- a list whose image ends in y ends in what gives y

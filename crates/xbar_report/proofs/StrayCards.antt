@@ -10,7 +10,8 @@ use Rattle.xbar_report.specs.Dealt.{belongs, own_of, own_count_of, dealt_records
 use Rattle.xbar_report.specs.Draft.{AreTextsOf, IsReadAs}
 use Rattle.xbar_report.specs.Line.{IsLine, line_text, lines_of_sheet, lines_of_counts}
 use Rattle.xbar_report.specs.Ranges.{IsRecord}
-use Rattle.xbar_report.specs.Reading.{lines, HaveSameLines, IsFirstStrayLine}
+use Rattle.xbar_equip.specs.TextLines.{lines}
+use Rattle.xbar_report.specs.Reading.{HaveSameLines, IsFirstStrayLine}
 use Rattle.xbar_report.specs.Sheet.{Sheet, IsReport, IsReportText}
 use Rattle.xbar_report.specs.Text.{records_text, trouble_of, troubles_of}
 use Rattle.xbar_report.specs.declared.counts.Counts.{Counts}

@@ -12,7 +12,7 @@ use Rattle.xbar_report.specs.Dealt.{belongs, own_of, own_count_of, with_cards, d
 use Rattle.xbar_report.specs.Draft.{IsReadAs}
 use Rattle.xbar_report.specs.Line.{lines_of_sheet, lines_of_counts}
 use Rattle.xbar_report.specs.Ranges.{IsCard, IsRecord, IsTroubleLine}
-use Rattle.xbar_report.specs.Reading.{lines}
+use Rattle.xbar_equip.specs.TextLines.{lines}
 use Rattle.xbar_report.specs.Sheet.{Sheet, sheet_text, IsSheet, IsReport}
 use Rattle.xbar_report.specs.Text.{record_line, trouble_line, card_lines, count_lines, records_text, trouble_of, troubles_of}
 use Rattle.xbar_report.specs.declared.counts.Counts.{Counts}

@@ -1,7 +1,8 @@
 use Rattle.std.specs.Prelude.{◌≡◌, ℕ, List, [], ◌∷◌, ◌++◌, map, ⊤}
 use Rattle.xbar_report.specs.Bare.{bare_line}
 use Rattle.xbar_report.specs.Line.{IsLine, line_text, lines_of_sheet, Stage, AtRecords, AtCards, AtPaths, AtEnd}
-use Rattle.xbar_report.specs.Reading.{lines, IsFirstStrayLine}
+use Rattle.xbar_equip.specs.TextLines.{lines}
+use Rattle.xbar_report.specs.Reading.{IsFirstStrayLine}
 use Rattle.xbar_report.specs.Sheet.{Sheet, IsSheetText}
 use Rattle.xbar_report.specs.declared.trouble_line.TroubleLine.{TroubleLine}
 use Rattle.xbar_report.specs.declared.read_fault.ReadFault.{ReadFault}

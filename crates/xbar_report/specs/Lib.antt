@@ -4,7 +4,6 @@ pub mod Text
 pub mod Ranges
 pub mod Sheet
 pub mod Reading
-pub mod Split
 pub mod Line
 pub mod Bare
 pub mod Parts

@@ -1,15 +1,10 @@
-use Rattle.std.specs.Prelude.{◌≡◌, ◌⊎◌, ◌==◌, ℕ, ◌-◌, List, [], ◌∷◌, take, if◌then◌else◌, ⊤}
-use Rattle.std.specs.List.{onto_first}
+use Rattle.std.specs.Prelude.{◌≡◌, ◌⊎◌, ℕ, ◌-◌, List, take, ⊤}
+use Rattle.xbar_equip.specs.TextLines.{lines}
 use Rattle.xbar_office.specs.Audit.{IsFirstWrongTurn}
 use Rattle.xbar_office.specs.Legal.{HaveTurns}
 use Rattle.xbar_report.specs.Sheet.{Sheet, sheet_text, IsSheet, IsSheetText, IsReportText}
 use Rattle.xbar_report.specs.declared.read_fault.ReadFault.{ReadFault}
 use Rattle.xbar_report.specs.declared.read_fault.ReadFault.TheVariants.{Line, Turns, Memory}
-
--- the lines of a text, each with the byte that ends it; the last may lack it
-unfoldable pub lines : List ℕ → List (List ℕ)
-lines [] = []
-lines (b ∷ text) = if b == 10 then (b ∷ []) ∷ lines text else onto_first b (lines text)
 
 -- two texts have the same first lines, so many as are asked for, or all
 abbrev pub HaveSameLines : ℕ → List ℕ → List ℕ → Type 0

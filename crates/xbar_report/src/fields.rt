@@ -14,7 +14,7 @@ ghost use Rattle.xbar_office.specs.declared.reply.Record.{Record as TheRecord};
 ghost use Rattle.xbar_report.specs.Bare.{bare_record};
 ghost use Rattle.xbar_report.specs.Ranges.{IsCard, IsEnd, IsRecord, IsTroubleLine};
 ghost use Rattle.xbar_report.specs.Text.{count_line, end_fields, path_field, record_line, trouble_line};
-ghost use Rattle.xbar_report.specs.Split.{Lacks};
+ghost use Rattle.xbar_equip.specs.TextLines.{Lacks};
 ghost use Rattle.xbar_report.specs.Parts.{end_first, end_name, end_second, end_trial, job_dialled, job_kind, job_line, plain_ends};
 ghost use Rattle.xbar_report.specs.declared.trouble_line.TroubleLine.{TroubleLine as TheTroubleLine};
 

@@ -1,7 +1,7 @@
 //! Texts taken apart at a byte.
 
 ghost use Rattle.std.specs.Prelude.{◌≡◌, ◌++◌, ◌==◌, ◌∷◌, List, ℕ, IfNone, IfSome, IsSomeAnd, position};
-ghost use Rattle.xbar_report.specs.Split.{IsWholeLine, Lacks};
+ghost use Rattle.xbar_equip.specs.TextLines.{IsWholeLine, Lacks};
 
 /// What stands before the first byte `end` of a text, and what stands behind it.
 pub fn split_at_byte(text: &[u8], end: u8) -> Option<(&[u8], &[u8])>

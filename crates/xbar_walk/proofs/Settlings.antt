@@ -134,7 +134,7 @@ changed_by change k o = record o { exchange = change o.plan k o.exchange }
 abbrev pub Makes : (Tables → ℕ → Exchange → Exchange) → (ℕ → Walk → Walk) → Type 0
 Makes change part = (k : ℕ) (w : Walk) → (part k w).office ≡ changed_by change k w.office
 
-steps_make : (k count : ℕ) (w : Walk) → (told_steps k count w).office ≡ record w.office { exchange = steps w.office.plan k count w.office.exchange }
+pub steps_make : (k count : ℕ) (w : Walk) → (told_steps k count w).office ≡ record w.office { exchange = steps w.office.plan k count w.office.exchange }
 unfolding told_steps steps
 steps_make k zero w = refl
 steps_make k (suc count) w =

@@ -1,7 +1,7 @@
 //! An office that is walked through: each step is made and told.
 
 ghost use Rattle.std.specs.Prelude.{◌≡◌, ◌<◌, ◌≤◌, ◌++◌, OnOk, drop, length, string_bytes};
-ghost use Rattle.xbar_core.specs.Moves.{after_step};
+ghost use Rattle.xbar_core.specs.Moves.{after_step, steps};
 ghost use Rattle.xbar_walk.specs.Lines.{step_lines};
 ghost use Rattle.xbar_walk.specs.Walks.{after_told_step, told_of, told_steps, walk_of};
 
@@ -65,7 +65,7 @@ pub fn walk_step(
     Ok(())
 }
 
-/// Has a marker make so many steps, each told as by `walk_step`. They end at once where it is idle.
+/// Has a marker make so many steps, as `Exchange::steps` does, each told as by `walk_step`. They end at once where it is idle.
 pub fn walk_steps(
     exchange: &mut Exchange<'_>,
     marker: u32,
@@ -74,7 +74,10 @@ pub fn walk_steps(
     text: &mut String,
 ) -> Result<(), AllocError>
     requires { marker < length exchange.old.exchange.markers }
-    ensures { OnOk result (walk_of exchange.new number.new (string_bytes text.new)
+    ensures steps { OnOk result (exchange.new ≡ record exchange.old {
+      exchange = steps exchange.old.plan marker count exchange.old.exchange;
+    }) }
+    ensures told { OnOk result (walk_of exchange.new number.new (string_bytes text.new)
         ≡ told_steps marker count (walk_of exchange.old number.old (string_bytes text.old))) }
 {
     for _made in 0..count {

@@ -2,9 +2,9 @@
 //! and the status stay, and the sentence is the right one or none.
 
 use super::refused::FILE;
-use crate::between::replay_between;
+use crate::between::task_between;
 use crate::ending::Ending;
-use crossbar5::{Counted, kinds_of};
+use crossbar5::{Counted, Task, kinds_of};
 use std::alloc::Global;
 use std::process::Abort;
 
@@ -23,11 +23,12 @@ fn is_refused_or_out_of_memory(
     };
     let mut source = Counted::new(traffic);
     let mut sink = Counted::new(Vec::new(alloc));
-    let ended = replay_between(
+    let task = Task::Replay { kinds: &kinds };
+    let ended = task_between(
         alloc,
         Some(FILE),
         plan.as_bytes(),
-        &kinds,
+        task,
         &mut source,
         &mut sink,
     );

@@ -1,8 +1,8 @@
 //! Runs that are refused, between devices that tell their bytes.
 
-use crate::between::{audit_between, live_between, replay_between};
+use crate::between::{live_between, task_between};
 use crate::ended::Ended;
-use crossbar5::{Counted, kinds_of, open_gates};
+use crossbar5::{Counted, Look, Task, kinds_of, open_gates};
 use std::alloc::Global;
 use std::process::Abort;
 use std::sync::Wait;
@@ -64,7 +64,29 @@ pub fn check_ended(
     Ok(())
 }
 
-/// A replay of this traffic, with this plan, ends so.
+/// A task with this plan and this input ends so.
+fn check_task(
+    rt: &impl Abort,
+    alloc: Global,
+    plan: &str,
+    task: Task<'_>,
+    input: &[u8],
+    wanted: Wanted<'_>,
+) -> Result<(), Fail> {
+    let mut source = Counted::new(input);
+    let mut sink = Counted::new(Vec::new(alloc));
+    let ended = task_between(
+        alloc,
+        Some(FILE),
+        plan.as_bytes(),
+        task,
+        &mut source,
+        &mut sink,
+    );
+    check_ended(rt, alloc, &ended, sink.get_ref(), wanted)
+}
+
+/// A replay of this traffic, with this plan, ends so; and a walk, where the traffic is refused.
 pub fn check_replay(
     rt: &impl Abort,
     alloc: Global,
@@ -74,17 +96,25 @@ pub fn check_replay(
     wanted: Wanted<'_>,
 ) -> Result<(), Fail> {
     let kinds = kinds_of(alloc, kinds)?;
-    let mut source = Counted::new(traffic);
-    let mut sink = Counted::new(Vec::new(alloc));
-    let ended = replay_between(
+    check_task(
+        rt,
         alloc,
-        Some(FILE),
-        plan.as_bytes(),
-        &kinds,
-        &mut source,
-        &mut sink,
-    );
-    check_ended(rt, alloc, &ended, sink.get_ref(), wanted)
+        plan,
+        Task::Replay { kinds: &kinds },
+        traffic,
+        wanted,
+    )?;
+    if wanted.1 == 0 {
+        return Ok(());
+    }
+    check_task(
+        rt,
+        alloc,
+        plan,
+        Task::Walk { kinds: &kinds },
+        traffic,
+        wanted,
+    )
 }
 
 /// So do live calls by one marker of each kind.
@@ -112,7 +142,7 @@ pub fn check_live<T: Threads + Wait + Sync + Abort>(
     check_ended(rt, alloc, &ended, sink.get_ref(), wanted)
 }
 
-/// So does an audit of these records.
+/// So does an audit of these records; and a drawing, where they aren't legal.
 pub fn check_audit(
     rt: &impl Abort,
     alloc: Global,
@@ -120,8 +150,10 @@ pub fn check_audit(
     records: &[u8],
     wanted: Wanted<'_>,
 ) -> Result<(), Fail> {
-    let mut source = Counted::new(records);
-    let mut sink = Counted::new(Vec::new(alloc));
-    let ended = audit_between(alloc, Some(FILE), plan.as_bytes(), &mut source, &mut sink);
-    check_ended(rt, alloc, &ended, sink.get_ref(), wanted)
+    check_task(rt, alloc, plan, Task::Audit, records, wanted)?;
+    if wanted.1 == 0 {
+        return Ok(());
+    }
+    let look = Look::Drawing;
+    check_task(rt, alloc, plan, Task::Draw { look }, records, wanted)
 }

@@ -6,23 +6,21 @@ use super::refused::{
 };
 use crate::ended::Ended;
 use crate::ending::Ending;
-use crate::{audit, live, replay};
-use crossbar5::EngineFault;
+use crate::{live, perform, replay};
+use crossbar5::{EngineFault, Task};
 use std::alloc::Global;
 use std::process::Abort;
 use std::test::Fail;
+
+/// A line of a plan, or traffic; the fault that it is refused for; and how that is told.
+type Told = (&'static str, &'static str, &'static str);
 
 /// A dial tone job that is done alone.
 const FIRST: &str = "J,0,1,D,3041\nS,0,96,,\n";
 
 /// Each line makes the example plan one that is refused for the fault and told so, whatever the
 /// traffic is.
-fn plans_are_told(
-    rt: &impl Abort,
-    alloc: Global,
-    at: usize,
-    table: &[(&'static str, &'static str, &'static str)],
-) -> Result<(), Fail> {
+fn plans_are_told(rt: &impl Abort, alloc: Global, at: usize, table: &[Told]) -> Result<(), Fail> {
     for (line, fault, told) in table {
         let plan = changed(alloc, at, line)?;
         let output = format!(in alloc; "FAULT,{fault}\n")?;
@@ -69,136 +67,134 @@ fn documents(rt: HostRuntime) -> Result<(), Fail> {
     plans_are_told(&rt, rt.alloc(), FAULTS, &faults)
 }
 
+const GROUPS_TOLD: [Told; 11] = [
+    (
+        "groups = 5",
+        "P4",
+        "groups: 5 stands there; an array of texts is wanted",
+    ),
+    (
+        "groups = ['REG register 417', 'INTRA Intra 600-601']",
+        "P5",
+        r#"groups, item 2 "INTRA Intra 600-601", part 2 "Intra": register, intra or outgoing is wanted"#,
+    ),
+    (
+        "groups = ['REG register 417', 'INTRA intra 600-601', 'OUTA outgoing 80']",
+        "P5",
+        r#"groups, item 3 "OUTA outgoing 80", part 3 "80": three digits are wanted"#,
+    ),
+    (
+        "groups = ['A register 1', 'A register 1']",
+        "P5",
+        r#"groups, item 1 "A register 1", part 3 "1": three digits are wanted"#,
+    ),
+    (
+        "groups = ['A register 100', 'B outgoing']",
+        "P6",
+        r#"groups, item 2 "B outgoing": 0 members stand there; 1 to 40 are wanted"#,
+    ),
+    (
+        "groups = ['REG register 417', 'OUTA outgoing 800', 'OUTA outgoing 801']",
+        "P7",
+        "groups, item 3: name OUTA stands already in item 2",
+    ),
+    (
+        "groups = ['OUTA outgoing 800']",
+        "P8",
+        "groups: no register group stands there; one is wanted",
+    ),
+    (
+        "groups = ['REG register 417', 'OUTA outgoing 800', 'REGB register 418']",
+        "P8",
+        "groups, item 3: a register group stands already in item 1",
+    ),
+    (
+        "groups = ['REG register 417 418', 'INTRA intra 600-601', 'OUTA outgoing 800 418']",
+        "P9",
+        "groups, item 3: place 418 stands already in item 1",
+    ),
+    (
+        "groups = ['REG register 417 418', 'INTRA intra 600-600']",
+        "P9",
+        "groups, item 2: place 600 stands there twice",
+    ),
+    (
+        "groups = ['REG register 417', 'INTRA intra 600-601 700-611']",
+        "P10",
+        "groups, item 2: 700 and 611 are on two trunk link frames; one frame is wanted",
+    ),
+];
+
 #[test]
 fn groups(rt: HostRuntime) -> Result<(), Fail> {
-    let table = [
-        (
-            "groups = 5",
-            "P4",
-            "groups: 5 stands there; an array of texts is wanted",
-        ),
-        (
-            "groups = ['REG register 417', 'INTRA Intra 600-601']",
-            "P5",
-            r#"groups, item 2 "INTRA Intra 600-601", part 2 "Intra": register, intra or outgoing is wanted"#,
-        ),
-        (
-            "groups = ['REG register 417', 'INTRA intra 600-601', 'OUTA outgoing 80']",
-            "P5",
-            r#"groups, item 3 "OUTA outgoing 80", part 3 "80": three digits are wanted"#,
-        ),
-        (
-            "groups = ['A register 1', 'A register 1']",
-            "P5",
-            r#"groups, item 1 "A register 1", part 3 "1": three digits are wanted"#,
-        ),
-        (
-            "groups = ['A register 100', 'B outgoing']",
-            "P6",
-            r#"groups, item 2 "B outgoing": 0 members stand there; 1 to 40 are wanted"#,
-        ),
-        (
-            "groups = ['REG register 417', 'OUTA outgoing 800', 'OUTA outgoing 801']",
-            "P7",
-            "groups, item 3: name OUTA stands already in item 2",
-        ),
-        (
-            "groups = ['OUTA outgoing 800']",
-            "P8",
-            "groups: no register group stands there; one is wanted",
-        ),
-        (
-            "groups = ['REG register 417', 'OUTA outgoing 800', 'REGB register 418']",
-            "P8",
-            "groups, item 3: a register group stands already in item 1",
-        ),
-        (
-            "groups = ['REG register 417 418', 'INTRA intra 600-601', 'OUTA outgoing 800 418']",
-            "P9",
-            "groups, item 3: place 418 stands already in item 1",
-        ),
-        (
-            "groups = ['REG register 417 418', 'INTRA intra 600-600']",
-            "P9",
-            "groups, item 2: place 600 stands there twice",
-        ),
-        (
-            "groups = ['REG register 417', 'INTRA intra 600-601 700-611']",
-            "P10",
-            "groups, item 2: 700 and 611 are on two trunk link frames; one frame is wanted",
-        ),
-    ];
-    plans_are_told(&rt, rt.alloc(), GROUPS, &table)
+    plans_are_told(&rt, rt.alloc(), GROUPS, &GROUPS_TOLD)
 }
+
+const NUMBERS_TOLD: [Told; 4] = [
+    (
+        "version = 2\nnumbers = []",
+        "P1",
+        "line 3, column 1: duplicate key",
+    ),
+    (
+        r#"numbers = ["0001  3041"]"#,
+        "P5",
+        r#"numbers, item 1 "0001  3041": one space between parts is wanted"#,
+    ),
+    (
+        r#"numbers = ["0001 3041", "0002 3052 3100"]"#,
+        "P5",
+        r#"numbers, item 2 "0002 3052 3100": a number and one line are wanted in version 1"#,
+    ),
+    (
+        r#"numbers = ["0001 3041", "0002 3052", "0003 1000", "0002 1000"]"#,
+        "P11",
+        "numbers, item 4: number 0002 stands already in item 2",
+    ),
+];
+
+const CODES_TOLD: [Told; 6] = [
+    (
+        r#"codes = ["234 INTRA", "55 OUTA"]"#,
+        "P5",
+        r#"codes, item 2 "55 OUTA", part 1 "55": three digits are wanted"#,
+    ),
+    (
+        r#"codes = ["234"]"#,
+        "P6",
+        r#"codes, item 1 "234": 0 groups stand there; 1 to 4 are wanted"#,
+    ),
+    (
+        r#"codes = ["234 INTRA", "777 OUTA", "234 OUTA"]"#,
+        "P12",
+        "codes, item 3: code 234 stands already in item 1",
+    ),
+    (
+        r#"codes = ["234 INTRA", "777 NONE"]"#,
+        "P13",
+        "codes, item 2: no group has the name NONE",
+    ),
+    (
+        r#"codes = ["234 INTRA", "555 OUTB INTRA"]"#,
+        "P14",
+        "codes, item 2: INTRA is intra and OUTB is outgoing; groups of one kind are wanted",
+    ),
+    (
+        r#"codes = ["234 INTRA", "555 REG"]"#,
+        "P14",
+        "codes, item 2: REG has registers; intra groups or outgoing groups are wanted",
+    ),
+];
 
 #[test]
 fn numbers_and_codes(rt: HostRuntime) -> Result<(), Fail> {
-    let numbers = [
-        (
-            "version = 2\nnumbers = []",
-            "P1",
-            "line 3, column 1: duplicate key",
-        ),
-        (
-            r#"numbers = ["0001  3041"]"#,
-            "P5",
-            r#"numbers, item 1 "0001  3041": one space between parts is wanted"#,
-        ),
-        (
-            r#"numbers = ["0001 3041", "0002 3052 3100"]"#,
-            "P5",
-            r#"numbers, item 2 "0002 3052 3100": a number and one line are wanted in version 1"#,
-        ),
-        (
-            r#"numbers = ["0001 3041", "0002 3052", "0003 1000", "0002 1000"]"#,
-            "P11",
-            "numbers, item 4: number 0002 stands already in item 2",
-        ),
-    ];
-    plans_are_told(&rt, rt.alloc(), NUMBERS, &numbers)?;
-    let codes = [
-        (
-            r#"codes = ["234 INTRA", "55 OUTA"]"#,
-            "P5",
-            r#"codes, item 2 "55 OUTA", part 1 "55": three digits are wanted"#,
-        ),
-        (
-            r#"codes = ["234"]"#,
-            "P6",
-            r#"codes, item 1 "234": 0 groups stand there; 1 to 4 are wanted"#,
-        ),
-        (
-            r#"codes = ["234 INTRA", "777 OUTA", "234 OUTA"]"#,
-            "P12",
-            "codes, item 3: code 234 stands already in item 1",
-        ),
-        (
-            r#"codes = ["234 INTRA", "777 NONE"]"#,
-            "P13",
-            "codes, item 2: no group has the name NONE",
-        ),
-        (
-            r#"codes = ["234 INTRA", "555 OUTB INTRA"]"#,
-            "P14",
-            "codes, item 2: INTRA is intra and OUTB is outgoing; groups of one kind are wanted",
-        ),
-        (
-            r#"codes = ["234 INTRA", "555 REG"]"#,
-            "P14",
-            "codes, item 2: REG has registers; intra groups or outgoing groups are wanted",
-        ),
-    ];
-    plans_are_told(&rt, rt.alloc(), CODES, &codes)
+    plans_are_told(&rt, rt.alloc(), NUMBERS, &NUMBERS_TOLD)?;
+    plans_are_told(&rt, rt.alloc(), CODES, &CODES_TOLD)
 }
 
 /// Each traffic is refused for the fault that stands behind `FAULT` and told so, under the example
 /// plan.
-fn rows_are_told(
-    rt: &impl Abort,
-    alloc: Global,
-    kinds: &str,
-    table: &[(&'static str, &'static str, &'static str)],
-) -> Result<(), Fail> {
+fn rows_are_told(rt: &impl Abort, alloc: Global, kinds: &str, table: &[Told]) -> Result<(), Fail> {
     let plan = changed(alloc, NOTHING, "")?;
     for (traffic, fault, told) in table {
         let output = format!(in alloc; "FAULT,{fault}\n")?;
@@ -209,56 +205,57 @@ fn rows_are_told(
     Ok(())
 }
 
+const ROWS_TOLD: [Told; 9] = [
+    (
+        "J,0,1,D",
+        "T1,1",
+        "line 1 (row 1): 4 fields stand there; 5 are wanted (T1)",
+    ),
+    (
+        "Q,0,1,D,3041",
+        "T2,1",
+        r#"line 1 (row 1), field 1 "Q": J or S is wanted (T2)"#,
+    ),
+    (
+        "J,0,1,DC,3041 5551234",
+        "T2,1",
+        r#"line 1 (row 1), field 4 "DC": D, C or R is wanted (T2)"#,
+    ),
+    (
+        "J,0,1,D,3041\n\n\nS,0,96,,\n\nJ,0,2,C,3041 55512345\n",
+        "T3,3",
+        r#"line 6 (row 3), field 5 "3041 55512345": a line, a space and seven digits are wanted (T3)"#,
+    ),
+    (
+        "J,0,01,D,3041",
+        "T3,1",
+        r#"line 1 (row 1), field 3 "01": a number from 0 to 9999, without leading zeros, is wanted (T3)"#,
+    ),
+    (
+        "S,100,1,,",
+        "T3,1",
+        r#"line 1 (row 1), field 2 "100": a number from 0 to 99, without leading zeros, is wanted (T3)"#,
+    ),
+    (
+        "S,0,1,,x",
+        "T3,1",
+        r#"line 1 (row 1), field 5 "x": an empty field is wanted (T3)"#,
+    ),
+    (
+        "J,0,1,D,3041\nS,0,96,,\nJ,1,1,D,1000",
+        "T4,3",
+        r#"line 3 (row 3), field 3 "1": this number stands already on line 1 (row 1) (T4)"#,
+    ),
+    (
+        "C,7,3041,5551234,R",
+        "T6,1",
+        r#"line 1 (row 1), field 1 "C": a call of a live office stands there; J or S is wanted (T6)"#,
+    ),
+];
+
 #[test]
 fn rows(rt: HostRuntime) -> Result<(), Fail> {
-    let table = [
-        (
-            "J,0,1,D",
-            "T1,1",
-            "line 1 (row 1): 4 fields stand there; 5 are wanted (T1)",
-        ),
-        (
-            "Q,0,1,D,3041",
-            "T2,1",
-            r#"line 1 (row 1), field 1 "Q": J or S is wanted (T2)"#,
-        ),
-        (
-            "J,0,1,DC,3041 5551234",
-            "T2,1",
-            r#"line 1 (row 1), field 4 "DC": D, C or R is wanted (T2)"#,
-        ),
-        (
-            "J,0,1,D,3041\n\n\nS,0,96,,\n\nJ,0,2,C,3041 55512345\n",
-            "T3,3",
-            r#"line 6 (row 3), field 5 "3041 55512345": a line, a space and seven digits are wanted (T3)"#,
-        ),
-        (
-            "J,0,01,D,3041",
-            "T3,1",
-            r#"line 1 (row 1), field 3 "01": a number from 0 to 9999, without leading zeros, is wanted (T3)"#,
-        ),
-        (
-            "S,100,1,,",
-            "T3,1",
-            r#"line 1 (row 1), field 2 "100": a number from 0 to 99, without leading zeros, is wanted (T3)"#,
-        ),
-        (
-            "S,0,1,,x",
-            "T3,1",
-            r#"line 1 (row 1), field 5 "x": an empty field is wanted (T3)"#,
-        ),
-        (
-            "J,0,1,D,3041\nS,0,96,,\nJ,1,1,D,1000",
-            "T4,3",
-            r#"line 3 (row 3), field 3 "1": this number stands already on line 1 (row 1) (T4)"#,
-        ),
-        (
-            "C,7,3041,5551234,R",
-            "T6,1",
-            r#"line 1 (row 1), field 1 "C": a call of a live office stands there; J or S is wanted (T6)"#,
-        ),
-    ];
-    rows_are_told(&rt, rt.alloc(), "XX", &table)
+    rows_are_told(&rt, rt.alloc(), "XX", &ROWS_TOLD)
 }
 
 #[test]
@@ -379,12 +376,16 @@ fn markers_files_and_lengths(rt: HostRuntime) -> Result<(), Fail> {
             "crossbar5: nofile.toml: cannot be read",
         ),
         (
-            audit(&rt, Some("nofile.toml")),
+            perform(&rt, Some("nofile.toml"), Task::Audit),
             6,
             "crossbar5: nofile.toml: cannot be read",
         ),
         // What is no file can be opened, but not read.
-        (audit(&rt, Some("/")), 6, "crossbar5: /: cannot be read"),
+        (
+            perform(&rt, Some("/"), Task::Audit),
+            6,
+            "crossbar5: /: cannot be read",
+        ),
         (
             Ended::of_plan_file(EngineFault::Long, Some("endless.toml")),
             4,

@@ -40,23 +40,23 @@ fn an_empty_office(rt: HostRuntime) -> Result<(), Fail> {
 
 const DIAL_TONE: &str = "\
 PATHS AT A GLANCE
-3041 --[frame 3]-- channel 0 --[frame 4]-- 417   register's path: REG 0
+3052 --[frame 3]-- channel 0 --[frame 4]-- 417   register's path: REG 0
 
 A REGISTER'S PATH
-3041-0-417: line 3041 to register REG 0, channel 0
+3052-0-417: line 3052 to register REG 0, channel 0
          +-- line link frame 3 --+         +- trunk link frame 4 --+
-3041 ----X-------- LL300 --------X--JU340--X-------- TL410 --------X---- 417
+3052 ----X-------- LL300 --------X--JU340--X-------- TL410 --------X---- 417
          +-----------------------+         +-----------------------+
 switch  3,0                     3,0       4,0                     4,1
 word     60                      70       290                     281
 field     0                       4         3                       0
-holds    22                       1         2                       8
+holds    28                       1         2                       8
 ";
 
 #[test]
 fn a_path_to_a_register(rt: HostRuntime) -> Result<(), Fail> {
     let plan = Plan::example(rt.alloc())?;
-    let text = text_after(rt.alloc(), &plan, &[(1, b'D', b"3041", b"")])?;
+    let text = text_after(rt.alloc(), &plan, &[(1, b'D', b"3052", b"")])?;
     check_eq!(rt; text.as_str(), DIAL_TONE);
     Ok(())
 }

@@ -1,6 +1,6 @@
 use Rattle.std.proofs.Common.{◌≡◌, ◌<◌, ◌+◌, ◌++◌, ◌∷◌, [], List, ℕ, suc, length, take, drop, get_or, sym, ap, ◌∙◌, take-append-drop}
 use Rattle.std.proofs.lemmas.List.{take_more, drop_more}
-use Rattle.xbar_report.specs.Split.{Lacks, IsWholeLine}
+use Rattle.xbar_equip.specs.TextLines.{Lacks, IsWholeLine}
 use Rattle.xbar_report.proofs.Splits.{cut_at_place, lacks_none}
 use Rattle.xbar_report.proofs.split.first_line.Goals as goal
 

@@ -1,5 +1,5 @@
 use Rattle.std.proofs.Common.{◌≡◌, ◌++◌, ◌∷◌, List, ℕ, suc, take, drop, sym, ◌∙◌, subst, take-append-drop}
-use Rattle.xbar_report.specs.Split.{Lacks}
+use Rattle.xbar_equip.specs.TextLines.{Lacks}
 use Rattle.xbar_report.proofs.Splits.{cut_at_place, lacks_none, cut_once, has_byte}
 use Rattle.xbar_report.proofs.split.split_at_byte.Goals as goal
 

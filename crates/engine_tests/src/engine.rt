@@ -1,13 +1,16 @@
-//! Replays of traffic, with plans and markers of all kinds.
+//! Replays of traffic, with plans and markers of all kinds; walks, audits and drawings.
 
 use crate::checks::check_eq;
-use crossbar5::{Counted, EngineFault, Sink, Source, Status, kinds_of, run_replay};
+use crossbar5::{
+    Counted, EngineFault, Sink, Source, Status, Task, answer_task, kinds_of, run_replay,
+};
 use std::alloc::{AllocError, Global};
 use std::process::Abort;
 use std::test::Fail;
 use xbar_core::Kind;
 
 mod audits;
+mod draws;
 mod faults;
 mod kinds;
 mod large;
@@ -15,6 +18,7 @@ mod meetings;
 mod memory;
 mod plans;
 mod replays;
+mod walks;
 
 /// The example plan, as a text with these faulty links.
 fn plan_with(alloc: Global, faults: &str) -> Result<String, AllocError> {
@@ -33,6 +37,18 @@ const FIRST: &str = "J,0,1,D,3041\nS,0,96,,\n";
 const FIRST_TEXT: &str = "0,1,0,D,3041,-,DIALTONE,1,3041-0-417,-\nPATHS,1\nCLOSED,4\n";
 
 const TWO: [Kind; 2] = [Kind::Combined; 2];
+
+/// The status that a task ends with, from one device to another.
+fn run<R: Source, W: Sink>(
+    alloc: Global,
+    task: Task<'_>,
+    plan: &str,
+    source: &mut R,
+    sink: &mut W,
+) -> Result<Status, EngineFault> {
+    let answer = answer_task(alloc, task, plan.as_bytes(), source, sink)?;
+    Ok(answer.status)
+}
 
 /// Replays from one device to another, by two markers under the example plan.
 fn replay_example<R: Source, W: Sink>(

@@ -1,7 +1,6 @@
 //! Audits of texts of records, under the example plan but for faulty links.
 
 use super::*;
-use crossbar5::run_audit;
 use test_devices::{Endless, FailAt};
 
 /// An audit of this text writes this answer, and ends with this status.
@@ -14,7 +13,7 @@ fn check_audit(
 ) -> Result<(), Fail> {
     let mut source = Counted::new(text.as_bytes());
     let mut sink = Counted::new(Vec::new(alloc));
-    let status = run_audit(alloc, plan.as_bytes(), &mut source, &mut sink)?;
+    let status = run(alloc, Task::Audit, plan, &mut source, &mut sink)?;
     let answer = str::from_utf8(sink.get_ref()).unwrap_or("this is no text");
     assert_eq!(rt; (text, answer, status), (text, wanted.0, wanted.1));
     Ok(())
@@ -249,7 +248,13 @@ fn plans_of_audits_are_refused(rt: HostRuntime) -> Result<(), Fail> {
     let plan = plan_with(rt.alloc(), "\"JU34\"")?;
     let mut source = Counted::new(FailAt::new(0, FIRST_TEXT.as_bytes()));
     let mut sink = Counted::new(Vec::new(rt.alloc()));
-    let ended = run_audit(rt.alloc(), plan.as_bytes(), &mut source, &mut sink);
+    let ended = run(
+        rt.alloc(),
+        Task::Audit,
+        plan.as_str(),
+        &mut source,
+        &mut sink,
+    );
     assert_eq!(rt; ended, Ok(Status::PlanRefused));
     assert_eq!(rt; sink.get_ref().as_slice(), b"FAULT,P5\n".as_slice());
     assert_eq!(rt; source.failures(), 0);
@@ -260,22 +265,22 @@ fn plans_of_audits_are_refused(rt: HostRuntime) -> Result<(), Fail> {
 #[test]
 fn devices_of_audits_fail(rt: HostRuntime) -> Result<(), Fail> {
     let plan = plan_with(rt.alloc(), "")?;
-    let plan = plan.as_bytes();
+    let plan = plan.as_str();
     for calls in 0..2 {
         let mut source = Counted::new(FailAt::new(calls, FIRST_TEXT.as_bytes()));
         let mut sink = Counted::new(Vec::new(rt.alloc()));
-        let ended = run_audit(rt.alloc(), plan, &mut source, &mut sink);
+        let ended = run(rt.alloc(), Task::Audit, plan, &mut source, &mut sink);
         assert_eq!(rt; ended, Err(EngineFault::Device), "after {calls} reads");
         assert!(rt; sink.get_ref().is_empty());
         let mut source = Counted::new(FIRST_TEXT.as_bytes());
         let mut sink = Counted::new(FailAt::new(calls, Vec::new(rt.alloc())));
-        let ended = run_audit(rt.alloc(), plan, &mut source, &mut sink);
+        let ended = run(rt.alloc(), Task::Audit, plan, &mut source, &mut sink);
         assert_eq!(rt; ended, Err(EngineFault::Device), "after {calls} writes");
         assert_eq!(rt; sink.failures(), 1);
     }
     let mut source = Counted::new(Endless);
     let mut sink = Counted::new(Vec::new(rt.alloc()));
-    let ended = run_audit(rt.alloc(), plan, &mut source, &mut sink);
+    let ended = run(rt.alloc(), Task::Audit, plan, &mut source, &mut sink);
     assert_eq!(rt; ended, Err(EngineFault::Long));
     assert!(rt; sink.get_ref().is_empty());
     Ok(())
@@ -296,7 +301,13 @@ fn refused_memory_leaves_no_answer(rt: HostRuntime) {
     ] {
         let mut source = Counted::new(text.as_bytes());
         let mut sink = Counted::new(Vec::new(rt.alloc()));
-        match run_audit(rt.alloc(), plan.as_bytes(), &mut source, &mut sink) {
+        match run(
+            rt.alloc(),
+            Task::Audit,
+            plan.as_str(),
+            &mut source,
+            &mut sink,
+        ) {
             Ok(_) => assert_eq!(rt; sink.get_ref().as_slice(), answer.as_bytes()),
             // The sink grows too: what went out before it couldn't is a beginning of the answer.
             Err(EngineFault::Device) => {

@@ -1,0 +1,32 @@
+-- What is drawn of records.
+use Rattle.std.specs.Prelude.{◌≡◌, ◌≢◌, ℕ, Option, List}
+use Rattle.xbar_plan.specs.Tables.{Tables}
+use Rattle.xbar_office.specs.Legal.{IsLegal, after}
+use Rattle.xbar_office.specs.declared.reply.Record.{Record}
+use Rattle.xbar_equip.specs.declared.path.Path.{Path}
+use Rattle.xbar_office_text.specs.Text.{office_text}
+use Rattle.xbar_office_drawing.specs.Drawing.{office_drawing}
+use Rattle.xbar_report.specs.Sheet.{IsReport}
+use Rattle.xbar_report.specs.Text.{records_text}
+use Rattle.xbar_report.specs.declared.counts.Counts.{Counts}
+use Rattle.crossbar5.specs.Audit.{AreRightCounts, IsAuditUnder, standing_after}
+use Rattle.crossbar5.specs.declared.look.Look.{Look}
+use Rattle.crossbar5.specs.declared.look.Look.TheVariants.{Text, Drawing}
+use Rattle.crossbar5.specs.declared.status.Status.{Status}
+use Rattle.crossbar5.specs.declared.status.Status.TheVariants.{Fine}
+
+-- an office after its records, as it is drawn
+abbrev pub drawn : Look → Tables → List Path → List Record → List ℕ
+drawn Text plan paths records = office_text plan paths records
+drawn Drawing plan paths records = office_drawing plan paths records
+
+-- under a plan's tables, the text is a drawing of the office after a text of records, or tells what is wrong with them; the status is an audit's
+pub record IsDrawUnder (look : Look) (plan : Tables) (records text : List ℕ) (status : Status) : Type 0 where
+  -- what an audit writes of them
+  pub told : List ℕ
+  pub audit : IsAuditUnder plan records told status
+  -- of a legal list with right counts, or none, the office after it is drawn
+  pub legal : (list : List Record) (counts : Option Counts) → IsReport list counts → records ≡ records_text list counts → IsLegal plan list → AreRightCounts counts (standing_after plan list)
+      → (text ≡ drawn look plan (after plan list) list) × (status ≡ Fine)
+  -- of all else is told what the audit tells
+  pub refused : status ≢ Fine → text ≡ told

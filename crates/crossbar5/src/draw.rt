@@ -1,0 +1,56 @@
+//! A drawing of the office after records that an audit finds legal.
+
+ghost use Rattle.std.specs.Prelude.{◌≡◌, IfOk, List, Option, string_bytes};
+ghost use Rattle.xbar_office.specs.Legal.{after};
+ghost use Rattle.xbar_office.specs.declared.reply.Record.{Record as TheRecord};
+ghost use Rattle.xbar_report.specs.Sheet.{IsReport, IsReportText};
+ghost use Rattle.xbar_report.specs.Text.{records_text};
+ghost use Rattle.xbar_report.specs.declared.counts.Counts.{Counts as TheCounts};
+ghost use Rattle.crossbar5.specs.Draw.{IsDrawUnder, drawn as drawn_by};
+
+use crate::audit::{audit_text, office_after};
+use crate::look::Look;
+use crate::status::Status;
+use crate::written::Written;
+use std::alloc::{AllocError, Global};
+use xbar_office_drawing::office_drawing;
+use xbar_office_text::office_text;
+use xbar_plan::Plan;
+use xbar_report::{ReadFault, read};
+
+/// What is written of a text of records: a drawing, or what an audit finds wrong.
+pub fn draw_text(alloc: Global, plan: &Plan, look: Look, text: &[u8]) -> Result<Written, AllocError>
+    ensures { IfOk result (λ written.
+        IsDrawUnder look plan.now text.now written.text.items written.status) }
+{
+    let told = audit_text(alloc, plan, text)?;
+    if told.status != Status::Fine {
+        return Ok(told);
+    }
+    Ok(Written {
+        text: drawn(alloc, plan, look, text)?.into_bytes(),
+        status: Status::Fine,
+        slip: None,
+    })
+}
+
+/// The drawing of the office after the records of this text.
+fn drawn(alloc: Global, plan: &Plan, look: Look, text: &[u8]) -> Result<String, AllocError>
+    requires { IsReportText text.now }
+    ensures { (list : List TheRecord) (counts : Option TheCounts) → IsReport list counts →
+        text.now ≡ records_text list counts →
+        IfOk result (λ drawing. string_bytes drawing ≡
+        drawn_by look plan.now (after plan.now list) list) }
+{
+    match read(alloc, text) {
+        Ok(report) => {
+            let office = office_after(alloc, plan, &report.records)?;
+            match look {
+                Look::Text => office_text(alloc, plan, office.paths(), &report.records),
+                Look::Drawing => office_drawing(alloc, plan, office.paths(), &report.records),
+            }
+        }
+        Err(ReadFault::Memory) => Err(AllocError),
+        Err(ReadFault::Line { .. } | ReadFault::Turns { .. }) => unreachable!(),
+    }
+}

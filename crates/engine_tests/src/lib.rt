@@ -1,0 +1,7 @@
+//! Tests of the engine, by texts that were worked out outside.
+#![tactic(auto)]
+
+#[cfg(test)]
+mod checks;
+#[cfg(test)]
+mod engine;

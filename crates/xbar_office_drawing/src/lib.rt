@@ -1,0 +1,14 @@
+//! A No. 5 Crossbar office as a drawing in SVG: its paths, their switches, and the trouble cards.
+#![tactic(auto)]
+
+pub use drawing::office_drawing;
+
+mod card_face;
+mod drawing;
+mod ends;
+mod frames;
+mod grids;
+pub mod laws;
+mod office_map;
+mod owned_card;
+mod sheet;
