@@ -1,7 +1,7 @@
 //! What walks through a job have found so far, for the next ones to go on with.
 
 ghost use Rattle.std.specs.Prelude.{◌≡◌};
-ghost use Rattle.xbar_jobs.specs.Found.{IsRow, Knows, KnowsCall};
+ghost use Rattle.xbar_jobs.specs.Found.{Knows};
 ghost use Rattle.xbar_jobs.specs.Script.{Seen as SeenBy, walk};
 ghost use Rattle.xbar_jobs.specs.Tracing.{approach, trace};
 
@@ -17,28 +17,15 @@ use xbar_equip::{Len, Path};
 use xbar_plan::Member;
 
 /// What the line junctor switches of a frame were, as far as they were tested, from the first on.
-#[derive(Debug, Drop)]
+#[derive(Debug, Default, Drop)]
 pub struct Row {
     pub frame: u8,
     pub words: ArrayVec<u64, 10>,
 }
 
-impl Row {
-    /// Nothing was tested.
-    #[tactic(auto, using(crate::proofs::KeptFacts::row_none))]
-    pub fn new() -> Self
-        ensures { (seen : SeenBy) → IsRow result seen }
-    {
-        Row {
-            frame: 0,
-            words: ArrayVec::new(),
-        }
-    }
-}
-
 /// What was found for a call: the line that was hunted last, the word of the group that was asked
 /// last, the first member on trial, and the parties' line junctor switches.
-#[derive(Debug, Drop)]
+#[derive(Debug, Default, Drop)]
 pub struct CallFound {
     pub called: Option<Kept<Len, Party>>,
     pub group: Option<Kept<u8, u64>>,
@@ -47,24 +34,9 @@ pub struct CallFound {
     pub called_row: Row,
 }
 
-impl CallFound {
-    /// Nothing was found.
-    pub fn new() -> Self
-        ensures { (seen : SeenBy) → KnowsCall result seen }
-    {
-        CallFound {
-            called: None,
-            group: None,
-            first: None,
-            calling_row: Row::new(),
-            called_row: Row::new(),
-        }
-    }
-}
-
 /// What a job has found: its line, the path of that, and what it needs for its call, on words as
 /// they will be once what it lets go is let go.
-#[derive(Debug, Drop)]
+#[derive(Debug, Default, Drop)]
 pub struct Found {
     pub calling: Option<Kept<Len, Party>>,
     pub own: Option<Kept<Party, Option<Path>>>,
@@ -73,26 +45,15 @@ pub struct Found {
 }
 
 impl Found {
-    /// Nothing was found.
-    pub fn new() -> Self
-        ensures { (seen : SeenBy) → Knows result seen }
-    {
-        Found {
-            calling: None,
-            own: None,
-            leave: None,
-            call: CallFound::new(),
-        }
-    }
-
     /// What was found for a call counts on words as they will be once this is let go.
+    #[tactic(auto, using(crate::proofs::KeptFacts::row_none))]
     pub fn let_go(&mut self, leave: &Option<Leave>)
         ensures leave { self.new.leave ≡ leave.now }
         ensures knows { (seen : SeenBy) → Knows self.old seen → Knows self.new seen }
     {
         if self.leave != *leave {
             self.leave = *leave;
-            self.call = CallFound::new();
+            self.call = CallFound::default();
         }
     }
 

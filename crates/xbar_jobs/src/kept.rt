@@ -1,4 +1,6 @@
-ghost use Rattle.std.specs.Prelude.{◌≡◌, IfSome, Some, true};
+ghost use Rattle.std.specs.Prelude.{◌≡◌, IfSome, MatchResult, Some, true};
+
+use crate::kinds::Wanted;
 
 /// What a walk has come to, with what it was asked for, kept for the next walks.
 #[derive(Debug, Drop)]
@@ -24,5 +26,21 @@ impl<K: Copy + Drop + PartialEq, V: Copy + Drop> Kept<K, V> {
                 }
             }
         }
+    }
+
+    /// Keeps what a walk has come to with this.
+    pub fn keep(
+        kept: &mut Option<Self>,
+        key: K,
+        found: Result<V, Wanted>,
+    ) -> Result<V, Wanted>
+        ensures found { result ≡ found }
+        ensures kept { MatchResult found
+            (λ value. kept.new ≡ Some (record { key = key; value = value }))
+            (λ _. kept.new ≡ kept.old) }
+    {
+        let value = found?;
+        *kept = Some(Kept { key, value });
+        Ok(value)
     }
 }

@@ -56,8 +56,9 @@ impl Scripts<42, 19> for Offices {
         first_conn(job)
     }
 
+    #[tactic(auto, using(crate::proofs::KeptFacts::row_none))]
     fn start(_job: &Job) -> Found {
-        Found::new()
+        Found::default()
     }
 
     fn walk(

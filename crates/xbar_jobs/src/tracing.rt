@@ -36,14 +36,7 @@ pub fn approach_once(
 {
     match Kept::value_for(kept, &line) {
         Some(party) => Ok(party),
-        None => {
-            let party = &approach(seen, line)?;
-            *kept = Some(Kept {
-                key: line,
-                value: *party,
-            });
-            Ok(*party)
-        }
+        None => Kept::keep(kept, line, approach(seen, line)),
     }
 }
 
@@ -121,14 +114,7 @@ pub fn trace_once(
 {
     match Kept::value_for(kept, party) {
         Some(path) => Ok(path),
-        None => {
-            let path = &trace(seen, party)?;
-            *kept = Some(Kept {
-                key: *party,
-                value: *path,
-            });
-            Ok(*path)
-        }
+        None => Kept::keep(kept, *party, trace(seen, party)),
     }
 }
 

@@ -84,13 +84,6 @@ pub fn reach_once(
 {
     match Kept::value_for(kept, member) {
         Some(trunk) => Ok(trunk),
-        None => {
-            let trunk = &reach(seen, member)?;
-            *kept = Some(Kept {
-                key: *member,
-                value: *trunk,
-            });
-            Ok(*trunk)
-        }
+        None => Kept::keep(kept, *member, reach(seen, member)),
     }
 }

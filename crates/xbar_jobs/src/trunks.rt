@@ -106,14 +106,7 @@ fn test_group_once(kept: &mut Option<Kept<u8, u64>>, seen: &Seen, group: u8) -> 
 {
     match Kept::value_for(kept, &group) {
         Some(word) => Ok(word),
-        None => {
-            let word = test_group(seen, group)?;
-            *kept = Some(Kept {
-                key: group,
-                value: word,
-            });
-            Ok(word)
-        }
+        None => Kept::keep(kept, group, test_group(seen, group)),
     }
 }
 
