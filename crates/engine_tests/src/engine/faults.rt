@@ -1,29 +1,33 @@
-//! Reads and writes that fail, and traffic without end.
+//! Reads and writes that fail, and input without end.
 
 use super::*;
-use crate::checks::{check, check_eq};
+use crate::checks::check;
 use test_devices::{Call, Endless, FailAt, Recorder};
 
+/// One read gives bytes, and the next finds the end.
 #[test]
 fn a_failed_read_leaves_nothing_written(rt: HostRuntime) {
-    // One read gives bytes, and the next finds the end.
-    for calls in 0..2 {
-        let mut source = Counted::new(FailAt::new(calls, FIRST.as_bytes()));
-        let mut sink = Counted::new(Vec::new(rt.alloc()));
-        let ended = replay_example(rt.alloc(), &mut source, &mut sink);
-        check_eq!(rt; ended, Err(EngineFault::Device));
-        check!(rt; sink.get_ref().is_empty());
+    for case in CASES {
+        for calls in 0..2 {
+            let mut source = Counted::new(FailAt::new(calls, case.input.as_bytes()));
+            let mut sink = Counted::new(Vec::new(rt.alloc()));
+            let ended = run(rt.alloc(), case, &mut source, &mut sink);
+            check_eq!(rt; ended, Err(EngineFault::Device), "{}", case.text);
+            check!(rt; sink.get_ref().is_empty(), "{}", case.text);
+        }
     }
 }
 
 #[test]
 fn a_failed_write_or_flush_is_told(rt: HostRuntime) {
-    for calls in 0..2 {
-        let mut source = Counted::new(FIRST.as_bytes());
-        let mut sink = Counted::new(FailAt::new(calls, Vec::new(rt.alloc())));
-        let ended = replay_example(rt.alloc(), &mut source, &mut sink);
-        check_eq!(rt; ended, Err(EngineFault::Device), "after {calls}");
-        check_eq!(rt; sink.failures(), 1);
+    for case in CASES {
+        for calls in 0..2 {
+            let mut source = Counted::new(case.input.as_bytes());
+            let mut sink = Counted::new(FailAt::new(calls, Vec::new(rt.alloc())));
+            let ended = run(rt.alloc(), case, &mut source, &mut sink);
+            check_eq!(rt; ended, Err(EngineFault::Device), "{}", case.text);
+            check_eq!(rt; sink.failures(), 1, "{}", case.text);
+        }
     }
 }
 
@@ -54,8 +58,24 @@ fn an_earlier_failure_is_none_of_the_replay(rt: HostRuntime) {
     check_eq!(rt; written.as_slice(), FIRST_TEXT.as_bytes());
 }
 
+/// A refused plan leaves the input unread.
 #[test]
-fn traffic_without_end_is_too_long(rt: HostRuntime) {
+fn nothing_is_read_past_a_refused_plan(rt: HostRuntime) {
+    for case in CASES {
+        let case = Case {
+            plan: "faults = 5",
+            ..*case
+        };
+        let mut source = Counted::new(FailAt::new(0, case.input.as_bytes()));
+        let mut sink = Counted::new(Vec::new(rt.alloc()));
+        let ended = run(rt.alloc(), &case, &mut source, &mut sink);
+        check_eq!(rt; ended, Ok(Status::PlanRefused));
+        check_eq!(rt; sink.get_ref().as_slice(), b"FAULT,P2\n".as_slice());
+    }
+}
+
+#[test]
+fn input_without_end_is_too_long(rt: HostRuntime) {
     let mut source = Counted::new(Endless);
     let mut sink = Counted::new(Vec::new(rt.alloc()));
     let ended = replay_example(rt.alloc(), &mut source, &mut sink);
@@ -64,15 +84,17 @@ fn traffic_without_end_is_too_long(rt: HostRuntime) {
     check!(rt; sink.get_ref().is_empty());
 }
 
+const TEXTS: &[(EngineFault, &str)] = &[
+    (EngineFault::Markers, "Markers"),
+    (EngineFault::Memory, "Memory"),
+    (EngineFault::Device, "Device"),
+    (EngineFault::Long, "Long"),
+];
+
 #[test]
 fn texts_of_faults(rt: HostRuntime) -> Result<(), Fail> {
-    for (fault, text) in [
-        (EngineFault::Markers, "Markers"),
-        (EngineFault::Memory, "Memory"),
-        (EngineFault::Device, "Device"),
-        (EngineFault::Long, "Long"),
-    ] {
-        check_eq!(rt; fault.to_string(rt.alloc())?.as_str(), text);
+    for (fault, text) in TEXTS {
+        check_eq!(rt; fault.to_string(rt.alloc())?.as_str(), *text);
     }
     Ok(())
 }

@@ -1,7 +1,9 @@
 //! The kinds of the markers, as a text and by their number.
 
 use super::*;
-use crate::checks::{check, check_eq};
+use crate::checks::check;
+
+const REFUSED: &[&str] = &["", "d", "XY", "X X", "X\n", "\u{e9}"];
 
 #[test]
 fn kinds_are_named_by_letters(rt: HostRuntime) -> Result<(), Fail> {
@@ -11,41 +13,29 @@ fn kinds_are_named_by_letters(rt: HostRuntime) -> Result<(), Fail> {
     let most = "X".repeat(rt.alloc(), 48)?;
     check_eq!(rt; kinds_of(rt.alloc(), &most)?.len(), 48);
     let too_many = "X".repeat(rt.alloc(), 49)?;
-    for text in ["", "d", "XY", "X X", "X\n", "\u{e9}", too_many.as_str()] {
-        let refused = kinds_of(rt.alloc(), text).err();
-        check_eq!(rt; refused, Some(EngineFault::Markers));
+    check_eq!(rt; kinds_of(rt.alloc(), &too_many).err(), Some(EngineFault::Markers));
+    for text in REFUSED {
+        check_eq!(rt; kinds_of(rt.alloc(), text).err(), Some(EngineFault::Markers), "{text}");
     }
     Ok(())
 }
 
 /// Markers are judged before the plan and the traffic, and nothing is written.
 #[test]
-fn an_office_has_1_to_48_markers(rt: HostRuntime) -> Result<(), Fail> {
+fn an_office_has_1_to_48_markers(rt: HostRuntime) {
     let kinds = [Kind::Combined; 49];
-    for count in [0, 49] {
-        let mut source = Counted::new(b"Q".as_slice());
+    for (count, is_taken) in [(0, false), (1, true), (48, true), (49, false)] {
+        let mut source = Counted::new(FIRST.as_bytes());
         let mut sink = Counted::new(Vec::new(rt.alloc()));
-        let ended = run_replay(
-            rt.alloc(),
-            b"no plan",
-            &kinds[..count],
-            &mut source,
-            &mut sink,
-        );
-        check_eq!(rt; ended, Err(EngineFault::Markers));
-        check!(rt; sink.get_ref().is_empty());
+        let plan = b"no plan";
+        let ended = run_replay(rt.alloc(), plan, &kinds[..count], &mut source, &mut sink);
+        let wanted = if is_taken {
+            Ok(Status::PlanRefused)
+        } else {
+            Err(EngineFault::Markers)
+        };
+        check_eq!(rt; ended, wanted, "{count} markers");
+        check_eq!(rt; sink.get_ref().is_empty(), !is_taken, "{count} markers");
+        check_eq!(rt; source.reads(), 0, "{count} markers");
     }
-    let plan = plan_with(rt.alloc(), "")?;
-    for count in [1, 48] {
-        let text = "PATHS,0\nCLOSED,0\n";
-        check_replay(
-            &rt,
-            rt.alloc(),
-            &plan,
-            &kinds[..count],
-            b"",
-            (text, Status::Fine),
-        )?;
-    }
-    Ok(())
 }

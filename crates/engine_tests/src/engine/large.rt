@@ -1,7 +1,7 @@
-//! Replays, rows and reports that are large.
+//! A replay that is large.
 
 use super::*;
-use crate::checks::{check, check_eq};
+use crate::checks::check;
 
 const CALLS: u32 = 120;
 
@@ -40,8 +40,10 @@ fn calls(alloc: Global) -> Result<String, AllocError> {
 #[test]
 fn more_than_a_hundred_paths(rt: HostRuntime) -> Result<(), Fail> {
     let traffic = calls(rt.alloc())?;
-    let (written, status) = replayed(rt.alloc(), WIDE_PLAN, &TWO, traffic.as_bytes())?;
-    let text = str::from_utf8(&written).unwrap_or("this is no text");
+    let mut source = Counted::new(traffic.as_bytes());
+    let mut sink = Counted::new(Vec::new(rt.alloc()));
+    let status = run_replay(rt.alloc(), WIDE_PLAN.as_bytes(), &TWO, &mut source, &mut sink)?;
+    let text = str::from_utf8(sink.get_ref()).unwrap_or("this is no text");
     check_eq!(rt; status, Status::Fine);
     check!(rt; text.ends_with("\nPATHS,120\nCLOSED,480\n"), "{text}");
     // A line for each job, and two for the counts.
@@ -49,14 +51,4 @@ fn more_than_a_hundred_paths(rt: HostRuntime) -> Result<(), Fail> {
     check_eq!(rt; text.matches(",DIALTONE,").count(), 120);
     check_eq!(rt; text.matches(",CONNECTED,").count(), 120);
     Ok(())
-}
-
-/// A marker tries 9,999 times for a connector that another holds.
-#[test]
-fn a_marker_is_refused_for_many_steps(rt: HostRuntime) -> Result<(), Fail> {
-    let plan = plan_with(rt.alloc(), "")?;
-    let traffic = "J,0,1,D,3041\nS,0,5,,\nJ,1,2,D,3052\nS,1,9999,,\n";
-    let text = "0,1,0,D,3041,-,DIALTONE,1,3041-0-417,-\n\
-1,2,1,D,3052,-,DIALTONE,1,3052-1-418,-\nPATHS,2\nCLOSED,8\n";
-    check_done(&rt, rt.alloc(), &plan, traffic, text)
 }

@@ -1,0 +1,56 @@
+//! Rows that were worked out by hand: traffic with what comes of it, texts of records with what an audit
+//! finds in them or how they are drawn, plans that are refused. Each row of the files in `data` is given to
+//! the engine, and what the engine writes is compared with what it has to be.
+#![tactic(auto)]
+
+mod row;
+mod work;
+
+use row::row_of;
+use std::fs;
+use std::io;
+use toml::Value;
+use work::{Came, came_of};
+
+const FILES: [&str; 6] = [
+    "calls.toml",
+    "refusals.toml",
+    "plans.toml",
+    "audits.toml",
+    "walks.toml",
+    "drawings.toml",
+];
+
+fn main(rt: HostRuntime) -> io::Result<()> {
+    let example = fs::read_to_string(&rt, "example.toml")?;
+    for file in FILES {
+        let text = fs::read_to_string(&rt, file)?;
+        match toml::table_from_str(rt.alloc(), &text) {
+            Ok(table) => {
+                let rows = table.get("rows").and_then(|rows| rows.as_array());
+                tell_all(&rt, &example, rows.map_or(&[], |rows| rows.as_slice()))?;
+            }
+            Err(_) => println!(rt; "{file} can't be read")?,
+        }
+    }
+    Ok(())
+}
+
+/// Tells of each row what came of it.
+fn tell_all(rt: &HostRuntime, example: &str, rows: &[Value]) -> io::Result<()> {
+    for value in rows {
+        match row_of(value, example) {
+            Some(row) => {
+                let Came { text, status } = came_of(rt.alloc(), &row)?;
+                if text.as_slice() == row.output.as_bytes() && status == row.status {
+                    println!(rt; "{}: as worked out", row.name)?;
+                } else {
+                    let text = str::from_utf8(&text).unwrap_or("no text");
+                    println!(rt; "{}: {status}, and this:\n{text}", row.name)?;
+                }
+            }
+            None => println!(rt; "a row that can't be read")?,
+        }
+    }
+    Ok(())
+}

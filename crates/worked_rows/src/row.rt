@@ -1,0 +1,57 @@
+use crossbar5::Look;
+use toml::Value;
+
+/// What the engine is to do.
+#[derive(Clone, Copy)]
+pub enum Verb {
+    Replay,
+    /// A replay, and then an audit of what it wrote.
+    ReplayAndAudit,
+    Walk,
+    Audit,
+    Draw(Look),
+}
+
+/// What the engine is given, and what has to come of it.
+#[derive(Drop)]
+pub struct Row<'a> {
+    pub name: &'a str,
+    pub verb: Verb,
+    /// The letters of the markers' kinds.
+    pub markers: &'a str,
+    pub plan: &'a str,
+    pub input: &'a str,
+    pub output: &'a str,
+    /// The exit status that the program ends with.
+    pub status: i64,
+}
+
+fn text_at<'a>(value: &'a Value, key: &str) -> Option<&'a str> {
+    value.get(key)?.as_str()
+}
+
+fn verb_of(word: &str) -> Option<Verb> {
+    match word {
+        "replay" => Some(Verb::Replay),
+        "replay and audit" => Some(Verb::ReplayAndAudit),
+        "walk" => Some(Verb::Walk),
+        "audit" => Some(Verb::Audit),
+        "draw" => Some(Verb::Draw(Look::Text)),
+        "draw in SVG" => Some(Verb::Draw(Look::Drawing)),
+        _ => None,
+    }
+}
+
+/// A row by its keys. It has two markers for all jobs, the example plan and status 0, if it doesn't say
+/// otherwise.
+pub fn row_of<'a>(value: &'a Value, example: &'a str) -> Option<Row<'a>> {
+    Some(Row {
+        name: text_at(value, "name")?,
+        verb: verb_of(text_at(value, "verb")?)?,
+        markers: text_at(value, "markers").unwrap_or("XX"),
+        plan: text_at(value, "plan").unwrap_or(example),
+        input: text_at(value, "input")?,
+        output: text_at(value, "output")?,
+        status: value.get("status").map_or(0, |status| status.as_integer().unwrap_or(0)),
+    })
+}
