@@ -1,5 +1,5 @@
 -- What happened in a turn, in sentences: only what its record tells, and the plan.
-use Rattle.std.specs.Prelude.{ℕ, Option, Some, None, List, [], ◌∷◌, ◌++◌, codes, decimal, map, option_to_list}
+use Rattle.std.specs.Prelude.{ℕ, Bool, true, false, if◌then◌else◌, Option, Some, None, List, [], ◌∷◌, ◌++◌, codes, decimal, map, option_to_list}
 use Rattle.std.specs.List.{concat}
 use Rattle.xbar_equip.specs.Channel.{channel_text}
 use Rattle.xbar_equip.specs.Dialled.{dialled_text}
@@ -61,10 +61,13 @@ end_words plan (Released own other) =
 end_words plan end = refusal_words end
 
 -- a completing job of a line that has a register gives it back, whatever comes of the call
+abbrev pub had_register : End → Bool
+had_register NoRegister = false
+had_register _ = true
+
 abbrev pub register_words : Job → End → List (List ℕ)
-register_words (Complete line dialled) NoRegister = []
-register_words (Complete line dialled) end = codes "The register is given back: four crosspoints open." ∷ []
-register_words job end = []
+register_words (Complete line dialled) end = if had_register end then codes "The register is given back: four crosspoints open." ∷ [] else []
+register_words _ end = []
 
 -- ---- its paths
 

@@ -151,7 +151,8 @@ fn add_start(
     text.push_str("<li>No path stands: all crosspoints are open.</li>\n")?;
     write!(text, "<li>Jobs that take their turn: {count}.</li>\n</ul>\n")?;
     add_picture(alloc, text, plan, &[], &[], &[])?;
-    add_section_end(text)
+    add_section_end(text)?;
+    Ok(())
 }
 
 /// Adds the turns.

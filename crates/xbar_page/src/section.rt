@@ -60,7 +60,8 @@ pub fn add_section(
     add_lines(alloc, text, owner)?;
     add_words(alloc, text, plan, owner)?;
     add_picture(alloc, text, plan, paths, &brought, &cards)?;
-    add_section_end(text)
+    add_section_end(text)?;
+    Ok(())
 }
 
 /// Adds what a section ends with.

@@ -2,7 +2,7 @@
 
 ghost use Rattle.std.specs.Prelude.{◌≡◌, ◌++◌, IfOk, OnOk, flat_map, map, string_bytes};
 ghost use Rattle.xbar_page.specs.Section.{card_item_text, item_text, words_text};
-ghost use Rattle.xbar_page.specs.Words.{brought as brought_by, brought_words as brought_words_of, card_words as card_words_of, register_words, sentences, taken_out as taken_out_by, taken_out_words as taken_out_words_of};
+ghost use Rattle.xbar_page.specs.Words.{brought as brought_by, brought_words as brought_words_of, card_words as card_words_of, had_register as had_register_at, register_words, sentences, taken_out as taken_out_by, taken_out_words as taken_out_words_of};
 
 use crate::words::{brought_words, card_words, end_words, marker_words, taken_out_words};
 use std::alloc::{AllocError, Global};
@@ -61,6 +61,16 @@ fn add_card_item(text: &mut String, sentence: &str) -> Result<(), AllocError>
     Ok(())
 }
 
+/// Whether a completing job that ends so gave a register back.
+fn had_register(end: &End) -> bool
+    ensures { result ≡ had_register_at end.now }
+{
+    match end {
+        End::NoRegister => false,
+        _ => true,
+    }
+}
+
 /// Adds that a register is given back, if it is.
 fn add_register(text: &mut String, job: &Job, end: &End) -> Result<(), AllocError>
     ensures { OnOk result (string_bytes text.new ≡ string_bytes text.old ++
@@ -68,10 +78,12 @@ fn add_register(text: &mut String, job: &Job, end: &End) -> Result<(), AllocErro
 {
     match job {
         Job::Dial(_) | Job::Release(_) => Ok(()),
-        Job::Complete(_, _) => match end {
-            End::NoRegister => Ok(()),
-            _ => add_item(text, "The register is given back: four crosspoints open."),
-        },
+        Job::Complete(_, _) => {
+            if had_register(end) {
+                add_item(text, "The register is given back: four crosspoints open.")?;
+            }
+            Ok(())
+        }
     }
 }
 
