@@ -6,19 +6,21 @@ use Rattle.xbar_office.specs.declared.reply.Record.{Record}
 use Rattle.xbar_equip.specs.declared.path.Path.{Path}
 use Rattle.xbar_office_text.specs.Text.{office_text}
 use Rattle.xbar_office_drawing.specs.Drawing.{office_drawing}
+use Rattle.xbar_page.specs.Page.{office_page}
 use Rattle.xbar_report.specs.Sheet.{IsReport}
 use Rattle.xbar_report.specs.Text.{records_text}
 use Rattle.xbar_report.specs.declared.counts.Counts.{Counts}
 use Rattle.crossbar5.specs.Audit.{AreRightCounts, IsAuditUnder, standing_after}
 use Rattle.crossbar5.specs.declared.look.Look.{Look}
-use Rattle.crossbar5.specs.declared.look.Look.TheVariants.{Text, Drawing}
+use Rattle.crossbar5.specs.declared.look.Look.TheVariants.{Text, Drawing, Page}
 use Rattle.crossbar5.specs.declared.status.Status.{Status}
 use Rattle.crossbar5.specs.declared.status.Status.TheVariants.{Fine}
 
--- an office after its records, as it is drawn
+-- an office after its records, as it is drawn; a page draws it after each of them
 abbrev pub drawn : Look → Tables → List Path → List Record → List ℕ
 drawn Text plan paths records = office_text plan paths records
 drawn Drawing plan paths records = office_drawing plan paths records
+drawn Page plan paths records = office_page plan records
 
 -- under a plan's tables, the text is a drawing of the office after a text of records, or tells what is wrong with them; the status is an audit's
 pub record IsDrawUnder (look : Look) (plan : Tables) (records text : List ℕ) (status : Status) : Type 0 where

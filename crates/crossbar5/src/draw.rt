@@ -15,6 +15,7 @@ use crate::written::Written;
 use std::alloc::{AllocError, Global};
 use xbar_office_drawing::office_drawing;
 use xbar_office_text::office_text;
+use xbar_page::office_page;
 use xbar_plan::Plan;
 use xbar_report::{ReadFault, read};
 
@@ -48,6 +49,7 @@ fn drawn(alloc: Global, plan: &Plan, look: Look, text: &[u8]) -> Result<String, 
             match look {
                 Look::Text => office_text(alloc, plan, office.paths(), &report.records),
                 Look::Drawing => office_drawing(alloc, plan, office.paths(), &report.records),
+                Look::Page => office_page(alloc, plan, &report.records),
             }
         }
         Err(ReadFault::Memory) => Err(AllocError),

@@ -5,4 +5,6 @@ pub enum Look {
     Text,
     /// As one drawing in SVG.
     Drawing,
+    /// Turn by turn, as one page in HTML.
+    Page,
 }

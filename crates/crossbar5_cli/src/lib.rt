@@ -1,7 +1,7 @@
 //! All of the program `crossbar5`: it replays traffic from standard input in an office with the plan
 //! and the markers that its words ask for, or tells such a replay step by step, or does the calls of
 //! live traffic on threads, and writes what comes of it to standard output; or it audits such a text, or
-//! draws the office after it. What is wrong with what it was given it tells on standard error, in a
+//! draws the office after it, or after each of its turns. What is wrong with what it was given it tells on standard error, in a
 //! sentence.
 #![tactic(auto)]
 
@@ -91,6 +91,10 @@ fn do_as_asked<'w, T: Threads + Wait + Sync>(
         Ok(Ask::Audit { plan }) => perform(rt, plan.as_deref(), Task::Audit),
         Ok(Ask::Draw { plan, text }) => {
             let look = look_of(*text);
+            perform(rt, plan.as_deref(), Task::Draw { look })
+        }
+        Ok(Ask::Page { plan }) => {
+            let look = Look::Page;
             perform(rt, plan.as_deref(), Task::Draw { look })
         }
         Err(fault) => Ended::of_telling(tell(rt, fault)),

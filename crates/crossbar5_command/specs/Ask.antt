@@ -2,9 +2,9 @@ use Rattle.std.specs.Prelude.{◌≡◌, ◌↔◌, ◌<◌, ◌^◌, IsTrue, �
 use Rattle.std.specs.String.{string_bytes}
 use Rattle.std.specs.Str.Parse.{IsNumeral, digits_value, without_leading_plus}
 use Rattle.clap.specs.Words.{Row, Text, first_of}
-use Rattle.crossbar5_command.specs.Program.{audit, default_kinds, draw, live, one, replay, walk}
+use Rattle.crossbar5_command.specs.Program.{audit, default_kinds, draw, live, one, page, replay, walk}
 use Rattle.crossbar5_command.specs.declared.ask.Ask.{Ask}
-use Rattle.crossbar5_command.specs.declared.ask.Ask.TheVariants.{Audit, Draw, Live, Replay, Walk}
+use Rattle.crossbar5_command.specs.declared.ask.Ask.TheVariants.{Audit, Draw, Live, Page, Replay, Walk}
 
 -- the name of the subcommand that is asked for
 abbrev pub name_of : Ask → Text
@@ -13,6 +13,7 @@ name_of (Walk file letters) = walk.name
 name_of (Live file dial completing) = live.name
 name_of (Audit file) = audit.name
 name_of (Draw file text) = draw.name
+name_of (Page file) = page.name
 
 -- where the text is that of a number of 32 bits, a plus before it or none, it is this one
 abbrev pub IsNumberOf : Text → ℕ → Type 0
@@ -36,6 +37,7 @@ HasValues values (Live file dial completing) = (option_map string_bytes file ≡
 HasValues values (Audit file) = option_map string_bytes file ≡ values (codes "plan")
 HasValues values (Draw file text) = (option_map string_bytes file ≡ values (codes "plan"))
     × (IsTrue text ↔ IsGiven (values (codes "text")))
+HasValues values (Page file) = option_map string_bytes file ≡ values (codes "plan")
 
 -- the ask is for this subcommand, with these values of its options
 abbrev pub IsAskWith : Text → (Text → Option Text) → Ask → Type 0

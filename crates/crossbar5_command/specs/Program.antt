@@ -55,8 +55,11 @@ as_text = record { name = codes "text"; argument = nothing }
 abbrev pub draw : Subcommand
 draw = record { name = codes "draw"; options = plan ∷ as_text ∷ [] }
 
+abbrev pub page : Subcommand
+page = record { name = codes "page"; options = plan ∷ [] }
+
 abbrev pub subcommands : List Subcommand
-subcommands = replay ∷ walk ∷ live ∷ audit ∷ draw ∷ []
+subcommands = replay ∷ walk ∷ live ∷ audit ∷ draw ∷ page ∷ []
 
 -- ---- as clap sees them
 

@@ -36,4 +36,9 @@ pub enum Ask {
         /// Whether a text for a terminal is wanted.
         text: bool,
     },
+    /// To tell the records on standard input turn by turn, as a page.
+    Page {
+        /// The name of the file with the plan. Without one the plan is the example plan.
+        plan: Option<String>,
+    },
 }

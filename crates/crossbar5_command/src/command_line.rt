@@ -6,14 +6,14 @@ ghost use Rattle.clap.specs.Words.{fault_of, first_value, found_of, subcommand_o
 ghost use Rattle.clap.specs.Words.{subcommand_rows_of, takes};
 ghost use Rattle.crossbar5_command.specs.Ask.{IsAskOf, IsAskWith, IsGiven, IsNumberOf, IsUnnamedAsk, name_of};
 ghost use Rattle.crossbar5_command.specs.Fault.{IsFaultAmong};
-ghost use Rattle.crossbar5_command.specs.Program.{audit, draw, live, program, replay, subcommands, walk};
+ghost use Rattle.crossbar5_command.specs.Program.{audit, draw, live, page, program, replay, subcommands, walk};
 ghost use Rattle.crossbar5_command.specs.Subcommand.{AreValues, AskFor, GivenOption, NamesOnly};
 ghost use Rattle.crossbar5_command.specs.Subcommand.{Subcommand, subcommand_named, value_of};
 ghost use Rattle.crossbar5_command.specs.declared.command_fault.CommandFault.TheVariants.{Memory};
 
 use crate::program::{
-    AUDIT, COMPLETING, DEFAULT_KINDS, DIAL, DRAW, LIVE, MARKERS, ONE, PLAN, REPLAY, TEXT, WALK,
-    program,
+    AUDIT, COMPLETING, DEFAULT_KINDS, DIAL, DRAW, LIVE, MARKERS, ONE, PAGE, PLAN, REPLAY, TEXT,
+    WALK, program,
 };
 use crate::{Ask, CommandFault};
 use clap::ArgMatches;
@@ -65,6 +65,9 @@ fn ask_of(alloc: Global, matches: &ArgMatches) -> Result<Ask, AllocError>
     if let Some(options) = matches.subcommand_matches(WALK) {
         return walk_of(alloc, options);
     }
+    if let Some(options) = matches.subcommand_matches(PAGE) {
+        return page_of(alloc, options);
+    }
     replay_of(alloc, matches.subcommand_matches(REPLAY))
 }
 
@@ -113,6 +116,15 @@ fn draw_of(alloc: Global, options: &ArgMatches) -> Result<Ask, AllocError>
     Ok(Ask::Draw {
         plan: copy_of(alloc, options.get_str(PLAN))?,
         text: is_given(options.get_str(TEXT)),
+    })
+}
+
+/// The page with the values of its options.
+fn page_of(alloc: Global, options: &ArgMatches) -> Result<Ask, AllocError>
+    ensures { IfOk result (IsAskWith page.name (first_value (found_of options.now))) }
+{
+    Ok(Ask::Page {
+        plan: copy_of(alloc, options.get_str(PLAN))?,
     })
 }
 

@@ -3,7 +3,7 @@
 ghost use Rattle.std.specs.Prelude.{◌≡◌, ◌∷◌, [], IfOk, false};
 ghost use Rattle.clap.specs.Words.{app_of, rule_of};
 ghost use Rattle.clap.specs.declared.builder.command.Command.TheViews.{out-Command};
-ghost use Rattle.crossbar5_command.specs.Program.{as_text, audit, draw, live, marker_count, markers, plan, program, program_of, replay, walk};
+ghost use Rattle.crossbar5_command.specs.Program.{as_text, audit, draw, live, marker_count, markers, page, plan, program, program_of, replay, walk};
 ghost use Rattle.crossbar5_command.specs.Program.{rule_for, shape_for};
 
 use clap::builder::ValueParser;
@@ -20,6 +20,8 @@ pub const LIVE: &str = "live";
 pub const AUDIT: &str = "audit";
 
 pub const DRAW: &str = "draw";
+
+pub const PAGE: &str = "page";
 
 /// The id of the option for the plan, and its name.
 pub const PLAN: &str = "plan";
@@ -52,7 +54,8 @@ With the command walk it tells such a replay step by step, in words. With the
 command live it does calls from standard input by markers that run on threads.
 With the command audit it reads such output, a replay's or one that was worked
 out by hand, and tells whether it is right. With the command draw it reads such
-output too, and draws the office as it stands after it.";
+output too, and draws the office as it stands after it. With the command page
+it tells such output turn by turn, as one page for a browser.";
 
 // The usage stands under each refusal too, so that options with no subcommand are told where they
 // belong.
@@ -62,7 +65,8 @@ crossbar5 [COMMAND]
        crossbar5 walk [--plan <FILE>] [--markers <KINDS>]
        crossbar5 live [--plan <FILE>] [--dial <N>] [--completing <N>]
        crossbar5 audit [--plan <FILE>]
-       crossbar5 draw [--plan <FILE>] [--text]";
+       crossbar5 draw [--plan <FILE>] [--text]
+       crossbar5 page [--plan <FILE>]";
 
 const ABOUT_REPLAY: &str = "\
 Replays traffic from standard input with a plan and markers of your choice";
@@ -77,7 +81,10 @@ const ABOUT_AUDIT: &str = "\
 Tells whether the output of a replay, on standard input, is right";
 
 const ABOUT_DRAW: &str = "\
-Draws the office after the output of a replay, on standard input";
+Draws the office after the output of a replay, as SVG";
+
+const ABOUT_PAGE: &str = "\
+Tells the output of a replay turn by turn, as one page in HTML";
 
 const ABOUT_PLAN: &str = "The file with the office's plan [default: the example plan]";
 
@@ -109,6 +116,8 @@ Example:
   crossbar5 replay < TRAFFIC | crossbar5 audit   checks it.
   crossbar5 replay < TRAFFIC | crossbar5 draw > office.svg   draws what it
   leaves; draw --text draws it for a terminal.
+  crossbar5 replay < TRAFFIC | crossbar5 page > office.html   shows the
+  office after each turn, on one page for a browser.
 
   printf 'C,7,3041,5551234,R\\n' | crossbar5 live   has line 3041 call: call 7
   is dialled, completed and, for the R, released. With K it is kept.
@@ -132,7 +141,8 @@ pub fn program<'a>(alloc: Global) -> Result<Command<'a>, AllocError>
 {
     offices(alloc)?
         .subcommand(audit(alloc)?)?
-        .subcommand(draw(alloc)?)
+        .subcommand(draw(alloc)?)?
+        .subcommand(page(alloc)?)
 }
 
 /// The program with the subcommands that open an office.
@@ -208,6 +218,16 @@ fn draw<'a>(alloc: Global) -> Result<Command<'a>, AllocError>
         .after_help(EXAMPLE_AND_STATUSES)
         .arg(plan_option(alloc))?
         .arg(text_option(alloc))
+}
+
+fn page<'a>(alloc: Global) -> Result<Command<'a>, AllocError>
+    ensures shape { IfOk result (λ made. (app_of made).top ≡ shape_for page) }
+    ensures local { IfOk result (λ made. (out-Command made).has_globals ≡ false) }
+{
+    Command::new(alloc, PAGE)
+        .about(ABOUT_PAGE)
+        .after_help(EXAMPLE_AND_STATUSES)
+        .arg(plan_option(alloc))
 }
 
 fn plan_option<'a>(alloc: Global) -> Arg<'a>

@@ -3,11 +3,15 @@ use Rattle.std.specs.List.{concat}
 use Rattle.svg.specs.Escape.{escaped}
 use Rattle.svg.specs.Figure.{Figure, figure_text}
 
--- what a drawing of this size begins with, and its style sheet
-unfoldable pub head_text : ℕ → ℕ → List ℕ → List ℕ
-head_text width height style =
+-- what a drawing of this size begins with whose style sheet stands elsewhere
+unfoldable pub open_text : ℕ → ℕ → List ℕ
+open_text width height =
     concat (codes "<svg xmlns=\"http://www.w3.org/2000/svg\" viewBox=\"0 0 " ∷ decimal width ∷ codes " " ∷ decimal height
-    ∷ codes "\" width=\"" ∷ decimal width ∷ codes "\" height=\"" ∷ decimal height ∷ codes "\">\n<style>" ∷ escaped style ∷ codes "</style>\n" ∷ [])
+    ∷ codes "\" width=\"" ∷ decimal width ∷ codes "\" height=\"" ∷ decimal height ∷ codes "\">\n" ∷ [])
+
+-- and one that has its style sheet in it
+unfoldable pub head_text : ℕ → ℕ → List ℕ → List ℕ
+head_text width height style = concat (open_text width height ∷ codes "<style>" ∷ escaped style ∷ codes "</style>\n" ∷ [])
 
 -- what it ends with
 abbrev pub foot_text : List ℕ

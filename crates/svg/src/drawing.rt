@@ -1,5 +1,5 @@
 ghost use Rattle.std.specs.Prelude.{◌≡◌, ◌++◌, OnOk, codes, flat_map, map, string_bytes};
-ghost use Rattle.svg.specs.Drawing.{drawing_text, foot_text, group_end_text, group_text, head_text};
+ghost use Rattle.svg.specs.Drawing.{drawing_text, foot_text, group_end_text, group_text, head_text, open_text};
 ghost use Rattle.svg.specs.Figure.{figure_of, figure_text};
 
 use crate::escape::add_escaped;
@@ -23,17 +23,30 @@ pub fn add_drawing(
     add_foot(text)
 }
 
+/// Adds what a drawing begins with whose style sheet stands elsewhere, as in the page that it is part
+/// of.
+#[tactic(auto, unfolding(crate::specs::Drawing::open_text))]
+pub fn add_open(text: &mut String, width: u16, height: u128) -> Result<(), AllocError>
+    ensures { OnOk result (string_bytes text.new ≡ string_bytes text.old ++
+        open_text width height) }
+{
+    text.push_str("<svg xmlns=\"http://www.w3.org/2000/svg\" viewBox=\"0 0 ")?;
+    writeln!(
+        text,
+        "{width} {height}\" width=\"{width}\" height=\"{height}\">"
+    )?;
+    Ok(())
+}
+
 /// Adds what a drawing begins with, up to its first shape. Where memory runs out, a part of it may
 /// have been added.
+#[tactic(auto, unfolding(crate::specs::Drawing::head_text))]
 pub fn add_head(text: &mut String, width: u16, height: u128, style: &str) -> Result<(), AllocError>
     ensures { OnOk result (string_bytes text.new ≡ string_bytes text.old ++
         head_text width height style.now) }
 {
-    text.push_str("<svg xmlns=\"http://www.w3.org/2000/svg\" viewBox=\"0 0 ")?;
-    write!(
-        text,
-        "{width} {height}\" width=\"{width}\" height=\"{height}\">\n<style>"
-    )?;
+    add_open(text, width, height)?;
+    text.push_str("<style>")?;
     add_escaped(text, style)?;
     text.push_str("</style>\n")?;
     Ok(())

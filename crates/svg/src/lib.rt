@@ -1,7 +1,7 @@
 //! Drawings of a few shapes, written as SVG.
 #![tactic(auto)]
 
-pub use drawing::{add_drawing, add_foot, add_group, add_group_end, add_head};
+pub use drawing::{add_drawing, add_foot, add_group, add_group_end, add_head, add_open};
 pub use escape::add_escaped;
 pub use shape::{Point, Shape};
 pub use write::{add_circle, add_line, add_rectangle, add_shape, add_words};

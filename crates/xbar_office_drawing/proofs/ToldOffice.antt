@@ -9,7 +9,7 @@ use Rattle.xbar_equip.specs.declared.path.Path.{Path}
 use Rattle.xbar_plan.specs.Tables.{Tables}
 use Rattle.xbar_office_drawing.specs.declared.owned_card.OwnedCard.{OwnedCard}
 use Rattle.xbar_office_drawing.specs.CardFace.{card_face, card_height, told_words}
-use Rattle.xbar_office_drawing.specs.Drawing.{cards_top, drawing_parts, path_height, path_picture, stacked}
+use Rattle.xbar_office_drawing.specs.Drawing.{cards_top, picture_parts, path_height, path_picture, stacked}
 use Rattle.xbar_office_drawing.specs.Drawn.{figures_in, is_telling, told_path}
 use Rattle.xbar_office_drawing.specs.Figures.{Part, sheet}
 use Rattle.xbar_office_drawing.specs.OfficeMap.{frame_box, map_height, map_key, map_title, office_map, path_on_map, two_frames}
@@ -54,16 +54,16 @@ one_each : {A B : Type 0} (f : A → B) (xs : List A) → flat_map (λ x. f x �
 one_each f [] = refl
 one_each f (x ∷ xs) = ap (λ t. f x ∷ t) (one_each f xs)
 
-pub office_told : (plan : Tables) (paths : List Path) (cards : List OwnedCard)
-    → filter is_telling (figures_in (drawing_parts plan paths cards)) ≡ flat_map told_path paths ++ map told_words cards
-unfolding drawing_parts
-office_told plan paths cards =
+pub office_told : (plan : Tables) (paths shown : List Path) (cards : List OwnedCard)
+    → filter is_telling (figures_in (picture_parts plan paths shown cards)) ≡ flat_map told_path shown ++ map told_words cards
+unfolding picture_parts
+office_told plan paths shown cards =
     let first : Part = record { down = 0; figures = office_map plan paths } in
-    let path_parts = stacked path_height map_height (map (path_picture plan) paths) in
-    let card_parts = stacked card_height (cards_top (length paths)) (map card_face cards) in
+    let path_parts = stacked path_height map_height (map (path_picture plan) shown) in
+    let card_parts = stacked card_height (cards_top (length shown)) (map card_face cards) in
     let of_cards = filter is_telling (figures_in card_parts) in
     ap (filter is_telling) (flat_map-append (λ (part : Part). part.figures) (first ∷ path_parts) card_parts)
     ∙ filter-append is_telling (figures_in (first ∷ path_parts)) (figures_in card_parts)
     ∙ ap (λ t. t ++ of_cards) (none_then is_telling (office_map plan paths) (figures_in path_parts) (nothing_on_map plan paths))
-    ∙ ap (λ t. t ++ of_cards) (told_stacked path_height map_height (path_picture plan) told_path (path_told plan) paths)
-    ∙ ap (λ t. flat_map told_path paths ++ t) (told_stacked card_height (cards_top (length paths)) card_face (λ card. told_words card ∷ []) card_told cards ∙ one_each told_words cards)
+    ∙ ap (λ t. t ++ of_cards) (told_stacked path_height map_height (path_picture plan) told_path (path_told plan) shown)
+    ∙ ap (λ t. flat_map told_path shown ++ t) (told_stacked card_height (cards_top (length shown)) card_face (λ card. told_words card ∷ []) card_told cards ∙ one_each told_words cards)

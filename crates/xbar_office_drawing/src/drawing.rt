@@ -3,7 +3,7 @@
 ghost use Rattle.std.specs.Prelude.{◌≡◌, ◌++◌, ◌≤◌, IfOk, OnOk, flat_map, length, map, string_bytes};
 ghost use Rattle.svg.specs.Figure.{Figure};
 ghost use Rattle.xbar_office_drawing.specs.CardFace.{card_face, card_height};
-ghost use Rattle.xbar_office_drawing.specs.Drawing.{cards_top as cards_top_of, drawing_height as drawing_height_of, drawing_of, drawing_parts, office_drawing as the_drawing, path_height, path_picture, stacked};
+ghost use Rattle.xbar_office_drawing.specs.Drawing.{cards_top as cards_top_of, drawing_height as drawing_height_of, drawing_of, office_drawing as the_drawing, path_height, path_picture, picture_of, picture_parts, stacked, style as the_style};
 ghost use Rattle.xbar_office_drawing.specs.Figures.{figures_text, part_text};
 ghost use Rattle.xbar_office_drawing.specs.OfficeMap.{map_height, office_map};
 
@@ -14,7 +14,7 @@ use crate::office_map::{MAP_HEIGHT, add_map};
 use crate::owned_card::{OwnedCard, all_cards};
 use crate::sheet::SHEET_WIDTH;
 use std::alloc::{AllocError, Global};
-use svg::{Point, add_foot, add_group, add_group_end, add_head, add_rectangle};
+use svg::{Point, add_foot, add_group, add_group_end, add_head, add_open, add_rectangle};
 use xbar_equip::Path;
 use xbar_office::Record;
 use xbar_plan::Plan;
@@ -64,9 +64,37 @@ fn add_drawing(
 {
     let height = drawing_height(paths.len(), cards.len());
     add_head(text, SHEET_WIDTH, height, STYLE)?;
-    add_parts(alloc, text, plan, paths, cards)?;
+    add_parts(alloc, text, plan, paths, paths, cards)?;
     add_foot(text)?;
     Ok(())
+}
+
+/// Adds a picture for a page that has the style sheet: all these paths at a glance, those that are
+/// shown, each through its frames, and the cards, one below the other, 1,000 units wide.
+#[tactic(auto, unfolding(crate::specs::Drawing::picture_of))]
+pub fn add_picture(
+    alloc: Global,
+    text: &mut String,
+    plan: &Plan,
+    paths: &[Path],
+    shown: &[Path],
+    cards: &[OwnedCard],
+) -> Result<(), AllocError>
+    ensures { OnOk result (string_bytes text.new ≡ string_bytes text.old ++
+        picture_of plan.now paths.now shown.now cards.now) }
+{
+    let height = drawing_height(shown.len(), cards.len());
+    add_open(text, SHEET_WIDTH, height)?;
+    add_parts(alloc, text, plan, paths, shown, cards)?;
+    add_foot(text)?;
+    Ok(())
+}
+
+/// The style sheet of drawings and pictures.
+pub fn style() -> &'static str
+    ensures { result.now ≡ the_style }
+{
+    STYLE
 }
 
 /// How far down the cards begin.
@@ -84,20 +112,21 @@ fn drawing_height(paths: usize, cards: usize) -> u128
     cards_top(paths) + u128::from(CARD_HEIGHT) * cards as u128
 }
 
-#[tactic(auto, unfolding(crate::specs::Drawing::drawing_parts))]
+#[tactic(auto, unfolding(crate::specs::Drawing::picture_parts))]
 fn add_parts(
     alloc: Global,
     text: &mut String,
     plan: &Plan,
     paths: &[Path],
+    shown: &[Path],
     cards: &[OwnedCard],
 ) -> Result<(), AllocError>
     ensures { OnOk result (string_bytes text.new ≡ string_bytes text.old ++
-        flat_map part_text (drawing_parts plan.now paths.now cards.now)) }
+        flat_map part_text (picture_parts plan.now paths.now shown.now cards.now)) }
 {
-    let below = cards_top(paths.len());
+    let below = cards_top(shown.len());
     add_map_part(alloc, text, plan, paths)?;
-    add_path_parts(alloc, text, plan, paths)?;
+    add_path_parts(alloc, text, plan, shown)?;
     add_card_parts(alloc, text, below, cards)?;
     Ok(())
 }

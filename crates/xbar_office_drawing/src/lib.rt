@@ -1,7 +1,9 @@
 //! A No. 5 Crossbar office as a drawing in SVG: its paths, their switches, and the trouble cards.
 #![tactic(auto)]
 
-pub use drawing::office_drawing;
+pub use drawing::{add_picture, office_drawing, style};
+pub use ends::path_end;
+pub use owned_card::{OwnedCard, cards_of};
 
 mod card_face;
 mod drawing;

@@ -24,6 +24,15 @@ pub fn all_cards(alloc: Global, records: &[Record]) -> Result<Vec<OwnedCard>, Al
     Ok(cards)
 }
 
+/// The cards of a job, in the order of its trials.
+pub fn cards_of(alloc: Global, owner: &Record) -> Result<Vec<OwnedCard>, AllocError>
+    ensures { IfOk result (λ cards. cards.items ≡ cards_in owner.now) }
+{
+    let mut cards = Vec::new(alloc);
+    add_cards_in(&mut cards, owner)?;
+    Ok(cards)
+}
+
 fn add_cards_in(cards: &mut Vec<OwnedCard>, owner: &Record) -> Result<(), AllocError>
     ensures { OnOk result (cards.new.items ≡ cards.old.items ++ cards_in owner.now) }
 {

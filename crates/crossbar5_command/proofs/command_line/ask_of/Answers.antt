@@ -1,6 +1,6 @@
 use Rattle.std.proofs.Common.{refl}
 use Rattle.std.proofs.lemmas.Result.{IfOk-weaker}
-use Rattle.crossbar5_command.specs.Program.{audit, draw, live, walk}
+use Rattle.crossbar5_command.specs.Program.{audit, draw, live, page, walk}
 use Rattle.crossbar5_command.proofs.MetSubcommand.{met_asked, replay_asked}
 use Rattle.crossbar5_command.proofs.command_line.ask_of.Goals as goal
 
@@ -26,12 +26,19 @@ returns-in-Some-subcommand_matches-3 c =
     let met = c.in-Some-subcommand_matches-3.ensures in
     λ known. IfOk-weaker c.walk_of.result _ _ (λ ask. met_asked walk.name c.args.matches.now options ask (met.found.0 refl) met.rows) c.walk_of.ensures
 
+pub returns-in-Some-subcommand_matches-4 : goal.returns-in-Some-subcommand_matches-4
+returns-in-Some-subcommand_matches-4 c =
+    let options = c.in-Some-subcommand_matches-4.options in
+    let met = c.in-Some-subcommand_matches-4.ensures in
+    λ known. IfOk-weaker c.page_of.result _ _ (λ ask. met_asked page.name c.args.matches.now options ask (met.found.0 refl) met.rows) c.page_of.ensures
+
 pub returns : goal.returns
 returns c =
     let no_live = c.in_default.ensures.found.1 in
     let no_audit = c.in_default-subcommand_matches.ensures.found.1 in
     let no_draw = c.in_default-subcommand_matches-2.ensures.found.1 in
     let no_walk = c.in_default-subcommand_matches-3.ensures.found.1 in
+    let no_page = c.in_default-subcommand_matches-4.ensures.found.1 in
     λ known. IfOk-weaker c.replay_of.result _ _ (λ ask.
-    replay_asked c.args.matches.now c.subcommand_matches-5.result ask c.subcommand_matches-5.ensures.found c.subcommand_matches-5.ensures.rows known
-    (λ no_replay. (no_replay, (no_walk, (no_live, (no_audit, (no_draw, tt))))))) c.replay_of.ensures
+    replay_asked c.args.matches.now c.subcommand_matches-6.result ask c.subcommand_matches-6.ensures.found c.subcommand_matches-6.ensures.rows known
+    (λ no_replay. (no_replay, (no_walk, (no_live, (no_audit, (no_draw, (no_page, tt)))))))) c.replay_of.ensures

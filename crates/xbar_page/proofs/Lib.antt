@@ -1,0 +1,2 @@
+pub mod SectionSteps
+pub mod SectionPlaces
