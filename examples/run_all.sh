@@ -1,6 +1,7 @@
 #!/usr/bin/env bash
 # Runs every example and compares what comes of it with the file NAME.out, NAME.walk of a walk, NAME.svg or NAME.txt
-# of a drawing; live calls, which may come in other turns, are judged by an audit: run_all.sh [PROGRAM]
+# of a drawing, NAME.html of a page; live calls, which may come in other turns, are judged by an audit:
+# run_all.sh [PROGRAM]
 #
 # Prints a line for each, and ends with status 1 where one differs.
 set -euo pipefail
@@ -50,6 +51,17 @@ draw() {
     fi
 }
 
+# The page of NAME.out, by the words that follow, is NAME.html.
+page() {
+    local name=$1
+    shift
+    if "$program" page "$@" <"$here/$name.out" >"$folder/out" && cmp -s "$folder/out" "$here/$name.html"; then
+        tell "$name.html" "as wanted"
+    else
+        tell "$name.html" "differs"
+    fi
+}
+
 # Live calls of NAME.csv, by the markers that the words ask for.
 live() {
     local name=$1
@@ -71,6 +83,7 @@ replay trouble --plan "$here/small_town.toml"
 walk trouble --plan "$here/small_town.toml"
 draw trouble trouble.svg --plan "$here/small_town.toml"
 draw trouble trouble.txt --plan "$here/small_town.toml" --text
+page trouble --plan "$here/small_town.toml"
 replay hunting --plan "$here/hunting.toml"
 replay ten_calls_from_one_frame --plan "$here/many_registers.toml"
 live live_calls --dial 1 --completing 1

@@ -1,8 +1,8 @@
 //! All of the program `crossbar5`: it replays traffic from standard input in an office with the plan
 //! and the markers that its words ask for, or tells such a replay step by step, or does the calls of
 //! live traffic on threads, and writes what comes of it to standard output; or it audits such a text, or
-//! draws the office after it, or after each of its turns. What is wrong with what it was given it tells on standard error, in a
-//! sentence.
+//! draws the office after it, or after each of its turns. What is wrong with what it was given it tells
+//! on standard error, in a sentence.
 #![tactic(auto)]
 
 ghost use Rattle.std.specs.Prelude.{◌≡◌, ◌≢◌, ◌↔◌, Err, List, if◌then◌else◌};

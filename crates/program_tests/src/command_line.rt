@@ -138,6 +138,16 @@ fn words_ask_for_a_drawing(rt: HostRuntime) -> Result<(), Fail> {
     Ok(())
 }
 
+#[test]
+fn words_ask_for_a_page(rt: HostRuntime) -> Result<(), Fail> {
+    let Ask::Page { plan } = asked(rt.alloc(), "crossbar5 page --plan a.toml")? else {
+        return Err(Fail::from("another subcommand was asked for"));
+    };
+    let found = plan.as_ref().map(|name| name.as_str());
+    check_eq!(rt; found, Some("a.toml"));
+    Ok(())
+}
+
 /// Lines of words that ask for live calls, each with the plan's file, if one is asked for, and how
 /// many markers dial and how many complete calls.
 const ASKED_LIVE: &[(&str, Option<&str>, u32, u32)] = &[
@@ -241,6 +251,7 @@ const REFUSED: &[(&str, ErrorKind)] = &[
     ("crossbar5 --text", ErrorKind::UnknownArgument),
     ("crossbar5 draw --text yes", ErrorKind::UnknownArgument),
     ("crossbar5 draw --text --text", ErrorKind::ArgumentConflict),
+    ("crossbar5 page --text", ErrorKind::UnknownArgument),
     ("crossbar5 walk stray", ErrorKind::UnknownArgument),
     ("crossbar5 walk --text", ErrorKind::UnknownArgument),
     ("crossbar5 walk --markers", ErrorKind::InvalidValue),
@@ -334,7 +345,8 @@ With the command walk it tells such a replay step by step, in words. With the
 command live it does calls from standard input by markers that run on threads.
 With the command audit it reads such output, a replay's or one that was worked
 out by hand, and tells whether it is right. With the command draw it reads such
-output too, and draws the office as it stands after it.
+output too, and draws the office as it stands after it. With the command page
+it tells such output turn by turn, as one page for a browser.
 ";
 
 /// Lines of words, each with a part of the text that is told.
@@ -389,6 +401,7 @@ const STARTS: &[&str] = &[
     "  crossbar5 walk < TRAFFIC   tells each step of a replay.\n",
     "  crossbar5 replay < TRAFFIC | crossbar5 audit   checks it.\n",
     "  crossbar5 replay < TRAFFIC | crossbar5 draw > office.svg   draws what it\n  leaves; draw --text draws it for a terminal.\n",
+    "  crossbar5 replay < TRAFFIC | crossbar5 page > office.html   shows the\n  office after each turn, on one page for a browser.\n",
     "  0  All is fine\n",
     "  printf 'C,7,3041,5551234,R\\n' | crossbar5 live   has line 3041 call: call 7\n",
     "  2  The command line is refused, or the KINDS or the number of the markers\n",
@@ -409,6 +422,7 @@ fn help_tells_how_to_start(rt: HostRuntime) -> Result<(), Fail> {
         "crossbar5 live --help",
         "crossbar5 audit --help",
         "crossbar5 draw --help",
+        "crossbar5 page --help",
     ] {
         for part in STARTS {
             check_told(&rt, rt.alloc(), line, part)?;
@@ -433,6 +447,7 @@ fn help_as_a_word_is_help_as_an_option(rt: HostRuntime) -> Result<(), Fail> {
         ("crossbar5 help live", "crossbar5 live --help"),
         ("crossbar5 help audit", "crossbar5 audit --help"),
         ("crossbar5 help draw", "crossbar5 draw --help"),
+        ("crossbar5 help page", "crossbar5 page --help"),
     ] {
         check_same(&rt, rt.alloc(), word, option)?;
     }

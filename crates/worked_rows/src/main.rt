@@ -7,18 +7,18 @@ mod row;
 mod work;
 
 use row::row_of;
-use std::fs;
-use std::io;
+use std::{fs, io};
 use toml::Value;
 use work::{Came, came_of};
 
-const FILES: [&str; 6] = [
+const FILES: [&str; 7] = [
     "calls.toml",
     "refusals.toml",
     "plans.toml",
     "audits.toml",
     "walks.toml",
     "drawings.toml",
+    "pages.toml",
 ];
 
 fn main(rt: HostRuntime) -> io::Result<()> {

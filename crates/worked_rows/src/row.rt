@@ -38,6 +38,7 @@ fn verb_of(word: &str) -> Option<Verb> {
         "audit" => Some(Verb::Audit),
         "draw" => Some(Verb::Draw(Look::Text)),
         "draw in SVG" => Some(Verb::Draw(Look::Drawing)),
+        "page" => Some(Verb::Draw(Look::Page)),
         _ => None,
     }
 }
@@ -52,6 +53,8 @@ pub fn row_of<'a>(value: &'a Value, example: &'a str) -> Option<Row<'a>> {
         plan: text_at(value, "plan").unwrap_or(example),
         input: text_at(value, "input")?,
         output: text_at(value, "output")?,
-        status: value.get("status").map_or(0, |status| status.as_integer().unwrap_or(0)),
+        status: value
+            .get("status")
+            .map_or(0, |status| status.as_integer().unwrap_or(0)),
     })
 }

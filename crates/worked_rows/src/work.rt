@@ -35,7 +35,11 @@ fn done(alloc: Global, row: &Row<'_>) -> Result<(Vec<u8>, Status), EngineFault> 
         Verb::ReplayAndAudit => {
             let (records, status) = written(alloc, replay, row.plan, input)?;
             let (_, found) = written(alloc, Task::Audit, row.plan, &records)?;
-            let status = if status == Status::Fine { found } else { status };
+            let status = if status == Status::Fine {
+                found
+            } else {
+                status
+            };
             Ok((records, status))
         }
     }

@@ -149,7 +149,10 @@ fn add_start(
     add_start_nav(text, turn_at(records, 0), last_turn(records))?;
     text.push_str("<div class=\"turn\">\n<ul>\n")?;
     text.push_str("<li>No path stands: all crosspoints are open.</li>\n")?;
-    write!(text, "<li>Jobs that take their turn: {count}.</li>\n</ul>\n")?;
+    write!(
+        text,
+        "<li>Jobs that take their turn: {count}.</li>\n</ul>\n"
+    )?;
     add_picture(alloc, text, plan, &[], &[], &[])?;
     add_section_end(text)?;
     Ok(())

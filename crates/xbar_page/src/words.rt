@@ -136,7 +136,9 @@ pub fn brought_words(alloc: Global, path: &Path) -> Result<String, AllocError>
         place,
     } = path;
     let links = PathLinks(path);
-    format!(in alloc; "Channel {channel} is idle from line {line} to place {place}: {links}. Four crosspoints close.")
+    format!(in alloc;
+        "Channel {channel} is idle from line {line} to place {place}: {links}. Four crosspoints close."
+    )
 }
 
 /// A trouble card.
@@ -144,5 +146,8 @@ pub fn brought_words(alloc: Global, path: &Path) -> Result<String, AllocError>
 pub fn card_words(alloc: Global, card: &Card) -> Result<String, AllocError>
     ensures { IfOk result (λ words. string_bytes words ≡ card_words_of card.now) }
 {
-    format!(in alloc; "Trouble card: trial {}, {} is faulty.", card.trial, card.link)
+    format!(in alloc;
+        "Trouble card: trial {}, {} is faulty.",
+        card.trial, card.link
+    )
 }

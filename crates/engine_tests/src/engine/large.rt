@@ -42,7 +42,13 @@ fn more_than_a_hundred_paths(rt: HostRuntime) -> Result<(), Fail> {
     let traffic = calls(rt.alloc())?;
     let mut source = Counted::new(traffic.as_bytes());
     let mut sink = Counted::new(Vec::new(rt.alloc()));
-    let status = run_replay(rt.alloc(), WIDE_PLAN.as_bytes(), &TWO, &mut source, &mut sink)?;
+    let status = run_replay(
+        rt.alloc(),
+        WIDE_PLAN.as_bytes(),
+        &TWO,
+        &mut source,
+        &mut sink,
+    )?;
     let text = str::from_utf8(sink.get_ref()).unwrap_or("this is no text");
     check_eq!(rt; status, Status::Fine);
     check!(rt; text.ends_with("\nPATHS,120\nCLOSED,480\n"), "{text}");

@@ -15,7 +15,7 @@ loop-place-preserved c =
     let owner = c.index-records-place.result in
     let next = next_section plan c.last_turn-last.result paths c.loop-place.before c.args.records.now c.loop-place.place (string_bytes c.loop-place.text) owner c.index-records-place.is c.loop-place-test.true in
     let left : c.whole.new.self.paths ≡ (whole plan paths owner.job).paths =
-        ap (λ (o : State). o.paths) c.in_ok-whole.ensures.ok ∙ ap (λ (p : Tables). (whole p paths owner.job).paths) c.loop-place.invariant.plan in
+    ap (λ (o : State). o.paths) c.in_ok-whole.ensures.ok ∙ ap (λ (p : Tables). (whole p paths owner.job).paths) c.loop-place.invariant.plan in
     record {
       plan = ap (λ (o : State). o.plan) c.in_ok-whole.ensures.ok ∙ c.loop-place.invariant.plan;
       text = rw (c.in_ok-add_section.ensures, c.paths.ensures.paths, c.turn_at-after.ensures, left) (next ∙ c.loop-place.invariant.text);
