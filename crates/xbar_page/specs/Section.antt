@@ -1,5 +1,5 @@
 -- A section as text.
-use Rattle.std.specs.Prelude.{ℕ, Some, List, [], ◌∷◌, ◌++◌, codes, decimal, flat_map, map}
+use Rattle.std.specs.Prelude.{ℕ, Some, List, [], ◌∷◌, codes, decimal, flat_map, map}
 use Rattle.std.specs.List.{concat}
 use Rattle.svg.specs.Escape.{escaped}
 use Rattle.xbar_office.specs.declared.reply.Record.{Record}
