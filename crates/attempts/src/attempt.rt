@@ -1,4 +1,4 @@
-ghost use Rattle.std.specs.Prelude.{◌≡◌, ◌<◌, ◌^◌, ◌++◌, ◌∷◌, [], ℕ, None, Some, IfNone, IfSome, length};
+ghost use Rattle.std.specs.Prelude.{◌≡◌, ◌<◌, ◌^◌, ◌++◌, ◌∷◌, [], ℕ, None, Some, IfNone, IfSome, length, option_copied};
 ghost use Rattle.turns.specs.Attempt.{asked_in, rest_of, turn_in};
 ghost use Rattle.desks.specs.Outcomes.{is_given_up as is_given_up_in};
 ghost use Rattle.attempts.specs.Counting.{count_in, counted, has_made_none};
@@ -11,7 +11,7 @@ use turns::{Phase, Reading, Wanted};
 
 /// What an actor knows of its job since it last began it. It has a fixed size, and holds no borrow
 /// of the setting.
-#[derive(Drop)]
+#[derive(Debug, Drop)]
 pub struct Attempt<L, J, D, P, const READINGS: usize, const HELD: usize> {
     pub(crate) job: J,
     pub(crate) point: P,
@@ -255,6 +255,20 @@ impl<
         if self.is_fresh() {
             self.count = 0;
         }
+    }
+
+    /// What it has decided, once it has.
+    pub fn decision(&self) -> Option<&D>
+        ensures { option_copied result ≡ self.now.decision }
+    {
+        self.decision.as_ref()
+    }
+
+    /// What its walks have found.
+    pub fn point(&self) -> &P
+        ensures { result.now ≡ self.now.point }
+    {
+        &self.point
     }
 
     pub fn job(&self) -> &J

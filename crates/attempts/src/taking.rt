@@ -3,7 +3,7 @@
 ghost use Rattle.std.specs.Prelude.{◌≡◌, ◌<◌, ◌^◌, ℕ};
 ghost use Rattle.turns.specs.Attempt.{change, changed, freed, operated, rest_of, walks_on};
 ghost use Rattle.attempts.specs.Counting.{count_in, counted};
-ghost use Rattle.attempts.specs.Standing.{CanWalk, PointStandsIn, Stands, attempt_of};
+ghost use Rattle.attempts.specs.Standing.{AreScripts, CanWalk, KnowsIn, Stands, attempt_of};
 ghost use Rattle.attempts.specs.SystemWith.{system_with};
 
 use crate::attempt::AttemptOf;
@@ -20,12 +20,11 @@ fn walk_on<S: Scripts<READINGS, HELD>, const READINGS: usize, const HELD: usize>
 )
     requires setting { S.IsSetting setting.now }
     requires walk { CanWalk S.Lock.eq S.reply_of S.effects_of (S.system setting.now)
-        (S.rest setting.now) program.old }
+        (S.Knows setting.now) program.old }
     ensures walk { let O = system_with S.Lock.eq S.reply_of S.effects_of (S.system setting.now) in
         attempt_of S.reply_of S.effects_of program.new
         ≡ walks_on O (attempt_of S.reply_of S.effects_of program.old) }
-    ensures point { let O = system_with S.Lock.eq S.reply_of S.effects_of (S.system setting.now) in
-        PointStandsIn O (S.rest setting.now) (attempt_of S.reply_of S.effects_of program.new)
+    ensures point { KnowsIn (S.Knows setting.now) (attempt_of S.reply_of S.effects_of program.new)
         program.new.point program.new.phase }
     ensures count { program.new.count ≡ program.old.count }
 {
@@ -43,13 +42,12 @@ fn take_request<S: Scripts<READINGS, HELD>, const READINGS: usize, const HELD: u
     word: u64,
 )
     requires stands { Stands S.Lock.eq S.reply_of S.effects_of (S.system setting.now)
-        (S.rest setting.now) READINGS HELD program.old }
+        (S.Knows setting.now) READINGS HELD program.old }
     ensures change { let O = system_with S.Lock.eq S.reply_of S.effects_of (S.system setting.now) in
         attempt_of S.reply_of S.effects_of program.new
         ≡ changed O (attempt_of S.reply_of S.effects_of program.old)
         program.old.phase (Answer.Asked word) }
-    ensures point { let O = system_with S.Lock.eq S.reply_of S.effects_of (S.system setting.now) in
-        PointStandsIn O (S.rest setting.now) (attempt_of S.reply_of S.effects_of program.new)
+    ensures point { KnowsIn (S.Knows setting.now) (attempt_of S.reply_of S.effects_of program.new)
         program.new.point program.new.phase }
     ensures count { program.new.count ≡ program.old.count }
 {
@@ -72,13 +70,12 @@ fn take_again<S: Scripts<READINGS, HELD>, const READINGS: usize, const HELD: usi
     word: u64,
 )
     requires stands { Stands S.Lock.eq S.reply_of S.effects_of (S.system setting.now)
-        (S.rest setting.now) READINGS HELD program.old }
+        (S.Knows setting.now) READINGS HELD program.old }
     ensures change { let O = system_with S.Lock.eq S.reply_of S.effects_of (S.system setting.now) in
         attempt_of S.reply_of S.effects_of program.new
         ≡ changed O (attempt_of S.reply_of S.effects_of program.old)
         program.old.phase (Answer.Again word) }
-    ensures point { let O = system_with S.Lock.eq S.reply_of S.effects_of (S.system setting.now) in
-        PointStandsIn O (S.rest setting.now) (attempt_of S.reply_of S.effects_of program.new)
+    ensures point { KnowsIn (S.Knows setting.now) (attempt_of S.reply_of S.effects_of program.new)
         program.new.point program.new.phase }
     ensures count { program.new.count ≡ program.old.count }
 {
@@ -100,7 +97,7 @@ fn take_refusal<S: Scripts<READINGS, HELD>, const READINGS: usize, const HELD: u
     setting: &S::Setting,
 )
     requires stands { Stands S.Lock.eq S.reply_of S.effects_of (S.system setting.now)
-        (S.rest setting.now) READINGS HELD program.old }
+        (S.Knows setting.now) READINGS HELD program.old }
     ensures held { let O = system_with S.Lock.eq S.reply_of S.effects_of (S.system setting.now) in
         (holder : ℕ) → attempt_of S.reply_of S.effects_of program.new
         ≡ changed O (attempt_of S.reply_of S.effects_of program.old)
@@ -109,8 +106,7 @@ fn take_refusal<S: Scripts<READINGS, HELD>, const READINGS: usize, const HELD: u
         (other : ℕ) → attempt_of S.reply_of S.effects_of program.new
         ≡ changed O (attempt_of S.reply_of S.effects_of program.old)
         program.old.phase (Answer.Preferred other) }
-    ensures point { let O = system_with S.Lock.eq S.reply_of S.effects_of (S.system setting.now) in
-        PointStandsIn O (S.rest setting.now) (attempt_of S.reply_of S.effects_of program.new)
+    ensures point { KnowsIn (S.Knows setting.now) (attempt_of S.reply_of S.effects_of program.new)
         program.new.point program.new.phase }
     ensures count { program.new.count ≡ program.old.count }
 {
@@ -125,14 +121,15 @@ fn take_lock<S: Scripts<READINGS, HELD>, const READINGS: usize, const HELD: usiz
     setting: &S::Setting,
 )
     requires setting { S.IsSetting setting.now }
+    requires scripts { AreScripts S.Lock.eq S.reply_of S.effects_of (S.system setting.now)
+        (S.Knows setting.now) READINGS HELD }
     requires stands { Stands S.Lock.eq S.reply_of S.effects_of (S.system setting.now)
-        (S.rest setting.now) READINGS HELD program.old }
+        (S.Knows setting.now) READINGS HELD program.old }
     ensures change { let O = system_with S.Lock.eq S.reply_of S.effects_of (S.system setting.now) in
         attempt_of S.reply_of S.effects_of program.new
         ≡ changed O (attempt_of S.reply_of S.effects_of program.old)
         program.old.phase Answer.Seized }
-    ensures point { let O = system_with S.Lock.eq S.reply_of S.effects_of (S.system setting.now) in
-        PointStandsIn O (S.rest setting.now) (attempt_of S.reply_of S.effects_of program.new)
+    ensures point { KnowsIn (S.Knows setting.now) (attempt_of S.reply_of S.effects_of program.new)
         program.new.point program.new.phase }
     ensures count { program.new.count ≡ program.old.count }
 {
@@ -149,15 +146,16 @@ fn take_reading<S: Scripts<READINGS, HELD>, const READINGS: usize, const HELD: u
     value: u64,
 )
     requires setting { S.IsSetting setting.now }
+    requires scripts { AreScripts S.Lock.eq S.reply_of S.effects_of (S.system setting.now)
+        (S.Knows setting.now) READINGS HELD }
     requires stands { Stands S.Lock.eq S.reply_of S.effects_of (S.system setting.now)
-        (S.rest setting.now) READINGS HELD program.old }
+        (S.Knows setting.now) READINGS HELD program.old }
     ensures change { let O = system_with S.Lock.eq S.reply_of S.effects_of (S.system setting.now) in
         attempt_of S.reply_of S.effects_of program.new
         ≡ changed O (attempt_of S.reply_of S.effects_of program.old)
         program.old.phase (Answer.Value value) }
     ensures fits { value < 2 ^ 64 }
-    ensures point { let O = system_with S.Lock.eq S.reply_of S.effects_of (S.system setting.now) in
-        PointStandsIn O (S.rest setting.now) (attempt_of S.reply_of S.effects_of program.new)
+    ensures point { KnowsIn (S.Knows setting.now) (attempt_of S.reply_of S.effects_of program.new)
         program.new.point program.new.phase }
     ensures count { program.new.count ≡ program.old.count }
 {
@@ -174,13 +172,12 @@ fn take_turn<S: Scripts<READINGS, HELD>, const READINGS: usize, const HELD: usiz
     number: u64,
 )
     requires stands { Stands S.Lock.eq S.reply_of S.effects_of (S.system setting.now)
-        (S.rest setting.now) READINGS HELD program.old }
+        (S.Knows setting.now) READINGS HELD program.old }
     ensures change { let O = system_with S.Lock.eq S.reply_of S.effects_of (S.system setting.now) in
         attempt_of S.reply_of S.effects_of program.new
         ≡ changed O (attempt_of S.reply_of S.effects_of program.old)
         program.old.phase (Answer.Turn number) }
-    ensures point { let O = system_with S.Lock.eq S.reply_of S.effects_of (S.system setting.now) in
-        PointStandsIn O (S.rest setting.now) (attempt_of S.reply_of S.effects_of program.new)
+    ensures point { KnowsIn (S.Knows setting.now) (attempt_of S.reply_of S.effects_of program.new)
         program.new.point program.new.phase }
     ensures count { program.new.count ≡ program.old.count }
 {
@@ -215,18 +212,18 @@ fn operate<S: Scripts<READINGS, HELD>, const READINGS: usize, const HELD: usize>
 /// What was held first is freed, and the rest is still to be given back.
 fn free_on<S: Scripts<READINGS, HELD>, const READINGS: usize, const HELD: usize>(
     program: &mut AttemptOf<S, READINGS, HELD>,
-    setting: &S::Setting,
 )
-    ensures frees { let O = system_with S.Lock.eq S.reply_of S.effects_of (S.system setting.now) in
+    ensures frees { (setting : S.Setting) →
+        let O = system_with S.Lock.eq S.reply_of S.effects_of (S.system setting) in
         attempt_of S.reply_of S.effects_of program.new
         ≡ freed O (attempt_of S.reply_of S.effects_of program.old) (rest_of program.old.held) }
-    ensures point { let O = system_with S.Lock.eq S.reply_of S.effects_of (S.system setting.now) in
-        PointStandsIn O (S.rest setting.now) (attempt_of S.reply_of S.effects_of program.new)
+    ensures point { (setting : S.Setting) →
+        KnowsIn (S.Knows setting) (attempt_of S.reply_of S.effects_of program.new)
         program.new.point program.new.phase }
     ensures count { program.new.count ≡ program.old.count }
 {
     program.free_first();
-    give_back::<S, READINGS, HELD>(program, setting);
+    give_back::<S, READINGS, HELD>(program);
 }
 
 /// A step was made of which there is no more to tell.
@@ -235,19 +232,18 @@ fn take_done<S: Scripts<READINGS, HELD>, const READINGS: usize, const HELD: usiz
     setting: &S::Setting,
 )
     requires stands { Stands S.Lock.eq S.reply_of S.effects_of (S.system setting.now)
-        (S.rest setting.now) READINGS HELD program.old }
+        (S.Knows setting.now) READINGS HELD program.old }
     ensures change { let O = system_with S.Lock.eq S.reply_of S.effects_of (S.system setting.now) in
         attempt_of S.reply_of S.effects_of program.new
         ≡ changed O (attempt_of S.reply_of S.effects_of program.old) program.old.phase Answer.Done }
-    ensures point { let O = system_with S.Lock.eq S.reply_of S.effects_of (S.system setting.now) in
-        PointStandsIn O (S.rest setting.now) (attempt_of S.reply_of S.effects_of program.new)
+    ensures point { KnowsIn (S.Knows setting.now) (attempt_of S.reply_of S.effects_of program.new)
         program.new.point program.new.phase }
     ensures count { program.new.count ≡ program.old.count }
 {
     let phase = program.phase;
     match phase {
-        Phase::Withdraws(_) => give_back::<S, READINGS, HELD>(program, setting),
-        Phase::GivesBack => free_on::<S, READINGS, HELD>(program, setting),
+        Phase::Withdraws(_) => give_back::<S, READINGS, HELD>(program),
+        Phase::GivesBack => free_on::<S, READINGS, HELD>(program),
         Phase::Operates(_) => operate::<S, READINGS, HELD>(program),
         Phase::Requests(_) | Phase::Seizes(_, _) | Phase::Tests(_) | Phase::Turns => {}
     }
@@ -259,13 +255,15 @@ fn take_answer<S: Scripts<READINGS, HELD>, const READINGS: usize, const HELD: us
     answer: Answer,
 )
     requires setting { S.IsSetting setting.now }
+    requires scripts { AreScripts S.Lock.eq S.reply_of S.effects_of (S.system setting.now)
+        (S.Knows setting.now) READINGS HELD }
     requires stands { Stands S.Lock.eq S.reply_of S.effects_of (S.system setting.now)
-        (S.rest setting.now) READINGS HELD program.old }
+        (S.Knows setting.now) READINGS HELD program.old }
     ensures change { let O = system_with S.Lock.eq S.reply_of S.effects_of (S.system setting.now) in
         attempt_of S.reply_of S.effects_of program.new
         ≡ change O (attempt_of S.reply_of S.effects_of program.old) answer }
     ensures stands { Stands S.Lock.eq S.reply_of S.effects_of (S.system setting.now)
-        (S.rest setting.now) READINGS HELD program.new }
+        (S.Knows setting.now) READINGS HELD program.new }
     ensures count { program.new.count ≡ program.old.count }
 {
     match answer {
@@ -287,15 +285,17 @@ pub fn take<S: Scripts<READINGS, HELD>, const READINGS: usize, const HELD: usize
     answer: Answer,
 )
     requires setting { S.IsSetting setting.now }
+    requires scripts { AreScripts S.Lock.eq S.reply_of S.effects_of (S.system setting.now)
+        (S.Knows setting.now) READINGS HELD }
     requires stands { Stands S.Lock.eq S.reply_of S.effects_of (S.system setting.now)
-        (S.rest setting.now) READINGS HELD program.old }
+        (S.Knows setting.now) READINGS HELD program.old }
     ensures change { let O = system_with S.Lock.eq S.reply_of S.effects_of (S.system setting.now) in
         attempt_of S.reply_of S.effects_of program.new
         ≡ change O (attempt_of S.reply_of S.effects_of program.old) answer }
     ensures count { program.new.count
         ≡ count_in program.new.phase program.new.held (counted program.old.count) }
     ensures stands { Stands S.Lock.eq S.reply_of S.effects_of (S.system setting.now)
-        (S.rest setting.now) READINGS HELD program.new }
+        (S.Knows setting.now) READINGS HELD program.new }
 {
     take_answer::<S, READINGS, HELD>(program, setting, answer);
     program.count_step();

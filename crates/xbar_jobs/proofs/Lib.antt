@@ -2,7 +2,6 @@ pub mod Items
 pub mod MadeWords
 pub mod EffectRanges
 pub mod SeenTests
-pub mod JunctorTests
 pub mod JunctorsMade
 pub mod TriedGroups
 pub mod HuntedLines
@@ -23,11 +22,9 @@ pub mod JobBounds
 pub mod OtherBounds
 pub mod JobOthers
 pub mod Covered
-pub mod ReadOnce
-pub mod AttemptRoom
+pub mod Wanting
 pub mod FewConns
 pub mod HoldsFew
-pub mod JunctorRows
 pub mod BusyMembers
 pub mod ShownWords
 pub mod TakenMembers
@@ -55,3 +52,6 @@ pub mod JobTurns
 pub mod AttemptStands
 pub mod Counts
 pub mod StepActs
+pub mod KeptFacts
+pub mod Rows
+pub mod Programs

@@ -1,4 +1,4 @@
-use Rattle.std.specs.Prelude.{ℕ, Option, Some, None, [], ◌∷◌, ⊤}
+use Rattle.std.specs.Prelude.{ℕ, Option, Some, None, [], ◌∷◌}
 use Rattle.xbar_equip.specs.Len.{Line}
 use Rattle.xbar_equip.specs.declared.conn.Conn.{Conn}
 use Rattle.xbar_equip.specs.declared.conn.Conn.TheVariants.{Llf}
@@ -27,12 +27,6 @@ unfoldable pub dial_steps : Tables → Line → Script Decision
 dial_steps plan line = do
   calling ← approach line
   serve_idle_line plan calling (channel_of calling)
-
--- whether a job is a dial tone job
-abbrev pub IsDial : Job → Type 0
-IsDial (Dial line) = ⊤
-IsDial (Complete line dialled) = ⊥
-IsDial (Release line) = ⊥
 
 -- the line of a job
 abbrev pub job_line : Job → Line

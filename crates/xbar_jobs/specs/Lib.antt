@@ -14,6 +14,7 @@ pub mod Closing
 pub mod Tracing
 pub mod Sides
 pub mod Trunks
+pub mod Found
 pub mod Trials
 pub mod Connecting
 pub mod Completing

@@ -1,4 +1,4 @@
-use Rattle.std.specs.Prelude.{◌≡◌, ℕ, zero, suc, ◌+◌, ◌<◌, Option, Some, None, List, [], ◌∷◌, option_map, option_and_then}
+use Rattle.std.specs.Prelude.{ℕ, zero, suc, ◌+◌, Option, Some, None, List, [], ◌∷◌, option_map, option_and_then}
 use Rattle.xbar_equip.specs.Path.{path_by}
 use Rattle.xbar_equip.specs.Ten.{TrunkPlace}
 use Rattle.xbar_equip.specs.Word.{LineJunctor, LineSwitch, TrunkSwitch, word_number}
@@ -33,15 +33,6 @@ test_junctors frame channel (suc count) = do
   word ← test (LineJunctor frame channel)
   words ← test_junctors frame (channel + 1) count
   Ends (word ∷ words)
-
--- this line junctor switch is tested next after that one, in the order of a frame's ten
-pub record IsNextJunctor (number next : ℕ) : Type 0 where
-  pub frame : ℕ
-  pub channel : ℕ
-  pub frame_range : frame < 10
-  pub channel_range : channel < 9
-  pub this : number ≡ word_number (LineJunctor frame channel)
-  pub that : next ≡ word_number (LineJunctor frame (channel + 1))
 
 unfoldable pub test_side : Party → Script Side
 test_side party = do

@@ -31,6 +31,12 @@ pub record IsOfPlan (plan : Tables) (idle : IdleGroup) : Type 0 where
   pub group : idle.group < length plan.groups
   pub first : idle.first < length (members_of plan idle.group)
 
+-- a group's connector is seized, and its word tested
+unfoldable pub test_group : ℕ → Script ℕ
+test_group group = do
+  seize (Group group)
+  test (GroupWord group)
+
 -- a group that has an idle member is taken, and of one that has none the next ones are tried
 unfoldable pub idle_or : ℕ → ℕ → Script (Option IdleGroup) → Option ℕ → Script (Option IdleGroup)
 idle_or group word next None = next

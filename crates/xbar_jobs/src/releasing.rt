@@ -1,14 +1,16 @@
 //! A release, as far as an attempt has come with it.
 
 ghost use Rattle.std.specs.Prelude.{◌≡◌};
+ghost use Rattle.xbar_jobs.specs.Found.{Knows};
 ghost use Rattle.xbar_jobs.specs.Releasing.{release_from as release_from_script, release_steps, trace_other as trace_other_script};
 ghost use Rattle.xbar_jobs.specs.Script.{walk};
 
 use crate::decision::Decision;
-use crate::kinds::Wanted;
+use crate::found::Found;
+use crate::kinds::{Gathered, Wanted};
 use crate::leave::Leave;
 use crate::seen::Seen;
-use crate::tracing::{approach, trace, trace_back};
+use crate::tracing::trace_back;
 use xbar_equip::{Conn, Len, Path, Ten};
 use xbar_office::End;
 use xbar_plan::Plan;
@@ -45,10 +47,17 @@ fn release_from(plan: &Plan, seen: &Seen, own: &Option<Path>) -> Result<Decision
 #[tactic(auto, using(turns::proofs::Walks::walk_bind), unfolding(crate::specs::Releasing::release_steps))]
 // Not inlined into every walk: a dial tone job would pay for its locals.
 #[inline(never)]
-pub fn release(plan: &Plan, seen: &Seen, line: Len) -> Result<Decision, Wanted>
-    ensures { result ≡ walk seen.now (release_steps plan.now line) }
+pub fn release(
+    plan: &Plan,
+    found: &mut Found,
+    gathered: &Gathered,
+    line: Len,
+) -> Result<Decision, Wanted>
+    requires { Knows found.old gathered.now }
+    ensures walk { result ≡ walk gathered.now (release_steps plan.now line) }
+    ensures knows { Knows found.new gathered.now }
 {
-    let party = approach(seen, line)?;
-    let own = trace(seen, &party)?;
-    release_from(plan, seen, &own)
+    let party = found.approach(gathered, line)?;
+    let own = found.trace(gathered, &party)?;
+    release_from(plan, &Seen::new(gathered), &own)
 }

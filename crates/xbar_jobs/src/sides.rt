@@ -1,18 +1,20 @@
 //! The sides of a call: what a marker knows of the parties' frames, and the paths that it finds by that.
 
-ghost use Rattle.std.specs.Prelude.{◌≡◌, ◌<◌, IfSome, option_map};
+ghost use Rattle.std.specs.Prelude.{◌≡◌, ◌<◌, Err, IfErr, IfOk, length, option_map};
+ghost use Rattle.xbar_jobs.specs.Found.{IsRow, KnowsCall};
 ghost use Rattle.xbar_jobs.specs.Keeping.{AreEffects};
-ghost use Rattle.xbar_jobs.specs.Script.{walk};
-ghost use Rattle.xbar_jobs.specs.Sides.{IsNextJunctor, join as join_of, join_called as join_called_of, junctors_after as junctors_after_of, open_path as open_path_of, test_called as test_called_script, test_junctors as junctors_script, test_side as test_side_script, test_sides as test_sides_script};
+ghost use Rattle.xbar_jobs.specs.Script.{Seen as SeenBy, walk};
+ghost use Rattle.xbar_jobs.specs.Sides.{join as join_of, join_called as join_called_of, junctors_after as junctors_after_of, open_path as open_path_of, test_called as test_called_script, test_junctors as junctors_script, test_side as test_side_script, test_sides as test_sides_script};
 
 use crate::effect::Effect;
 use crate::effects::{Effects, close_path, made};
+use crate::found::{CallFound, Row};
 use crate::kinds::Wanted;
 use crate::party::{CallParties, Party};
 use crate::seen::Seen;
 use crate::trunk::{Reached, Trunk};
 use std::marker::Model;
-use xbar_equip::{Path, WordNo, line_junctor};
+use xbar_equip::{Path, line_junctor};
 use xbar_match::match_channel;
 use xbar_office::CallPaths;
 
@@ -46,31 +48,47 @@ impl Model for Sides {
     ghost view = { λ a. record { calling = a.calling; called = a.called } };
 }
 
-/// The words of the ten line junctor switches of a frame.
-#[tactic(auto, using(turns::proofs::Walks::walk_bind), unfolding(crate::specs::Sides::test_junctors))]
-fn test_junctors(seen: &Seen, frame: u8) -> Result<[u64; 10], Wanted>
-    requires { frame < 10 }
-    ensures { result ≡ walk seen.now (junctors_script frame 0 10) }
+/// A row of this frame, which keeps what it has if it is one.
+#[tactic(auto, using(crate::proofs::KeptFacts::row_none))]
+fn begin_row(row: &mut Row, frame: u8)
+    ensures frame { row.new.frame ≡ frame }
+    ensures row { (seen : SeenBy) → IsRow row.old seen → IsRow row.new seen }
 {
-    let mut words = [0; 10];
-    for channel in 0..10 {
-        words[usize::from(channel)] = seen.value_of(line_junctor(frame, channel))?;
+    if row.frame != frame {
+        row.frame = frame;
+        row.words.clear();
     }
-    Ok(words)
 }
 
-/// The line junctor switch that is tested after this word, if the word is one and not a frame's last.
-pub fn next_junctor(word: WordNo) -> Option<WordNo>
-    ensures { IfSome result (λ next. IsNextJunctor word next) }
+/// Tests the line junctor switches of a frame that are left.
+fn go_on_row(row: &mut Row, seen: &Seen) -> Result<(), Wanted>
+    requires frame { row.old.frame < 10 }
+    requires row { IsRow row.old seen.now }
+    ensures frame { row.new.frame ≡ row.old.frame }
+    ensures row { IsRow row.new seen.now }
+    ensures full { IfOk result (λ _. length row.new.words.items ≡ 10) }
+    ensures wanted { IfErr result
+        (λ wanted. walk seen.now (junctors_script row.old.frame 0 10) ≡ Err wanted) }
 {
-    let number = word.number();
-    let frame = number / 20;
-    let place = number % 20;
-    if frame < 10 && place >= 10 && place < 19 {
-        Some(line_junctor(frame as u8, (place - 9) as u8))
-    } else {
-        None
+    for channel in row.words.len()..10 {
+        let word = seen.value_of(line_junctor(row.frame, channel as u8))?;
+        row.words.push(word);
     }
+    Ok(())
+}
+
+/// The words of the ten line junctor switches of a frame.
+fn test_junctors(row: &mut Row, seen: &Seen, frame: u8) -> Result<[u64; 10], Wanted>
+    requires frame { frame < 10 }
+    requires row { IsRow row.old seen.now }
+    ensures walk { result ≡ walk seen.now (junctors_script frame 0 10) }
+    ensures row { IsRow row.new seen.now }
+{
+    begin_row(row, frame);
+    go_on_row(row, seen)?;
+    let mut words = [0; 10];
+    words.copy_from_slice(row.words.as_slice());
+    Ok(words)
 }
 
 fn junctors_after(effects: &[Effect], frame: u8, junctors: &[u64; 10]) -> [u64; 10]
@@ -90,10 +108,12 @@ impl Side {
     ghost use Rattle.xbar_jobs.specs.Sides.{side_after};
 
     #[tactic(auto, using(turns::proofs::Walks::walk_bind, turns::proofs::Walks::walk_end), unfolding(crate::specs::Sides::test_side))]
-    fn test(seen: &Seen, party: &Party) -> Result<Side, Wanted>
-        ensures { result ≡ walk seen.now (test_side_script party.now) }
+    fn test(row: &mut Row, seen: &Seen, party: &Party) -> Result<Side, Wanted>
+        requires { IsRow row.old seen.now }
+        ensures walk { result ≡ walk seen.now (test_side_script party.now) }
+        ensures row { IsRow row.new seen.now }
     {
-        let junctors = test_junctors(seen, party.line.frame())?;
+        let junctors = test_junctors(row, seen, party.line.frame())?;
         Ok(Side {
             party: *party,
             junctors,
@@ -135,12 +155,14 @@ impl Side {
 }
 
 #[tactic(auto, using(turns::proofs::Walks::walk_bind, turns::proofs::Walks::walk_end), unfolding(crate::specs::Sides::test_called))]
-fn test_called(seen: &Seen, party: &Option<Party>) -> Result<Option<Side>, Wanted>
-    ensures { result ≡ walk seen.now (test_called_script party.now) }
+fn test_called(row: &mut Row, seen: &Seen, party: &Option<Party>) -> Result<Option<Side>, Wanted>
+    requires { IsRow row.old seen.now }
+    ensures walk { result ≡ walk seen.now (test_called_script party.now) }
+    ensures row { IsRow row.new seen.now }
 {
     match party {
         None => Ok(None),
-        Some(party) => Ok(Some(Side::test(seen, party)?)),
+        Some(party) => Ok(Some(Side::test(row, seen, party)?)),
     }
 }
 
@@ -175,11 +197,13 @@ fn join_called(
 impl Sides {
     /// Tests the line junctor switches of the parties' frames.
     #[tactic(auto, using(turns::proofs::Walks::walk_bind, turns::proofs::Walks::walk_end), unfolding(crate::specs::Sides::test_sides))]
-    pub fn test(seen: &Seen, parties: &CallParties) -> Result<Sides, Wanted>
-        ensures { result ≡ walk seen.now (test_sides_script parties.now) }
+    pub fn test(found: &mut CallFound, seen: &Seen, parties: &CallParties) -> Result<Sides, Wanted>
+        requires { KnowsCall found.old seen.now }
+        ensures walk { result ≡ walk seen.now (test_sides_script parties.now) }
+        ensures found { KnowsCall found.new seen.now }
     {
-        let calling = Side::test(seen, &parties.calling)?;
-        let called = test_called(seen, &parties.called)?;
+        let calling = Side::test(&mut found.calling_row, seen, &parties.calling)?;
+        let called = test_called(&mut found.called_row, seen, &parties.called)?;
         Ok(Sides { calling, called })
     }
 

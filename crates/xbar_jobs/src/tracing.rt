@@ -1,9 +1,11 @@
 //! Paths, traced from switch to switch as far as an attempt has come with them.
 
 ghost use Rattle.std.specs.Prelude.{◌≡◌, ◌<◌, IfSome};
+ghost use Rattle.xbar_jobs.specs.Found.{IsKept};
 ghost use Rattle.xbar_jobs.specs.Script.{walk};
 ghost use Rattle.xbar_jobs.specs.Tracing.{approach as approach_script, trace as trace_script, trace_at as trace_at_script, trace_to as trace_to_script, trace_by as trace_by_script, trace_back as trace_back_script, trace_back_at as trace_back_at_script, trace_back_to as trace_back_to_script, trace_back_by as trace_back_by_script};
 
+use crate::kept::Kept;
 use crate::kinds::Wanted;
 use crate::party::Party;
 use crate::seen::Seen;
@@ -14,12 +16,35 @@ use xbar_match::{find_number, line_place_of, place_of};
 
 /// Approaches a line: its frame is seized and its line switch tested.
 #[tactic(auto, using(turns::proofs::Walks::walk_bind, turns::proofs::Walks::walk_end), unfolding(crate::specs::Tracing::approach))]
-pub fn approach(seen: &Seen, line: Len) -> Result<Party, Wanted>
+fn approach(seen: &Seen, line: Len) -> Result<Party, Wanted>
     ensures { result ≡ walk seen.now (approach_script line) }
 {
     seen.require_held(Conn::Llf(line.frame()))?;
     let word = seen.value_of(line_switch(line.frame(), line.switch()))?;
     Ok(Party { line, word })
+}
+
+/// Approaches a line, unless that is what is kept.
+pub fn approach_once(
+    kept: &mut Option<Kept<Len, Party>>,
+    seen: &Seen,
+    line: Len,
+) -> Result<Party, Wanted>
+    requires { IsKept approach_script kept.old seen.now }
+    ensures walk { result ≡ walk seen.now (approach_script line) }
+    ensures kept { IsKept approach_script kept.new seen.now }
+{
+    match Kept::value_for(kept, &line) {
+        Some(party) => Ok(party),
+        None => {
+            let party = &approach(seen, line)?;
+            *kept = Some(Kept {
+                key: line,
+                value: *party,
+            });
+            Ok(*party)
+        }
+    }
 }
 
 #[tactic(auto, using(turns::proofs::Walks::walk_bind, turns::proofs::Walks::walk_end), unfolding(crate::specs::Tracing::trace_at))]
@@ -78,10 +103,33 @@ fn trace_by(seen: &Seen, line: Len, channel: Option<u8>) -> Result<Option<Path>,
 /// Traces a line's path from switch to switch. One that breaks off, which no lawful office shows, counts
 /// as none.
 #[tactic(auto, unfolding(crate::specs::Tracing::trace))]
-pub fn trace(seen: &Seen, party: &Party) -> Result<Option<Path>, Wanted>
+fn trace(seen: &Seen, party: &Party) -> Result<Option<Path>, Wanted>
     ensures { result ≡ walk seen.now (trace_script party.now) }
 {
     trace_by(seen, party.line, party.channel())
+}
+
+/// Traces a line's path, unless that is what is kept.
+pub fn trace_once(
+    kept: &mut Option<Kept<Party, Option<Path>>>,
+    seen: &Seen,
+    party: &Party,
+) -> Result<Option<Path>, Wanted>
+    requires { IsKept trace_script kept.old seen.now }
+    ensures walk { result ≡ walk seen.now (trace_script party.now) }
+    ensures kept { IsKept trace_script kept.new seen.now }
+{
+    match Kept::value_for(kept, party) {
+        Some(path) => Ok(path),
+        None => {
+            let path = &trace(seen, party)?;
+            *kept = Some(Kept {
+                key: *party,
+                value: *path,
+            });
+            Ok(*path)
+        }
+    }
 }
 
 #[tactic(auto, using(turns::proofs::Walks::walk_bind, turns::proofs::Walks::walk_end), unfolding(crate::specs::Tracing::trace_back_at))]

@@ -1,14 +1,16 @@
 //! Two trials on a trunk group, as far as an attempt has come with them.
 
 ghost use Rattle.std.specs.Prelude.{◌≡◌, ◌<◌, ◌≤◌, length};
+ghost use Rattle.xbar_jobs.specs.Found.{KnowsCall};
 ghost use Rattle.xbar_jobs.specs.Script.{walk};
 ghost use Rattle.xbar_jobs.specs.Trials.{after_first_trial as after_first_script, first_trial_steps, second_trial_at as second_trial_at_script, second_trial_steps, trial_end as trial_end_of, two_trials_steps};
 
+use crate::found::CallFound;
 use crate::kinds::Wanted;
 use crate::party::CallParties;
 use crate::seen::Seen;
 use crate::sides::Sides;
-use crate::trunk::{Reached, Trunk, reach};
+use crate::trunk::{Reached, Trunk, reach, reach_once};
 use crate::trunks::{Trunks, next_clear};
 use xbar_office::{Card, Cards, TrialEnd, Trials};
 use xbar_plan::{Member, Plan};
@@ -94,6 +96,7 @@ fn after_first_trial(
 #[tactic(auto, using(turns::proofs::Walks::walk_bind), unfolding(crate::specs::Trials::first_trial_steps))]
 fn first_trial(
     plan: &Plan,
+    found: &mut CallFound,
     seen: &Seen,
     parties: &CallParties,
     trunks: &Trunks,
@@ -102,11 +105,13 @@ fn first_trial(
 ) -> Result<Trials, Wanted>
     requires index { first < length trunks.now.members }
     requires size { length trunks.now.members ≤ 40 }
-    ensures { result ≡ walk seen.now
+    requires found { KnowsCall found.old seen.now }
+    ensures walk { result ≡ walk seen.now
         (first_trial_steps plan.now parties.now trunks.now first member.now) }
+    ensures found { KnowsCall found.new seen.now }
 {
-    let trunk = reach(seen, member)?;
-    let sides = Sides::test(seen, parties)?;
+    let trunk = reach_once(&mut found.first, seen, member)?;
+    let sides = Sides::test(found, seen, parties)?;
     let end = trial_end(plan, &sides, 0, trunk.first, trunk.second);
     after_first_trial(plan, seen, &sides, trunks, first, end)
 }
@@ -115,6 +120,7 @@ fn first_trial(
 #[tactic(auto, unfolding(crate::specs::Trials::two_trials_steps))]
 pub fn two_trials(
     plan: &Plan,
+    found: &mut CallFound,
     seen: &Seen,
     parties: &CallParties,
     trunks: &Trunks,
@@ -122,7 +128,17 @@ pub fn two_trials(
 ) -> Result<Trials, Wanted>
     requires index { first < length trunks.now.members }
     requires size { length trunks.now.members ≤ 40 }
-    ensures { result ≡ walk seen.now (two_trials_steps plan.now parties.now trunks.now first) }
+    requires found { KnowsCall found.old seen.now }
+    ensures walk { result ≡ walk seen.now (two_trials_steps plan.now parties.now trunks.now first) }
+    ensures found { KnowsCall found.new seen.now }
 {
-    first_trial(plan, seen, parties, trunks, first, &trunks.members[first])
+    first_trial(
+        plan,
+        found,
+        seen,
+        parties,
+        trunks,
+        first,
+        &trunks.members[first],
+    )
 }

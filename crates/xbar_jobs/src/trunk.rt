@@ -1,10 +1,12 @@
 ghost use Rattle.std.specs.Prelude.{◌≡◌};
+ghost use Rattle.xbar_jobs.specs.Found.{IsKept};
 ghost use Rattle.xbar_jobs.specs.Keeping.{AreEffects};
 ghost use Rattle.xbar_jobs.specs.Script.{walk};
 ghost use Rattle.xbar_jobs.specs.Sides.{reach as reach_script, test_place as test_place_script, test_second as test_second_script};
 
 use crate::effect::Effect;
 use crate::effects::made;
+use crate::kept::Kept;
 use crate::kinds::Wanted;
 use crate::seen::Seen;
 use xbar_equip::{Conn, Ten, trunk_switch};
@@ -68,4 +70,27 @@ pub fn reach(seen: &Seen, member: &Member) -> Result<Trunk, Wanted>
     let first = test_place(seen, member.first)?;
     let second = test_second(seen, member.second)?;
     Ok(Trunk { first, second })
+}
+
+/// Reaches a member, unless that is what is kept.
+pub fn reach_once(
+    kept: &mut Option<Kept<Member, Trunk>>,
+    seen: &Seen,
+    member: &Member,
+) -> Result<Trunk, Wanted>
+    requires { IsKept reach_script kept.old seen.now }
+    ensures walk { result ≡ walk seen.now (reach_script member.now) }
+    ensures kept { IsKept reach_script kept.new seen.now }
+{
+    match Kept::value_for(kept, member) {
+        Some(trunk) => Ok(trunk),
+        None => {
+            let trunk = &reach(seen, member)?;
+            *kept = Some(Kept {
+                key: *member,
+                value: *trunk,
+            });
+            Ok(*trunk)
+        }
+    }
 }

@@ -3,9 +3,11 @@
 ghost use Rattle.std.specs.Prelude.{◌≡◌, ◌<◌, ◌≤◌, IfOk, IfSome, length};
 ghost use Rattle.xbar_equip.specs.First.{first_below, next_below};
 ghost use Rattle.xbar_office.specs.Trunks.{AreGroups};
+ghost use Rattle.xbar_jobs.specs.Found.{IsKept};
 ghost use Rattle.xbar_jobs.specs.Script.{walk};
-ghost use Rattle.xbar_jobs.specs.Trunks.{IsOfPlan, find_trunk as find_trunk_script, is_bit_clear as is_bit_clear_of, trunks_of as trunks_by};
+ghost use Rattle.xbar_jobs.specs.Trunks.{IsOfPlan, find_trunk as find_trunk_script, is_bit_clear as is_bit_clear_of, test_group as test_group_script, trunks_of as trunks_by};
 
+use crate::kept::Kept;
 use crate::kinds::Wanted;
 use crate::seen::Seen;
 use std::marker::Model;
@@ -85,19 +87,55 @@ pub fn trunks_of(plan: &Plan, group: u8, word: u64) -> Trunks<'_>
     }
 }
 
+/// A group's word, once its connector is seized.
+#[tactic(auto, using(turns::proofs::Walks::walk_bind), unfolding(crate::specs::Trunks::test_group))]
+fn test_group(seen: &Seen, group: u8) -> Result<u64, Wanted>
+    requires { group < 16 }
+    ensures { result ≡ walk seen.now (test_group_script group) }
+{
+    seen.require_held(Conn::Group(group))?;
+    seen.value_of(group_word(group))
+}
+
+/// A group's word, unless that is what is kept.
+fn test_group_once(kept: &mut Option<Kept<u8, u64>>, seen: &Seen, group: u8) -> Result<u64, Wanted>
+    requires group { group < 16 }
+    requires kept { IsKept test_group_script kept.old seen.now }
+    ensures walk { result ≡ walk seen.now (test_group_script group) }
+    ensures kept { IsKept test_group_script kept.new seen.now }
+{
+    match Kept::value_for(kept, &group) {
+        Some(word) => Ok(word),
+        None => {
+            let word = test_group(seen, group)?;
+            *kept = Some(Kept {
+                key: group,
+                value: word,
+            });
+            Ok(word)
+        }
+    }
+}
+
 /// The first of some groups that has an idle member: each is seized and its word tested, until one has.
-pub fn find_trunk(plan: &Plan, seen: &Seen, groups: &[u8]) -> Result<Option<IdleGroup>, Wanted>
-    requires { AreGroups plan.now groups.now }
+pub fn find_trunk(
+    plan: &Plan,
+    kept: &mut Option<Kept<u8, u64>>,
+    seen: &Seen,
+    groups: &[u8],
+) -> Result<Option<IdleGroup>, Wanted>
+    requires groups { AreGroups plan.now groups.now }
+    requires kept { IsKept test_group_script kept.old seen.now }
     ensures walk { result ≡ walk seen.now (find_trunk_script plan.now groups.now) }
     ensures range { IfOk result (λ found. IfSome found (λ idle. IsOfPlan plan.now idle)) }
+    ensures kept { IsKept test_group_script kept.new seen.now }
 {
     // Called for their clauses alone.
     xbar_plan::laws::every_plan_is_lawful(plan);
     xbar_plan::laws::groups_have_members();
     for group in groups {
         let group = *group;
-        seen.require_held(Conn::Group(group))?;
-        let word = seen.value_of(group_word(group))?;
+        let word = test_group_once(kept, seen, group)?;
         let trunks = trunks_of(plan, group, word);
         if let Some(first) = first_clear(word, trunks.members.len()) {
             return Ok(Some(IdleGroup {
