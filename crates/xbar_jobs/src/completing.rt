@@ -215,5 +215,6 @@ pub fn complete(
 {
     let calling = found.approach(gathered, line)?;
     let own = found.trace(gathered, &calling)?;
+    found.traced = true;
     complete_from(plan, found, gathered, &calling, dialled, &own)
 }

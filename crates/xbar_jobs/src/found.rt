@@ -70,6 +70,9 @@ pub struct Found {
     pub own: Option<Kept<Party, Option<Path>>>,
     pub leave: Option<Leave>,
     pub call: CallFound,
+    /// The word that the last walk wanted, if the next of its row follows whatever it shows.
+    pub row: Option<usize>,
+    pub traced: bool,
 }
 
 impl Found {
@@ -82,6 +85,8 @@ impl Found {
             own: None,
             leave: None,
             call: CallFound::new(),
+            row: None,
+            traced: false,
         }
     }
 

@@ -2,7 +2,7 @@ use crate::decided::Decided;
 use crate::effect::Effect;
 use crate::found::Found;
 use crate::kinds::Wanted;
-use crate::walk::{first_conn, walk};
+use crate::walk::{conclude, first_conn, follow, next_in_row, row_of};
 use attempts::{Scripts, Seen};
 use turns::laws::Family;
 use xbar_equip::Conn;
@@ -66,7 +66,17 @@ impl Scripts<42, 19> for Offices {
         found: &mut Found,
         seen: &Seen<Conn>,
     ) -> Result<Decided, Wanted> {
-        walk(plan, job, found, seen)
+        if let Some(next) = next_in_row(found.row, seen) {
+            found.row = Some(next);
+            return Err(Wanted::Test(next));
+        }
+        match follow(plan, job, found, seen) {
+            Ok(decision) => conclude(decision),
+            Err(wanted) => {
+                found.row = row_of(job, found, wanted);
+                Err(wanted)
+            }
+        }
     }
 
     fn reply(decision: &Decided) -> Reply {

@@ -32,7 +32,8 @@ pub fn first_conn(job: &Job) -> Conn
 }
 
 #[tactic(auto, unfolding(crate::specs::Jobs::script))]
-fn follow(
+#[inline(never)]
+pub fn follow(
     plan: &Plan,
     job: &Job,
     found: &mut Found,
@@ -49,22 +50,42 @@ fn follow(
     }
 }
 
-/// Goes through a job with what an attempt has come by: to its decision, or to what it wants first.
+/// The line junctor switch that is tested after this word, if the word is one and not a frame's last.
+fn next_junctor(number: usize) -> Option<usize> {
+    let frame = number / 20;
+    let place = number % 20;
+    if frame < 10 && place >= 10 && place < 19 {
+        Some(number + 1)
+    } else {
+        None
+    }
+}
+
+pub fn next_in_row(row: Option<usize>, gathered: &Gathered) -> Option<usize> {
+    let number = row?;
+    let next = next_junctor(number)?;
+    if gathered.test(number).is_ok() && gathered.test(next).is_err() {
+        Some(next)
+    } else {
+        None
+    }
+}
+
+/// Concludes a job.
 #[inline(never)]
-pub fn walk(
-    plan: &Plan,
-    job: &Job,
-    found: &mut Found,
-    gathered: &Gathered,
-) -> Result<Decided, Wanted>
-    requires job { IsJob job.now }
-    requires read { AreReadWords gathered.now.readings }
-    requires knows { Knows found.old gathered.now }
-    ensures walk { result ≡ walk_of gathered.now (script plan.now job.now) }
-    ensures knows { Knows found.new gathered.now }
-{
-    // Called for its clauses alone.
-    xbar_plan::laws::every_plan_is_lawful(plan);
-    let decision = follow(plan, job, found, gathered)?;
+pub fn conclude(decision: Decision) -> Result<Decided, Wanted> {
     Ok(Decided::new(decision))
+}
+
+pub fn row_of(job: &Job, found: &Found, wanted: Wanted) -> Option<usize> {
+    match wanted {
+        Wanted::Seize(_) => None,
+        Wanted::Test(word) => {
+            if found.traced || matches!(job, Job::Dial(_)) {
+                Some(word)
+            } else {
+                None
+            }
+        }
+    }
 }
