@@ -160,3 +160,28 @@ pub kept_joined : (telling : Telling) (tests after : List Tested) (tested : Test
     → after ≡ (if pushed then tests ++ tested ∷ [] else tests) → are_joined telling after ≡ true
 kept_joined telling tests after tested true joined leads is = ap (are_joined telling) is ∙ one_joined telling tests tested joined leads
 kept_joined telling tests after tested false joined leads is = ap (are_joined telling) is ∙ joined
+
+-- in long each item is a run
+each_parted : (item : Item) (later : List Item) → joins_first Each item later ≡ false
+each_parted item [] = refl
+each_parted (Tests tested) (Tests next ∷ later) = refl
+each_parted (Tests tested) (Says lines ∷ later) = refl
+each_parted (Says lines) (next ∷ later) = refl
+
+run_of_one : (item : Item) → run_lines (item ∷ []) ≡ item_lines item
+unfolding run_lines item_lines tests_line
+run_of_one (Tests tested) = refl
+run_of_one (Says lines) = refl
+
+pub each_alone : (items : List Item) → told_text Each items ≡ flat_map item_lines items
+unfolding told_text runs_of
+each_alone [] = refl
+each_alone (item ∷ later) =
+    ap (λ (joined : Bool). flat_map run_lines (before_runs joined item (runs_of Each later))) (each_parted item later)
+    ∙ ap (λ (lines : List ℕ). lines ++ told_text Each later) (run_of_one item)
+    ∙ ap (λ (lines : List ℕ). item_lines item ++ lines) (each_alone later)
+
+-- what an item begins is a run
+begun_by : (telling : Telling) (item : Item) (later : List Item) (runs : List (List Item)) → All (IsRun telling) runs → runs_of telling later ≡ runs
+    → All (IsRun telling) (before_runs (joins_first telling item later) item runs)
+begun_by telling item later runs are is = ?

@@ -37,10 +37,10 @@ fn walk_end_past_turn(
         (Tells (told_end_past_turn marker) exchange.old story.old exchange.new story.new) }
 {
     if exchange.is_past_turn(marker) {
-        walk_end(exchange, marker, story)
-    } else {
-        Ok(())
+        walk_end(exchange, marker, story)?;
+        return Ok(());
     }
+    Ok(())
 }
 
 /// A marker that is to begin its job anew withdraws its request, and frees all that it holds.
