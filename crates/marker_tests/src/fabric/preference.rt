@@ -1,5 +1,7 @@
 //! Of markers that ask for one connector the lowest is preferred.
 
+ghost use Rattle.xbar_fabric.specs.Views.{IsDeskOf};
+
 use super::*;
 use crate::checks::check_eq;
 
@@ -44,23 +46,33 @@ fn the_lower_marker_is_preferred_though_it_comes_later(rt: HostRuntime) -> Resul
     comes_to(&rt, rt.alloc(), &wanted)
 }
 
+/// What an idle desk's request of frame 3 leaves in its connector.
+fn after_a_request(
+    rt: &impl Abort,
+    alloc: Global,
+    fabric: Fabric<'_>,
+    mut desk: Desk,
+) -> Result<u64, Fail>
+    requires { IsDeskOf desk fabric }
+{
+    check_eq!(rt; desk.assign(1, job(rt, "D 3041")), Ok(()));
+    check_eq!(rt; desk.advance(&fabric), Progress::Moved);
+    match shut(alloc, fabric, desk) {
+        Ok(words) => Ok(word(rt, words.as_slice(), FRAME_3)),
+        Err(_) => Err("there is memory for the words".into()),
+    }
+}
+
 #[test]
 fn the_last_marker_has_the_highest_request(rt: HostRuntime) -> Result<(), Fail> {
     let alloc = rt.alloc();
     let plan = Plan::example(alloc)?;
     let (fabric, mut desks) = Fabric::open(alloc, &plan, &[Kind::Combined; 48])?;
-    let Some(mut last) = last_desk(&fabric, &mut desks) else {
+    let Some(last) = last_desk(&fabric, &mut desks) else {
         return Err("there is a desk 47".into());
     };
     check_eq!(rt; last.marker(), 47);
-    check_eq!(rt; last.assign(1, job(&rt, "D 3041")), Ok(()));
-    check_eq!(rt; last.advance(&fabric), Progress::Moved);
-    let Ok(words) = shut(alloc, fabric, last) else {
-        return Err("there is memory for the words".into());
-    };
-    check_eq!(rt;
-        word(&rt, words.as_slice(), FRAME_3),
-        36_028_797_018_963_968
-    );
+    let left = after_a_request(&rt, alloc, fabric, last)?;
+    check_eq!(rt; left, 36_028_797_018_963_968);
     Ok(())
 }

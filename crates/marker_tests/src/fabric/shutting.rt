@@ -72,6 +72,20 @@ fn done(
     Err("the job comes to its end".into())
 }
 
+/// The words are those of the office after these five records.
+fn check_words(
+    rt: &impl Abort,
+    alloc: Global,
+    plan: &Plan,
+    words: &[u64],
+    log: &[xbar_office::Record],
+) -> Result<(), Fail> {
+    let paths = audit(alloc, plan, log)?.paths().len();
+    check_eq!(rt; counts(rt, words), (paths, 4 * paths));
+    check_eq!(rt; word(rt, words, TURNS), 5);
+    Ok(())
+}
+
 #[test]
 fn records_that_are_told_are_a_history(rt: HostRuntime) -> Result<(), Fail> {
     let alloc = rt.alloc();
@@ -83,10 +97,5 @@ fn records_that_are_told_are_a_history(rt: HostRuntime) -> Result<(), Fail> {
         done(&rt, &mut office, job_no, text, &mut log)?;
     }
     check_eq!(rt; office.step(0), Progress::Idle);
-    let words = office.words(alloc)?;
-    let after = audit(alloc, &plan, log.as_slice())?;
-    let paths = after.paths().len();
-    check_eq!(rt; counts(&rt, words.as_slice()), (paths, 4 * paths));
-    check_eq!(rt; word(&rt, words.as_slice(), TURNS), 5);
-    Ok(())
+    check_words(&rt, alloc, &plan, &office.words(alloc)?, &log)
 }
