@@ -14,14 +14,14 @@ use Rattle.crossbar5.specs.declared.task.Task.TheVariants.{Replay, Walk, Audit, 
 -- a replay and a walk want markers, an audit and a drawing none
 abbrev pub HasItsMarkers : Task → Type 0
 HasItsMarkers (Replay kinds) = IsMarkerCount (length kinds.now)
-HasItsMarkers (Walk kinds) = IsMarkerCount (length kinds.now)
+HasItsMarkers (Walk kinds telling) = IsMarkerCount (length kinds.now)
 HasItsMarkers Audit = Unit {0}
 HasItsMarkers (Draw look) = Unit {0}
 
 -- under a plan's tables, the text and the status are those of the task
 abbrev pub IsDoneUnder : Task → Tables → List ℕ → List ℕ → Status → Type 0
 IsDoneUnder (Replay kinds) plan input text status = IsReplayUnder plan kinds.now input text status
-IsDoneUnder (Walk kinds) plan input text status = IsWalkUnder plan kinds.now input text status
+IsDoneUnder (Walk kinds telling) plan input text status = IsWalkUnder telling plan kinds.now input text status
 IsDoneUnder Audit plan input text status = IsAuditUnder plan input text status
 IsDoneUnder (Draw look) plan input text status = IsDrawUnder look plan input text status
 

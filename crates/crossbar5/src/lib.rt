@@ -15,6 +15,7 @@ pub use slip::Slip;
 pub use status::Status;
 pub use task::Task;
 pub use xbar_report::report;
+pub use xbar_walk::Telling;
 
 mod answer;
 mod audit;

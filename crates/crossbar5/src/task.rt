@@ -7,6 +7,7 @@ use crate::written::Written;
 use std::alloc::{AllocError, Global};
 use xbar_core::{Kind, MOST_MARKERS};
 use xbar_plan::Plan;
+use xbar_walk::Telling;
 
 /// What the engine does with a plan and what it reads.
 #[derive(Clone, Copy)]
@@ -14,7 +15,7 @@ pub enum Task<'a> {
     /// To replay traffic, by markers of these kinds.
     Replay { kinds: &'a [Kind] },
     /// To replay it, and tell each step of these markers in words.
-    Walk { kinds: &'a [Kind] },
+    Walk { kinds: &'a [Kind], telling: Telling },
     /// To audit records.
     Audit,
     /// To draw the office after them.
@@ -30,7 +31,7 @@ impl Task<'_> {
         ensures { IsTrue result ↔ HasItsMarkers self.entry }
     {
         match self {
-            Task::Replay { kinds } | Task::Walk { kinds } => {
+            Task::Replay { kinds } | Task::Walk { kinds, .. } => {
                 !kinds.is_empty() && kinds.len() <= MOST_MARKERS
             }
             Task::Audit | Task::Draw { .. } => true,
@@ -50,7 +51,7 @@ impl Task<'_> {
     {
         match self {
             Task::Replay { kinds } => replay(alloc, plan, kinds, input),
-            Task::Walk { kinds } => walk(alloc, plan, kinds, input),
+            Task::Walk { kinds, telling } => walk(alloc, plan, kinds, telling, input),
             Task::Audit => audit_text(alloc, plan, input),
             Task::Draw { look } => draw_text(alloc, plan, look, input),
         }

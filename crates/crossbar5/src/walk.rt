@@ -1,13 +1,15 @@
 //! What traffic comes to in an office, told step by step.
 
-ghost use Rattle.std.specs.Prelude.{◌≡◌, All, IfOk, None, length, slice_get, string_bytes};
+ghost use Rattle.std.specs.Prelude.{◌≡◌, All, IfOk, None, length, slice_get};
 ghost use Rattle.xbar_core.specs.Moves.{assigned, refusal, steps};
 ghost use Rattle.xbar_core.specs.Settling.{settled};
 ghost use Rattle.xbar_office.specs.Legal.{IsJob};
 ghost use Rattle.xbar_traffic.specs.Row.{IsRow, mode_of};
 ghost use Rattle.xbar_traffic.specs.declared.mode.Mode.{Mode};
 ghost use Rattle.xbar_traffic.specs.declared.row.Row.{Row as TheRow};
-ghost use Rattle.xbar_walk.specs.Walks.{told_settling, walk_of};
+ghost use Rattle.xbar_walk.specs.Stories.{Stands, Tells};
+ghost use Rattle.xbar_walk.specs.Walks.{Walk, told_settling};
+ghost use Rattle.xbar_walk.specs.declared.telling.Telling.{Telling as TheTelling};
 ghost use Rattle.crossbar5.specs.Faults.{IsMarkerCount};
 ghost use Rattle.crossbar5.specs.Rows.{done, missing, refused_as, row_fault};
 ghost use Rattle.crossbar5.specs.Run.{Leaves, outcome};
@@ -22,15 +24,7 @@ use xbar_core::{Exchange, Kind};
 use xbar_office::Job;
 use xbar_plan::Plan;
 use xbar_traffic::{MarkerFault, Mode, Row, RowFault, Traffic, TrafficFault};
-use xbar_walk::{add_assignment, walk_settling, walk_steps};
-
-/// What was told of an office so far.
-#[derive(Drop)]
-struct Story {
-    /// Of how many steps, modulo 2^64.
-    number: u64,
-    text: String,
-}
+use xbar_walk::{Story, Telling, walk_settling, walk_steps};
 
 /// Assigns a job to a marker and tells it, or tells why it can't be.
 #[tactic(auto, unfolding(crate::specs::Walk::told_row))]
@@ -48,13 +42,12 @@ fn tell_assignment(
         office.new ≡
         record office.old { exchange = assigned marker job_no job office.old.exchange }) }
     ensures told { IfOk result (λ fault. fault ≡ None →
-        walk_of office.new story.new.number (string_bytes story.new.text)
-        ≡ told_row (TheRow.Assign marker job_no job)
-        (walk_of office.old story.old.number (string_bytes story.old.text))) }
+        Tells (told_row (TheRow.Assign marker job_no job))
+        office.old story.old office.new story.new) }
 {
     let fault = assign(office, marker, job_no, job)?;
     if fault.is_none() {
-        add_assignment(&mut story.text, marker, job_no, &job)?;
+        story.add_assignment(marker, job_no, &job)?;
     }
     Ok(fault)
 }
@@ -72,14 +65,13 @@ fn tell_steps(
     ensures done { IfOk result (λ fault. fault ≡ None → office.new ≡
         record office.old { exchange = steps office.old.plan marker count office.old.exchange }) }
     ensures told { IfOk result (λ fault. fault ≡ None →
-        walk_of office.new story.new.number (string_bytes story.new.text)
-        ≡ told_row (TheRow.Steps marker count)
-        (walk_of office.old story.old.number (string_bytes story.old.text))) }
+        Tells (told_row (TheRow.Steps marker count))
+        office.old story.old office.new story.new) }
 {
     if marker >= office.marker_count() {
         return Ok(Some(MarkerFault::NoMarker));
     }
-    walk_steps(office, marker, count, &mut story.number, &mut story.text)?;
+    walk_steps(office, marker, count, story)?;
     Ok(None)
 }
 
@@ -96,9 +88,7 @@ fn tell_row(
         office.new ≡
         record office.old { exchange = done office.old.plan office.old.exchange row.now }) }
     ensures told { IfOk result (λ fault. fault ≡ None →
-        walk_of office.new story.new.number (string_bytes story.new.text)
-        ≡ told_row row.now
-        (walk_of office.old story.old.number (string_bytes story.old.text))) }
+        Tells (told_row row.now) office.old story.old office.new story.new) }
 {
     match row {
         Row::Assign {
@@ -113,14 +103,15 @@ fn tell_row(
 
 /// Has the office settle and tells it: what is written in all.
 fn tell_settling(mut office: Exchange<'_>, mut story: Story) -> Result<Written, AllocError>
-    ensures { IfOk result (λ written. IsTellingOf
-        (told_settling (walk_of office.entry story.number (string_bytes story.text)))
+    ensures { (telling : TheTelling) (w : Walk) → Stands telling office.entry story w
+        → IfOk result (λ written. IsTellingOf telling (told_settling w)
         (Leaves (settled office.entry.plan office.entry.exchange))
         written.text.items written.status) }
 {
-    walk_settling(&mut office, &mut story.number, &mut story.text)?;
+    walk_settling(&mut office, &mut story)?;
+    let text = story.finish()?;
     Ok(Written {
-        text: story.text.into_bytes(),
+        text: text.into_bytes(),
         status: Status::Fine,
         slip: None,
     })
@@ -132,22 +123,20 @@ fn tell(
     alloc: Global,
     plan: &Plan,
     kinds: &[Kind],
+    telling: Telling,
     traffic: &Traffic,
     bytes: &[u8],
 ) -> Result<Written, AllocError>
     requires kinds { IsMarkerCount (length kinds.now) }
     requires range { All IsRow traffic.now.rows.items }
     requires mode { All (λ row. mode_of row ≡ Mode.Replay) traffic.now.rows.items }
-    ensures { IfOk result (λ written. IsTellingOf
+    ensures { IfOk result (λ written. IsTellingOf telling
         (whole_walk plan.now kinds.now traffic.now.rows.items)
         (outcome plan.now kinds.now traffic.now.rows.items traffic.now.fault)
         written.text.items written.status) }
 {
     let mut office = open(alloc, plan, kinds)?;
-    let mut story = Story {
-        number: 0,
-        text: String::new(alloc),
-    };
+    let mut story = Story::new(alloc, telling);
     let mut number = 1;
     for row in &traffic.rows {
         if let Some(why) = tell_row(&mut office, row, &mut story)? {
@@ -166,14 +155,20 @@ fn tell(
 }
 
 /// What is written for the bytes of a whole traffic.
-pub fn walk(alloc: Global, plan: &Plan, kinds: &[Kind], bytes: &[u8]) -> Result<Written, AllocError>
+pub fn walk(
+    alloc: Global,
+    plan: &Plan,
+    kinds: &[Kind],
+    telling: Telling,
+    bytes: &[u8],
+) -> Result<Written, AllocError>
     requires { IsMarkerCount (length kinds.now) }
     ensures { IfOk result (λ written.
-        IsWalkUnder plan.now kinds.now bytes.now written.text.items written.status) }
+        IsWalkUnder telling plan.now kinds.now bytes.now written.text.items written.status) }
 {
     // Called for their clauses alone.
     xbar_traffic::laws::rows_are_in_range();
     xbar_traffic::laws::rows_are_of_their_mode();
     let traffic = Traffic::read(alloc, Mode::Replay, bytes)?;
-    tell(alloc, plan, kinds, &traffic, bytes)
+    tell(alloc, plan, kinds, telling, &traffic, bytes)
 }

@@ -20,7 +20,7 @@ use crate::ended::Ended;
 use crate::ending::Ending;
 use crate::plan_text::plan_text;
 use crate::stream::{Stream, stream_of, told_on};
-use crossbar5::{Counted, EngineFault, Look, Task, kinds_of, open_gates};
+use crossbar5::{Counted, EngineFault, Look, Task, Telling, kinds_of, open_gates};
 use crossbar5_command::{Ask, CommandFault, command};
 use std::alloc::AllocError;
 use std::fs::File;
@@ -87,7 +87,9 @@ fn do_as_asked<'w, T: Threads + Wait + Sync>(
                 completing,
             },
         ) => live(rt, threads, plan.as_deref(), *dial, *completing),
-        Ok(Ask::Walk { plan, kinds }) => walk(rt, plan.as_deref(), kinds.as_str()),
+        Ok(Ask::Walk { plan, kinds, short }) => {
+            walk(rt, plan.as_deref(), kinds.as_str(), telling_of(*short))
+        }
         Ok(Ask::Audit { plan }) => perform(rt, plan.as_deref(), Task::Audit),
         Ok(Ask::Draw { plan, text }) => {
             let look = look_of(*text);
@@ -113,14 +115,33 @@ fn replay<'w>(rt: &HostRuntime, file: Option<&'w str>, kinds: &'w str) -> Ended<
 }
 
 /// So they are where the steps are told.
-fn walk<'w>(rt: &HostRuntime, file: Option<&'w str>, kinds: &'w str) -> Ended<'w>
+fn walk<'w>(
+    rt: &HostRuntime,
+    file: Option<&'w str>,
+    letters: &'w str,
+    telling: Telling,
+) -> Ended<'w>
     ensures { (result.ending ≡ Ending.Failed EngineFault.Markers)
-        ↔ ((named : List Kind) → ¬ Names kinds.now named) }
+        ↔ ((named : List Kind) → ¬ Names letters.now named) }
 {
-    match kinds_of(rt.alloc(), kinds) {
-        Ok(named) => perform(rt, file, Task::Walk { kinds: &named }),
-        Err(fault) => Ended::of_kinds(fault, kinds),
+    match kinds_of(rt.alloc(), letters) {
+        Ok(kinds) => perform(
+            rt,
+            file,
+            Task::Walk {
+                kinds: &kinds,
+                telling,
+            },
+        ),
+        Err(fault) => Ended::of_kinds(fault, letters),
     }
+}
+
+/// How a walk is told, by whether it is to be short.
+fn telling_of(short: bool) -> Telling
+    ensures { result ≡ if short then Telling.Short else Telling.Each }
+{
+    if short { Telling::Short } else { Telling::Each }
 }
 
 /// How an office is drawn, by whether a text is wanted.

@@ -9,7 +9,7 @@ use Rattle.crossbar5_command.specs.declared.ask.Ask.TheVariants.{Audit, Draw, Li
 -- the name of the subcommand that is asked for
 abbrev pub name_of : Ask → Text
 name_of (Replay file letters) = replay.name
-name_of (Walk file letters) = walk.name
+name_of (Walk file letters short) = walk.name
 name_of (Live file dial completing) = live.name
 name_of (Audit file) = audit.name
 name_of (Draw file text) = draw.name
@@ -29,8 +29,9 @@ IsGiven value = value ≡ Some (codes "true")
 abbrev pub HasValues : (Text → Option Text) → Ask → Type 0
 HasValues values (Replay file letters) = (option_map string_bytes file ≡ values (codes "plan"))
     × (string_bytes letters ≡ unwrap_or (values (codes "markers")) default_kinds)
-HasValues values (Walk file letters) = (option_map string_bytes file ≡ values (codes "plan"))
+HasValues values (Walk file letters short) = (option_map string_bytes file ≡ values (codes "plan"))
     × (string_bytes letters ≡ unwrap_or (values (codes "markers")) default_kinds)
+    × (IsTrue short ↔ IsGiven (values (codes "short")))
 HasValues values (Live file dial completing) = (option_map string_bytes file ≡ values (codes "plan"))
     × IsNumberOf (unwrap_or (values (codes "dial")) one) dial
     × IsNumberOf (unwrap_or (values (codes "completing")) one) completing

@@ -25,8 +25,12 @@ markers = record { name = codes "markers"; argument = value None (Some default_k
 abbrev pub replay : Subcommand
 replay = record { name = codes "replay"; options = plan ∷ markers ∷ [] }
 
+-- `--short`
+abbrev pub in_short : NamedOption
+in_short = record { name = codes "short"; argument = nothing }
+
 abbrev pub walk : Subcommand
-walk = record { name = codes "walk"; options = plan ∷ markers ∷ [] }
+walk = record { name = codes "walk"; options = plan ∷ markers ∷ in_short ∷ [] }
 
 -- one marker
 abbrev pub one : Text

@@ -14,6 +14,8 @@ pub enum Ask {
         plan: Option<String>,
         /// A letter for the kind of each marker, as of a replay.
         kinds: String,
+        /// Whether a row of switches is told in one line.
+        short: bool,
     },
     /// To do the calls on standard input, on threads.
     Live {

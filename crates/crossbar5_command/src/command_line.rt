@@ -12,8 +12,8 @@ ghost use Rattle.crossbar5_command.specs.Subcommand.{Subcommand, subcommand_name
 ghost use Rattle.crossbar5_command.specs.declared.command_fault.CommandFault.TheVariants.{Memory};
 
 use crate::program::{
-    AUDIT, COMPLETING, DEFAULT_KINDS, DIAL, DRAW, LIVE, MARKERS, ONE, PAGE, PLAN, REPLAY, TEXT,
-    WALK, program,
+    AUDIT, COMPLETING, DEFAULT_KINDS, DIAL, DRAW, LIVE, MARKERS, ONE, PAGE, PLAN, REPLAY, SHORT,
+    TEXT, WALK, program,
 };
 use crate::{Ask, CommandFault};
 use clap::ArgMatches;
@@ -79,6 +79,7 @@ fn walk_of(alloc: Global, options: &ArgMatches) -> Result<Ask, AllocError>
     Ok(Ask::Walk {
         plan: copy_of(alloc, options.get_str(PLAN))?,
         kinds: String::from_str(alloc, kinds)?,
+        short: is_given(options.get_str(SHORT)),
     })
 }
 

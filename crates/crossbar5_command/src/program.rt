@@ -3,7 +3,7 @@
 ghost use Rattle.std.specs.Prelude.{◌≡◌, ◌∷◌, [], IfOk, false};
 ghost use Rattle.clap.specs.Words.{app_of, rule_of};
 ghost use Rattle.clap.specs.declared.builder.command.Command.TheViews.{out-Command};
-ghost use Rattle.crossbar5_command.specs.Program.{as_text, audit, draw, live, marker_count, markers, page, plan, program, program_of, replay, walk};
+ghost use Rattle.crossbar5_command.specs.Program.{as_text, audit, draw, in_short, live, marker_count, markers, page, plan, program, program_of, replay, walk};
 ghost use Rattle.crossbar5_command.specs.Program.{rule_for, shape_for};
 
 use clap::builder::ValueParser;
@@ -34,6 +34,9 @@ pub const DIAL: &str = "dial";
 
 pub const COMPLETING: &str = "completing";
 
+/// The id of the option for a walk in fewer lines, and its name.
+pub const SHORT: &str = "short";
+
 /// The id of the option for a text in place of a drawing, and its name.
 pub const TEXT: &str = "text";
 
@@ -62,7 +65,7 @@ it tells such output turn by turn, as one page for a browser.";
 const USAGE: &str = "\
 crossbar5 [COMMAND]
        crossbar5 replay [--plan <FILE>] [--markers <KINDS>]
-       crossbar5 walk [--plan <FILE>] [--markers <KINDS>]
+       crossbar5 walk [--plan <FILE>] [--markers <KINDS>] [--short]
        crossbar5 live [--plan <FILE>] [--dial <N>] [--completing <N>]
        crossbar5 audit [--plan <FILE>]
        crossbar5 draw [--plan <FILE>] [--text]
@@ -100,6 +103,8 @@ const ABOUT_COMPLETING: &str = "\
 How many markers complete calls and release them, 1 to 47,{n}\
 and with those that dial at most 48";
 
+const ABOUT_SHORT: &str = "Tests of a row of switches are told in one line";
+
 const ABOUT_TEXT: &str = "As text for a terminal of 80 columns";
 
 const EXAMPLE_AND_STATUSES: &str = "\
@@ -112,7 +117,8 @@ Example:
   of ten fields: turn, job number, marker, kind of job, line, dialled digits,
   end, trial, and two paths. A field that has nothing is '-'.
 
-  crossbar5 walk < TRAFFIC   tells each step of a replay.
+  crossbar5 walk < TRAFFIC   tells each step of a replay; walk --short tells
+  the tests of a row of switches in one line.
   crossbar5 replay < TRAFFIC | crossbar5 audit   checks it.
   crossbar5 replay < TRAFFIC | crossbar5 draw > office.svg   draws what it
   leaves; draw --text draws it for a terminal.
@@ -184,7 +190,8 @@ fn walk<'a>(alloc: Global) -> Result<Command<'a>, AllocError>
         .about(ABOUT_WALK)
         .after_help(EXAMPLE_AND_STATUSES)
         .arg(plan_option(alloc))?
-        .arg(markers_option(alloc))
+        .arg(markers_option(alloc))?
+        .arg(short_option(alloc))
 }
 
 fn live<'a>(alloc: Global) -> Result<Command<'a>, AllocError>
@@ -262,6 +269,16 @@ fn count_option<'a>(alloc: Global, name: &'a str, about: &'a str) -> Arg<'a>
         .value_parser(ValueParser::unsigned(1, MOST_OF_A_KIND))
         .default_value(ONE)
         .help(about)
+}
+
+fn short_option<'a>(alloc: Global) -> Arg<'a>
+    ensures rule { rule_of result ≡ rule_for in_short }
+    ensures local { result.global ≡ false }
+{
+    Arg::new(alloc, SHORT)
+        .long(SHORT)
+        .action(ArgAction::SetTrue)
+        .help(ABOUT_SHORT)
 }
 
 fn text_option<'a>(alloc: Global) -> Arg<'a>

@@ -2,7 +2,7 @@
 
 use crate::between::{live_between, task_between};
 use crate::ended::Ended;
-use crossbar5::{Counted, Look, Task, kinds_of, open_gates};
+use crossbar5::{Counted, Look, Task, Telling, kinds_of, open_gates};
 use std::alloc::Global;
 use std::process::Abort;
 use std::sync::Wait;
@@ -111,7 +111,10 @@ pub fn check_replay(
         rt,
         alloc,
         plan,
-        Task::Walk { kinds: &kinds },
+        Task::Walk {
+            kinds: &kinds,
+            telling: Telling::Each,
+        },
         traffic,
         wanted,
     )

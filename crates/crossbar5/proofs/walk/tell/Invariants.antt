@@ -1,5 +1,3 @@
-use Rattle.std.specs.Prelude.{string_bytes}
-use Rattle.xbar_walk.specs.Walks.{walk_of}
 use Rattle.crossbar5.proofs.RunRows.{HasRun}
 use Rattle.crossbar5.proofs.Tellings.{HasTold}
 use Rattle.crossbar5.proofs.walk.tell.Given as goal
@@ -7,4 +5,4 @@ use Rattle.crossbar5.proofs.walk.tell.Given as goal
 abbrev pub invariant-loop-row : goal.invariant-loop-row
 invariant-loop-row l =
     HasRun l.plan l.kinds l.traffic.rows.items l.traffic.fault l.office l.number l.row-index
-    × HasTold l.plan l.kinds l.traffic.rows.items (walk_of l.office l.story.number (string_bytes l.story.text)) l.row-index
+    × HasTold l.telling l.plan l.kinds l.traffic.rows.items l.office l.story l.row-index
