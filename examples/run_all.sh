@@ -29,14 +29,14 @@ replay() {
     fi
 }
 
-# A walk of NAME.csv, by the words that follow.
+# A walk of NAME.csv, by the words that follow, is the file FILE.
 walk() {
-    local name=$1
-    shift
-    if "$program" walk "$@" <"$here/$name.csv" >"$folder/out" && cmp -s "$folder/out" "$here/$name.walk"; then
-        tell "$name, walked through" "as wanted"
+    local name=$1 file=$2
+    shift 2
+    if "$program" walk "$@" <"$here/$name.csv" >"$folder/out" && cmp -s "$folder/out" "$here/$file"; then
+        tell "$file" "as wanted"
     else
-        tell "$name, walked through" "differs from $name.walk"
+        tell "$file" "differs"
     fi
 }
 
@@ -78,9 +78,10 @@ replay calls
 replay inside_call
 replay two_markers --markers XX
 replay meeting --markers XX
-walk meeting --markers XX
+walk meeting meeting.walk --markers XX
+walk meeting meeting_short.walk --markers XX --short
 replay trouble --plan "$here/small_town.toml"
-walk trouble --plan "$here/small_town.toml"
+walk trouble trouble.walk --plan "$here/small_town.toml"
 draw trouble trouble.svg --plan "$here/small_town.toml"
 draw trouble trouble.txt --plan "$here/small_town.toml" --text
 page trouble --plan "$here/small_town.toml"

@@ -3,7 +3,8 @@
 
 use crate::checks::check_eq;
 use crossbar5::{
-    Counted, EngineFault, Look, Sink, Source, Status, Task, answer_task, kinds_of, run_replay,
+    Counted, EngineFault, Look, Sink, Source, Status, Task, Telling, answer_task, kinds_of,
+    run_replay,
 };
 use std::alloc::{AllocError, Global};
 use std::process::Abort;
@@ -72,7 +73,10 @@ const CASES: &[Case] = &[
 1,2,0,C,3041,2340004,CONNECTED,1,3041-0-600,3100-1-601\nPATHS,2\nCLOSED,8\n",
     },
     Case {
-        task: Task::Walk { kinds: &TWO },
+        task: Task::Walk {
+            kinds: &TWO,
+            telling: Telling::Each,
+        },
         plan: EXAMPLE,
         input: "J,0,7,R,3041\nS,0,9,,\n",
         text: "      marker 0  is given job 7: release of line 3041

@@ -1,4 +1,4 @@
-use crossbar5::Look;
+use crossbar5::{Look, Telling};
 use toml::Value;
 
 /// What the engine is to do.
@@ -7,7 +7,7 @@ pub enum Verb {
     Replay,
     /// A replay, and then an audit of what it wrote.
     ReplayAndAudit,
-    Walk,
+    Walk(Telling),
     Audit,
     Draw(Look),
 }
@@ -34,7 +34,8 @@ fn verb_of(word: &str) -> Option<Verb> {
     match word {
         "replay" => Some(Verb::Replay),
         "replay and audit" => Some(Verb::ReplayAndAudit),
-        "walk" => Some(Verb::Walk),
+        "walk" => Some(Verb::Walk(Telling::Each)),
+        "walk in short" => Some(Verb::Walk(Telling::Short)),
         "audit" => Some(Verb::Audit),
         "draw" => Some(Verb::Draw(Look::Text)),
         "draw in SVG" => Some(Verb::Draw(Look::Drawing)),

@@ -29,7 +29,10 @@ fn done(alloc: Global, row: &Row<'_>) -> Result<(Vec<u8>, Status), EngineFault> 
     let replay = Task::Replay { kinds: &kinds };
     match row.verb {
         Verb::Replay => written(alloc, replay, row.plan, input),
-        Verb::Walk => written(alloc, Task::Walk { kinds: &kinds }, row.plan, input),
+        Verb::Walk(telling) => {
+            let kinds = kinds.as_slice();
+            written(alloc, Task::Walk { kinds, telling }, row.plan, input)
+        }
         Verb::Audit => written(alloc, Task::Audit, row.plan, input),
         Verb::Draw(look) => written(alloc, Task::Draw { look }, row.plan, input),
         Verb::ReplayAndAudit => {
