@@ -1,7 +1,7 @@
 #!/usr/bin/env python3
 """Much traffic, and what comes of it, worked out without crossbar5: much.py FOLDER
 
-Writes data/office.toml, stdin and stdout of the program crates/replays_much into the folder. The class
+Writes data/office.toml, stdin and stdout of the program crates/crossbar5_program into the folder. The class
 Office is the office with one marker, written after docs/OFFICE.md alone. Each job's row is followed by
 one that lets its marker finish, so the jobs are done whole, in the order of their rows."""
 
