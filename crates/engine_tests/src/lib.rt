@@ -5,3 +5,5 @@
 mod checks;
 #[cfg(test)]
 mod engine;
+#[cfg(test)]
+mod live;

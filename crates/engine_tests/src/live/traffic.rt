@@ -1,6 +1,6 @@
 //! Live traffic, and what comes of it.
 
-use crate::running::{EXAMPLE, ONE_EACH, Staff, done};
+use crate::live::running::{EXAMPLE, ONE_EACH, Staff, done};
 use crossbar5::{EngineFault, Status};
 use std::alloc::Global;
 use std::process::Abort;

@@ -1,6 +1,6 @@
 //! Reads and writes that fail, and traffic without end.
 
-use crate::running::{EXAMPLE, ONE_EACH, run};
+use crate::live::running::{EXAMPLE, ONE_EACH, run};
 use crossbar5::{Counted, EngineFault, Sink, Source};
 use test_devices::{Endless, FailAt};
 

@@ -1,0 +1,5 @@
+//! Live traffic, whose calls are done on threads.
+
+mod devices;
+mod running;
+mod traffic;
