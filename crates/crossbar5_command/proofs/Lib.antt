@@ -7,3 +7,4 @@ pub mod OptionWords
 pub mod SubcommandWords
 pub mod OtherWords
 pub mod MetSubcommand
+pub mod AddedSubcommands

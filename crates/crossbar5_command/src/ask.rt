@@ -1,5 +1,5 @@
 /// What a command line asks for.
-#[derive(Debug, PartialEq, Eq, Drop)]
+#[derive(Drop)]
 pub enum Ask {
     /// To replay the traffic on standard input.
     Replay {

@@ -1,10 +1,13 @@
 //! The program as clap sees it.
 
-ghost use Rattle.std.specs.Prelude.{◌≡◌, ◌∷◌, [], IfOk, false};
+ghost use Rattle.std.specs.Prelude.{◌≡◌, ◌∷◌, ◌++◌, [], All, IfOk, IsOkAnd, OnOk, false, map, true};
+ghost use Rattle.clap.specs.Simple.{new_app};
 ghost use Rattle.clap.specs.Words.{app_of, rule_of};
 ghost use Rattle.clap.specs.declared.builder.command.Command.TheViews.{out-Command};
-ghost use Rattle.crossbar5_command.specs.Program.{as_text, audit, draw, in_short, live, marker_count, markers, page, plan, program, program_of, replay, walk};
-ghost use Rattle.crossbar5_command.specs.Program.{rule_for, shape_for};
+ghost use Rattle.crossbar5_command.specs.Program.{as_text, audit, dial, draw, in_short, live};
+ghost use Rattle.crossbar5_command.specs.Program.{marker_count, markers, page, plan, program};
+ghost use Rattle.crossbar5_command.specs.Program.{program_of, replay, rule_for, shape_for};
+ghost use Rattle.crossbar5_command.specs.Program.{subcommands, walk};
 
 use clap::builder::ValueParser;
 use clap::{Arg, ArgAction, Command};
@@ -145,96 +148,139 @@ Exit status:
 pub fn program<'a>(alloc: Global) -> Result<Command<'a>, AllocError>
     ensures { IfOk result (λ made. app_of made ≡ program) }
 {
-    offices(alloc)?
-        .subcommand(audit(alloc)?)?
-        .subcommand(draw(alloc)?)?
-        .subcommand(page(alloc)?)
+    let subcommands = all_subcommands(alloc)?;
+    unnamed(alloc).subcommands(subcommands)
 }
 
-/// The program with the subcommands that open an office.
-fn offices<'a>(alloc: Global) -> Result<Command<'a>, AllocError>
-    ensures app { IfOk result (λ made. app_of made ≡ program_of (replay ∷ walk ∷ live ∷ [])) }
-{
-    replays(alloc)?.subcommand(live(alloc)?)
-}
-
-/// The program with the subcommands that replay traffic.
-fn replays<'a>(alloc: Global) -> Result<Command<'a>, AllocError>
-    ensures app { IfOk result (λ made. app_of made ≡ program_of (replay ∷ walk ∷ [])) }
+/// The program with no subcommand.
+fn unnamed<'a>(alloc: Global) -> Command<'a>
+    ensures { app_of result
+        ≡ record (program_of []) { top = record (program_of []).top { is_leaf = true } } }
 {
     Command::new(alloc, "crossbar5")
         .version("0.1.0")
         .about(ABOUT)
         .after_help(EXAMPLE_AND_STATUSES)
         .override_usage(USAGE)
-        .subcommand(replay(alloc)?)?
-        .subcommand(walk(alloc)?)
 }
 
-fn replay<'a>(alloc: Global) -> Result<Command<'a>, AllocError>
-    ensures shape { IfOk result (λ made. (app_of made).top ≡ shape_for replay) }
+/// All subcommands, in the order in which help tells them.
+fn all_subcommands<'a>(alloc: Global) -> Result<Vec<Command<'a>>, AllocError>
+    ensures shapes { IfOk result (λ all.
+        map (λ one. (app_of one).top) all.items ≡ map shape_for subcommands) }
+    ensures local { IfOk result (λ all.
+        All (λ one. (out-Command one).has_globals ≡ false) all.items) }
+{
+    let mut all = those_that_work(alloc)?;
+    let mut others = those_that_read(alloc)?;
+    all.append(&mut others)?;
+    Ok(all)
+}
+
+/// The subcommands that open an office.
+fn those_that_work<'a>(alloc: Global) -> Result<Vec<Command<'a>>, AllocError>
+    ensures shapes { IfOk result (λ all.
+        map (λ one. (app_of one).top) all.items ≡ map shape_for (replay ∷ walk ∷ live ∷ [])) }
+    ensures local { IfOk result (λ all.
+        All (λ one. (out-Command one).has_globals ≡ false) all.items) }
+{
+    let mut all = Vec::new(alloc);
+    add(&mut all, with_markers(alloc, REPLAY, ABOUT_REPLAY))?;
+    add(&mut all, walk(alloc))?;
+    add(&mut all, live(alloc))?;
+    Ok(all)
+}
+
+/// The subcommands that read records.
+fn those_that_read<'a>(alloc: Global) -> Result<Vec<Command<'a>>, AllocError>
+    ensures shapes { IfOk result (λ all.
+        map (λ one. (app_of one).top) all.items ≡ map shape_for (audit ∷ draw ∷ page ∷ [])) }
+    ensures local { IfOk result (λ all.
+        All (λ one. (out-Command one).has_globals ≡ false) all.items) }
+{
+    let mut all = Vec::new(alloc);
+    add(&mut all, with_plan(alloc, AUDIT, ABOUT_AUDIT))?;
+    add(&mut all, draw(alloc))?;
+    add(&mut all, with_plan(alloc, PAGE, ABOUT_PAGE))?;
+    Ok(all)
+}
+
+/// Puts a subcommand behind others, if there was memory for it.
+fn add<'a>(
+    all: &mut Vec<Command<'a>>,
+    made: Result<Command<'a>, AllocError>,
+) -> Result<(), AllocError>
+    ensures { OnOk result (IsOkAnd made.entry (λ one. all.new.items ≡ all.old.items ++ one ∷ [])) }
+{
+    match made {
+        Ok(one) => put(all, one),
+        Err(error) => Err(error),
+    }
+}
+
+/// Puts an item behind others, or lets it go where memory is refused.
+fn put<T: Drop>(all: &mut Vec<T>, item: T) -> Result<(), AllocError>
+    ensures { OnOk result (all.new.items ≡ all.old.items ++ item ∷ []) }
+{
+    Ok(all.push(item)?)
+}
+
+/// The subcommand with the option for the plan.
+fn with_plan<'a>(alloc: Global, name: &'a str, about: &'a str) -> Result<Command<'a>, AllocError>
+    ensures shape { IfOk result (λ made. (app_of made).top
+        ≡ shape_for (record { name = name.now; options = plan ∷ [] })) }
     ensures local { IfOk result (λ made. (out-Command made).has_globals ≡ false) }
 {
-    Command::new(alloc, REPLAY)
-        .about(ABOUT_REPLAY)
+    described(alloc, name, about).arg(plan_option(alloc))
+}
+
+/// The subcommand with no option yet.
+fn described<'a>(alloc: Global, name: &'a str, about: &'a str) -> Command<'a>
+    ensures shape { app_of result ≡ new_app name.now }
+    ensures local { (out-Command result).has_globals ≡ false }
+{
+    Command::new(alloc, name)
+        .about(about)
         .after_help(EXAMPLE_AND_STATUSES)
-        .arg(plan_option(alloc))?
-        .arg(markers_option(alloc))
+}
+
+/// The subcommand with the options for the plan and for the kinds of the markers.
+fn with_markers<'a>(alloc: Global, name: &'a str, about: &'a str) -> Result<Command<'a>, AllocError>
+    ensures shape { IfOk result (λ made. (app_of made).top
+        ≡ shape_for (record { name = name.now; options = plan ∷ markers ∷ [] })) }
+    ensures local { IfOk result (λ made. (out-Command made).has_globals ≡ false) }
+{
+    with_plan(alloc, name, about)?.arg(markers_option(alloc))
 }
 
 fn walk<'a>(alloc: Global) -> Result<Command<'a>, AllocError>
     ensures shape { IfOk result (λ made. (app_of made).top ≡ shape_for walk) }
     ensures local { IfOk result (λ made. (out-Command made).has_globals ≡ false) }
 {
-    Command::new(alloc, WALK)
-        .about(ABOUT_WALK)
-        .after_help(EXAMPLE_AND_STATUSES)
-        .arg(plan_option(alloc))?
-        .arg(markers_option(alloc))?
-        .arg(short_option(alloc))
+    with_markers(alloc, WALK, ABOUT_WALK)?.arg(short_option(alloc))
 }
 
 fn live<'a>(alloc: Global) -> Result<Command<'a>, AllocError>
     ensures shape { IfOk result (λ made. (app_of made).top ≡ shape_for live) }
     ensures local { IfOk result (λ made. (out-Command made).has_globals ≡ false) }
 {
-    Command::new(alloc, LIVE)
-        .about(ABOUT_LIVE)
-        .after_help(EXAMPLE_AND_STATUSES)
-        .arg(plan_option(alloc))?
-        .arg(count_option(alloc, DIAL, ABOUT_DIAL))?
-        .arg(count_option(alloc, COMPLETING, ABOUT_COMPLETING))
+    with_dial(alloc)?.arg(count_option(alloc, COMPLETING, ABOUT_COMPLETING))
 }
 
-fn audit<'a>(alloc: Global) -> Result<Command<'a>, AllocError>
-    ensures shape { IfOk result (λ made. (app_of made).top ≡ shape_for audit) }
+/// The live calls without their last option.
+fn with_dial<'a>(alloc: Global) -> Result<Command<'a>, AllocError>
+    ensures shape { IfOk result (λ made. (app_of made).top
+        ≡ shape_for (record { name = live.name; options = plan ∷ dial ∷ [] })) }
     ensures local { IfOk result (λ made. (out-Command made).has_globals ≡ false) }
 {
-    Command::new(alloc, AUDIT)
-        .about(ABOUT_AUDIT)
-        .after_help(EXAMPLE_AND_STATUSES)
-        .arg(plan_option(alloc))
+    with_plan(alloc, LIVE, ABOUT_LIVE)?.arg(count_option(alloc, DIAL, ABOUT_DIAL))
 }
 
 fn draw<'a>(alloc: Global) -> Result<Command<'a>, AllocError>
     ensures shape { IfOk result (λ made. (app_of made).top ≡ shape_for draw) }
     ensures local { IfOk result (λ made. (out-Command made).has_globals ≡ false) }
 {
-    Command::new(alloc, DRAW)
-        .about(ABOUT_DRAW)
-        .after_help(EXAMPLE_AND_STATUSES)
-        .arg(plan_option(alloc))?
-        .arg(text_option(alloc))
-}
-
-fn page<'a>(alloc: Global) -> Result<Command<'a>, AllocError>
-    ensures shape { IfOk result (λ made. (app_of made).top ≡ shape_for page) }
-    ensures local { IfOk result (λ made. (out-Command made).has_globals ≡ false) }
-{
-    Command::new(alloc, PAGE)
-        .about(ABOUT_PAGE)
-        .after_help(EXAMPLE_AND_STATUSES)
-        .arg(plan_option(alloc))
+    with_plan(alloc, DRAW, ABOUT_DRAW)?.arg(text_option(alloc))
 }
 
 fn plan_option<'a>(alloc: Global) -> Arg<'a>
