@@ -1,5 +1,11 @@
 pub mod ToldSteps
 pub mod Listed
 pub mod Settlings
+pub mod StepItems
+pub mod TestItems
 pub mod TellingRuns
 pub mod WordPlaces
+pub mod Finding
+pub mod Joining
+pub mod Storytelling
+pub mod Reaching

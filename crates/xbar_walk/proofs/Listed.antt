@@ -4,7 +4,7 @@ use Rattle.std.specs.Prelude.{◌||◌, filter, map, if◌then◌else◌}
 use Rattle.std.specs.List.{range_with_len}
 use Rattle.std.proofs.lemmas.Grind.{common_steps}
 use Rattle.xbar_equip.proofs.Logic.{or_true, or_false}
-use Rattle.xbar_walk.specs.Shown.{is_shown, item_at, listed, positions, shown, shown_at, shown_to}
+use Rattle.xbar_walk.specs.Shown.{has_any, is_shown, item_at, listed, positions, shown, shown_at, shown_to}
 use Rattle.xbar_walk.specs.declared.place.Place.{Place}
 
 -- one number more
@@ -32,11 +32,6 @@ module _ {A : Type 0} (test : ℕ → Bool) (of : ℕ → A) where
 
   pub none_picked : (n : ℕ) → test n ≡ false → picked (n + 1) ≡ picked n
   none_picked n fails = picked_more n ∙ ap (λ (b : Bool). picked n ++ map of (if b then n ∷ [] else [])) fails ∙ append-nil (picked n)
-
--- whether there are any
-abbrev pub has_any : List (List ℕ) → Bool
-has_any [] = false
-has_any (text ∷ texts) = true
 
 any_behind : (texts : List (List ℕ)) (text : List ℕ) → has_any (texts ++ text ∷ []) ≡ true
 any_behind [] text = refl
@@ -108,18 +103,33 @@ module _ (place : Place) (word : ℕ) (head separator first now : List ℕ) (any
           open_passes next some shows (is ∙ ap (λ (b : Bool). any || b) shows ∙ or_false any)
           (adds ∙ ap (λ (b : Bool). now ++ (if b then (if any then separator else head) ++ item_at place word n else [])) shows ∙ append-nil now)
 
-    pub ends_with_some : (none : List ℕ) → any ≡ true → n ≡ positions place → now ≡ first ++ listed none head separator (shown place word)
-    ends_with_some none is all =
-        let texts = shown_to n place word in
-        so_far.text_is
-        ∙ ap (λ (text : List ℕ). first ++ text) (sym (listed_any none head separator texts (sym so_far.any_is ∙ is)))
-        ∙ ap (λ (k : ℕ). first ++ listed none head separator (shown_to k place word)) all
+    pub ends_list : n ≡ positions place → (any ≡ has_any (shown place word)) × (now ≡ first ++ listed [] head separator (shown place word))
+    ends_list all = (
+      so_far.any_is ∙ ap (λ (k : ℕ). has_any (shown_to k place word)) all,
+      so_far.text_is ∙ ap (λ (k : ℕ). first ++ listed [] head separator (shown_to k place word)) all,
+    )
 
-    pub ends_with_none : (none next : List ℕ) → any ≡ false → n ≡ positions place → next ≡ now ++ none → next ≡ first ++ listed none head separator (shown place word)
-    unfolding listed
-    ends_with_none none next is all adds =
-        let empty = none_without (shown_to n place word) (sym so_far.any_is ∙ is) in
-        adds
-        ∙ ap (λ (text : List ℕ). text ++ none) (so_far.text_is ∙ ap (λ (texts : List (List ℕ)). first ++ listed [] head separator texts) empty ∙ append-nil first)
-        ∙ ap (λ (texts : List (List ℕ)). first ++ listed none head separator texts) (sym empty)
-        ∙ ap (λ (k : ℕ). first ++ listed none head separator (shown_to k place word)) all
+-- what was listed is all, if there is any
+module _ (none head separator first now : List ℕ) (texts : List (List ℕ)) (all : now ≡ first ++ listed [] head separator texts) where
+  pub ends_with_some : true ≡ has_any texts → now ≡ first ++ listed none head separator texts
+  ends_with_some is = all ∙ ap (λ (text : List ℕ). first ++ text) (sym (listed_any none head separator texts (sym is)))
+
+  -- else it is said that there is none
+  pub ends_with_none : (next : List ℕ) → false ≡ has_any texts → next ≡ now ++ none → next ≡ first ++ listed none head separator texts
+  unfolding listed
+  ends_with_none next is adds =
+      let empty = none_without texts (sym is) in
+      adds
+      ∙ ap (λ (text : List ℕ). text ++ none) (all ∙ ap (λ (these : List (List ℕ)). first ++ listed [] head separator these) empty ∙ append-nil first)
+      ∙ ap (λ (these : List (List ℕ)). first ++ listed none head separator these) (sym empty)
+
+-- texts behind others
+pub listed_on : (head separator : List ℕ) (texts more : List (List ℕ)) → listed [] head separator (texts ++ more) ≡ listed [] head separator texts ++ listed [] (if has_any texts then separator else head) separator more
+unfolding listed
+listed_on head separator [] more = refl
+listed_on head separator (text ∷ texts) [] = grind (arith, common_steps)
+listed_on head separator (text ∷ texts) (next ∷ more) = grind (arith, common_steps)
+
+pub any_on : (texts more : List (List ℕ)) → has_any (texts ++ more) ≡ (has_any texts || has_any more)
+any_on [] more = refl
+any_on (text ∷ texts) more = refl

@@ -1,5 +1,5 @@
 -- how far a settling that is told has come, and which office it leads to
-use Rattle.std.proofs.Common.{◌≡◌, ℕ, zero, suc, ◌+◌, ◌<◌, Bool, true, false, ◌++◌, length, length-set, refl, sym, ◌∙◌, ap, subst, arith}
+use Rattle.std.proofs.Common.{◌≡◌, ℕ, zero, suc, ◌+◌, ◌<◌, Bool, true, false, [], ◌∷◌, ◌++◌, length, length-set, refl, sym, ◌∙◌, ap, subst, arith}
 use Rattle.std.specs.Prelude.{Option, Some, None, is_some, if◌then◌else◌, slice_get}
 use Rattle.turns.specs.Attempt.{turn_in}
 use Rattle.turns.specs.World.{Idle, Does}
@@ -16,7 +16,11 @@ use Rattle.xbar_core.proofs.Jobs.{given_is}
 use Rattle.xbar_core.proofs.Keeping.{begun_keeps, count_back, count_end, count_past}
 use Rattle.xbar_core.proofs.Markers.{none_within}
 use Rattle.xbar_walk.specs.Walks.{Walk, after_told_step, is_past_turn_in, to_begin_anew, told_back_as, told_end, told_end_past_turn, told_for_each, told_give_back, told_settling, told_steps}
+use Rattle.xbar_walk.specs.Items.{Says}
 use Rattle.xbar_walk.specs.Lines.{settling_line}
+use Rattle.xbar_walk.specs.Stories.{Adds, Stands, Tells}
+use Rattle.xbar_walk.specs.declared.story.Story.{Story}
+use Rattle.xbar_walk.proofs.Reaching.{Reaches, own_stands, own_walk}
 use Rattle.xbar_walk.proofs.ToldSteps.{told_count, told_office}
 
 -- the marker of a number that there is
@@ -126,6 +130,33 @@ module _ (first now : Walk) (k : ℕ) (so_far : IsGoingBack first now k) where
       let none = none_left now.office.plan now.office.exchange k back (next_up false rests) in
       sym (so_far.rest ∙ ap (λ (n : ℕ). told_steps k n now) none)
 
+-- offices that are one
+pub on_office : (o next : OfPlan) (k : ℕ) → o ≡ next → IsBackingAt (slice_get o.exchange.markers k) → IsBackingAt (slice_get next.exchange.markers k)
+on_office o next k is backs = subst (λ (x : OfPlan). IsBackingAt (slice_get x.exchange.markers k)) is backs
+
+pub ups_at : (goes : Bool) (o next : OfPlan) (k : ℕ) → o ≡ next → ((m : Marker) → slice_get next.exchange.markers k ≡ Some m → goes ≡ gives_up_at m.work)
+    → (m : Marker) → slice_get o.exchange.markers k ≡ Some m → goes ≡ gives_up_at m.work
+ups_at goes o next k is told m there = told m (ap (λ (x : OfPlan). slice_get x.exchange.markers k) (sym is) ∙ there)
+
+-- the marker has one connector less to free
+pub less_left : (o next later : OfPlan) (s told more : Story) (k : ℕ) → Reaches (λ first now. IsGoingBack first now k) o s next told
+    → ((m : Marker) → slice_get next.exchange.markers k ≡ Some m → true ≡ gives_up_at m.work) → Tells (after_told_step k) next told later more → frees_left later.exchange k < frees_left next.exchange k
+less_left o next later s told more k reached goes tells =
+    let at = reached s.telling (own_walk o s) (own_stands o s) in
+    let later_at = tells s.telling at.0 at.1 in
+    let less = less_back (own_walk o s) at.0 k at.2 (after_told_step k at.0) (ups_at true at.0.office next k at.1.office_is goes) refl in
+    let before = ap (λ (x : OfPlan). frees_left x.exchange k) at.1.office_is in
+    let after = ap (λ (x : OfPlan). frees_left x.exchange k) later_at.office_is in
+    omega (arith, less, before, after)
+
+-- and at last none
+pub back_ended : (o next : OfPlan) (s told : Story) (k : ℕ) → Reaches (λ first now. IsGoingBack first now k) o s next told
+    → ((m : Marker) → slice_get next.exchange.markers k ≡ Some m → false ≡ gives_up_at m.work) → Tells (told_steps k (frees_left o.exchange k)) o s next told
+back_ended o next s told k reached rests telling w stands =
+    let at = reached telling w stands in
+    let all = all_back w at.0 k at.2 (ups_at false at.0.office next k at.1.office_is rests) in
+    subst (Stands telling next told) (all ∙ ap (λ (x : OfPlan). told_steps k (frees_left x.exchange k) w) stands.office_is) at.1
+
 -- the office after a change of marker k
 abbrev changed_by : (Tables → ℕ → Exchange → Exchange) → ℕ → OfPlan → OfPlan
 changed_by change k o = record o { exchange = change o.plan k o.exchange }
@@ -223,11 +254,11 @@ all_done part first now count made all so_far = so_far.is ∙ ap (λ (n : ℕ). 
 abbrev each_of : (ℕ → Walk → Walk) → Walk → Walk
 each_of part w = told_for_each part (length w.office.exchange.markers) w
 
-module _ (w said past freed last : Walk) (begins : said ≡ record w { text = w.text ++ settling_line }) (one : past ≡ each_of told_end_past_turn said) (two : freed ≡ each_of told_give_back past) (three : last ≡ each_of told_end freed) where
+module _ (w said past freed last : Walk) (begins : said ≡ record w { items = w.items ++ Says settling_line ∷ [] }) (one : past ≡ each_of told_end_past_turn said) (two : freed ≡ each_of told_give_back past) (three : last ≡ each_of told_end freed) where
   pub settling_is : last ≡ told_settling w
   settling_is =
       let n : ℕ = length w.office.exchange.markers in
-      let first : Walk = record w { text = w.text ++ settling_line } in
+      let first : Walk = record w { items = w.items ++ Says settling_line ∷ [] } in
       let ends : past ≡ told_for_each told_end_past_turn n first = one ∙ ap (each_of told_end_past_turn) begins in
       let many = ap (λ (x : Walk). length x.office.exchange.markers) ends ∙ each_size told_end_past_turn past_size n first in
       let gives : freed ≡ told_for_each told_give_back n (told_for_each told_end_past_turn n first) =
@@ -238,10 +269,36 @@ module _ (w said past freed last : Walk) (begins : said ≡ record w { text = w.
 pub settling_settles : (w : Walk) → (told_settling w).office ≡ record w.office { exchange = settled w.office.plan w.office.exchange }
 settling_settles w =
     let n : ℕ = length w.office.exchange.markers in
-    let first : Walk = record w { text = w.text ++ settling_line } in
+    let first : Walk = record w { items = w.items ++ Says settling_line ∷ [] } in
     let past : Walk = told_for_each told_end_past_turn n first in
     let back : Walk = told_for_each told_give_back n past in
     each_makes ended told_end end_makes n back
     ∙ ap (λ (o : OfPlan). record o { exchange = for_each (ended o.plan) n o.exchange })
     (each_makes given_back told_give_back back_makes n past
     ∙ ap (λ (o : OfPlan). record o { exchange = for_each (given_back o.plan) n o.exchange }) (each_makes ended_past_turn told_end_past_turn past_makes n first))
+
+-- so an office and a story settle
+pub settling_tells : (o past freed last : OfPlan) (s said told more all : Story) → Adds (Says settling_line) s said
+    → Tells (told_for_each told_end_past_turn (length o.exchange.markers)) o said past told → Tells (told_for_each told_give_back (length past.exchange.markers)) past told freed more
+    → Tells (told_for_each told_end (length freed.exchange.markers)) freed more last all → Tells told_settling o s last all
+settling_tells o past freed last s said told more all adds one two three telling w stands =
+    let first : Walk = record w { items = w.items ++ Says settling_line ∷ [] } in
+    let begun : Stands telling o said first = record { office_is = stands.office_is; story_is = adds telling w.number w.items stands.story_is } in
+    let ended : Walk = told_for_each told_end_past_turn (length o.exchange.markers) first in
+    let at_past = one telling first begun in
+    let given : Walk = told_for_each told_give_back (length past.exchange.markers) ended in
+    let at_freed = two telling ended at_past in
+    subst (Stands telling last all)
+    (settling_is w first ended given (told_for_each told_end (length freed.exchange.markers) given) refl
+    (ap (λ (x : OfPlan). told_for_each told_end_past_turn (length x.exchange.markers) first) (sym begun.office_is))
+    (ap (λ (x : OfPlan). told_for_each told_give_back (length x.exchange.markers) ended) (sym at_past.office_is))
+    (ap (λ (x : OfPlan). told_for_each told_end (length x.exchange.markers) given) (sym at_freed.office_is)))
+    (three telling given at_freed)
+
+-- a marker that is to begin its job anew gives back all that it holds
+pub back_tells : (k : ℕ) (o begun last : OfPlan) (s all : Story) → given_at o.exchange k ≡ given.Given → begun ≡ record o { exchange = begun_anew o.plan k o.exchange }
+    → Tells (told_steps k (frees_left begun.exchange k)) begun s last all → Tells (told_give_back k) o s last all
+back_tells k o begun last s all gives is tells telling w stands =
+    subst (Stands telling last all)
+    (back_told k w begun (ap (λ (x : OfPlan). given_at x.exchange k) stands.office_is ∙ gives) (is ∙ ap (λ (x : OfPlan). record x { exchange = begun_anew x.plan k x.exchange }) (sym stands.office_is)))
+    (tells telling (record w { office = begun }) (record { office_is = refl; story_is = stands.story_is }))

@@ -1,5 +1,5 @@
 -- what a step that is told does to an office, and how far loops over told steps have come
-use Rattle.std.proofs.Common.{◌≡◌, ℕ, zero, suc, ◌+◌, ◌-◌, ◌<◌, ◌≤◌, Bool, true, false, List, ◌++◌, drop, length, length-append, refl, sym, ◌∙◌, ap, arith}
+use Rattle.std.proofs.Common.{◌≡◌, ℕ, zero, suc, ◌+◌, ◌-◌, ◌<◌, ◌≤◌, Bool, true, false, [], ◌∷◌, ◌++◌, drop, length, length-append, refl, sym, ◌∙◌, ap, subst, arith}
 use Rattle.std.specs.Prelude.{Option, Some, None, if◌then◌else◌, slice_get}
 use Rattle.xbar_plan.specs.Tables.{Tables}
 use Rattle.xbar_office.specs.declared.reply.Record.{Record}
@@ -14,8 +14,11 @@ use Rattle.xbar_core.proofs.GrownRecords.{move_begins}
 use Rattle.xbar_core.proofs.Markers.{none_within}
 use Rattle.xbar_core.proofs.StepCases.{step_count}
 use Rattle.xbar_core.proofs.Stepping.{step_idle}
-use Rattle.xbar_walk.specs.Walks.{Walk, added_by, after_told_step, found_by, is_idle_in, next_of, one_more, told_of, told_steps, walk_of}
-use Rattle.xbar_walk.specs.Lines.{step_lines}
+use Rattle.xbar_walk.specs.Walks.{Walk, added_by, after_told_step, found_by, is_idle_in, next_of, told_of, told_steps}
+use Rattle.xbar_walk.specs.Items.{Item, step_item}
+use Rattle.xbar_walk.specs.Lines.{one_more}
+use Rattle.xbar_walk.specs.Stories.{AddsStep, IsStory, Stands, Tells}
+use Rattle.xbar_walk.specs.declared.story.Story.{Story}
 use Rattle.xbar_walk.specs.declared.told.Told.{Told}
 
 -- the office after marker k's next step
@@ -27,7 +30,7 @@ abbrev pub after_made : ℕ → Walk → Walk
 after_made k w = record {
   office = stepped k w.office;
   number = one_more w.number;
-  text = w.text ++ step_lines (one_more w.number) k (told_of w.office.plan k w.office.exchange) (added_by w.office.plan k w.office.exchange);
+  items = w.items ++ step_item (one_more w.number) k (told_of w.office.plan k w.office.exchange) (added_by w.office.plan k w.office.exchange) ∷ [];
 }
 
 -- where there is no marker of a number, none makes a step
@@ -131,13 +134,17 @@ told_is o next k found made after came step_is found_is came_is is after_is =
     λ i. record { step = sym step_is i; found = same_found i; event = came_is i; next = same_after i }
 
 -- a step that was made and told is the walk's
-pub made_is : (k : ℕ) (w : Walk) (next : OfPlan) (before number : ℕ) (told : Told) (text : List ℕ) → is_idle_in w.office.exchange k ≡ false → next ≡ stepped k w.office → told ≡ told_of w.office.plan k w.office.exchange
-    → before ≡ length w.office.exchange.records → number ≡ one_more w.number → text ≡ w.text ++ step_lines number k told (drop before next.exchange.records) → walk_of next number text ≡ after_told_step k w
-made_is k w next before number told text goes next_is told_is before_is number_is text_is =
+pub made_tells : (k : ℕ) (office next : OfPlan) (story later : Story) (before : ℕ) (told : Told) → is_idle_in office.exchange k ≡ false → next ≡ stepped k office → told ≡ told_of office.plan k office.exchange
+    → before ≡ length office.exchange.records → AddsStep (λ number. step_item number k told (drop before next.exchange.records)) story later → Tells (after_told_step k) office story next later
+made_tells k office next story later before told goes next_is told_is before_is adds telling w stands =
+    let n = one_more w.number in
     let same =
-    text_is
-    ∙ ap (λ (n : ℕ). w.text ++ step_lines n k told (drop before next.exchange.records)) number_is
-    ∙ ap (λ (t : Told). w.text ++ step_lines (one_more w.number) k t (drop before next.exchange.records)) told_is
-    ∙ ap (λ (b : ℕ). w.text ++ step_lines (one_more w.number) k (told_of w.office.plan k w.office.exchange) (drop b next.exchange.records)) before_is
-    ∙ ap (λ (o : OfPlan). w.text ++ step_lines (one_more w.number) k (told_of w.office.plan k w.office.exchange) (drop (length w.office.exchange.records) o.exchange.records)) next_is in
-    (λ i. record { office = next_is i; number = number_is i; text = same i }) ∙ sym (made_is_told k w goes)
+    ap (λ (t : Told). step_item n k t (drop before next.exchange.records)) told_is
+    ∙ ap (λ (b : ℕ). step_item n k (told_of office.plan k office.exchange) (drop b next.exchange.records)) before_is
+    ∙ ap (λ (o : OfPlan). step_item n k (told_of office.plan k office.exchange) (drop (length office.exchange.records) o.exchange.records)) next_is
+    ∙ ap (λ (o : OfPlan). step_item n k (told_of o.plan k o.exchange) (added_by o.plan k o.exchange)) (sym stands.office_is) in
+    let made : Stands telling next later (after_made k w) = record {
+      office_is = ap (stepped k) stands.office_is ∙ sym next_is;
+      story_is = subst (λ (item : Item). IsStory telling later n (w.items ++ item ∷ [])) same (adds telling w.number w.items stands.story_is);
+    } in
+    subst (Stands telling next later) (sym (made_is_told k w (ap (λ (o : OfPlan). is_idle_in o.exchange k) stands.office_is ∙ goes))) made

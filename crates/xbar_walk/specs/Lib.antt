@@ -3,5 +3,8 @@ pub mod Groups
 pub mod Shown
 pub mod Words
 pub mod Lines
+pub mod Rows
+pub mod Items
 pub mod Walks
 pub mod Runs
+pub mod Stories

@@ -1,4 +1,4 @@
-use Rattle.std.specs.Prelude.{ℕ, nat_lt, List, [], ◌∷◌, ◌++◌, codes, decimal, flat_map, if◌then◌else◌}
+use Rattle.std.specs.Prelude.{ℕ, ◌+◌, ◌%◌, ◌^◌, nat_lt, List, [], ◌∷◌, ◌++◌, codes, decimal, flat_map, if◌then◌else◌}
 use Rattle.std.specs.List.{concat}
 use Rattle.xbar_equip.specs.Link.{link_text}
 use Rattle.xbar_office.specs.declared.job.Job.{Job}
@@ -13,6 +13,10 @@ in_four number =
     if nat_lt number 10 then codes "   " ++ decimal number
     else (if nat_lt number 100 then codes "  " ++ decimal number
     else (if nat_lt number 1000 then codes " " ++ decimal number else decimal number))
+
+-- steps are counted as turns are, modulo 2^64
+abbrev pub one_more : ℕ → ℕ
+one_more number = (number + 1) % 2 ^ 64
 
 -- what is told of a marker
 unfoldable pub marker_line : List ℕ → ℕ → List ℕ → List ℕ

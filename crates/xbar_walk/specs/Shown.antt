@@ -1,4 +1,4 @@
-use Rattle.std.specs.Prelude.{ℕ, ◌-◌, nat_lt, Bool, List, [], ◌∷◌, ◌++◌, codes, decimal, filter, flat_map, map, if◌then◌else◌}
+use Rattle.std.specs.Prelude.{ℕ, ◌-◌, nat_lt, Bool, false, true, List, [], ◌∷◌, ◌++◌, codes, decimal, filter, flat_map, map, if◌then◌else◌}
 use Rattle.std.specs.Int.{bit_at}
 use Rattle.std.specs.List.{concat, range_with_len}
 use Rattle.xbar_equip.specs.declared.link.LinkKind.TheVariants.{LineLink, Junctor, TrunkLink}
@@ -63,3 +63,8 @@ shown place word = shown_to (positions place) place word
 unfoldable pub listed : List ℕ → List ℕ → List ℕ → List (List ℕ) → List ℕ
 listed none head separator [] = none
 listed none head separator (text ∷ texts) = head ++ text ++ flat_map (λ other. separator ++ other) texts
+
+-- whether there are any texts
+abbrev pub has_any : List (List ℕ) → Bool
+has_any [] = false
+has_any (text ∷ texts) = true

@@ -1,4 +1,4 @@
-use Rattle.std.specs.Prelude.{ℕ, zero, suc, ◌+◌, ◌%◌, ◌^◌, Bool, true, false, List, ◌++◌, drop, length, slice_get, slice_index, if◌then◌else◌}
+use Rattle.std.specs.Prelude.{ℕ, zero, suc, Bool, true, false, List, [], ◌∷◌, ◌++◌, drop, length, slice_get, slice_index, if◌then◌else◌}
 use Rattle.xbar_plan.specs.Tables.{Tables}
 use Rattle.xbar_office.specs.declared.reply.Record.{Record}
 use Rattle.xbar_jobs.specs.declared.step.Step.{Step}
@@ -9,17 +9,15 @@ use Rattle.xbar_core.specs.Moves.{begun_anew, event_at_step, frees_left, given_a
 use Rattle.xbar_core.specs.Settling.{most_steps_alone}
 use Rattle.xbar_core.specs.declared.given.Given.{Given}
 use Rattle.xbar_core.specs.declared.given.Given.TheVariants as given
-use Rattle.xbar_walk.specs.Lines.{settling_line, step_lines}
+use Rattle.xbar_walk.specs.Items.{Item, Says, step_item}
+use Rattle.xbar_walk.specs.Lines.{one_more, settling_line}
 use Rattle.xbar_walk.specs.declared.told.Told.{Told}
 
--- an office, how many steps were told of it so far, and the text that tells them
+-- an office, how many steps were told of it so far, and all that was told
 pub record Walk : Type 0 where
   pub office : OfPlan
   pub number : ℕ
-  pub text : List ℕ
-
-abbrev pub walk_of : OfPlan → ℕ → List ℕ → Walk
-walk_of office number text = record { office = office; number = number; text = text }
+  pub items : List Item
 
 -- the step that marker k makes next
 abbrev pub next_of : Exchange → ℕ → Step
@@ -47,10 +45,6 @@ told_of plan k e = record {
 abbrev pub added_by : Tables → ℕ → Exchange → List Record
 added_by plan k e = drop (length e.records) (after_step plan k e).records
 
--- the steps told so far are counted as turns are, modulo 2^64
-abbrev pub one_more : ℕ → ℕ
-one_more number = (number + 1) % 2 ^ 64
-
 -- marker k makes its next step, which is told; an idle one makes none, and nothing is told
 unfoldable pub after_told_step : ℕ → Walk → Walk
 after_told_step k w =
@@ -60,7 +54,7 @@ after_told_step k w =
     else (record {
       office = record { plan = plan; exchange = after_step plan k e };
       number = one_more w.number;
-      text = w.text ++ step_lines (one_more w.number) k (told_of plan k e) (added_by plan k e);
+      items = w.items ++ step_item (one_more w.number) k (told_of plan k e) (added_by plan k e) ∷ [];
     })
 
 -- so many steps of it
@@ -105,4 +99,4 @@ told_settling w =
     let count = length w.office.exchange.markers in
     told_for_each told_end count
     (told_for_each told_give_back count
-    (told_for_each told_end_past_turn count (record w { text = w.text ++ settling_line })))
+    (told_for_each told_end_past_turn count (record w { items = w.items ++ Says settling_line ∷ [] })))

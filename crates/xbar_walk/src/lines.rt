@@ -12,7 +12,7 @@ use xbar_office::{Card, Job, Record};
 
 /// A number at the right of four places.
 #[derive(Clone, Copy)]
-struct InFour(u64);
+pub struct InFour(pub u64);
 
 impl fmt::Display for InFour {
     ghost output = { λ number. Some (in_four number.0) };
@@ -32,8 +32,7 @@ impl fmt::Display for InFour {
     }
 }
 
-/// Adds that a marker is given a job. Where memory runs out, a part of the line may have been
-/// added, here as below.
+/// Adds that a marker is given a job.
 #[tactic(auto, unfolding(crate::specs::Lines::assignment_line))]
 pub fn add_assignment(
     text: &mut String,

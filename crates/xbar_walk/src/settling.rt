@@ -1,12 +1,13 @@
 //! An office that settles, each step told.
 
-ghost use Rattle.std.specs.Prelude.{◌≡◌, ◌<◌, OnOk, length, slice_get, string_bytes};
+ghost use Rattle.std.specs.Prelude.{◌≡◌, ◌<◌, OnOk, length, slice_get};
 ghost use Rattle.xbar_core.specs.AtWork.{IsBackingAt};
 ghost use Rattle.xbar_core.specs.Moves.{frees_left};
 ghost use Rattle.xbar_core.specs.Settling.{settled};
-ghost use Rattle.xbar_walk.specs.Walks.{told_end, told_end_past_turn, told_for_each, told_give_back, told_settling, told_steps, walk_of};
+ghost use Rattle.xbar_walk.specs.Stories.{Tells};
+ghost use Rattle.xbar_walk.specs.Walks.{told_end, told_end_past_turn, told_for_each, told_give_back, told_settling, told_steps};
 
-use crate::lines::add_settling;
+use crate::story::Story;
 use crate::walk::{walk_step, walk_steps};
 use std::alloc::AllocError;
 use xbar_core::Exchange;
@@ -14,51 +15,39 @@ use xbar_core::Exchange;
 /// As many steps as a marker has to its end at most that no other is in the way of.
 const MOST_STEPS_ALONE: u32 = 134;
 
-fn walk_end(
-    exchange: &mut Exchange<'_>,
-    marker: u32,
-    number: &mut u64,
-    text: &mut String,
-) -> Result<(), AllocError>
+fn walk_end(exchange: &mut Exchange<'_>, marker: u32, story: &mut Story) -> Result<(), AllocError>
     requires { marker < length exchange.old.exchange.markers }
-    ensures { OnOk result (walk_of exchange.new number.new (string_bytes text.new)
-        ≡ told_end marker (walk_of exchange.old number.old (string_bytes text.old))) }
+    ensures { OnOk result
+        (Tells (told_end marker) exchange.old story.old exchange.new story.new) }
 {
-    walk_steps(exchange, marker, MOST_STEPS_ALONE, number, text)
+    walk_steps(exchange, marker, MOST_STEPS_ALONE, story)
 }
 
 fn walk_end_past_turn(
     exchange: &mut Exchange<'_>,
     marker: u32,
-    number: &mut u64,
-    text: &mut String,
+    story: &mut Story,
 ) -> Result<(), AllocError>
     requires { marker < length exchange.old.exchange.markers }
-    ensures { OnOk result (walk_of exchange.new number.new (string_bytes text.new)
-        ≡ told_end_past_turn marker (walk_of exchange.old number.old (string_bytes text.old))) }
+    ensures { OnOk result
+        (Tells (told_end_past_turn marker) exchange.old story.old exchange.new story.new) }
 {
     if exchange.is_past_turn(marker) {
-        walk_end(exchange, marker, number, text)
-    } else {
-        Ok(())
+        walk_end(exchange, marker, story)?;
+        return Ok(());
     }
+    Ok(())
 }
 
 /// A marker that is to begin its job anew withdraws its request, and frees all that it holds.
-fn walk_back(
-    exchange: &mut Exchange<'_>,
-    marker: u32,
-    number: &mut u64,
-    text: &mut String,
-) -> Result<(), AllocError>
+fn walk_back(exchange: &mut Exchange<'_>, marker: u32, story: &mut Story) -> Result<(), AllocError>
     requires within { marker < length exchange.old.exchange.markers }
     requires backs { IsBackingAt (slice_get exchange.old.exchange.markers marker) }
-    ensures { OnOk result (walk_of exchange.new number.new (string_bytes text.new)
-        ≡ told_steps marker (frees_left exchange.old.exchange marker)
-        (walk_of exchange.old number.old (string_bytes text.old))) }
+    ensures { OnOk result (Tells (told_steps marker (frees_left exchange.old.exchange marker))
+        exchange.old story.old exchange.new story.new) }
 {
     while exchange.is_giving_up(marker) {
-        walk_step(exchange, marker, number, text)?;
+        walk_step(exchange, marker, story)?;
     }
     Ok(())
 }
@@ -66,12 +55,11 @@ fn walk_back(
 fn walk_give_back(
     exchange: &mut Exchange<'_>,
     marker: u32,
-    number: &mut u64,
-    text: &mut String,
+    story: &mut Story,
 ) -> Result<(), AllocError>
     requires { marker < length exchange.old.exchange.markers }
-    ensures { OnOk result (walk_of exchange.new number.new (string_bytes text.new)
-        ≡ told_give_back marker (walk_of exchange.old number.old (string_bytes text.old))) }
+    ensures { OnOk result
+        (Tells (told_give_back marker) exchange.old story.old exchange.new story.new) }
 {
     if exchange.is_idle(marker) {
         return Ok(());
@@ -80,70 +68,54 @@ fn walk_give_back(
         return Ok(());
     }
     exchange.restart(marker);
-    walk_back(exchange, marker, number, text)?;
+    walk_back(exchange, marker, story)?;
     Ok(())
 }
 
-fn walk_all_past_turn(
-    exchange: &mut Exchange<'_>,
-    number: &mut u64,
-    text: &mut String,
-) -> Result<(), AllocError>
-    ensures { OnOk result (walk_of exchange.new number.new (string_bytes text.new)
-        ≡ told_for_each told_end_past_turn (length exchange.old.exchange.markers)
-        (walk_of exchange.old number.old (string_bytes text.old))) }
+fn walk_all_past_turn(exchange: &mut Exchange<'_>, story: &mut Story) -> Result<(), AllocError>
+    ensures { OnOk result (Tells
+        (told_for_each told_end_past_turn (length exchange.old.exchange.markers))
+        exchange.old story.old exchange.new story.new) }
 {
     for marker in 0..exchange.marker_count() {
-        walk_end_past_turn(exchange, marker, number, text)?;
+        walk_end_past_turn(exchange, marker, story)?;
     }
     Ok(())
 }
 
-fn walk_all_back(
-    exchange: &mut Exchange<'_>,
-    number: &mut u64,
-    text: &mut String,
-) -> Result<(), AllocError>
-    ensures { OnOk result (walk_of exchange.new number.new (string_bytes text.new)
-        ≡ told_for_each told_give_back (length exchange.old.exchange.markers)
-        (walk_of exchange.old number.old (string_bytes text.old))) }
+fn walk_all_back(exchange: &mut Exchange<'_>, story: &mut Story) -> Result<(), AllocError>
+    ensures { OnOk result (Tells
+        (told_for_each told_give_back (length exchange.old.exchange.markers))
+        exchange.old story.old exchange.new story.new) }
 {
     for marker in 0..exchange.marker_count() {
-        walk_give_back(exchange, marker, number, text)?;
+        walk_give_back(exchange, marker, story)?;
     }
     Ok(())
 }
 
-fn walk_all_to_end(
-    exchange: &mut Exchange<'_>,
-    number: &mut u64,
-    text: &mut String,
-) -> Result<(), AllocError>
-    ensures { OnOk result (walk_of exchange.new number.new (string_bytes text.new)
-        ≡ told_for_each told_end (length exchange.old.exchange.markers)
-        (walk_of exchange.old number.old (string_bytes text.old))) }
+fn walk_all_to_end(exchange: &mut Exchange<'_>, story: &mut Story) -> Result<(), AllocError>
+    ensures { OnOk result (Tells
+        (told_for_each told_end (length exchange.old.exchange.markers))
+        exchange.old story.old exchange.new story.new) }
 {
     for marker in 0..exchange.marker_count() {
-        walk_end(exchange, marker, number, text)?;
+        walk_end(exchange, marker, story)?;
     }
     Ok(())
 }
 
 /// Brings every job to its end, as `Exchange::settle` does. A line says that the rows are done, and
 /// each step is told as by `walk_step`. Where memory runs out, the office may have settled in part.
-pub fn walk_settling(
-    exchange: &mut Exchange<'_>,
-    number: &mut u64,
-    text: &mut String,
-) -> Result<(), AllocError>
+pub fn walk_settling(exchange: &mut Exchange<'_>, story: &mut Story) -> Result<(), AllocError>
     ensures settled { OnOk result (exchange.new
         ≡ record exchange.old { exchange = settled exchange.old.plan exchange.old.exchange }) }
-    ensures told { OnOk result (walk_of exchange.new number.new (string_bytes text.new)
-        ≡ told_settling (walk_of exchange.old number.old (string_bytes text.old))) }
+    ensures told { OnOk result
+        (Tells told_settling exchange.old story.old exchange.new story.new) }
 {
-    add_settling(text)?;
-    walk_all_past_turn(exchange, number, text)?;
-    walk_all_back(exchange, number, text)?;
-    walk_all_to_end(exchange, number, text)?;
+    story.add_settling()?;
+    walk_all_past_turn(exchange, story)?;
+    walk_all_back(exchange, story)?;
+    walk_all_to_end(exchange, story)?;
     Ok(())
 }

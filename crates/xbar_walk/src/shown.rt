@@ -1,7 +1,7 @@
 //! What a word shows: the closed fields of a switch, or the busy members of a group.
 
-ghost use Rattle.std.specs.Prelude.{◌≡◌, ◌<◌, ◌++◌, ◌||◌, IfOk, OnOk, Some, string_bytes, if◌then◌else◌};
-ghost use Rattle.xbar_walk.specs.Shown.{held_at as held_at_of, is_shown, item_name, listed, positions as positions_of, shown, shown_at};
+ghost use Rattle.std.specs.Prelude.{◌≡◌, ◌<◌, ◌++◌, ◌||◌, IfOk, OnOk, Some, [], string_bytes, if◌then◌else◌};
+ghost use Rattle.xbar_walk.specs.Shown.{has_any, held_at as held_at_of, is_shown, item_name, listed, positions as positions_of, shown, shown_at};
 
 use crate::names::{LineName, LinkName, TrunkName};
 use crate::place::Place;
@@ -87,7 +87,7 @@ impl fmt::Display for Item {
 }
 
 /// What stands before an item: the separator, or before the first one the head.
-fn lead<'t>(any: bool, head: &'t str, separator: &'t str) -> &'t str
+pub fn lead<'t>(any: bool, head: &'t str, separator: &'t str) -> &'t str
     ensures { result.now ≡ (if any then separator.now else head.now) }
 {
     if any { separator } else { head }
@@ -124,8 +124,28 @@ fn add_item(
     Ok(true)
 }
 
-/// Adds all that a word shows, behind a head and parted by separators; or what is said if that is
-/// nothing.
+/// Adds all that a word shows, behind a head and parted by separators, and tells whether it shows
+/// anything.
+pub fn add_items(
+    text: &mut String,
+    place: Place,
+    word: u64,
+    head: &str,
+    separator: &str,
+) -> Result<bool, AllocError>
+    ensures any { IfOk result (λ any. any ≡ has_any (shown place word)) }
+    ensures text { OnOk result (string_bytes text.new ≡ string_bytes text.old ++
+        listed [] head.now separator.now (shown place word)) }
+{
+    let mut any = false;
+    for position in 0..positions(place) {
+        let some = add_item(text, place, word, position, any, head, separator)?;
+        any = some;
+    }
+    Ok(any)
+}
+
+/// Adds all that a word shows, as above; or what is said if that is nothing.
 pub fn add_shown(
     text: &mut String,
     place: Place,
@@ -137,11 +157,7 @@ pub fn add_shown(
     ensures { OnOk result (string_bytes text.new ≡ string_bytes text.old ++
         listed none.now head.now separator.now (shown place word)) }
 {
-    let mut any = false;
-    for position in 0..positions(place) {
-        let some = add_item(text, place, word, position, any, head, separator)?;
-        any = some;
-    }
+    let any = add_items(text, place, word, head, separator)?;
     if any {
         return Ok(());
     }

@@ -1,11 +1,12 @@
 //! An office that is walked through: each step is made and told.
 
-ghost use Rattle.std.specs.Prelude.{◌≡◌, ◌<◌, ◌≤◌, ◌++◌, OnOk, drop, length, string_bytes};
+ghost use Rattle.std.specs.Prelude.{◌≡◌, ◌<◌, ◌≤◌, OnOk, drop, length};
 ghost use Rattle.xbar_core.specs.Moves.{after_step, steps};
-ghost use Rattle.xbar_walk.specs.Lines.{step_lines};
-ghost use Rattle.xbar_walk.specs.Walks.{after_told_step, told_of, told_steps, walk_of};
+ghost use Rattle.xbar_walk.specs.Items.{step_item};
+ghost use Rattle.xbar_walk.specs.Stories.{AddsStep, Tells};
+ghost use Rattle.xbar_walk.specs.Walks.{after_told_step, told_of, told_steps};
 
-use crate::lines::add_step;
+use crate::story::Story;
 use crate::told::{Told, found_by};
 use std::alloc::AllocError;
 use xbar_core::Exchange;
@@ -25,66 +26,63 @@ fn make_step(exchange: &mut Exchange<'_>, marker: u32) -> Told
     Told::new(step, found, event, next)
 }
 
-/// Adds the lines of a step that was just made and told; `before` records were there before it.
+/// Adds a step that was just made and told; `before` records were there before it.
 fn add_made(
     exchange: &Exchange<'_>,
     before: usize,
     marker: u32,
     told: &Told,
-    number: u64,
-    text: &mut String,
+    story: &mut Story,
 ) -> Result<(), AllocError>
     requires { before ≤ length exchange.now.exchange.records }
-    ensures { OnOk result (string_bytes text.new ≡ string_bytes text.old ++
-        step_lines number marker told.now (drop before exchange.now.exchange.records)) }
+    ensures { OnOk result (AddsStep
+        (λ number. step_item number marker told.now (drop before exchange.now.exchange.records))
+        story.old story.new) }
 {
     let records = exchange.records();
-    add_step(text, number, marker, told, &records[before..])
+    story.add_step(marker, told, &records[before..])
 }
 
-/// Has a marker make its next step, and adds the lines that tell it, under the number that follows
-/// `number`, which is counted on. An idle marker makes no step, and nothing is told. Where memory
-/// runs out, the step is made, and a part of its lines may have been added.
+/// Has a marker make its next step, and tells it. An idle marker makes no step, and nothing is told.
+/// Where memory runs out, the step is made, and a part of its lines may have been added.
 pub fn walk_step(
     exchange: &mut Exchange<'_>,
     marker: u32,
-    number: &mut u64,
-    text: &mut String,
+    story: &mut Story,
 ) -> Result<(), AllocError>
     requires { marker < length exchange.old.exchange.markers }
-    ensures { OnOk result (walk_of exchange.new number.new (string_bytes text.new)
-        ≡ after_told_step marker (walk_of exchange.old number.old (string_bytes text.old))) }
+    ensures { OnOk result
+        (Tells (after_told_step marker) exchange.old story.old exchange.new story.new) }
 {
     if exchange.is_idle(marker) {
         return Ok(());
     }
     let before = exchange.records().len();
     let told = make_step(exchange, marker);
-    *number = number.wrapping_add(1);
-    add_made(exchange, before, marker, &told, *number, text)?;
+    add_made(exchange, before, marker, &told, story)?;
     Ok(())
 }
 
-/// Has a marker make so many steps, as `Exchange::steps` does, each told as by `walk_step`. They end at once where it is idle.
+/// Has a marker make so many steps, as `Exchange::steps` does, each told as by `walk_step`. They end
+/// at once where it is idle.
 pub fn walk_steps(
     exchange: &mut Exchange<'_>,
     marker: u32,
     count: u32,
-    number: &mut u64,
-    text: &mut String,
+    story: &mut Story,
 ) -> Result<(), AllocError>
     requires { marker < length exchange.old.exchange.markers }
     ensures steps { OnOk result (exchange.new ≡ record exchange.old {
       exchange = steps exchange.old.plan marker count exchange.old.exchange;
     }) }
-    ensures told { OnOk result (walk_of exchange.new number.new (string_bytes text.new)
-        ≡ told_steps marker count (walk_of exchange.old number.old (string_bytes text.old))) }
+    ensures told { OnOk result
+        (Tells (told_steps marker count) exchange.old story.old exchange.new story.new) }
 {
     for _made in 0..count {
         if exchange.is_idle(marker) {
             return Ok(());
         }
-        walk_step(exchange, marker, number, text)?;
+        walk_step(exchange, marker, story)?;
     }
     Ok(())
 }

@@ -37,7 +37,7 @@ fn add_found(text: &mut String, place: Place, word: u64) -> Result<(), AllocErro
 }
 
 #[tactic(auto, unfolding(crate::specs::Words::test_words))]
-fn add_test(text: &mut String, place: Place, word: u64) -> Result<(), AllocError>
+pub fn add_test(text: &mut String, place: Place, word: u64) -> Result<(), AllocError>
     ensures { OnOk result (string_bytes text.new ≡ string_bytes text.old ++ test_words place word) }
 {
     write!(text, "tests {place}: ")?;

@@ -1,19 +1,24 @@
-use Rattle.std.proofs.Common.{length, arith}
-use Rattle.std.specs.Prelude.{string_bytes}
-use Rattle.xbar_walk.specs.Walks.{told_end_past_turn, walk_of}
-use Rattle.xbar_walk.proofs.Settlings.{all_done, none_done, one_done, past_size}
+use Rattle.std.proofs.Common.{◌≡◌, length, refl, arith}
+use Rattle.xbar_walk.specs.Walks.{told_end_past_turn, told_for_each}
+use Rattle.xbar_walk.proofs.Reaching.{reached_has, reaches_all, reaches_none, reaches_on}
+use Rattle.xbar_walk.proofs.Settlings.{AreDone, all_done, none_done, one_done, past_size}
 use Rattle.xbar_walk.proofs.settling.walk_all_past_turn.Goals as goal
 
 pub loop-marker-init : goal.loop-marker-init
-loop-marker-init c = none_done told_end_past_turn (walk_of c.args.exchange.now c.args.number.now (string_bytes c.args.text.now))
+loop-marker-init c = reaches_none c.args.exchange.now c.args.story.now (λ first now. AreDone told_end_past_turn first now 0) (λ w is. none_done told_end_past_turn w)
 
 pub walk_end_past_turn-requires : goal.walk_end_past_turn-requires
-walk_end_past_turn-requires c = let size = c.loop-marker.invariant.size in omega (arith, size)
+walk_end_past_turn-requires c =
+    let size = reached_has _ _ _ _ _ c.loop-marker.invariant (λ o n. length n.exchange.markers ≡ length o.exchange.markers) (λ first now done. done.size) in
+    omega (arith, size)
 
 pub loop-marker-preserved : goal.loop-marker-preserved
-loop-marker-preserved c = one_done told_end_past_turn past_size _ _ _ _ c.loop-marker.invariant c.in_ok-walk_end_past_turn.ensures
+loop-marker-preserved c =
+    reaches_on _ _ _ _ _ c.loop-marker.invariant _ _ (λ first now. AreDone told_end_past_turn first now _) (told_end_past_turn c.loop-marker.marker)
+    (λ first now is so_far. one_done told_end_past_turn past_size first now _ c.loop-marker.marker so_far refl) c.in_ok-walk_end_past_turn.ensures
 
 pub returns : goal.returns
 returns c =
-    all_done told_end_past_turn (walk_of c.args.exchange.now c.args.number.now (string_bytes c.args.text.now))
-    (walk_of c.loop-marker.exchange c.loop-marker.number (string_bytes c.loop-marker.text)) (length c.args.exchange.now.exchange.markers) c.loop-marker.marker (omega arith) c.loop-marker.invariant
+    let all : c.loop-marker.marker ≡ length c.args.exchange.now.exchange.markers = omega arith in
+    reaches_all _ _ _ _ _ c.loop-marker.invariant (told_for_each told_end_past_turn (length c.args.exchange.now.exchange.markers))
+    (λ first now is so_far. all_done told_end_past_turn first now (length c.args.exchange.now.exchange.markers) c.loop-marker.marker all so_far)

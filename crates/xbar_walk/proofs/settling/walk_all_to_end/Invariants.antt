@@ -1,7 +1,7 @@
-use Rattle.std.specs.Prelude.{string_bytes}
-use Rattle.xbar_walk.specs.Walks.{told_end, walk_of}
+use Rattle.xbar_walk.specs.Walks.{told_end}
+use Rattle.xbar_walk.proofs.Reaching.{Reaches}
 use Rattle.xbar_walk.proofs.Settlings.{AreDone}
 use Rattle.xbar_walk.proofs.settling.walk_all_to_end.Given as goal
 
 abbrev pub invariant-loop-marker : goal.invariant-loop-marker
-invariant-loop-marker l = AreDone told_end (walk_of l.initial.exchange l.initial.number (string_bytes l.initial.text)) (walk_of l.exchange l.number (string_bytes l.text)) l.marker
+invariant-loop-marker l = Reaches (λ first now. AreDone told_end first now l.marker) l.initial.exchange l.initial.story l.exchange l.story

@@ -1,20 +1,14 @@
-use Rattle.std.proofs.Common.{List, ℕ, ap, ◌∙◌}
-use Rattle.std.specs.Prelude.{string_bytes}
-use Rattle.xbar_walk.specs.Walks.{Walk, walk_of}
-use Rattle.xbar_walk.proofs.Settlings.{settling_is, settling_settles}
+use Rattle.std.proofs.Common.{◌∙◌}
+use Rattle.xbar_walk.specs.Walks.{told_settling}
+use Rattle.xbar_walk.proofs.Reaching.{office_told, own_walk}
+use Rattle.xbar_walk.proofs.Settlings.{settling_settles, settling_tells}
 use Rattle.xbar_walk.proofs.settling.walk_settling.Goals as goal
 
 pub returns-clause-told : goal.returns-clause-told
 returns-clause-told c =
-    settling_is (walk_of c.args.exchange.now c.args.number.now (string_bytes c.args.text.now)) _ _ _ _
-    (ap (λ (text : List ℕ). walk_of c.args.exchange.now c.args.number.now text) c.in_ok-add_settling.ensures)
+    settling_tells c.args.exchange.now _ _ _ c.args.story.now _ _ _ _ c.in_ok-add_settling.ensures
     c.in_ok-walk_all_past_turn.ensures c.in_ok-walk_all_back.ensures c.in_ok-walk_all_to_end.ensures
 
 pub returns-clause-settled : goal.returns-clause-settled
 returns-clause-settled c =
-    let w = walk_of c.args.exchange.now c.args.number.now (string_bytes c.args.text.now) in
-    ap (λ (x : Walk). x.office)
-    (settling_is w _ _ _ _
-    (ap (λ (text : List ℕ). walk_of c.args.exchange.now c.args.number.now text) c.in_ok-add_settling.ensures)
-    c.in_ok-walk_all_past_turn.ensures c.in_ok-walk_all_back.ensures c.in_ok-walk_all_to_end.ensures)
-    ∙ settling_settles w
+    office_told _ _ _ _ told_settling (returns-clause-told c) ∙ settling_settles (own_walk c.args.exchange.now c.args.story.now)

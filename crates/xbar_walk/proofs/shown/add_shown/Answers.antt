@@ -1,22 +1,9 @@
-use Rattle.std.proofs.Common.{◌≡◌, refl, arith}
-use Rattle.xbar_walk.specs.Shown.{positions}
-use Rattle.xbar_walk.proofs.Listed.{begins_list, ends_with_none, ends_with_some, one_listed}
+use Rattle.std.proofs.Common.{sym, ◌∙◌}
+use Rattle.xbar_walk.proofs.Listed.{ends_with_none, ends_with_some}
 use Rattle.xbar_walk.proofs.shown.add_shown.Goals as goal
 
-pub loop-position-init : goal.loop-position-init
-loop-position-init c = begins_list c.args.place c.args.word c.args.head.now c.args.separator.now _ _ _ refl refl
-
-pub loop-position-preserved : goal.loop-position-preserved
-loop-position-preserved c = one_listed _ _ _ _ _ _ _ _ c.loop-position.invariant _ _ c.in_ok-some.ensures.any c.in_ok-some.ensures.text
-
 pub returns-then-any : goal.returns-then-any
-returns-then-any c =
-    let value = c.positions-position-end.ensures.value in
-    let all : c.loop-position.position ≡ positions c.args.place = omega (arith, value, c.loop-position-test.false, c.loop-position.auto.position-end) in
-    ends_with_some _ _ _ _ _ _ _ _ c.loop-position.invariant c.args.none.now c.if-any.true all
+returns-then-any c = ends_with_some _ _ _ _ _ _ c.in_ok-any.ensures.text (sym c.if-any.true ∙ c.in_ok-any.ensures.any)
 
 pub returns : goal.returns
-returns c =
-    let value = c.positions-position-end.ensures.value in
-    let all : c.loop-position.position ≡ positions c.args.place = omega (arith, value, c.loop-position-test.false, c.loop-position.auto.position-end) in
-    ends_with_none _ _ _ _ _ _ _ _ c.loop-position.invariant c.args.none.now _ c.if-any.false all c.in_ok-push_str.ensures.bytes
+returns c = ends_with_none _ _ _ _ _ _ c.in_ok-any.ensures.text _ (sym c.if-any.false ∙ c.in_ok-any.ensures.any) c.in_ok-push_str.ensures.bytes

@@ -1,14 +1,15 @@
-use Rattle.std.proofs.Common.{true, false, length, refl, sym, ap, arith}
-use Rattle.std.specs.Prelude.{string_bytes}
+use Rattle.std.proofs.Common.{true, false, length, ◌∙◌, ap, arith}
 use Rattle.xbar_office.specs.declared.reply.Record.{Record}
-use Rattle.xbar_walk.specs.Walks.{walk_of}
-use Rattle.xbar_walk.proofs.ToldSteps.{idle_is, idle_tells_none, made_is, records_within}
+use Rattle.xbar_core.specs.Exchange.{OfPlan}
+use Rattle.xbar_walk.specs.Walks.{after_told_step, is_idle_in}
+use Rattle.xbar_walk.proofs.Reaching.{stays_told}
+use Rattle.xbar_walk.proofs.ToldSteps.{idle_is, idle_tells_none, made_tells, records_within}
 use Rattle.xbar_walk.proofs.walk.walk_step.Goals as goal
 
 pub returns-then-is_idle : goal.returns-then-is_idle
 returns-then-is_idle c =
-    sym (idle_tells_none c.args.marker (walk_of c.args.exchange.now c.args.number.now (string_bytes c.args.text.now))
-    (idle_is c.args.exchange.now.exchange c.args.marker true c.requires c.if-is_idle.ensures))
+    stays_told c.args.exchange.now c.args.story.now (after_told_step c.args.marker)
+    (λ w is. idle_tells_none c.args.marker w (ap (λ (o : OfPlan). is_idle_in o.exchange c.args.marker) is ∙ idle_is c.args.exchange.now.exchange c.args.marker true c.requires c.if-is_idle.ensures))
 
 pub add_made-requires : goal.add_made-requires
 add_made-requires c =
@@ -18,6 +19,6 @@ add_made-requires c =
 
 pub returns : goal.returns
 returns c =
-    made_is c.args.marker (walk_of c.args.exchange.now c.args.number.now (string_bytes c.args.text.now)) c.make_step-told.new.exchange (length c.records-before.result.now) _ c.make_step-told.result _
+    made_tells c.args.marker c.args.exchange.now c.make_step-told.new.exchange c.args.story.now _ (length c.records-before.result.now) c.make_step-told.result
     (idle_is c.args.exchange.now.exchange c.args.marker false c.requires c.if-is_idle.ensures) c.make_step-told.ensures.step c.make_step-told.ensures.told
-    (ap (length {A = Record}) c.records-before.ensures.records) refl c.in_ok-add_made.ensures
+    (ap (length {A = Record}) c.records-before.ensures.records) c.in_ok-add_made.ensures

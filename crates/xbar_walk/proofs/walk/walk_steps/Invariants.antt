@@ -1,7 +1,6 @@
-use Rattle.std.specs.Prelude.{string_bytes}
-use Rattle.xbar_walk.specs.Walks.{walk_of}
+use Rattle.xbar_walk.proofs.Reaching.{Reaches}
 use Rattle.xbar_walk.proofs.ToldSteps.{AreTold}
 use Rattle.xbar_walk.proofs.walk.walk_steps.Given as goal
 
 abbrev pub invariant-loop-made : goal.invariant-loop-made
-invariant-loop-made l = AreTold (walk_of l.initial.exchange l.initial.number (string_bytes l.initial.text)) (walk_of l.exchange l.number (string_bytes l.text)) l.marker l.count l._made
+invariant-loop-made l = Reaches (λ first now. AreTold first now l.marker l.count l._made) l.initial.exchange l.initial.story l.exchange l.story

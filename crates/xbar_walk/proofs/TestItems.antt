@@ -1,0 +1,54 @@
+-- a test adds no record, so its line is all that there is to tell of it
+use Rattle.std.proofs.Common.{◌≡◌, ℕ, List, [], ◌++◌, append-nil, drop, length, inl, inr, refl, sym, ◌∙◌, ap, arith}
+use Rattle.std.proofs.lemmas.List.{drop_all}
+use Rattle.std.specs.Prelude.{slice_index}
+use Rattle.xbar_plan.specs.Tables.{Tables}
+use Rattle.xbar_office.specs.declared.reply.Record.{Record}
+use Rattle.xbar_jobs.specs.Attempt.{next_step}
+use Rattle.xbar_jobs.specs.OnWords.{step_answer, step_word}
+use Rattle.xbar_jobs.specs.declared.step.Step.{Step}
+use Rattle.xbar_jobs.specs.declared.step.Step.TheVariants as step
+use Rattle.xbar_core.specs.AtWork.{next_step_at}
+use Rattle.xbar_core.specs.Exchange.{Exchange, at_marker}
+use Rattle.xbar_core.specs.Moves.{added_record}
+use Rattle.xbar_core.specs.declared.event.Event.{Event}
+use Rattle.xbar_core.proofs.StepCases.{step_cases}
+use Rattle.xbar_walk.specs.Items.{item_lines, step_item}
+use Rattle.xbar_walk.specs.Lines.{step_line, step_lines}
+use Rattle.xbar_walk.specs.Rows.{test_line}
+use Rattle.xbar_walk.specs.Walks.{added_by, next_of, told_of}
+use Rattle.xbar_walk.specs.Words.{step_words}
+
+no_more : (records : List Record) → drop (length records) records ≡ []
+no_more records = drop_all (length records) records (omega arith)
+
+test_adds_none : (plan : Tables) (k : ℕ) (e : Exchange) (word : ℕ) → next_of e k ≡ step.Test word → added_by plan k e ≡ []
+test_adds_none plan k e word tests = elim (step_cases plan e k) [
+  | inl same ↦ ap (λ (x : Exchange). drop (length e.records) x.records) same ∙ no_more e.records
+  | inr made ↦
+      let next : next_step made.attempt ≡ step.Test word =
+      sym (ap (at_marker step.Finished (λ m. next_step_at m.work)) made.at.there ∙ ap next_step_at made.at.work) ∙ tests in
+      ap (λ (x : Exchange). drop (length e.records) x.records) made.is
+      ∙ ap (λ (s : Step). drop (length e.records) (e.records ++ added_record k made.number made.attempt (step_answer k s (slice_index e.words (step_word s))))) next
+      ∙ ap (drop (length e.records)) (append-nil e.records) ∙ no_more e.records
+]
+
+lines_of : (number k found : ℕ) (event : Event) (next made : Step) (records : List Record) → ((word : ℕ) → made ≡ step.Test word → records ≡ [])
+    → item_lines (step_item number k (record { step = made; found = found; event = event; next = next }) records) ≡ step_lines number k (record { step = made; found = found; event = event; next = next }) records
+unfolding item_lines step_item step_lines step_line test_line step_words
+lines_of number k found event next (step.Test word) records none =
+    sym (ap (λ (rs : List Record). step_lines number k (record { step = step.Test word; found = found; event = event; next = next }) rs) (none word refl)
+    ∙ append-nil (step_line number k (record { step = step.Test word; found = found; event = event; next = next }) []))
+lines_of number k found event next (step.Request conn) records none = refl
+lines_of number k found event next (step.Seize conn expected) records none = refl
+lines_of number k found event next (step.Withdraw conn) records none = refl
+lines_of number k found event next step.Turn records none = refl
+lines_of number k found event next (step.Close word bits) records none = refl
+lines_of number k found event next (step.Open word mask) records none = refl
+lines_of number k found event next (step.Free conn) records none = refl
+lines_of number k found event next step.Finished records none = refl
+
+pub step_item_lines : (plan : Tables) (k : ℕ) (e : Exchange) (number : ℕ) → item_lines (step_item number k (told_of plan k e) (added_by plan k e)) ≡ step_lines number k (told_of plan k e) (added_by plan k e)
+step_item_lines plan k e number =
+    let told = told_of plan k e in
+    lines_of number k told.found told.event told.next told.step (added_by plan k e) (test_adds_none plan k e)

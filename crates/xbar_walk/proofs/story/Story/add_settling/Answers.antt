@@ -1,0 +1,9 @@
+use Rattle.std.proofs.Common.{◌++◌, ℕ, List, ap, ◌∙◌}
+use Rattle.xbar_walk.specs.Lines.{settling_line}
+use Rattle.xbar_walk.proofs.Storytelling.{lines_added}
+use Rattle.xbar_walk.proofs.story.Story.add_settling.Goals as goal
+
+pub returns : goal.returns
+returns c =
+    let ended = c.in_ok-end_tests.ensures in
+    lines_added c.args.self.now _ ended.telling settling_line c.args.self.now.joined ended.number (c.in_ok-add_settling.ensures ∙ ap (λ (text : List ℕ). text ++ settling_line) ended.told) ended.none

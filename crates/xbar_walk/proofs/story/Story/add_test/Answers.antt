@@ -1,0 +1,16 @@
+use Rattle.std.proofs.Common.{◌∷◌, ◌++◌, [], List, sym, ap, ◌∙◌}
+use Rattle.xbar_walk.specs.declared.tested.Tested.{Tested}
+use Rattle.xbar_walk.proofs.Joining.{kept_joined}
+use Rattle.xbar_walk.proofs.Storytelling.{test_begins}
+use Rattle.xbar_walk.proofs.story.Story.add_test.Goals as goal
+
+pub invariant_of-self : goal.invariant_of-self
+invariant_of-self c = record {
+  joined = kept_joined c.args.self.now.telling c.args.self.now.tests.items c.push.new.self.items c.args.tested _ c.args.self.now.joined (sym c.if-leads_to.ensures) c.push.ensures.items;
+}
+
+pub returns : goal.returns
+returns c =
+    let ended = c.in_ok-end_tests.ensures in
+    test_begins c.args.self.now _ ended.telling c.args.tested c.args.self.now.joined (sym c.if-leads_to.ensures) ended.number ended.told
+    (c.in_ok-push-2.ensures.items ∙ ap (λ (tests : List Tested). tests ++ c.args.tested ∷ []) ended.none)

@@ -1,0 +1,117 @@
+-- Tests that are told in one line: those of a row of switches, one after another.
+use Rattle.std.specs.Prelude.{ℕ, ◌+◌, ◌==◌, ◌&&◌, Bool, true, false, List, [], ◌∷◌, codes, decimal, flat_map}
+use Rattle.std.specs.List.{concat}
+use Rattle.xbar_walk.specs.Lines.{in_four, marker_line}
+use Rattle.xbar_walk.specs.Places.{place_name, switch_name}
+use Rattle.xbar_walk.specs.Shown.{listed, shown}
+use Rattle.xbar_walk.specs.Words.{test_words}
+use Rattle.xbar_walk.specs.declared.place.Place.{Place}
+use Rattle.xbar_walk.specs.declared.place.Place.TheVariants.{LineSwitch, LineJunctor, TrunkSwitch, TrunkJunctor, Group, Other}
+use Rattle.xbar_walk.specs.declared.telling.Telling.{Telling}
+use Rattle.xbar_walk.specs.declared.telling.Telling.TheVariants.{Each, Short}
+use Rattle.xbar_walk.specs.declared.tested.Tested.{Tested}
+
+-- whether a place is this junctor switch
+abbrev pub is_line_junctor : ℕ → ℕ → Place → Bool
+is_line_junctor frame channel (LineJunctor its_frame its_channel) = (its_frame == frame) && (its_channel == channel)
+is_line_junctor frame channel (LineSwitch _ _) = false
+is_line_junctor frame channel (TrunkSwitch _ _) = false
+is_line_junctor frame channel (TrunkJunctor _ _) = false
+is_line_junctor frame channel (Group _) = false
+is_line_junctor frame channel (Other _) = false
+
+abbrev pub is_trunk_junctor : ℕ → ℕ → Place → Bool
+is_trunk_junctor frame channel (TrunkJunctor its_frame its_channel) = (its_frame == frame) && (its_channel == channel)
+is_trunk_junctor frame channel (LineSwitch _ _) = false
+is_trunk_junctor frame channel (LineJunctor _ _) = false
+is_trunk_junctor frame channel (TrunkSwitch _ _) = false
+is_trunk_junctor frame channel (Group _) = false
+is_trunk_junctor frame channel (Other _) = false
+
+-- whether a place is the switch behind another in a row: a row is the junctor switches of one frame
+abbrev pub is_next : Place → Place → Bool
+is_next (LineJunctor frame channel) next = is_line_junctor frame (channel + 1) next
+is_next (TrunkJunctor frame channel) next = is_trunk_junctor frame (channel + 1) next
+is_next (LineSwitch _ _) next = false
+is_next (TrunkSwitch _ _) next = false
+is_next (Group _) next = false
+is_next (Other _) next = false
+
+-- whether a test goes on with a row: the marker that made the test before it tests the next switch
+abbrev pub goes_on : Tested → Tested → Bool
+goes_on before tested = (before.marker == tested.marker) && is_next before.place tested.place
+
+-- the switches of a row, by the first of them
+unfoldable pub row_name : Place → List ℕ
+row_name (LineJunctor frame channel) = switch_name (codes "line junctor switches") frame channel
+row_name (TrunkJunctor frame channel) = switch_name (codes "trunk junctor switches") frame channel
+row_name (LineSwitch frame switch) = place_name (LineSwitch frame switch)
+row_name (TrunkSwitch frame switch) = place_name (TrunkSwitch frame switch)
+row_name (Group group) = place_name (Group group)
+row_name (Other word) = place_name (Other word)
+
+abbrev two_numbers : ℕ → ℕ → List ℕ
+two_numbers frame switch = concat (decimal frame ∷ codes "," ∷ decimal switch ∷ [])
+
+-- a switch by its numbers alone
+unfoldable pub place_numbers : Place → List ℕ
+place_numbers (LineSwitch frame switch) = two_numbers frame switch
+place_numbers (LineJunctor frame channel) = two_numbers frame channel
+place_numbers (TrunkSwitch frame switch) = two_numbers frame switch
+place_numbers (TrunkJunctor frame channel) = two_numbers frame channel
+place_numbers (Group group) = decimal group
+place_numbers (Other word) = decimal word
+
+-- all that tests find
+abbrev pub finds : List Tested → List (List ℕ)
+finds tests = flat_map (λ tested. shown tested.place tested.word) tests
+
+unfoldable pub row_found : List Tested → List ℕ
+row_found tests = listed (codes "nothing closed") (codes "closed: ") (codes "; ") (finds tests)
+
+-- the last of some tests
+unfoldable pub last_of : Tested → List Tested → Tested
+last_of first [] = first
+last_of first (next ∷ later) = last_of next later
+
+-- tests of a row in words: its first and its last switch, the numbers of these steps, and all that they find
+unfoldable pub row_words : Tested → Tested → List Tested → List ℕ
+row_words first last tests =
+    concat (codes "tests " ∷ row_name first.place ∷ codes " to " ∷ place_numbers last.place
+    ∷ codes " (steps " ∷ decimal first.number ∷ codes " to " ∷ decimal last.number ∷ codes "): " ∷ row_found tests ∷ [])
+
+unfoldable pub row_line : Tested → Tested → List Tested → List ℕ
+row_line first last tests = marker_line (in_four first.number) first.marker (row_words first last tests)
+
+unfoldable pub test_line : Tested → List ℕ
+test_line tested = marker_line (in_four tested.number) tested.marker (test_words tested.place tested.word)
+
+-- one test has its own line, and several tests of a row have one, which begins with the number of the first
+unfoldable pub tests_line : Tested → List Tested → List ℕ
+tests_line first [] = test_line first
+tests_line first (next ∷ later) = row_line first (last_of next later) (first ∷ next ∷ later)
+
+-- of no test there is none
+abbrev pub tests_text : List Tested → List ℕ
+tests_text [] = []
+tests_text (first ∷ later) = tests_line first later
+
+-- whether tests may be told in short, in one line
+abbrev pub is_short : Telling → Bool
+is_short Each = false
+is_short Short = true
+
+-- whether the first of some tests, if there is any, goes on with a test
+abbrev pub leads : Telling → Tested → List Tested → Bool
+leads telling tested [] = true
+leads telling tested (next ∷ later) = is_short telling && goes_on tested next
+
+-- whether tests go on with one another, each with the one before it
+abbrev pub are_joined : Telling → List Tested → Bool
+are_joined telling [] = true
+are_joined telling (tested ∷ later) = leads telling tested later && are_joined telling later
+
+-- whether a test goes on with tests: with the last of them
+abbrev pub leads_on : Telling → List Tested → Tested → Bool
+leads_on telling [] tested = false
+leads_on telling (first ∷ later) tested = is_short telling && goes_on (last_of first later) tested

@@ -1,0 +1,79 @@
+//! Tests of a row of switches, in one line.
+
+ghost use Rattle.std.specs.Prelude.{◌≡◌, ◌++◌, OnOk, string_bytes};
+ghost use Rattle.xbar_walk.specs.Rows.{row_found, row_line, test_line, tests_text};
+
+use crate::lines::InFour;
+use crate::place::{PlaceNumbers, RowName};
+use crate::shown::{add_items, lead};
+use crate::tested::Tested;
+use crate::words::add_test;
+use std::alloc::AllocError;
+
+/// Adds all that tests of switches find.
+#[tactic(auto, unfolding(crate::specs::Rows::row_found))]
+fn add_finds(text: &mut String, tests: &[Tested]) -> Result<(), AllocError>
+    ensures { OnOk result (string_bytes text.new ≡ string_bytes text.old ++ row_found tests.now) }
+{
+    let mut any = false;
+    for tested in tests {
+        let head = lead(any, "closed: ", "; ");
+        let some = add_items(text, tested.place, tested.word, head, "; ")?;
+        any = any || some;
+    }
+    if any {
+        return Ok(());
+    }
+    text.push_str("nothing closed")?;
+    Ok(())
+}
+
+#[tactic(auto, unfolding(crate::specs::Rows::row_line, crate::specs::Rows::row_words, crate::specs::Lines::marker_line))]
+fn add_row(
+    text: &mut String,
+    first: &Tested,
+    last: &Tested,
+    tests: &[Tested],
+) -> Result<(), AllocError>
+    ensures { OnOk result (string_bytes text.new ≡ string_bytes text.old ++
+        row_line first.now last.now tests.now) }
+{
+    let number = InFour(first.number);
+    let marker = first.marker;
+    let row = RowName(first.place);
+    let end = PlaceNumbers(last.place);
+    let from = first.number;
+    let to = last.number;
+    write!(
+        text,
+        "{number}  marker {marker}  tests {row} to {end} (steps {from} to {to}): "
+    )?;
+    add_finds(text, tests)?;
+    text.push_str("\n")?;
+    Ok(())
+}
+
+#[tactic(auto, unfolding(crate::specs::Rows::test_line, crate::specs::Lines::marker_line))]
+fn add_one(text: &mut String, tested: &Tested) -> Result<(), AllocError>
+    ensures { OnOk result (string_bytes text.new ≡ string_bytes text.old ++
+        test_line tested.now) }
+{
+    let number = InFour(tested.number);
+    let marker = tested.marker;
+    write!(text, "{number}  marker {marker}  ")?;
+    add_test(text, tested.place, tested.word)?;
+    text.push_str("\n")?;
+    Ok(())
+}
+
+/// Adds the line of tests of a row, or of a single test.
+pub fn add_tests(text: &mut String, tests: &[Tested]) -> Result<(), AllocError>
+    ensures { OnOk result (string_bytes text.new ≡ string_bytes text.old ++
+        tests_text tests.now) }
+{
+    match tests {
+        [] => Ok(()),
+        [only] => add_one(text, only),
+        [first, .., last] => add_row(text, first, last, tests),
+    }
+}
