@@ -7,50 +7,48 @@ use xbar_core::{Exchange, Kind};
 use xbar_equip::{Dialled, Len};
 use xbar_office::Job;
 use xbar_plan::Plan;
-use xbar_walk::{add_assignment, walk_settling, walk_step, walk_steps};
+use xbar_walk::{Story, Telling, walk_settling, walk_step, walk_steps};
 
 /// An office as it is walked through.
 #[derive(Drop)]
 struct Walk<'p> {
     office: Exchange<'p>,
-    number: u64,
-    text: String,
+    story: Story,
 }
 
-fn walk_of<'p>(alloc: Global, plan: &'p Plan) -> Result<Walk<'p>, Fail> {
+fn walk_of<'p>(alloc: Global, plan: &'p Plan, telling: Telling) -> Result<Walk<'p>, Fail> {
     Ok(Walk {
         office: Exchange::open(alloc, plan, &[Kind::Combined; 2])?,
-        number: 0,
-        text: String::new(alloc),
+        story: Story::new(alloc, telling),
     })
 }
 
 fn assign(walk: &mut Walk, marker: u32, job_no: u32, job: Job) -> Result<(), Fail> {
-    add_assignment(&mut walk.text, marker, job_no, &job)?;
+    walk.story.add_assignment(marker, job_no, &job)?;
     walk.office.assign(marker, job_no, job)?;
     Ok(())
 }
 
 fn steps(rt: &impl Abort, walk: &mut Walk, marker: u32, count: u32) -> Result<(), Fail> {
     assert!(rt; marker < walk.office.marker_count());
-    let Walk {
-        office,
-        number,
-        text,
-    } = walk;
-    walk_steps(office, marker, count, number, text)?;
+    walk_steps(&mut walk.office, marker, count, &mut walk.story)?;
     Ok(())
 }
 
 fn step(rt: &impl Abort, walk: &mut Walk, marker: u32) -> Result<(), Fail> {
     assert!(rt; marker < walk.office.marker_count());
-    let Walk {
-        office,
-        number,
-        text,
-    } = walk;
-    walk_step(office, marker, number, text)?;
+    walk_step(&mut walk.office, marker, &mut walk.story)?;
     Ok(())
+}
+
+fn settle(walk: &mut Walk) -> Result<(), Fail> {
+    walk_settling(&mut walk.office, &mut walk.story)?;
+    Ok(())
+}
+
+/// All that was told.
+fn text_of(walk: Walk) -> Result<String, Fail> {
+    Ok(walk.story.finish()?)
 }
 
 const FIRST_CALL: &str = "      marker 0  is given job 1: dial tone for line 3041
@@ -127,22 +125,84 @@ const FIRST_CALL: &str = "      marker 0  is given job 1: dial tone for line 304
 ";
 
 /// Dial 3041 and Complete 3041 5551234, by one marker, on the empty example office.
-#[test]
-fn one_marker_makes_a_call(rt: HostRuntime) -> Result<(), Fail> {
-    let plan = Plan::example(rt.alloc())?;
-    let mut walk = walk_of(rt.alloc(), &plan)?;
+fn check_call(rt: &impl Abort, alloc: Global, telling: Telling, wanted: &str) -> Result<(), Fail> {
+    let plan = Plan::example(alloc)?;
+    let mut walk = walk_of(alloc, &plan, telling)?;
     let line = Len::new(3, 0, 21);
     assign(&mut walk, 0, 1, Job::Dial(line))?;
-    steps(&rt, &mut walk, 0, 96)?;
-    assign(
-        &mut walk,
-        0,
-        2,
-        Job::Complete(line, Dialled::new(5_551_234)),
-    )?;
-    steps(&rt, &mut walk, 0, 41)?;
-    assert_eq!(rt; walk.text.as_str(), FIRST_CALL);
+    steps(rt, &mut walk, 0, 96)?;
+    let dialled = Dialled::new(5_551_234);
+    assign(&mut walk, 0, 2, Job::Complete(line, dialled))?;
+    steps(rt, &mut walk, 0, 41)?;
+    assert_eq!(rt; text_of(walk)?.as_str(), wanted);
     Ok(())
+}
+
+#[test]
+fn one_marker_makes_a_call(rt: HostRuntime) -> Result<(), Fail> {
+    check_call(&rt, rt.alloc(), Telling::Each, FIRST_CALL)
+}
+
+const FIRST_CALL_SHORT: &str = "      marker 0  is given job 1: dial tone for line 3041
+   1  marker 0  requests line link frame 3
+   2  marker 0  seizes line link frame 3
+   3  marker 0  tests line switch 3,0: nothing closed
+   4  marker 0  requests group 0
+   5  marker 0  seizes group 0
+   6  marker 0  tests group 0: all members idle
+   7  marker 0  requests trunk link frame 4
+   8  marker 0  seizes trunk link frame 4
+   9  marker 0  tests trunk switch 4,1: nothing closed
+  10  marker 0  tests line junctor switches 3,0 to 3,9 (steps 10 to 19): nothing closed
+  20  marker 0  takes turn 0: job 1 ends DIALTONE at trial 1 by 3041-0-417
+  21  marker 0  closes line switch 3,0: line 3041 and LL300 are joined
+  22  marker 0  closes line junctor switch 3,0: LL300 and JU340 are joined
+  23  marker 0  closes trunk junctor switch 4,0: JU340 and TL410 are joined
+  24  marker 0  closes trunk switch 4,1: TL410 and place 417 are joined
+  25  marker 0  marks member 0 of group 0 busy
+  26  marker 0  frees line link frame 3
+  27  marker 0  frees group 0
+  28  marker 0  frees trunk link frame 4, and has done job 1
+      marker 0  is given job 2: call of line 3041 to 5551234
+  29  marker 0  requests line link frame 3
+  30  marker 0  seizes line link frame 3
+  31  marker 0  tests line switch 3,0: closed: line 3041 and LL300
+  32  marker 0  tests line junctor switch 3,0: closed: LL300 and JU340
+  33  marker 0  requests trunk link frame 4
+  34  marker 0  seizes trunk link frame 4
+  35  marker 0  tests trunk junctor switch 4,0: closed: JU340 and TL410
+  36  marker 0  tests trunk switch 4,1: closed: TL410 and place 417
+  37  marker 0  requests group 0
+  38  marker 0  seizes group 0
+  39  marker 0  requests group 2
+  40  marker 0  seizes group 2
+  41  marker 0  tests group 2: all members idle
+  42  marker 0  requests trunk link frame 8
+  43  marker 0  seizes trunk link frame 8
+  44  marker 0  tests trunk switch 8,0: nothing closed
+  45  marker 0  tests line junctor switches 3,1 to 3,9 (steps 45 to 53): nothing closed
+  54  marker 0  takes turn 1: job 2 ends CONNECTED at trial 1 by 3041-0-800
+  55  marker 0  opens line switch 3,0: line 3041 and LL300 are parted
+  56  marker 0  opens line junctor switch 3,0: LL300 and JU340 are parted
+  57  marker 0  opens trunk junctor switch 4,0: JU340 and TL410 are parted
+  58  marker 0  opens trunk switch 4,1: TL410 and place 417 are parted
+  59  marker 0  marks member 0 of group 0 idle
+  60  marker 0  closes line switch 3,0: line 3041 and LL300 are joined
+  61  marker 0  closes line junctor switch 3,0: LL300 and JU380 are joined
+  62  marker 0  closes trunk junctor switch 8,0: JU380 and TL800 are joined
+  63  marker 0  closes trunk switch 8,0: TL800 and place 800 are joined
+  64  marker 0  marks member 0 of group 2 busy
+  65  marker 0  frees line link frame 3
+  66  marker 0  frees trunk link frame 4
+  67  marker 0  frees group 0
+  68  marker 0  frees group 2
+  69  marker 0  frees trunk link frame 8, and has done job 2
+";
+
+/// The same call, with its rows of tests each in one line.
+#[test]
+fn a_call_is_told_in_short(rt: HostRuntime) -> Result<(), Fail> {
+    check_call(&rt, rt.alloc(), Telling::Short, FIRST_CALL_SHORT)
 }
 
 const TWO_MEET: &str = "      marker 0  is given job 9: dial tone for line 3041
@@ -218,19 +278,14 @@ const TWO_MEET: &str = "      marker 0  is given job 9: dial tone for line 3041
 #[test]
 fn two_markers_meet(rt: HostRuntime) -> Result<(), Fail> {
     let plan = Plan::example(rt.alloc())?;
-    let mut walk = walk_of(rt.alloc(), &plan)?;
+    let mut walk = walk_of(rt.alloc(), &plan, Telling::Each)?;
     assign(&mut walk, 0, 9, Job::Dial(Len::new(3, 0, 21)))?;
     assign(&mut walk, 1, 1, Job::Dial(Len::new(3, 0, 27)))?;
     for marker in [0, 1, 0, 0, 1, 1] {
         step(&rt, &mut walk, marker)?;
     }
-    let Walk {
-        office,
-        number,
-        text,
-    } = &mut walk;
-    walk_settling(office, number, text)?;
-    assert_eq!(rt; walk.text.as_str(), TWO_MEET);
+    settle(&mut walk)?;
+    assert_eq!(rt; text_of(walk)?.as_str(), TWO_MEET);
     Ok(())
 }
 
@@ -251,9 +306,9 @@ const SECOND_TRIAL: &str =
 #[test]
 fn a_card_stands_below_its_turn(rt: HostRuntime) -> Result<(), Fail> {
     let plan = Plan::read(rt.alloc(), FAULTY.as_bytes())?;
-    let mut walk = walk_of(rt.alloc(), &plan)?;
+    let mut walk = walk_of(rt.alloc(), &plan, Telling::Each)?;
     assign(&mut walk, 0, 1, Job::Dial(Len::new(3, 0, 21)))?;
     steps(&rt, &mut walk, 0, 21)?;
-    assert!(rt; walk.text.as_str().ends_with(SECOND_TRIAL));
+    assert!(rt; text_of(walk)?.as_str().ends_with(SECOND_TRIAL));
     Ok(())
 }

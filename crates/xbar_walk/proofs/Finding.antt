@@ -1,6 +1,6 @@
 -- what tests find, test by test
 use Rattle.std.proofs.Common.{◌≡◌, ℕ, Bool, true, false, List, [], ◌∷◌, ◌++◌, append_assoc, append-nil, refl, sym, ◌∙◌, ap}
-use Rattle.std.specs.Prelude.{◌||◌, codes, flat_map, if◌then◌else◌}
+use Rattle.std.specs.Prelude.{◌||◌, codes, if◌then◌else◌}
 use Rattle.std.proofs.lemmas.Grind.{flat_map-append}
 use Rattle.xbar_walk.specs.Rows.{finds, row_found}
 use Rattle.xbar_walk.specs.Shown.{has_any, listed, shown}

@@ -1,11 +1,13 @@
 -- how items are cut into runs
-use Rattle.std.proofs.Common.{◌≡◌, ℕ, suc, ◌-◌, ◌<◌, ◌≤◌, Bool, true, false, List, [], ◌∷◌, ◌++◌, append-nil, get_or, inl, inr, length, refl, sym, ◌∙◌, ap, arith}
-use Rattle.std.specs.Prelude.{◌&&◌, flat_map, map, if◌then◌else◌}
-use Rattle.std.proofs.lemmas.Grind.{common_steps, flat_map-append}
-use Rattle.xbar_walk.specs.Items.{IsRun, Item, Says, Tests, before_runs, in_first, item_lines, joins, joins_first, joins_test, run_lines, runs_of, tests_of, told_text}
+use Rattle.std.proofs.Common.{◌≡◌, ℕ, suc, ◌-◌, ◌<◌, ◌≤◌, Bool, true, false, List, [], ◌∷◌, ◌++◌, append-nil, get_or, inl, inr, length, refl, sym, ◌∙◌, ap, subst, arith}
+use Rattle.std.specs.Prelude.{◌&&◌, All, flat_map, map, if◌then◌else◌}
+use Rattle.std.specs.List.{AllByRecursion}
+use Rattle.std.proofs.lemmas.List.Elements.{All-from_recursion}
+use Rattle.std.proofs.lemmas.Grind.{flat_map-append}
+use Rattle.xbar_walk.specs.Items.{IsRun, Item, Says, Tests, before_runs, in_first, item_lines, joins, joins_first, run_lines, runs_of, tests_of, told_text}
 use Rattle.xbar_walk.specs.Rows.{are_joined, goes_on, is_short, last_of, leads, leads_on, row_line, tests_line, tests_text, test_line}
 use Rattle.xbar_walk.specs.declared.telling.Telling.{Telling}
-use Rattle.xbar_walk.specs.declared.telling.Telling.TheVariants.{Each, Short}
+use Rattle.xbar_walk.specs.declared.telling.Telling.TheVariants.{Each}
 use Rattle.xbar_walk.specs.declared.tested.Tested.{Tested}
 
 -- whether the last of some items is told in one line with another
@@ -124,10 +126,10 @@ unfolding runs_of
 runs_are_items telling [] = refl
 runs_are_items telling (item ∷ later) =
     by (joins_first telling item later) (runs_of telling later) ∙ ap (λ (items : List Item). item ∷ items) (runs_are_items telling later) where
-  by : (joined : Bool) (runs : List (List Item)) → flat_map (λ (run : List Item). run) (before_runs joined item runs) ≡ item ∷ flat_map (λ (run : List Item). run) runs
-  by true [] = refl
-  by true (run ∷ runs) = refl
-  by false runs = refl
+      by : (joined : Bool) (runs : List (List Item)) → flat_map (λ (run : List Item). run) (before_runs joined item runs) ≡ item ∷ flat_map (λ (run : List Item). run) runs
+      by true [] = refl
+      by true (run ∷ runs) = refl
+      by false runs = refl
 
 -- the last of some tests stands at the end
 last_is : (first : Tested) (later : List Tested) (default : Tested) → get_or (first ∷ later) (length (first ∷ later) - 1) default ≡ last_of first later
@@ -182,6 +184,48 @@ each_alone (item ∷ later) =
     ∙ ap (λ (lines : List ℕ). item_lines item ++ lines) (each_alone later)
 
 -- what an item begins is a run
-begun_by : (telling : Telling) (item : Item) (later : List Item) (runs : List (List Item)) → All (IsRun telling) runs → runs_of telling later ≡ runs
-    → All (IsRun telling) (before_runs (joins_first telling item later) item runs)
-begun_by telling item later runs are is = ?
+begun_by : (telling : Telling) (item : Item) (later : List Item) → (rest : List Item) × (runs : List (List Item)) × (runs_of telling (item ∷ later) ≡ (item ∷ rest) ∷ runs)
+unfolding runs_of
+begun_by telling item later = by (joins_first telling item later) (runs_of telling later) where
+  by : (joined : Bool) (runs : List (List Item)) → (rest : List Item) × (more : List (List Item)) × (before_runs joined item runs ≡ (item ∷ rest) ∷ more)
+  by true [] = ([], [], refl)
+  by true (run ∷ runs) = (run, runs, refl)
+  by false runs = ([], runs, refl)
+
+-- a test before a run that goes on with it is a run with it
+joined_run : (telling : Telling) (before tested : Tested) (rest : List Item) → (is_short telling && goes_on before tested) ≡ true → IsRun telling (Tests tested ∷ rest) → IsRun telling (Tests before ∷ Tests tested ∷ rest)
+joined_run telling before tested rest goes (inl one) =
+    let none : rest ≡ [] = cc (one.1) in
+    inr (before, tested, [], ap (λ (items : List Item). Tests before ∷ Tests tested ∷ items) none, and_both (is_short telling && goes_on before tested) true goes refl)
+joined_run telling before tested rest goes (inr row) =
+    let later = row.1 ∷ row.2 in
+    let same : tested ≡ row.0 = cc (row.3) in
+    inr (
+      before,
+      row.0,
+      later,
+      ap (λ (items : List Item). Tests before ∷ items) row.3,
+      and_both (is_short telling && goes_on before row.0) (are_joined telling (row.0 ∷ later)) (ap (λ (test : Tested). is_short telling && goes_on before test) (sym same) ∙ goes) row.4,
+    )
+
+row_begins : (telling : Telling) (before tested : Tested) (later : List Item) (joined : Bool) → (is_short telling && goes_on before tested) ≡ joined
+    → AllByRecursion (IsRun telling) (runs_of telling (Tests tested ∷ later)) → AllByRecursion (IsRun telling) (before_runs joined (Tests before) (runs_of telling (Tests tested ∷ later)))
+row_begins telling before tested later false parted all = (inl (Tests before, refl), all)
+row_begins telling before tested later true goes all =
+    let first = begun_by telling (Tests tested) later in
+    let these = subst (AllByRecursion (IsRun telling)) first.2 all in
+    subst (λ (runs : List (List Item)). AllByRecursion (IsRun telling) (in_first (Tests before) runs)) (sym first.2)
+    (joined_run telling before tested first.0 goes these.0, these.1)
+
+each_run : (telling : Telling) (items : List Item) → AllByRecursion (IsRun telling) (runs_of telling items)
+unfolding runs_of
+each_run telling [] = tt
+each_run telling (Says lines ∷ []) = (inl (Says lines, refl), tt)
+each_run telling (Tests tested ∷ []) = (inl (Tests tested, refl), tt)
+each_run telling (Says lines ∷ next ∷ later) = (inl (Says lines, refl), each_run telling (next ∷ later))
+each_run telling (Tests before ∷ Says lines ∷ later) = (inl (Tests before, refl), each_run telling (Says lines ∷ later))
+each_run telling (Tests before ∷ Tests tested ∷ later) = row_begins telling before tested later (is_short telling && goes_on before tested) refl (each_run telling (Tests tested ∷ later))
+
+-- each run is one
+pub all_runs : (telling : Telling) (items : List Item) → All (IsRun telling) (runs_of telling items)
+all_runs telling items = All-from_recursion (IsRun telling) (runs_of telling items) (each_run telling items)

@@ -1,5 +1,5 @@
 -- how far an office and a story have come
-use Rattle.std.proofs.Common.{◌≡◌, ℕ, ◌<◌, length, refl, sym, ◌∙◌, ap, subst, arith}
+use Rattle.std.proofs.Common.{◌≡◌, ℕ, ◌<◌, length, refl, sym, subst, arith}
 use Rattle.xbar_core.specs.Exchange.{OfPlan}
 use Rattle.xbar_walk.specs.Stories.{Stands, Tells}
 use Rattle.xbar_walk.specs.Walks.{Walk}

@@ -143,10 +143,10 @@ pub less_left : (o next later : OfPlan) (s told more : Story) (k : ℕ) → Reac
     → ((m : Marker) → slice_get next.exchange.markers k ≡ Some m → true ≡ gives_up_at m.work) → Tells (after_told_step k) next told later more → frees_left later.exchange k < frees_left next.exchange k
 less_left o next later s told more k reached goes tells =
     let at = reached s.telling (own_walk o s) (own_stands o s) in
-    let then = tells s.telling at.0 at.1 in
+    let later_at = tells s.telling at.0 at.1 in
     let less = less_back (own_walk o s) at.0 k at.2 (after_told_step k at.0) (ups_at true at.0.office next k at.1.office_is goes) refl in
     let before = ap (λ (x : OfPlan). frees_left x.exchange k) at.1.office_is in
-    let after = ap (λ (x : OfPlan). frees_left x.exchange k) then.office_is in
+    let after = ap (λ (x : OfPlan). frees_left x.exchange k) later_at.office_is in
     omega (arith, less, before, after)
 
 -- and at last none

@@ -1,9 +1,8 @@
 -- what a story tells, item by item
-use Rattle.std.proofs.Common.{◌≡◌, ℕ, Bool, true, false, List, [], ◌∷◌, ◌++◌, append_assoc, append-nil, refl, sym, ◌∙◌, ap}
+use Rattle.std.proofs.Common.{◌≡◌, ℕ, true, false, List, [], ◌∷◌, ◌++◌, append_assoc, append-nil, refl, sym, ◌∙◌, ap}
 use Rattle.std.specs.Prelude.{map, string_bytes}
 use Rattle.std.proofs.lemmas.List.{map-append}
 use Rattle.xbar_walk.specs.Items.{Item, Says, Tests, told_text}
-use Rattle.xbar_walk.specs.Lines.{one_more}
 use Rattle.xbar_walk.specs.Rows.{are_joined, leads_on, tests_text}
 use Rattle.xbar_walk.specs.Stories.{Adds, IsStory}
 use Rattle.xbar_walk.specs.declared.story.Story.{Story}
@@ -19,7 +18,7 @@ begins story telling same number text tests = record {
   text_is = λ later. sym (
       ap (λ (t : List ℕ). t ++ told_text telling (map Tests story.tests.items ++ later)) text
       ∙ ap (λ (kept : List Tested). told_text telling (map Tests kept ++ later)) tests
-  );
+      );
 }
 
 module _ (story next : Story) (same : next.telling ≡ story.telling) where
@@ -52,8 +51,8 @@ module _ (story next : Story) (same : next.telling ≡ story.telling) where
             ap (told_text telling) (append_assoc items (Tests tested ∷ []) later)
             ∙ was.text_is (Tests tested ∷ later)
             ∙ ap (λ (t : List ℕ). string_bytes story.text ++ t)
-              (text_cut telling kept (Tests tested) later (leads_by_items telling story.tests.items tested ∙ ap (λ (t : Telling). leads_on t story.tests.items tested) (sym was.telling_is) ∙ parted)
-              ∙ ap (λ (t : List ℕ). t ++ told_text telling (Tests tested ∷ later)) whole)
+            (text_cut telling kept (Tests tested) later (leads_by_items telling story.tests.items tested ∙ ap (λ (t : Telling). leads_on t story.tests.items tested) (sym was.telling_is) ∙ parted)
+            ∙ ap (λ (t : List ℕ). t ++ told_text telling (Tests tested ∷ later)) whole)
             ∙ sym (append_assoc (string_bytes story.text) (tests_text story.tests.items) (told_text telling (Tests tested ∷ later)))
             ∙ ap (λ (t : List ℕ). t ++ told_text telling (Tests tested ∷ later)) (sym text)
             ∙ ap (λ (these : List Tested). string_bytes next.text ++ told_text telling (map Tests these ++ later)) (sym tests);
@@ -73,7 +72,7 @@ module _ (story next : Story) (same : next.telling ≡ story.telling) where
             ap (told_text telling) (append_assoc items (Says lines ∷ []) later)
             ∙ was.text_is (Says lines ∷ later)
             ∙ ap (λ (t : List ℕ). string_bytes story.text ++ t)
-              (said_between telling kept lines later ∙ ap (λ (t : List ℕ). t ++ (lines ++ told_text telling later)) whole)
+            (said_between telling kept lines later ∙ ap (λ (t : List ℕ). t ++ (lines ++ told_text telling later)) whole)
             ∙ sym (append_assoc (string_bytes story.text) (tests_text story.tests.items) (lines ++ told_text telling later))
             ∙ sym (append_assoc (string_bytes story.text ++ tests_text story.tests.items) lines (told_text telling later))
             ∙ ap (λ (t : List ℕ). t ++ told_text telling later) (sym text)

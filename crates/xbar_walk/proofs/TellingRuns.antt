@@ -70,21 +70,20 @@ steps_are_run k zero w = refl
 steps_are_run k (suc count) w = steps_are_run k count (after_told_step k w)
 
 -- each item of its own, a test is told as any step
+one_text : (plan : Tables) (k : ℕ) (e : Exchange) (number : ℕ) (idle : Bool) (rest : List Made) → ((n : ℕ) → flat_map item_lines (made_items n rest) ≡ made_lines n rest)
+    → flat_map item_lines (made_items number ((if idle then [] else (record { marker = k; told = told_of plan k e; records = added_by plan k e } ∷ [])) ++ rest))
+    ≡ made_lines number ((if idle then [] else (record { marker = k; told = told_of plan k e; records = added_by plan k e } ∷ [])) ++ rest)
+unfolding made_items made_lines
+one_text plan k e number true rest later = later number
+one_text plan k e number false rest later =
+    ap (λ (lines : List ℕ). lines ++ flat_map item_lines (made_items (one_more number) rest)) (step_item_lines plan k e (one_more number))
+    ∙ ap (λ (lines : List ℕ). step_lines (one_more number) k (told_of plan k e) (added_by plan k e) ++ lines) (later (one_more number))
+
 made_text : (plan : Tables) (ks : List ℕ) (e : Exchange) (number : ℕ) → flat_map item_lines (made_items number (made_by plan ks e)) ≡ made_lines number (made_by plan ks e)
 unfolding made_by made_items made_lines
 made_text plan [] e number = refl
-made_text plan (k ∷ ks) e number = by (is_idle_in e k) where
-  rest : List Made
-  rest = made_by plan ks (after_step plan k e)
-
-  one : Made
-  one = record { marker = k; told = told_of plan k e; records = added_by plan k e }
-
-  by : (idle : Bool) → flat_map item_lines (made_items number ((if idle then [] else (one ∷ [])) ++ rest)) ≡ made_lines number ((if idle then [] else (one ∷ [])) ++ rest)
-  by true = made_text plan ks (after_step plan k e) number
-  by false =
-      ap (λ (lines : List ℕ). lines ++ flat_map item_lines (made_items (one_more number) rest)) (step_item_lines plan k e (one_more number))
-      ∙ ap (λ (lines : List ℕ). step_lines (one_more number) k one.told one.records ++ lines) (made_text plan ks (after_step plan k e) (one_more number))
+made_text plan (k ∷ ks) e number =
+    one_text plan k e number (is_idle_in e k) (made_by plan ks (after_step plan k e)) (λ n. made_text plan ks (after_step plan k e) n)
 
 pub run_text : (ks : List ℕ) (w : Walk) → told_text Each (told_run ks w).items ≡ told_text Each w.items ++ made_lines w.number (made_by w.office.plan ks w.office.exchange)
 run_text ks w =

@@ -1,20 +1,20 @@
 -- a test adds no record, so its line is all that there is to tell of it
 use Rattle.std.proofs.Common.{◌≡◌, ℕ, List, [], ◌++◌, append-nil, drop, length, inl, inr, refl, sym, ◌∙◌, ap, arith}
 use Rattle.std.proofs.lemmas.List.{drop_all}
-use Rattle.std.specs.Prelude.{Some, slice_get, slice_index}
+use Rattle.std.specs.Prelude.{slice_index}
 use Rattle.xbar_plan.specs.Tables.{Tables}
 use Rattle.xbar_office.specs.declared.reply.Record.{Record}
 use Rattle.xbar_jobs.specs.Attempt.{next_step}
 use Rattle.xbar_jobs.specs.OnWords.{step_answer, step_word}
 use Rattle.xbar_jobs.specs.declared.step.Step.{Step}
 use Rattle.xbar_jobs.specs.declared.step.Step.TheVariants as step
-use Rattle.xbar_core.specs.AtWork.{next_step_at, told_of as answer_told}
-use Rattle.xbar_core.specs.Exchange.{Exchange, Marker, Work, at_marker}
-use Rattle.xbar_core.specs.Moves.{added_record, after_step}
+use Rattle.xbar_core.specs.AtWork.{next_step_at}
+use Rattle.xbar_core.specs.Exchange.{Exchange, at_marker}
+use Rattle.xbar_core.specs.Moves.{added_record}
 use Rattle.xbar_core.specs.declared.event.Event.{Event}
 use Rattle.xbar_core.proofs.StepCases.{step_cases}
 use Rattle.xbar_walk.specs.Items.{item_lines, step_item}
-use Rattle.xbar_walk.specs.Lines.{card_lines, step_line, step_lines}
+use Rattle.xbar_walk.specs.Lines.{step_line, step_lines}
 use Rattle.xbar_walk.specs.Rows.{test_line}
 use Rattle.xbar_walk.specs.Walks.{added_by, next_of, told_of}
 use Rattle.xbar_walk.specs.Words.{step_words}

@@ -1,5 +1,5 @@
 -- What a walk tells, item by item, and the text that tells it.
-use Rattle.std.specs.Prelude.{◌≡◌, ℕ, ◌&&◌, ◌⊎◌, Bool, true, false, List, [], ◌∷◌, ◌++◌, flat_map, map, if◌then◌else◌}
+use Rattle.std.specs.Prelude.{◌≡◌, ℕ, ◌&&◌, ◌⊎◌, Bool, true, false, List, [], ◌∷◌, flat_map, map, if◌then◌else◌}
 use Rattle.xbar_office.specs.declared.reply.Record.{Record}
 use Rattle.xbar_jobs.specs.declared.step.Step.{Step}
 use Rattle.xbar_jobs.specs.declared.step.Step.TheVariants as step
@@ -55,9 +55,11 @@ unfoldable pub runs_of : Telling → List Item → List (List Item)
 runs_of telling [] = []
 runs_of telling (item ∷ later) = before_runs (joins_first telling item later) item (runs_of telling later)
 
--- a run is one item, or tests of a row, one after another
+-- a run is one item, or two or more tests of a row, one after another
 abbrev pub IsRun : Telling → List Item → Type 0
-IsRun telling run = ((item : Item) × (run ≡ item ∷ [])) ⊎ ((tests : List Tested) × (run ≡ map Tests tests) × (are_joined telling tests ≡ true))
+IsRun telling run =
+    ((item : Item) × (run ≡ item ∷ []))
+    ⊎ ((first : Tested) × (next : Tested) × (later : List Tested) × (run ≡ map Tests (first ∷ next ∷ later)) × (are_joined telling (first ∷ next ∷ later) ≡ true))
 
 abbrev pub tests_of : Item → List Tested
 tests_of (Tests tested) = tested ∷ []

@@ -1,5 +1,5 @@
 -- Tests that are told in one line: those of a row of switches, one after another.
-use Rattle.std.specs.Prelude.{ℕ, ◌+◌, ◌==◌, ◌&&◌, Bool, true, false, List, [], ◌∷◌, ◌++◌, codes, decimal, flat_map}
+use Rattle.std.specs.Prelude.{ℕ, ◌+◌, ◌==◌, ◌&&◌, Bool, true, false, List, [], ◌∷◌, codes, decimal, flat_map}
 use Rattle.std.specs.List.{concat}
 use Rattle.xbar_walk.specs.Lines.{in_four, marker_line}
 use Rattle.xbar_walk.specs.Places.{place_name, switch_name}
@@ -101,6 +101,7 @@ abbrev pub is_short : Telling → Bool
 is_short Each = false
 is_short Short = true
 
+-- whether the first of some tests, if there is any, goes on with a test
 abbrev pub leads : Telling → Tested → List Tested → Bool
 leads telling tested [] = true
 leads telling tested (next ∷ later) = is_short telling && goes_on tested next

@@ -15,11 +15,7 @@ use xbar_core::Exchange;
 /// As many steps as a marker has to its end at most that no other is in the way of.
 const MOST_STEPS_ALONE: u32 = 134;
 
-fn walk_end(
-    exchange: &mut Exchange<'_>,
-    marker: u32,
-    story: &mut Story,
-) -> Result<(), AllocError>
+fn walk_end(exchange: &mut Exchange<'_>, marker: u32, story: &mut Story) -> Result<(), AllocError>
     requires { marker < length exchange.old.exchange.markers }
     ensures { OnOk result
         (Tells (told_end marker) exchange.old story.old exchange.new story.new) }
@@ -44,11 +40,7 @@ fn walk_end_past_turn(
 }
 
 /// A marker that is to begin its job anew withdraws its request, and frees all that it holds.
-fn walk_back(
-    exchange: &mut Exchange<'_>,
-    marker: u32,
-    story: &mut Story,
-) -> Result<(), AllocError>
+fn walk_back(exchange: &mut Exchange<'_>, marker: u32, story: &mut Story) -> Result<(), AllocError>
     requires within { marker < length exchange.old.exchange.markers }
     requires backs { IsBackingAt (slice_get exchange.old.exchange.markers marker) }
     ensures { OnOk result (Tells (told_steps marker (frees_left exchange.old.exchange marker))
@@ -80,10 +72,7 @@ fn walk_give_back(
     Ok(())
 }
 
-fn walk_all_past_turn(
-    exchange: &mut Exchange<'_>,
-    story: &mut Story,
-) -> Result<(), AllocError>
+fn walk_all_past_turn(exchange: &mut Exchange<'_>, story: &mut Story) -> Result<(), AllocError>
     ensures { OnOk result (Tells
         (told_for_each told_end_past_turn (length exchange.old.exchange.markers))
         exchange.old story.old exchange.new story.new) }
@@ -94,10 +83,7 @@ fn walk_all_past_turn(
     Ok(())
 }
 
-fn walk_all_back(
-    exchange: &mut Exchange<'_>,
-    story: &mut Story,
-) -> Result<(), AllocError>
+fn walk_all_back(exchange: &mut Exchange<'_>, story: &mut Story) -> Result<(), AllocError>
     ensures { OnOk result (Tells
         (told_for_each told_give_back (length exchange.old.exchange.markers))
         exchange.old story.old exchange.new story.new) }
@@ -108,10 +94,7 @@ fn walk_all_back(
     Ok(())
 }
 
-fn walk_all_to_end(
-    exchange: &mut Exchange<'_>,
-    story: &mut Story,
-) -> Result<(), AllocError>
+fn walk_all_to_end(exchange: &mut Exchange<'_>, story: &mut Story) -> Result<(), AllocError>
     ensures { OnOk result (Tells
         (told_for_each told_end (length exchange.old.exchange.markers))
         exchange.old story.old exchange.new story.new) }
@@ -124,10 +107,7 @@ fn walk_all_to_end(
 
 /// Brings every job to its end, as `Exchange::settle` does. A line says that the rows are done, and
 /// each step is told as by `walk_step`. Where memory runs out, the office may have settled in part.
-pub fn walk_settling(
-    exchange: &mut Exchange<'_>,
-    story: &mut Story,
-) -> Result<(), AllocError>
+pub fn walk_settling(exchange: &mut Exchange<'_>, story: &mut Story) -> Result<(), AllocError>
     ensures settled { OnOk result (exchange.new
         ≡ record exchange.old { exchange = settled exchange.old.plan exchange.old.exchange }) }
     ensures told { OnOk result

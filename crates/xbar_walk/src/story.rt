@@ -79,12 +79,7 @@ impl Story {
 
     /// Adds that a marker is given a job. Where memory runs out, a part of the line may have been
     /// added, here as below.
-    pub fn add_assignment(
-        &mut self,
-        marker: u32,
-        job_no: u32,
-        job: &Job,
-    ) -> Result<(), AllocError>
+    pub fn add_assignment(&mut self, marker: u32, job_no: u32, job: &Job) -> Result<(), AllocError>
         ensures { OnOk result (Adds (Says (assignment_line marker job_no job.now))
             self.old self.new) }
     {
@@ -131,12 +126,15 @@ impl Story {
             self.old self.new) }
     {
         match told.step {
-            Step::Test(word) => self.add_test(Tested {
-                number,
-                marker,
-                place: Place::of(word),
-                word: told.found,
-            }),
+            Step::Test(word) => {
+                self.add_test(Tested {
+                    number,
+                    marker,
+                    place: Place::of(word),
+                    word: told.found,
+                })?;
+                Ok(())
+            }
             Step::Request(_)
             | Step::Seize(_, _)
             | Step::Withdraw(_)
@@ -144,7 +142,10 @@ impl Story {
             | Step::Close(_, _)
             | Step::Open(_, _)
             | Step::Free(_)
-            | Step::Finished => self.add_lines(number, marker, told, records),
+            | Step::Finished => {
+                self.add_lines(number, marker, told, records)?;
+                Ok(())
+            }
         }
     }
 

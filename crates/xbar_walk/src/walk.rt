@@ -63,7 +63,8 @@ pub fn walk_step(
     Ok(())
 }
 
-/// Has a marker make so many steps, as `Exchange::steps` does, each told as by `walk_step`. They end at once where it is idle.
+/// Has a marker make so many steps, as `Exchange::steps` does, each told as by `walk_step`. They end
+/// at once where it is idle.
 pub fn walk_steps(
     exchange: &mut Exchange<'_>,
     marker: u32,

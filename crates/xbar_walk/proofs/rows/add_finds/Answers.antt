@@ -1,4 +1,4 @@
-use Rattle.std.proofs.Common.{◌≡◌, [], ◌∷◌, ◌++◌, Bool, List, get_or, length, take, sym, ap, subst, ◌∙◌, arith}
+use Rattle.std.proofs.Common.{◌≡◌, [], ◌∷◌, ◌++◌, Bool, List, get_or, take, sym, ap, subst, ◌∙◌}
 use Rattle.std.specs.Prelude.{◌||◌, string_bytes}
 use Rattle.std.proofs.lemmas.List.{take_all, take_more}
 use Rattle.xbar_walk.specs.Rows.{row_found}

@@ -1,4 +1,4 @@
-use Rattle.std.proofs.Common.{◌≡◌, ◌<◌, length, refl, arith}
+use Rattle.std.proofs.Common.{◌≡◌, length, refl, arith}
 use Rattle.xbar_walk.specs.Walks.{told_end, told_for_each}
 use Rattle.xbar_walk.proofs.Reaching.{reached_has, reaches_all, reaches_none, reaches_on}
 use Rattle.xbar_walk.proofs.Settlings.{AreDone, all_done, none_done, one_done, end_size}

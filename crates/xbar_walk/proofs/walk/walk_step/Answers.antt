@@ -1,4 +1,4 @@
-use Rattle.std.proofs.Common.{true, false, length, refl, ◌∙◌, ap, arith}
+use Rattle.std.proofs.Common.{true, false, length, ◌∙◌, ap, arith}
 use Rattle.xbar_office.specs.declared.reply.Record.{Record}
 use Rattle.xbar_core.specs.Exchange.{OfPlan}
 use Rattle.xbar_walk.specs.Walks.{after_told_step, is_idle_in}

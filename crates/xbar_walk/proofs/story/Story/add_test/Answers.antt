@@ -1,7 +1,7 @@
 use Rattle.std.proofs.Common.{◌∷◌, ◌++◌, [], List, sym, ap, ◌∙◌}
 use Rattle.xbar_walk.specs.declared.tested.Tested.{Tested}
 use Rattle.xbar_walk.proofs.Joining.{kept_joined}
-use Rattle.xbar_walk.proofs.Storytelling.{test_begins, test_kept}
+use Rattle.xbar_walk.proofs.Storytelling.{test_begins}
 use Rattle.xbar_walk.proofs.story.Story.add_test.Goals as goal
 
 pub invariant_of-self : goal.invariant_of-self

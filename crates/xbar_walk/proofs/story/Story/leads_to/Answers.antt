@@ -1,4 +1,4 @@
-use Rattle.std.proofs.Common.{◌≤◌, List, length, ◌∙◌, ap}
+use Rattle.std.proofs.Common.{List, ◌∙◌, ap}
 use Rattle.xbar_walk.specs.Rows.{leads_on}
 use Rattle.xbar_walk.specs.declared.tested.Tested.{Tested}
 use Rattle.xbar_walk.proofs.Joining.{last_leads}

@@ -1,0 +1,10 @@
+use Rattle.std.proofs.Common.{◌∷◌, ◌++◌, [], ℕ, refl, ap, subst}
+use Rattle.xbar_walk.specs.Items.{step_item}
+use Rattle.xbar_walk.specs.Lines.{one_more}
+use Rattle.xbar_walk.specs.Stories.{IsStory}
+use Rattle.xbar_walk.proofs.story.Story.add_step.Goals as goal
+
+pub returns : goal.returns
+returns c telling number items was =
+    subst (λ (n : ℕ). IsStory telling c.add_item.new.self n (items ++ step_item n c.args.marker c.args.told.now c.args.records.now ∷ [])) (ap one_more was.number_is)
+    (c.in_ok-add_item.ensures telling (one_more c.args.self.now.number) items (record { telling_is = was.telling_is; number_is = refl; text_is = was.text_is }))
