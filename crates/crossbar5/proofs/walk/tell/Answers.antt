@@ -3,9 +3,15 @@ use Rattle.xbar_plan.specs.Tables.{Tables}
 use Rattle.xbar_core.specs.Settling.{settled}
 use Rattle.xbar_traffic.specs.declared.row.Row.{Row}
 use Rattle.crossbar5.specs.Run.{Leaves}
-use Rattle.crossbar5.proofs.RunRows.{end_refused, end_settled, row_done, row_refused, rows_done}
-use Rattle.crossbar5.proofs.Tellings.{all_told, refusal_told, row_told, settling_told}
+use Rattle.crossbar5.proofs.RunRows.{end_refused, end_settled, has_opened, row_done, row_refused, rows_done}
+use Rattle.crossbar5.proofs.Tellings.{all_told, none_told, refusal_told, row_told, settling_told}
 use Rattle.crossbar5.proofs.walk.tell.Goals as goal
+
+pub loop-row-init : goal.loop-row-init
+loop-row-init c = (
+  has_opened c.args.plan.now c.args.kinds.now c.args.traffic.now.rows.items c.args.traffic.now.fault c.in_ok-office.office c.in_ok-office.ensures,
+  none_told c.args.telling c.args.plan.now c.args.kinds.now c.args.traffic.now.rows.items c.in_ok-office.office c.new-story.result c.in_ok-office.ensures c.new-story.ensures,
+)
 
 pub returns-in-Some : goal.returns-in-Some
 returns-in-Some c =
