@@ -16,14 +16,14 @@ last_joins telling [] next = false
 last_joins telling (item ∷ []) next = joins telling item next
 last_joins telling (item ∷ more ∷ later) next = last_joins telling (more ∷ later) next
 
--- there is a first run
-some_run : (telling : Telling) (item : Item) (later : List Item) → (run : List Item) × (runs : List (List Item)) × (runs_of telling (item ∷ later) ≡ run ∷ runs)
+-- an item begins the first run
+begun_by : (telling : Telling) (item : Item) (later : List Item) → (rest : List Item) × (runs : List (List Item)) × (runs_of telling (item ∷ later) ≡ (item ∷ rest) ∷ runs)
 unfolding runs_of
-some_run telling item later = by (joins_first telling item later) (runs_of telling later) where
-  by : (joined : Bool) (runs : List (List Item)) → (run : List Item) × (rest : List (List Item)) × (before_runs joined item runs ≡ run ∷ rest)
-  by true [] = (item ∷ [], [], refl)
-  by true (run ∷ runs) = (item ∷ run, runs, refl)
-  by false runs = (item ∷ [], runs, refl)
+begun_by telling item later = by (joins_first telling item later) (runs_of telling later) where
+  by : (joined : Bool) (runs : List (List Item)) → (rest : List Item) × (more : List (List Item)) × (before_runs joined item runs ≡ (item ∷ rest) ∷ more)
+  by true [] = ([], [], refl)
+  by true (run ∷ runs) = (run, runs, refl)
+  by false runs = ([], runs, refl)
 
 -- runs that stand before others
 before_more : (joined : Bool) (item : Item) (run : List Item) (runs more : List (List Item)) → before_runs joined item ((run ∷ runs) ++ more) ≡ before_runs joined item (run ∷ runs) ++ more
@@ -37,10 +37,10 @@ unfolding runs_of
 cut telling [] next later parted = refl
 cut telling (item ∷ []) next later parted = ap (λ (b : Bool). before_runs b item (runs_of telling (next ∷ later))) parted
 cut telling (item ∷ more ∷ items) next later parted =
-    let first = some_run telling more items in
+    let first = begun_by telling more items in
     ap (before_runs (joins telling item more) item) (cut telling (more ∷ items) next later parted)
     ∙ ap (λ (runs : List (List Item)). before_runs (joins telling item more) item (runs ++ runs_of telling (next ∷ later))) first.2
-    ∙ before_more (joins telling item more) item first.0 first.1 (runs_of telling (next ∷ later))
+    ∙ before_more (joins telling item more) item (more ∷ first.0) first.1 (runs_of telling (next ∷ later))
     ∙ ap (λ (runs : List (List Item)). before_runs (joins telling item more) item runs ++ runs_of telling (next ∷ later)) (sym first.2)
 
 pub text_cut : (telling : Telling) (items : List Item) (next : Item) (later : List Item) → last_joins telling items next ≡ false
@@ -182,15 +182,6 @@ each_alone (item ∷ later) =
     ap (λ (joined : Bool). flat_map run_lines (before_runs joined item (runs_of Each later))) (each_parted item later)
     ∙ ap (λ (lines : List ℕ). lines ++ told_text Each later) (run_of_one item)
     ∙ ap (λ (lines : List ℕ). item_lines item ++ lines) (each_alone later)
-
--- what an item begins is a run
-begun_by : (telling : Telling) (item : Item) (later : List Item) → (rest : List Item) × (runs : List (List Item)) × (runs_of telling (item ∷ later) ≡ (item ∷ rest) ∷ runs)
-unfolding runs_of
-begun_by telling item later = by (joins_first telling item later) (runs_of telling later) where
-  by : (joined : Bool) (runs : List (List Item)) → (rest : List Item) × (more : List (List Item)) × (before_runs joined item runs ≡ (item ∷ rest) ∷ more)
-  by true [] = ([], [], refl)
-  by true (run ∷ runs) = (run, runs, refl)
-  by false runs = ([], runs, refl)
 
 -- a test before a run that goes on with it is a run with it
 joined_run : (telling : Telling) (before tested : Tested) (rest : List Item) → (is_short telling && goes_on before tested) ≡ true → IsRun telling (Tests tested ∷ rest) → IsRun telling (Tests before ∷ Tests tested ∷ rest)

@@ -113,8 +113,7 @@ impl Story {
         Ok(())
     }
 
-    /// Adds an item of this number.
-    #[tactic(auto, unfolding(crate::specs::Items::step_item))]
+    /// Adds the item of a step of this number.
     fn add_item(
         &mut self,
         number: u64,
