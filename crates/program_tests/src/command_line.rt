@@ -88,17 +88,18 @@ fn words_ask_for_a_replay(rt: HostRuntime) -> Result<(), Fail> {
 
 #[test]
 fn words_ask_for_a_walk(rt: HostRuntime) -> Result<(), Fail> {
-    for (line, file, letters) in [
-        ("crossbar5 walk", None, "XX"),
-        ("crossbar5 walk --markers DC", None, "DC"),
-        ("crossbar5 walk --plan a.toml", Some("a.toml"), "XX"),
-        ("crossbar5 walk --markers=X --plan=a", Some("a"), "X"),
+    for (line, file, letters, in_short) in [
+        ("crossbar5 walk", None, "XX", false),
+        ("crossbar5 walk --short", None, "XX", true),
+        ("crossbar5 walk --markers DC", None, "DC", false),
+        ("crossbar5 walk --short --plan a.toml", Some("a.toml"), "XX", true),
+        ("crossbar5 walk --markers=X --plan=a", Some("a"), "X", false),
     ] {
-        let Ask::Walk { plan, kinds } = asked(rt.alloc(), line)? else {
+        let Ask::Walk { plan, kinds, short } = asked(rt.alloc(), line)? else {
             return Err(Fail::from("another subcommand was asked for"));
         };
         let found = plan.as_ref().map(|name| name.as_str());
-        check_eq!(rt; (found, kinds.as_str()), (file, letters), "{line}");
+        check_eq!(rt; (found, kinds.as_str(), short), (file, letters, in_short), "{line}");
     }
     Ok(())
 }
@@ -254,6 +255,8 @@ const REFUSED: &[(&str, ErrorKind)] = &[
     ("crossbar5 page --text", ErrorKind::UnknownArgument),
     ("crossbar5 walk stray", ErrorKind::UnknownArgument),
     ("crossbar5 walk --text", ErrorKind::UnknownArgument),
+    ("crossbar5 replay --short", ErrorKind::UnknownArgument),
+    ("crossbar5 walk --short --short", ErrorKind::ArgumentConflict),
     ("crossbar5 walk --markers", ErrorKind::InvalidValue),
     ("crossbar5 replay --plan", ErrorKind::InvalidValue),
     ("crossbar5 replay --markers", ErrorKind::InvalidValue),
@@ -362,6 +365,10 @@ const TOLD: &[(&str, &str)] = &[
         "crossbar5 draw --help",
         "      --text         As text for a terminal of 80 columns\n",
     ),
+    (
+        "crossbar5 walk --help",
+        "      --short            Tests of a row of switches are told in one line\n",
+    ),
     ("crossbar5 --text", USAGE_OF_DRAW),
     ("crossbar5 --text", USAGE_OF_WALK),
     ("crossbar5 --plan a.toml", USAGE_OF_REPLAY),
@@ -372,7 +379,7 @@ const TOLD: &[(&str, &str)] = &[
 /// An option in the place of a subcommand is told where it belongs.
 const USAGE_OF_REPLAY: &str = "\n       crossbar5 replay [--plan <FILE>] [--markers <KINDS>]\n";
 
-const USAGE_OF_WALK: &str = "\n       crossbar5 walk [--plan <FILE>] [--markers <KINDS>]\n";
+const USAGE_OF_WALK: &str = "\n       crossbar5 walk [--plan <FILE>] [--markers <KINDS>] [--short]\n";
 
 const USAGE_OF_LIVE: &str = "
        crossbar5 live [--plan <FILE>] [--dial <N>] [--completing <N>]
@@ -398,7 +405,7 @@ fn options_are_told(rt: HostRuntime) -> Result<(), Fail> {
 const STARTS: &[&str] = &[
     "  printf 'J,0,1,D,3041\\nS,0,128,,\\n' | crossbar5 replay --markers XX\n",
     "of ten fields: turn, job number, marker, kind of job, line, dialled digits,\n",
-    "  crossbar5 walk < TRAFFIC   tells each step of a replay.\n",
+    "  crossbar5 walk < TRAFFIC   tells each step of a replay; walk --short tells\n  the tests of a row of switches in one line.\n",
     "  crossbar5 replay < TRAFFIC | crossbar5 audit   checks it.\n",
     "  crossbar5 replay < TRAFFIC | crossbar5 draw > office.svg   draws what it\n  leaves; draw --text draws it for a terminal.\n",
     "  crossbar5 replay < TRAFFIC | crossbar5 page > office.html   shows the\n  office after each turn, on one page for a browser.\n",
