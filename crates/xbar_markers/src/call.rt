@@ -5,7 +5,7 @@ use xbar_equip::{Dialled, Len};
 use xbar_office::Job;
 
 /// A call that somebody makes: a line that goes off hook, and the digits that are dialled then.
-#[derive(Clone, Copy, Debug, PartialEq, Eq)]
+#[derive(Clone, Copy)]
 pub struct Call {
     /// At most 9999. Its jobs have the numbers from `3 * call_no` on: to dial, to complete, to
     /// release.

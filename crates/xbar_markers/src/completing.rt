@@ -1,16 +1,16 @@
 //! What those workers do who complete calls and release them.
 
-ghost use Rattle.std.specs.Prelude.{◌≡◌, ◌+◌, ◌*◌, ◌++◌, [], All, OnOk, Ok};
+ghost use Rattle.std.specs.Prelude.{◌≡◌, ◌+◌, ◌*◌, ◌++◌, [], All, OnOk, Ok, false};
 ghost use Rattle.fair_queue.specs.Items.{SameItems};
 ghost use Rattle.fair_queue.specs.Tickets.{IsWhole};
 ghost use Rattle.xbar_core.specs.declared.kind.Kind.TheVariants.{Completing};
 ghost use Rattle.xbar_markers.specs.Calls.{HasDialTone, is_connected as is_connected_end};
 ghost use Rattle.xbar_markers.specs.Shares.{AreOpen, HasCompleted, HasServed, HasTickets, MayUse};
 ghost use Rattle.xbar_markers.specs.Work.{IsReady};
-ghost use Rattle.xbar_markers.specs.declared.completing.Next.TheVariants.{Nothing};
 
 use crate::call_records::CallRecords;
 use crate::gate::Gate;
+use crate::lists::put_behind;
 use crate::queues::Queues;
 use crate::share::Share;
 use crate::task::Task;
@@ -19,14 +19,6 @@ use std::alloc::AllocError;
 use std::sync::Wait;
 use xbar_fabric::{Desk, Fabric};
 use xbar_office::{End, Job, Record};
-
-/// What came from the second queue.
-#[derive(Clone, Copy, PartialEq)]
-enum Next {
-    Call,
-    Stop,
-    Nothing,
-}
 
 fn is_connected(complete: &Record) -> bool
     ensures { result ≡ is_connected_end complete.now.reply.end }
@@ -58,7 +50,8 @@ impl<G: Gate + Drop> Worker<Desk, G> {
         }
     }
 
-    /// Takes a task, waiting for one if so asked, and does it. Tells what came.
+    /// Takes a task, waiting for one if so asked, and does it. Tells whether to go on: not where none
+    /// came, nor, for who waits, once told to stop.
     fn complete_next<R: Wait>(
         &mut self,
         rt: &R,
@@ -66,7 +59,7 @@ impl<G: Gate + Drop> Worker<Desk, G> {
         queues: &Queues,
         share: &mut Share,
         wait: bool,
-    ) -> Result<Next, AllocError>
+    ) -> Result<bool, AllocError>
         requires open { AreOpen queues.now }
         requires may { MayUse share.old queues.now }
         requires ready { IsReady self.old.desk fabric.now }
@@ -78,7 +71,7 @@ impl<G: Gate + Drop> Worker<Desk, G> {
         ensures calls { share.new.calls ≡ share.old.calls }
         ensures kept { share.new.kept.items ≡ share.old.kept.items }
         ensures served { OnOk result (HasServed self.old.desk share.old self.new.desk share.new) }
-        ensures nothing { result ≡ Ok Nothing → IsWhole share.old.tasks →
+        ensures nothing { result ≡ Ok false → wait ≡ false → IsWhole share.old.tasks →
             SameItems share.new.tasks.put share.new.tasks.taken }
     {
         let task = if wait {
@@ -87,47 +80,23 @@ impl<G: Gate + Drop> Worker<Desk, G> {
             queues.tasks_out.try_take(rt, &mut share.tasks)
         };
         match task {
-            None => Ok(Next::Nothing),
-            Some(Task::Stop) => Ok(Next::Stop),
+            None => Ok(false),
+            Some(Task::Stop) => Ok(!wait),
             Some(Task::Complete(call)) => {
-                share.ended.push(self.complete(rt, fabric, call))?;
-                Ok(Next::Call)
+                put_behind(&mut share.ended, self.complete(rt, fabric, call))?;
+                Ok(true)
             }
         }
     }
 
-    /// Completes calls until it is told to stop.
+    /// Completes calls: waiting for them, until it is told to stop, or else while there are some.
     pub fn complete_all<R: Wait>(
         &mut self,
         rt: &R,
         fabric: &Fabric,
         queues: &Queues,
         share: &mut Share,
-    ) -> Result<(), AllocError>
-        requires open { AreOpen queues.now }
-        requires may { MayUse share.old queues.now }
-        requires ready { IsReady self.old.desk fabric.now }
-        requires kind { self.old.desk.kind ≡ Completing }
-        ensures ready { IsReady self.new.desk fabric.now }
-        ensures kind { self.new.desk.kind ≡ Completing }
-        ensures tickets { HasTickets share.old share.new }
-        ensures served { OnOk result (HasServed self.old.desk share.old self.new.desk share.new) }
-    {
-        for _ in rt.forever() {
-            if self.complete_next(rt, fabric, queues, share, true)? != Next::Call {
-                return Ok(());
-            }
-        }
-        unreachable!()
-    }
-
-    /// Completes the calls that are still in the second queue, and doesn't wait for more.
-    pub fn complete_left<R: Wait>(
-        &mut self,
-        rt: &R,
-        fabric: &Fabric,
-        queues: &Queues,
-        share: &mut Share,
+        wait: bool,
     ) -> Result<(), AllocError>
         requires open { AreOpen queues.now }
         requires may { MayUse share.old queues.now }
@@ -139,11 +108,11 @@ impl<G: Gate + Drop> Worker<Desk, G> {
         ensures calls { share.new.calls ≡ share.old.calls }
         ensures kept { share.new.kept.items ≡ share.old.kept.items }
         ensures served { OnOk result (HasServed self.old.desk share.old self.new.desk share.new) }
-        ensures nothing { OnOk result (IsWhole share.old.tasks →
+        ensures nothing { OnOk result (wait ≡ false → IsWhole share.old.tasks →
             SameItems share.new.tasks.put share.new.tasks.taken) }
     {
         for _ in rt.forever() {
-            if self.complete_next(rt, fabric, queues, share, false)? == Next::Nothing {
+            if !self.complete_next(rt, fabric, queues, share, wait)? {
                 return Ok(());
             }
         }
@@ -167,7 +136,7 @@ impl<G: Gate + Drop> Worker<Desk, G> {
         ensures served { OnOk result (HasServed self.old.desk share.old self.new.desk share.new) }
     {
         while let Some(call) = share.kept.pop() {
-            share.ended.push(self.complete(rt, fabric, call))?;
+            put_behind(&mut share.ended, self.complete(rt, fabric, call))?;
         }
         Ok(())
     }

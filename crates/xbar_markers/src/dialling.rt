@@ -12,6 +12,7 @@ ghost use Rattle.xbar_markers.specs.Work.{HasDone, IsReady};
 use crate::call::Call;
 use crate::call_records::CallRecords;
 use crate::gate::Gate;
+use crate::lists::put_behind;
 use crate::queues::Queues;
 use crate::share::Share;
 use crate::worker::Worker;
@@ -67,7 +68,7 @@ impl<G: Gate + Drop> Worker<Desk, G> {
         if let End::DialTone { .. } = call.dial.reply.end {
             share.pass_on(rt, queues, call)?;
         } else {
-            share.ended.push(call)?;
+            put_behind(&mut share.ended, call)?;
         }
         Ok(true)
     }

@@ -6,6 +6,7 @@ ghost use Rattle.fair_queue.specs.Items.{SameItems};
 ghost use Rattle.xbar_markers.specs.Calls.{records_of};
 
 use crate::call_records::CallRecords;
+use crate::lists::put_behind;
 use crate::worker::Worker;
 use std::alloc::{AllocError, Global};
 use xbar_fabric::Desk;
@@ -21,12 +22,12 @@ fn put_records(records: &mut Vec<Record>, call: CallRecords) -> Result<(), Alloc
         release,
         ..
     } = call;
-    records.push(dial)?;
+    put_behind(records, dial)?;
     if let Some(complete) = complete {
-        records.push(complete)?;
+        put_behind(records, complete)?;
     }
     if let Some(release) = release {
-        records.push(release)?;
+        put_behind(records, release)?;
     }
     Ok(())
 }
@@ -70,7 +71,7 @@ pub fn desks_of<G: Drop>(
 {
     let mut desks = Vec::with_capacity(alloc, workers.len())?;
     for worker in workers {
-        desks.push(worker.desk)?;
+        put_behind(&mut desks, worker.desk)?;
     }
     Ok(desks)
 }

@@ -24,7 +24,7 @@ pub enum Then {
 }
 
 /// What came of a job that was handed over.
-#[derive(Debug, Drop, PartialEq, Eq)]
+#[derive(Drop)]
 pub enum Handed {
     Finished(Record),
     /// The desk holds nothing, and is at the beginning of its job.

@@ -18,6 +18,7 @@ mod dialling;
 mod gate;
 mod gathering;
 mod handing;
+mod lists;
 mod queues;
 mod run_fault;
 mod running;

@@ -5,7 +5,7 @@ use std::alloc::AllocError;
 use thiserror::Error;
 
 /// Why calls can't be done.
-#[derive(Debug, Drop, Clone, Copy, PartialEq, Eq, Error)]
+#[derive(Debug, Drop, PartialEq, Error)]
 pub enum RunFault {
     /// There is at least one marker of each kind, and at most 48 in all.
     #[error("calls want a marker of each kind, and an office has at most 48")]

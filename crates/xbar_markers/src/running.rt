@@ -7,6 +7,7 @@ ghost use Rattle.fair_queue.specs.Items.{SameItems};
 ghost use Rattle.fair_queue.specs.Tickets.{IsWhole};
 ghost use Rattle.xbar_core.specs.declared.kind.Kind.TheVariants.{Completing, Dial};
 ghost use Rattle.xbar_fabric.specs.Meetings.{AreAllIdle};
+ghost use Rattle.xbar_fabric.specs.Views.{DeskView};
 ghost use Rattle.xbar_markers.specs.Calls.{AreServed, HasCallNo, HasDialTone};
 ghost use Rattle.xbar_markers.specs.Seats.{HaveServed, IsThere, desks_at};
 ghost use Rattle.xbar_markers.specs.Shares.{AreOpen, HasTickets, IsFilled, IsNewShare};
@@ -24,6 +25,7 @@ use crate::share::Share;
 use crate::stages::{Stages, run_stages};
 use crate::worker::Worker;
 use std::alloc::{AllocError, Global};
+use std::mem;
 use std::sync::Wait;
 use std::thread::Threads;
 use xbar_fabric::{Desk, Fabric, Kind};
@@ -106,7 +108,7 @@ fn complete_rest<G: Gate + Drop, R: Wait>(
     let Some(worker) = workers.get_mut(at) else {
         unreachable!()
     };
-    worker.complete_left(rt, fabric, queues, whole)?;
+    worker.complete_all(rt, fabric, queues, whole, false)?;
     worker.complete_kept(rt, fabric, whole)
 }
 
@@ -154,6 +156,72 @@ fn work_all<G: Gate + Send + Drop, R: Threads + Wait + Sync>(
     Ok((workers, whole, dialling_count))
 }
 
+/// Has what is still in the queues done by the first workers of each kind, and gives the records of
+/// all jobs, in turn order.
+fn finish<G: Gate + Drop, R: Wait>(
+    rt: &R,
+    alloc: Global,
+    fabric: &Fabric,
+    queues: &Queues,
+    workers: &mut Vec<Worker<Desk, G>>,
+    dialling: usize,
+    whole: &mut Share,
+) -> Result<Vec<Record>, AllocError>
+    requires open { AreOpen queues.now }
+    requires may { MayUse whole.old queues.now }
+    requires parts { IsWhole whole.old.calls × IsWhole whole.old.tasks }
+    requires first { (0 < dialling) × IsThere Dial fabric.now workers.old.items 0 }
+    requires worker { IsThere Completing fabric.now workers.old.items dialling }
+    requires share { (befores : List DeskView) ×
+        IsShareOf befores (desks_at workers.old.items) whole.old }
+    ensures desks { IfOk result (λ records. (befores : List DeskView) →
+        IsShareOf befores (desks_at workers.old.items) whole.old →
+        HaveWorked befores (desks_at workers.new.items) records.items) }
+    ensures served { IfOk result (λ records. (befores : List DeskView) →
+        IsShareOf befores (desks_at workers.old.items) whole.old →
+        AreServed (AreShort (desks_at workers.new.items)) whole.old.calls.put records.items) }
+    ensures order { IfOk result (λ records. IsNonDecreasingBy (λ r. r.turn) records.items) }
+{
+    dial_left(rt, fabric, queues, workers, whole)?;
+    complete_rest(rt, fabric, queues, workers, dialling, whole)?;
+    in_turn_order(alloc, mem::replace(&mut whole.ended, Vec::new(alloc)))
+}
+
+/// Does the calls in the first queue, and gives the desks back with the records of all jobs, in turn
+/// order.
+fn run_filled<G: Gate + Send + Drop, R: Threads + Wait + Sync>(
+    rt: &R,
+    alloc: Global,
+    fabric: &Fabric,
+    queues: &Queues,
+    whole: Share,
+    desks: Vec<Desk>,
+    gates: Vec<G>,
+) -> Result<(Vec<Desk>, Vec<Record>), AllocError>
+    requires open { AreOpen queues.now }
+    requires filled { (calls : List CallView) × IsFilled queues.now calls whole }
+    requires desks { AreStaff desks.items fabric.now }
+    requires gates { vec_len gates ≡ vec_len desks }
+    ensures desks { IfOk result (λ ran. HaveWorked desks.items ran.0.items ran.1.items) }
+    ensures served { IfOk result (λ ran.
+        AreServed (AreShort ran.0.items) whole.calls.put ran.1.items) }
+    ensures order { IfOk result (λ ran. IsNonDecreasingBy (λ r. r.turn) ran.1.items) }
+{
+    let (mut workers, mut whole, dialling) = work_all(
+        rt, alloc, fabric, queues, whole, desks, gates,
+    )?;
+    let records = finish(
+        rt,
+        alloc,
+        fabric,
+        queues,
+        &mut workers,
+        dialling,
+        &mut whole,
+    )?;
+    Ok((desks_of(alloc, workers)?, records))
+}
+
 /// Does all calls with all desks of a fabric, each on a thread of its own, and gives the desks back
 /// with the records of all jobs, in turn order. The first gate is for marker 0.
 ///
@@ -179,11 +247,5 @@ pub fn run_desks<G: Gate + Send + Drop, R: Threads + Wait + Sync>(
 {
     let (queues, mut whole) = Queues::open(alloc, calls.len(), desks.len())?;
     fill(rt, &queues, &mut whole, calls);
-    let (mut workers, mut whole, dialling) = work_all(
-        rt, alloc, fabric, &queues, whole, desks, gates,
-    )?;
-    dial_left(rt, fabric, &queues, &mut workers, &mut whole)?;
-    complete_rest(rt, fabric, &queues, &mut workers, dialling, &mut whole)?;
-    let records = in_turn_order(alloc, whole.ended)?;
-    Ok((desks_of(alloc, workers)?, records))
+    run_filled(rt, alloc, fabric, &queues, whole, desks, gates)
 }

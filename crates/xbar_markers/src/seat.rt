@@ -8,6 +8,7 @@ ghost use Rattle.xbar_markers.specs.Seats.{AreSeatsOf, IsSeat, desk_at};
 ghost use Rattle.xbar_markers.specs.Shares.{IsShareOf, MayUse};
 ghost use Rattle.xbar_markers.specs.Work.{IsReady};
 
+use crate::lists::put_behind;
 use crate::queues::Queues;
 use crate::share::Share;
 use crate::worker::Worker;
@@ -56,7 +57,7 @@ pub fn hire<G: Drop>(
             steps: 0,
         };
         let share = whole.cut(alloc, queues);
-        seats.push(Seat { worker, share })?;
+        put_behind(&mut seats, Seat { worker, share })?;
     }
     Ok(seats)
 }
@@ -84,7 +85,7 @@ pub fn gather<G: Drop>(
     for seat in seats {
         let Seat { worker, share } = seat;
         whole.join(queues, share)?;
-        workers.push(worker)?;
+        put_behind(workers, worker)?;
     }
     Ok(())
 }

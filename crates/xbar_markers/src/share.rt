@@ -5,6 +5,7 @@ ghost use Rattle.xbar_markers.specs.Shares.{HasPassedOn, HasTickets, MayUse};
 
 use crate::call::Call;
 use crate::call_records::CallRecords;
+use crate::lists::put_behind;
 use crate::queues::Queues;
 use crate::task::Task;
 use fair_queue::Ticket;
@@ -53,7 +54,7 @@ impl Share {
             .put(rt, &mut self.tasks, Task::Complete(call))
         {
             Ok(()) | Err(Task::Stop) => {}
-            Err(Task::Complete(call)) => self.kept.push(call)?,
+            Err(Task::Complete(call)) => put_behind(&mut self.kept, call)?,
         }
         Ok(())
     }

@@ -79,7 +79,7 @@ fn complete_at<G: Gate + Drop, R: Wait>(
     ensures { IfOk result (HasStayed Completing fabric.now queues.now seat) }
 {
     seat.worker
-        .complete_all(rt, fabric, queues, &mut seat.share)?;
+        .complete_all(rt, fabric, queues, &mut seat.share, true)?;
     Ok(seat)
 }
 

@@ -3,7 +3,7 @@ use crate::call_records::CallRecords;
 use fair_queue::Item;
 
 /// What goes to those who complete calls.
-#[derive(Debug, Drop)]
+#[derive(Drop)]
 pub enum Task {
     /// A call whose line has dial tone.
     Complete(CallRecords),

@@ -13,6 +13,6 @@ returns-clause-served g c =
     let there = slice_get_read workers (length workers) c.args.at worker refl (omega (arith, found, c.args.workers.now.ok.0)) c.in-Some.ensures.value in
     on_ok c.complete_kept.result
     (λ kept. served_at c.args.at workers worker c.complete_kept.new.self whole c.complete_kept.new.share there
-    (served_on worker.desk c.complete_left.new.self.desk c.complete_kept.new.self.desk whole c.complete_left.new.share c.complete_kept.new.share
-    c.in_ok-complete_left.ensures.served kept))
+    (served_on worker.desk c.complete_all.new.self.desk c.complete_kept.new.self.desk whole c.complete_all.new.share c.complete_kept.new.share
+    c.in_ok-complete_all.ensures.served kept))
     c.complete_kept.ensures.served

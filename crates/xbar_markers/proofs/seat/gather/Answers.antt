@@ -64,7 +64,7 @@ loop-seat-preserved g c =
           ∙ (ap (λ l. c.loop-seat.whole.calls.put ++ l) here.calls_put
           ∙ (append-nil c.loop-seat.whole.calls.put ∙ inv.put));
       workers =
-          c.in_ok-push.ensures.items
+          c.in_ok-put_behind.ensures
           ∙ (ap (λ l. l ++ seat.worker ∷ []) inv.workers
           ∙ (append_assoc c.args.workers.now.items workers (seat.worker ∷ [])
           ∙ ap (λ l. c.args.workers.now.items ++ l)

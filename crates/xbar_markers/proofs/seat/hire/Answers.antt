@@ -33,7 +33,7 @@ loop-desk-preserved g c =
       worker = record { desk = desk; gate = c.in-Some-next.gate; steps = 0 };
       share = share;
     } in
-    let pushed = c.in_ok-push.ensures.items in
+    let pushed = c.in_ok-put_behind.ensures in
     let one_more : length seen + 1 ≡ length (seen ++ desk ∷ []) =
     sym (length-append seen (desk ∷ [])) in
     record {

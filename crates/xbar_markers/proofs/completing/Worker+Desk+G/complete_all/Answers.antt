@@ -1,3 +1,4 @@
+use Rattle.std.proofs.Common.{◌∙◌, refl}
 use Rattle.xbar_markers.proofs.HeldTickets.{may_on, tickets_on, tickets_same}
 use Rattle.xbar_markers.proofs.Serving.{served_none, served_on}
 use Rattle.xbar_markers.proofs.completing.Worker+Desk+G.complete_all.Goals as goal
@@ -8,11 +9,13 @@ loop-init g c = record {
   ready = c.requires.ready;
   kind = c.requires.kind;
   tickets = tickets_same c.args.share.now;
+  same_kept = refl;
+  same_calls = refl;
   served = served_none c.args.self.now.desk c.args.share.now;
 }
 
-pub returns-then-ne-clause-served : goal.returns-then-ne-clause-served
-returns-then-ne-clause-served g c =
+pub returns-then-not-branch-clause-served : goal.returns-then-not-branch-clause-served
+returns-then-not-branch-clause-served g c =
     served_on c.args.self.now.desk c.loop.self.desk c.complete_next.new.self.desk c.args.share.now c.loop.share c.complete_next.new.share c.loop.invariant.served c.in_ok-complete_next.ensures.served
 
 pub loop-preserved : goal.loop-preserved
@@ -23,5 +26,7 @@ loop-preserved g c =
       ready = next.ready;
       kind = next.kind;
       tickets = tickets_on inv.tickets next.tickets;
+      same_kept = next.kept ∙ inv.same_kept;
+      same_calls = next.calls ∙ inv.same_calls;
       served = served_on c.args.self.now.desk c.loop.self.desk c.complete_next.new.self.desk c.args.share.now c.loop.share c.complete_next.new.share inv.served next.served;
     }

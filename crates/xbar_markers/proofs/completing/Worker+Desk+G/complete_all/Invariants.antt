@@ -10,5 +10,7 @@ invariant-loop g l = record {
   ready : IsReady l.self.desk l.fabric;
   kind : l.self.desk.kind ≡ Completing;
   tickets : HasTickets l.initial.share l.share;
+  same_kept : l.share.kept.items ≡ l.initial.share.kept.items;
+  same_calls : l.share.calls ≡ l.initial.share.calls;
   served : HasServed l.initial.self.desk l.initial.share l.self.desk l.share;
 }

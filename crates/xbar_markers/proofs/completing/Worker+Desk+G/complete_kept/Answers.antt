@@ -28,9 +28,9 @@ loop-call-preserved g c =
     let share = c.loop-call.share in
     let call = c.in-Some.call in
     let between = record share { kept = c.pop.new.self } in
-    let after = record share { kept = c.pop.new.self; ended = c.push.new.self } in
+    let after = record share { kept = c.pop.new.self; ended = c.put_behind.new.list } in
     let taken : HasTakenKept call share between = record { calls = refl; tasks = refl; kept = c.in-Some.ensures.items; ended = refl } in
-    let ended : HasEnded c.complete.result between after = record { calls = refl; tasks = refl; kept = refl; ended = c.in_ok-push.ensures.items } in
+    let ended : HasEnded c.complete.result between after = record { calls = refl; tasks = refl; kept = refl; ended = c.in_ok-put_behind.ensures } in
     let tone = left_tone call share between taken inv.kept in
     let worked = c.complete.ensures.worked in record {
       ready = ready_worked worked inv.ready;

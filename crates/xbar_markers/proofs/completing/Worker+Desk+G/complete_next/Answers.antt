@@ -28,9 +28,9 @@ returns-in-Some-Stop-clause-served g c =
     ] in
     stop_taken d share c.if-wait.share taken c.requires.ready.idle
 
-pub returns-in_ok-push-in-Some-Complete-clause-served :
-    goal.returns-in_ok-push-in-Some-Complete-clause-served
-returns-in_ok-push-in-Some-Complete-clause-served g c =
+pub returns-in_ok-put_behind-in-Some-Complete-clause-served :
+    goal.returns-in_ok-put_behind-in-Some-Complete-clause-served
+returns-in_ok-put_behind-in-Some-Complete-clause-served g c =
     let d = c.args.self.now.desk in
     let share = c.args.share.now in
     let call = c.in-Some-Complete.call in
@@ -45,6 +45,6 @@ returns-in_ok-push-in-Some-Complete-clause-served g c =
       | then-wait w ↦ one_sound w.take-task.result (task.Complete call) (sym w.task-is ∙ is) w.take-task.ensures.sound
       | else-wait w ↦ one_sound w.try_take-task.result (task.Complete call) (sym w.task-is ∙ is) w.try_take-task.ensures.sound
     ] in
-    task_completed d c.complete.new.self.desk call c.complete.result share c.if-wait.share record c.if-wait.share { ended = c.push.new.self } taken
-    record { calls = refl; tasks = refl; kept = refl; ended = c.in_ok-push-in-Some-Complete.ensures.items }
+    task_completed d c.complete.new.self.desk call c.complete.result share c.if-wait.share record c.if-wait.share { ended = c.put_behind.new.list } taken
+    record { calls = refl; tasks = refl; kept = refl; ended = c.in_ok-put_behind-in-Some-Complete.ensures }
     tone c.complete.ensures
