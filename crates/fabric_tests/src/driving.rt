@@ -1,5 +1,6 @@
 //! Desks at work, each on a thread that owns it.
 
+ghost use Rattle.std.specs.Prelude.{◌<◌};
 ghost use Rattle.xbar_fabric.specs.Views.{IsDeskOf};
 
 use rand::RngExt;
@@ -58,9 +59,17 @@ fn persist(fabric: &Fabric, shift: &mut Shift, patience: u32) -> bool
     false
 }
 
+/// A number below this one.
+fn some_number(numbers: &mut Pcg32, below: u32) -> u32
+    requires { 0 < below }
+    ensures { result < below }
+{
+    numbers.random_range(0..below)
+}
+
 /// One of twelve lines, on two frames: few enough for desks to meet.
 fn some_line(numbers: &mut Pcg32) -> Len {
-    match numbers.random_range(0..12u32) {
+    match some_number(numbers, 12) {
         0 => Len::new(3, 0, 21),
         1 => Len::new(3, 0, 27),
         2 => Len::new(1, 0, 0),
@@ -72,7 +81,7 @@ fn some_line(numbers: &mut Pcg32) -> Len {
 
 /// Digits that lead to another office, to a line of this one, or nowhere.
 fn some_digits(numbers: &mut Pcg32) -> Dialled {
-    match numbers.random_range(0..6u32) {
+    match some_number(numbers, 6) {
         0 | 1 => Dialled::new(5_551_234),
         2 => Dialled::new(2_340_001),
         3 => Dialled::new(2_340_003),
@@ -83,7 +92,7 @@ fn some_digits(numbers: &mut Pcg32) -> Dialled {
 
 fn some_job(numbers: &mut Pcg32) -> Job {
     let line = some_line(numbers);
-    match numbers.random_range(0..5u32) {
+    match some_number(numbers, 5) {
         0 | 1 => Job::Dial(line),
         2 => Job::Release(line),
         _ => Job::Complete(line, some_digits(numbers)),

@@ -1,14 +1,14 @@
 //! The end of desks' work: their records in the order of turns, and their words.
 
-ghost use Rattle.std.specs.Prelude.{◌≡◌, ◌+◌, All, IfOk, OnOk, vec_len};
+ghost use Rattle.std.specs.Prelude.{◌≡◌, ◌+◌, All, vec_len};
 ghost use Rattle.xbar_fabric.specs.Meetings.{AreAllIdle};
 ghost use Rattle.xbar_fabric.specs.Views.{IsDeskOf};
 ghost use Rattle.fabric_tests.specs.Shifts.{AreInOrder};
 
+use crate::checks::{check, check_equal};
 use crate::driving::Shift;
 use std::alloc::Global;
 use std::process::Abort;
-use std::test::Fail;
 use xbar_equip::Crosspoint;
 use xbar_fabric::{Desk, Fabric, shut_all};
 use xbar_match::{count_closed, count_paths, shape_at};
@@ -21,40 +21,50 @@ const CONNECTORS: usize = 416;
 
 const TURNS: usize = 452;
 
+const ALL_FREE: &[u64] = &[0; 36];
+
 /// One more idle desk, at the place of its marker.
-fn put_desk(_fabric: &Fabric, desks: &mut Vec<Desk>, desk: Desk) -> Result<(), Fail>
+fn put_desk(rt: &impl Abort, _fabric: &Fabric, desks: &mut Vec<Desk>, desk: Desk)
     requires desks { AreInOrder desks.old.items _fabric.now }
     requires desk { IsDeskOf desk _fabric.now }
-    ensures order { OnOk result (AreInOrder desks.new.items _fabric.now) }
-    ensures count { OnOk result (vec_len desks.new ≡ vec_len desks.old + 1) }
+    ensures order { AreInOrder desks.new.items _fabric.now }
+    ensures count { vec_len desks.new ≡ vec_len desks.old + 1 }
 {
-    if !desk.is_idle() {
-        return Err("each job has ended".into());
+    assert!(rt; desk.is_idle(), "each job has ended");
+    assert!(rt;
+        desk.marker() as usize == desks.len(),
+        "desks keep their places"
+    );
+    if desks.push(desk).is_err() {
+        panic!(rt; "there is memory for a desk");
     }
-    if desk.marker() as usize != desks.len() {
-        return Err("desks keep their places".into());
+}
+
+/// The records of a desk are put with the others.
+fn put_records(rt: &impl Abort, log: &mut Vec<Record>, records: &mut Vec<Record>) {
+    if records.append(log).is_err() {
+        panic!(rt; "there is memory for records");
     }
-    desks.push(desk)?;
-    Ok(())
 }
 
 /// The desks without their records, which it puts together.
 fn part(
+    rt: &impl Abort,
     alloc: Global,
     fabric: &Fabric,
     shifts: Vec<Shift>,
     records: &mut Vec<Record>,
-) -> Result<Vec<Desk>, Fail>
+) -> Vec<Desk>
     requires { All (λ shift. IsDeskOf shift.desk fabric.now) shifts.items }
-    ensures order { IfOk result (λ desks. AreInOrder desks.items fabric.now) }
-    ensures count { IfOk result (λ desks. vec_len desks ≡ vec_len shifts) }
+    ensures order { AreInOrder result.items fabric.now }
+    ensures count { vec_len result ≡ vec_len shifts }
 {
     let mut desks = Vec::new(alloc);
     for mut shift in shifts {
-        records.append(&mut shift.log)?;
-        put_desk(fabric, &mut desks, shift.desk)?;
+        put_records(rt, &mut shift.log, records);
+        put_desk(rt, fabric, &mut desks, shift.desk);
     }
-    Ok(desks)
+    desks
 }
 
 fn is_closed(words: &[u64], crosspoint: &Crosspoint) -> bool {
@@ -67,38 +77,79 @@ fn is_closed(words: &[u64], crosspoint: &Crosspoint) -> bool {
         && field(shape_at(number), *word, crosspoint.field) == crosspoint.value
 }
 
-/// The words have just the crosspoints closed that the office has, and no connector is held.
+fn are_closed(words: &[u64], crosspoints: &[Crosspoint]) -> bool {
+    for crosspoint in crosspoints {
+        if !is_closed(words, crosspoint) {
+            return false;
+        }
+    }
+    true
+}
+
+fn crosspoints_of(rt: &impl Abort, alloc: Global, office: &Office) -> Vec<Crosspoint> {
+    let Ok(crosspoints) = office.crosspoints(alloc) else {
+        panic!(rt; "there is memory for crosspoints");
+    };
+    crosspoints
+}
+
+/// The words have just these crosspoints closed, in so many paths, after so many turns, and no connector
+/// is held.
 fn check_words(
     rt: &impl Abort,
-    alloc: Global,
     words: &[u64],
-    office: &Office,
-    records: &[Record],
-) -> Result<(), Fail> {
-    assert_eq!(rt; words.len(), 453);
-    let crosspoints = office.crosspoints(alloc)?;
-    assert_eq!(rt; usize::from(count_paths(words)), office.paths().len());
-    assert_eq!(rt; usize::from(count_closed(words)), crosspoints.len());
-    assert!(rt;
-        crosspoints
-            .iter()
-            .all(|crosspoint| is_closed(words, crosspoint))
+    crosspoints: &[Crosspoint],
+    paths: usize,
+    turns: usize,
+) {
+    assert!(rt; words.len() == 453);
+    let counted = (
+        usize::from(count_paths(words)),
+        usize::from(count_closed(words)),
+        words[TURNS],
     );
-    assert!(rt; words[CONNECTORS..TURNS].iter().all(|word| *word == 0));
-    assert_eq!(rt; words[TURNS], records.len() as u64);
-    Ok(())
+    check_equal(
+        rt,
+        "paths, crosspoints and turns",
+        &counted,
+        &(paths, crosspoints.len(), turns as u64),
+    );
+    check(
+        rt,
+        "each crosspoint is closed",
+        are_closed(words, crosspoints),
+    );
+    check_equal(
+        rt,
+        "no connector is held",
+        &&words[CONNECTORS..TURNS],
+        &ALL_FREE,
+    );
 }
 
 /// The audit's office after the records that desks were told, which it puts in the order of turns.
 pub fn office_after<'p>(
+    rt: &impl Abort,
     alloc: Global,
     plan: &'p Plan,
     records: &mut Vec<Record>,
-) -> Result<Office<'p>, Fail> {
+) -> Office<'p> {
     records
         .as_mut_slice()
         .sort_unstable_by_key(|record| record.turn);
-    Ok(audit(alloc, plan, records.as_slice())?)
+    let Ok(office) = audit(alloc, plan, records.as_slice()) else {
+        panic!(rt; "the records are legal");
+    };
+    office
+}
+
+fn shut_desks(rt: &impl Abort, alloc: Global, fabric: Fabric, desks: Vec<Desk>) -> Vec<u64>
+    requires { AreAllIdle desks.items fabric }
+{
+    let Ok(words) = shut_all(alloc, fabric, desks) else {
+        panic!(rt; "there is memory for the words");
+    };
+    words
 }
 
 /// Desks that have ended their jobs are shut: their records are one legal history, and the words
@@ -109,16 +160,21 @@ pub fn check_end(
     plan: &Plan,
     fabric: Fabric,
     shifts: Vec<Shift>,
-) -> Result<Vec<Record>, Fail>
+) -> Vec<Record>
     requires shifts { All (λ shift. IsDeskOf shift.desk fabric) shifts.items }
     requires count { vec_len shifts ≡ fabric.count }
 {
     let mut records = Vec::new(alloc);
-    let desks = part(alloc, &fabric, shifts, &mut records)?;
-    let office = office_after(alloc, plan, &mut records)?;
-    let Ok(words) = shut_all(alloc, fabric, desks) else {
-        return Err("there is memory for the words".into());
-    };
-    check_words(rt, alloc, words.as_slice(), &office, records.as_slice())?;
-    Ok(records)
+    let desks = part(rt, alloc, &fabric, shifts, &mut records);
+    let words = shut_desks(rt, alloc, fabric, desks);
+    let office = office_after(rt, alloc, plan, &mut records);
+    let crosspoints = crosspoints_of(rt, alloc, &office);
+    check_words(
+        rt,
+        &words,
+        &crosspoints,
+        office.paths().len(),
+        records.len(),
+    );
+    records
 }

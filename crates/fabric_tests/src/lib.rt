@@ -2,10 +2,14 @@
 #![tactic(auto)]
 
 #[cfg(test)]
+mod checks;
+#[cfg(test)]
 mod driving;
 #[cfg(test)]
 mod ending;
 #[cfg(test)]
 mod many_desks;
+#[cfg(test)]
+mod opening;
 #[cfg(test)]
 mod two_desks;

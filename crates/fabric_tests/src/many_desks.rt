@@ -3,11 +3,12 @@
 ghost use Rattle.std.specs.Prelude.{◌≡◌, ◌≤◌, ◌<◌, All, IfOk, vec_len};
 ghost use Rattle.xbar_fabric.specs.Views.{AreDesksOf, IsDeskOf};
 
+use crate::checks::{check, check_equal};
 use crate::driving::{AtWork, Shift, do_jobs};
 use crate::ending::check_end;
+use crate::opening::{example, open_desks};
 use std::alloc::{AllocError, Global};
 use std::process::Abort;
-use std::test::Fail;
 use std::thread::{Threads, map_vec};
 use xbar_fabric::{Desk, Fabric, Kind};
 use xbar_office::{End, Record};
@@ -39,40 +40,100 @@ fn work_all<R: Threads + Sync>(
     )
 }
 
-/// How many of these jobs joined a line to what it dialled.
-fn connected(records: &[Record]) -> usize {
-    records
-        .iter()
-        .filter(|record| matches!(record.reply.end, End::Connected { .. }))
-        .count()
+/// Whether one of these jobs joined a line to what it dialled.
+fn is_one_connected(records: &[Record]) -> bool {
+    for record in records {
+        if let End::Connected { .. } = record.reply.end {
+            return true;
+        }
+    }
+    false
 }
 
-/// So many desks do so many jobs each, end them, and are shut.
-fn check_desks<R: Threads + Sync + Abort>(
-    rt: &R,
-    alloc: Global,
-    kinds: &[Kind],
+/// A desk of each of these kinds does so many jobs, which a generator with this seed chooses.
+struct Case {
+    name: &'static str,
+    kinds: &'static [Kind],
     jobs: u32,
     seed: u64,
-) -> Result<(), Fail> {
-    let plan = Plan::example(alloc)?;
-    let (fabric, desks) = Fabric::open(alloc, &plan, kinds)?;
-    let shifts = work_all(rt, alloc, &fabric, desks, jobs, seed)?;
-    let records = check_end(rt, alloc, &plan, fabric, shifts)?;
-    assert_eq!(rt; records.len() as u64, kinds.len() as u64 * u64::from(jobs));
-    assert!(rt; connected(records.as_slice()) > 0);
-    Ok(())
 }
 
-#[test]
-fn eight_threads_are_one_history(rt: HostRuntime) -> Result<(), Fail> {
-    for seed in 1..6 {
-        check_desks(&rt, rt.alloc(), &[Kind::Combined; 8], 300, seed)?;
+const CASES: &[Case] = &[
+    Case {
+        name: "eight desks, first seed",
+        kinds: EIGHT,
+        jobs: 300,
+        seed: 1,
+    },
+    Case {
+        name: "eight desks, second seed",
+        kinds: EIGHT,
+        jobs: 300,
+        seed: 2,
+    },
+    Case {
+        name: "eight desks, third seed",
+        kinds: EIGHT,
+        jobs: 300,
+        seed: 3,
+    },
+    Case {
+        name: "eight desks, fourth seed",
+        kinds: EIGHT,
+        jobs: 300,
+        seed: 4,
+    },
+    Case {
+        name: "eight desks, fifth seed",
+        kinds: EIGHT,
+        jobs: 300,
+        seed: 5,
+    },
+    Case {
+        name: "forty-eight desks",
+        kinds: &[Kind::Combined; 48],
+        jobs: 40,
+        seed: 7,
+    },
+];
+
+const EIGHT: &[Kind] = &[Kind::Combined; 8];
+
+/// The desks are at work on threads of their own.
+fn work_to_the_end<R: Threads + Sync + Abort>(
+    rt: &R,
+    alloc: Global,
+    fabric: &Fabric,
+    desks: Vec<Desk>,
+    case: &Case,
+) -> Vec<Shift>
+    requires { AreDesksOf desks.items fabric.now }
+    ensures desks { All (λ shift. IsDeskOf shift.desk fabric.now) result.items }
+    ensures count { vec_len result ≡ vec_len desks }
+{
+    let Ok(shifts) = work_all(rt, alloc, fabric, desks, case.jobs, case.seed) else {
+        panic!(rt; "there is memory for threads");
+    };
+    shifts
+}
+
+/// The desks end their jobs and are shut, and their records are one history.
+fn check_desks<R: Threads + Sync + Abort>(rt: &R, alloc: Global, plan: &Plan, case: &Case) {
+    let (fabric, desks) = open_desks(rt, alloc, plan, case.kinds);
+    let shifts = work_to_the_end(rt, alloc, &fabric, desks, case);
+    let records = check_end(rt, alloc, plan, fabric, shifts);
+    let wanted = (case.kinds.len() as u64).saturating_mul(u64::from(case.jobs));
+    check_equal(rt, case.name, &(records.len() as u64), &wanted);
+    check(rt, case.name, is_one_connected(&records));
+}
+
+fn check_all<R: Threads + Sync + Abort>(rt: &R, alloc: Global, plan: &Plan) {
+    for case in CASES {
+        check_desks(rt, alloc, plan, case);
     }
-    Ok(())
 }
 
 #[test]
-fn forty_eight_threads_are_one_history(rt: HostRuntime) -> Result<(), Fail> {
-    check_desks(&rt, rt.alloc(), &[Kind::Combined; 48], 40, 7)
+fn threads_are_one_history(rt: HostRuntime) {
+    check_all(&rt, rt.alloc(), &example(&rt, rt.alloc()));
 }

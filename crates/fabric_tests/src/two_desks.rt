@@ -1,30 +1,39 @@
 //! Two desks, each on a thread of its own, that dial at once.
 
-ghost use Rattle.std.specs.Prelude.{All, IfOk, IfSome};
+ghost use Rattle.std.specs.Prelude.{All, IfOk};
 ghost use Rattle.xbar_fabric.specs.Views.{AreDesksOf, IsDeskOf};
 
+use crate::checks::{check, check_equal};
 use crate::driving::{AtWork, MOST_STEPS_ALONE, Shift, run_on};
 use crate::ending::office_after;
+use crate::opening::{example, open_desks};
 use std::alloc::{AllocError, Global};
 use std::process::Abort;
-use std::test::Fail;
 use std::thread::{Threads, map_vec};
 use xbar_equip::Len;
 use xbar_fabric::{Desk, Fabric, Given, Kind, meet, shut};
 use xbar_match::{count_closed, count_paths};
-use xbar_office::Job;
+use xbar_office::{Job, Record};
 use xbar_plan::Plan;
 
 /// The last desk, with the job to dial from this line.
-fn last_dialling(alloc: Global, _fabric: &Fabric, desks: &mut Vec<Desk>, line: Len) -> Option<Shift>
+fn last_dialling(
+    rt: &impl Abort,
+    alloc: Global,
+    _fabric: &Fabric,
+    desks: &mut Vec<Desk>,
+    line: Len,
+) -> Shift
     requires { AreDesksOf desks.old.items _fabric.now }
     ensures rest { AreDesksOf desks.new.items _fabric.now }
-    ensures desk { IfSome result (λ shift. IsDeskOf shift.desk _fabric.now) }
+    ensures desk { IsDeskOf result.desk _fabric.now }
 {
-    let mut desk = desks.pop()?;
-    desk.assign(1, Job::Dial(line)).ok()?;
+    let Some(mut desk) = desks.pop() else {
+        panic!(rt; "there are two desks");
+    };
+    check_equal(rt, "a job", &desk.assign(1, Job::Dial(line)), &Ok(()));
     let log = Vec::new(alloc);
-    Some(AtWork { desk, log })
+    AtWork { desk, log }
 }
 
 fn run_for(fabric: &Fabric, mut shift: Shift, most: u32) -> Shift
@@ -56,12 +65,15 @@ fn on_threads<R: Threads + Sync>(
 }
 
 /// The last desk at work.
-fn last_at_work(_fabric: &Fabric, shifts: &mut Vec<Shift>) -> Option<Shift>
+fn last_at_work(rt: &impl Abort, _fabric: &Fabric, shifts: &mut Vec<Shift>) -> Shift
     requires { All (λ shift. IsDeskOf shift.desk _fabric.now) shifts.old.items }
     ensures rest { All (λ shift. IsDeskOf shift.desk _fabric.now) shifts.new.items }
-    ensures desk { IfSome result (λ shift. IsDeskOf shift.desk _fabric.now) }
+    ensures desk { IsDeskOf result.desk _fabric.now }
 {
-    shifts.pop()
+    let Some(shift) = shifts.pop() else {
+        panic!(rt; "both desks come back");
+    };
+    shift
 }
 
 /// A desk past its turn runs on to its end, any other gives back.
@@ -88,56 +100,102 @@ fn settle(fabric: &Fabric, zero: &mut Shift, one: &mut Shift) -> bool
     zero_ended && one_ended
 }
 
-/// Two threads make so many steps at most. Both lines have their registers in the end.
-fn check_two_dials<R: Threads + Sync + Abort>(
+/// Two desks that dial on threads of their own, for so many steps at most.
+fn dial_at_once<R: Threads + Sync + Abort>(
     rt: &R,
     alloc: Global,
-    plan: &Plan,
+    fabric: &Fabric,
+    mut desks: Vec<Desk>,
     most: u32,
-) -> Result<(), Fail> {
-    let (fabric, mut desks) = Fabric::open(alloc, plan, &[Kind::Combined; 2])?;
-    let desks = &mut desks;
-    let (Some(one), Some(zero)) = (
-        last_dialling(alloc, &fabric, desks, Len::new(1, 0, 0)),
-        last_dialling(alloc, &fabric, desks, Len::new(3, 0, 21)),
-    ) else {
-        return Err("there are two desks".into());
+) -> Vec<Shift>
+    requires { AreDesksOf desks.items fabric.now }
+    ensures { All (λ shift. IsDeskOf shift.desk fabric.now) result.items }
+{
+    let one = last_dialling(rt, alloc, fabric, &mut desks, Len::new(1, 0, 0));
+    let zero = last_dialling(rt, alloc, fabric, &mut desks, Len::new(3, 0, 21));
+    let Ok(shifts) = vec![in alloc; zero, one] else {
+        panic!(rt; "there is memory for two desks");
     };
-    let mut shifts = on_threads(rt, &fabric, vec![in alloc; zero, one]?, most)?;
-    let (Some(mut one), Some(mut zero)) = (
-        last_at_work(&fabric, &mut shifts),
-        last_at_work(&fabric, &mut shifts),
-    ) else {
-        return Err("both desks come back".into());
+    let Ok(shifts) = on_threads(rt, fabric, shifts, most) else {
+        panic!(rt; "there is memory for two threads");
     };
-    assert!(rt; settle(&fabric, &mut zero, &mut one));
-    meet(&fabric, &mut zero.desk, &mut one.desk);
-    let mut records = zero.log;
-    records.append(&mut one.log)?;
-    let office = office_after(alloc, plan, &mut records)?;
-    assert_eq!(rt; (records.len(), office.paths().len()), (2, 2));
-    let Ok(words) = shut(alloc, fabric, zero.desk) else {
-        return Err("there is memory for the words".into());
-    };
-    assert_eq!(rt; count_paths(words.as_slice()), 2);
-    assert_eq!(rt; count_closed(words.as_slice()), 8);
-    Ok(())
+    shifts
 }
 
-#[test]
-fn two_threads_dial_at_once(rt: HostRuntime) -> Result<(), Fail> {
-    let plan = Plan::example(rt.alloc())?;
+/// Both are shut, and their records put together.
+fn shut_both(
+    rt: &impl Abort,
+    alloc: Global,
+    fabric: Fabric,
+    zero: Shift,
+    one: Shift,
+) -> (Vec<u64>, Vec<Record>)
+    requires zero { IsDeskOf zero.desk fabric }
+    requires one { IsDeskOf one.desk fabric }
+{
+    let AtWork { mut desk, mut log } = zero;
+    let mut one = one;
+    meet(&fabric, &mut desk, &mut one.desk);
+    if log.append(&mut one.log).is_err() {
+        panic!(rt; "there is memory for records");
+    }
+    let Ok(words) = shut(alloc, fabric, desk) else {
+        panic!(rt; "there is memory for the words");
+    };
+    (words, log)
+}
+
+/// Both lines have their registers, by the records and by the words.
+fn check_dials(
+    rt: &impl Abort,
+    alloc: Global,
+    plan: &Plan,
+    words: &[u64],
+    records: &mut Vec<Record>,
+) {
+    let office = office_after(rt, alloc, plan, records);
+    assert!(rt; words.len() == 453);
+    let counted = (
+        records.len(),
+        office.paths().len(),
+        count_paths(words),
+        count_closed(words),
+    );
+    check_equal(
+        rt,
+        "records, paths, and closed crosspoints",
+        &counted,
+        &(2, 2, 2, 8),
+    );
+}
+
+/// Two threads make so many steps at most. Both lines have their registers in the end.
+fn check_two_dials<R: Threads + Sync + Abort>(rt: &R, alloc: Global, plan: &Plan, most: u32) {
+    let (fabric, desks) = open_desks(rt, alloc, plan, &[Kind::Combined; 2]);
+    let mut shifts = dial_at_once(rt, alloc, &fabric, desks, most);
+    let mut one = last_at_work(rt, &fabric, &mut shifts);
+    let mut zero = last_at_work(rt, &fabric, &mut shifts);
+    let are_ended = settle(&fabric, &mut zero, &mut one);
+    check(
+        rt,
+        format_args!("both jobs end, after {most} steps at most"),
+        are_ended,
+    );
+    let (words, mut records) = shut_both(rt, alloc, fabric, zero, one);
+    check_dials(rt, alloc, plan, &words, &mut records);
+}
+
+fn dial_all<R: Threads + Sync + Abort>(rt: &R, alloc: Global, plan: &Plan) {
     for _made in 0..200 {
-        check_two_dials(&rt, rt.alloc(), &plan, 10_000)?;
+        check_two_dials(rt, alloc, plan, 10_000);
     }
-    Ok(())
+    // What the threads leave undone after so many steps is ended.
+    for most in 0..30 {
+        check_two_dials(rt, alloc, plan, most);
+    }
 }
 
 #[test]
-fn what_two_threads_leave_undone_is_ended(rt: HostRuntime) -> Result<(), Fail> {
-    let plan = Plan::example(rt.alloc())?;
-    for most in 0..30 {
-        check_two_dials(&rt, rt.alloc(), &plan, most)?;
-    }
-    Ok(())
+fn two_threads_dial_at_once(rt: HostRuntime) {
+    dial_all(&rt, rt.alloc(), &example(&rt, rt.alloc()));
 }

@@ -5,9 +5,9 @@ use Rattle.xbar_fabric.specs.Views.{IsDeskOf}
 use Rattle.fabric_tests.proofs.ending.part.Goals as goal
 
 pub loop-shift-preserved : goal.loop-shift-preserved
-loop-shift-preserved c =
+loop-shift-preserved g c =
     let fabric = c.args.fabric.now in
-    let put = c.in_ok-put_desk.ensures in
+    let put = c.put_desk.ensures in
     let next = c.in-Some.ensures.steps in
     let count = c.loop-shift.invariant.left in
     let left = subst (All (λ shift. IsDeskOf shift.desk fabric)) next.0 c.loop-shift.invariant.rest in

@@ -6,7 +6,7 @@ use Rattle.fabric_tests.specs.Shifts.{AreInOrder}
 use Rattle.fabric_tests.proofs.ending.part.Given as goal
 
 abbrev pub invariant-loop-shift : goal.invariant-loop-shift
-invariant-loop-shift l = record {
+invariant-loop-shift g l = record {
   rest : All (λ shift. IsDeskOf shift.desk l.fabric) (into_iter_items l.shift-iterator);
   left : into_iter_len l.shift-iterator + vec_len l.desks ≡ vec_len l.fn.shifts;
   order : AreInOrder l.desks.items l.fabric;
