@@ -1,4 +1,5 @@
 pub mod Points
+pub mod ReadOnce
 pub mod EffectsLeft
 pub mod Idle
 pub mod Places

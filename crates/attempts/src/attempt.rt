@@ -1,9 +1,11 @@
-ghost use Rattle.std.specs.Prelude.{◌≡◌, ◌<◌, ◌^◌, ◌++◌, ◌∷◌, [], ℕ, None, Some, IfNone, IfSome, length};
+ghost use Rattle.std.specs.Prelude.{◌≡◌, ◌<◌, ◌^◌, ◌++◌, ◌∷◌, [], ℕ, None, Some, IfNone, IfSome, length, option_copied};
 ghost use Rattle.turns.specs.Attempt.{asked_in, rest_of, turn_in};
+ghost use Rattle.turns.specs.Script.{value_read};
 ghost use Rattle.desks.specs.Outcomes.{is_given_up as is_given_up_in};
 ghost use Rattle.attempts.specs.Counting.{count_in, counted, has_made_none};
 ghost use Rattle.attempts.specs.Standing.{NotSeizing, NotTesting, wanted_phase};
 
+use crate::readings::Readings;
 use crate::scripts::Scripts;
 use arrayvec::ArrayVec;
 use std::marker::Model;
@@ -11,11 +13,11 @@ use turns::{Phase, Reading, Wanted};
 
 /// What an actor knows of its job since it last began it. It has a fixed size, and holds no borrow
 /// of the setting.
-#[derive(Drop)]
+#[derive(Debug, Drop)]
 pub struct Attempt<L, J, D, P, const READINGS: usize, const HELD: usize> {
     pub(crate) job: J,
     pub(crate) point: P,
-    pub(crate) readings: ArrayVec<Reading<usize>, READINGS>,
+    pub(crate) readings: Readings<READINGS>,
     pub(crate) held: ArrayVec<L, HELD>,
     pub(crate) phase: Phase<L, usize>,
     pub(crate) decision: Option<D>,
@@ -43,7 +45,7 @@ impl<L, J, D, P, const READINGS: usize, const HELD: usize> Model
     ghost view = { λ a. record {
       job = a.job;
       point = a.point;
-      readings = a.readings.items;
+      readings = a.readings;
       held = a.held.items;
       phase = a.phase;
       decision = a.decision;
@@ -77,7 +79,7 @@ impl<
         Attempt {
             job,
             point,
-            readings: ArrayVec::new(),
+            readings: Readings::new(),
             held: ArrayVec::new(),
             phase: Phase::Requests(first),
             decision: None,
@@ -212,7 +214,8 @@ impl<
     }
 
     pub(crate) fn note(&mut self, reading: Reading<usize>)
-        requires { length self.old.readings < READINGS }
+        requires room { length self.old.readings < READINGS }
+        requires unread { value_read self.old.readings reading.word ≡ None }
         ensures { self.new ≡ record self.old { readings = self.old.readings ++ reading ∷ [] } }
     {
         self.readings.push(reading);
@@ -255,6 +258,20 @@ impl<
         if self.is_fresh() {
             self.count = 0;
         }
+    }
+
+    /// What it has decided, once it has.
+    pub fn decision(&self) -> Option<&D>
+        ensures { option_copied result ≡ self.now.decision }
+    {
+        self.decision.as_ref()
+    }
+
+    /// What its walks have found.
+    pub fn point(&self) -> &P
+        ensures { result.now ≡ self.now.point }
+    {
+        &self.point
     }
 
     pub fn job(&self) -> &J

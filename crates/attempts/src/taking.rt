@@ -1,9 +1,10 @@
 //! What an attempt makes of the answer to its next step.
 
-ghost use Rattle.std.specs.Prelude.{◌≡◌, ◌<◌, ◌^◌, ℕ};
+ghost use Rattle.std.specs.Prelude.{◌≡◌, ◌<◌, ◌^◌, ℕ, IfSome};
 ghost use Rattle.turns.specs.Attempt.{change, changed, freed, operated, rest_of, walks_on};
 ghost use Rattle.attempts.specs.Counting.{count_in, counted};
-ghost use Rattle.attempts.specs.Standing.{CanWalk, PointStandsIn, Stands, attempt_of};
+ghost use Rattle.attempts.specs.Points.{GoesOnTo};
+ghost use Rattle.attempts.specs.Standing.{AreScripts, CanWalk, KnowsIn, Stands, attempt_of};
 ghost use Rattle.attempts.specs.SystemWith.{system_with};
 
 use crate::attempt::AttemptOf;
@@ -11,7 +12,7 @@ use crate::scripts::Scripts;
 use crate::seen::Seen;
 use crate::showing::next_effect;
 use crate::starting::give_back;
-use turns::{Answer, Phase, Reading};
+use turns::{Answer, Phase, Reading, Wanted};
 
 /// Goes on through the job from where it stands, as far as it goes.
 fn walk_on<S: Scripts<READINGS, HELD>, const READINGS: usize, const HELD: usize>(
@@ -20,12 +21,11 @@ fn walk_on<S: Scripts<READINGS, HELD>, const READINGS: usize, const HELD: usize>
 )
     requires setting { S.IsSetting setting.now }
     requires walk { CanWalk S.Lock.eq S.reply_of S.effects_of (S.system setting.now)
-        (S.rest setting.now) program.old }
+        (S.Knows setting.now) program.old }
     ensures walk { let O = system_with S.Lock.eq S.reply_of S.effects_of (S.system setting.now) in
         attempt_of S.reply_of S.effects_of program.new
         ≡ walks_on O (attempt_of S.reply_of S.effects_of program.old) }
-    ensures point { let O = system_with S.Lock.eq S.reply_of S.effects_of (S.system setting.now) in
-        PointStandsIn O (S.rest setting.now) (attempt_of S.reply_of S.effects_of program.new)
+    ensures point { KnowsIn (S.Knows setting.now) (attempt_of S.reply_of S.effects_of program.new)
         program.new.point program.new.phase }
     ensures count { program.new.count ≡ program.old.count }
 {
@@ -36,6 +36,24 @@ fn walk_on<S: Scripts<READINGS, HELD>, const READINGS: usize, const HELD: usize>
     }
 }
 
+/// The word that it tests next once it has read this one, where that needs no walk.
+fn following<S: Scripts<READINGS, HELD>, const READINGS: usize, const HELD: usize>(
+    program: &AttemptOf<S, READINGS, HELD>,
+    setting: &S::Setting,
+    word: usize,
+) -> Option<usize>
+    requires setting { S.IsSetting setting.now }
+    requires stands { Stands S.Lock.eq S.reply_of S.effects_of (S.system setting.now)
+        (S.Knows setting.now) READINGS HELD program.now }
+    requires tests { program.now.phase ≡ Phase.Tests word }
+    ensures { IfSome result
+        (GoesOnTo S.Lock.eq (record { held = program.now.held; readings = program.now.readings })
+        ((S.system setting.now).script program.now.job) word) }
+{
+    let seen = Seen::new(program.held.as_slice(), program.readings.as_slice());
+    S::following(setting, &program.job, &program.point, &seen, word)
+}
+
 /// Its request stands.
 fn take_request<S: Scripts<READINGS, HELD>, const READINGS: usize, const HELD: usize>(
     program: &mut AttemptOf<S, READINGS, HELD>,
@@ -43,13 +61,12 @@ fn take_request<S: Scripts<READINGS, HELD>, const READINGS: usize, const HELD: u
     word: u64,
 )
     requires stands { Stands S.Lock.eq S.reply_of S.effects_of (S.system setting.now)
-        (S.rest setting.now) READINGS HELD program.old }
+        (S.Knows setting.now) READINGS HELD program.old }
     ensures change { let O = system_with S.Lock.eq S.reply_of S.effects_of (S.system setting.now) in
         attempt_of S.reply_of S.effects_of program.new
         ≡ changed O (attempt_of S.reply_of S.effects_of program.old)
         program.old.phase (Answer.Asked word) }
-    ensures point { let O = system_with S.Lock.eq S.reply_of S.effects_of (S.system setting.now) in
-        PointStandsIn O (S.rest setting.now) (attempt_of S.reply_of S.effects_of program.new)
+    ensures point { KnowsIn (S.Knows setting.now) (attempt_of S.reply_of S.effects_of program.new)
         program.new.point program.new.phase }
     ensures count { program.new.count ≡ program.old.count }
 {
@@ -72,13 +89,12 @@ fn take_again<S: Scripts<READINGS, HELD>, const READINGS: usize, const HELD: usi
     word: u64,
 )
     requires stands { Stands S.Lock.eq S.reply_of S.effects_of (S.system setting.now)
-        (S.rest setting.now) READINGS HELD program.old }
+        (S.Knows setting.now) READINGS HELD program.old }
     ensures change { let O = system_with S.Lock.eq S.reply_of S.effects_of (S.system setting.now) in
         attempt_of S.reply_of S.effects_of program.new
         ≡ changed O (attempt_of S.reply_of S.effects_of program.old)
         program.old.phase (Answer.Again word) }
-    ensures point { let O = system_with S.Lock.eq S.reply_of S.effects_of (S.system setting.now) in
-        PointStandsIn O (S.rest setting.now) (attempt_of S.reply_of S.effects_of program.new)
+    ensures point { KnowsIn (S.Knows setting.now) (attempt_of S.reply_of S.effects_of program.new)
         program.new.point program.new.phase }
     ensures count { program.new.count ≡ program.old.count }
 {
@@ -100,7 +116,7 @@ fn take_refusal<S: Scripts<READINGS, HELD>, const READINGS: usize, const HELD: u
     setting: &S::Setting,
 )
     requires stands { Stands S.Lock.eq S.reply_of S.effects_of (S.system setting.now)
-        (S.rest setting.now) READINGS HELD program.old }
+        (S.Knows setting.now) READINGS HELD program.old }
     ensures held { let O = system_with S.Lock.eq S.reply_of S.effects_of (S.system setting.now) in
         (holder : ℕ) → attempt_of S.reply_of S.effects_of program.new
         ≡ changed O (attempt_of S.reply_of S.effects_of program.old)
@@ -109,8 +125,7 @@ fn take_refusal<S: Scripts<READINGS, HELD>, const READINGS: usize, const HELD: u
         (other : ℕ) → attempt_of S.reply_of S.effects_of program.new
         ≡ changed O (attempt_of S.reply_of S.effects_of program.old)
         program.old.phase (Answer.Preferred other) }
-    ensures point { let O = system_with S.Lock.eq S.reply_of S.effects_of (S.system setting.now) in
-        PointStandsIn O (S.rest setting.now) (attempt_of S.reply_of S.effects_of program.new)
+    ensures point { KnowsIn (S.Knows setting.now) (attempt_of S.reply_of S.effects_of program.new)
         program.new.point program.new.phase }
     ensures count { program.new.count ≡ program.old.count }
 {
@@ -125,14 +140,15 @@ fn take_lock<S: Scripts<READINGS, HELD>, const READINGS: usize, const HELD: usiz
     setting: &S::Setting,
 )
     requires setting { S.IsSetting setting.now }
+    requires scripts { AreScripts S.Lock.eq S.reply_of S.effects_of (S.system setting.now)
+        (S.Knows setting.now) READINGS HELD }
     requires stands { Stands S.Lock.eq S.reply_of S.effects_of (S.system setting.now)
-        (S.rest setting.now) READINGS HELD program.old }
+        (S.Knows setting.now) READINGS HELD program.old }
     ensures change { let O = system_with S.Lock.eq S.reply_of S.effects_of (S.system setting.now) in
         attempt_of S.reply_of S.effects_of program.new
         ≡ changed O (attempt_of S.reply_of S.effects_of program.old)
         program.old.phase Answer.Seized }
-    ensures point { let O = system_with S.Lock.eq S.reply_of S.effects_of (S.system setting.now) in
-        PointStandsIn O (S.rest setting.now) (attempt_of S.reply_of S.effects_of program.new)
+    ensures point { KnowsIn (S.Knows setting.now) (attempt_of S.reply_of S.effects_of program.new)
         program.new.point program.new.phase }
     ensures count { program.new.count ≡ program.old.count }
 {
@@ -149,21 +165,26 @@ fn take_reading<S: Scripts<READINGS, HELD>, const READINGS: usize, const HELD: u
     value: u64,
 )
     requires setting { S.IsSetting setting.now }
+    requires scripts { AreScripts S.Lock.eq S.reply_of S.effects_of (S.system setting.now)
+        (S.Knows setting.now) READINGS HELD }
     requires stands { Stands S.Lock.eq S.reply_of S.effects_of (S.system setting.now)
-        (S.rest setting.now) READINGS HELD program.old }
+        (S.Knows setting.now) READINGS HELD program.old }
     ensures change { let O = system_with S.Lock.eq S.reply_of S.effects_of (S.system setting.now) in
         attempt_of S.reply_of S.effects_of program.new
         ≡ changed O (attempt_of S.reply_of S.effects_of program.old)
         program.old.phase (Answer.Value value) }
     ensures fits { value < 2 ^ 64 }
-    ensures point { let O = system_with S.Lock.eq S.reply_of S.effects_of (S.system setting.now) in
-        PointStandsIn O (S.rest setting.now) (attempt_of S.reply_of S.effects_of program.new)
+    ensures point { KnowsIn (S.Knows setting.now) (attempt_of S.reply_of S.effects_of program.new)
         program.new.point program.new.phase }
     ensures count { program.new.count ≡ program.old.count }
 {
     if let Some(word) = program.to_test() {
+        let following = following::<S, READINGS, HELD>(program, setting, word);
         program.note(Reading { word, value });
-        walk_on::<S, READINGS, HELD>(program, setting);
+        match following {
+            Some(next) => program.want(Wanted::Test(next)),
+            None => walk_on::<S, READINGS, HELD>(program, setting),
+        }
     }
 }
 
@@ -174,13 +195,12 @@ fn take_turn<S: Scripts<READINGS, HELD>, const READINGS: usize, const HELD: usiz
     number: u64,
 )
     requires stands { Stands S.Lock.eq S.reply_of S.effects_of (S.system setting.now)
-        (S.rest setting.now) READINGS HELD program.old }
+        (S.Knows setting.now) READINGS HELD program.old }
     ensures change { let O = system_with S.Lock.eq S.reply_of S.effects_of (S.system setting.now) in
         attempt_of S.reply_of S.effects_of program.new
         ≡ changed O (attempt_of S.reply_of S.effects_of program.old)
         program.old.phase (Answer.Turn number) }
-    ensures point { let O = system_with S.Lock.eq S.reply_of S.effects_of (S.system setting.now) in
-        PointStandsIn O (S.rest setting.now) (attempt_of S.reply_of S.effects_of program.new)
+    ensures point { KnowsIn (S.Knows setting.now) (attempt_of S.reply_of S.effects_of program.new)
         program.new.point program.new.phase }
     ensures count { program.new.count ≡ program.old.count }
 {
@@ -215,18 +235,18 @@ fn operate<S: Scripts<READINGS, HELD>, const READINGS: usize, const HELD: usize>
 /// What was held first is freed, and the rest is still to be given back.
 fn free_on<S: Scripts<READINGS, HELD>, const READINGS: usize, const HELD: usize>(
     program: &mut AttemptOf<S, READINGS, HELD>,
-    setting: &S::Setting,
 )
-    ensures frees { let O = system_with S.Lock.eq S.reply_of S.effects_of (S.system setting.now) in
+    ensures frees { (setting : S.Setting) →
+        let O = system_with S.Lock.eq S.reply_of S.effects_of (S.system setting) in
         attempt_of S.reply_of S.effects_of program.new
         ≡ freed O (attempt_of S.reply_of S.effects_of program.old) (rest_of program.old.held) }
-    ensures point { let O = system_with S.Lock.eq S.reply_of S.effects_of (S.system setting.now) in
-        PointStandsIn O (S.rest setting.now) (attempt_of S.reply_of S.effects_of program.new)
+    ensures point { (setting : S.Setting) →
+        KnowsIn (S.Knows setting) (attempt_of S.reply_of S.effects_of program.new)
         program.new.point program.new.phase }
     ensures count { program.new.count ≡ program.old.count }
 {
     program.free_first();
-    give_back::<S, READINGS, HELD>(program, setting);
+    give_back::<S, READINGS, HELD>(program);
 }
 
 /// A step was made of which there is no more to tell.
@@ -235,19 +255,18 @@ fn take_done<S: Scripts<READINGS, HELD>, const READINGS: usize, const HELD: usiz
     setting: &S::Setting,
 )
     requires stands { Stands S.Lock.eq S.reply_of S.effects_of (S.system setting.now)
-        (S.rest setting.now) READINGS HELD program.old }
+        (S.Knows setting.now) READINGS HELD program.old }
     ensures change { let O = system_with S.Lock.eq S.reply_of S.effects_of (S.system setting.now) in
         attempt_of S.reply_of S.effects_of program.new
         ≡ changed O (attempt_of S.reply_of S.effects_of program.old) program.old.phase Answer.Done }
-    ensures point { let O = system_with S.Lock.eq S.reply_of S.effects_of (S.system setting.now) in
-        PointStandsIn O (S.rest setting.now) (attempt_of S.reply_of S.effects_of program.new)
+    ensures point { KnowsIn (S.Knows setting.now) (attempt_of S.reply_of S.effects_of program.new)
         program.new.point program.new.phase }
     ensures count { program.new.count ≡ program.old.count }
 {
     let phase = program.phase;
     match phase {
-        Phase::Withdraws(_) => give_back::<S, READINGS, HELD>(program, setting),
-        Phase::GivesBack => free_on::<S, READINGS, HELD>(program, setting),
+        Phase::Withdraws(_) => give_back::<S, READINGS, HELD>(program),
+        Phase::GivesBack => free_on::<S, READINGS, HELD>(program),
         Phase::Operates(_) => operate::<S, READINGS, HELD>(program),
         Phase::Requests(_) | Phase::Seizes(_, _) | Phase::Tests(_) | Phase::Turns => {}
     }
@@ -259,13 +278,15 @@ fn take_answer<S: Scripts<READINGS, HELD>, const READINGS: usize, const HELD: us
     answer: Answer,
 )
     requires setting { S.IsSetting setting.now }
+    requires scripts { AreScripts S.Lock.eq S.reply_of S.effects_of (S.system setting.now)
+        (S.Knows setting.now) READINGS HELD }
     requires stands { Stands S.Lock.eq S.reply_of S.effects_of (S.system setting.now)
-        (S.rest setting.now) READINGS HELD program.old }
+        (S.Knows setting.now) READINGS HELD program.old }
     ensures change { let O = system_with S.Lock.eq S.reply_of S.effects_of (S.system setting.now) in
         attempt_of S.reply_of S.effects_of program.new
         ≡ change O (attempt_of S.reply_of S.effects_of program.old) answer }
     ensures stands { Stands S.Lock.eq S.reply_of S.effects_of (S.system setting.now)
-        (S.rest setting.now) READINGS HELD program.new }
+        (S.Knows setting.now) READINGS HELD program.new }
     ensures count { program.new.count ≡ program.old.count }
 {
     match answer {
@@ -287,15 +308,17 @@ pub fn take<S: Scripts<READINGS, HELD>, const READINGS: usize, const HELD: usize
     answer: Answer,
 )
     requires setting { S.IsSetting setting.now }
+    requires scripts { AreScripts S.Lock.eq S.reply_of S.effects_of (S.system setting.now)
+        (S.Knows setting.now) READINGS HELD }
     requires stands { Stands S.Lock.eq S.reply_of S.effects_of (S.system setting.now)
-        (S.rest setting.now) READINGS HELD program.old }
+        (S.Knows setting.now) READINGS HELD program.old }
     ensures change { let O = system_with S.Lock.eq S.reply_of S.effects_of (S.system setting.now) in
         attempt_of S.reply_of S.effects_of program.new
         ≡ change O (attempt_of S.reply_of S.effects_of program.old) answer }
     ensures count { program.new.count
         ≡ count_in program.new.phase program.new.held (counted program.old.count) }
     ensures stands { Stands S.Lock.eq S.reply_of S.effects_of (S.system setting.now)
-        (S.rest setting.now) READINGS HELD program.new }
+        (S.Knows setting.now) READINGS HELD program.new }
 {
     take_answer::<S, READINGS, HELD>(program, setting, answer);
     program.count_step();

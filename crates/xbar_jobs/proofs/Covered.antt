@@ -58,6 +58,9 @@ walk_range plan seen job found laws range read is =
     subst (λ (r : Result Decision Wanted). MatchResult r (λ decision. AreEffects (effects decision) × (length (effects decision) ≤ most_effects)) (λ wanted. IsWanted wanted)) (sym is)
     (in_office plan seen.held (walk seen (script plan job)) (walk_well_covered plan seen job laws range read))
 
+pub decision_range : (plan : Tables) (seen : Seen) (job : Job) (decision : Decision) → IsLawful plan → IsJob job → AreReadWords seen.readings → Ok decision ≡ walk seen (script plan job) → AreEffects (effects decision) × (length (effects decision) ≤ most_effects)
+decision_range plan seen job decision laws range read is = walk_range plan seen job (Ok decision) laws range read is
+
 -- run alone on words of 64 bits, a job comes to effects of the office
 pub run_range : (plan : Tables) (words : List ℕ) (job : Job) → IsLawful plan → IsJob job → AreWords words →
     AreEffects (effects (run words (script plan job)))

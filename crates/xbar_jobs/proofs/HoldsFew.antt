@@ -1,5 +1,5 @@
 -- what an attempt holds is few, whatever comes of its steps
-use Rattle.std.proofs.Common.{◌≡◌, ℕ, ◌-◌, ◌<◌, ◌≤◌, Bool, true, false, List, [], ◌∷◌, ◌++◌, length, length-append, refl, sym, ◌∙◌, ap, subst, arith}
+use Rattle.std.proofs.Common.{◌≡◌, ℕ, ◌-◌, ◌≤◌, Bool, true, false, List, [], ◌∷◌, ◌++◌, length, inl, inr, refl, sym, ◌∙◌, ap, subst, arith}
 use Rattle.std.specs.Prelude.{Option, Some, None, Result, Ok, Err}
 use Rattle.turns.specs.Seen.{AreReadWords}
 use Rattle.turns.specs.Attempt.{StandsIn, begin_with, change, changed, come_to, forgotten, freed, goes_on, operated, rest_of, restarted, restarted_in, seen_of}
@@ -10,7 +10,7 @@ use Rattle.turns.specs.declared.phase.Phase.TheVariants as phases
 use Rattle.turns.specs.declared.phase.Phase.TheVariants.{Requests, Turns, Withdraws, GivesBack, Operates}
 use Rattle.turns.specs.declared.reading.Reading.{Reading}
 use Rattle.turns.specs.declared.wanted.Wanted.TheVariants.{Seize, Test}
-use Rattle.turns.proofs.Lists.{distinct_more}
+use Rattle.turns.proofs.Lists.{distinct_more, in_more}
 use Rattle.turns.proofs.Room.{Grows, held_before, held_last, left_again, read_before}
 use Rattle.turns.proofs.Standing.{wanted_lock}
 use Rattle.xbar_equip.specs.Conn.{IsConn, conn_eq}
@@ -25,15 +25,21 @@ use Rattle.xbar_jobs.specs.Jobs.{first_conn, script}
 use Rattle.xbar_jobs.specs.Office.{office}
 use Rattle.xbar_jobs.specs.Others.{SeizesOthers, others}
 use Rattle.xbar_jobs.specs.Script.{Script, Seen, Wanted}
-use Rattle.xbar_jobs.specs.Standing.{HoldsFew, HoldsFewIn, most_held, most_others}
+use Rattle.xbar_jobs.specs.Standing.{AreConns, HoldsFew, HoldsFewIn, most_held, most_others}
 use Rattle.xbar_jobs.specs.declared.decision.Decision.{Decision}
 use Rattle.xbar_jobs.specs.declared.effect.Effect.{Effect}
-use Rattle.xbar_jobs.proofs.AttemptRoom.{conns_with}
 use Rattle.xbar_jobs.proofs.FewConns.{few_conns, others_with}
 use Rattle.xbar_jobs.proofs.JobOthers.{job_seizes}
 use Rattle.xbar_jobs.proofs.OfficeSystem.{office_is}
 use Rattle.xbar_jobs.proofs.OtherBounds.{others_more}
-use Rattle.xbar_jobs.proofs.ReadOnce.{wants_free}
+use Rattle.xbar_jobs.proofs.Wanting.{wants_free}
+
+-- a connector more among connectors of the office
+conns_with : (held more : List Conn) (conn : Conn) → more ≡ held ++ conn ∷ [] → AreConns held → IsConn conn → AreConns more
+conns_with held more conn is conns range = subst (λ (all : List Conn). AreConns all) (sym is) (λ c within. elim (in_more c conn held within) [
+  | inl front ↦ conns c front
+  | inr e ↦ subst (λ (x : Conn). IsConn x) (sym e) range
+])
 
 -- what is left of a script seizes no more
 others_left : {A : Type 0} (seen : Seen) (most : ℕ) (script : Script A) → SeizesOthers most script
@@ -212,15 +218,6 @@ module _ (plan : Tables) where
         → HoldsFewIn plan a a.phase → length a.held ≤ most_held
         → length (change (office plan) a answer).held ≤ most_held
     few_change answer stands holds few = few_changed a.phase answer stands holds few
-
-  -- in its phase, an attempt that seizes has room for one more
-  pub fits_seizing : (a : Attempt) (conn : Conn) (expected : ℕ) → IsConn conn
-      → a.phase ≡ phases.Seizes conn expected → StandsIn (office plan) a a.phase
-      → HoldsFewIn plan a a.phase → length a.held < most_held
-  fits_seizing a conn expected range e stands holds =
-      let come = subst (λ (phase : Phase). StandsIn (office plan) a phase) e stands in
-      let after = holds_seized a conn range come (subst (λ (phase : Phase). HoldsFewIn plan a phase) e holds) in
-      omega (arith, few_held (record a { held = a.held ++ conn ∷ [] }) after, length-append a.held (conn ∷ []))
 
   -- and so does one that restarts
   few_restarted_in : (a : Attempt) (phase : Phase) → length a.held ≤ most_held

@@ -1,13 +1,12 @@
 -- a frame's ten line junctor switches are tested one after another, whatever they show
-use Rattle.std.proofs.Common.{◌≡◌, ℕ, zero, suc, ◌+◌, List, [], ◌∷◌, ◌++◌, refl, sym, ◌∙◌, ap, subst, arith, ◌<◌}
-use Rattle.std.specs.Prelude.{Option, Some, None, Bool, true, false, Err, ⊤, slice_get}
+use Rattle.std.proofs.Common.{◌≡◌, ℕ, zero, suc, ◌+◌, List, [], ◌∷◌, ◌++◌, refl, sym, ◌∙◌, ap, subst, arith}
+use Rattle.std.specs.Prelude.{Option, Some, None, Bool, true, false, Err, ⊤, ◌==◌, find, option_map, slice_get, if◌then◌else◌}
+use Rattle.std.proofs.lemmas.Bool.{eqb-true}
 use Rattle.std.specs.Option.{option_map_or}
-use Rattle.turns.specs.Attempt.{StandsIn, changed, come_to, goes_on, walks_on, seen_of}
 use Rattle.turns.specs.Script.{Ends, TestThen, SeizeThen, ◌>>=◌, first_wanted, is_held, left, left_of_test, left_of_seizing, value_read, walk}
-use Rattle.turns.specs.declared.answer.Answer.TheVariants.{Value}
-use Rattle.turns.specs.declared.phase.Phase.TheVariants.{Tests as TestsPhase}
 use Rattle.turns.specs.declared.reading.Reading.{Reading}
 use Rattle.turns.specs.declared.wanted.Wanted.TheVariants.{Test}
+use Rattle.attempts.specs.Points.{GoesOnTo, seen_with}
 use Rattle.turns.proofs.Room.{Grows, left_again, read_last, read_before}
 use Rattle.xbar_equip.specs.Conn.{conn_eq}
 use Rattle.xbar_equip.specs.Len.{Line, IsLine}
@@ -17,19 +16,14 @@ use Rattle.xbar_switch.specs.declared.shape.Shape.TheVariants.{Line as LineShape
 use Rattle.xbar_match.specs.Traces.{field_at_place}
 use Rattle.xbar_plan.specs.Tables.{Tables, register_group}
 use Rattle.xbar_plan.specs.declared.group.Member.{Member}
-use Rattle.xbar_office.specs.Legal.{IsJob}
 use Rattle.xbar_office.specs.TwoTrials.{cards_of, second_decides}
 use Rattle.xbar_office.specs.declared.aim.Aim.{Aim}
 use Rattle.xbar_office.specs.declared.aim.Aim.TheVariants.{DialTone}
-use Rattle.xbar_office.specs.declared.job.Job.{Job}
-use Rattle.xbar_office.specs.declared.job.Job.TheVariants.{Dial, Complete, Release}
 use Rattle.xbar_office.specs.declared.reply.Card.{Card}
 use Rattle.xbar_office.specs.declared.trial.TrialEnd.{TrialEnd}
 use Rattle.xbar_office.specs.declared.trial.TrialEnd.TheVariants.{Chosen, Faulty, NoChannel}
-use Rattle.xbar_jobs.specs.Attempt.{Attempt, Phase}
 use Rattle.xbar_jobs.specs.Connecting.{alone, connect, try_trunk}
-use Rattle.xbar_jobs.specs.Jobs.{IsDial, dial_steps, script, serve_idle_line}
-use Rattle.xbar_jobs.specs.Office.{office}
+use Rattle.xbar_jobs.specs.Jobs.{dial_steps, serve_idle_line}
 use Rattle.xbar_jobs.specs.Script.{Script, Seen}
 use Rattle.xbar_jobs.specs.Sides.{IsNextJunctor, Sides, reach, test_called, test_junctors, test_place, test_second, test_side, test_sides}
 use Rattle.xbar_jobs.specs.Tracing.{approach}
@@ -57,7 +51,7 @@ begins_bind number (Ends found) next begins = absurd begins
 begins_bind number (TestThen word script) next begins = begins
 begins_bind number (SeizeThen conn script) next begins = absurd begins
 
-rows_bind : {A B : Type 0} (script : Script A) (next : A → Script B) → KeepsRows script → ((found : A) → KeepsRows (next found)) → KeepsRows (script >>= next)
+pub rows_bind : {A B : Type 0} (script : Script A) (next : A → Script B) → KeepsRows script → ((found : A) → KeepsRows (next found)) → KeepsRows (script >>= next)
 unfolding KeepsRows ◌>>=◌
 rows_bind (Ends found) next rows later = later found
 rows_bind (TestThen word script) next rows later =
@@ -92,10 +86,32 @@ goes_on_at {A} more number next (TestThen word rest) rows is own unread wants =
     rw (ap (value_read more.readings) same ∙ own.1) (begins_wanted more next (rest own.0) (rows.0 next (subst (λ (n : ℕ). IsNextJunctor n next) (sym same) is) own.0) unread)
 
 -- once a line junctor switch was read, the next one is wanted, if it was not read before
-pub next_is_wanted : {A : Type 0} (seen more : Seen) (number next : ℕ) (script : Script A) → KeepsRows script → Grows conn_eq conn_eq-itself seen more → IsNextJunctor number next → (value : ℕ) × (value_read more.readings number ≡ Some value) → value_read more.readings next ≡ None → walk conn_eq seen script ≡ Err (Test number) → walk conn_eq more script ≡ Err (Test next)
+next_is_wanted : {A : Type 0} (seen more : Seen) (number next : ℕ) (script : Script A) → KeepsRows script → Grows conn_eq conn_eq-itself seen more → IsNextJunctor number next → (value : ℕ) × (value_read more.readings number ≡ Some value) → value_read more.readings next ≡ None → walk conn_eq seen script ≡ Err (Test number) → walk conn_eq more script ≡ Err (Test next)
 unfolding walk
 next_is_wanted seen more number next script rows grows is own unread wants =
     ap first_wanted (left_again conn_eq conn_eq-itself seen more script grows) ∙ goes_on_at more number next (left conn_eq seen script) (rows_left seen script rows) is own unread wants
+
+-- a word that was not read was not read either once another was
+unread_more : (readings : List (Reading ℕ)) (last : Reading ℕ) (next : ℕ) → (last.word == next) ≡ false → value_read readings next ≡ None → value_read (readings ++ last ∷ []) next ≡ None
+unfolding value_read
+unread_more [] last next other unread = ap (λ b. option_map (λ (r : Reading ℕ). r.value) (if b then Some last else None)) other
+unread_more (reading ∷ readings) last next other unread = at (reading.word == next) (unread_more readings last next other) unread where
+  at : (b : Bool) → (value_read readings next ≡ None → value_read (readings ++ last ∷ []) next ≡ None) → option_map (λ (r : Reading ℕ). r.value) (if b then Some reading else find (λ (r : Reading ℕ). r.word == next) readings) ≡ None → option_map (λ (r : Reading ℕ). r.value) (if b then Some reading else find (λ (r : Reading ℕ). r.word == next) (readings ++ last ∷ [])) ≡ None
+  at true later none = none
+  at false later none = later none
+
+next_is_other : (number next : ℕ) → IsNextJunctor number next → (number == next) ≡ false
+next_is_other number next is = at (number == next) refl where
+  at : (b : Bool) → (number == next) ≡ b → (number == next) ≡ false
+  at true same = absurd (omega (arith, eqb-true number next same, is.this, is.that))
+  at false other = other
+
+-- so once the walk of such a script wants a line junctor switch, it goes on to the next one, whatever that one shows
+pub row_goes_on : {A : Type 0} (seen : Seen) (word next : ℕ) (script : Script A) → KeepsRows script → IsNextJunctor word next → value_read seen.readings next ≡ None → walk conn_eq seen script ≡ Err (Test word) → GoesOnTo conn_eq seen script word next
+row_goes_on seen word next script rows is unread wants = λ value.
+    let last : Reading ℕ = record { word = word; value = value } in
+    let grows : Grows conn_eq conn_eq-itself seen (seen_with seen word value) = record { held = λ c e. e; readings = λ w v e. read_before conn_eq conn_eq-itself seen.readings last w v e } in
+    next_is_wanted seen (seen_with seen word value) word next script rows grows is (read_last conn_eq conn_eq-itself seen.readings last) (unread_more seen.readings last next (next_is_other word next is) unread) wants
 
 junctor_rows : (frame channel count : ℕ) → channel + count ≡ 10 → KeepsRows (test_junctors frame channel count)
 unfolding KeepsRows test_junctors ◌>>=◌
@@ -188,36 +204,9 @@ unfolding KeepsRows serve_idle_line
 idle_line_rows plan calling (Some channel) = tt
 idle_line_rows plan calling None = connect_rows plan DialTone (alone calling) (register_group plan ∷ [])
 
-dial_rows : (plan : Tables) (line : Line) → IsLine line → KeepsRows (dial_steps plan line)
+pub dial_rows : (plan : Tables) (line : Line) → IsLine line → KeepsRows (dial_steps plan line)
 unfolding KeepsRows dial_steps approach ◌>>=◌
 dial_rows plan line in_range = (
   λ next is value. absurd (omega (arith, is.this, is.channel_range, in_range.switch)),
   λ word. idle_line_rows plan (record { line = line; word = word }) (field_at_place LineShape word line.x),
 )
-
--- each dial tone job's script is such a one
-pub script_rows : (plan : Tables) (job : Job) → IsJob job → IsDial job → KeepsRows (script plan job)
-unfolding script
-script_rows plan (Dial line) in_range dials = dial_rows plan line in_range
-script_rows plan (Complete line dialled) in_range dials = absurd dials
-script_rows plan (Release line) in_range dials = absurd dials
-
--- so an attempt that has read a line junctor switch wants the next one, without a walk
-pub read_next : (plan : Tables) (a : Attempt) (reading : Reading ℕ) (next : ℕ) (readings : List (Reading ℕ)) → IsJob a.job → IsDial a.job → come_to (office plan) a ≡ Err (Test reading.word) → readings ≡ a.readings ++ reading ∷ [] → IsNextJunctor reading.word next → value_read readings next ≡ None → record a { readings = readings; phase = TestsPhase next } ≡ walks_on (office plan) (record a { readings = a.readings ++ reading ∷ [] })
-read_next plan a reading next readings in_range dials come same is unread =
-    let after : Attempt = record a { readings = a.readings ++ reading ∷ [] } in
-    let grows : Grows conn_eq conn_eq-itself (seen_of a) (seen_of after) = record { held = λ c e. e; readings = λ word value e. read_before conn_eq conn_eq-itself a.readings reading word value e } in
-    let wants = next_is_wanted (seen_of a) (seen_of after) reading.word next (script plan a.job) (script_rows plan a.job in_range dials) grows is (read_last conn_eq conn_eq-itself a.readings reading) (ap (λ (rs : List (Reading ℕ)). value_read rs next) (sym same) ∙ unread) come in
-    ap (λ (rs : List (Reading ℕ)). record a { readings = rs; phase = TestsPhase next }) same ∙ ap (goes_on (office plan) after) (sym wants)
-
--- and that is the change by the answer to its test
-pub change_by_row : (plan : Tables) (a now : Attempt) (word value next : ℕ) (readings : List (Reading ℕ)) → a ≡ now → a.phase ≡ TestsPhase word → StandsIn (office plan) now now.phase → IsJob a.job → IsDial a.job → readings ≡ a.readings ++ record { word = word; value = value } ∷ [] → IsNextJunctor word next → value_read readings next ≡ None → record a { readings = readings; phase = TestsPhase next } ≡ changed (office plan) now now.phase (Value value)
-change_by_row plan a now word value next readings same in_phase stands in_range dials more is unread =
-    let come = subst (λ (phase : Phase). StandsIn (office plan) a phase) in_phase (subst (λ (b : Attempt). StandsIn (office plan) b b.phase) (sym same) stands) in
-    let on = read_next plan a (record { word = word; value = value }) next readings in_range dials come more is unread in
-    let here = subst (λ (phase : Phase). record a { readings = readings; phase = TestsPhase next } ≡ changed (office plan) a phase (Value value)) (sym in_phase) on in
-    subst (λ (b : Attempt). record a { readings = readings; phase = TestsPhase next } ≡ changed (office plan) b b.phase (Value value)) same here
-
--- a line junctor switch is one of the office's words
-pub junctor_number : (number next : ℕ) → IsNextJunctor number next → next < 453
-junctor_number number next is = omega (arith, is.that, is.frame_range, is.channel_range)

@@ -23,11 +23,9 @@ pub mod JobBounds
 pub mod OtherBounds
 pub mod JobOthers
 pub mod Covered
-pub mod ReadOnce
-pub mod AttemptRoom
+pub mod Wanting
 pub mod FewConns
 pub mod HoldsFew
-pub mod JunctorRows
 pub mod BusyMembers
 pub mod ShownWords
 pub mod TakenMembers
@@ -55,3 +53,6 @@ pub mod JobTurns
 pub mod AttemptStands
 pub mod Counts
 pub mod StepActs
+pub mod JunctorRows
+pub mod CompletingRows
+pub mod Programs

@@ -1,44 +1,60 @@
--- the test of a word that is seen as effects will leave it
-use Rattle.std.proofs.Common.{◌≡◌, ℕ, List, [], refl, sym, ◌∙◌, ap}
-use Rattle.std.specs.Prelude.{Option, Some, None, Result, Ok, Err, option_map}
+-- what is seen as effects will leave it
+use Rattle.std.proofs.Common.{◌≡◌, ℕ, Bool, List, [], refl, sym, ◌∙◌, ap}
+use Rattle.std.specs.Prelude.{Result, Ok, Err}
 use Rattle.std.proofs.lemmas.List.{map-id}
+use mathlib.Core.Path.{fun_ext}
 use Rattle.turns.specs.Seen.{changed_readings}
-use Rattle.turns.specs.Script.{TestThen, Ends, first_wanted, left, left_of_test, value_read, walk as walk_by}
+use Rattle.turns.specs.Script.{Ends, TestThen, ◌>>=◌, first_wanted, left, left_of_seizing, read_with, seize, walk as walk_by}
 use Rattle.turns.specs.declared.reading.Reading.{Reading}
-use Rattle.turns.specs.declared.wanted.Wanted.TheVariants.{Test}
-use Rattle.turns.proofs.ReadWith.{value_read-changed}
+use Rattle.turns.proofs.ReadWith.{walk_read_with}
+use Rattle.turns.proofs.Walks.{then_walk, walk_bind, walk_end}
+use Rattle.xbar_equip.specs.Conn.{conn_eq}
 use Rattle.xbar_equip.specs.declared.conn.Conn.{Conn}
+use Rattle.xbar_equip.specs.declared.conn.Conn.TheVariants.{Llf, Tlf, Group}
+use Rattle.xbar_equip.specs.contracts.conn.ConnPartialEq.TheImpl.{ghosts}
 use Rattle.xbar_jobs.specs.Closing.{value_after}
-use Rattle.xbar_jobs.specs.Script.{Seen, Wanted, walk}
+use Rattle.xbar_jobs.specs.Script.{Script, Seen, Wanted, walk}
 use Rattle.xbar_jobs.specs.declared.effect.Effect.{Effect}
 
 -- readings that no effects change are the readings
 pub unchanged_readings : (readings : List (Reading ℕ)) → changed_readings (value_after []) readings ≡ readings
 unchanged_readings readings = map-id readings
 
--- the test of a word by its value, if it was read
-abbrev tested : ℕ → Option ℕ → Result ℕ Wanted
-tested word None = Err (Test word)
-tested word (Some value) = Ok value
+-- two connectors are told apart as they are by the code
+same_conn : (a b : Conn) → ghosts.eq a b ≡ conn_eq a b
+same_conn (Llf a) (Llf b) = refl
+same_conn (Llf a) (Tlf b) = refl
+same_conn (Llf a) (Group b) = refl
+same_conn (Tlf a) (Llf b) = refl
+same_conn (Tlf a) (Tlf b) = refl
+same_conn (Tlf a) (Group b) = refl
+same_conn (Group a) (Llf b) = refl
+same_conn (Group a) (Tlf b) = refl
+same_conn (Group a) (Group b) = refl
 
-walk_tested : (seen : Seen) (word : ℕ) → walk seen (TestThen word Ends) ≡ tested word (value_read seen.readings word)
-unfolding walk_by left first_wanted left_of_test
-walk_tested seen word = at (value_read seen.readings word) where
-  at : (found : Option ℕ) → first_wanted (left_of_test Ends (λ (value : ℕ). Ends value) word found) ≡ tested word found
-  at None = refl
-  at (Some value) = refl
+pub told_apart : ghosts.eq ≡ conn_eq
+told_apart = fun_ext (λ a. fun_ext (λ b. same_conn a b))
 
-module _ (held : List Conn) (readings : List (Reading ℕ)) (effects : List Effect) (seen : Seen) (is : record { held = held; readings = changed_readings (value_after effects) readings } ≡ seen) (word : ℕ) where
-  changed_tested : (found : Option ℕ) → value_read readings word ≡ found → walk seen (TestThen word Ends) ≡ tested word (option_map (value_after effects word) found)
-  changed_tested found read =
-      walk_tested seen word
-      ∙ ap (λ (s : Seen). tested word (value_read s.readings word)) (sym is)
-      ∙ ap (tested word) (value_read-changed (value_after effects) readings word ∙ ap (option_map (value_after effects word)) read)
+pub walks_are : {A : Type 0} (seen : Seen) (script : Script A) → walk_by ghosts.eq seen script ≡ walk seen script
+walks_are seen script = ap (λ (same : Conn → Conn → Bool). walk_by same seen script) told_apart
 
-  -- a word that was not read is wanted
-  pub test_unread : value_read readings word ≡ None → walk seen (TestThen word Ends) ≡ Err (Test word)
-  test_unread unread = changed_tested None unread
+-- a connector is held, whatever effects will be made
+pub held_after : (held : List Conn) (readings : List (Reading ℕ)) (effects : List Effect) (conn : Conn) → walk_by ghosts.eq (record { held = held; readings = readings }) (seize conn) ≡ walk (record { held = held; readings = changed_readings (value_after effects) readings }) (seize conn)
+unfolding walk_by left left_of_seizing first_wanted
+held_after held readings effects conn = walks_are (record { held = held; readings = readings }) (seize conn)
 
-  -- one that was read is seen as the effects will leave it
-  pub test_read : (value : ℕ) → value_read readings word ≡ Some value → walk seen (TestThen word Ends) ≡ Ok (value_after effects word value)
-  test_read value read = changed_tested (Some value) read
+-- a word is seen as effects will leave what was read in it
+value_after_read : (seen : Seen) (effects : List Effect) (word : ℕ) → walk (record { held = seen.held; readings = changed_readings (value_after effects) seen.readings }) (TestThen word Ends) ≡ then_walk (walk seen (TestThen word Ends)) (λ value. Ok (value_after effects word value))
+unfolding read_with ◌>>=◌
+value_after_read seen effects word =
+    sym (walk_read_with conn_eq seen (value_after effects) (TestThen word Ends))
+    ∙ walk_bind conn_eq seen (TestThen word Ends) (λ value. Ends (value_after effects word value))
+    ∙ ends (walk seen (TestThen word Ends)) where
+      ends : (found : Result ℕ Wanted) → then_walk found (λ value. walk seen (Ends (value_after effects word value))) ≡ then_walk found (λ value. Ok (value_after effects word value))
+      ends (Ok value) = walk_end conn_eq seen (value_after effects word value)
+      ends (Err wanted) = refl
+
+pub value_seen : (gathered : Seen) (effects : List Effect) (seen : Seen) → record { held = gathered.held; readings = changed_readings (value_after effects) gathered.readings } ≡ seen → (word : ℕ) (found : Result ℕ Wanted) → found ≡ walk gathered (TestThen word Ends) → then_walk found (λ value. Ok (value_after effects word value)) ≡ walk seen (TestThen word Ends)
+value_seen gathered effects seen here word found is =
+    ap (λ (r : Result ℕ Wanted). then_walk r (λ value. Ok (value_after effects word value))) is
+    ∙ sym (value_after_read gathered effects word) ∙ ap (λ (s : Seen). walk s (TestThen word Ends)) here

@@ -1,17 +1,15 @@
-use Rattle.std.specs.Prelude.{ℕ, ◌+◌, ◌-◌, ◌^◌, ◌==◌, Some, List, [], ◌∷◌, if◌then◌else◌}
+use Rattle.std.specs.Prelude.{ℕ, ◌-◌, ◌^◌}
 use Rattle.turns.specs.Attempt as generic
 use Rattle.turns.specs.Attempt.{Rest, Ask, Take, Leave, Free, Look, Turn, Make, begin_with}
 use Rattle.turns.specs.declared.phase.Phase as phases
-use Rattle.turns.specs.declared.phase.Phase.TheVariants.{Requests, Seizes, Tests, Turns, Withdraws, GivesBack, Operates}
+use Rattle.attempts.specs.Counting as counting
 use Rattle.xbar_equip.specs.Word.{GroupWord, word_number}
 use Rattle.xbar_equip.specs.declared.conn.Conn.{Conn}
 use Rattle.xbar_switch.specs.Field.{close_bits_of, open_mask_of}
 use Rattle.xbar_match.specs.Switches.{shape_at}
 use Rattle.xbar_office.specs.declared.job.Job.{Job}
 use Rattle.xbar_office.specs.declared.reply.Reply.{Reply}
-use Rattle.xbar_jobs.specs.Closing.{effects as effects_of}
 use Rattle.xbar_jobs.specs.Jobs.{first_conn}
-use Rattle.xbar_jobs.specs.declared.decision.Decision.{Decision}
 use Rattle.xbar_jobs.specs.declared.effect.Effect.{Effect}
 use Rattle.xbar_jobs.specs.declared.effect.Effect.TheVariants.{Close, Open, SetBit, ClearBit}
 use Rattle.xbar_jobs.specs.declared.step.Step.{Step}
@@ -28,9 +26,8 @@ abbrev pub Phase : Type 0
 Phase = phases.Phase Conn ℕ
 
 -- an attempt, and how many atomic steps it took so far
-pub record Counted : Type 0 where
-  pub attempt : Attempt
-  pub count : ℕ
+abbrev pub Counted : Type 0
+Counted = counting.Counted Conn Job Reply Effect
 
 -- an attempt at a job that has made no step
 abbrev pub fresh : Job → Counted
@@ -38,26 +35,11 @@ fresh job = record { attempt = begin_with (first_conn job) job; count = 0 }
 
 -- one step more is counted, as far as 32 bits count
 abbrev pub counted : ℕ → ℕ
-counted count = if count == 2 ^ 32 - 1 then count else count + 1
-
--- what is to request a connector while it holds none has made no step
-abbrev pub count_in : Phase → List Conn → ℕ → ℕ
-count_in (Requests conn) [] count = 0
-count_in (Requests conn) (own ∷ held) count = count
-count_in (Seizes conn expected) held count = count
-count_in (Tests word) held count = count
-count_in Turns held count = count
-count_in (Withdraws conn) held count = count
-count_in GivesBack held count = count
-count_in (Operates turn) held count = count
+counted count = counting.counted count
 
 -- an attempt that took so many steps to come to this; what begins anew counts from 0
 abbrev pub with_count : ℕ → Attempt → Counted
-with_count count a = record { attempt = a; count = count_in a.phase a.held count }
-
--- an attempt that has come to this decision
-abbrev pub decided : Attempt → Decision → Attempt
-decided a decision = record a { phase = Turns; reply = Some decision.reply; effects = effects_of decision }
+with_count count a = counting.with_count count a
 
 -- the step that makes an effect: the bits that a close sets, the mask of those that an open keeps
 abbrev pub effect_step : Effect → Step

@@ -2,17 +2,17 @@ use Rattle.std.specs.Prelude.{List, [], ◌∷◌, ⊤}
 use Rattle.turns.specs.Attempt.{IsAnswerTo, act, change}
 use Rattle.turns.specs.declared.answer.Answer.{Answer}
 use Rattle.xbar_plan.specs.Tables.{Tables}
-use Rattle.xbar_jobs.specs.Attempt.{Attempt, Counted, counted, with_count}
+use Rattle.attempts.specs.Counting as counting
+use Rattle.xbar_jobs.specs.Attempt.{Attempt, Counted}
 use Rattle.xbar_jobs.specs.Office.{office}
 
 -- an attempt and its count after an answer to its next step
 abbrev pub after_answer : Tables → Counted → Answer → Counted
-after_answer plan p answer = with_count (counted p.count) (change (office plan) p.attempt answer)
+after_answer plan p answer = counting.after_answer (office plan) p answer
 
 -- and after answers one after another, each to the step that is next then
 abbrev pub after_answers : Tables → Counted → List Answer → Counted
-after_answers plan p [] = p
-after_answers plan p (answer ∷ answers) = after_answers plan (after_answer plan p answer) answers
+after_answers plan p answers = counting.after_answers (office plan) p answers
 
 -- each of the answers is of the kind of the step that is next then
 abbrev pub AreAnswers : Tables → Attempt → List Answer → Type 0

@@ -12,8 +12,8 @@ use Rattle.xbar_jobs.specs.Closing.{refused}
 use Rattle.xbar_jobs.specs.Completing.{complete_steps}
 use Rattle.xbar_jobs.specs.Connecting.{alone, connect}
 use Rattle.xbar_jobs.specs.Releasing.{release_steps}
-use Rattle.xbar_jobs.specs.Script.{Script}
-use Rattle.xbar_jobs.specs.Tracing.{approach, channel_of}
+use Rattle.xbar_jobs.specs.Script.{Script, Seen}
+use Rattle.xbar_jobs.specs.Tracing.{HasTraced, approach, channel_of}
 use Rattle.xbar_jobs.specs.declared.decision.Decision.{Decision}
 use Rattle.xbar_jobs.specs.declared.party.Party.{Party}
 
@@ -27,12 +27,6 @@ unfoldable pub dial_steps : Tables → Line → Script Decision
 dial_steps plan line = do
   calling ← approach line
   serve_idle_line plan calling (channel_of calling)
-
--- whether a job is a dial tone job
-abbrev pub IsDial : Job → Type 0
-IsDial (Dial line) = ⊤
-IsDial (Complete line dialled) = ⊥
-IsDial (Release line) = ⊥
 
 -- the line of a job
 abbrev pub job_line : Job → Line
@@ -49,3 +43,9 @@ unfoldable pub script : Tables → Job → Script Decision
 script plan (Dial line) = dial_steps plan line
 script plan (Complete line dialled) = complete_steps plan line dialled
 script plan (Release line) = release_steps plan line
+
+-- from here on a job tests line junctor switches in their rows alone: a dial tone job always, a completing one once its own path was traced
+abbrev pub TestsRows : Job → Seen → Type 0
+TestsRows (Dial line) seen = ⊤
+TestsRows (Complete line dialled) seen = HasTraced line seen
+TestsRows (Release line) seen = ⊥

@@ -1,21 +1,24 @@
-use Rattle.std.specs.Prelude.{◌≡◌, ◌<◌, ◌≤◌, ◌+◌, ◌-◌, ℕ, Option, Some, IsSome, List, length, ⊤}
+use Rattle.std.specs.Prelude.{◌<◌, ◌≤◌, ◌+◌, ℕ, Option, IsSome, List, length, ⊤}
 use Rattle.turns.specs.Among.{IsIn, AreDistinct}
 use Rattle.turns.specs.Attempt as generic
-use Rattle.turns.specs.Script.{AsksAtMost, left, value_read}
-use Rattle.turns.specs.Seen.{AreReadWords}
+use Rattle.turns.specs.Script.{left}
 use Rattle.turns.specs.declared.phase.Phase.TheVariants.{Requests, Seizes, Tests, Turns, Withdraws, GivesBack, Operates}
-use Rattle.turns.specs.declared.reading.Reading.{Reading}
+use Rattle.attempts.specs.Standing as standing
+use Rattle.attempts.specs.Standing.{HasPlace}
 use Rattle.xbar_equip.specs.Conn.{IsConn, conn_eq}
 use Rattle.xbar_equip.specs.Word.{word_count}
 use Rattle.xbar_equip.specs.declared.conn.Conn.{Conn}
 use Rattle.xbar_plan.specs.Tables.{Tables}
 use Rattle.xbar_office.specs.Legal.{IsJob}
+use Rattle.xbar_office.specs.declared.job.Job.{Job}
 use Rattle.xbar_office.specs.declared.reply.Reply.{Reply}
 use Rattle.xbar_jobs.specs.Attempt.{Attempt, Phase}
+use Rattle.xbar_jobs.specs.Closing.{effects as effects_of}
 use Rattle.xbar_jobs.specs.Jobs.{script}
 use Rattle.xbar_jobs.specs.Keeping.{AreEffects}
 use Rattle.xbar_jobs.specs.Office.{office}
 use Rattle.xbar_jobs.specs.Others.{SeizesOthers, others_in}
+use Rattle.xbar_jobs.specs.declared.decision.Decision.{Decision}
 
 -- an attempt never reads more words, and never holds more connectors
 abbrev pub most_readings : ℕ
@@ -39,10 +42,6 @@ most_effects = 14
 -- nor does an attempt take more steps, where nothing puts it off
 abbrev pub most_steps : ℕ
 most_steps = 128
-
--- no word was read twice: each reading is the one that stands
-abbrev pub AreReadOnce : List (Reading ℕ) → Type 0
-AreReadOnce readings = (reading : Reading ℕ) → IsIn reading readings → value_read readings reading.word ≡ Some reading.value
 
 -- the connector that a phase is about, if it is about one, or the word is one of the office's
 abbrev pub IsPhase : Phase → Type 0
@@ -75,22 +74,6 @@ pub record IsAttempt (a : Attempt) : Type 0 where
   pub reply : HasReplyIn a.phase a.reply
   pub effects : AreEffects a.effects
 
--- the attempt has room for what is left of its script
-abbrev pub HasRoom : Tables → Attempt → Type 0
-HasRoom plan a =
-    AsksAtMost (most_readings - length a.readings) (most_seizings - length a.held)
-    (left conn_eq (generic.seen_of a) (script plan a.job))
-
--- it needs room only as long as it goes through its script
-abbrev pub HasRoomIn : Tables → Attempt → Phase → Type 0
-HasRoomIn plan a (Requests conn) = HasRoom plan a
-HasRoomIn plan a (Seizes conn expected) = HasRoom plan a
-HasRoomIn plan a (Tests word) = HasRoom plan a
-HasRoomIn plan a Turns = ⊤
-HasRoomIn plan a (Withdraws conn) = ⊤
-HasRoomIn plan a GivesBack = ⊤
-HasRoomIn plan a (Operates turn) = ⊤
-
 -- the attempt holds connectors of the office, none of them twice; and besides line link frames no more than
 -- leave room for those that its script may still seize
 pub record HoldsFew (plan : Tables) (a : Attempt) : Type 0 where
@@ -110,11 +93,18 @@ HoldsFewIn plan a (Withdraws conn) = ⊤
 HoldsFewIn plan a GivesBack = ⊤
 HoldsFewIn plan a (Operates turn) = ⊤
 
--- an attempt stands where its job brings it under this plan, by values of 64 bits, with room for what it
--- will come by
+-- an attempt stands where its job brings it under this plan, with room for what it will come by
 pub record Stands (plan : Tables) (a : Attempt) : Type 0 where
-  pub comes : generic.Stands (office plan) a
-  pub read : AreReadWords a.readings
+  pub place : HasPlace (office plan) most_readings most_seizings a
   pub few : length a.held ≤ most_held
   pub holds : HoldsFewIn plan a a.phase
-  pub room : HasRoomIn plan a a.phase
+
+-- what an attempt is at run time: the attempt itself, and its decision
+abbrev pub Doing : Type 0
+Doing = standing.Program Conn Job Decision (Unit {0})
+
+abbrev pub reply_of : Decision → Reply
+reply_of decision = decision.reply
+
+abbrev pub attempt_at : Doing → Attempt
+attempt_at p = standing.attempt_of reply_of effects_of p

@@ -1,4 +1,4 @@
-use Rattle.std.specs.Prelude.{ℕ, Option, Some, None, option_map}
+use Rattle.std.specs.Prelude.{ℕ, Option, Some, None, IsOk, option_map}
 use Rattle.xbar_equip.specs.Len.{Line}
 use Rattle.xbar_equip.specs.Path.{path_by}
 use Rattle.xbar_equip.specs.Ten.{TrunkPlace}
@@ -8,7 +8,7 @@ use Rattle.xbar_equip.specs.declared.path.Path.{Path}
 use Rattle.xbar_switch.specs.declared.shape.Shape.TheVariants.{Line as LineShape, Other}
 use Rattle.xbar_match.specs.Traces.{field_at_place, place_at_field}
 use Rattle.turns.specs.Script.{Ends, ◌>>=◌, ◌>>◌, seize}
-use Rattle.xbar_jobs.specs.Script.{Script, test}
+use Rattle.xbar_jobs.specs.Script.{Script, Seen, test, walk}
 use Rattle.xbar_jobs.specs.declared.party.Party.{Party}
 
 -- approach a line: seize its frame and test its line switch
@@ -47,6 +47,16 @@ trace_by line (Some channel) = do
 -- trace a line's path from switch to switch; none where it breaks off
 unfoldable pub trace : Party → Script (Option Path)
 trace party = trace_by party.line (channel_of party)
+
+-- approach a line, and trace its path
+unfoldable pub trace_line : Line → Script (Option Path)
+trace_line line = do
+  calling ← approach line
+  trace calling
+
+-- that is done
+abbrev pub HasTraced : Line → Seen → Type 0
+HasTraced line seen = IsOk (walk seen (trace_line line))
 
 -- a trunk place's path, once channel, line link frame and line switch are known
 unfoldable pub trace_back_at : TrunkPlace → ℕ → ℕ → Option ℕ → Script (Option Path)

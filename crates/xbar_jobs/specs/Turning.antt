@@ -6,7 +6,9 @@ use Rattle.xbar_equip.specs.Word.{word_count}
 use Rattle.xbar_equip.specs.declared.path.Path.{Path}
 use Rattle.xbar_plan.specs.Tables.{Tables}
 use Rattle.xbar_office.specs.Whole.{whole}
-use Rattle.xbar_jobs.specs.Attempt.{Attempt}
+use Rattle.turns.specs.Attempt as acts
+use Rattle.xbar_jobs.specs.Attempt.{Act, Attempt}
+use Rattle.xbar_jobs.specs.Keeping.{IsEffect}
 use Rattle.xbar_jobs.specs.Office.{ShowsOffice, office}
 use Rattle.xbar_jobs.specs.declared.step.Step.{Step}
 use Rattle.xbar_jobs.specs.declared.step.Step.TheVariants.{Request, Seize, Withdraw, Test, Turn, Close, Open, Free, Finished}
@@ -35,3 +37,14 @@ IsStep (Close word bits) = word < word_count
 IsStep (Open word mask) = word < word_count
 IsStep (Free conn) = IsConn conn
 IsStep Finished = Unit {0}
+
+-- and so is what an act is on
+abbrev pub IsAct : Act → Type 0
+IsAct acts.Rest = Unit {0}
+IsAct (acts.Ask conn) = IsConn conn
+IsAct (acts.Take conn expected) = IsConn conn
+IsAct (acts.Leave conn) = IsConn conn
+IsAct (acts.Free conn) = IsConn conn
+IsAct (acts.Look word) = word < word_count
+IsAct acts.Turn = Unit {0}
+IsAct (acts.Make effect) = IsEffect effect

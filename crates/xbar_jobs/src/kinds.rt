@@ -1,9 +1,8 @@
 //! The types of jobs over shared words, for the office's connectors and words.
 
-use xbar_equip::{Conn, WordNo};
+use xbar_equip::Conn;
 
-pub type Phase = turns::Phase<Conn, WordNo>;
+pub type Wanted = turns::Wanted<Conn, usize>;
 
-pub type Reading = turns::Reading<WordNo>;
-
-pub type Wanted = turns::Wanted<Conn, WordNo>;
+/// What an attempt has come by: the connectors that it holds, and what it has read.
+pub type Gathered<'a> = attempts::Seen<'a, Conn>;

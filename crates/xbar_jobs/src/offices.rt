@@ -1,4 +1,12 @@
+use crate::decided::Decided;
+use crate::effect::Effect;
+use crate::kinds::Wanted;
+use crate::walk::{first_conn, next_in_row, walk};
+use attempts::{Scripts, Seen};
 use turns::laws::Family;
+use xbar_equip::Conn;
+use xbar_office::{Job, Reply};
+use xbar_plan::Plan;
 
 /// The offices as systems of jobs over shared words: one for each plan.
 pub struct Offices;
@@ -10,4 +18,63 @@ impl Family for Offices {
     ghost Setting = { Tables };
 
     ghost system = { office };
+}
+
+impl Scripts<42, 19> for Offices {
+    ghost use Rattle.attempts.specs.SystemWith.{with};
+    ghost use Rattle.xbar_plan.specs.Lawful.{IsLawful};
+    ghost use Rattle.xbar_jobs.specs.Closing.{effects as effects_by};
+    ghost use Rattle.xbar_jobs.specs.Office.{office_over};
+
+    type Setting = Plan;
+
+    type Lock = Conn;
+
+    type Job = Job;
+
+    type Reply = Reply;
+
+    type Effect = Effect;
+
+    type Decision = Decided;
+
+    type Point = ();
+
+    ghost system = { λ plan. with (office_over plan) };
+
+    ghost reply_of = { λ decision. decision.reply };
+
+    ghost effects_of = { effects_by };
+
+    ghost IsSetting = { IsLawful };
+
+    ghost Knows = { λ _ _ _ _. Unit {0} };
+
+    fn first(job: &Job) -> Conn {
+        first_conn(job)
+    }
+
+    fn start(_job: &Job) {}
+
+    fn walk(plan: &Plan, job: &Job, _point: &mut (), seen: &Seen<Conn>) -> Result<Decided, Wanted> {
+        walk(plan, seen, job)
+    }
+
+    fn following(
+        plan: &Plan,
+        job: &Job,
+        _point: &(),
+        seen: &Seen<Conn>,
+        word: usize,
+    ) -> Option<usize> {
+        next_in_row(plan, seen, job, word)
+    }
+
+    fn reply(decision: &Decided) -> Reply {
+        decision.reply().copy()
+    }
+
+    fn effect(decision: &Decided, place: usize) -> Option<Effect> {
+        decision.effect(place)
+    }
 }

@@ -1,9 +1,17 @@
 ghost use Rattle.std.specs.Prelude.{◌≡◌, ◌<◌, option_copied, is_some};
+ghost use Rattle.attempts.specs.Steps.{act_of};
+ghost use Rattle.xbar_jobs.specs.Attempt.{next_step, step_of as step_of_act};
+ghost use Rattle.xbar_jobs.specs.Keeping.{AreEffects};
+ghost use Rattle.xbar_jobs.specs.Standing.{IsAttempt, attempt_at};
+ghost use Rattle.xbar_jobs.specs.Turning.{IsAct, IsStep};
 
-use crate::attempt::Attempt;
+use crate::effect::Effect;
+use crate::offices::Offices;
 use crate::step::Step;
+use attempts::{AttemptOf, begin, next, restart, take};
 use std::marker::Model;
 use turns::Answer;
+use xbar_equip::{Conn, WordNo};
 use xbar_office::{Job, Reply};
 use xbar_plan::Plan;
 
@@ -11,16 +19,57 @@ use xbar_plan::Plan;
 /// hands it one plan at every call.
 #[derive(Debug, Drop)]
 pub struct Program {
-    attempt: Attempt,
-    count: u32,
+    attempt: AttemptOf<Offices, 42, 19>,
 }
 
 impl Model for Program {
     ghost use Rattle.xbar_jobs.specs.Attempt.{Counted};
+    ghost use Rattle.xbar_jobs.specs.Standing.{IsAttempt, attempt_at};
 
     ghost Value = { Counted };
 
-    ghost view = { λ a. record { attempt = a.attempt; count = a.count } };
+    ghost view = { λ a. record { attempt = attempt_at a.attempt; count = a.attempt.count } };
+
+    ghost invariant = { λ a. IsAttempt (attempt_at a.attempt) };
+}
+
+/// The effects that are left are the office's. Called for its clause alone.
+fn effects_are(attempt: &AttemptOf<Offices, 42, 19>)
+    ensures { AreEffects (attempt_at attempt.now).effects }
+{
+    match attempt.decision() {
+        Some(decided) => decided.is_of_the_office(),
+        None => {}
+    }
+}
+
+/// The step that makes what an attempt does next.
+#[tactic(auto, using(crate::proofs::Programs::act_step))]
+fn step_by(next: attempts::Step<Conn, Effect>) -> Step
+    requires { IsAct (act_of next) }
+    ensures step { result ≡ step_of_act (act_of next) }
+    ensures range { IsStep result }
+{
+    match next {
+        attempts::Step::Rest => Step::Finished,
+        attempts::Step::Ask(conn) => Step::Request(conn),
+        attempts::Step::Take(conn, expected) => Step::Seize(conn, expected),
+        attempts::Step::Leave(conn) => Step::Withdraw(conn),
+        attempts::Step::Free(conn) => Step::Free(conn),
+        attempts::Step::Look(word) => Step::Test(WordNo::new(word as u16)),
+        attempts::Step::Turn => Step::Turn,
+        attempts::Step::Make(effect) => effect.step(),
+    }
+}
+
+/// The step that an attempt of the office does next.
+#[tactic(auto, using(crate::proofs::Programs::made_range))]
+fn step_of(attempt: &AttemptOf<Offices, 42, 19>) -> Step
+    requires { IsAttempt (attempt_at attempt.now) }
+    ensures step { result ≡ next_step (attempt_at attempt.now) }
+    ensures range { IsStep result }
+{
+    step_by(next::<Offices, 42, 19>(attempt))
 }
 
 impl Program {
@@ -30,12 +79,12 @@ impl Program {
     ghost use Rattle.xbar_office.specs.Legal.{IsJob};
     ghost use Rattle.xbar_plan.specs.Lawful.{IsLawful};
     ghost use Rattle.xbar_plan.specs.Tables.{Tables};
-    ghost use Rattle.xbar_jobs.specs.Attempt.{counted, fresh, next_step, with_count};
+    ghost use Rattle.xbar_jobs.specs.Attempt.{fresh, with_count};
     ghost use Rattle.xbar_jobs.specs.Counting.{after_answer};
     ghost use Rattle.xbar_jobs.specs.Office.{office};
     ghost use Rattle.xbar_jobs.specs.OnWords.{step_word};
     ghost use Rattle.xbar_jobs.specs.Standing.{Stands};
-    ghost use Rattle.xbar_jobs.specs.Turning.{DoesAsOffice, IsStep};
+    ghost use Rattle.xbar_jobs.specs.Turning.{DoesAsOffice};
 
     /// An attempt that has made no step, whatever the plan will be.
     pub fn new(job: Job) -> Self
@@ -44,8 +93,7 @@ impl Program {
         ensures plan { (plan : Tables) → IsLawful plan → Stands plan result.attempt }
     {
         Program {
-            attempt: Attempt::new(job),
-            count: 0,
+            attempt: begin::<Offices, 42, 19>(job),
         }
     }
 
@@ -55,7 +103,7 @@ impl Program {
         ensures range { IsStep result }
         ensures word { step_word result < word_count }
     {
-        let step = self.attempt.next();
+        let step = step_of(&self.attempt);
         // Called for its clauses alone.
         let _word = step.word();
         step
@@ -80,14 +128,20 @@ impl Program {
             ≡ reply_in self.now.attempt.phase self.now.attempt.reply }
         ensures known { is_some result ≡ is_some (turn_in self.now.attempt.phase) }
     {
-        self.attempt.reply()
+        match self.attempt.turn() {
+            None => None,
+            Some(_) => match self.attempt.decision() {
+                Some(decided) => Some(decided.reply()),
+                None => None,
+            },
+        }
     }
 
     /// The atomic steps of this attempt so far. It stays at `u32::MAX` once there.
     pub fn count(&self) -> u32
         ensures { result ≡ self.now.count }
     {
-        self.count
+        self.attempt.count()
     }
 
     /// Tells the attempt what came of its next step. All calls are handed one plan.
@@ -99,15 +153,10 @@ impl Program {
         ensures turn { (number : ℕ) → answer ≡ Answer.Turn number
             → DoesAsOffice plan.now self.new.attempt }
     {
-        // Called for their clauses alone.
+        // Called for its clauses alone.
         xbar_plan::laws::every_plan_is_lawful(plan);
-        let _job = self.attempt.job();
-        self.attempt.take(plan, answer);
-        self.count = if self.attempt.is_fresh() {
-            0
-        } else {
-            self.count.saturating_add(1)
-        };
+        take::<Offices, 42, 19>(&mut self.attempt, plan, answer);
+        effects_are(&self.attempt);
     }
 
     /// Begins anew, once all that is held is given back. Past the turn nothing changes.
@@ -117,11 +166,6 @@ impl Program {
         ensures plan { (plan : Tables) → IsLawful plan → Stands plan self.old.attempt
             → Stands plan self.new.attempt }
     {
-        // Called for its clauses alone.
-        let _job = self.attempt.job();
-        self.attempt.restart();
-        if self.attempt.is_fresh() {
-            self.count = 0;
-        }
+        restart::<Offices, 42, 19>(&mut self.attempt);
     }
 }

@@ -12,7 +12,7 @@ use crate::party::{CallParties, Party};
 use crate::seen::Seen;
 use crate::trunk::{Reached, Trunk};
 use std::marker::Model;
-use xbar_equip::{Path, WordNo, line_junctor};
+use xbar_equip::{Path, line_junctor};
 use xbar_match::match_channel;
 use xbar_office::CallPaths;
 
@@ -60,14 +60,13 @@ fn test_junctors(seen: &Seen, frame: u8) -> Result<[u64; 10], Wanted>
 }
 
 /// The line junctor switch that is tested after this word, if the word is one and not a frame's last.
-pub fn next_junctor(word: WordNo) -> Option<WordNo>
+pub fn next_junctor(word: usize) -> Option<usize>
     ensures { IfSome result (λ next. IsNextJunctor word next) }
 {
-    let number = word.number();
-    let frame = number / 20;
-    let place = number % 20;
+    let frame = word / 20;
+    let place = word % 20;
     if frame < 10 && place >= 10 && place < 19 {
-        Some(line_junctor(frame as u8, (place - 9) as u8))
+        Some(word + 1)
     } else {
         None
     }

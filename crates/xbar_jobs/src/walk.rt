@@ -1,24 +1,22 @@
-ghost use Rattle.std.specs.Prelude.{◌≡◌, ◌≤◌, IfSome, MatchResult, None, length};
-ghost use Rattle.xbar_jobs.specs.Closing.{effects};
-ghost use Rattle.xbar_jobs.specs.Keeping.{AreEffects, IsWanted};
-ghost use Rattle.xbar_office.specs.Legal.{IsJob};
-ghost use Rattle.xbar_jobs.specs.Jobs.{IsDial, script, first_conn as first_conn_of, job_line};
-ghost use Rattle.xbar_jobs.specs.Script.{walk as walk_of};
-ghost use Rattle.turns.specs.Script.{value_read};
+ghost use Rattle.std.specs.Prelude.{◌≡◌, Err, IfSome, IsTrue};
 ghost use Rattle.turns.specs.Seen.{AreReadWords};
-ghost use Rattle.xbar_jobs.specs.Sides.{IsNextJunctor};
-ghost use Rattle.xbar_jobs.specs.Standing.{most_effects};
+ghost use Rattle.turns.specs.declared.wanted.Wanted.TheVariants.{Test};
+ghost use Rattle.attempts.specs.Points.{GoesOnTo};
+ghost use Rattle.xbar_equip.specs.Conn.{conn_eq};
+ghost use Rattle.xbar_office.specs.Legal.{IsJob};
+ghost use Rattle.xbar_jobs.specs.Jobs.{TestsRows, script, first_conn as first_conn_of, job_line};
+ghost use Rattle.xbar_jobs.specs.Script.{walk as walk_of};
 
 use crate::completing::complete;
+use crate::decided::Decided;
 use crate::decision::Decision;
 use crate::dialling::dial;
-use crate::gathered::Gathered;
-use crate::kinds::Wanted;
-use crate::readings::Readings;
+use crate::kinds::{Gathered, Wanted};
 use crate::releasing::release;
 use crate::seen::Seen;
 use crate::sides::next_junctor;
-use xbar_equip::{Conn, Len, WordNo};
+use crate::tracing::has_traced;
+use xbar_equip::{Conn, Len};
 use xbar_office::Job;
 use xbar_plan::Plan;
 
@@ -48,34 +46,44 @@ fn follow(plan: &Plan, gathered: &Gathered, job: &Job) -> Result<Decision, Wante
     }
 }
 
-/// The word that a job wants next, where it has just read this one, if that needs no walk: a dial tone job
-/// tests the ten line junctor switches of a frame in order, whatever they show and whatever the plan is.
-/// The other jobs trace paths too, where what follows is told by what was read.
-pub fn next_in_row(job: &Job, readings: &Readings, word: WordNo) -> Option<WordNo>
-    ensures job { IfSome result (λ next. IsDial job.now) }
-    ensures next { IfSome result (λ next. IsNextJunctor word next) }
-    ensures unread { IfSome result (λ next. value_read readings.now next ≡ None) }
-{
-    let Job::Dial(_) = job else {
-        return None;
-    };
-    let next = next_junctor(word)?;
-    match readings.find(next) {
-        Some(_) => None,
-        None => Some(next),
-    }
-}
-
 /// Goes through a job with what an attempt has come by: to its decision, or to what it wants first.
-pub fn walk(plan: &Plan, gathered: &Gathered, job: &Job) -> Result<Decision, Wanted>
+pub fn walk(plan: &Plan, gathered: &Gathered, job: &Job) -> Result<Decided, Wanted>
     requires job { IsJob job.now }
     requires read { AreReadWords gathered.now.readings }
-    ensures walk { result ≡ walk_of gathered.now (script plan.now job.now) }
-    ensures range { MatchResult result
-        (λ decision. AreEffects (effects decision) × (length (effects decision) ≤ most_effects))
-        (λ wanted. IsWanted wanted) }
+    ensures { result ≡ walk_of gathered.now (script plan.now job.now) }
 {
     // Called for its clauses alone.
     xbar_plan::laws::every_plan_is_lawful(plan);
-    follow(plan, gathered, job)
+    let decision = follow(plan, gathered, job)?;
+    Ok(Decided::new(decision))
+}
+
+fn tests_rows(gathered: &Gathered, job: &Job) -> bool
+    ensures { IsTrue result → TestsRows job.now gathered.now }
+{
+    match job {
+        Job::Dial(_) => true,
+        Job::Complete(line, _) => has_traced(&Seen::new(gathered), *line),
+        Job::Release(_) => false,
+    }
+}
+
+/// The word that a job tests next once it has read the one that it wants, if that needs no walk: the
+/// ten line junctor switches of a frame are tested in order, whatever they show and whatever the plan is.
+pub fn next_in_row(plan: &Plan, gathered: &Gathered, job: &Job, word: usize) -> Option<usize>
+    requires job { IsJob job.now }
+    requires wants { walk_of gathered.now (script plan.now job.now) ≡ Err (Test word) }
+    ensures { IfSome result (GoesOnTo conn_eq gathered.now (script plan.now job.now) word) }
+{
+    // Called for its clauses alone.
+    xbar_plan::laws::every_plan_is_lawful(plan);
+    let next = next_junctor(word)?;
+    if gathered.has_read(next) {
+        return None;
+    }
+    if tests_rows(gathered, job) {
+        Some(next)
+    } else {
+        None
+    }
 }

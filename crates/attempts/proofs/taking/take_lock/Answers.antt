@@ -8,10 +8,10 @@ use Rattle.attempts.proofs.Onward.{room_to_seize, walks_seized}
 use Rattle.attempts.proofs.taking.take_lock.Goals as goal
 
 pub hold-requires : goal.hold-requires
-hold-requires g c = (omega arith, room_to_seize g.S.Lock.PartialEq.eq g.S.Scripts.reply_of g.S.Scripts.effects_of (g.S.Scripts.system c.args.setting.now) (g.S.Scripts.rest c.args.setting.now) (g.met.S.Scripts.is_system c.args.setting.now c.requires.setting) _ _ (λ job right. g.met.S.Scripts.asks c.args.setting.now job c.requires.setting right) c.args.program.now c.in-Some.lock c.in-Some.ensures.some.0 c.requires.stands c.in-Some.ensures.some.1)
+hold-requires g c = (omega arith, room_to_seize g.S.Lock.PartialEq.eq g.S.Scripts.reply_of g.S.Scripts.effects_of (g.S.Scripts.system c.args.setting.now) (g.S.Scripts.Knows c.args.setting.now) _ _ c.requires.scripts c.args.program.now c.in-Some.lock c.in-Some.ensures.some.0 c.requires.stands c.in-Some.ensures.some.1)
 
 pub walk_on-requires : goal.walk_on-requires
-walk_on-requires g c = (first_of (search rules, omega arith), (c.requires.setting, walks_seized g.S.Lock.PartialEq.eq g.S.Scripts.reply_of g.S.Scripts.effects_of (g.S.Scripts.system c.args.setting.now) (g.S.Scripts.rest c.args.setting.now) (g.met.S.Scripts.is_system c.args.setting.now c.requires.setting) _ _ (λ job right. g.met.S.Scripts.asks c.args.setting.now job c.requires.setting right) c.args.program.now c.in-Some.lock c.in-Some.ensures.some.0 _ c.requires.stands c.in-Some.ensures.some.1 c.hold.ensures))
+walk_on-requires g c = (first_of (search rules, omega arith), (c.requires.setting, walks_seized g.S.Lock.PartialEq.eq g.S.Scripts.reply_of g.S.Scripts.effects_of (g.S.Scripts.system c.args.setting.now) (g.S.Scripts.Knows c.args.setting.now) _ _ c.requires.scripts c.args.program.now c.in-Some.lock c.in-Some.ensures.some.0 _ c.requires.stands c.in-Some.ensures.some.1 c.hold.ensures))
 
 pub returns-in-Some-clause-change : goal.returns-in-Some-clause-change
 returns-in-Some-clause-change g c = c.walk_on.ensures.walk ∙ ap (λ p. walks_on (system_with g.S.Lock.PartialEq.eq g.S.Scripts.reply_of g.S.Scripts.effects_of (g.S.Scripts.system c.args.setting.now)) (attempt_of g.S.Scripts.reply_of g.S.Scripts.effects_of p)) c.hold.ensures ∙ ap (λ phase. changed (system_with g.S.Lock.PartialEq.eq g.S.Scripts.reply_of g.S.Scripts.effects_of (g.S.Scripts.system c.args.setting.now)) (attempt_of g.S.Scripts.reply_of g.S.Scripts.effects_of c.args.program.now) phase Seized) (sym c.in-Some.ensures.some.1)

@@ -1,4 +1,4 @@
-use Rattle.xbar_jobs.proofs.ReadOnce.{wants_free, wants_unread}
+use Rattle.xbar_jobs.proofs.Wanting.{wants_free, wants_unread}
 use Rattle.xbar_jobs.proofs.laws.walks_want_what_is_not_there.Goals as goal
 
 pub returns-clause-conn : goal.returns-clause-conn

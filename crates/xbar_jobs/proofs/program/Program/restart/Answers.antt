@@ -1,15 +1,21 @@
-use Rattle.std.proofs.Common.{ap, subst, sym}
-use Rattle.xbar_jobs.specs.Attempt.{Attempt, Counted}
-use Rattle.xbar_jobs.specs.Standing.{Stands}
+use Rattle.std.proofs.Common.{ap, subst, sym, ◌∙◌}
+use Rattle.turns.specs.Attempt.{restarted}
+use Rattle.xbar_jobs.specs.Attempt.{Attempt, Counted, with_count}
+use Rattle.xbar_jobs.specs.Office.{office}
+use Rattle.xbar_jobs.specs.Standing.{Stands, attempt_at}
 use Rattle.xbar_jobs.proofs.AttemptStands.{stands_again}
+use Rattle.xbar_jobs.proofs.Programs.{attempt_restarted, count_is, no_plan, restarted_here}
 use Rattle.xbar_jobs.proofs.program.Program.restart.Goals as goal
 
-pub returns-then-is_fresh-clause-plan : goal.returns-then-is_fresh-clause-plan
-returns-then-is_fresh-clause-plan c = λ plan laws stands.
-    let same = ap (λ (a : Counted). a.attempt) (sym c.self.view_is) in
-    subst (λ (a : Attempt). Stands plan a) (sym (c.restart.ensures plan)) (stands_again plan c.self.inside.attempt laws c.job-job.ensures.range (subst (λ (a : Attempt). Stands plan a) same stands))
+pub invariant_of-self : goal.invariant_of-self
+invariant_of-self c = attempt_restarted no_plan (attempt_at c.self.inside.attempt) (attempt_at c.restart.new.program) c.self.invariant (restarted_here no_plan (attempt_at c.self.inside.attempt) (attempt_at c.restart.new.program) (c.restart.ensures.restarts no_plan))
 
-pub returns-else-is_fresh-clause-plan : goal.returns-else-is_fresh-clause-plan
-returns-else-is_fresh-clause-plan c = λ plan laws stands.
-    let same = ap (λ (a : Counted). a.attempt) (sym c.self.view_is) in
-    subst (λ (a : Attempt). Stands plan a) (sym (c.restart.ensures plan)) (stands_again plan c.self.inside.attempt laws c.job-job.ensures.range (subst (λ (a : Attempt). Stands plan a) same stands))
+pub returns-clause-change : goal.returns-clause-change
+returns-clause-change c = λ plan.
+    count_is c.restart.new.program c.self.inside.attempt.count (restarted (office plan) (attempt_at c.self.inside.attempt)) (restarted_here plan (attempt_at c.self.inside.attempt) (attempt_at c.restart.new.program) (c.restart.ensures.restarts plan)) c.restart.ensures.count
+    ∙ ap (λ (p : Counted). with_count p.count (restarted (office plan) p.attempt)) c.self.view_is
+
+pub returns-clause-plan : goal.returns-clause-plan
+returns-clause-plan c = λ plan laws stands.
+    let same = ap (λ (p : Counted). p.attempt) (sym c.self.view_is) in
+    subst (λ (a : Attempt). Stands plan a) (sym (restarted_here plan (attempt_at c.self.inside.attempt) (attempt_at c.restart.new.program) (c.restart.ensures.restarts plan))) (stands_again plan (attempt_at c.self.inside.attempt) laws c.self.invariant.job (subst (λ (a : Attempt). Stands plan a) same stands))

@@ -1,0 +1,60 @@
+-- no word is read twice, since a walk wants no word that was read
+use Rattle.std.proofs.Common.{◌≡◌, ℕ, zero, suc, ◌<◌, Bool, true, false, List, [], ◌∷◌, ◌++◌, length, inl, inr, refl, sym, ◌∙◌, ap, subst, arith}
+use Rattle.std.specs.Prelude.{Option, Some, None, ◌==◌, Err, find, get_or, option_map, if◌then◌else◌}
+use Rattle.std.proofs.lemmas.Bool.{eq-eqb}
+use Rattle.turns.specs.Among.{IsIn}
+use Rattle.turns.specs.Script.{Script, Ends, TestThen, SeizeThen, first_wanted, is_held, left, left_of_test, left_of_seizing, value_read, walk}
+use Rattle.turns.specs.Seen.{Seen}
+use Rattle.turns.specs.declared.reading.Reading.{Reading}
+use Rattle.turns.specs.declared.wanted.Wanted.TheVariants.{Test}
+use Rattle.turns.proofs.Lists.{in_either}
+use Rattle.attempts.specs.Points.{AreReadOnce}
+
+-- the word that a walk wants was not read
+pub wants_unread : {Lock A : Type 0} (same : Lock → Lock → Bool) (seen : Seen Lock) (word : ℕ) (script : Script Lock A) → walk same seen script ≡ Err (Test word) → value_read seen.readings word ≡ None
+unfolding walk left left_of_test left_of_seizing first_wanted
+wants_unread {Lock} {A} same seen word (Ends found) wants = cc
+wants_unread {Lock} {A} same seen word (TestThen other script) wants = at (value_read seen.readings other) refl (λ value. wants_unread same seen word (script value)) wants where
+  at : (o : Option ℕ) → value_read seen.readings other ≡ o → ((value : ℕ) → walk same seen (script value) ≡ Err (Test word) → value_read seen.readings word ≡ None) → first_wanted (left_of_test script (λ value. left same seen (script value)) other o) ≡ Err (Test word) → value_read seen.readings word ≡ None
+  at None none later e = let here : other ≡ word = cc in ap (value_read seen.readings) (sym here) ∙ none
+  at (Some value) is later e = later value e
+wants_unread {Lock} {A} same seen word (SeizeThen lock script) wants = at (is_held same seen.held lock) (wants_unread same seen word script) wants where
+  at : (b : Bool) → (walk same seen script ≡ Err (Test word) → value_read seen.readings word ≡ None) → first_wanted (left_of_seizing script (left same seen script) lock b) ≡ Err (Test word) → value_read seen.readings word ≡ None
+  at false later e = absurd cc
+  at true later e = later e
+
+read_new : (readings : List (Reading ℕ)) (last : Reading ℕ) → value_read readings last.word ≡ None → value_read (readings ++ last ∷ []) last.word ≡ Some last.value
+unfolding value_read
+read_new [] last unread = ap (λ b. option_map (λ (r : Reading ℕ). r.value) (if b then Some last else None)) (eq-eqb last.word last.word refl)
+read_new (reading ∷ readings) last unread = at (reading.word == last.word) (read_new readings last) unread where
+  at : (b : Bool) → (value_read readings last.word ≡ None → value_read (readings ++ last ∷ []) last.word ≡ Some last.value) → option_map (λ (r : Reading ℕ). r.value) (if b then Some reading else find (λ (r : Reading ℕ). r.word == last.word) readings) ≡ None → option_map (λ (r : Reading ℕ). r.value) (if b then Some reading else find (λ (r : Reading ℕ). r.word == last.word) (readings ++ last ∷ [])) ≡ Some last.value
+  at true later none = absurd cc
+  at false later none = later none
+
+-- what was read in a word is, with one reading more
+read_still : (readings : List (Reading ℕ)) (last : Reading ℕ) (word value : ℕ) → value_read readings word ≡ Some value → value_read (readings ++ last ∷ []) word ≡ Some value
+unfolding value_read
+read_still [] last word value e = absurd cc
+read_still (reading ∷ readings) last word value e = at (reading.word == word) (read_still readings last word value) e where
+  at : (b : Bool) → (value_read readings word ≡ Some value → value_read (readings ++ last ∷ []) word ≡ Some value) → option_map (λ (r : Reading ℕ). r.value) (if b then Some reading else find (λ (r : Reading ℕ). r.word == word) readings) ≡ Some value → option_map (λ (r : Reading ℕ). r.value) (if b then Some reading else find (λ (r : Reading ℕ). r.word == word) (readings ++ last ∷ [])) ≡ Some value
+  at true later e = e
+  at false later e = later e
+
+-- with one reading more of a word that was not read
+pub once_more : (readings more : List (Reading ℕ)) (last : Reading ℕ) → more ≡ readings ++ last ∷ [] → AreReadOnce readings → value_read readings last.word ≡ None → AreReadOnce more
+once_more readings more last is once unread = subst (λ (all : List (Reading ℕ)). AreReadOnce all) (sym is) (λ reading within. elim (in_either reading readings (last ∷ []) within) [
+  | inl front ↦ read_still readings last reading.word reading.value (once reading front)
+  | inr (inl e) ↦ subst (λ (r : Reading ℕ). value_read (readings ++ last ∷ []) r.word ≡ Some r.value) (sym e) (read_new readings last unread)
+  | inr (inr none) ↦ absurd none
+])
+
+-- what stands at a place of a list is one of its items
+item_within : (items : List (Reading ℕ)) (at : ℕ) (other : Reading ℕ) → at < length items → IsIn (get_or items at other) items
+item_within [] at other below = absurd (omega arith)
+item_within (first ∷ items) zero other below = inl refl
+item_within (first ∷ items) (suc at) other below = inr (item_within items at other (omega arith))
+
+-- a reading of a word, wherever it stands, is what was read in it
+pub read_at_place : (readings : List (Reading ℕ)) (at word : ℕ) (other : Reading ℕ) → AreReadOnce readings → at < length readings → (get_or readings at other).word ≡ word → Some (get_or readings at other).value ≡ value_read readings word
+read_at_place readings at word other once below here =
+    sym (once (get_or readings at other) (item_within readings at other below)) ∙ ap (value_read readings) here

@@ -1,0 +1,201 @@
+-- a program's attempt is one of the office, and stands as the law's does
+use Rattle.std.proofs.Common.{◌≡◌, ℕ, zero, suc, Bool, List, [], ◌∷◌, inl, inr, refl, sym, ◌∙◌, ap, subst, arith}
+use Rattle.std.specs.Prelude.{Option, Some, None, IsSome, drop}
+use Rattle.turns.specs.Attempt.{IsAnswerTo, Rest, Ask, Take, Leave, Free, Look, Turn, Make, StandsIn, act, act_in, begin_with, change, closing_act, forgotten, free_act, freed, restarted, restarted_in}
+use Rattle.turns.specs.System.{DecidesUnder}
+use Rattle.turns.specs.declared.answer.Answer.{Answer}
+use Rattle.turns.specs.declared.answer.Answer.TheVariants.{Turn as Turned}
+use Rattle.turns.specs.declared.phase.Phase.TheVariants.{Requests, Seizes, Tests, Turns, Withdraws, GivesBack, Operates}
+use Rattle.turns.proofs.Keeping.{WalkFits}
+use Rattle.turns.proofs.Standing.{come_fits, wanted_lock}
+use Rattle.attempts.specs.Standing as standing
+use Rattle.attempts.specs.Standing.{AreScripts, effects_left}
+use Rattle.attempts.specs.SystemWith.{system_with, with}
+use Rattle.attempts.proofs.Walking.{known_anywhere}
+use Rattle.xbar_equip.specs.Conn.{IsConn}
+use Rattle.xbar_equip.specs.declared.conn.Conn.{Conn}
+use Rattle.xbar_equip.specs.contracts.conn.ConnPartialEq.TheImpl.{ghosts}
+use Rattle.xbar_plan.specs.Lawful.{IsLawful}
+use Rattle.xbar_plan.specs.Tables.{Tables}
+use Rattle.xbar_office.specs.Legal.{IsJob}
+use Rattle.xbar_office.specs.declared.job.Job.{Job}
+use Rattle.xbar_office.specs.declared.job.Job.TheVariants.{Dial, Complete, Release}
+use Rattle.xbar_jobs.specs.Attempt.{Act, Attempt, Counted, Phase, fresh, step_of, with_count}
+use Rattle.xbar_jobs.specs.Closing.{effects as effects_of}
+use Rattle.xbar_jobs.specs.Jobs.{first_conn}
+use Rattle.xbar_jobs.specs.Keeping.{AreEffects}
+use Rattle.xbar_jobs.specs.Office.{office, office_over}
+use Rattle.xbar_jobs.specs.Script.{Seen}
+use Rattle.xbar_jobs.specs.Standing.{AreConns, Doing, HasReplyIn, IsAttempt, IsPhase, Stands, attempt_at, reply_of, most_readings, most_seizings}
+use Rattle.xbar_jobs.specs.Turning.{DoesAsOffice, IsAct, IsStep}
+use Rattle.xbar_jobs.specs.declared.decision.Decision.{Decision}
+use Rattle.xbar_jobs.specs.declared.effect.Effect.{Effect}
+use Rattle.xbar_jobs.specs.declared.effect.Effect.TheVariants.{Close, Open, SetBit, ClearBit}
+use Rattle.xbar_jobs.proofs.AttemptStands.{stands_after}
+use Rattle.xbar_jobs.proofs.JobBounds.{jobs_bounded}
+use Rattle.xbar_jobs.proofs.JobTurns.{turn_does}
+use Rattle.xbar_jobs.proofs.OfficeSystem.{office_is}
+use Rattle.xbar_jobs.proofs.SeenTests.{told_apart}
+
+-- the step that makes an act is on what there is too
+pub act_step : (a : Act) → IsAct a → IsStep (step_of a)
+act_step Rest range = tt
+act_step (Ask conn) range = range
+act_step (Take conn expected) range = range
+act_step (Leave conn) range = range
+act_step (Free conn) range = range
+act_step (Look word) range = range
+act_step Turn range = tt
+act_step (Make (Close c)) range = omega (arith, range.word)
+act_step (Make (Open c)) range = omega (arith, range.word)
+act_step (Make (SetBit group index)) range = omega (arith, range.0)
+act_step (Make (ClearBit group index)) range = omega (arith, range.0)
+
+free_range : (held : List Conn) → AreConns held → IsAct (free_act held)
+free_range [] conns = tt
+free_range (conn ∷ held) conns = conns conn (inl refl)
+
+closing_range : (effects : List Effect) (held : List Conn) → AreEffects effects → AreConns held → IsAct (closing_act effects held)
+closing_range [] held are conns = free_range held conns
+closing_range (effect ∷ effects) held are conns = are effect (inl refl)
+
+-- an attempt of the office acts on what there is
+pub act_range : (a : Attempt) → IsAttempt a → IsAct (act a)
+act_range a is = at a.phase is.phase where
+  at : (phase : Phase) → IsPhase phase → IsAct (act_in phase a)
+  at (Requests conn) range = range
+  at (Seizes conn expected) range = range
+  at (Tests word) range = range
+  at Turns range = tt
+  at (Withdraws conn) range = range
+  at GivesBack range = free_range a.held is.held
+  at (Operates turn) range = closing_range a.effects a.held is.effects is.held
+
+pub made_range : (a : Attempt) (one : Act) → IsAttempt a → one ≡ act a → IsAct one
+made_range a one is same = subst IsAct (sym same) (act_range a is)
+
+-- the effects that are left are among those of the decision
+dropped : (n : ℕ) (effects : List Effect) → AreEffects effects → AreEffects (drop n effects)
+dropped zero effects are = are
+dropped (suc n) [] are = are
+dropped (suc n) (effect ∷ effects) are = dropped n effects (λ other within. are other (inr within))
+
+pub left_effects : (decision : Option Decision) (d : Decision) (made : ℕ) → decision ≡ Some d → AreEffects (effects_of d) → AreEffects (effects_left effects_of decision made)
+left_effects decision d made is are = subst (λ (o : Option Decision). AreEffects (effects_left effects_of o made)) (sym is) (dropped made (effects_of d) are)
+
+pub none_left : (decision : Option Decision) (made : ℕ) → decision ≡ None → AreEffects (effects_left effects_of decision made)
+none_left decision made is = subst (λ (o : Option Decision). AreEffects (effects_left effects_of o made)) (sym is) (λ effect none. absurd none)
+
+-- an attempt that stands is one of the office
+module _ (plan : Tables) (laws : IsLawful plan) where
+  phase_range : (a : Attempt) (phase : Phase) → Stands plan a → StandsIn (office plan) a phase → IsPhase phase
+  phase_range a (Requests conn) stands comes = wanted_lock (office plan) (office_is plan laws) a conn stands.place.job stands.place.read comes
+  phase_range a (Seizes conn expected) stands comes = wanted_lock (office plan) (office_is plan laws) a conn stands.place.job stands.place.read comes
+  phase_range a (Tests word) stands comes =
+      let under = subst (WalkFits (office plan) (DecidesUnder (office plan)) a.held) comes (come_fits (office plan) (office_is plan laws) a stands.place.job stands.place.read) in
+      (office_is plan laws).words.word_there word under.lock under.protects
+  phase_range a Turns stands comes = tt
+  phase_range a (Withdraws conn) stands comes = comes
+  phase_range a GivesBack stands comes = tt
+  phase_range a (Operates turn) stands comes = tt
+
+  has_reply : (a : Attempt) (phase : Phase) → StandsIn (office plan) a phase → HasReplyIn phase a.reply
+  has_reply a (Requests conn) comes = tt
+  has_reply a (Seizes conn expected) comes = tt
+  has_reply a (Tests word) comes = tt
+  has_reply a Turns comes = subst IsSome (sym comes.reply) refl
+  has_reply a (Withdraws conn) comes = tt
+  has_reply a GivesBack comes = tt
+  has_reply a (Operates turn) comes = subst IsSome (sym comes.reply) refl
+
+  pub is_attempt : (a : Attempt) → Stands plan a → AreEffects a.effects → IsAttempt a
+  is_attempt a stands effects = record {
+    job = stands.place.job;
+    phase = phase_range a a.phase stands stands.place.comes;
+    held = stands.place.held;
+    reply = has_reply a a.phase stands.place.comes;
+    effects = effects;
+  }
+
+-- the connector that a job seizes first is one of the office
+first_range : (job : Job) → IsJob job → IsConn (first_conn job)
+first_range (Dial line) range = range.frame
+first_range (Complete line dialled) range = range.0.frame
+first_range (Release line) range = range.frame
+
+pub attempt_begun : (job : Job) → IsJob job → IsAttempt (begin_with (first_conn job) job)
+attempt_begun job range = record {
+  job = range;
+  phase = first_range job range;
+  held = λ conn none. absurd none;
+  reply = tt;
+  effects = λ effect none. absurd none;
+}
+
+-- and so is an attempt that restarts
+attempt_freed : (plan : Tables) (a : Attempt) (held : List Conn) → IsJob a.job → AreConns held → AreEffects a.effects → IsAttempt (freed (office plan) a held)
+attempt_freed plan a [] job conns effects = attempt_begun a.job job
+attempt_freed plan a (conn ∷ held) job conns effects = record { job = job; phase = tt; held = conns; reply = tt; effects = effects }
+
+attempt_restarted_in : (plan : Tables) (a : Attempt) (phase : Phase) → a.phase ≡ phase → IsAttempt a → IsAttempt (restarted_in (office plan) phase a)
+attempt_restarted_in plan a (Requests conn) at is = attempt_freed plan (forgotten a) a.held is.job is.held (λ effect none. absurd none)
+attempt_restarted_in plan a (Seizes conn expected) at is = record { job = is.job; phase = subst IsPhase at is.phase; held = is.held; reply = tt; effects = λ effect none. absurd none }
+attempt_restarted_in plan a (Tests word) at is = attempt_freed plan (forgotten a) a.held is.job is.held (λ effect none. absurd none)
+attempt_restarted_in plan a Turns at is = attempt_freed plan (forgotten a) a.held is.job is.held (λ effect none. absurd none)
+attempt_restarted_in plan a (Withdraws conn) at is = is
+attempt_restarted_in plan a GivesBack at is = is
+attempt_restarted_in plan a (Operates turn) at is = is
+
+pub attempt_restarted : (plan : Tables) (a new : Attempt) → IsAttempt a → new ≡ restarted (office plan) a → IsAttempt new
+attempt_restarted plan a new is made = subst IsAttempt (sym made) (attempt_restarted_in plan a a.phase refl is)
+
+-- what the code says of locks that it tells apart, as the law says it
+abbrev KnowsHere : Job → Unit {0} → Seen → Type 0
+KnowsHere job point seen = Unit {0}
+
+pub scripts_are : (plan : Tables) → IsLawful plan → AreScripts ghosts.eq reply_of effects_of (with (office_over plan)) KnowsHere most_readings most_seizings
+scripts_are plan laws = subst (λ (same : Conn → Conn → Bool). AreScripts same reply_of effects_of (with (office_over plan)) KnowsHere most_readings most_seizings) (sym told_apart) (record {
+  is_system = office_is plan laws;
+  asks = (jobs_bounded plan laws).asks;
+  knows_on = λ job point seen more extends knows. knows;
+})
+
+pub stands_here : (plan : Tables) (p : Doing) → Stands plan (attempt_at p) → standing.Stands ghosts.eq reply_of effects_of (with (office_over plan)) KnowsHere most_readings most_seizings p
+stands_here plan p stands = subst (λ (same : Conn → Conn → Bool). standing.Stands same reply_of effects_of (with (office_over plan)) KnowsHere most_readings most_seizings p) (sym told_apart) (record { place = stands.place; point = known_anywhere KnowsHere (attempt_at p) p.point p.phase (λ seen. tt) })
+
+pub changed_here : (plan : Tables) (a new : Attempt) (answer : Answer) → new ≡ change (system_with ghosts.eq reply_of effects_of (with (office_over plan))) a answer → new ≡ change (office plan) a answer
+changed_here plan a new answer made = subst (λ (same : Conn → Conn → Bool). new ≡ change (system_with same reply_of effects_of (with (office_over plan))) a answer) told_apart made
+
+pub restarted_here : (plan : Tables) (a new : Attempt) → new ≡ restarted (system_with ghosts.eq reply_of effects_of (with (office_over plan))) a → new ≡ restarted (office plan) a
+restarted_here plan a new made = subst (λ (same : Conn → Conn → Bool). new ≡ restarted (system_with same reply_of effects_of (with (office_over plan))) a) told_apart made
+
+-- whatever the plan, for what doesn't depend on it
+pub no_plan : Tables
+no_plan = record { groups = []; stations = []; routes = []; faults = [] }
+
+abbrev counted_at : Attempt → ℕ → Counted
+counted_at a count = record { attempt = a; count = count }
+
+-- an attempt and its count, after an answer or anew
+pub count_is : (p : Doing) (before : ℕ) (a : Attempt) → attempt_at p ≡ a → p.count ≡ (with_count before (attempt_at p)).count → counted_at (attempt_at p) p.count ≡ with_count before a
+count_is p before a made count = ap (counted_at (attempt_at p)) count ∙ ap (with_count before) made
+
+pub begun_is : (p : Doing) (job : Job) → attempt_at p ≡ begin_with (first_conn job) job → p.count ≡ 0 → counted_at (attempt_at p) p.count ≡ fresh job
+begun_is p job made count = ap (counted_at (attempt_at p)) count ∙ ap (λ (a : Attempt). counted_at a 0) made
+
+-- what becomes of a program that was told something
+pub record Told (plan : Tables) (p new : Doing) (answer : Answer) : Type 0 where
+  pub change : attempt_at new ≡ change (office plan) (attempt_at p) answer
+  pub stands : Stands plan (attempt_at new)
+  pub turn : (number : ℕ) → answer ≡ Turned number → DoesAsOffice plan (attempt_at new)
+
+pub told : (plan : Tables) → IsLawful plan → (p new : Doing) (answer : Answer) (a : Attempt) → attempt_at p ≡ a → IsJob p.job → IsAnswerTo (act a) answer → Stands plan a → attempt_at new ≡ change (system_with ghosts.eq reply_of effects_of (with (office_over plan))) (attempt_at p) answer → Told plan p new answer
+told plan laws p new answer a same job fits stands made =
+    let changed = changed_here plan (attempt_at p) (attempt_at new) answer made in
+    let fits_here = subst (λ (b : Attempt). IsAnswerTo (act b) answer) (sym same) fits in
+    let stands_now = subst (Stands plan) (sym same) stands in
+    record {
+      change = changed;
+      stands = subst (Stands plan) (sym changed) (stands_after plan (attempt_at p) answer laws job fits_here stands_now);
+      turn = λ number is. subst (DoesAsOffice plan) (sym changed) (turn_does plan (attempt_at p) answer number laws job fits_here stands_now.place.comes is);
+    }

@@ -1,9 +1,0 @@
-use Rattle.std.proofs.Common.{ℕ, List, ap, ◌∙◌}
-use Rattle.turns.specs.Script.{value_read}
-use Rattle.turns.specs.declared.reading.Reading.{Reading}
-use Rattle.xbar_jobs.proofs.ReadOnce.{once_more}
-use Rattle.xbar_jobs.proofs.readings.Readings.push.Goals as goal
-
-pub invariant_of-self : goal.invariant_of-self
-invariant_of-self c =
-    once_more _ _ c.args.reading c.push.ensures.items c.self.invariant (ap (λ (readings : List (Reading ℕ)). value_read readings c.args.reading.word) c.self.view_is ∙ c.requires.unread)

@@ -1,0 +1,68 @@
+ghost use Rattle.std.specs.Prelude.{◌≡◌, ◌≤◌, ◌<◌, ◌+◌, ◌^◌, IfSome, length, slice_get};
+ghost use Rattle.xbar_jobs.specs.Closing.{effects as effects_of};
+ghost use Rattle.xbar_jobs.specs.Keeping.{AreEffects};
+ghost use Rattle.xbar_jobs.specs.Standing.{most_effects};
+
+use crate::decision::Decision;
+use crate::effect::Effect;
+use crate::effects::Effects;
+use std::marker::Model;
+use xbar_office::Reply;
+
+/// A decision, with its effects listed.
+#[derive(Debug, Drop)]
+pub struct Decided {
+    decision: Decision,
+    effects: Effects,
+}
+
+impl Model for Decided {
+    ghost use Rattle.std.specs.Prelude.{◌≡◌};
+    ghost use Rattle.xbar_jobs.specs.Closing.{effects as effects_of};
+    ghost use Rattle.xbar_jobs.specs.Keeping.{AreEffects};
+    ghost use Rattle.xbar_jobs.specs.declared.decision.Decision.{Decision};
+
+    ghost Value = { Decision };
+
+    ghost view = { λ a. a.decision };
+
+    ghost invariant = { λ a. (a.effects.items ≡ effects_of a.decision)
+        × AreEffects (effects_of a.decision) };
+}
+
+impl Decided {
+    pub fn new(decision: Decision) -> Self
+        requires effects { AreEffects (effects_of decision) }
+        requires few { length (effects_of decision) ≤ most_effects }
+        ensures { result ≡ decision }
+    {
+        let effects = decision.effects();
+        Decided { decision, effects }
+    }
+
+    pub fn reply(&self) -> &Reply
+        ensures { result.now ≡ self.now.reply }
+    {
+        &self.decision.reply
+    }
+
+    /// The effect at a place among its effects, from 0 on.
+    pub fn effect(&self, place: usize) -> Option<Effect>
+        ensures effect { result ≡ slice_get (effects_of self.now) place }
+        ensures more { IfSome result (λ effect. place + 1 < 2 ^ 64) }
+    {
+        let effects = self.effects.as_slice();
+        if place < effects.len() {
+            Some(effects[place])
+        } else {
+            None
+        }
+    }
+
+    /// Its effects are the office's. Called for its clause alone.
+    pub fn is_of_the_office(&self)
+        ensures { AreEffects (effects_of self.now) }
+    {
+        let _ = &self.decision;
+    }
+}
