@@ -92,7 +92,12 @@ fn words_ask_for_a_walk(rt: HostRuntime) -> Result<(), Fail> {
         ("crossbar5 walk", None, "XX", false),
         ("crossbar5 walk --short", None, "XX", true),
         ("crossbar5 walk --markers DC", None, "DC", false),
-        ("crossbar5 walk --short --plan a.toml", Some("a.toml"), "XX", true),
+        (
+            "crossbar5 walk --short --plan a.toml",
+            Some("a.toml"),
+            "XX",
+            true,
+        ),
         ("crossbar5 walk --markers=X --plan=a", Some("a"), "X", false),
     ] {
         let Ask::Walk { plan, kinds, short } = asked(rt.alloc(), line)? else {
@@ -256,7 +261,10 @@ const REFUSED: &[(&str, ErrorKind)] = &[
     ("crossbar5 walk stray", ErrorKind::UnknownArgument),
     ("crossbar5 walk --text", ErrorKind::UnknownArgument),
     ("crossbar5 replay --short", ErrorKind::UnknownArgument),
-    ("crossbar5 walk --short --short", ErrorKind::ArgumentConflict),
+    (
+        "crossbar5 walk --short --short",
+        ErrorKind::ArgumentConflict,
+    ),
     ("crossbar5 walk --markers", ErrorKind::InvalidValue),
     ("crossbar5 replay --plan", ErrorKind::InvalidValue),
     ("crossbar5 replay --markers", ErrorKind::InvalidValue),
@@ -379,7 +387,8 @@ const TOLD: &[(&str, &str)] = &[
 /// An option in the place of a subcommand is told where it belongs.
 const USAGE_OF_REPLAY: &str = "\n       crossbar5 replay [--plan <FILE>] [--markers <KINDS>]\n";
 
-const USAGE_OF_WALK: &str = "\n       crossbar5 walk [--plan <FILE>] [--markers <KINDS>] [--short]\n";
+const USAGE_OF_WALK: &str =
+    "\n       crossbar5 walk [--plan <FILE>] [--markers <KINDS>] [--short]\n";
 
 const USAGE_OF_LIVE: &str = "
        crossbar5 live [--plan <FILE>] [--dial <N>] [--completing <N>]
