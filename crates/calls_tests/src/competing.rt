@@ -1,69 +1,39 @@
 //! Calls that compete for registers and trunks.
 
-ghost use Rattle.std.specs.Prelude.{◌≡◌, ◌+◌, ◌<◌, All, IfOk, vec_len};
+ghost use Rattle.std.specs.Prelude.{◌+◌, ◌<◌, All};
 ghost use Rattle.xbar_markers.specs.Calls.{HasCallNo};
 
-use crate::running::{BOTH, By, Staff, call, run};
+use crate::checks::{check, check_equal};
+use crate::running::{BOTH, By, Staff, call_out, example, open_gates, run};
 use std::alloc::Global;
 use std::process::Abort;
 use std::sync::Wait;
-use std::test::Fail;
 use std::thread::Threads;
-use xbar_markers::{Call, OpenGate, Outcome, RunFault, run_calls};
+use xbar_equip::Len;
+use xbar_markers::{Call, Outcome, RunFault, run_calls};
 use xbar_match::{count_closed, count_paths};
 use xbar_office::{End, Record};
 use xbar_plan::Plan;
 
-/// How often each run is tried.
-const TIMES: u32 = 20;
-
-const TWO_AND_TWO: Staff = Staff {
-    dialling: 2,
-    completing: 2,
-};
-
 /// Three lines, and a fourth, call out of the office and keep what they get.
-fn four_calls() -> Result<[Call; 4], Fail>
-    ensures { IfOk result (All HasCallNo) }
+fn four_calls() -> [Call; 4]
+    ensures { All HasCallNo result }
 {
-    Ok([
-        call(1, "3041", "5551234", false)?,
-        call(2, "1000", "5551234", false)?,
-        call(3, "2000", "5551234", false)?,
-        call(4, "3052", "5551234", false)?,
-    ])
-}
-
-fn run_two_and_two<'p, R: Threads + Wait + Sync>(
-    rt: &R,
-    alloc: Global,
-    by: By,
-    plan: &'p Plan,
-    calls: &[Call],
-) -> Result<Outcome<'p>, Fail>
-    requires { All HasCallNo calls.now }
-{
-    let gates = vec![in alloc; OpenGate, OpenGate, OpenGate, OpenGate]?;
-    run(rt, alloc, by, plan, calls, TWO_AND_TWO, gates)
-}
-
-/// How many paths the words show, and how many closed crosspoints.
-fn closed(outcome: &Outcome) -> (u16, u16) {
-    let words = outcome.words.as_slice();
-    if words.len() == 453 {
-        (count_paths(words), count_closed(words))
-    } else {
-        (0, 0)
-    }
+    [
+        call_out(1, Len::new(3, 0, 21), false),
+        call_out(2, Len::new(1, 0, 0), false),
+        call_out(3, Len::new(2, 0, 0), false),
+        call_out(4, Len::new(3, 0, 27), false),
+    ]
 }
 
 /// How many ended with dial tone, connected, with all registers busy, and with all trunks busy.
-#[derive(Clone, Copy, Debug, Default, PartialEq, Eq)]
+#[derive(Debug, Default, Drop, PartialEq)]
 struct Ends {
-    dial_tone: u32,
-    connected: u32,
-    registers_busy: u32,
-    trunks_busy: u32,
+    dial_tone: usize,
+    connected: usize,
+    registers_busy: usize,
+    trunks_busy: usize,
 }
 
 impl Ends {
@@ -87,119 +57,227 @@ impl Ends {
     }
 }
 
-#[test]
-fn three_calls_get_three_trunks(rt: HostRuntime) -> Result<(), Fail> {
-    let plan = Plan::example(rt.alloc())?;
-    let calls = four_calls()?;
-    let three = Ends {
-        dial_tone: 3,
-        connected: 3,
-        ..Ends::default()
-    };
-    for _time in 0..TIMES {
-        for by in BOTH {
-            let outcome = run_two_and_two(&rt, rt.alloc(), by, &plan, &calls[..3])?;
-            assert_eq!(rt; outcome.records.len(), 6);
-            assert_eq!(rt; Ends::of(outcome.records.as_slice()), three);
-            assert_eq!(rt; closed(&outcome), (3, 12));
-        }
-    }
-    Ok(())
+/// What calls of the first lines come to, by two who dial and two who complete.
+struct Case {
+    name: &'static str,
+    calls: usize,
+    /// Runs, since threads go on as they will.
+    times: u32,
+    /// How the jobs end, by how many there are.
+    ends: &'static [(usize, Ends)],
+    /// How many paths the words show.
+    paths: u16,
 }
 
-/// The fourth finds no register, or gets one that was let go and finds no trunk.
-#[test]
-fn of_four_calls_one_finds_all_busy(rt: HostRuntime) -> Result<(), Fail> {
-    let plan = Plan::example(rt.alloc())?;
-    let calls = four_calls()?;
-    let no_register = Ends {
-        dial_tone: 3,
-        connected: 3,
-        registers_busy: 1,
-        trunks_busy: 0,
-    };
-    let no_trunk = Ends {
-        dial_tone: 4,
-        connected: 3,
-        registers_busy: 0,
-        trunks_busy: 1,
-    };
-    for _time in 0..TIMES {
-        for by in BOTH {
-            let outcome = run_two_and_two(&rt, rt.alloc(), by, &plan, &calls)?;
-            let ends = Ends::of(outcome.records.as_slice());
-            let wanted = if outcome.records.len() == 7 {
-                &no_register
-            } else {
-                &no_trunk
-            };
-            assert_eq!(rt; &ends, wanted);
-            assert_eq!(rt; closed(&outcome), (3, 12));
+const CASES: &[Case] = &[
+    Case {
+        name: "no calls close nothing",
+        calls: 0,
+        times: 1,
+        ends: &[(
+            0,
+            Ends {
+                dial_tone: 0,
+                connected: 0,
+                registers_busy: 0,
+                trunks_busy: 0,
+            },
+        )],
+        paths: 0,
+    },
+    Case {
+        name: "three calls get three trunks",
+        calls: 3,
+        times: 20,
+        ends: &[(
+            6,
+            Ends {
+                dial_tone: 3,
+                connected: 3,
+                registers_busy: 0,
+                trunks_busy: 0,
+            },
+        )],
+        paths: 3,
+    },
+    // The fourth finds no register, or gets one that was let go and finds no trunk.
+    Case {
+        name: "of four calls one finds all busy",
+        calls: 4,
+        times: 20,
+        ends: &[
+            (
+                7,
+                Ends {
+                    dial_tone: 3,
+                    connected: 3,
+                    registers_busy: 1,
+                    trunks_busy: 0,
+                },
+            ),
+            (
+                8,
+                Ends {
+                    dial_tone: 4,
+                    connected: 3,
+                    registers_busy: 0,
+                    trunks_busy: 1,
+                },
+            ),
+        ],
+        paths: 3,
+    },
+];
+
+/// Whether jobs are to end so where there are so many records.
+fn is_wanted(case: &Case, records: usize, found: &Ends) -> bool {
+    for (count, ends) in case.ends {
+        if *count == records {
+            return ends == found;
         }
     }
-    Ok(())
+    false
 }
 
-#[test]
-fn no_calls_close_nothing(rt: HostRuntime) -> Result<(), Fail> {
-    let plan = Plan::example(rt.alloc())?;
+fn is_untouched(words: &[u64]) -> bool {
+    for word in words {
+        if *word != 0 {
+            return false;
+        }
+    }
+    true
+}
+
+/// The words show so many paths of four crosspoints each.
+fn check_paths(rt: &impl Abort, name: &str, words: &[u64], paths: u16) {
+    assert!(rt; words.len() == 453);
+    let closed = (count_paths(words), count_closed(words));
+    check_equal(rt, name, &closed, &(paths, paths.saturating_mul(4)));
+}
+
+fn check_outcome(rt: &impl Abort, case: &Case, outcome: &Outcome) {
+    let records = outcome.records.as_slice();
+    let ends = Ends::of(records);
+    let is_so = is_wanted(case, records.len(), &ends);
+    check(rt, format_args!("{}: {ends:?}", case.name), is_so);
+    check_paths(rt, case.name, &outcome.words, case.paths);
+    let is_untouched = is_untouched(&outcome.words);
+    check_equal(rt, case.name, &is_untouched, &(case.calls == 0));
+}
+
+fn compete<R: Threads + Wait + Sync + Abort>(
+    rt: &R,
+    alloc: Global,
+    plan: &Plan,
+    case: &Case,
+    calls: &[Call],
+)
+    requires { All HasCallNo calls.now }
+{
+    let two_and_two = Staff {
+        dialling: 2,
+        completing: 2,
+    };
     for by in BOTH {
-        let outcome = run_two_and_two(&rt, rt.alloc(), by, &plan, &[])?;
-        assert!(rt; outcome.records.is_empty());
-        assert_eq!(rt; closed(&outcome), (0, 0));
-        assert!(rt; outcome.words.iter().all(|word| *word == 0));
+        let gates = open_gates(rt, alloc, 4);
+        let outcome = run(rt, alloc, by, plan, calls, two_and_two, gates);
+        check_outcome(rt, case, &outcome);
     }
-    Ok(())
+}
+
+fn compete_all<R: Threads + Wait + Sync + Abort>(rt: &R, alloc: Global, plan: &Plan) {
+    let calls = four_calls();
+    for case in CASES {
+        assert!(rt; case.calls <= 4);
+        for _time in 0..case.times {
+            compete(rt, alloc, plan, case, &calls[..case.calls]);
+        }
+    }
+}
+
+#[test]
+fn calls_compete(rt: HostRuntime) {
+    compete_all(&rt, rt.alloc(), &example(&rt, rt.alloc()));
+}
+
+/// The turn, the number and the marker of each job.
+const JOBS: &[(u64, u32, u32)] = &[(0, 21, 0), (1, 22, 1), (2, 23, 1)];
+
+fn has_job(records: &[Record], turn: u64, job_no: u32, marker: u32) -> bool {
+    for record in records {
+        if record.turn == turn {
+            return record.job_no == job_no && record.marker == marker;
+        }
+    }
+    false
+}
+
+fn check_jobs(rt: &impl Abort, records: &[Record]) {
+    check_equal(rt, "three jobs", &records.len(), &JOBS.len());
+    for (turn, job_no, marker) in JOBS {
+        let is_there = has_job(records, *turn, *job_no, *marker);
+        check(rt, format_args!("the job of turn {turn}"), is_there);
+    }
+}
+
+fn release_one<R: Threads + Wait + Sync + Abort>(rt: &R, alloc: Global, by: By, plan: &Plan) {
+    let calls = [call_out(7, Len::new(3, 0, 21), true)];
+    let one_and_one = Staff {
+        dialling: 1,
+        completing: 1,
+    };
+    let gates = open_gates(rt, alloc, 2);
+    let outcome = run(rt, alloc, by, plan, &calls, one_and_one, gates);
+    check_jobs(rt, &outcome.records);
+    check_paths(rt, "a call is released", &outcome.words, 0);
+}
+
+fn release_both_ways<R: Threads + Wait + Sync + Abort>(rt: &R, alloc: Global, plan: &Plan) {
+    for by in BOTH {
+        release_one(rt, alloc, by, plan);
+    }
 }
 
 /// A call that is released leaves no path, and its jobs are told by their numbers and markers.
 #[test]
-fn a_call_is_dialled_completed_and_released(rt: HostRuntime) -> Result<(), Fail> {
-    let plan = Plan::example(rt.alloc())?;
-    let calls = [call(7, "3041", "5551234", true)?];
-    let staff = Staff {
-        dialling: 1,
-        completing: 1,
-    };
-    for by in BOTH {
-        let gates = vec![in rt.alloc(); OpenGate, OpenGate]?;
-        let outcome = run(&rt, rt.alloc(), by, &plan, &calls, staff, gates)?;
-        let mut jobs = outcome
-            .records
-            .iter()
-            .map(|record| (record.turn, record.job_no, record.marker));
-        assert_eq!(rt; jobs.next(), Some((0, 21, 0)));
-        assert_eq!(rt; jobs.next(), Some((1, 22, 1)));
-        assert_eq!(rt; jobs.next(), Some((2, 23, 1)));
-        assert_eq!(rt; jobs.next(), None);
-        assert_eq!(rt; closed(&outcome), (0, 0));
-    }
-    Ok(())
+fn a_call_is_dialled_completed_and_released(rt: HostRuntime) {
+    release_both_ways(&rt, rt.alloc(), &example(&rt, rt.alloc()));
 }
 
+/// Numbers of markers that dial and of markers that complete calls, and why no calls are done by them.
+const STAFFS: &[(usize, usize, Option<RunFault>)] = &[
+    (0, 0, Some(RunFault::Markers)),
+    (0, 1, Some(RunFault::Markers)),
+    (1, 0, Some(RunFault::Markers)),
+    (0, 48, Some(RunFault::Markers)),
+    (48, 1, Some(RunFault::Markers)),
+    (24, 25, Some(RunFault::Markers)),
+    (1, 47, None),
+];
+
 /// Why no calls are done, if there are so many markers.
-fn refused<R: Threads + Wait + Sync>(
+fn refused<R: Threads + Wait + Sync + Abort>(
     rt: &R,
     alloc: Global,
     plan: &Plan,
     dialling: usize,
     completing: usize,
-) -> Result<Option<RunFault>, Fail>
+) -> Option<RunFault>
     requires { dialling + completing < 100 }
 {
-    let mut gates = Vec::new(alloc);
-    gates.resize(dialling + completing, OpenGate)?;
-    Ok(run_calls(rt, alloc, plan, &[], dialling, completing, gates).err())
+    let gates = open_gates(rt, alloc, dialling + completing);
+    run_calls(rt, alloc, plan, &[], dialling, completing, gates).err()
+}
+
+fn are_refused<R: Threads + Wait + Sync + Abort>(rt: &R, alloc: Global, plan: &Plan) {
+    for (dialling, completing, wanted) in STAFFS {
+        assert!(rt; *dialling < 50 && *completing < 50);
+        let fault = refused(rt, alloc, plan, *dialling, *completing);
+        check_equal(rt, format_args!("{dialling} {completing}"), &fault, wanted);
+    }
 }
 
 #[test]
-fn each_kind_of_marker_is_wanted(rt: HostRuntime) -> Result<(), Fail> {
-    let plan = Plan::example(rt.alloc())?;
-    for (dialling, completing) in [(0, 0), (0, 1), (1, 0), (0, 48), (48, 1), (24, 25)] {
-        let fault = refused(&rt, rt.alloc(), &plan, dialling, completing)?;
-        assert_eq!(rt; fault, Some(RunFault::Markers), "{dialling} {completing}");
-    }
-    let fault = refused(&rt, rt.alloc(), &plan, 1, 47)?;
-    assert_eq!(rt; fault, None);
-    Ok(())
+fn each_kind_of_marker_is_wanted(rt: HostRuntime) {
+    are_refused(&rt, rt.alloc(), &example(&rt, rt.alloc()));
 }

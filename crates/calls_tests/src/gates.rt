@@ -9,14 +9,14 @@ use xbar_markers::Gate;
 const PATIENCE: u32 = 100_000_000;
 
 /// How far a marker is: at so many steps it has come to its gate, and it has ended so many jobs.
-#[derive(Clone, Copy, Debug)]
+#[derive(Clone, Copy)]
 pub struct Point {
     pub steps: u64,
     pub jobs: u64,
 }
 
 /// A marker waits, once it has come to a point, until another has come to one.
-#[derive(Clone, Copy, Debug)]
+#[derive(Clone, Copy)]
 pub struct Meeting {
     pub at: Point,
     pub other: u32,
@@ -47,7 +47,7 @@ pub struct Board {
 }
 
 /// How often markers met, how often one waited in vain, and how often a gate was told a wrong number.
-#[derive(Clone, Copy, Debug, PartialEq, Eq)]
+#[derive(Debug, Drop, PartialEq)]
 pub struct Tally {
     pub kept: u64,
     pub missed: u64,

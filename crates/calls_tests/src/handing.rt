@@ -1,12 +1,13 @@
 //! A job that one worker begins and another goes on with, each on a thread of its own.
 
-ghost use Rattle.std.specs.Prelude.{IfOk};
 ghost use Rattle.xbar_office.specs.Legal.{IsJob};
 ghost use Rattle.xbar_fabric.specs.Views.{AreDesksOf, IsDeskOf};
 
+use crate::checks::{check, check_equal};
+use crate::running::example;
 use std::alloc::Global;
+use std::process::Abort;
 use std::sync::Wait;
-use std::test::Fail;
 use std::thread::Threads;
 use xbar_equip::Len;
 use xbar_fabric::{AssignFault, Desk, Fabric, Kind, shut};
@@ -25,58 +26,79 @@ fn line() -> Len {
     Len::new(3, 0, 21)
 }
 
-fn last_desk(_fabric: &Fabric, desks: &mut Vec<Desk>) -> Result<Desk, Fail>
-    requires { AreDesksOf desks.old.items _fabric.now }
-    ensures rest { AreDesksOf desks.new.items _fabric.now }
-    ensures desk { IfOk result (λ desk. IsDeskOf desk _fabric.now) }
+/// Shared words with a desk of each of these kinds.
+fn open_desks<'p>(
+    rt: &impl Abort,
+    alloc: Global,
+    plan: &'p Plan,
+    kinds: &[Kind],
+) -> (Fabric<'p>, Vec<Desk>)
+    ensures { AreDesksOf result.1.items result.0 }
 {
-    match desks.pop() {
-        Some(desk) => Ok(desk),
-        None => Err("there is a desk".into()),
-    }
+    let Ok(opened) = Fabric::open(alloc, plan, kinds) else {
+        panic!(rt; "an office is opened");
+    };
+    opened
 }
 
-/// Whether the job to dial, handed over after so many steps, is given back before its turn and else
-/// done.
-fn is_handed<R: Threads + Wait + Sync>(
-    rt: &R,
-    alloc: Global,
-    plan: &Plan,
-    stop: u32,
-    then: Then,
-) -> Result<bool, Fail> {
-    let (fabric, mut desks) = Fabric::open(alloc, plan, &[Kind::Combined])?;
-    let desk = last_desk(&fabric, &mut desks)?;
-    let Ok((desk, handed)) = hand_over(rt, &fabric, desk, 1, Job::Dial(line()), stop, then) else {
-        return Err("an idle desk takes the job".into());
+fn last_desk(rt: &impl Abort, _fabric: &Fabric, desks: &mut Vec<Desk>) -> Desk
+    requires { AreDesksOf desks.old.items _fabric.now }
+    ensures rest { AreDesksOf desks.new.items _fabric.now }
+    ensures desk { IsDeskOf result _fabric.now }
+{
+    let Some(desk) = desks.pop() else {
+        panic!(rt; "there is a desk");
     };
-    let Ok(words) = shut(alloc, fabric, desk) else {
-        return Err("there is memory for the words".into());
-    };
-    let words = words.as_slice();
-    let is_given = then == Then::GiveBack && stop < TURN;
-    Ok(match handed {
+    desk
+}
+
+/// Whether the job ended with dial tone, or was given back, as the words show.
+fn is_shown(handed: &Handed, words: &[u64], is_given: bool) -> bool {
+    if words.len() != 453 {
+        return false;
+    }
+    match handed {
         Handed::Given => is_given && words.iter().all(|word| *word == 0),
         Handed::Finished(record) => {
             !is_given
                 && matches!(record.reply.end, End::DialTone { .. })
                 && (count_paths(words), count_closed(words)) == (1, 4)
         }
-    })
+    }
+}
+
+/// Whether the job to dial, handed over after so many steps, is given back before its turn and else
+/// done.
+fn is_handed<R: Threads + Wait + Sync + Abort>(
+    rt: &R,
+    alloc: Global,
+    plan: &Plan,
+    stop: u32,
+    then: Then,
+) -> bool {
+    let (fabric, mut desks) = open_desks(rt, alloc, plan, &[Kind::Combined]);
+    let desk = last_desk(rt, &fabric, &mut desks);
+    let Ok((desk, handed)) = hand_over(rt, &fabric, desk, 1, Job::Dial(line()), stop, then) else {
+        panic!(rt; "an idle desk takes the job");
+    };
+    let Ok(words) = shut(alloc, fabric, desk) else {
+        panic!(rt; "there is memory for the words");
+    };
+    is_shown(&handed, &words, then == Then::GiveBack && stop < TURN)
+}
+
+fn are_handed<R: Threads + Wait + Sync + Abort>(rt: &R, alloc: Global, plan: &Plan) {
+    for stop in 0..=END {
+        for then in [Then::Finish, Then::GiveBack] {
+            let is_so = is_handed(rt, alloc, plan, stop, then);
+            check(rt, format_args!("{stop} {then:?}"), is_so);
+        }
+    }
 }
 
 #[test]
-fn a_job_is_handed_over_after_each_step(rt: HostRuntime) -> Result<(), Fail> {
-    let plan = Plan::example(rt.alloc())?;
-    for stop in 0..=END {
-        for then in [Then::Finish, Then::GiveBack] {
-            assert!(rt;
-                is_handed(&rt, rt.alloc(), &plan, stop, then)?,
-                "{stop} {then:?}"
-            );
-        }
-    }
-    Ok(())
+fn a_job_is_handed_over_after_each_step(rt: HostRuntime) {
+    are_handed(&rt, rt.alloc(), &example(&rt, rt.alloc()));
 }
 
 /// Why a job isn't handed over, and of the desk that comes back its number and whether it is idle.
@@ -93,17 +115,29 @@ fn refused<R: Threads + Wait + Sync>(
     Some((fault.why, fault.desk.marker(), fault.desk.is_idle()))
 }
 
-#[test]
-fn a_refused_desk_is_handed_back(rt: HostRuntime) -> Result<(), Fail> {
-    let plan = Plan::example(rt.alloc())?;
-    let kinds = [Kind::Combined, Kind::Dial];
-    let (fabric, mut desks) = Fabric::open(rt.alloc(), &plan, &kinds)?;
-    let dial = last_desk(&fabric, &mut desks)?;
-    let mut busy = last_desk(&fabric, &mut desks)?;
+/// A desk with the job to dial, and an idle one that takes no release.
+fn are_handed_back<R: Threads + Wait + Sync + Abort>(rt: &R, alloc: Global, plan: &Plan) {
+    let (fabric, mut desks) = open_desks(rt, alloc, plan, &[Kind::Combined, Kind::Dial]);
+    let dial = last_desk(rt, &fabric, &mut desks);
+    let mut busy = last_desk(rt, &fabric, &mut desks);
     let _assigned = busy.assign(1, Job::Dial(line()));
-    let not_idle = refused(&rt, &fabric, busy, Job::Dial(line()));
-    assert_eq!(rt; not_idle, Some((AssignFault::NotIdle, 0, false)));
-    let wrong_kind = refused(&rt, &fabric, dial, Job::Release(line()));
-    assert_eq!(rt; wrong_kind, Some((AssignFault::WrongKind, 1, true)));
-    Ok(())
+    let not_idle = refused(rt, &fabric, busy, Job::Dial(line()));
+    check_equal(
+        rt,
+        "a busy desk",
+        &not_idle,
+        &Some((AssignFault::NotIdle, 0, false)),
+    );
+    let wrong_kind = refused(rt, &fabric, dial, Job::Release(line()));
+    check_equal(
+        rt,
+        "a release",
+        &wrong_kind,
+        &Some((AssignFault::WrongKind, 1, true)),
+    );
+}
+
+#[test]
+fn a_refused_desk_is_handed_back(rt: HostRuntime) {
+    are_handed_back(&rt, rt.alloc(), &example(&rt, rt.alloc()));
 }

@@ -3,14 +3,14 @@
 ghost use Rattle.std.specs.Prelude.{◌≡◌, ◌+◌, ◌≤◌, ◌<◌, All, IfOk, vec_len};
 ghost use Rattle.xbar_markers.specs.Calls.{HasCallNo};
 
-use crate::running::{BOTH, By, Staff, run};
+use crate::checks::{check, check_equal};
+use crate::running::{BOTH, By, Staff, example, open_gates, run};
 use std::alloc::{AllocError, Global};
 use std::process::Abort;
 use std::sync::Wait;
-use std::test::Fail;
 use std::thread::Threads;
 use xbar_equip::{Dialled, Len};
-use xbar_markers::{Call, OpenGate};
+use xbar_markers::{Call, Outcome};
 use xbar_office::{End, Record, audit};
 use xbar_plan::Plan;
 
@@ -48,12 +48,24 @@ fn calls(alloc: Global, count: u32) -> Result<Vec<Call>, AllocError>
 
 /// The record of this job, where there is just one.
 fn record_of(records: &[Record], job_no: u32) -> Option<&Record> {
-    let mut its = records.iter().filter(|record| record.job_no == job_no);
-    let first = its.next()?;
-    match its.next() {
-        None => Some(first),
-        Some(_) => None,
+    let mut found = None;
+    for record in records {
+        if record.job_no == job_no {
+            if found.is_some() {
+                return None;
+            }
+            found = Some(record);
+        }
     }
+    found
+}
+
+fn has_dial_tone(record: &Record) -> bool {
+    matches!(record.reply.end, End::DialTone { .. })
+}
+
+fn is_connected(record: &Record) -> bool {
+    matches!(record.reply.end, End::Connected { .. })
 }
 
 /// How many records the call has, if they are those that it should have.
@@ -61,13 +73,11 @@ fn count_records(call: &Call, records: &[Record]) -> Option<usize>
     requires { HasCallNo call.now }
 {
     let first = 3 * call.call_no;
-    let dial = record_of(records, first)?;
-    let End::DialTone { .. } = dial.reply.end else {
+    if !has_dial_tone(record_of(records, first)?) {
         return Some(1);
-    };
+    }
     let complete = record_of(records, first + 1)?;
-    let connected = matches!(complete.reply.end, End::Connected { .. });
-    if !(connected && call.release) {
+    if !(is_connected(complete) && call.release) {
         return Some(2);
     }
     let release = record_of(records, first + 2)?;
@@ -89,58 +99,112 @@ fn are_served(calls: &[Call], records: &[Record]) -> bool
     count == records.len()
 }
 
-/// So many markers do so many calls.
-fn check_calls<R: Threads + Wait + Sync + Abort>(
+/// So many markers do so many calls, so often by either way.
+struct Case {
+    name: &'static str,
+    staff: Staff,
+    calls: u32,
+    times: u32,
+}
+
+const CASES: &[Case] = &[
+    Case {
+        name: "one of each kind",
+        staff: Staff {
+            dialling: 1,
+            completing: 1,
+        },
+        calls: 300,
+        times: 5,
+    },
+    Case {
+        name: "two of each kind",
+        staff: Staff {
+            dialling: 2,
+            completing: 2,
+        },
+        calls: 300,
+        times: 5,
+    },
+    Case {
+        name: "one and three",
+        staff: Staff {
+            dialling: 1,
+            completing: 3,
+        },
+        calls: 100,
+        times: 5,
+    },
+    Case {
+        name: "eight of each kind",
+        staff: Staff {
+            dialling: 8,
+            completing: 8,
+        },
+        calls: 300,
+        times: 1,
+    },
+    Case {
+        name: "twenty-four and twenty-three",
+        staff: Staff {
+            dialling: 24,
+            completing: 23,
+        },
+        calls: 300,
+        times: 1,
+    },
+];
+
+/// The paths of the office are those that the records leave.
+fn check_paths(rt: &impl Abort, alloc: Global, plan: &Plan, name: &str, outcome: &Outcome) {
+    let Ok(after) = audit(alloc, plan, outcome.records.as_slice()) else {
+        panic!(rt; "the records are legal");
+    };
+    check_equal(rt, name, &after.paths(), &outcome.office.paths());
+}
+
+fn do_calls<R: Threads + Wait + Sync + Abort>(
     rt: &R,
     alloc: Global,
     by: By,
-    staff: Staff,
-    count: u32,
-) -> Result<(), Fail>
-    requires markers { staff.dialling + staff.completing ≤ 48 }
-    requires count { count ≤ 300 }
+    plan: &Plan,
+    case: &Case,
+    calls: &[Call],
+)
+    requires { All HasCallNo calls.now }
 {
-    let plan = Plan::example(alloc)?;
-    let calls = calls(alloc, count)?;
-    let mut gates = Vec::new(alloc);
-    gates.resize(staff.dialling + staff.completing, OpenGate)?;
-    let outcome = run(rt, alloc, by, &plan, calls.as_slice(), staff, gates)?;
-    let records = outcome.records.as_slice();
-    assert!(rt; are_served(calls.as_slice(), records));
-    assert_eq!(rt;
-        audit(alloc, &plan, records)?.paths(),
-        outcome.office.paths()
-    );
-    Ok(())
+    let staff = case.staff;
+    assert!(rt; staff.dialling < 25 && staff.completing < 25);
+    let gates = open_gates(rt, alloc, staff.dialling + staff.completing);
+    let outcome = run(rt, alloc, by, plan, calls, staff, gates);
+    check(rt, case.name, are_served(calls, &outcome.records));
+    check_paths(rt, alloc, plan, case.name, &outcome);
 }
 
-/// So many who dial, and so many who complete.
-fn staff(dialling: usize, completing: usize) -> Staff
-    ensures { result ≡ record { dialling = dialling; completing = completing } }
-{
-    Staff {
-        dialling,
-        completing,
+fn do_calls_both_ways<R: Threads + Wait + Sync + Abort>(
+    rt: &R,
+    alloc: Global,
+    plan: &Plan,
+    case: &Case,
+) {
+    assert!(rt; case.calls <= 300);
+    let Ok(calls) = calls(alloc, case.calls) else {
+        panic!(rt; "there is memory for the calls");
+    };
+    for by in BOTH {
+        do_calls(rt, alloc, by, plan, case, &calls);
     }
 }
 
-#[test]
-fn few_markers_do_many_calls(rt: HostRuntime) -> Result<(), Fail> {
-    for by in BOTH {
-        for _time in 0..5 {
-            check_calls(&rt, rt.alloc(), by, staff(1, 1), 300)?;
-            check_calls(&rt, rt.alloc(), by, staff(2, 2), 300)?;
-            check_calls(&rt, rt.alloc(), by, staff(1, 3), 100)?;
+fn check_all<R: Threads + Wait + Sync + Abort>(rt: &R, alloc: Global, plan: &Plan) {
+    for case in CASES {
+        for _time in 0..case.times {
+            do_calls_both_ways(rt, alloc, plan, case);
         }
     }
-    Ok(())
 }
 
 #[test]
-fn many_markers_do_many_calls(rt: HostRuntime) -> Result<(), Fail> {
-    for by in BOTH {
-        check_calls(&rt, rt.alloc(), by, staff(8, 8), 300)?;
-        check_calls(&rt, rt.alloc(), by, staff(24, 23), 300)?;
-    }
-    Ok(())
+fn markers_do_many_calls(rt: HostRuntime) {
+    check_all(&rt, rt.alloc(), &example(&rt, rt.alloc()));
 }

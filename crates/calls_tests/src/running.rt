@@ -1,20 +1,28 @@
 //! Calls done by markers of their own, and by the desks of a fabric that a caller opened.
 
-ghost use Rattle.std.specs.Prelude.{◌≡◌, ◌+◌, All, IfOk, vec_len};
+ghost use Rattle.std.specs.Prelude.{◌≡◌, ◌+◌, ◌<◌, All, vec_len};
 ghost use Rattle.xbar_markers.specs.Calls.{HasCallNo};
 
 use std::alloc::Global;
+use std::process::Abort;
 use std::sync::Wait;
-use std::test::Fail;
 use std::thread::Threads;
 use xbar_equip::{Dialled, Len};
 use xbar_fabric::shut_all;
-use xbar_markers::{Call, Gate, Outcome, open_staff, run_calls, run_desks};
-use xbar_office::audit;
+use xbar_markers::{Call, Gate, OpenGate, Outcome, open_staff, run_calls, run_desks};
+use xbar_office::{Office, Record, audit};
 use xbar_plan::Plan;
 
+/// The example plan.
+pub fn example(rt: &impl Abort, alloc: Global) -> Plan {
+    let Ok(plan) = Plan::example(alloc) else {
+        panic!(rt; "there is memory for a plan");
+    };
+    plan
+}
+
 /// Who opens the shared words and shuts them.
-#[derive(Clone, Copy, Debug)]
+#[derive(Clone, Copy)]
 pub enum By {
     RunCalls,
     Caller,
@@ -23,59 +31,96 @@ pub enum By {
 pub const BOTH: [By; 2] = [By::RunCalls, By::Caller];
 
 /// How many markers dial, and how many complete calls.
-#[derive(Clone, Copy, Debug)]
+#[derive(Clone, Copy)]
 pub struct Staff {
     pub dialling: usize,
     pub completing: usize,
 }
 
-/// A call from the line of this text to these digits.
-pub fn call(call_no: u32, line: &str, digits: &str, release: bool) -> Result<Call, Fail>
-    ensures { IfOk result HasCallNo }
+/// A call to another office.
+pub fn call_out(call_no: u32, line: Len, release: bool) -> Call
+    requires { call_no < 10000 }
+    ensures { HasCallNo result }
 {
-    let (Ok(line), Ok(digits)) = (
-        Len::parse(line.as_bytes()),
-        Dialled::parse(digits.as_bytes()),
-    ) else {
-        return Err("this is a line, and these are seven digits".into());
-    };
-    if call_no > 9999 {
-        return Err("a call's number has four digits".into());
-    }
-    Ok(Call {
+    Call {
         call_no,
         line,
-        digits,
+        digits: Dialled::new(5_551_234),
         release,
-    })
+    }
+}
+
+pub fn open_gates(rt: &impl Abort, alloc: Global, count: usize) -> Vec<OpenGate>
+    ensures { vec_len result ≡ count }
+{
+    let mut gates = Vec::new(alloc);
+    if gates.resize(count, OpenGate).is_err() {
+        panic!(rt; "there is memory for gates");
+    }
+    gates
+}
+
+fn office_after<'p>(
+    rt: &impl Abort,
+    alloc: Global,
+    plan: &'p Plan,
+    records: &[Record],
+) -> Office<'p> {
+    let Ok(office) = audit(alloc, plan, records) else {
+        panic!(rt; "the records are legal");
+    };
+    office
 }
 
 /// Does the calls with desks that were opened before, and shuts these.
-fn run_by_caller<'p, G: Gate + Send + Drop, R: Threads + Wait + Sync>(
+fn run_by_caller<'p, G: Gate + Send + Drop, R: Threads + Wait + Sync + Abort>(
     rt: &R,
     alloc: Global,
     plan: &'p Plan,
     calls: &[Call],
     staff: Staff,
     gates: Vec<G>,
-) -> Result<Outcome<'p>, Fail>
+) -> Outcome<'p>
     requires call_nos { All HasCallNo calls.now }
     requires gates { vec_len gates ≡ staff.dialling + staff.completing }
 {
-    let (fabric, desks) = open_staff(alloc, plan, staff.dialling, staff.completing)?;
-    let (desks, records) = run_desks(rt, alloc, &fabric, desks, calls, gates)?;
-    let Ok(words) = shut_all(alloc, fabric, desks) else {
-        return Err("there is memory for the words".into());
+    let Ok((fabric, desks)) = open_staff(alloc, plan, staff.dialling, staff.completing) else {
+        panic!(rt; "the office is opened");
     };
-    let office = audit(alloc, plan, records.as_slice())?;
-    Ok(Outcome {
+    let Ok((desks, records)) = run_desks(rt, alloc, &fabric, desks, calls, gates) else {
+        panic!(rt; "there is memory for the calls");
+    };
+    let Ok(words) = shut_all(alloc, fabric, desks) else {
+        panic!(rt; "there is memory for the words");
+    };
+    let office = office_after(rt, alloc, plan, &records);
+    Outcome {
         records,
         office,
         words,
-    })
+    }
 }
 
-pub fn run<'p, G: Gate + Send + Drop, R: Threads + Wait + Sync>(
+/// Does the calls by markers of its own.
+fn run_by_itself<'p, G: Gate + Send + Drop, R: Threads + Wait + Sync + Abort>(
+    rt: &R,
+    alloc: Global,
+    plan: &'p Plan,
+    calls: &[Call],
+    staff: Staff,
+    gates: Vec<G>,
+) -> Outcome<'p>
+    requires call_nos { All HasCallNo calls.now }
+    requires gates { vec_len gates ≡ staff.dialling + staff.completing }
+{
+    let (dialling, completing) = (staff.dialling, staff.completing);
+    let Ok(outcome) = run_calls(rt, alloc, plan, calls, dialling, completing, gates) else {
+        panic!(rt; "the calls are done");
+    };
+    outcome
+}
+
+pub fn run<'p, G: Gate + Send + Drop, R: Threads + Wait + Sync + Abort>(
     rt: &R,
     alloc: Global,
     by: By,
@@ -83,20 +128,12 @@ pub fn run<'p, G: Gate + Send + Drop, R: Threads + Wait + Sync>(
     calls: &[Call],
     staff: Staff,
     gates: Vec<G>,
-) -> Result<Outcome<'p>, Fail>
+) -> Outcome<'p>
     requires call_nos { All HasCallNo calls.now }
     requires gates { vec_len gates ≡ staff.dialling + staff.completing }
 {
     match by {
-        By::RunCalls => Ok(run_calls(
-            rt,
-            alloc,
-            plan,
-            calls,
-            staff.dialling,
-            staff.completing,
-            gates,
-        )?),
+        By::RunCalls => run_by_itself(rt, alloc, plan, calls, staff, gates),
         By::Caller => run_by_caller(rt, alloc, plan, calls, staff, gates),
     }
 }

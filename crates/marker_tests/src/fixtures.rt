@@ -1,9 +1,25 @@
-//! What the tests of jobs and of offices share: a plan's text, jobs, and a look at words.
+//! What the tests of jobs and of offices share: plans, jobs, and a look at words.
 
-use crate::checks::check_eq;
+use crate::checks::check_equal;
+use std::alloc::{AllocError, Global};
 use std::process::Abort;
 use xbar_equip::{Dialled, Len};
-use xbar_office::Job;
+use xbar_match::{count_closed, count_paths};
+use xbar_office::{Job, Record, audit};
+use xbar_plan::Plan;
+
+/// The example plan as a text.
+pub const EXAMPLE: &str = "version = 1
+groups = [
+  \"REG register 417 418 509\",
+  \"INTRA intra 600-601 700-711\",
+  \"OUTA outgoing 800\",
+  \"OUTB outgoing 801 902\",
+]
+numbers = [\"0001 3041\", \"0002 3052\", \"0003 1000\", \"0004 3100\"]
+codes = [\"234 INTRA\", \"555 OUTA OUTB\"]
+faults = []
+";
 
 /// Twelve registers on two trunk link frames, and two trunks to another office.
 pub const MANY_REGISTERS: &str = "version = 1
@@ -17,6 +33,22 @@ numbers = [\"0001 3041\", \"0002 3052\", \"0003 1000\", \"0004 3100\"]
 codes = [\"234 INTRA\", \"555 OUTA OUTB\"]
 faults = []
 ";
+
+/// The example plan.
+pub fn example(rt: &impl Abort, alloc: Global) -> Plan {
+    let Ok(plan) = Plan::example(alloc) else {
+        panic!(rt; "there is memory for a plan");
+    };
+    plan
+}
+
+/// The plan that a text holds.
+pub fn read_plan(rt: &impl Abort, alloc: Global, text: &str) -> Plan {
+    let Ok(plan) = Plan::read(alloc, text.as_bytes()) else {
+        panic!(rt; "no plan: {text}");
+    };
+    plan
+}
 
 /// A job by its text, or none.
 fn job_of(text: &str) -> Option<Job> {
@@ -76,13 +108,76 @@ pub fn some_job(kind: u32, line: u32, digits: u32) -> Job {
     }
 }
 
-/// These words have these values, and all others 0.
-pub fn check_words(rt: &impl Abort, words: &[u64], wanted: &[(usize, u64)]) {
+/// Words that are not 0, by their numbers in order.
+pub type Words<'w> = &'w [(usize, u64)];
+
+/// What a first dial tone job of line 3041 leaves.
+pub const WITH_REGISTER: Words<'static> = &[
+    (60, 22),
+    (70, 65536),
+    (281, 8),
+    (290, 8192),
+    (400, 1),
+    (452, 1),
+];
+
+/// What a call of line 3041 to another office leaves, after that job.
+pub const WITH_TRUNK: Words<'static> = &[
+    (60, 22),
+    (70, 4294967296),
+    (360, 1),
+    (370, 4096),
+    (402, 1),
+    (452, 2),
+];
+
+fn closed_words(alloc: Global, words: &[u64]) -> Result<Vec<(usize, u64)>, AllocError> {
+    let mut closed = Vec::new(alloc);
     for (number, word) in words.iter().enumerate() {
-        let value = wanted
-            .iter()
-            .find(|entry| entry.0 == number)
-            .map_or(0, |entry| entry.1);
-        check_eq!(rt; *word, value, "word {number}");
+        if *word != 0 {
+            closed.push((number, *word))?;
+        }
     }
+    Ok(closed)
+}
+
+/// Of all 453 words just these are not 0.
+pub fn check_words(rt: &impl Abort, alloc: Global, name: &str, words: &[u64], wanted: Words<'_>) {
+    check_equal(rt, name, &words.len(), &453);
+    let Ok(closed) = closed_words(alloc, words) else {
+        panic!(rt; "there is memory for a list");
+    };
+    check_equal(rt, name, &closed.as_slice(), &wanted);
+}
+
+/// How many paths the records leave, if they are one legal history.
+pub fn count_left(rt: &impl Abort, alloc: Global, plan: &Plan, log: &[Record]) -> usize {
+    let Ok(after) = audit(alloc, plan, log) else {
+        panic!(rt; "the records are legal");
+    };
+    after.paths().len()
+}
+
+/// The word of the first connector; the others follow, up to the word that counts turns.
+const CONNECTORS: usize = 416;
+
+const TURNS: usize = 452;
+
+const ALL_FREE: &[u64] = &[0; 36];
+
+/// The words show so many paths after so many turns, and no connector is held or asked for.
+pub fn check_shown(rt: &impl Abort, name: &str, words: &[u64], paths: usize, turns: usize) {
+    assert!(rt; words.len() == 453);
+    let counted = (
+        usize::from(count_paths(words)),
+        usize::from(count_closed(words)),
+        words[TURNS],
+    );
+    check_equal(
+        rt,
+        name,
+        &counted,
+        &(paths, paths.saturating_mul(4), turns as u64),
+    );
+    check_equal(rt, name, &&words[CONNECTORS..TURNS], &ALL_FREE);
 }

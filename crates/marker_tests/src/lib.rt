@@ -1,5 +1,5 @@
-//! Tests of markers: of one, whose job is made of steps, of many in one office, and of desks on
-//! shared words.
+//! Tests of markers: of one, whose job is made of steps, of two in one office, which is plain data or
+//! desks on shared words, and of many in one office.
 #![tactic(auto)]
 
 #[cfg(test)]
@@ -12,3 +12,5 @@ mod fabric;
 mod fixtures;
 #[cfg(test)]
 mod jobs;
+#[cfg(test)]
+mod offices;

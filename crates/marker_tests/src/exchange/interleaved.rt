@@ -1,12 +1,11 @@
 //! Two markers that share the jobs of a list, in several interleavings.
 
 use super::*;
-use crate::checks::check_eq;
 
 /// So many steps of marker 0, then so many of marker 1, and so on from the first.
 type Rhythm = [(u32, u32); 2];
 
-const RHYTHMS: [Rhythm; 7] = [
+const RHYTHMS: &[Rhythm] = &[
     [(0, 128), (1, 0)],
     [(0, 1), (1, 1)],
     [(0, 3), (1, 1)],
@@ -16,42 +15,87 @@ const RHYTHMS: [Rhythm; 7] = [
     [(0, 27), (1, 27)],
 ];
 
-/// Whichever marker is idle takes the next job. In step with one another two markers may keep each other
-/// from a connector for ever, as each changes its word just before the other would seize it; so what is
-/// left in the end is done by one alone.
-fn work_off(
+/// Jobs, of which so many are begun. Each has its place from 1 on as its number.
+#[derive(Drop)]
+struct Jobs<'j> {
+    texts: &'j [&'j str],
+    begun: u32,
+}
+
+/// The marker takes the next of the jobs, if it is idle.
+fn take_job(rt: &impl Abort, office: &mut Exchange, marker: u32, jobs: &mut Jobs) {
+    if office.has_no_job(marker) {
+        if let Some(text) = jobs.texts.get(jobs.begun as usize) {
+            jobs.begun = jobs.begun.saturating_add(1);
+            assign(rt, office, marker, jobs.begun, text);
+        }
+    }
+}
+
+/// Whichever marker is idle takes the next job.
+fn share_jobs(rt: &impl Abort, office: &mut Exchange, rhythm: &Rhythm, jobs: &mut Jobs) {
+    for _round in 0..600 {
+        for (marker, count) in rhythm {
+            if *count > 0 {
+                take_job(rt, office, *marker, jobs);
+                go_on_for(office, *marker, *count);
+            }
+        }
+    }
+}
+
+/// In step with one another two markers may keep each other from a connector for ever, as each changes its
+/// word just before the other would seize it; so what is left in the end is done by one alone.
+fn work_off(rt: &impl Abort, office: &mut Exchange, rhythm: &Rhythm, texts: &[&str]) {
+    let mut jobs = Jobs { texts, begun: 0 };
+    share_jobs(rt, office, rhythm, &mut jobs);
+    office.settle();
+    for text in texts {
+        take_job(rt, office, 0, &mut jobs);
+        go_on_for(office, 0, 128);
+        check(rt, text, office.has_no_job(0));
+    }
+}
+
+/// Two markers work the jobs off, and leave one history.
+fn check_worked_off(
     rt: &impl Abort,
     alloc: Global,
     plan: &Plan,
-    name: &str,
+    list: &List,
     rhythm: &Rhythm,
-    jobs: &[&str],
-) -> Result<(), Fail> {
-    let mut office = two_markers(alloc, plan)?;
-    let mut left = (1..).zip(jobs);
-    for _round in 0..600 {
-        for (marker, count) in rhythm {
-            if *count > 0 && is_idle(rt, &office, *marker) {
-                if let Some((job_no, text)) = left.next() {
-                    check_eq!(rt; office.assign(*marker, job_no, job(rt, text)), Ok(()));
-                }
-            }
-            steps(rt, &mut office, *marker, *count);
+    office: &mut Exchange,
+) {
+    work_off(rt, office, rhythm, list.jobs);
+    let done = office.records().len();
+    check_equal(
+        rt,
+        format_args!("{} by {rhythm:?}", list.name),
+        &done,
+        &list.jobs.len(),
+    );
+    check_history(rt, alloc, plan, list.name, office);
+}
+
+fn work_off_all(rt: &impl Abort, alloc: Global, plan: &Plan) {
+    for list in LISTS {
+        for rhythm in RHYTHMS {
+            let office = &mut open_exchange(rt, alloc, plan, TWO);
+            check_worked_off(rt, alloc, plan, list, rhythm, office);
         }
     }
-    office.settle();
-    for (job_no, text) in left {
-        done(rt, &mut office, job_no, text);
-    }
-    check_eq!(rt; office.records().len(), jobs.len(), "{name} by {rhythm:?}");
-    check_history(rt, alloc, plan, &office)
 }
 
 /// Jobs, with what they are about.
-const JOBS: &[(&str, &[&str])] = &[
-    (
-        "trunks are used up",
-        &[
+struct List {
+    name: &'static str,
+    jobs: &'static [&'static str],
+}
+
+const LISTS: &[List] = &[
+    List {
+        name: "trunks are used up",
+        jobs: &[
             "D 3041",
             "C 3041 5551234",
             "D 3052",
@@ -61,25 +105,25 @@ const JOBS: &[(&str, &[&str])] = &[
             "D 2000",
             "C 2000 5550000",
         ],
-    ),
-    (
-        "busy lines are called",
-        &[
+    },
+    List {
+        name: "busy lines are called",
+        jobs: &[
             "D 3052",
             "D 3041",
             "C 3041 2340001",
             "D 3041",
             "C 3041 2340002",
         ],
-    ),
-    (
-        "calls inside the office come and go",
-        &["D 3041", "C 3041 2340004", "D 1000", "R 3100", "R 3041"],
-    ),
+    },
+    List {
+        name: "calls inside the office come and go",
+        jobs: &["D 3041", "C 3041 2340004", "D 1000", "R 3100", "R 3041"],
+    },
     // One releases the call from one side while the other marker is at the other side.
-    (
-        "both sides hang up",
-        &[
+    List {
+        name: "both sides hang up",
+        jobs: &[
             "D 3041",
             "C 3041 2340004",
             "R 3100",
@@ -89,16 +133,10 @@ const JOBS: &[(&str, &[&str])] = &[
             "C 3041 2340004",
             "C 3100 2340003",
         ],
-    ),
+    },
 ];
 
 #[test]
-fn two_markers_work_off_a_list_in_all_rhythms(rt: HostRuntime) -> Result<(), Fail> {
-    let plan = Plan::example(rt.alloc())?;
-    for (name, jobs) in JOBS {
-        for rhythm in &RHYTHMS {
-            work_off(&rt, rt.alloc(), &plan, name, rhythm, jobs)?;
-        }
-    }
-    Ok(())
+fn two_markers_work_off_a_list_in_all_rhythms(rt: HostRuntime) {
+    work_off_all(&rt, rt.alloc(), &example(&rt, rt.alloc()));
 }

@@ -1,7 +1,6 @@
 //! Markers of any kinds that make any moves, chosen by a seeded generator.
 
 use super::*;
-use crate::checks::check;
 use rand::RngExt;
 use rand_pcg::Pcg32;
 
@@ -14,7 +13,7 @@ fn some_kind(numbers: &mut Pcg32) -> Kind {
 }
 
 /// One move of some marker: mostly a step.
-fn make_a_move(rt: &impl Abort, numbers: &mut Pcg32, office: &mut Exchange) {
+fn make_a_move(numbers: &mut Pcg32, office: &mut Exchange) {
     let marker = numbers.random_range(0..office.marker_count().max(1));
     match numbers.random_range(0..16u32) {
         0 => {
@@ -25,13 +24,28 @@ fn make_a_move(rt: &impl Abort, numbers: &mut Pcg32, office: &mut Exchange) {
         }
         1 => {
             if numbers.random_range(0..8u32) == 0 {
-                give_back(rt, office, marker);
+                office.ask_back(marker);
             }
         }
         _ => {
-            step(rt, office, marker);
+            office.go_on(marker);
         }
     }
+}
+
+/// An office of so many markers, each of some kind.
+fn some_office<'p>(
+    rt: &impl Abort,
+    alloc: Global,
+    plan: &'p Plan,
+    markers: usize,
+    numbers: &mut Pcg32,
+) -> Exchange<'p> {
+    let mut kinds = [Kind::Combined; 48];
+    for kind in kinds.iter_mut().take(markers) {
+        *kind = some_kind(numbers);
+    }
+    open_exchange(rt, alloc, plan, kinds.get(..markers).unwrap_or(&[]))
 }
 
 /// Rounds of moves. After each the records are legal, with the jobs as they are; and once the office
@@ -40,35 +54,33 @@ fn go_at_random(
     rt: &impl Abort,
     alloc: Global,
     plan: &Plan,
-    markers: usize,
-    seed: u64,
-) -> Result<(), Fail> {
-    let mut numbers = Pcg32::new(seed, 5);
-    let mut kinds = Vec::new(alloc);
-    for _made in 0..markers {
-        kinds.push(some_kind(&mut numbers))?;
-    }
-    let mut office = Exchange::open(alloc, plan, &kinds)?;
+    numbers: &mut Pcg32,
+    office: &mut Exchange,
+) {
     for _round in 0..8 {
         for _made in 0..1000 {
-            make_a_move(rt, &mut numbers, &mut office);
+            make_a_move(numbers, office);
         }
-        audit(alloc, plan, office.records())?;
+        let _left = count_left(rt, alloc, plan, office.records());
         office.settle();
-        check_history(rt, alloc, plan, &office)?;
+        check_history(rt, alloc, plan, "moves at random", office);
     }
-    check!(rt; office.records().len() > 100);
-    Ok(())
+    check(rt, "many records", office.records().len() > 100);
+}
+
+/// Numbers of markers, each with the seed of its moves.
+const RUNS: &[(usize, u64)] = &[(2, 1), (5, 2), (12, 3), (48, 4)];
+
+fn run_all(rt: &impl Abort, alloc: Global, plan: &Plan) {
+    for (markers, seed) in RUNS {
+        let mut numbers = Pcg32::new(*seed, 5);
+        let mut office = some_office(rt, alloc, plan, *markers, &mut numbers);
+        go_at_random(rt, alloc, plan, &mut numbers, &mut office);
+    }
 }
 
 #[test]
-fn any_moves_are_one_history(rt: HostRuntime) -> Result<(), Fail> {
-    let alloc = rt.alloc();
-    let example = Plan::example(alloc)?;
-    let many = Plan::read(alloc, MANY_REGISTERS.as_bytes())?;
-    for (markers, seed) in [(2, 1), (5, 2), (12, 3), (48, 4)] {
-        go_at_random(&rt, alloc, &example, markers, seed)?;
-        go_at_random(&rt, alloc, &many, markers, seed)?;
-    }
-    Ok(())
+fn any_moves_are_one_history(rt: HostRuntime) {
+    run_all(&rt, rt.alloc(), &example(&rt, rt.alloc()));
+    run_all(&rt, rt.alloc(), &read_plan(&rt, rt.alloc(), MANY_REGISTERS));
 }

@@ -4,7 +4,6 @@ ghost use Rattle.std.specs.Prelude.{◌≡◌, length};
 ghost use Rattle.xbar_equip.specs.Word.{word_count};
 
 use super::*;
-use crate::checks::check_eq;
 
 /// Some numbers, each from the last.
 #[derive(Drop)]
@@ -22,16 +21,13 @@ impl Numbers {
     }
 }
 
-/// The words show the office's paths: each crosspoint, each busy member, and nothing else.
-fn check_shown(
-    rt: &impl Abort,
-    alloc: Global,
-    plan: &Plan,
-    office: &Office<'_>,
-    words: &[u64],
-) -> Result<(), Fail> {
-    let mut wanted = [0; WORD_COUNT];
-    for crosspoint in office.crosspoints(alloc)?.iter() {
+/// The words that show the office's crosspoints.
+fn closed_by(rt: &impl Abort, alloc: Global, office: &Office) -> [u64; WORD_COUNT] {
+    let Ok(crosspoints) = office.crosspoints(alloc) else {
+        panic!(rt; "there is memory for crosspoints");
+    };
+    let mut words = [0; WORD_COUNT];
+    for crosspoint in crosspoints.iter() {
         let number = usize::from(crosspoint.word.number());
         let width = if number < 200 && number % 20 < 10 {
             6
@@ -39,51 +35,67 @@ fn check_shown(
             4
         };
         if number < WORD_COUNT && crosspoint.field < 10 {
-            wanted[number] |= u64::from(crosspoint.value) << (width * u32::from(crosspoint.field));
+            words[number] |= u64::from(crosspoint.value) << (width * u32::from(crosspoint.field));
         }
     }
+    words
+}
+
+/// The words show the office's paths: each crosspoint, each busy member, and nothing else.
+fn check_shown(rt: &impl Abort, alloc: Global, plan: &Plan, office: &Office, words: &[u64]) {
+    let mut wanted = closed_by(rt, alloc, office);
     for path in office.paths() {
         if let Some(found) = plan.member_of(path.place) {
             wanted[400 + usize::from(found.group % 16)] |= 1 << (found.index % 64);
         }
     }
-    for number in 0..416 {
-        check_eq!(rt;
-            words.get(number).copied(),
-            Some(wanted[number]),
-            "word {number}"
-        );
-    }
-    Ok(())
+    check_equal(rt, "words", &words.get(..416), &wanted.get(..416));
 }
 
-fn go_side_by_side(rt: &impl Abort, alloc: Global, plan: &Plan, seed: u64) -> Result<(), Fail> {
+/// A job by steps leaves the words as the office shows them, and its reply is the office's.
+fn go_side_by_side(
+    rt: &impl Abort,
+    alloc: Global,
+    plan: &Plan,
+    office: &mut Office,
+    words: &mut [u64],
+    job: Job,
+)
+    requires { length words.old ≡ word_count }
+    ensures { length words.new ≡ word_count }
+{
+    let mut program = begin(plan, job);
+    steps(&mut program, plan, 0, words, 128);
+    let Ok(reply) = office.whole(job) else {
+        panic!(rt; "there is memory for a job");
+    };
+    check_equal(
+        rt,
+        format_args!("{job:?}"),
+        &program.next(),
+        &Step::Finished,
+    );
+    check_equal(rt, format_args!("{job:?}"), &program.reply(), &Some(&reply));
+    check_shown(rt, alloc, plan, office, words);
+}
+
+fn go_at_random(rt: &impl Abort, alloc: Global, plan: &Plan, seed: u64) {
     let mut numbers = Numbers { last: seed };
     let mut office = Office::open(alloc, plan);
     let mut words = [0; WORD_COUNT];
     for _made in 0..60 {
         let job = some_job(numbers.next(), numbers.next(), numbers.next());
-        let mut program = begin(plan, job);
-        steps(&mut program, plan, 0, &mut words, 128);
-        let reply = office.whole(job)?;
-        check_eq!(rt;
-            end_of(rt, alloc, &program)?,
-            reply_text(alloc, &reply)?,
-            "{job:?}"
-        );
-        check_shown(rt, alloc, plan, &office, &words)?;
+        go_side_by_side(rt, alloc, plan, &mut office, &mut words, job);
     }
-    Ok(())
 }
 
 #[test]
-fn steps_come_to_what_jobs_done_whole_do(rt: HostRuntime) -> Result<(), Fail> {
-    let alloc = rt.alloc();
-    go_side_by_side(&rt, alloc, &Plan::example(alloc)?, 1)?;
-    go_side_by_side(
+fn steps_come_to_what_jobs_done_whole_do(rt: HostRuntime) {
+    go_at_random(&rt, rt.alloc(), &example(&rt, rt.alloc()), 1);
+    go_at_random(
         &rt,
-        alloc,
-        &Plan::read(alloc, MANY_REGISTERS.as_bytes())?,
+        rt.alloc(),
+        &read_plan(&rt, rt.alloc(), MANY_REGISTERS),
         2,
-    )
+    );
 }

@@ -1,0 +1,64 @@
+//! The records of an office, which has memory for them or refuses jobs.
+
+use super::*;
+
+/// The event tells the only one of these records, which has number 1.
+fn is_told(event: &Event, records: &[Record]) -> bool {
+    match (event, records) {
+        (Event::Finished(told), [kept]) => told == kept && told.job_no == 1,
+        _ => false,
+    }
+}
+
+/// A marker does one job alone, and tells its record by the last step.
+fn one_is_told(rt: &impl Abort, office: &mut Exchange) {
+    assign(rt, office, 0, 1, "D 3041");
+    go_on_for(office, 0, 27);
+    let event = office.go_on(0);
+    check(rt, "the record is told", is_told(&event, office.records()));
+}
+
+fn check_record(rt: &impl Abort, alloc: Global, plan: &Plan) {
+    one_is_told(rt, &mut open_exchange(rt, alloc, plan, TWO));
+}
+
+#[test]
+fn the_record_that_is_told_is_kept(rt: HostRuntime) {
+    check_record(&rt, rt.alloc(), &example(&rt, rt.alloc()));
+}
+
+/// Jobs of which some are refused, since there is no memory for their records: these change nothing.
+fn do_what_memory_allows(rt: &impl Abort, office: &mut Exchange) {
+    let mut done: usize = 0;
+    for job_no in 0..40 {
+        let text = if job_no % 2 == 0 { "D 3041" } else { "R 3041" };
+        let records = office.records().len();
+        match office.assign(0, job_no, job(rt, text)) {
+            Ok(()) => {
+                go_on_for(office, 0, 128);
+                done = done.saturating_add(1);
+            }
+            Err(fault) => {
+                check_equal(rt, text, &fault, &AssignFault::Memory);
+                check(rt, text, office.has_no_job(0));
+                check_equal(rt, text, &office.records().len(), &records);
+            }
+        }
+    }
+    check_equal(rt, "all jobs", &office.records().len(), &done);
+}
+
+fn check_memory(rt: &impl Abort, alloc: Global, plan: &Plan) {
+    match Exchange::open(alloc, plan, TWO) {
+        Ok(office) => do_what_memory_allows(rt, &mut { office }),
+        Err(fault) => check_equal(rt, "opening", &fault, &OpenFault::Memory),
+    }
+}
+
+/// An office with little memory for its records says so, and is unchanged.
+#[test]
+fn refused_memory_changes_nothing(rt: HostRuntime) {
+    if let Ok(plan) = Plan::example(rt.alloc()) {
+        check_memory(&rt, rt.alloc(), &plan);
+    }
+}

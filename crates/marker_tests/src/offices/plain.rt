@@ -1,0 +1,52 @@
+use super::*;
+use xbar_core::Exchange;
+
+pub fn open_exchange<'p>(
+    rt: &impl Abort,
+    alloc: Global,
+    plan: &'p Plan,
+    kinds: &[Kind],
+) -> Exchange<'p> {
+    let Ok(office) = Exchange::open(alloc, plan, kinds) else {
+        panic!(rt; "an office is opened");
+    };
+    office
+}
+
+/// An office does nothing for a marker that it doesn't have.
+impl Driven for Exchange<'_> {
+    fn assign_to(&mut self, marker: u32, job_no: u32, job: Job) -> Result<(), AssignFault> {
+        self.assign(marker, job_no, job)
+    }
+
+    fn go_on(&mut self, marker: u32) -> Event {
+        if marker < self.marker_count() {
+            self.step(marker)
+        } else {
+            Event::Idle
+        }
+    }
+
+    fn ask_back(&mut self, marker: u32) -> Given {
+        if marker < self.marker_count() {
+            self.give_back(marker)
+        } else {
+            Given::Idle
+        }
+    }
+
+    fn kind_of(&self, marker: u32) -> Option<Kind> {
+        (marker < self.marker_count()).then(|| self.kind(marker))
+    }
+
+    fn has_no_job(&self, marker: u32) -> bool {
+        marker < self.marker_count() && self.is_idle(marker)
+    }
+
+    fn shut(self, rt: &impl Abort, alloc: Global) -> Vec<u64> {
+        let Ok(words) = self.words().to_vec(alloc) else {
+            panic!(rt; "there is memory for the words");
+        };
+        words
+    }
+}

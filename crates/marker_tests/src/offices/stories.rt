@@ -1,0 +1,174 @@
+//! Moves that markers make, one after another.
+
+use super::*;
+
+/// What happens next. Each begins with the number of the marker.
+enum Move {
+    /// It is assigned a job under a number.
+    Begin(u32, u32, &'static str),
+    /// It makes so many steps, whatever comes of them.
+    GoOn(u32, u32),
+    /// So many steps are made.
+    Moved(u32, u32),
+    /// A step comes to this.
+    Step(u32, Told),
+    GiveBack(u32, Given),
+    HasNoJob(u32, bool),
+    Meet,
+}
+
+struct Story {
+    name: &'static str,
+    kinds: &'static [Kind],
+    moves: &'static [Move],
+    /// After so many of the moves just these words are not 0.
+    looks: &'static [(usize, Words<'static>)],
+}
+
+const FORTY_EIGHT: &[Kind] = &[Kind::Combined; 48];
+
+const STORIES: &[Story] = &[
+    Story {
+        name: "the lower marker is preferred",
+        kinds: TWO,
+        moves: &[
+            Move::Begin(0, 1, "D 3041"),
+            Move::Begin(1, 2, "D 3052"),
+            Move::Step(0, Told::Moved),
+            Move::Step(1, Told::Preferred(0)),
+            Move::Step(0, Told::Moved),
+            Move::Step(0, Told::Moved),
+            Move::Step(1, Told::Moved),
+            Move::Step(1, Told::Refused(Conn::Llf(3), 0)),
+            Move::Step(1, Told::Moved),
+        ],
+        looks: &[
+            (3, &[(419, 256)]),
+            (4, &[(419, 768)]),
+            (5, &[(419, 768)]),
+            (6, &[(419, 513)]),
+            (7, &[(419, 1)]),
+            (8, &[(419, 513)]),
+            (9, &[(419, 1)]),
+        ],
+    },
+    Story {
+        name: "the lower marker is preferred though it comes later",
+        kinds: TWO,
+        moves: &[
+            Move::Begin(0, 1, "D 3041"),
+            Move::Begin(1, 2, "D 3052"),
+            Move::Step(1, Told::Moved),
+            Move::Step(0, Told::Moved),
+            Move::Step(1, Told::Preferred(0)),
+            Move::Step(0, Told::Moved),
+        ],
+        looks: &[
+            (3, &[(419, 512)]),
+            (4, &[(419, 768)]),
+            (5, &[(419, 768)]),
+            (6, &[(419, 513)]),
+        ],
+    },
+    Story {
+        name: "the last marker has the highest request",
+        kinds: FORTY_EIGHT,
+        moves: &[Move::Begin(47, 1, "D 3041"), Move::Step(47, Told::Moved)],
+        looks: &[(2, &[(419, 36_028_797_018_963_968)])],
+    },
+    Story {
+        name: "a held connector puts a marker off, and both give back",
+        kinds: TWO,
+        moves: &[
+            Move::Begin(0, 1, "D 3041"),
+            Move::Begin(1, 2, "D 1000"),
+            Move::Moved(0, 6),
+            Move::Moved(1, 3),
+            Move::Step(1, Told::Refused(Conn::Group(0), 0)),
+            Move::Moved(1, 4),
+            Move::GiveBack(0, Given::Given),
+            Move::GiveBack(1, Given::Given),
+            Move::Meet,
+            Move::GiveBack(0, Given::Given),
+        ],
+        looks: &[(6, &[(417, 2), (419, 1), (436, 1)]), (9, &[]), (10, &[])],
+    },
+    Story {
+        name: "a request is withdrawn",
+        kinds: TWO,
+        moves: &[
+            Move::Begin(0, 1, "D 3041"),
+            Move::Begin(1, 2, "D 3052"),
+            Move::GoOn(1, 1),
+            Move::GiveBack(1, Given::Given),
+            Move::HasNoJob(1, false),
+        ],
+        looks: &[(3, &[(419, 512)]), (5, &[])],
+    },
+    Story {
+        name: "the last step finishes",
+        kinds: TWO,
+        moves: &[
+            Move::Begin(0, 1, "D 3041"),
+            Move::GoOn(0, 27),
+            Move::Step(0, Told::Finished(1)),
+            Move::Step(0, Told::Idle),
+            Move::HasNoJob(0, true),
+        ],
+        looks: &[(5, WITH_REGISTER)],
+    },
+];
+
+fn move_so<O: Driven>(rt: &impl Abort, office: &mut O, name: &str, marker: u32, count: u32) {
+    for _made in 0..count {
+        check_equal(rt, name, &told_of(&office.go_on(marker)), &Told::Moved);
+    }
+}
+
+fn make<O: Driven>(rt: &impl Abort, office: &mut O, name: &str, next: &Move) {
+    match next {
+        Move::Begin(marker, job_no, text) => assign(rt, office, *marker, *job_no, text),
+        Move::GoOn(marker, count) => go_on_for(office, *marker, *count),
+        Move::Moved(marker, count) => move_so(rt, office, name, *marker, *count),
+        Move::Step(marker, wanted) => check_equal(
+            rt,
+            name,
+            &told_of(&office.go_on(*marker)),
+            wanted,
+        ),
+        Move::GiveBack(marker, given) => check_equal(rt, name, &office.ask_back(*marker), given),
+        Move::HasNoJob(marker, is_so) => check_equal(rt, name, &office.has_no_job(*marker), is_so),
+        Move::Meet => office.meet(),
+    }
+}
+
+/// An office that was just opened makes so many moves of the story, and is shut with just these words not 0.
+fn look<O: Driven>(
+    rt: &impl Abort,
+    alloc: Global,
+    mut office: O,
+    story: &Story,
+    made: usize,
+    wanted: Words<'_>,
+) {
+    for next in story.moves.iter().take(made) {
+        make(rt, &mut office, story.name, next);
+    }
+    check_shut(rt, alloc, story.name, office, wanted);
+}
+
+fn tell_all(rt: &impl Abort, alloc: Global, plan: &Plan) {
+    for story in STORIES {
+        for (made, words) in story.looks {
+            let exchange = open_exchange(rt, alloc, plan, story.kinds);
+            look(rt, alloc, exchange, story, *made, words);
+            let desks = open_desks(rt, alloc, plan, story.kinds);
+            look(rt, alloc, desks, story, *made, words);
+        }
+    }
+}
+
+#[test]
+fn markers_do_as_in_the_stories(rt: HostRuntime) {
+    tell_all(&rt, rt.alloc(), &example(&rt, rt.alloc()));
+}
