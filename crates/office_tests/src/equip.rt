@@ -1,242 +1,270 @@
 //! The equipment: texts of numbers, paths with their links and crosspoints, and words.
 
 use crate::checks::check_eq;
-use crate::fixtures::{far_path, near_path};
+use crate::fixtures::{far_path, near_path, path_of};
+use std::alloc::Global;
+use std::process::Abort;
 use std::test::Fail;
 use xbar_equip::{
-    Channel, Conn, Crosspoint, Dialled, DirNo, EquipFault, Len, Link, LinkKind, Path, Ten,
+    Channel, Conn, Crosspoint, Dialled, DirNo, EquipFault, Len, Link, LinkKind, Path, Ten, WordNo,
     conn_word, group_word, laws, line_junctor, line_switch, protects, trunk_junctor, trunk_switch,
     turn_word,
 };
 
-#[test]
-fn lines_are_read(rt: HostRuntime) {
-    let read: [(&[u8], Len); 4] = [
-        (b"3041", Len::new(3, 0, 21)),
-        (b"2954", Len::new(2, 9, 29)),
-        (b"0000", Len::new(0, 0, 0)),
-        (b"1000", Len::new(1, 0, 0)),
+/// Texts of lines, each with its frame, its switch, its place there, its vertical group and its
+/// vertical file, and the text that it prints.
+const LINES: &[(&str, Result<([u8; 5], [u8; 4]), EquipFault>)] = &[
+    ("3041", Ok(([3, 0, 21, 4, 1], *b"3041"))),
+    ("2954", Ok(([2, 9, 29, 5, 4], *b"2954"))),
+    ("0000", Ok(([0, 0, 0, 0, 0], *b"0000"))),
+    ("1000", Ok(([1, 0, 0, 0, 0], *b"1000"))),
+    ("304", Err(EquipFault::Length)),
+    ("3a5", Err(EquipFault::Length)),
+    ("30a1", Err(EquipFault::NotDigit)),
+    ("304:", Err(EquipFault::NotDigit)),
+    ("306a", Err(EquipFault::NotDigit)),
+    ("3045", Err(EquipFault::Range)),
+    ("3060", Err(EquipFault::Range)),
+];
+
+fn line_of(text: &str) -> Result<([u8; 5], [u8; 4]), EquipFault> {
+    let line = Len::parse(text.as_bytes())?;
+    let numbers = [
+        line.frame(),
+        line.switch(),
+        line.x(),
+        line.vertical_group(),
+        line.vertical_file(),
     ];
-    for (text, line) in read {
-        check_eq!(rt; Len::parse(text), Ok(line));
-        check_eq!(rt; line.text().as_slice(), text);
-    }
-    let line = Len::new(2, 9, 29);
-    check_eq!(rt; (line.vertical_group(), line.vertical_file()), (5, 4));
+    Ok((numbers, line.text()))
 }
 
 #[test]
-fn texts_that_name_no_line(rt: HostRuntime) {
-    let refused: [(&[u8], EquipFault); 7] = [
-        (b"304", EquipFault::Length),
-        (b"3a5", EquipFault::Length),
-        (b"30a1", EquipFault::NotDigit),
-        (b"304:", EquipFault::NotDigit),
-        (b"306a", EquipFault::NotDigit),
-        (b"3045", EquipFault::Range),
-        (b"3060", EquipFault::Range),
-    ];
-    for (text, fault) in refused {
-        check_eq!(rt; Len::parse(text), Err(fault));
+fn lines_are_read(rt: HostRuntime) {
+    for (text, wanted) in LINES {
+        check_eq!(rt; line_of(text), *wanted, "{text}");
     }
+}
+
+/// Texts of trunk places, each with its frame, its switch and its appearance.
+const PLACES: &[(&str, Result<([u8; 3], [u8; 3]), EquipFault>)] = &[
+    ("417", Ok(([4, 1, 7], *b"417"))),
+    ("4170", Err(EquipFault::Length)),
+    ("41:", Err(EquipFault::NotDigit)),
+];
+
+fn place_of(text: &str) -> Result<([u8; 3], [u8; 3]), EquipFault> {
+    let place = Ten::parse(text.as_bytes())?;
+    let numbers = [place.frame(), place.switch(), place.appearance()];
+    Ok((numbers, place.text()))
 }
 
 #[test]
 fn trunk_places_are_read(rt: HostRuntime) {
-    let place = Ten::new(4, 1, 7);
-    check_eq!(rt; place.text(), *b"417");
-    let read: [(&[u8], Result<Ten, EquipFault>); 3] = [
-        (b"417", Ok(place)),
-        (b"4170", Err(EquipFault::Length)),
-        (b"41:", Err(EquipFault::NotDigit)),
-    ];
-    for (text, wanted) in read {
-        check_eq!(rt; Ten::parse(text), wanted);
+    for (text, wanted) in PLACES {
+        check_eq!(rt; place_of(text), *wanted, "{text}");
     }
+}
+
+const CHANNELS: &[(&str, Result<(u8, [u8; 1]), EquipFault>)] = &[
+    ("9", Ok((9, *b"9"))),
+    ("10", Err(EquipFault::Length)),
+    ("/", Err(EquipFault::NotDigit)),
+];
+
+fn channel_of(text: &str) -> Result<(u8, [u8; 1]), EquipFault> {
+    let channel = Channel::parse(text.as_bytes())?;
+    Ok((channel.number(), channel.text()))
 }
 
 #[test]
 fn channels_are_read(rt: HostRuntime) {
-    let channel = Channel::new(9);
-    check_eq!(rt; channel.text(), *b"9");
-    let read: [(&[u8], Result<Channel, EquipFault>); 3] = [
-        (b"9", Ok(channel)),
-        (b"10", Err(EquipFault::Length)),
-        (b"/", Err(EquipFault::NotDigit)),
-    ];
-    for (text, wanted) in read {
-        check_eq!(rt; Channel::parse(text), wanted);
+    for (text, wanted) in CHANNELS {
+        check_eq!(rt; channel_of(text), *wanted, "{text}");
     }
+}
+
+const DIRECTORY_NUMBERS: &[(&str, Result<(u16, [u8; 4]), EquipFault>)] = &[
+    ("0042", Ok((42, *b"0042"))),
+    ("042", Err(EquipFault::Length)),
+    ("00a2", Err(EquipFault::NotDigit)),
+];
+
+fn directory_number_of(text: &str) -> Result<(u16, [u8; 4]), EquipFault> {
+    let number = DirNo::parse(text.as_bytes())?;
+    Ok((number.number(), number.text()))
 }
 
 #[test]
 fn directory_numbers_are_read(rt: HostRuntime) {
-    let number = DirNo::new(42);
-    check_eq!(rt; number.text(), *b"0042");
-    let read: [(&[u8], Result<DirNo, EquipFault>); 3] = [
-        (b"0042", Ok(number)),
-        (b"042", Err(EquipFault::Length)),
-        (b"00a2", Err(EquipFault::NotDigit)),
-    ];
-    for (text, wanted) in read {
-        check_eq!(rt; DirNo::parse(text), wanted);
+    for (text, wanted) in DIRECTORY_NUMBERS {
+        check_eq!(rt; directory_number_of(text), *wanted, "{text}");
     }
+}
+
+/// Dialled digits, each with their code and number.
+const DIALLED: &[(&str, Result<(u32, u16, u16, [u8; 7]), EquipFault>)] = &[
+    ("0420007", Ok((420_007, 42, 7, *b"0420007"))),
+    ("555123", Err(EquipFault::Length)),
+    ("555-123", Err(EquipFault::NotDigit)),
+];
+
+fn dialled_of(text: &str) -> Result<(u32, u16, u16, [u8; 7]), EquipFault> {
+    let dialled = Dialled::parse(text.as_bytes())?;
+    let (code, number) = (dialled.code(), dialled.number());
+    Ok((dialled.value(), code, number.number(), dialled.text()))
 }
 
 #[test]
 fn dialled_digits_are_read(rt: HostRuntime) {
-    let dialled = Dialled::new(420_007);
-    check_eq!(rt; dialled.text(), *b"0420007");
-    check_eq!(rt; (dialled.code(), dialled.number()), (42, DirNo::new(7)));
-    let read: [(&[u8], Result<Dialled, EquipFault>); 3] = [
-        (b"0420007", Ok(dialled)),
-        (b"555123", Err(EquipFault::Length)),
-        (b"555-123", Err(EquipFault::NotDigit)),
-    ];
-    for (text, wanted) in read {
-        check_eq!(rt; Dialled::parse(text), wanted);
+    for (text, wanted) in DIALLED {
+        check_eq!(rt; dialled_of(text), *wanted, "{text}");
     }
+}
+
+/// Texts of links, each with its kind and its three numbers.
+const LINKS: &[(&str, Result<(LinkKind, [u8; 3], [u8; 5]), EquipFault>)] = &[
+    ("LL000", Ok((LinkKind::LineLink, [0, 0, 0], *b"LL000"))),
+    ("JU340", Ok((LinkKind::Junctor, [3, 4, 0], *b"JU340"))),
+    ("TL999", Ok((LinkKind::TrunkLink, [9, 9, 9], *b"TL999"))),
+    ("JX34", Err(EquipFault::Length)),
+    ("JX340", Err(EquipFault::NotDigit)),
+    ("JU34a", Err(EquipFault::NotDigit)),
+    ("ju340", Err(EquipFault::NotDigit)),
+    ("TT340", Err(EquipFault::NotDigit)),
+];
+
+fn link_of(text: &str) -> Result<(LinkKind, [u8; 3], [u8; 5]), EquipFault> {
+    let link = Link::parse(text.as_bytes())?;
+    let numbers = [link.frame(), link.at(), link.channel()];
+    Ok((link.kind(), numbers, link.text()))
 }
 
 #[test]
 fn links_are_read(rt: HostRuntime) {
-    let read: [(&[u8], Link); 3] = [
-        (b"LL000", Link::new(LinkKind::LineLink, 0, 0, 0)),
-        (b"JU340", Link::new(LinkKind::Junctor, 3, 4, 0)),
-        (b"TL999", Link::new(LinkKind::TrunkLink, 9, 9, 9)),
-    ];
-    for (text, link) in read {
-        check_eq!(rt; Link::parse(text), Ok(link));
-        check_eq!(rt; link.text().as_slice(), text);
+    for (text, wanted) in LINKS {
+        check_eq!(rt; link_of(text), *wanted, "{text}");
     }
 }
 
-#[test]
-fn texts_that_name_no_link(rt: HostRuntime) {
-    let refused: [(&[u8], EquipFault); 5] = [
-        (b"JX34", EquipFault::Length),
-        (b"JX340", EquipFault::NotDigit),
-        (b"JU34a", EquipFault::NotDigit),
-        (b"ju340", EquipFault::NotDigit),
-        (b"TT340", EquipFault::NotDigit),
-    ];
-    for (text, fault) in refused {
-        check_eq!(rt; Link::parse(text), Err(fault));
-    }
-}
+/// The word, the field and the value of each crosspoint of a path, and its links.
+type PathParts = ([(u16, u8, u8); 4], [[u8; 5]; 3]);
 
-fn numbers(path: Path) -> [(u16, u8, u8); 4] {
-    let [first, second, third, fourth] = path.crosspoints();
+const FAR_PARTS: PathParts = (
+    [(49, 9, 30), (59, 9, 10), (399, 2, 10), (389, 9, 10)],
+    [*b"LL299", *b"JU299", *b"TL999"],
+);
+
+const NEAR_PARTS: PathParts = (
+    [(60, 0, 22), (70, 4, 1), (290, 3, 2), (281, 0, 8)],
+    [*b"LL300", *b"JU340", *b"TL410"],
+);
+
+fn crosspoints(path: &Path) -> [(u16, u8, u8); 4] {
     let numbers = |c: Crosspoint| (c.word.number(), c.field, c.value);
+    path.crosspoints().map(numbers)
+}
+
+fn links(path: &Path) -> [[u8; 5]; 3] {
     [
-        numbers(first),
-        numbers(second),
-        numbers(third),
-        numbers(fourth),
+        path.line_link().text(),
+        path.junctor().text(),
+        path.trunk_link().text(),
     ]
 }
 
 #[test]
-fn paths_close_four_crosspoints(rt: HostRuntime) {
-    check_eq!(rt;
-        numbers(far_path()),
-        [(49, 9, 30), (59, 9, 10), (399, 2, 10), (389, 9, 10)]
-    );
-    check_eq!(rt;
-        numbers(near_path()),
-        [(60, 0, 22), (70, 4, 1), (290, 3, 2), (281, 0, 8)]
-    );
+fn paths_close_four_crosspoints_by_three_links(rt: HostRuntime) {
+    let path = far_path();
+    check_eq!(rt; (crosspoints(&path), links(&path)), FAR_PARTS, "{path}");
+    let path = near_path();
+    check_eq!(rt; (crosspoints(&path), links(&path)), NEAR_PARTS, "{path}");
 }
 
-#[test]
-fn paths_have_three_links(rt: HostRuntime) {
-    let far = far_path();
-    let links = [far.line_link(), far.junctor(), far.trunk_link()];
-    check_eq!(rt;
-        links.map(|link| link.text()),
-        [*b"LL299", *b"JU299", *b"TL999"]
-    );
-    let near = near_path();
-    let links = [near.line_link(), near.junctor(), near.trunk_link()];
-    check_eq!(rt;
-        links.map(|link| link.text()),
-        [*b"LL300", *b"JU340", *b"TL410"]
-    );
-}
+/// Paths, each by its line, its channel and its place, in the order of their texts.
+const IN_ORDER: &[(&str, &str, &str)] = &[
+    ("2954", "9", "999"),
+    ("3041", "0", "417"),
+    ("3041", "0", "500"),
+    ("3041", "1", "417"),
+    ("3050", "0", "417"),
+];
 
-#[test]
-fn paths_stand_in_the_order_of_their_texts(rt: HostRuntime) {
-    let near = near_path();
-    let in_order = [
-        far_path(),
-        near,
-        Path {
-            place: Ten::new(5, 0, 0),
-            ..near
-        },
-        Path {
-            channel: Channel::new(1),
-            ..near
-        },
-        Path {
-            line: Len::new(3, 0, 25),
-            ..near
-        },
-    ];
-    let [first, second, third, fourth, last] = in_order;
-    let mut paths = [fourth, last, third, second, first];
-    paths.sort_unstable();
-    check_eq!(rt; paths, in_order);
-}
+/// The same in another order.
+const SHUFFLED: &[(&str, &str, &str)] = &[
+    ("3041", "1", "417"),
+    ("3050", "0", "417"),
+    ("3041", "0", "500"),
+    ("3041", "0", "417"),
+    ("2954", "9", "999"),
+];
 
-#[test]
-fn words_stand_in_their_order(rt: HostRuntime) {
-    let table = [
-        (line_switch(3, 0), 60, Some(Conn::Llf(3))),
-        (line_junctor(9, 9), 199, Some(Conn::Llf(9))),
-        (trunk_switch(4, 1), 281, Some(Conn::Tlf(4))),
-        (trunk_junctor(4, 0), 290, Some(Conn::Tlf(4))),
-        (group_word(15), 415, Some(Conn::Group(15))),
-        (conn_word(Conn::Llf(0)), 416, None),
-        (conn_word(Conn::Tlf(9)), 435, None),
-        (conn_word(Conn::Group(15)), 451, None),
-        (turn_word(), 452, None),
-    ];
-    for (word, number, protector) in table {
-        check_eq!(rt; (word.number(), protects(word)), (number, protector));
+fn paths(alloc: Global, texts: &[(&str, &str, &str)]) -> Result<Vec<Path>, Fail> {
+    let mut paths = Vec::new(alloc);
+    for (line, channel, place) in texts {
+        paths.push(path_of(line, channel, place)?)?;
     }
+    Ok(paths)
+}
+
+#[test]
+fn paths_stand_in_the_order_of_their_texts(rt: HostRuntime) -> Result<(), Fail> {
+    let mut sorted = paths(rt.alloc(), SHUFFLED)?;
+    sorted.sort_unstable();
+    let in_order = paths(rt.alloc(), IN_ORDER)?;
+    check_eq!(rt; sorted.as_slice(), in_order.as_slice());
+    Ok(())
+}
+
+/// The word has this number, and protects this.
+fn check_word(rt: &impl Abort, word: WordNo, number: u16, protected: Option<Conn>) {
+    check_eq!(rt; (word.number(), protects(word)), (number, protected));
+}
+
+#[test]
+fn words_of_switches_stand_in_their_order(rt: HostRuntime) {
+    check_word(&rt, line_switch(3, 0), 60, Some(Conn::Llf(3)));
+    check_word(&rt, line_junctor(9, 9), 199, Some(Conn::Llf(9)));
+    check_word(&rt, trunk_switch(4, 1), 281, Some(Conn::Tlf(4)));
+    check_word(&rt, trunk_junctor(4, 0), 290, Some(Conn::Tlf(4)));
+}
+
+#[test]
+fn other_words_stand_behind_them(rt: HostRuntime) {
+    check_word(&rt, group_word(15), 415, Some(Conn::Group(15)));
+    check_word(&rt, conn_word(Conn::Llf(0)), 416, None);
+    check_word(&rt, conn_word(Conn::Tlf(9)), 435, None);
+    check_word(&rt, conn_word(Conn::Group(15)), 451, None);
+    check_word(&rt, turn_word(), 452, None);
 }
 
 #[test]
 fn numbers_are_printed(rt: HostRuntime) -> Result<(), Fail> {
-    let alloc = rt.alloc();
-    check_eq!(rt; DirNo::new(42).to_string(alloc)?.as_str(), "0042");
-    check_eq!(rt; Dialled::new(420_007).to_string(alloc)?.as_str(), "0420007");
+    let (number, dialled) = (DirNo::new(42), Dialled::new(420_007));
+    let text = format!(in rt.alloc(); "{number} {dialled}")?;
+    check_eq!(rt; text.as_str(), "0042 0420007");
     Ok(())
 }
 
 #[test]
 fn paths_are_printed(rt: HostRuntime) -> Result<(), Fail> {
-    let alloc = rt.alloc();
     let path = near_path();
-    check_eq!(rt; path.to_string(alloc)?.as_str(), "3041-0-417");
-    check_eq!(rt; path.junctor().to_string(alloc)?.as_str(), "JU340");
-    check_eq!(rt;
-        format!(in alloc; "[{:>6}]", path.line)?.as_str(),
-        "[  3041]"
-    );
+    let (junctor, line) = (path.junctor(), path.line);
+    let text = format!(in rt.alloc(); "{path} {junctor} [{line:>6}]")?;
+    check_eq!(rt; text.as_str(), "3041-0-417 JU340 [  3041]");
     Ok(())
 }
 
+const FAULTS: &[(EquipFault, &str)] = &[
+    (EquipFault::Length, "wrong number of characters"),
+    (EquipFault::NotDigit, "a character that may not stand there"),
+    (EquipFault::Range, "a digit out of its range"),
+];
+
 #[test]
 fn faults_are_told(rt: HostRuntime) -> Result<(), Fail> {
-    let told = [
-        (EquipFault::Length, "wrong number of characters"),
-        (EquipFault::NotDigit, "a character that may not stand there"),
-        (EquipFault::Range, "a digit out of its range"),
-    ];
-    for (fault, text) in told {
-        check_eq!(rt; fault.to_string(rt.alloc())?.as_str(), text);
+    for (fault, text) in FAULTS {
+        check_eq!(rt; fault.to_string(rt.alloc())?.as_str(), *text);
     }
     Ok(())
 }

@@ -1,8 +1,9 @@
 //! Paths, lines and records that several tests name.
 
-use crate::checks::check;
+use crate::checks::{check, check_eq};
 use std::process::Abort;
-use xbar_equip::{Channel, DirNo, Len, Path, Ten};
+use std::test::Fail;
+use xbar_equip::{Channel, DirNo, EquipFault, Len, Link, Path, Ten};
 use xbar_office::{End, Job, Record, Reply};
 use xbar_plan::Plan;
 
@@ -24,6 +25,20 @@ pub fn far_path() -> Path {
     }
 }
 
+/// The path of these texts.
+pub fn path_of(line: &str, channel: &str, place: &str) -> Result<Path, Fail> {
+    Ok(Path {
+        line: Len::parse(line.as_bytes())?,
+        channel: Channel::parse(channel.as_bytes())?,
+        place: Ten::parse(place.as_bytes())?,
+    })
+}
+
+pub fn text_of(path: Option<Path>) -> Option<[u8; 10]> {
+    let path = path?;
+    Some(path.text())
+}
+
 /// A number with the texts of its lines, if the plan has it.
 pub type NumberLines<'a> = (&'a [u8], Option<&'a [&'a [u8]]>);
 
@@ -38,19 +53,22 @@ pub const EXAMPLE_LINES: &[NumberLines] = &[
 /// And its codes.
 pub const EXAMPLE_ROUTES: &[(u16, Option<&[u8]>)] = &[(234, Some(&[1])), (555, Some(&[2, 3]))];
 
+fn have_texts(lines: &[Len], texts: &[&[u8]]) -> bool {
+    for (line, text) in lines.iter().zip(texts) {
+        if line.text().as_slice() != *text {
+            return false;
+        }
+    }
+    lines.len() == texts.len()
+}
+
 fn has_lines(plan: &Plan, number: &[u8], wanted: Option<&[&[u8]]>) -> bool {
     let Ok(number) = DirNo::parse(number) else {
         return false;
     };
     match (plan.stations(number), wanted) {
         (None, None) => true,
-        (Some(lines), Some(wanted)) => {
-            lines.len() == wanted.len()
-                && lines
-                    .iter()
-                    .zip(wanted)
-                    .all(|(line, text)| line.text().as_slice() == *text)
-        }
+        (Some(lines), Some(texts)) => have_texts(lines, texts),
         _ => false,
     }
 }
@@ -66,6 +84,17 @@ pub fn check_lines(rt: &impl Abort, plan: &Plan, rows: &[NumberLines<'_>]) {
 pub fn check_routes(rt: &impl Abort, plan: &Plan, rows: &[(u16, Option<&[u8]>)]) {
     for (code, groups) in rows {
         check!(rt; plan.route(*code) == *groups, "{code}");
+    }
+}
+
+fn is_faulty(plan: &Plan, link: &str) -> Result<bool, EquipFault> {
+    Ok(plan.faulty(Link::parse(link.as_bytes())?))
+}
+
+/// Links are out of order in the plan, or are not.
+pub fn check_faulty(rt: &impl Abort, plan: &Plan, rows: &[(&str, bool)]) {
+    for (link, wanted) in rows {
+        check_eq!(rt; is_faulty(plan, link), Ok(*wanted), "{link}");
     }
 }
 

@@ -1,4 +1,5 @@
-//! Tests of the crates from the equipment up to the one-marker office, by values from outside.
+//! Tests of the crates from the equipment up to the one-marker office, and of drawings, by values from
+//! outside.
 #![tactic(auto)]
 
 #[cfg(test)]
@@ -12,6 +13,10 @@ mod matching;
 #[cfg(test)]
 mod office;
 #[cfg(test)]
+mod pictures;
+#[cfg(test)]
 mod plan;
+#[cfg(test)]
+mod shapes;
 #[cfg(test)]
 mod switch;

@@ -5,61 +5,123 @@ use std::process::Abort;
 use std::test::Fail;
 use xbar_switch::{Shape, Switch, SwitchFault, close_bits, field, laws, open_mask};
 
-#[test]
-fn refuses_what_is_out_of_turn(rt: HostRuntime) -> Result<(), Fail> {
+/// What is answered, and the word of the switch after it.
+type Answer = (Result<(), SwitchFault>, u64);
+
+/// A hold with nothing selected, one that closes field 0, one of that field again, and one after the
+/// select magnet fell back; and the release of a field that isn't held.
+const ANSWERS: [Answer; 5] = [
+    (Err(SwitchFault::NothingSelected), 0),
+    (Ok(()), 22),
+    (Err(SwitchFault::AlreadyHeld), 22),
+    (Err(SwitchFault::NothingSelected), 22),
+    (Err(SwitchFault::NotHeld), 22),
+];
+
+fn answers() -> [Answer; 5] {
     let mut switch = Switch::of_word(Shape::Line, 0);
-    check_eq!(rt; switch.hold(0), Err(SwitchFault::NothingSelected));
-    check_eq!(rt; switch.word(), 0);
+    let early = (switch.hold(0), switch.word());
     switch.select(21);
-    switch.hold(0)?;
+    let held = (switch.hold(0), switch.word());
     switch.drop_select();
-    check_eq!(rt; switch.word(), 22);
     switch.select(3);
-    check_eq!(rt; switch.hold(0), Err(SwitchFault::AlreadyHeld));
-    check_eq!(rt; switch.word(), 22);
+    let again = (switch.hold(0), switch.word());
     switch.drop_select();
-    check_eq!(rt; switch.hold(0), Err(SwitchFault::NothingSelected));
-    check_eq!(rt; switch.release(1), Err(SwitchFault::NotHeld));
-    check_eq!(rt; switch.word(), 22);
+    let late = (switch.hold(0), switch.word());
+    let never_held = (switch.release(1), switch.word());
+    [early, held, again, late, never_held]
+}
+
+#[test]
+fn refuses_what_is_out_of_turn(rt: HostRuntime) {
+    check_eq!(rt; answers(), ANSWERS);
+}
+
+/// A closed crosspoint: where it is, the word of a switch in which no other is closed, and the mask
+/// that opens it.
+struct Closed {
+    shape: Shape,
+    field: u8,
+    place: u8,
+    word: u64,
+    mask: u64,
+}
+
+const CLOSED: &[Closed] = &[
+    Closed {
+        shape: Shape::Line,
+        field: 0,
+        place: 21,
+        word: 22,
+        mask: 18446744073709551552,
+    },
+    Closed {
+        shape: Shape::Line,
+        field: 9,
+        place: 29,
+        word: 540431955284459520,
+        mask: 17311836967612186623,
+    },
+    Closed {
+        shape: Shape::Other,
+        field: 9,
+        place: 9,
+        word: 687194767360,
+        mask: 18446743042917400575,
+    },
+    Closed {
+        shape: Shape::Other,
+        field: 2,
+        place: 9,
+        word: 2560,
+        mask: 18446744073709547775,
+    },
+];
+
+/// Closed in a switch that was open, the crosspoint gives its word, and opened none.
+fn closes_and_opens(rt: &impl Abort, closed: &Closed) -> Result<(), SwitchFault> {
+    let Closed {
+        shape,
+        field,
+        place,
+        word,
+        ..
+    } = *closed;
+    assert!(rt; field < 10 && place < shape.places());
+    let mut switch = Switch::of_word(shape, 0);
+    let before = switch.closed(field);
+    switch.select(place);
+    switch.hold(field)?;
+    switch.drop_select();
+    let after = (switch.word(), switch.closed(field));
+    switch.release(field)?;
+    check_eq!(rt; (before, after, switch.word()), (None, (word, Some(place)), 0), "{word}");
     Ok(())
 }
 
-/// Place `h` is held at `v` of a switch that was open, and released. Held it has this word, and this
-/// mask opens it.
-fn closes_and_opens(
-    rt: &impl Abort,
-    shape: Shape,
-    v: u8,
-    h: u8,
-    word: u64,
-    mask: u64,
-) -> Result<(), SwitchFault> {
+/// The numbers of its word are those of the crosspoint.
+fn check_bits(rt: &impl Abort, closed: &Closed) {
+    let Closed {
+        shape,
+        field: v,
+        place: h,
+        word,
+        mask,
+    } = *closed;
     assert!(rt; v < 10 && h < shape.places());
-    let mut switch = Switch::of_word(shape, 0);
-    check_eq!(rt; switch.closed(v), None, "at {word}");
-    switch.select(h);
-    switch.hold(v)?;
-    switch.drop_select();
-    check_eq!(rt; switch.word(), word);
-    check_eq!(rt; switch.closed(v), Some(h), "at {word}");
-    check_eq!(rt; field(shape, word, v), h + 1, "at {word}");
-    check_eq!(rt; close_bits(shape, v, h), word);
-    check_eq!(rt; open_mask(shape, v), mask);
-    switch.release(v)?;
-    check_eq!(rt; switch.word(), 0, "at {word}");
-    Ok(())
+    let found = (
+        field(shape, word, v),
+        close_bits(shape, v, h),
+        open_mask(shape, v),
+    );
+    check_eq!(rt; found, (h + 1, word, mask), "{word}");
 }
 
 #[test]
 fn closes_and_opens_a_field(rt: HostRuntime) -> Result<(), Fail> {
-    let crosspoints = [
-        (Shape::Line, 0, 21, 22, 18446744073709551552),
-        (Shape::Line, 9, 29, 540431955284459520, 17311836967612186623),
-        (Shape::Other, 9, 9, 687194767360, 18446743042917400575),
-        (Shape::Other, 2, 9, 2560, 18446744073709547775),
-    ];
-    for (shape, v, h, word, mask) in crosspoints {
-        closes_and_opens(&rt, shape, v, h, word, mask)?;
+    for closed in CLOSED {
+        closes_and_opens(&rt, closed)?;
+        check_bits(&rt, closed);
     }
     Ok(())
 }
@@ -75,42 +137,45 @@ fn holds_the_place_selected_last(rt: HostRuntime) -> Result<(), Fail> {
     Ok(())
 }
 
-#[test]
-fn reads_words_from_outside(rt: HostRuntime) -> Result<(), Fail> {
-    for (shape, highest, released) in [
-        (Shape::Line, 62, 18446744073709551552),
-        (Shape::Other, 14, 18446744073709551600),
-    ] {
-        let mut switch = Switch::of_word(shape, u64::MAX);
-        check_eq!(rt; switch.closed(0), Some(highest));
-        check_eq!(rt; switch.closed(9), Some(highest));
-        switch.release(0)?;
-        check_eq!(rt; switch.word(), released);
+/// Shapes, each with its width and its places, the highest place that a field of it names, and what
+/// is left of a word of ones without field 0.
+const SHAPES: &[(Shape, (u32, u8), u8, u64)] = &[
+    (Shape::Line, (6, 30), 62, 18446744073709551552),
+    (Shape::Other, (4, 10), 14, 18446744073709551600),
+];
+
+/// What ends of a word of ones name, and what is left of it without field 0.
+fn ones(shape: Shape) -> (Option<u8>, Option<u8>, u64) {
+    let mut switch = Switch::of_word(shape, u64::MAX);
+    let ends = (switch.closed(0), switch.closed(9));
+    match switch.release(0) {
+        Ok(()) => (ends.0, ends.1, switch.word()),
+        Err(_) => (ends.0, ends.1, 0),
     }
-    Ok(())
 }
 
 #[test]
 fn tells_shapes_apart(rt: HostRuntime) {
-    for (shape, width, places) in [(Shape::Line, 6, 30), (Shape::Other, 4, 10)] {
-        check_eq!(rt; shape.width(), width);
-        check_eq!(rt; shape.places(), places);
+    for (shape, size, highest, released) in SHAPES {
+        check_eq!(rt; (shape.width(), shape.places()), *size);
+        let wanted = (Some(*highest), Some(*highest), *released);
+        check_eq!(rt; ones(*shape), wanted, "{shape:?}");
     }
 }
 
+const FAULTS: &[(SwitchFault, &str)] = &[
+    (
+        SwitchFault::NothingSelected,
+        "no place of the switch is selected",
+    ),
+    (SwitchFault::AlreadyHeld, "the field is held already"),
+    (SwitchFault::NotHeld, "the field is not held"),
+];
+
 #[test]
 fn prints_faults(rt: HostRuntime) -> Result<(), Fail> {
-    let faults = [
-        (
-            SwitchFault::NothingSelected,
-            "no place of the switch is selected",
-        ),
-        (SwitchFault::AlreadyHeld, "the field is held already"),
-        (SwitchFault::NotHeld, "the field is not held"),
-    ];
-    for (fault, text) in faults {
-        let printed = format!(in rt.alloc(); "{fault}")?;
-        check_eq!(rt; printed.as_str(), text);
+    for (fault, text) in FAULTS {
+        check_eq!(rt; fault.to_string(rt.alloc())?.as_str(), *text);
     }
     Ok(())
 }

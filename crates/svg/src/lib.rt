@@ -10,6 +10,4 @@ mod drawing;
 mod escape;
 pub mod laws;
 mod shape;
-#[cfg(test)]
-mod tests;
 mod write;

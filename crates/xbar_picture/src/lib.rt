@@ -6,6 +6,4 @@ pub use lines::add_path_lines;
 mod lines;
 mod switch_name;
 mod table;
-#[cfg(test)]
-mod tests;
 mod three;

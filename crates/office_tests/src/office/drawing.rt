@@ -2,8 +2,9 @@
 
 use super::plans::plan;
 use super::texts::job;
-use crate::checks::{check, check_eq};
+use crate::checks::check;
 use std::alloc::Global;
+use std::process::Abort;
 use std::test::Fail;
 use xbar_office::{Office, Record};
 use xbar_office_drawing::{laws, office_drawing};
@@ -49,24 +50,36 @@ const SECOND_TRIAL: &[&str] = &[
     "<rect x=\"312\" y=\"178\" width=\"9\" height=\"15\" class=\"place\"/>\n",
 ];
 
+fn check_parts(rt: &impl Abort, drawing: &str, parts: &[&str]) {
+    for part in parts {
+        check!(rt; drawing.contains(*part), "{part}");
+    }
+}
+
 #[test]
 fn a_path_in_the_second_trial(rt: HostRuntime) -> Result<(), Fail> {
     let plan = plan(rt.alloc(), "417 418 509", "3052", "\"JU340\"")?;
     let drawing = after_dial_tone(rt.alloc(), &plan)?;
-    for part in SECOND_TRIAL {
-        check!(rt; drawing.as_str().contains(*part), "{part}");
-    }
+    check_parts(&rt, &drawing, SECOND_TRIAL);
     Ok(())
+}
+
+/// Parts of the drawing of an office with no path.
+const EMPTY: &[&str] = &[
+    "height=\"1360\">",
+    "<text x=\"40\" y=\"34\" class=\"big\">paths: 0, crosspoints closed: 0</text>\n",
+];
+
+fn check_empty(rt: &impl Abort, drawing: &str) {
+    check_parts(rt, drawing, EMPTY);
+    check!(rt; !drawing.contains("circle"));
 }
 
 #[test]
 fn an_empty_sheet(rt: HostRuntime) -> Result<(), Fail> {
     let plan = Plan::example(rt.alloc())?;
     let drawing = office_drawing(rt.alloc(), &plan, &[], &[])?;
-    let title = "<text x=\"40\" y=\"34\" class=\"big\">paths: 0, crosspoints closed: 0</text>\n";
-    check!(rt; drawing.as_str().contains("height=\"1360\">"));
-    check!(rt; drawing.as_str().contains(title));
-    check_eq!(rt; drawing.as_str().contains("circle"), false);
+    check_empty(&rt, &drawing);
     Ok(())
 }
 

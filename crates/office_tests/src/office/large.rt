@@ -1,5 +1,6 @@
 //! Offices with many paths, and audits of many records.
 
+use super::audits::check_refused;
 use super::texts::{Line, does};
 use crate::checks::check_eq;
 use crate::fixtures::{near_path, record};
@@ -37,13 +38,10 @@ faults = []
 fn calls(rt: &impl Abort, alloc: Global, office: &mut Office<'_>, call: u32) -> Result<(), Fail> {
     let (frame, switch, channel) = (call / 10 % 10, call % 10, call / 100);
     let line = format!(in alloc; "{switch}{frame}0{channel}")?;
-    let line = line.as_str();
-    let dialled = format!(in alloc; "DIALTONE,1,{line}-{channel}-999,-")?;
-    let row = (b'D', line.as_bytes(), DIGITS, dialled.as_str());
-    does(rt, alloc, office, &row)?;
-    let connected = format!(in alloc; "CONNECTED,1,{line}-{channel}-{frame}{switch}{channel},-")?;
-    let row = (b'C', line.as_bytes(), DIGITS, connected.as_str());
-    does(rt, alloc, office, &row)
+    let reply = format!(in alloc; "DIALTONE,1,{line}-{channel}-999,-")?;
+    does(rt, alloc, office, &(b'D', line.as_bytes(), DIGITS, &reply))?;
+    let reply = format!(in alloc; "CONNECTED,1,{line}-{channel}-{frame}{switch}{channel},-")?;
+    does(rt, alloc, office, &(b'C', line.as_bytes(), DIGITS, &reply))
 }
 
 const DIGITS: &[u8] = b"5550000";
@@ -55,21 +53,29 @@ const RELEASES: &[Line] = &[
     (b'R', b"9101", DIGITS, "RELEASED,-,9101-1-191,-"),
 ];
 
-#[test]
-fn a_hundred_and_twenty_calls_stand(rt: HostRuntime) -> Result<(), Fail> {
-    let alloc = rt.alloc();
-    let plan = Plan::read(alloc, MANY_TRUNKS.as_bytes())?;
-    let mut office = Office::open(alloc, &plan);
+fn check_calls(rt: &impl Abort, alloc: Global, office: &mut Office<'_>) -> Result<(), Fail> {
     for call in 0..CALLS {
-        calls(&rt, alloc, &mut office, call)?;
+        calls(rt, alloc, office, call)?;
     }
-    check_eq!(rt; office.paths().len(), 120);
-    check_eq!(rt; office.crosspoints(alloc)?.len(), 480);
+    let closed = office.crosspoints(alloc)?.len();
+    check_eq!(rt; (office.paths().len(), closed), (120, 480));
+    Ok(())
+}
+
+fn check_releases(rt: &impl Abort, alloc: Global, office: &mut Office<'_>) -> Result<(), Fail> {
     for line in RELEASES {
-        does(&rt, alloc, &mut office, line)?;
+        does(rt, alloc, office, line)?;
     }
     check_eq!(rt; office.paths().len(), 118);
     Ok(())
+}
+
+#[test]
+fn a_hundred_and_twenty_calls_stand(rt: HostRuntime) -> Result<(), Fail> {
+    let plan = Plan::read(rt.alloc(), MANY_TRUNKS.as_bytes())?;
+    let mut office = Office::open(rt.alloc(), &plan);
+    check_calls(&rt, rt.alloc(), &mut office)?;
+    check_releases(&rt, rt.alloc(), &mut office)
 }
 
 /// How many records are audited.
@@ -98,23 +104,6 @@ fn many_records(alloc: Global) -> Result<Vec<Record>, Fail> {
     Ok(records)
 }
 
-/// The audit tells this fault, which prints so.
-fn refused(
-    rt: &impl Abort,
-    alloc: Global,
-    records: &[Record],
-    wanted: AuditFault,
-    text: &str,
-) -> Result<(), Fail> {
-    let plan = Plan::example(alloc)?;
-    let Err(fault) = audit(alloc, &plan, records) else {
-        panic!(rt; "the records aren't legal");
-    };
-    check_eq!(rt; fault, wanted);
-    check_eq!(rt; format!(in alloc; "{fault}")?.as_str(), text);
-    Ok(())
-}
-
 /// One reply more is another one, and is told, since it comes before those that are.
 fn other_reply(
     rt: &impl Abort,
@@ -128,7 +117,21 @@ fn other_reply(
         record.reply = Reply::plain(end);
     }
     let wanted = AuditFault::Reply { turn: turn as u64 };
-    refused(rt, alloc, records, wanted, text)
+    check_refused(rt, alloc, records, wanted, text)
+}
+
+/// Each change of the records is told.
+fn check_changes(rt: &impl Abort, alloc: Global, records: &mut [Record]) -> Result<(), Fail> {
+    let text = "the reply of turn 100400 is another";
+    other_reply(rt, alloc, records, 100_400, End::RegistersBusy, text)?;
+    let text = "the reply of turn 70001 is another";
+    other_reply(rt, alloc, records, 70_001, End::NoCall, text)?;
+    if let Some(record) = records.get_mut(100_450) {
+        record.turn = 100_451;
+    }
+    let turns = AuditFault::Turns { place: 100_450 };
+    let text = "the record at place 100450 hasn't turn 100450";
+    check_refused(rt, alloc, records, turns, text)
 }
 
 #[test]
@@ -137,14 +140,5 @@ fn a_hundred_thousand_records_are_audited(rt: HostRuntime) -> Result<(), Fail> {
     let plan = Plan::example(alloc)?;
     let mut records = many_records(alloc)?;
     check_eq!(rt; audit(alloc, &plan, &records)?.paths().len(), 1);
-    let text = "the reply of turn 100400 is another";
-    other_reply(&rt, alloc, &mut records, 100_400, End::RegistersBusy, text)?;
-    let text = "the reply of turn 70001 is another";
-    other_reply(&rt, alloc, &mut records, 70_001, End::NoCall, text)?;
-    if let Some(record) = records.get_mut(100_450) {
-        record.turn = 100_451;
-    }
-    let turns = AuditFault::Turns { place: 100_450 };
-    let text = "the record at place 100450 hasn't turn 100450";
-    refused(&rt, alloc, &records, turns, text)
+    check_changes(&rt, alloc, &mut records)
 }

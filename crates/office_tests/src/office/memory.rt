@@ -2,7 +2,7 @@
 
 use crate::checks::{check, check_eq};
 use crate::fixtures::record;
-use std::alloc::AllocError;
+use std::alloc::{AllocError, Global};
 use std::process::Abort;
 use std::test::Fail;
 use xbar_equip::{Channel, Dialled, Len, Path, Ten};
@@ -73,11 +73,14 @@ fn records() -> [Record; 5] {
 
 /// The first five paths of an office, in memory that nobody refuses.
 fn first_paths(office: &Office<'_>) -> [Option<Path>; 5] {
-    let mut all = [None; 5];
-    for (to, path) in all.iter_mut().zip(office.paths()) {
-        *to = Some(*path);
-    }
-    all
+    let paths = office.paths();
+    [
+        paths.first().copied(),
+        paths.get(1).copied(),
+        paths.get(2).copied(),
+        paths.get(3).copied(),
+        paths.get(4).copied(),
+    ]
 }
 
 fn has_paths(office: &Office<'_>, paths: &[Option<Path>]) -> bool {
@@ -95,15 +98,9 @@ fn whole(rt: &impl Abort, office: &mut Office<'_>, job: &Job) -> Result<Reply, A
     office.whole(*job)
 }
 
-#[test]
-fn a_job_that_was_refused_memory_is_done_right_once_more(rt: HostRuntime) -> Result<(), Fail> {
-    let alloc = rt.alloc();
-    let Ok(plan) = Plan::example(alloc) else {
-        return Ok(());
-    };
-    let mut office = Office::open(alloc, &plan);
+fn check_jobs(rt: &impl Abort, office: &mut Office<'_>) -> Result<(), AllocError> {
     for record in &records() {
-        let reply = whole(&rt, &mut office, &record.job)?;
+        let reply = whole(rt, office, &record.job)?;
         check!(rt; reply == record.reply, "turn {}", record.turn);
     }
     check_eq!(rt; office.paths().len(), 5);
@@ -111,13 +108,24 @@ fn a_job_that_was_refused_memory_is_done_right_once_more(rt: HostRuntime) -> Res
 }
 
 #[test]
-fn an_audit_is_refused_memory_or_right(rt: HostRuntime) {
-    let alloc = rt.alloc();
-    let Ok(plan) = Plan::example(alloc) else {
-        return;
+fn a_job_that_was_refused_memory_is_done_right_once_more(rt: HostRuntime) -> Result<(), Fail> {
+    let Ok(plan) = Plan::example(rt.alloc()) else {
+        return Ok(());
     };
-    match audit(alloc, &plan, &records()) {
+    check_jobs(&rt, &mut Office::open(rt.alloc(), &plan))?;
+    Ok(())
+}
+
+fn check_audit(rt: &impl Abort, alloc: Global, plan: &Plan) {
+    match audit(alloc, plan, &records()) {
         Err(fault) => check_eq!(rt; fault, AuditFault::Memory),
         Ok(office) => check_eq!(rt; office.paths().len(), 5),
+    }
+}
+
+#[test]
+fn an_audit_is_refused_memory_or_right(rt: HostRuntime) {
+    if let Ok(plan) = Plan::example(rt.alloc()) {
+        check_audit(&rt, rt.alloc(), &plan);
     }
 }

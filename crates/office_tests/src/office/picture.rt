@@ -3,9 +3,10 @@
 use super::plans::plan;
 use super::texts::job;
 use crate::checks::check_eq;
+use crate::fixtures::path_of;
 use std::alloc::Global;
 use std::test::Fail;
-use xbar_equip::{Channel, Len, Link, Path, Ten};
+use xbar_equip::{Len, Link};
 use xbar_office::{Card, Cards, End, Job, Office, Record, Reply};
 use xbar_office_text::{laws, office_text};
 use xbar_plan::Plan;
@@ -31,13 +32,6 @@ fn text_after(alloc: Global, plan: &Plan, jobs: &[Asked<'_>]) -> Result<String, 
     Ok(office_text(alloc, plan, office.paths(), &records)?)
 }
 
-#[test]
-fn an_empty_office(rt: HostRuntime) -> Result<(), Fail> {
-    let plan = Plan::example(rt.alloc())?;
-    check_eq!(rt; text_after(rt.alloc(), &plan, &[])?.as_str(), "No path is up.\n");
-    Ok(())
-}
-
 const DIAL_TONE: &str = "\
 PATHS AT A GLANCE
 3052 --[frame 3]-- channel 0 --[frame 4]-- 417   register's path: REG 0
@@ -53,14 +47,6 @@ field     0                       4         3                       0
 holds    28                       1         2                       8
 ";
 
-#[test]
-fn a_path_to_a_register(rt: HostRuntime) -> Result<(), Fail> {
-    let plan = Plan::example(rt.alloc())?;
-    let text = text_after(rt.alloc(), &plan, &[(1, b'D', b"3052", b"")])?;
-    check_eq!(rt; text.as_str(), DIAL_TONE);
-    Ok(())
-}
-
 const OUTSIDE: &str = "\
 PATHS AT A GLANCE
 3041 --[frame 3]-- channel 0 --[frame 8]-- 800   call: OUTA 0
@@ -75,15 +61,6 @@ word     60                      70       370                     360
 field     0                       8         3                       0
 holds    22                       1         1                       1
 ";
-
-#[test]
-fn a_call_to_another_office(rt: HostRuntime) -> Result<(), Fail> {
-    let plan = Plan::example(rt.alloc())?;
-    let jobs: &[Asked] = &[(1, b'D', b"3041", b""), (2, b'C', b"3041", b"5551234")];
-    let text = text_after(rt.alloc(), &plan, jobs)?;
-    check_eq!(rt; text.as_str(), OUTSIDE);
-    Ok(())
-}
 
 // Member 0 of the pairs, 600-601: the caller is at its first place, the called line at its second.
 const INSIDE: &str = "\
@@ -111,15 +88,6 @@ word     61                      71       331                     320
 field     1                       6         3                       1
 holds     1                       2         1                       2
 ";
-
-#[test]
-fn a_call_inside_the_office(rt: HostRuntime) -> Result<(), Fail> {
-    let plan = Plan::example(rt.alloc())?;
-    let jobs: &[Asked] = &[(1, b'D', b"3041", b""), (2, b'C', b"3041", b"2340004")];
-    let text = text_after(rt.alloc(), &plan, jobs)?;
-    check_eq!(rt; text.as_str(), INSIDE);
-    Ok(())
-}
 
 const SECOND_TRIAL: &str = "\
 PATHS AT A GLANCE
@@ -149,14 +117,6 @@ JU340: channel 0, from line link frame 3 to trunk link frame 4
 |    channel            # . . . . . . . . .      |
 '------------------------------------------------'
 ";
-
-#[test]
-fn a_trouble_card(rt: HostRuntime) -> Result<(), Fail> {
-    let plan = plan(rt.alloc(), "417 418 509", "3052", "\"JU340\"")?;
-    let text = text_after(rt.alloc(), &plan, &[(1, b'D', b"3041", b"")])?;
-    check_eq!(rt; text.as_str(), SECOND_TRIAL);
-    Ok(())
-}
 
 // The plan lists the trunk link first; the links are told in the order of a path.
 const BOTH_TRIALS: &str = "\
@@ -189,12 +149,60 @@ TL415: channel 5, at trunk switch 4,1
 '------------------------------------------------'
 ";
 
+/// The office after jobs, with these links out of order, and its text.
+struct Picture {
+    name: &'static str,
+    faults: &'static str,
+    jobs: &'static [Asked<'static>],
+    text: &'static str,
+}
+
+const PICTURES: &[Picture] = &[
+    Picture {
+        name: "an empty office",
+        faults: "",
+        jobs: &[],
+        text: "No path is up.\n",
+    },
+    Picture {
+        name: "a path to a register",
+        faults: "",
+        jobs: &[(1, b'D', b"3052", b"")],
+        text: DIAL_TONE,
+    },
+    Picture {
+        name: "a call to another office",
+        faults: "",
+        jobs: &[(1, b'D', b"3041", b""), (2, b'C', b"3041", b"5551234")],
+        text: OUTSIDE,
+    },
+    Picture {
+        name: "a call inside the office",
+        faults: "",
+        jobs: &[(1, b'D', b"3041", b""), (2, b'C', b"3041", b"2340004")],
+        text: INSIDE,
+    },
+    Picture {
+        name: "a trouble card",
+        faults: "\"JU340\"",
+        jobs: &[(1, b'D', b"3041", b"")],
+        text: SECOND_TRIAL,
+    },
+    Picture {
+        name: "two cards of one job",
+        faults: "\"TL415\", \"LL300\"",
+        jobs: &[(1, b'R', b"3041", b""), (2, b'D', b"3041", b"")],
+        text: BOTH_TRIALS,
+    },
+];
+
 #[test]
-fn two_cards_of_one_job(rt: HostRuntime) -> Result<(), Fail> {
-    let plan = plan(rt.alloc(), "417 418 509", "3052", "\"TL415\", \"LL300\"")?;
-    let jobs: &[Asked] = &[(1, b'R', b"3041", b""), (2, b'D', b"3041", b"")];
-    let text = text_after(rt.alloc(), &plan, jobs)?;
-    check_eq!(rt; text.as_str(), BOTH_TRIALS);
+fn offices_are_drawn(rt: HostRuntime) -> Result<(), Fail> {
+    for picture in PICTURES {
+        let plan = plan(rt.alloc(), "417 418 509", "3052", picture.faults)?;
+        let text = text_after(rt.alloc(), &plan, picture.jobs)?;
+        check_eq!(rt; text.as_str(), picture.text, "{}", picture.name);
+    }
     Ok(())
 }
 
@@ -237,30 +245,31 @@ holds    30                      10         8                       9
 '------------------------------------------------'
 ";
 
-#[test]
-fn the_longest_texts(rt: HostRuntime) -> Result<(), Fail> {
-    let plan = wide_plan(rt.alloc())?;
-    let line = Len::parse(b"2954")?;
-    let path = Path {
-        line,
-        channel: Channel::new(9),
-        place: Ten::parse(b"278")?,
-    };
+/// The record of a job with the highest numbers, and a card of the last link.
+fn highest_record() -> Result<Record, Fail> {
+    let job = Job::Dial(Len::parse(b"2954")?);
     let card = Card {
         trial: 255,
         link: Link::parse(b"TL999")?,
     };
-    let record = Record {
+    Ok(Record {
         turn: u64::MAX,
         marker: u32::MAX,
         job_no: u32::MAX,
-        job: Job::Dial(line),
+        job,
         reply: Reply {
             end: End::Trouble,
             cards: Cards::one(card),
         },
-    };
-    let text = office_text(rt.alloc(), &plan, &[path], &[record])?;
+    })
+}
+
+#[test]
+fn the_longest_texts(rt: HostRuntime) -> Result<(), Fail> {
+    let path = path_of("2954", "9", "278")?;
+    let plan = wide_plan(rt.alloc())?;
+    let records = [highest_record()?];
+    let text = office_text(rt.alloc(), &plan, &[path], &records)?;
     check_eq!(rt; text.as_str(), WIDE);
     Ok(())
 }

@@ -38,13 +38,6 @@ fn run(rt: &impl Abort, alloc: Global, case: &Case<'_>) -> Result<(), Fail> {
     Ok(())
 }
 
-fn run_all(rt: &impl Abort, alloc: Global, cases: &[Case<'_>]) -> Result<(), Fail> {
-    for case in cases {
-        run(rt, alloc, case)?;
-    }
-    Ok(())
-}
-
 /// Ten lines of one line switch get all of its line links.
 const TEN_LINES: &[Line] = &[
     (b'D', b"3000", b"", "DIALTONE,1,3000-0-410,-"),
@@ -168,7 +161,7 @@ const RELEASED_OUTSIDE: &[Line] = &[
     (b'R', b"3041", b"", "RELEASED,-,3041-0-800,-"),
 ];
 
-const REGISTERS_FOUND: &[Case] = &[
+const CASES: &[Case] = &[
     Case {
         name: "busy",
         registers: ONE,
@@ -217,14 +210,6 @@ const REGISTERS_FOUND: &[Case] = &[
         jobs: &[FAULTY_SAME],
         paths: 1,
     },
-];
-
-#[test]
-fn registers_are_found(rt: HostRuntime) -> Result<(), Fail> {
-    run_all(&rt, rt.alloc(), REGISTERS_FOUND)
-}
-
-const COMPLETED: &[Case] = &[
     Case {
         name: "routes",
         registers: THREE,
@@ -273,14 +258,6 @@ const COMPLETED: &[Case] = &[
         jobs: &[OWN_NUMBER],
         paths: 2,
     },
-];
-
-#[test]
-fn calls_are_completed(rt: HostRuntime) -> Result<(), Fail> {
-    run_all(&rt, rt.alloc(), COMPLETED)
-}
-
-const RELEASED: &[Case] = &[
     Case {
         name: "released inside",
         registers: THREE,
@@ -300,6 +277,9 @@ const RELEASED: &[Case] = &[
 ];
 
 #[test]
-fn calls_are_released(rt: HostRuntime) -> Result<(), Fail> {
-    run_all(&rt, rt.alloc(), RELEASED)
+fn jobs_have_their_replies(rt: HostRuntime) -> Result<(), Fail> {
+    for case in CASES {
+        run(&rt, rt.alloc(), case)?;
+    }
+    Ok(())
 }

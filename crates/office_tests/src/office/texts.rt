@@ -1,11 +1,11 @@
 //! Jobs from texts, and the texts of replies.
 
 use crate::checks::check_eq;
-use std::alloc::Global;
+use std::alloc::{AllocError, Global};
 use std::process::Abort;
 use std::test::Fail;
 use xbar_equip::{Dialled, Len, Path};
-use xbar_office::{End, Job, Office, Reply};
+use xbar_office::{Card, End, Job, Office, Reply};
 use xbar_report::name_of;
 
 /// A job's kind, line and digits, and the text of its reply.
@@ -35,35 +35,39 @@ fn fields(end: &End) -> (u8, Option<Path>, Option<Path>) {
     }
 }
 
-fn add_path(alloc: Global, text: &mut String, path: Option<Path>) -> Result<(), Fail> {
-    match path {
-        None => text.push_str(",-")?,
-        Some(path) => text.push_str(&format!(in alloc; ",{path}")?)?,
+fn add_trial(text: &mut String, trial: u8) -> Result<(), AllocError> {
+    match trial {
+        0 => text.push_str(",-")?,
+        _ => write!(text, ",{trial}")?,
     }
     Ok(())
 }
 
-fn add_cards(alloc: Global, text: &mut String, reply: &Reply) -> Result<(), Fail> {
-    for card in reply.cards.as_slice() {
-        let trial = card.trial;
-        let link = card.link;
-        text.push_str(&format!(in alloc; ";{trial},{link}")?)?;
+fn add_path(text: &mut String, path: Option<Path>) -> Result<(), AllocError> {
+    match path {
+        None => text.push_str(",-")?,
+        Some(path) => write!(text, ",{path}")?,
     }
+    Ok(())
+}
+
+fn add_card(text: &mut String, card: Card) -> Result<(), AllocError> {
+    let Card { trial, link } = card;
+    write!(text, ";{trial},{link}")?;
     Ok(())
 }
 
 /// The end, the trial and the paths, and then the cards, as `DIALTONE,2,3041-5-418,-;1,JU340`.
-pub fn text(alloc: Global, reply: &Reply) -> Result<String, Fail> {
+fn add_reply(text: &mut String, reply: &Reply) -> Result<(), AllocError> {
     let (trial, first, second) = fields(&reply.end);
-    let mut text = String::from_str(alloc, name_of(&reply.end))?;
-    match trial {
-        0 => text.push_str(",-")?,
-        _ => text.push_str(&format!(in alloc; ",{trial}")?)?,
+    text.push_str(name_of(&reply.end))?;
+    add_trial(text, trial)?;
+    add_path(text, first)?;
+    add_path(text, second)?;
+    for card in reply.cards.as_slice() {
+        add_card(text, *card)?;
     }
-    add_path(alloc, &mut text, first)?;
-    add_path(alloc, &mut text, second)?;
-    add_cards(alloc, &mut text, reply)?;
-    Ok(text)
+    Ok(())
 }
 
 /// The office does this job, and replies so.
@@ -75,6 +79,8 @@ pub fn does(
 ) -> Result<(), Fail> {
     let (kind, line, digits, wanted) = *line;
     let reply = office.whole(job(kind, line, digits)?)?;
-    check_eq!(rt; text(alloc, &reply)?.as_str(), wanted);
+    let mut text = String::new(alloc);
+    add_reply(&mut text, &reply)?;
+    check_eq!(rt; text.as_str(), wanted);
     Ok(())
 }

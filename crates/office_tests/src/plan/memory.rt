@@ -2,6 +2,7 @@
 
 use super::writing::answer_the_same;
 use crate::checks::{check, check_eq};
+use std::alloc::Global;
 use xbar_plan::{Plan, PlanFault};
 
 /// The text of `Plan::example`, as the formats have it.
@@ -17,15 +18,18 @@ codes = ["234 INTRA", "555 OUTA OUTB"]
 faults = []
 "#;
 
+/// The plan is the example, unless memory for that is refused.
+fn is_example(alloc: Global, plan: &Plan) -> bool {
+    match Plan::example(alloc) {
+        Ok(example) => answer_the_same(plan, &example),
+        Err(_) => true,
+    }
+}
+
 #[test]
 fn a_plan_is_refused_for_memory_or_read_right(rt: HostRuntime) {
-    let alloc = rt.alloc();
-    match Plan::read(alloc, EXAMPLE.as_bytes()) {
+    match Plan::read(rt.alloc(), EXAMPLE.as_bytes()) {
         Err(fault) => check_eq!(rt; fault, PlanFault::Memory),
-        Ok(plan) => {
-            if let Ok(example) = Plan::example(alloc) {
-                check!(rt; answer_the_same(&plan, &example));
-            }
-        }
+        Ok(plan) => check!(rt; is_example(rt.alloc(), &plan)),
     }
 }

@@ -1,56 +1,23 @@
 //! Plans made of tables, and what they answer.
 
 use crate::checks::{check, check_eq};
-use crate::fixtures::{EXAMPLE_LINES, EXAMPLE_ROUTES, NumberLines, check_lines, check_routes};
-use std::alloc::{AllocError, Global};
+use crate::fixtures::{
+    EXAMPLE_LINES, EXAMPLE_ROUTES, NumberLines, check_faulty, check_lines, check_routes,
+};
+use std::alloc::Global;
+use std::process::Abort;
 use std::test::Fail;
-use xbar_equip::{DirNo, Len, Link, LinkKind, Ten};
-use xbar_plan::{Group, GroupKind, Member, MemberPlace, Plan, PlanFault, Route, Station};
+use xbar_equip::{DirNo, EquipFault, Len, Link, Ten};
+use xbar_plan::{Group, GroupKind, Member, Plan, PlanFault, Route, Station};
 
-fn singles<const N: usize>(alloc: Global, places: [Ten; N]) -> Result<Vec<Member>, AllocError> {
-    let mut members = Vec::new(alloc);
-    for first in places {
-        members.push(Member {
-            first,
-            second: None,
-        })?;
-    }
-    Ok(members)
-}
-
-fn pair(alloc: Global, first: Ten, second: Ten) -> Result<Vec<Member>, AllocError> {
-    let second = Some(second);
-    Ok(vec![in alloc; Member { first, second }]?)
-}
-
-fn group(
-    alloc: Global,
-    name: &str,
-    kind: GroupKind,
-    members: Vec<Member>,
-) -> Result<Group, AllocError> {
-    Ok(Group::new(String::from_str(alloc, name)?, kind, members))
-}
-
-/// Registers 417, an intra pair and a trunk out, of which a test changes one thing.
-fn groups(
-    alloc: Global,
-    kinds: [GroupKind; 3],
-    called: Ten,
-    out: Ten,
-) -> Result<Vec<Group>, AllocError> {
-    let [first, second, third] = kinds;
-    let register = singles(alloc, [Ten::new(4, 1, 7)])?;
-    let intra = pair(alloc, Ten::new(6, 0, 0), called)?;
-    let out = singles(alloc, [out])?;
-    Ok(vec![in alloc;
-        group(alloc, "REG", first, register)?,
-        group(alloc, "INTRA", second, intra)?,
-        group(alloc, "OUT2", third, out)?,
-    ]?)
-}
-
-const KINDS: [GroupKind; 3] = [GroupKind::Register, GroupKind::Intra, GroupKind::Outgoing];
+/// The groups of the example plan, each with its number, its name, its kind and how many members it
+/// has.
+const GROUPS: &[(u8, &str, GroupKind, usize)] = &[
+    (0, "REG", GroupKind::Register, 3),
+    (1, "INTRA", GroupKind::Intra, 2),
+    (2, "OUTA", GroupKind::Outgoing, 1),
+    (3, "OUTB", GroupKind::Outgoing, 2),
+];
 
 /// Group `number` of the plan has this name and kind, and so many members.
 fn has_group(plan: &Plan, number: u8, name: &str, kind: GroupKind, members: usize) -> bool {
@@ -61,218 +28,348 @@ fn has_group(plan: &Plan, number: u8, name: &str, kind: GroupKind, members: usiz
     group.name() == name && group.kind() == kind && group.members().len() == members
 }
 
+fn check_groups(rt: &impl Abort, plan: &Plan) {
+    check_eq!(rt; (plan.group_count(), plan.register_group()), (4, 0));
+    for (number, name, kind, members) in GROUPS {
+        check!(rt; has_group(plan, *number, name, *kind, *members), "{name}");
+    }
+}
+
 #[test]
 fn example_has_its_groups(rt: HostRuntime) -> Result<(), Fail> {
-    let plan = Plan::example(rt.alloc())?;
-    check_eq!(rt; plan.group_count(), 4);
-    check_eq!(rt; plan.register_group(), 0);
-    let groups = [
-        (0, "REG", GroupKind::Register, 3),
-        (1, "INTRA", GroupKind::Intra, 2),
-        (2, "OUTA", GroupKind::Outgoing, 1),
-        (3, "OUTB", GroupKind::Outgoing, 2),
-    ];
-    for (number, name, kind, members) in groups {
-        check!(rt; has_group(&plan, number, name, kind, members), "{name}");
-    }
+    check_groups(&rt, &Plan::example(rt.alloc())?);
     Ok(())
 }
 
-/// The member at this place has this group, this index and this other place. Texts that name no place
-/// are none.
-fn has_member(plan: &Plan, place: &[u8], group: u8, index: u8, other: &[u8]) -> bool {
-    let Ok(place) = Ten::parse(place) else {
-        return false;
-    };
-    let member = MemberPlace {
-        group,
-        index,
-        other: Ten::parse(other).ok(),
-    };
-    plan.member_of(place) == Some(member)
+/// The group of a member, its index there and its other place.
+type Found = Option<(u8, u8, Option<[u8; 3]>)>;
+
+const MEMBERS: &[(&str, Found)] = &[
+    ("417", Some((0, 0, None))),
+    ("509", Some((0, 2, None))),
+    ("600", Some((1, 0, Some(*b"601")))),
+    ("601", Some((1, 0, Some(*b"600")))),
+    ("711", Some((1, 1, Some(*b"700")))),
+    ("800", Some((2, 0, None))),
+    ("902", Some((3, 1, None))),
+    ("999", None),
+    ("419", None),
+    ("701", None),
+];
+
+fn text_of(place: Option<Ten>) -> Option<[u8; 3]> {
+    let place = place?;
+    Some(place.text())
 }
 
-fn has_no_member(plan: &Plan, place: &[u8]) -> bool {
-    Ten::parse(place).is_ok_and(|place| plan.member_of(place).is_none())
+fn member_at(plan: &Plan, place: &str) -> Result<Found, EquipFault> {
+    let place = Ten::parse(place.as_bytes())?;
+    let Some(member) = plan.member_of(place) else {
+        return Ok(None);
+    };
+    Ok(Some((member.group, member.index, text_of(member.other))))
+}
+
+fn check_members(rt: &impl Abort, plan: &Plan) {
+    for (place, wanted) in MEMBERS {
+        check_eq!(rt; member_at(plan, place), Ok(*wanted), "{place}");
+    }
 }
 
 #[test]
 fn members_are_found_by_their_places(rt: HostRuntime) -> Result<(), Fail> {
-    let plan = Plan::example(rt.alloc())?;
-    let found = [
-        ("417", 0, 0, ""),
-        ("509", 0, 2, ""),
-        ("600", 1, 0, "601"),
-        ("601", 1, 0, "600"),
-        ("711", 1, 1, "700"),
-        ("800", 2, 0, ""),
-        ("902", 3, 1, ""),
-    ];
-    for (place, group, index, other) in found {
-        let is_found = has_member(&plan, place.as_bytes(), group, index, other.as_bytes());
-        check!(rt; is_found, "{place}");
-    }
-    for place in ["999", "419", "701"] {
-        check!(rt; has_no_member(&plan, place.as_bytes()), "{place}");
-    }
+    check_members(&rt, &Plan::example(rt.alloc())?);
     Ok(())
 }
+
+const VACANT_CODES: &[(u16, Option<&[u8]>)] = &[(0, None), (999, None), (556, None), (65535, None)];
+
+const VACANT_NUMBERS: &[NumberLines] = &[(b"0000", None), (b"0005", None), (b"9999", None)];
+
+const NOT_FAULTY: &[(&str, bool)] = &[("JU340", false)];
 
 #[test]
 fn codes_and_numbers_are_looked_up(rt: HostRuntime) -> Result<(), Fail> {
     let plan = Plan::example(rt.alloc())?;
     check_routes(&rt, &plan, EXAMPLE_ROUTES);
-    let vacant = [(0, None), (999, None), (556, None), (65535, None)];
-    check_routes(&rt, &plan, &vacant);
+    check_routes(&rt, &plan, VACANT_CODES);
     check_lines(&rt, &plan, EXAMPLE_LINES);
-    let vacant: [NumberLines; 3] = [(b"0000", None), (b"0005", None), (b"9999", None)];
-    check_lines(&rt, &plan, &vacant);
-    check!(rt; !plan.faulty(Link::new(LinkKind::Junctor, 3, 4, 0)));
+    check_lines(&rt, &plan, VACANT_NUMBERS);
+    check_faulty(&rt, &plan, NOT_FAULTY);
     Ok(())
 }
 
-/// A plan of the groups above, with such stations, routes and links out of order, or its fault.
-fn plan_with(
-    alloc: Global,
-    stations: Vec<Station>,
-    routes: Vec<Route>,
-    faults: Vec<Link>,
-) -> Result<Result<Plan, PlanFault>, AllocError> {
-    let groups = groups(alloc, KINDS, Ten::new(6, 9, 9), Ten::new(8, 0, 0))?;
-    Ok(Plan::try_new(alloc, groups, stations, routes, faults))
+/// What a plan is made of: registers 417, an intra pair of 600 and the called place, and a trunk out,
+/// in groups of these kinds; numbers with their lines, codes with their groups, and links out of order.
+#[derive(Drop)]
+struct Tables {
+    kinds: [GroupKind; 3],
+    called: &'static str,
+    out: &'static str,
+    numbers: &'static [(&'static str, &'static [&'static str])],
+    codes: &'static [(u16, &'static [u8])],
+    faults: &'static [&'static str],
 }
 
 /// Number 7 has two lines, 100 leads to the trunk out, twice, and two junctors are out of order.
-fn lawful_plan(alloc: Global) -> Result<Plan, Fail> {
-    let lines = vec![in alloc; Len::new(3, 0, 21), Len::new(3, 0, 27)]?;
-    let stations = vec![in alloc; Station::new(DirNo::new(7), lines)]?;
-    let routes = vec![in alloc; Route::new(100, vec![in alloc; 2, 2]?)]?;
-    let faults = vec![in alloc;
-        Link::new(LinkKind::Junctor, 3, 4, 0),
-        Link::new(LinkKind::Junctor, 3, 4, 5),
-    ]?;
-    Ok(plan_with(alloc, stations, routes, faults)??)
+const LAWFUL: Tables = Tables {
+    numbers: &[("0007", &["3041", "3052"])],
+    codes: &[(100, &[2, 2])],
+    faults: &["JU340", "JU345"],
+    ..BARE
+};
+
+const BARE: Tables = Tables {
+    kinds: [GroupKind::Register, GroupKind::Intra, GroupKind::Outgoing],
+    called: "699",
+    out: "800",
+    numbers: &[],
+    codes: &[],
+    faults: &[],
+};
+
+/// A group of one member, which has a second place where that is a text of one.
+fn group(
+    alloc: Global,
+    name: &str,
+    kind: GroupKind,
+    first: &str,
+    second: &str,
+) -> Result<Group, Fail> {
+    let first = Ten::parse(first.as_bytes())?;
+    let second = Ten::parse(second.as_bytes()).ok();
+    let members = vec![in alloc; Member { first, second }]?;
+    Ok(Group::new(String::from_str(alloc, name)?, kind, members))
 }
+
+fn groups(alloc: Global, tables: &Tables) -> Result<Vec<Group>, Fail> {
+    let [first, second, third] = tables.kinds;
+    let mut groups = Vec::new(alloc);
+    groups.push(group(alloc, "REG", first, "417", "")?)?;
+    groups.push(group(alloc, "INTRA", second, "600", tables.called)?)?;
+    groups.push(group(alloc, "OUT2", third, tables.out, "")?)?;
+    Ok(groups)
+}
+
+fn station(alloc: Global, number: &str, lines: &[&str]) -> Result<Station, Fail> {
+    let number = DirNo::parse(number.as_bytes())?;
+    let mut all = Vec::new(alloc);
+    for line in lines {
+        all.push(Len::parse(line.as_bytes())?)?;
+    }
+    Ok(Station::new(number, all))
+}
+
+fn stations(alloc: Global, tables: &Tables) -> Result<Vec<Station>, Fail> {
+    let mut stations = Vec::new(alloc);
+    for (number, lines) in tables.numbers {
+        stations.push(station(alloc, number, lines)?)?;
+    }
+    Ok(stations)
+}
+
+fn routes(alloc: Global, tables: &Tables) -> Result<Vec<Route>, Fail> {
+    let mut routes = Vec::new(alloc);
+    for (code, groups) in tables.codes {
+        routes.push(Route::new(*code, groups.to_vec(alloc)?))?;
+    }
+    Ok(routes)
+}
+
+fn faults(alloc: Global, tables: &Tables) -> Result<Vec<Link>, Fail> {
+    let mut faults = Vec::new(alloc);
+    for link in tables.faults {
+        faults.push(Link::parse(link.as_bytes())?)?;
+    }
+    Ok(faults)
+}
+
+/// The plan of these tables, or its fault.
+fn plan_of(alloc: Global, tables: &Tables) -> Result<Result<Plan, PlanFault>, Fail> {
+    let groups = groups(alloc, tables)?;
+    let stations = stations(alloc, tables)?;
+    let routes = routes(alloc, tables)?;
+    let faults = faults(alloc, tables)?;
+    Ok(Plan::try_new(alloc, groups, stations, routes, faults))
+}
+
+/// What that plan answers.
+const LINES: &[NumberLines] = &[(b"0007", Some(&[b"3041", b"3052"]))];
+
+const ROUTES: &[(u16, Option<&[u8]>)] = &[(100, Some(&[2, 2]))];
+
+const LINKS: &[(&str, bool)] = &[
+    ("JU340", true),
+    ("JU341", false),
+    ("JU345", true),
+    ("LL340", false),
+    ("LL341", false),
+    ("LL345", false),
+];
 
 #[test]
 fn lawful_tables_make_a_plan(rt: HostRuntime) -> Result<(), Fail> {
-    let plan = lawful_plan(rt.alloc())?;
-    for (channel, faulty) in [(0, true), (1, false), (5, true)] {
-        let junctor = Link::new(LinkKind::Junctor, 3, 4, channel);
-        check_eq!(rt; plan.faulty(junctor), faulty, "{junctor}");
-        let line_link = Link::new(LinkKind::LineLink, 3, 4, channel);
-        check!(rt; !plan.faulty(line_link), "{line_link}");
-    }
-    check_lines(&rt, &plan, &[(b"0007", Some(&[b"3041", b"3052"]))]);
-    check_routes(&rt, &plan, &[(100, Some(&[2, 2]))]);
+    let plan = plan_of(rt.alloc(), &LAWFUL)??;
+    check_faulty(&rt, &plan, LINKS);
+    check_lines(&rt, &plan, LINES);
+    check_routes(&rt, &plan, ROUTES);
     Ok(())
 }
 
-/// The fault of a plan that has just these groups, if it has one.
-fn told_of_groups(
-    alloc: Global,
-    kinds: [GroupKind; 3],
-    called: Ten,
-    outgoing: Ten,
-) -> Result<Option<PlanFault>, AllocError> {
-    let groups = groups(alloc, kinds, called, outgoing)?;
-    let none = (Vec::new(alloc), Vec::new(alloc), Vec::new(alloc));
-    Ok(Plan::try_new(alloc, groups, none.0, none.1, none.2).err())
+/// Tables, and the fault that is told of them, if they have one.
+struct Told {
+    name: &'static str,
+    tables: Tables,
+    fault: Option<PlanFault>,
 }
+
+const TOLD: &[Told] = &[
+    Told {
+        name: "an intra pair in a group of registers",
+        tables: Tables {
+            kinds: [
+                GroupKind::Outgoing,
+                GroupKind::Register,
+                GroupKind::Outgoing,
+            ],
+            called: "690",
+            ..BARE
+        },
+        fault: Some(PlanFault::Malformed),
+    },
+    Told {
+        name: "a trunk out in a group of pairs",
+        tables: Tables {
+            kinds: [GroupKind::Register, GroupKind::Intra, GroupKind::Intra],
+            called: "690",
+            ..BARE
+        },
+        fault: Some(PlanFault::Malformed),
+    },
+    Told {
+        name: "no group of registers",
+        tables: Tables {
+            kinds: [GroupKind::Outgoing, GroupKind::Intra, GroupKind::Outgoing],
+            called: "690",
+            ..BARE
+        },
+        fault: Some(PlanFault::RegisterGroups),
+    },
+    Told {
+        name: "two groups of registers",
+        tables: Tables {
+            kinds: [GroupKind::Register, GroupKind::Intra, GroupKind::Register],
+            called: "690",
+            ..BARE
+        },
+        fault: Some(PlanFault::RegisterGroups),
+    },
+    Told {
+        name: "a pair of one place",
+        tables: Tables {
+            called: "600",
+            ..BARE
+        },
+        fault: Some(PlanFault::PlaceTwice),
+    },
+    Told {
+        name: "a trunk out at a place of the pair",
+        tables: Tables {
+            called: "690",
+            out: "690",
+            ..BARE
+        },
+        fault: Some(PlanFault::PlaceTwice),
+    },
+    Told {
+        name: "a pair on two frames",
+        tables: Tables {
+            called: "790",
+            ..BARE
+        },
+        fault: Some(PlanFault::PairApart),
+    },
+    Told {
+        name: "a code of four digits",
+        tables: Tables {
+            codes: &[(1000, &[2, 2])],
+            ..BARE
+        },
+        fault: Some(PlanFault::Malformed),
+    },
+    Told {
+        name: "a code that leads to trunks out and registers",
+        tables: Tables {
+            codes: &[(100, &[2, 0])],
+            ..BARE
+        },
+        fault: Some(PlanFault::MixedRoute),
+    },
+    Told {
+        name: "a code that leads to a group that isn't there",
+        tables: Tables {
+            codes: &[(100, &[3, 2])],
+            ..BARE
+        },
+        fault: Some(PlanFault::UnknownGroup),
+    },
+    Told {
+        name: "a code that leads to a pair and trunks out",
+        tables: Tables {
+            codes: &[(100, &[1, 2])],
+            ..BARE
+        },
+        fault: Some(PlanFault::MixedRoute),
+    },
+    Told {
+        name: "a line twice",
+        tables: Tables {
+            numbers: &[("0001", &["0000"]), ("0002", &["0000", "0000"])],
+            ..BARE
+        },
+        fault: None,
+    },
+    Told {
+        name: "a number twice",
+        tables: Tables {
+            numbers: &[("0001", &["0000"]), ("0001", &["0000", "0000"])],
+            ..BARE
+        },
+        fault: Some(PlanFault::NumberTwice),
+    },
+];
 
 #[test]
-fn faults_of_kinds_are_told(rt: HostRuntime) -> Result<(), Fail> {
-    let [register, intra, outgoing] = KINDS;
-    let rows = [
-        (PlanFault::Malformed, [outgoing, register, outgoing]),
-        (PlanFault::Malformed, [register, intra, intra]),
-        (PlanFault::RegisterGroups, [outgoing, intra, outgoing]),
-        (PlanFault::RegisterGroups, [register, intra, register]),
-    ];
-    for (fault, kinds) in rows {
-        let told = told_of_groups(rt.alloc(), kinds, Ten::new(6, 9, 0), Ten::new(8, 0, 0))?;
-        check_eq!(rt; told, Some(fault));
+fn faults_of_tables_are_told(rt: HostRuntime) -> Result<(), Fail> {
+    for told in TOLD {
+        let fault = plan_of(rt.alloc(), &told.tables)?.err();
+        check_eq!(rt; fault, told.fault, "{}", told.name);
     }
     Ok(())
 }
 
-#[test]
-fn faults_of_places_are_told(rt: HostRuntime) -> Result<(), Fail> {
-    let rows = [
-        (PlanFault::PlaceTwice, (6, 0), (8, 0)),
-        (PlanFault::PlaceTwice, (6, 9), (6, 9)),
-        (PlanFault::PairApart, (7, 9), (8, 0)),
-    ];
-    for (fault, called, outgoing) in rows {
-        let called = Ten::new(called.0, called.1, 0);
-        let outgoing = Ten::new(outgoing.0, outgoing.1, 0);
-        check_eq!(rt;
-            told_of_groups(rt.alloc(), KINDS, called, outgoing)?,
-            Some(fault)
-        );
-    }
-    Ok(())
-}
-
-/// The fault of a plan in which this code leads to these groups, if it has one.
-fn told_of_route(alloc: Global, code: u16, groups: [u8; 2]) -> Result<Option<PlanFault>, Fail> {
-    let routes = vec![in alloc; Route::new(code, groups.to_vec(alloc)?)]?;
-    Ok(plan_with(alloc, Vec::new(alloc), routes, Vec::new(alloc))?.err())
-}
-
-/// The fault of a plan in which the first of these numbers has a line, and the second has it twice.
-fn told_of_numbers(alloc: Global, first: DirNo, second: DirNo) -> Result<Option<PlanFault>, Fail> {
-    let line = Len::new(0, 0, 0);
-    let stations = vec![in alloc;
-        Station::new(first, vec![in alloc; line]?),
-        Station::new(second, vec![in alloc; line, line]?),
-    ]?;
-    Ok(plan_with(alloc, stations, Vec::new(alloc), Vec::new(alloc))?.err())
-}
-
-#[test]
-fn faults_of_routes_and_numbers_are_told(rt: HostRuntime) -> Result<(), Fail> {
-    let alloc = rt.alloc();
-    let routes = [
-        (PlanFault::Malformed, 1000, [2, 2]),
-        (PlanFault::MixedRoute, 100, [2, 0]),
-        (PlanFault::UnknownGroup, 100, [3, 2]),
-        (PlanFault::MixedRoute, 100, [1, 2]),
-    ];
-    for (fault, code, groups) in routes {
-        check_eq!(rt; told_of_route(alloc, code, groups)?, Some(fault), "{code} {groups:?}");
-    }
-    let (one, two) = (DirNo::new(1), DirNo::new(2));
-    for (second, fault) in [(two, None), (one, Some(PlanFault::NumberTwice))] {
-        check_eq!(rt; told_of_numbers(alloc, one, second)?, fault, "{second}");
-    }
-    Ok(())
-}
+const FAULTS: &[(PlanFault, &str)] = &[
+    (PlanFault::NotToml, "P1"),
+    (PlanFault::Version, "P2"),
+    (PlanFault::KeyMissing, "P3"),
+    (PlanFault::NotTexts, "P4"),
+    (PlanFault::Malformed, "P5"),
+    (PlanFault::Limit, "P6"),
+    (PlanFault::GroupTwice, "P7"),
+    (PlanFault::RegisterGroups, "P8"),
+    (PlanFault::PlaceTwice, "P9"),
+    (PlanFault::PairApart, "P10"),
+    (PlanFault::NumberTwice, "P11"),
+    (PlanFault::CodeTwice, "P12"),
+    (PlanFault::UnknownGroup, "P13"),
+    (PlanFault::MixedRoute, "P14"),
+    (PlanFault::Memory, "MEMORY"),
+];
 
 #[test]
 fn faults_are_told_by_their_numbers(rt: HostRuntime) -> Result<(), Fail> {
-    let alloc = rt.alloc();
-    let faults = [
-        PlanFault::NotToml,
-        PlanFault::Version,
-        PlanFault::KeyMissing,
-        PlanFault::NotTexts,
-        PlanFault::Malformed,
-        PlanFault::Limit,
-        PlanFault::GroupTwice,
-        PlanFault::RegisterGroups,
-        PlanFault::PlaceTwice,
-        PlanFault::PairApart,
-        PlanFault::NumberTwice,
-        PlanFault::CodeTwice,
-        PlanFault::UnknownGroup,
-        PlanFault::MixedRoute,
-        PlanFault::Memory,
-    ];
-    let mut all = String::new(alloc);
-    for fault in faults {
-        all.push_str(format!(in alloc; "{fault} ")?.as_str())?;
+    for (fault, text) in FAULTS {
+        check_eq!(rt; fault.to_string(rt.alloc())?.as_str(), *text);
     }
-    check!(rt; all.as_str() == "P1 P2 P3 P4 P5 P6 P7 P8 P9 P10 P11 P12 P13 P14 MEMORY ");
     Ok(())
 }

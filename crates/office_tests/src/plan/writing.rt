@@ -1,10 +1,10 @@
 //! Plans written out, and read again.
 
-use crate::checks::{check, check_eq};
-use crate::fixtures::{check_lines, check_routes};
-use std::alloc::Global;
+use crate::checks::check;
+use crate::fixtures::{NumberLines, check_faulty, check_lines, check_routes};
+use std::alloc::{AllocError, Global};
 use std::test::Fail;
-use xbar_equip::{DirNo, Link, LinkKind};
+use xbar_equip::DirNo;
 use xbar_plan::Plan;
 
 /// The text of `Plan::example`.
@@ -37,13 +37,6 @@ codes = ["007 OUTB OUTA", "234 INTRA"]
 faults = ["JU340", "LL000", "TL999"]
 "#;
 
-fn read(alloc: Global, text: &[u8]) -> Result<Plan, Fail> {
-    match Plan::read(alloc, text) {
-        Ok(plan) => Ok(plan),
-        Err(_) => Err("it is no plan".into()),
-    }
-}
-
 pub fn have_the_same_group(one: &Plan, other: &Plan, number: u8) -> bool {
     if number >= one.group_count() || number >= other.group_count() {
         return number >= one.group_count() && number >= other.group_count();
@@ -52,46 +45,73 @@ pub fn have_the_same_group(one: &Plan, other: &Plan, number: u8) -> bool {
     a.name() == b.name() && a.kind() == b.kind() && a.members() == b.members()
 }
 
-pub fn answer_the_same(one: &Plan, other: &Plan) -> bool {
+fn have_the_same_groups(one: &Plan, other: &Plan) -> bool {
+    for number in 0..16 {
+        if !have_the_same_group(one, other, number) {
+            return false;
+        }
+    }
     one.group_count() == other.group_count()
-        && (0..16).all(|number| have_the_same_group(one, other, number))
-        && (0..1000).all(|code| one.route(code) == other.route(code))
-        && (0..10).all(|number| {
-            one.stations(DirNo::new(number)) == other.stations(DirNo::new(number))
-        })
+}
+
+fn have_the_same_routes(one: &Plan, other: &Plan) -> bool {
+    for code in 0..1000 {
+        if one.route(code) != other.route(code) {
+            return false;
+        }
+    }
+    true
+}
+
+fn have_the_same_lines(one: &Plan, other: &Plan) -> bool {
+    for number in 0..10 {
+        let number = DirNo::new(number);
+        if one.stations(number) != other.stations(number) {
+            return false;
+        }
+    }
+    true
+}
+
+pub fn answer_the_same(one: &Plan, other: &Plan) -> bool {
+    have_the_same_groups(one, other)
+        && have_the_same_routes(one, other)
+        && have_the_same_lines(one, other)
+}
+
+/// The plan that is read from the text of this one.
+fn read_again(alloc: Global, plan: &Plan) -> Result<Plan, Fail> {
+    let text = plan.version_2(alloc)?;
+    Ok(Plan::read(alloc, &text)?)
+}
+
+fn has_text(alloc: Global, plan: &Plan, wanted: &str) -> Result<bool, AllocError> {
+    let text = plan.version_2(alloc)?;
+    Ok(text.as_slice() == wanted.as_bytes())
 }
 
 #[test]
-fn text_of_the_example_has_a_line_for_each_item(rt: HostRuntime) -> Result<(), Fail> {
-    let alloc = rt.alloc();
-    let text = Plan::example(alloc)?.version_2(alloc)?;
-    check!(rt; text.as_slice() == EXAMPLE.as_bytes());
+fn example_is_written_and_read_again(rt: HostRuntime) -> Result<(), Fail> {
+    let plan = Plan::example(rt.alloc())?;
+    check!(rt; has_text(rt.alloc(), &plan, EXAMPLE)?);
+    let again = read_again(rt.alloc(), &plan)?;
+    check!(rt; answer_the_same(&again, &plan));
     Ok(())
 }
 
-#[test]
-fn example_is_read_again(rt: HostRuntime) -> Result<(), Fail> {
-    let alloc = rt.alloc();
-    let example = Plan::example(alloc)?;
-    let again = read(alloc, &example.version_2(alloc)?)?;
-    check!(rt; answer_the_same(&again, &example));
-    Ok(())
-}
+const LINES: &[NumberLines] = &[(b"0002", Some(&[b"3052", b"3100"]))];
+
+const ROUTES: &[(u16, Option<&[u8]>)] = &[(7, Some(&[3, 2]))];
+
+const LINKS: &[(&str, bool)] = &[("JU340", true), ("TL999", true), ("JU341", false)];
 
 #[test]
 fn second_lines_and_links_are_read_again(rt: HostRuntime) -> Result<(), Fail> {
-    let alloc = rt.alloc();
-    let plan = read(alloc, HUNTING.as_bytes())?;
-    let again = read(alloc, &plan.version_2(alloc)?)?;
+    let plan = Plan::read(rt.alloc(), HUNTING.as_bytes())?;
+    let again = read_again(rt.alloc(), &plan)?;
     check!(rt; answer_the_same(&again, &plan));
-    check_lines(&rt, &again, &[(b"0002", Some(&[b"3052", b"3100"]))]);
-    check_routes(&rt, &again, &[(7, Some(&[3, 2]))]);
-    for (link, faulty) in [
-        (Link::new(LinkKind::Junctor, 3, 4, 0), true),
-        (Link::new(LinkKind::TrunkLink, 9, 9, 9), true),
-        (Link::new(LinkKind::Junctor, 3, 4, 1), false),
-    ] {
-        check_eq!(rt; again.faulty(link), faulty, "{link}");
-    }
+    check_lines(&rt, &again, LINES);
+    check_routes(&rt, &again, ROUTES);
+    check_faulty(&rt, &again, LINKS);
     Ok(())
 }
