@@ -14,6 +14,8 @@ use xbar_match::{find_number, line_place_of, place_of};
 
 /// Approaches a line: its frame is seized and its line switch tested.
 #[tactic(auto, using(turns::proofs::Walks::walk_bind, turns::proofs::Walks::walk_end), unfolding(crate::specs::Tracing::approach))]
+// Each walk begins with it.
+#[inline(always)]
 pub fn approach(seen: &Seen, line: Len) -> Result<Party, Wanted>
     ensures { result ≡ walk seen.now (approach_script line) }
 {
