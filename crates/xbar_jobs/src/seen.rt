@@ -70,6 +70,7 @@ impl<'a, 'm> Seen<'a, 'm> {
     }
 
     /// Goes on with the word's value where it was read.
+    #[inline(always)]
     pub fn value_of(&self, word: WordNo) -> Result<u64, Wanted>
         ensures { result ≡ walk self.now (TestThen word Ends) }
     {

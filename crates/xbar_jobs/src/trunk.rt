@@ -61,6 +61,7 @@ fn test_second(seen: &Seen, place: Option<Ten>) -> Result<Option<Reached>, Wante
 
 /// Reaches a member: its trunk link frame is seized, and the trunk switches of its places are tested.
 #[tactic(auto, using(turns::proofs::Walks::walk_bind, turns::proofs::Walks::walk_end), unfolding(crate::specs::Sides::reach))]
+#[inline(always)]
 pub fn reach(seen: &Seen, member: &Member) -> Result<Trunk, Wanted>
     ensures { result ≡ walk seen.now (reach_script member.now) }
 {

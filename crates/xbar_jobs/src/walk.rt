@@ -36,6 +36,8 @@ pub fn first_conn(job: &Job) -> Conn
 }
 
 #[tactic(auto, unfolding(crate::specs::Jobs::script))]
+// Not inlined, so that a walk that stops early pays for few locals.
+#[inline(never)]
 fn follow(plan: &Plan, gathered: &Gathered, job: &Job) -> Result<Decision, Wanted>
     ensures { result ≡ walk_of gathered.now (script plan.now job.now) }
 {
