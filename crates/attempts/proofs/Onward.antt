@@ -7,11 +7,11 @@ use Rattle.turns.specs.Seen.{Seen}
 use Rattle.turns.specs.System.{System}
 use Rattle.turns.specs.World.{place}
 use Rattle.turns.specs.declared.answer.Answer.{Answer}
-use Rattle.turns.specs.declared.answer.Answer.TheVariants.{Value}
+use Rattle.turns.specs.declared.answer.Answer.TheVariants.{Seized, Value}
 use Rattle.turns.specs.declared.phase.Phase.{Phase}
 use Rattle.turns.specs.declared.phase.Phase.TheVariants.{Requests, Seizes, Tests}
 use Rattle.turns.specs.declared.reading.Reading.{Reading}
-use Rattle.turns.specs.declared.wanted.Wanted.TheVariants.{Test}
+use Rattle.turns.specs.declared.wanted.Wanted.TheVariants.{Seize, Test}
 use Rattle.turns.proofs.Room.{held_before, read_before}
 use Rattle.turns.proofs.Words.{read_more}
 use Rattle.attempts.specs.Points.{Extends, GoesOnTo}
@@ -50,11 +50,21 @@ module _ {Lock Job Reply Effect Decision Point : Type 0} (same : Lock → Lock �
   unread_to_test p word stands e = wants_unread same (record { held = p.held; readings = p.readings }) word (S.script p.job) (wants_to_test p word stands e)
 
   -- where another one follows whatever that shows, that is tested next
-  pub tests_following : (p noted new : Doing) (word value next : ℕ) → p.phase ≡ Tests word → GoesOnTo same (record { held = p.held; readings = p.readings }) (S.script p.job) word next → noted ≡ record p { readings = p.readings ++ record { word = word; value = value } ∷ [] } → new ≡ record noted { phase = Tests next } → attempt_of reply_of effects_of new ≡ changed O (attempt_of reply_of effects_of p) p.phase (Value value)
+  pub tests_following : (p noted new : Doing) (word value next : ℕ) → p.phase ≡ Tests word → GoesOnTo same (record { held = p.held; readings = p.readings }) (S.script p.job) (Test word) next → noted ≡ record p { readings = p.readings ++ record { word = word; value = value } ∷ [] } → new ≡ record noted { phase = Tests next } → attempt_of reply_of effects_of new ≡ changed O (attempt_of reply_of effects_of p) p.phase (Value value)
   tests_following p noted new word value next e goes noted_is made =
       ap (attempt_of reply_of effects_of) made ∙ ap (λ (x : Doing). attempt_of reply_of effects_of (record x { phase = Tests next })) noted_is
       ∙ ap (goes_on O (record (attempt_of reply_of effects_of p) { readings = p.readings ++ record { word = word; value = value } ∷ [] })) (sym (goes value))
       ∙ ap (λ (phase : Phase Lock ℕ). changed O (attempt_of reply_of effects_of p) phase (Value value)) (sym e)
+
+  -- and so with a lock
+  pub wants_to_seize : (p : Doing) (lock : Lock) (expected : ℕ) → StandsHere p → p.phase ≡ Seizes lock expected → walk same (record { held = p.held; readings = p.readings }) (S.script p.job) ≡ Err (Seize lock)
+  wants_to_seize p lock expected stands e = subst (λ (phase : Phase Lock ℕ). StandsIn O (attempt_of reply_of effects_of p) phase) e stands.place.comes
+
+  pub seizes_following : (p noted new : Doing) (lock : Lock) (expected next : ℕ) → p.phase ≡ Seizes lock expected → GoesOnTo same (record { held = p.held; readings = p.readings }) (S.script p.job) (Seize lock) next → noted ≡ record p { held = p.held ++ lock ∷ [] } → new ≡ record noted { phase = Tests next } → attempt_of reply_of effects_of new ≡ changed O (attempt_of reply_of effects_of p) p.phase Seized
+  seizes_following p noted new lock expected next e goes noted_is made =
+      ap (attempt_of reply_of effects_of) made ∙ ap (λ (x : Doing). attempt_of reply_of effects_of (record x { phase = Tests next })) noted_is
+      ∙ ap (goes_on O (record (attempt_of reply_of effects_of p) { held = p.held ++ lock ∷ [] })) (sym (goes 0))
+      ∙ ap (λ (phase : Phase Lock ℕ). changed O (attempt_of reply_of effects_of p) phase Seized) (sym e)
 
   pub knows_following : (noted new : Doing) (next : ℕ) → CanWalk same reply_of effects_of S Knows noted → new ≡ record noted { phase = Tests next } → PointHere new
   knows_following noted new next can made = subst PointHere (sym made) can.knows

@@ -68,22 +68,22 @@ pub trait Scripts<const READINGS: usize, const HELD: usize> {
         ensures walk { result ≡ walk Self.Lock.eq seen.now ((system setting.now).script job.now) }
         ensures knows { Knows setting.now job.now point.new seen.now };
 
-    /// The word that is tested next once the one that a walk wants was read, whatever that shows,
-    /// where this is known without a walk.
+    /// The word that is tested next once what a walk wants was come by, whatever was read, where
+    /// this is known without a walk.
     fn following(
         setting: &Self::Setting,
         job: &Self::Job,
         point: &Self::Point,
         seen: &Seen<Self::Lock>,
-        word: usize,
+        wanted: Wanted<Self::Lock, usize>,
     ) -> Option<usize>
         requires setting { IsSetting setting.now }
         requires job { (system setting.now).IsJob job.now }
         requires knows { Knows setting.now job.now point.now seen.now }
         requires wants { walk Self.Lock.eq seen.now ((system setting.now).script job.now)
-            ≡ Err (Wanted.Test word) }
+            ≡ Err wanted }
         ensures { IfSome result
-            (GoesOnTo Self.Lock.eq seen.now ((system setting.now).script job.now) word) };
+            (GoesOnTo Self.Lock.eq seen.now ((system setting.now).script job.now) wanted) };
 
     fn reply(decision: &Self::Decision) -> Self::Reply
         ensures { result ≡ reply_of decision.now };

@@ -1,7 +1,8 @@
 //! What an attempt makes of the answer to its next step.
 
-ghost use Rattle.std.specs.Prelude.{◌≡◌, ◌<◌, ◌^◌, ℕ, IfSome};
+ghost use Rattle.std.specs.Prelude.{◌≡◌, ◌<◌, ◌^◌, ℕ, Err, IfSome};
 ghost use Rattle.turns.specs.Attempt.{change, changed, freed, operated, rest_of, walks_on};
+ghost use Rattle.turns.specs.Script.{walk};
 ghost use Rattle.attempts.specs.Counting.{count_in, counted};
 ghost use Rattle.attempts.specs.Points.{GoesOnTo};
 ghost use Rattle.attempts.specs.Standing.{AreScripts, CanWalk, KnowsIn, Stands, attempt_of};
@@ -36,22 +37,25 @@ fn walk_on<S: Scripts<READINGS, HELD>, const READINGS: usize, const HELD: usize>
     }
 }
 
-/// The word that it tests next once it has read this one, where that needs no walk.
+/// The word that it tests next once it has come by what its walk wants, where that needs no walk.
+#[inline(always)]
 fn following<S: Scripts<READINGS, HELD>, const READINGS: usize, const HELD: usize>(
     program: &AttemptOf<S, READINGS, HELD>,
     setting: &S::Setting,
-    word: usize,
+    wanted: Wanted<S::Lock, usize>,
 ) -> Option<usize>
     requires setting { S.IsSetting setting.now }
     requires stands { Stands S.Lock.eq S.reply_of S.effects_of (S.system setting.now)
         (S.Knows setting.now) READINGS HELD program.now }
-    requires tests { program.now.phase ≡ Phase.Tests word }
+    requires wants { walk S.Lock.eq
+        (record { held = program.now.held; readings = program.now.readings })
+        ((S.system setting.now).script program.now.job) ≡ Err wanted }
     ensures { IfSome result
         (GoesOnTo S.Lock.eq (record { held = program.now.held; readings = program.now.readings })
-        ((S.system setting.now).script program.now.job) word) }
+        ((S.system setting.now).script program.now.job) wanted) }
 {
     let seen = Seen::new(program.held.as_slice(), program.readings.as_slice());
-    S::following(setting, &program.job, &program.point, &seen, word)
+    S::following(setting, &program.job, &program.point, &seen, wanted)
 }
 
 /// Its request stands.
@@ -153,8 +157,12 @@ fn take_lock<S: Scripts<READINGS, HELD>, const READINGS: usize, const HELD: usiz
     ensures count { program.new.count ≡ program.old.count }
 {
     if let Some(lock) = program.to_seize() {
+        let following = following::<S, READINGS, HELD>(program, setting, Wanted::Seize(lock));
         program.hold(lock);
-        walk_on::<S, READINGS, HELD>(program, setting);
+        match following {
+            Some(next) => program.want(Wanted::Test(next)),
+            None => walk_on::<S, READINGS, HELD>(program, setting),
+        }
     }
 }
 
@@ -179,7 +187,7 @@ fn take_reading<S: Scripts<READINGS, HELD>, const READINGS: usize, const HELD: u
     ensures count { program.new.count ≡ program.old.count }
 {
     if let Some(word) = program.to_test() {
-        let following = following::<S, READINGS, HELD>(program, setting, word);
+        let following = following::<S, READINGS, HELD>(program, setting, Wanted::Test(word));
         program.note(Reading { word, value });
         match following {
             Some(next) => program.want(Wanted::Test(next)),
