@@ -56,7 +56,13 @@ module _ {Lock Job Reply Effect Decision Point : Type 0} (same : Lock → Lock �
       ∙ ap (goes_on O (record (attempt_of reply_of effects_of p) { readings = p.readings ++ record { word = word; value = value } ∷ [] })) (sym (goes value))
       ∙ ap (λ (phase : Phase Lock ℕ). changed O (attempt_of reply_of effects_of p) phase (Value value)) (sym e)
 
+  pub can_test : (p : Doing) (word : ℕ) → StandsHere p → p.phase ≡ Tests word → CanWalk same reply_of effects_of S Knows p
+  can_test p word stands e = record { job = stands.place.job; read = stands.place.read; knows = subst (λ (phase : Phase Lock ℕ). KnowsIn Knows (attempt_of reply_of effects_of p) p.point phase) e stands.point }
+
   -- and so with a lock
+  pub can_seize : (p : Doing) (lock : Lock) (expected : ℕ) → StandsHere p → p.phase ≡ Seizes lock expected → CanWalk same reply_of effects_of S Knows p
+  can_seize p lock expected stands e = record { job = stands.place.job; read = stands.place.read; knows = subst (λ (phase : Phase Lock ℕ). KnowsIn Knows (attempt_of reply_of effects_of p) p.point phase) e stands.point }
+
   pub wants_to_seize : (p : Doing) (lock : Lock) (expected : ℕ) → StandsHere p → p.phase ≡ Seizes lock expected → walk same (record { held = p.held; readings = p.readings }) (S.script p.job) ≡ Err (Seize lock)
   wants_to_seize p lock expected stands e = subst (λ (phase : Phase Lock ℕ). StandsIn O (attempt_of reply_of effects_of p) phase) e stands.place.comes
 

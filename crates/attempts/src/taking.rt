@@ -45,8 +45,8 @@ fn following<S: Scripts<READINGS, HELD>, const READINGS: usize, const HELD: usiz
     wanted: Wanted<S::Lock, usize>,
 ) -> Option<usize>
     requires setting { S.IsSetting setting.now }
-    requires stands { Stands S.Lock.eq S.reply_of S.effects_of (S.system setting.now)
-        (S.Knows setting.now) READINGS HELD program.now }
+    requires walk { CanWalk S.Lock.eq S.reply_of S.effects_of (S.system setting.now)
+        (S.Knows setting.now) program.now }
     requires wants { walk S.Lock.eq
         (record { held = program.now.held; readings = program.now.readings })
         ((S.system setting.now).script program.now.job) ≡ Err wanted }

@@ -94,7 +94,7 @@ impl Scripts<2, 2> for SlotScripts {
         _job: &Job,
         _point: &Lower,
         _seen: &Seen<u32>,
-        _word: usize,
+        _wanted: Wanted<u32, usize>,
     ) -> Option<usize> {
         None
     }

@@ -1,7 +1,8 @@
 use Rattle.std.specs.Prelude.{ℕ, Option, Some, None, [], ◌∷◌, ⊤}
 use Rattle.xbar_equip.specs.Len.{Line}
 use Rattle.xbar_equip.specs.declared.conn.Conn.{Conn}
-use Rattle.xbar_equip.specs.declared.conn.Conn.TheVariants.{Llf}
+use Rattle.xbar_equip.specs.Word.{GroupWord, LineSwitch, word_number}
+use Rattle.xbar_equip.specs.declared.conn.Conn.TheVariants.{Llf, Tlf, Group}
 use Rattle.xbar_plan.specs.Tables.{Tables, register_group}
 use Rattle.xbar_office.specs.declared.job.Job.{Job}
 use Rattle.xbar_office.specs.declared.job.Job.TheVariants.{Dial, Complete, Release}
@@ -43,6 +44,14 @@ unfoldable pub script : Tables → Job → Script Decision
 script plan (Dial line) = dial_steps plan line
 script plan (Complete line dialled) = complete_steps plan line dialled
 script plan (Release line) = release_steps plan line
+
+-- the word that a job tests once it has seized this connector, where the connector tells it: of a dial tone job the line switch or the group's word
+abbrev pub word_behind : Job → Conn → Option ℕ
+word_behind (Dial line) (Llf frame) = Some (word_number (LineSwitch line.frame line.switch))
+word_behind (Dial line) (Group group) = Some (word_number (GroupWord group))
+word_behind (Dial line) (Tlf frame) = None
+word_behind (Complete line dialled) conn = None
+word_behind (Release line) conn = None
 
 -- from here on a job tests line junctor switches in their rows alone: a dial tone job always, a completing one once its own path was traced
 abbrev pub TestsRows : Job → Seen → Type 0

@@ -1,7 +1,7 @@
 use crate::decided::Decided;
 use crate::effect::Effect;
 use crate::kinds::Wanted;
-use crate::walk::{first_conn, next_in_row, walk};
+use crate::walk::{first_behind, first_conn, next_in_row, walk};
 use attempts::{Scripts, Seen};
 use turns::laws::Family;
 use xbar_equip::Conn;
@@ -65,9 +65,12 @@ impl Scripts<42, 19> for Offices {
         job: &Job,
         _point: &(),
         seen: &Seen<Conn>,
-        word: usize,
+        wanted: Wanted,
     ) -> Option<usize> {
-        next_in_row(plan, seen, job, word)
+        match wanted {
+            Wanted::Test(word) => next_in_row(plan, seen, job, word),
+            Wanted::Seize(conn) => first_behind(plan, seen, job, conn),
+        }
     }
 
     fn reply(decision: &Decided) -> Reply {

@@ -1,10 +1,10 @@
 ghost use Rattle.std.specs.Prelude.{◌≡◌, Err, IfSome, IsTrue};
 ghost use Rattle.turns.specs.Seen.{AreReadWords};
-ghost use Rattle.turns.specs.declared.wanted.Wanted.TheVariants.{Test};
+ghost use Rattle.turns.specs.declared.wanted.Wanted.TheVariants.{Seize, Test};
 ghost use Rattle.attempts.specs.Points.{GoesOnTo};
-ghost use Rattle.xbar_equip.specs.Conn.{conn_eq};
+ghost use Rattle.xbar_equip.specs.Conn.{IsConn, conn_eq};
 ghost use Rattle.xbar_office.specs.Legal.{IsJob};
-ghost use Rattle.xbar_jobs.specs.Jobs.{TestsRows, script, first_conn as first_conn_of, job_line};
+ghost use Rattle.xbar_jobs.specs.Jobs.{TestsRows, script, first_conn as first_conn_of, job_line, word_behind as word_behind_of};
 ghost use Rattle.xbar_jobs.specs.Script.{walk as walk_of};
 
 use crate::completing::complete;
@@ -16,7 +16,7 @@ use crate::releasing::release;
 use crate::seen::Seen;
 use crate::sides::next_junctor;
 use crate::tracing::has_traced;
-use xbar_equip::{Conn, Len};
+use xbar_equip::{Conn, Len, WordNo, group_word, line_switch};
 use xbar_office::Job;
 use xbar_plan::Plan;
 
@@ -58,6 +58,35 @@ pub fn walk(plan: &Plan, gathered: &Gathered, job: &Job) -> Result<Decided, Want
     Ok(Decided::new(decision))
 }
 
+fn word_behind(job: &Job, conn: Conn) -> Option<WordNo>
+    requires { IsConn conn }
+    ensures { result ≡ word_behind_of job.now conn }
+{
+    let Job::Dial(line) = job else {
+        return None;
+    };
+    match conn {
+        Conn::Llf(_) => Some(line_switch(line.frame(), line.switch())),
+        Conn::Group(group) => Some(group_word(group)),
+        Conn::Tlf(_) => None,
+    }
+}
+
+/// The word that a job tests first once it has seized the connector that it wants, if that needs no walk.
+pub fn first_behind(plan: &Plan, gathered: &Gathered, job: &Job, conn: Conn) -> Option<usize>
+    requires job { IsJob job.now }
+    requires wants { walk_of gathered.now (script plan.now job.now) ≡ Err (Seize conn) }
+    ensures { IfSome result (GoesOnTo conn_eq gathered.now (script plan.now job.now) (Seize conn)) }
+{
+    let word = word_behind(job, conn)?;
+    let word = usize::from(word.number());
+    if gathered.has_read(word) {
+        None
+    } else {
+        Some(word)
+    }
+}
+
 fn tests_rows(gathered: &Gathered, job: &Job) -> bool
     ensures { IsTrue result → TestsRows job.now gathered.now }
 {
@@ -73,7 +102,7 @@ fn tests_rows(gathered: &Gathered, job: &Job) -> bool
 pub fn next_in_row(plan: &Plan, gathered: &Gathered, job: &Job, word: usize) -> Option<usize>
     requires job { IsJob job.now }
     requires wants { walk_of gathered.now (script plan.now job.now) ≡ Err (Test word) }
-    ensures { IfSome result (GoesOnTo conn_eq gathered.now (script plan.now job.now) word) }
+    ensures { IfSome result (GoesOnTo conn_eq gathered.now (script plan.now job.now) (Test word)) }
 {
     // Called for its clauses alone.
     xbar_plan::laws::every_plan_is_lawful(plan);

@@ -4,11 +4,11 @@ use Rattle.turns.specs.declared.answer.Answer.TheVariants.{Seized}
 use Rattle.attempts.specs.Standing.{attempt_of}
 use Rattle.attempts.specs.SystemWith.{system_with}
 use Rattle.attempts.proofs.Idle.{idle_seized}
-use Rattle.attempts.proofs.Onward.{knows_following, room_to_seize, seizes_following, walks_seized, wants_to_seize}
+use Rattle.attempts.proofs.Onward.{can_seize, knows_following, room_to_seize, seizes_following, walks_seized, wants_to_seize}
 use Rattle.attempts.proofs.taking.take_lock.Goals as goal
 
 pub following-following-requires : goal.following-following-requires
-following-following-requires g c = (first_of (search rules, omega arith), (c.requires.setting, (c.requires.stands, wants_to_seize g.S.Lock.PartialEq.eq g.S.Scripts.reply_of g.S.Scripts.effects_of (g.S.Scripts.system c.args.setting.now) (g.S.Scripts.Knows c.args.setting.now) _ _ c.requires.scripts c.args.program.now c.in-Some.lock c.in-Some.ensures.some.0 c.requires.stands c.in-Some.ensures.some.1)))
+following-following-requires g c = (first_of (search rules, omega arith), (c.requires.setting, (can_seize g.S.Lock.PartialEq.eq g.S.Scripts.reply_of g.S.Scripts.effects_of (g.S.Scripts.system c.args.setting.now) (g.S.Scripts.Knows c.args.setting.now) _ _ c.requires.scripts c.args.program.now c.in-Some.lock c.in-Some.ensures.some.0 c.requires.stands c.in-Some.ensures.some.1, wants_to_seize g.S.Lock.PartialEq.eq g.S.Scripts.reply_of g.S.Scripts.effects_of (g.S.Scripts.system c.args.setting.now) (g.S.Scripts.Knows c.args.setting.now) _ _ c.requires.scripts c.args.program.now c.in-Some.lock c.in-Some.ensures.some.0 c.requires.stands c.in-Some.ensures.some.1)))
 
 pub hold-requires : goal.hold-requires
 hold-requires g c = (omega arith, room_to_seize g.S.Lock.PartialEq.eq g.S.Scripts.reply_of g.S.Scripts.effects_of (g.S.Scripts.system c.args.setting.now) (g.S.Scripts.Knows c.args.setting.now) _ _ c.requires.scripts c.args.program.now c.in-Some.lock c.in-Some.ensures.some.0 c.requires.stands c.in-Some.ensures.some.1)

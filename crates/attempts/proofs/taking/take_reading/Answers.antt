@@ -4,11 +4,11 @@ use Rattle.turns.specs.declared.answer.Answer.TheVariants.{Value}
 use Rattle.attempts.specs.Standing.{attempt_of}
 use Rattle.attempts.specs.SystemWith.{system_with}
 use Rattle.attempts.proofs.Idle.{idle_read}
-use Rattle.attempts.proofs.Onward.{knows_following, room_to_test, tests_following, unread_to_test, walks_read, wants_to_test}
+use Rattle.attempts.proofs.Onward.{can_test, knows_following, room_to_test, tests_following, unread_to_test, walks_read, wants_to_test}
 use Rattle.attempts.proofs.taking.take_reading.Goals as goal
 
 pub following-following-requires : goal.following-following-requires
-following-following-requires g c = (first_of (search rules, omega arith), (c.requires.setting, (c.requires.stands, wants_to_test g.S.Lock.PartialEq.eq g.S.Scripts.reply_of g.S.Scripts.effects_of (g.S.Scripts.system c.args.setting.now) (g.S.Scripts.Knows c.args.setting.now) _ _ c.requires.scripts c.args.program.now c.in-Some.word c.requires.stands c.in-Some.ensures.some)))
+following-following-requires g c = (first_of (search rules, omega arith), (c.requires.setting, (can_test g.S.Lock.PartialEq.eq g.S.Scripts.reply_of g.S.Scripts.effects_of (g.S.Scripts.system c.args.setting.now) (g.S.Scripts.Knows c.args.setting.now) _ _ c.requires.scripts c.args.program.now c.in-Some.word c.requires.stands c.in-Some.ensures.some, wants_to_test g.S.Lock.PartialEq.eq g.S.Scripts.reply_of g.S.Scripts.effects_of (g.S.Scripts.system c.args.setting.now) (g.S.Scripts.Knows c.args.setting.now) _ _ c.requires.scripts c.args.program.now c.in-Some.word c.requires.stands c.in-Some.ensures.some)))
 
 pub note-requires : goal.note-requires
 note-requires g c = (
