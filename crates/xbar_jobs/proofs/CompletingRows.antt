@@ -2,13 +2,14 @@
 use Rattle.std.proofs.Common.{◌≡◌, ℕ, suc, Bool, true, false, List, [], ◌∷◌, refl, sym, ◌∙◌, subst, arith}
 use Rattle.std.specs.Prelude.{Option, Some, None, Result, Ok, Err, IsOk, IfSome, is_some, slice_get}
 use Rattle.turns.specs.Script.{Ends, TestThen, SeizeThen, ◌>>=◌, read_with, value_read}
-use Rattle.turns.specs.declared.wanted.Wanted.TheVariants.{Test}
+use Rattle.turns.specs.declared.wanted.Wanted.TheVariants.{Seize, Test}
 use Rattle.turns.proofs.Room.{read_before}
 use Rattle.turns.proofs.Walks.{then_walk, walk_bind, walk_goes_on}
 use Rattle.attempts.specs.Points.{Extends, GoesOnTo, seen_with}
 use Rattle.attempts.proofs.Points.{gone_through}
 use Rattle.xbar_equip.specs.Conn.{conn_eq}
 use Rattle.xbar_equip.specs.Dialled.{code_of, number_of}
+use Rattle.xbar_equip.specs.declared.conn.Conn.{Conn}
 use Rattle.xbar_equip.specs.Len.{Line, IsLine, line_eq}
 use Rattle.xbar_equip.specs.declared.path.Path.{Path}
 use Rattle.xbar_equip.proofs.PathTests.{conn_eq-itself}
@@ -24,14 +25,21 @@ use Rattle.xbar_office.specs.declared.job.Job.TheVariants.{Dial, Complete, Relea
 use Rattle.xbar_jobs.specs.Closing.{leave_effects, leave_of, value_after}
 use Rattle.xbar_jobs.specs.Completing.{call, call_by, call_from, call_line, call_number, call_without, complete_from, complete_steps, hunt, register_at, unless_busy, unless_calling}
 use Rattle.xbar_jobs.specs.Connecting.{alone}
-use Rattle.xbar_jobs.specs.Jobs.{TestsRows, script}
+use Rattle.xbar_jobs.specs.Jobs.{TestsRows, script, word_behind}
 use Rattle.xbar_jobs.specs.Script.{Script, Seen, Wanted, as_if_made, walk}
 use Rattle.xbar_jobs.specs.Sides.{IsNextJunctor, party_after}
 use Rattle.xbar_jobs.specs.Tracing.{HasTraced, approach, channel_of, trace, trace_line}
 use Rattle.xbar_jobs.specs.declared.decision.Decision.{Decision}
 use Rattle.xbar_jobs.specs.declared.leave.Leave.{Leave}
 use Rattle.xbar_jobs.specs.declared.party.Party.{Party}
-use Rattle.xbar_jobs.proofs.JunctorRows.{BeginsWith, KeepsRows, connect_rows, dial_rows, row_goes_on, rows_bind}
+use Rattle.xbar_jobs.proofs.JunctorRows.{BeginsWith, KeepsRows, connect_rows, dial_rows, row_goes_on, rows_bind, seizing_goes_on}
+
+-- its connectors tell nothing of what comes next
+abbrev silent : Conn → Option ℕ
+silent conn = None
+
+abbrev Keeps : {A : Type 0} → Script A → Type 0
+Keeps script = KeepsRows silent script
 
 begins_read_with : {A : Type 0} (number : ℕ) (change : ℕ → ℕ → ℕ) (script : Script A) → BeginsWith number script → BeginsWith number (read_with change script)
 unfolding read_with
@@ -40,49 +48,49 @@ begins_read_with number change (TestThen word script) begins = begins
 begins_read_with number change (SeizeThen conn script) begins = absurd begins
 
 -- also as effects will leave the words
-rows_read_with : {A : Type 0} (change : ℕ → ℕ → ℕ) (script : Script A) → KeepsRows script → KeepsRows (read_with change script)
+rows_read_with : {A : Type 0} (change : ℕ → ℕ → ℕ) (script : Script A) → Keeps script → Keeps (read_with change script)
 unfolding KeepsRows read_with
 rows_read_with change (Ends found) rows = tt
 rows_read_with change (TestThen word script) rows = (
   λ next is value. begins_read_with next change (script (change word value)) (rows.0 next is (change word value)),
   λ value. rows_read_with change (script (change word value)) (rows.1 (change word value)),
 )
-rows_read_with change (SeizeThen conn script) rows = rows_read_with change script rows
+rows_read_with change (SeizeThen conn script) rows = (tt, rows_read_with change script rows.1)
 
 -- no row begins with a line switch
-approach_rows : (line : Line) → IsLine line → KeepsRows (approach line)
+approach_rows : (line : Line) → IsLine line → Keeps (approach line)
 unfolding KeepsRows approach ◌>>=◌
-approach_rows line range = (λ next is value. absurd (omega (arith, is.this, is.channel_range, range.switch)), λ word. tt)
+approach_rows line range = (tt, λ next is value. absurd (omega (arith, is.this, is.channel_range, range.switch)), λ word. tt)
 
-busy_rows : (party : Party) (next : Script (Option Party)) (channel : Option ℕ) → KeepsRows next → KeepsRows (unless_busy party next channel)
+busy_rows : (party : Party) (next : Script (Option Party)) (channel : Option ℕ) → Keeps next → Keeps (unless_busy party next channel)
 unfolding KeepsRows unless_busy
 busy_rows party next None rows = tt
 busy_rows party next (Some channel) rows = rows
 
-calling_rows : (line : Line) (next : Script (Option Party)) (same : Bool) → IsLine line → KeepsRows next → KeepsRows (unless_calling line next same)
+calling_rows : (line : Line) (next : Script (Option Party)) (same : Bool) → IsLine line → Keeps next → Keeps (unless_calling line next same)
 unfolding unless_calling
 calling_rows line next true range rows = rows
-calling_rows line next false range rows = rows_bind (approach line) _ (approach_rows line range) (λ party. busy_rows party next (channel_of party) rows)
+calling_rows line next false range rows = rows_bind silent (approach line) _ (approach_rows line range) (λ party. busy_rows party next (channel_of party) rows)
 
 -- each of some lines is there
 abbrev AreLines : List Line → Type 0
 AreLines lines = (k : ℕ) (line : Line) → slice_get lines k ≡ Some line → IsLine line
 
-hunt_rows : (calling : Line) (lines : List Line) → AreLines lines → KeepsRows (hunt calling lines)
+hunt_rows : (calling : Line) (lines : List Line) → AreLines lines → Keeps (hunt calling lines)
 unfolding KeepsRows hunt
 hunt_rows calling [] ranges = tt
 hunt_rows calling (line ∷ lines) ranges = calling_rows line (hunt calling lines) (line_eq line calling) (ranges 0 line refl) (hunt_rows calling lines (λ k other is. ranges (suc k) other is))
 
 module _ (plan : Tables) (laws : IsLawful plan) where
-  call_line_rows : (calling : Party) (groups : List ℕ) (called : Option Party) → KeepsRows (call_line plan calling groups called)
+  call_line_rows : (calling : Party) (groups : List ℕ) (called : Option Party) → Keeps (call_line plan calling groups called)
   unfolding KeepsRows call_line
   call_line_rows calling groups None = tt
-  call_line_rows calling groups (Some called) = connect_rows plan Connected (record { calling = calling; called = Some called }) groups
+  call_line_rows calling groups (Some called) = connect_rows silent (λ frame. refl) (λ group. tt) plan Connected (record { calling = calling; called = Some called }) groups
 
-  call_number_rows : (calling : Party) (groups : List ℕ) (lines : Option (List Line)) → IfSome lines (λ lines. AreLines lines) → KeepsRows (call_number plan calling groups lines)
+  call_number_rows : (calling : Party) (groups : List ℕ) (lines : Option (List Line)) → IfSome lines (λ lines. AreLines lines) → Keeps (call_number plan calling groups lines)
   unfolding KeepsRows call_number
   call_number_rows calling groups None ranges = tt
-  call_number_rows calling groups (Some lines) ranges = rows_bind (hunt calling.line lines) _ (hunt_rows calling.line lines ranges) (λ called. call_line_rows calling groups called)
+  call_number_rows calling groups (Some lines) ranges = rows_bind silent (hunt calling.line lines) _ (hunt_rows calling.line lines ranges) (λ called. call_line_rows calling groups called)
 
   dialled_lines : (number : ℕ) → IfSome (lines_of plan number) (λ lines. AreLines lines)
   dialled_lines number = of (lines_of plan number) refl where
@@ -90,28 +98,28 @@ module _ (plan : Tables) (laws : IsLawful plan) where
     of None is = tt
     of (Some lines) is = lines_of-range plan laws number lines is
 
-  call_by_rows : (calling : Party) (dialled : ℕ) (groups : List ℕ) (inside : Bool) → KeepsRows (call_by plan calling dialled groups inside)
+  call_by_rows : (calling : Party) (dialled : ℕ) (groups : List ℕ) (inside : Bool) → Keeps (call_by plan calling dialled groups inside)
   unfolding call_by
   call_by_rows calling dialled groups true = call_number_rows calling groups (lines_of plan (number_of dialled)) (dialled_lines (number_of dialled))
-  call_by_rows calling dialled groups false = connect_rows plan Connected (alone calling) groups
+  call_by_rows calling dialled groups false = connect_rows silent (λ frame. refl) (λ group. tt) plan Connected (alone calling) groups
 
-  call_rows : (calling : Party) (dialled : ℕ) (groups : Option (List ℕ)) → KeepsRows (call plan calling dialled groups)
+  call_rows : (calling : Party) (dialled : ℕ) (groups : Option (List ℕ)) → Keeps (call plan calling dialled groups)
   unfolding KeepsRows call
   call_rows calling dialled None = tt
   call_rows calling dialled (Some groups) = call_by_rows calling dialled groups (leads_inside plan groups)
 
-  without_rows : (calling : Party) (dialled : ℕ) (leave : Leave) → KeepsRows (call_without plan calling dialled leave)
+  without_rows : (calling : Party) (dialled : ℕ) (leave : Leave) → Keeps (call_without plan calling dialled leave)
   unfolding KeepsRows call_without ◌>>=◌
   without_rows calling dialled leave =
       let after : Script Decision = call plan (party_after (leave_effects leave) calling) dialled (route_of plan (code_of dialled)) in
-      rows_bind (as_if_made (leave_effects leave) after) _ (rows_read_with (value_after (leave_effects leave)) after (call_rows (party_after (leave_effects leave) calling) dialled (route_of plan (code_of dialled)))) (λ decision. tt)
+      (tt, rows_bind silent (as_if_made (leave_effects leave) after) _ (rows_read_with (value_after (leave_effects leave)) after (call_rows (party_after (leave_effects leave) calling) dialled (route_of plan (code_of dialled)))) (λ decision. tt))
 
-  from_rows : (calling : Party) (dialled : ℕ) (own : Path) (found : Option MemberPlace) → KeepsRows (call_from plan calling dialled own found)
+  from_rows : (calling : Party) (dialled : ℕ) (own : Path) (found : Option MemberPlace) → Keeps (call_from plan calling dialled own found)
   unfolding KeepsRows call_from
   from_rows calling dialled own None = tt
   from_rows calling dialled own (Some found) = without_rows calling dialled (leave_of own None found)
 
-  complete_from_rows : (calling : Party) (dialled : ℕ) (own : Option Path) → KeepsRows (complete_from plan calling dialled own)
+  complete_from_rows : (calling : Party) (dialled : ℕ) (own : Option Path) → Keeps (complete_from plan calling dialled own)
   unfolding KeepsRows complete_from
   complete_from_rows calling dialled None = tt
   complete_from_rows calling dialled (Some own) = from_rows calling dialled own (register_at plan own)
@@ -122,18 +130,18 @@ module _ (plan : Tables) (laws : IsLawful plan) where
     unfolding complete_steps
     from_path calling own more approached traced = walk_goes_on conn_eq more (approach line) _ calling approached ∙ walk_goes_on conn_eq more (trace calling) _ own traced
 
-    traced_goes_on : HasTraced line seen → walk seen (complete_steps plan line dialled) ≡ Err (Test word) → GoesOnTo conn_eq seen (complete_steps plan line dialled) word next
+    traced_goes_on : HasTraced line seen → walk seen (complete_steps plan line dialled) ≡ Err (Test word) → GoesOnTo conn_eq seen (complete_steps plan line dialled) (Test word) next
     unfolding trace_line
     traced_goes_on traced wants = on (walk seen (approach line)) refl (subst (λ (r : Result (Option Path) Wanted). IsOk r) (walk_bind conn_eq seen (approach line) trace) traced) where
-      at : (calling : Party) → walk seen (approach line) ≡ Ok calling → (found : Result (Option Path) Wanted) → walk seen (trace calling) ≡ found → IsOk found → GoesOnTo conn_eq seen (complete_steps plan line dialled) word next
+      at : (calling : Party) → walk seen (approach line) ≡ Ok calling → (found : Result (Option Path) Wanted) → walk seen (trace calling) ≡ found → IsOk found → GoesOnTo conn_eq seen (complete_steps plan line dialled) (Test word) next
       at calling approached (Err wanted) here ok = absurd cc
       at calling approached (Ok own) here ok = λ value.
-          let more : Seen = seen_with seen word value in
+          let more : Seen = seen_with seen (Test word) value in
           let extends : Extends conn_eq seen more = record { held = λ c e. e; readings = λ w v e. read_before conn_eq conn_eq-itself seen.readings (record { word = word; value = value }) w v e } in
           from_path calling own more (gone_through conn_eq seen more (approach line) calling extends approached) (gone_through conn_eq seen more (trace calling) own extends here)
-          ∙ row_goes_on seen word next (complete_from plan calling dialled own) (complete_from_rows calling dialled own) is unread (sym (from_path calling own seen approached here) ∙ wants) value
+          ∙ row_goes_on silent seen word next (complete_from plan calling dialled own) (complete_from_rows calling dialled own) is unread (sym (from_path calling own seen approached here) ∙ wants) value
 
-      on : (found : Result Party Wanted) → walk seen (approach line) ≡ found → IsOk (then_walk found (λ calling. walk seen (trace calling))) → GoesOnTo conn_eq seen (complete_steps plan line dialled) word next
+      on : (found : Result Party Wanted) → walk seen (approach line) ≡ found → IsOk (then_walk found (λ calling. walk seen (trace calling))) → GoesOnTo conn_eq seen (complete_steps plan line dialled) (Test word) next
       on (Err wanted) is ok = absurd cc
       on (Ok calling) approached ok = at calling approached (walk seen (trace calling)) refl ok
 
@@ -141,9 +149,16 @@ pub not_some : (o : Option ℕ) → is_some o ≡ false → o ≡ None
 not_some None e = refl
 not_some (Some n) e = absurd cc
 
--- a job that tests its rows in order goes on in a row, whatever a line junctor switch shows
-pub goes_in_row : (plan : Tables) (laws : IsLawful plan) (seen : Seen) (job : Job) (word next : ℕ) → IsJob job → TestsRows job seen → IsNextJunctor word next → value_read seen.readings next ≡ None → walk seen (script plan job) ≡ Err (Test word) → GoesOnTo conn_eq seen (script plan job) word next
+-- a dial tone job goes on to what its connector tells
+pub goes_behind : (plan : Tables) (seen : Seen) (job : Job) (conn : Conn) (word : ℕ) → IsJob job → word_behind job conn ≡ Some word → value_read seen.readings word ≡ None → walk seen (script plan job) ≡ Err (Seize conn) → GoesOnTo conn_eq seen (script plan job) (Seize conn) word
 unfolding script
-goes_in_row plan laws seen (Dial line) word next range rows is unread wants = row_goes_on seen word next _ (dial_rows plan line range) is unread wants
+goes_behind plan seen (Dial line) conn word range is unread wants = seizing_goes_on (word_behind (Dial line)) seen conn word _ (dial_rows plan line range) is unread wants
+goes_behind plan seen (Complete line dialled) conn word range is unread wants = absurd cc
+goes_behind plan seen (Release line) conn word range is unread wants = absurd cc
+
+-- a job that tests its rows in order goes on in a row, whatever a line junctor switch shows
+pub goes_in_row : (plan : Tables) (laws : IsLawful plan) (seen : Seen) (job : Job) (word next : ℕ) → IsJob job → TestsRows job seen → IsNextJunctor word next → value_read seen.readings next ≡ None → walk seen (script plan job) ≡ Err (Test word) → GoesOnTo conn_eq seen (script plan job) (Test word) next
+unfolding script
+goes_in_row plan laws seen (Dial line) word next range rows is unread wants = row_goes_on (word_behind (Dial line)) seen word next _ (dial_rows plan line range) is unread wants
 goes_in_row plan laws seen (Complete line dialled) word next range rows is unread wants = traced_goes_on plan laws seen line dialled word next is unread rows wants
 goes_in_row plan laws seen (Release line) word next range rows is unread wants = absurd rows

@@ -1,15 +1,19 @@
 -- a frame's ten line junctor switches are tested one after another, whatever they show
 use Rattle.std.proofs.Common.{◌≡◌, ℕ, zero, suc, ◌+◌, List, [], ◌∷◌, ◌++◌, refl, sym, ◌∙◌, ap, subst, arith}
-use Rattle.std.specs.Prelude.{Option, Some, None, Bool, true, false, Err, ⊤, ◌==◌, find, option_map, slice_get, if◌then◌else◌}
+use Rattle.std.specs.Prelude.{Option, Some, None, IfSome, Bool, true, false, Err, ⊤, ◌==◌, find, option_map, slice_get, if◌then◌else◌}
 use Rattle.std.proofs.lemmas.Bool.{eqb-true}
 use Rattle.std.specs.Option.{option_map_or}
 use Rattle.turns.specs.Script.{Ends, TestThen, SeizeThen, ◌>>=◌, first_wanted, is_held, left, left_of_test, left_of_seizing, value_read, walk}
 use Rattle.turns.specs.declared.reading.Reading.{Reading}
-use Rattle.turns.specs.declared.wanted.Wanted.TheVariants.{Test}
+use Rattle.turns.specs.declared.wanted.Wanted.TheVariants.{Seize, Test}
 use Rattle.attempts.specs.Points.{GoesOnTo, seen_with}
-use Rattle.turns.proofs.Room.{Grows, left_again, read_last, read_before}
+use Rattle.turns.proofs.Room.{Grows, held_before, held_last, left_again, read_last, read_before}
 use Rattle.xbar_equip.specs.Conn.{conn_eq}
 use Rattle.xbar_equip.specs.Len.{Line, IsLine}
+use Rattle.xbar_equip.specs.Word.{GroupWord, word_number}
+use Rattle.xbar_equip.specs.declared.conn.Conn.{Conn}
+use Rattle.xbar_equip.specs.declared.conn.Conn.TheVariants.{Tlf, Group}
+use Rattle.xbar_office.specs.declared.job.Job.TheVariants.{Dial}
 use Rattle.xbar_equip.specs.Ten.{TrunkPlace}
 use Rattle.xbar_equip.proofs.PathTests.{conn_eq-itself}
 use Rattle.xbar_switch.specs.declared.shape.Shape.TheVariants.{Line as LineShape}
@@ -23,7 +27,7 @@ use Rattle.xbar_office.specs.declared.reply.Card.{Card}
 use Rattle.xbar_office.specs.declared.trial.TrialEnd.{TrialEnd}
 use Rattle.xbar_office.specs.declared.trial.TrialEnd.TheVariants.{Chosen, Faulty, NoChannel}
 use Rattle.xbar_jobs.specs.Connecting.{alone, connect, try_trunk}
-use Rattle.xbar_jobs.specs.Jobs.{dial_steps, serve_idle_line}
+use Rattle.xbar_jobs.specs.Jobs.{dial_steps, serve_idle_line, word_behind}
 use Rattle.xbar_jobs.specs.Script.{Script, Seen}
 use Rattle.xbar_jobs.specs.Sides.{IsNextJunctor, Sides, reach, test_called, test_junctors, test_place, test_second, test_side, test_sides}
 use Rattle.xbar_jobs.specs.Tracing.{approach}
@@ -39,174 +43,207 @@ BeginsWith number (Ends found) = ⊥
 BeginsWith number (TestThen word script) = word ≡ number
 BeginsWith number (SeizeThen conn script) = ⊥
 
--- where a script tests a line junctor switch and others of its frame follow, it goes on to the next one whatever it found
-unfoldable pub KeepsRows : {A : Type 0} → Script A → Type 0
-KeepsRows (Ends found) = ⊤
-KeepsRows (TestThen word script) = ((next : ℕ) → IsNextJunctor word next → (value : ℕ) → BeginsWith next (script value)) × ((value : ℕ) → KeepsRows (script value))
-KeepsRows (SeizeThen conn script) = KeepsRows script
+-- which word is tested once a connector is seized, where the connector tells it
+module _ (behind : Conn → Option ℕ) where
+  -- where a script tests a line junctor switch and others of its frame follow, it goes on to the next one whatever it found; and where a connector tells which word is tested once it is seized, it goes on to that
+  unfoldable pub KeepsRows : {A : Type 0} → Script A → Type 0
+  KeepsRows (Ends found) = ⊤
+  KeepsRows (TestThen word script) = ((next : ℕ) → IsNextJunctor word next → (value : ℕ) → BeginsWith next (script value)) × ((value : ℕ) → KeepsRows (script value))
+  KeepsRows (SeizeThen conn script) = IfSome (behind conn) (λ word. BeginsWith word script) × KeepsRows script
 
-begins_bind : {A B : Type 0} (number : ℕ) (script : Script A) (next : A → Script B) → BeginsWith number script → BeginsWith number (script >>= next)
-unfolding ◌>>=◌
-begins_bind number (Ends found) next begins = absurd begins
-begins_bind number (TestThen word script) next begins = begins
-begins_bind number (SeizeThen conn script) next begins = absurd begins
+  begins_bind : {A B : Type 0} (number : ℕ) (script : Script A) (next : A → Script B) → BeginsWith number script → BeginsWith number (script >>= next)
+  unfolding ◌>>=◌
+  begins_bind number (Ends found) next begins = absurd begins
+  begins_bind number (TestThen word script) next begins = begins
+  begins_bind number (SeizeThen conn script) next begins = absurd begins
 
-pub rows_bind : {A B : Type 0} (script : Script A) (next : A → Script B) → KeepsRows script → ((found : A) → KeepsRows (next found)) → KeepsRows (script >>= next)
-unfolding KeepsRows ◌>>=◌
-rows_bind (Ends found) next rows later = later found
-rows_bind (TestThen word script) next rows later =
-    (λ number is value. begins_bind number (script value) next (rows.0 number is value), λ value. rows_bind (script value) next (rows.1 value) later)
-rows_bind (SeizeThen conn script) next rows later = rows_bind script next rows later
+  behind_bind : {A B : Type 0} (o : Option ℕ) (script : Script A) (next : A → Script B) → IfSome o (λ word. BeginsWith word script) → IfSome o (λ word. BeginsWith word (script >>= next))
+  behind_bind None script next begins = tt
+  behind_bind (Some word) script next begins = begins_bind word script next begins
 
--- what is left of such a script is such a script
-rows_left : {A : Type 0} (seen : Seen) (script : Script A) → KeepsRows script → KeepsRows (left conn_eq seen script)
-unfolding KeepsRows left left_of_test left_of_seizing
-rows_left seen (Ends found) rows = rows
-rows_left seen (TestThen word script) rows = at (value_read seen.readings word) (λ value. rows_left seen (script value) (rows.1 value)) where
-  at : (o : Option ℕ) → ((value : ℕ) → KeepsRows (left conn_eq seen (script value))) → KeepsRows (left_of_test script (λ value. left conn_eq seen (script value)) word o)
-  at None later = rows
-  at (Some value) later = later value
-rows_left seen (SeizeThen conn script) rows = at (is_held conn_eq seen.held conn) (rows_left seen script rows) where
-  at : (b : Bool) → KeepsRows (left conn_eq seen script) → KeepsRows (left_of_seizing script (left conn_eq seen script) conn b)
-  at false later = rows
-  at true later = later
+  pub rows_bind : {A B : Type 0} (script : Script A) (next : A → Script B) → KeepsRows script → ((found : A) → KeepsRows (next found)) → KeepsRows (script >>= next)
+  unfolding KeepsRows ◌>>=◌
+  rows_bind (Ends found) next rows later = later found
+  rows_bind (TestThen word script) next rows later =
+      (λ number is value. begins_bind number (script value) next (rows.0 number is value), λ value. rows_bind (script value) next (rows.1 value) later)
+  rows_bind (SeizeThen conn script) next rows later = (behind_bind (behind conn) script next rows.0, rows_bind script next rows.1 later)
 
-begins_wanted : {A : Type 0} (more : Seen) (next : ℕ) (script : Script A) → BeginsWith next script → value_read more.readings next ≡ None → first_wanted (left conn_eq more script) ≡ Err (Test next)
-unfolding left left_of_test first_wanted
-begins_wanted more next (Ends found) begins unread = absurd begins
-begins_wanted more next (TestThen word rest) begins unread = rw (ap (value_read more.readings) begins ∙ unread) (ap (λ (n : ℕ). Err (Test n)) begins)
-begins_wanted more next (SeizeThen conn rest) begins unread = absurd begins
+  -- what is left of such a script is such a script
+  rows_left : {A : Type 0} (seen : Seen) (script : Script A) → KeepsRows script → KeepsRows (left conn_eq seen script)
+  unfolding KeepsRows left left_of_test left_of_seizing
+  rows_left seen (Ends found) rows = rows
+  rows_left seen (TestThen word script) rows = at (value_read seen.readings word) (λ value. rows_left seen (script value) (rows.1 value)) where
+    at : (o : Option ℕ) → ((value : ℕ) → KeepsRows (left conn_eq seen (script value))) → KeepsRows (left_of_test script (λ value. left conn_eq seen (script value)) word o)
+    at None later = rows
+    at (Some value) later = later value
+  rows_left seen (SeizeThen conn script) rows = at (is_held conn_eq seen.held conn) (rows_left seen script rows.1) where
+    at : (b : Bool) → KeepsRows (left conn_eq seen script) → KeepsRows (left_of_seizing script (left conn_eq seen script) conn b)
+    at false later = rows
+    at true later = later
 
-goes_on_at : {A : Type 0} (more : Seen) (number next : ℕ) (rest : Script A) → KeepsRows rest → IsNextJunctor number next → (value : ℕ) × (value_read more.readings number ≡ Some value) → value_read more.readings next ≡ None → first_wanted rest ≡ Err (Test number) → first_wanted (left conn_eq more rest) ≡ Err (Test next)
-unfolding KeepsRows left left_of_test first_wanted
-goes_on_at more number next (Ends found) rows is own unread wants = absurd cc
-goes_on_at more number next (SeizeThen conn rest) rows is own unread wants = absurd cc
-goes_on_at {A} more number next (TestThen word rest) rows is own unread wants =
-    let same : word ≡ number = cc in
-    rw (ap (value_read more.readings) same ∙ own.1) (begins_wanted more next (rest own.0) (rows.0 next (subst (λ (n : ℕ). IsNextJunctor n next) (sym same) is) own.0) unread)
+  begins_wanted : {A : Type 0} (more : Seen) (next : ℕ) (script : Script A) → BeginsWith next script → value_read more.readings next ≡ None → first_wanted (left conn_eq more script) ≡ Err (Test next)
+  unfolding left left_of_test first_wanted
+  begins_wanted more next (Ends found) begins unread = absurd begins
+  begins_wanted more next (TestThen word rest) begins unread = rw (ap (value_read more.readings) begins ∙ unread) (ap (λ (n : ℕ). Err (Test n)) begins)
+  begins_wanted more next (SeizeThen conn rest) begins unread = absurd begins
 
--- once a line junctor switch was read, the next one is wanted, if it was not read before
-next_is_wanted : {A : Type 0} (seen more : Seen) (number next : ℕ) (script : Script A) → KeepsRows script → Grows conn_eq conn_eq-itself seen more → IsNextJunctor number next → (value : ℕ) × (value_read more.readings number ≡ Some value) → value_read more.readings next ≡ None → walk conn_eq seen script ≡ Err (Test number) → walk conn_eq more script ≡ Err (Test next)
-unfolding walk
-next_is_wanted seen more number next script rows grows is own unread wants =
-    ap first_wanted (left_again conn_eq conn_eq-itself seen more script grows) ∙ goes_on_at more number next (left conn_eq seen script) (rows_left seen script rows) is own unread wants
+  goes_on_at : {A : Type 0} (more : Seen) (number next : ℕ) (rest : Script A) → KeepsRows rest → IsNextJunctor number next → (value : ℕ) × (value_read more.readings number ≡ Some value) → value_read more.readings next ≡ None → first_wanted rest ≡ Err (Test number) → first_wanted (left conn_eq more rest) ≡ Err (Test next)
+  unfolding KeepsRows left left_of_test first_wanted
+  goes_on_at more number next (Ends found) rows is own unread wants = absurd cc
+  goes_on_at more number next (SeizeThen conn rest) rows is own unread wants = absurd cc
+  goes_on_at {A} more number next (TestThen word rest) rows is own unread wants =
+      let same : word ≡ number = cc in
+      rw (ap (value_read more.readings) same ∙ own.1) (begins_wanted more next (rest own.0) (rows.0 next (subst (λ (n : ℕ). IsNextJunctor n next) (sym same) is) own.0) unread)
 
--- a word that was not read was not read either once another was
-unread_more : (readings : List (Reading ℕ)) (last : Reading ℕ) (next : ℕ) → (last.word == next) ≡ false → value_read readings next ≡ None → value_read (readings ++ last ∷ []) next ≡ None
-unfolding value_read
-unread_more [] last next other unread = ap (λ b. option_map (λ (r : Reading ℕ). r.value) (if b then Some last else None)) other
-unread_more (reading ∷ readings) last next other unread = at (reading.word == next) (unread_more readings last next other) unread where
-  at : (b : Bool) → (value_read readings next ≡ None → value_read (readings ++ last ∷ []) next ≡ None) → option_map (λ (r : Reading ℕ). r.value) (if b then Some reading else find (λ (r : Reading ℕ). r.word == next) readings) ≡ None → option_map (λ (r : Reading ℕ). r.value) (if b then Some reading else find (λ (r : Reading ℕ). r.word == next) (readings ++ last ∷ [])) ≡ None
-  at true later none = none
-  at false later none = later none
+  -- once a line junctor switch was read, the next one is wanted, if it was not read before
+  next_is_wanted : {A : Type 0} (seen more : Seen) (number next : ℕ) (script : Script A) → KeepsRows script → Grows conn_eq conn_eq-itself seen more → IsNextJunctor number next → (value : ℕ) × (value_read more.readings number ≡ Some value) → value_read more.readings next ≡ None → walk conn_eq seen script ≡ Err (Test number) → walk conn_eq more script ≡ Err (Test next)
+  unfolding walk
+  next_is_wanted seen more number next script rows grows is own unread wants =
+      ap first_wanted (left_again conn_eq conn_eq-itself seen more script grows) ∙ goes_on_at more number next (left conn_eq seen script) (rows_left seen script rows) is own unread wants
 
-next_is_other : (number next : ℕ) → IsNextJunctor number next → (number == next) ≡ false
-next_is_other number next is = at (number == next) refl where
-  at : (b : Bool) → (number == next) ≡ b → (number == next) ≡ false
-  at true same = absurd (omega (arith, eqb-true number next same, is.this, is.that))
-  at false other = other
+  -- a word that was not read was not read either once another was
+  unread_more : (readings : List (Reading ℕ)) (last : Reading ℕ) (next : ℕ) → (last.word == next) ≡ false → value_read readings next ≡ None → value_read (readings ++ last ∷ []) next ≡ None
+  unfolding value_read
+  unread_more [] last next other unread = ap (λ b. option_map (λ (r : Reading ℕ). r.value) (if b then Some last else None)) other
+  unread_more (reading ∷ readings) last next other unread = at (reading.word == next) (unread_more readings last next other) unread where
+    at : (b : Bool) → (value_read readings next ≡ None → value_read (readings ++ last ∷ []) next ≡ None) → option_map (λ (r : Reading ℕ). r.value) (if b then Some reading else find (λ (r : Reading ℕ). r.word == next) readings) ≡ None → option_map (λ (r : Reading ℕ). r.value) (if b then Some reading else find (λ (r : Reading ℕ). r.word == next) (readings ++ last ∷ [])) ≡ None
+    at true later none = none
+    at false later none = later none
 
--- so once the walk of such a script wants a line junctor switch, it goes on to the next one, whatever that one shows
-pub row_goes_on : {A : Type 0} (seen : Seen) (word next : ℕ) (script : Script A) → KeepsRows script → IsNextJunctor word next → value_read seen.readings next ≡ None → walk conn_eq seen script ≡ Err (Test word) → GoesOnTo conn_eq seen script word next
-row_goes_on seen word next script rows is unread wants = λ value.
-    let last : Reading ℕ = record { word = word; value = value } in
-    let grows : Grows conn_eq conn_eq-itself seen (seen_with seen word value) = record { held = λ c e. e; readings = λ w v e. read_before conn_eq conn_eq-itself seen.readings last w v e } in
-    next_is_wanted seen (seen_with seen word value) word next script rows grows is (read_last conn_eq conn_eq-itself seen.readings last) (unread_more seen.readings last next (next_is_other word next is) unread) wants
+  next_is_other : (number next : ℕ) → IsNextJunctor number next → (number == next) ≡ false
+  next_is_other number next is = at (number == next) refl where
+    at : (b : Bool) → (number == next) ≡ b → (number == next) ≡ false
+    at true same = absurd (omega (arith, eqb-true number next same, is.this, is.that))
+    at false other = other
 
-junctor_rows : (frame channel count : ℕ) → channel + count ≡ 10 → KeepsRows (test_junctors frame channel count)
-unfolding KeepsRows test_junctors ◌>>=◌
-junctor_rows frame channel zero sum = tt
-junctor_rows frame channel (suc zero) sum = (λ next is value. absurd (omega (arith, is.this, is.channel_range)), λ value. tt)
-junctor_rows frame channel (suc (suc count)) sum = (
-  λ next is value. omega (arith, is.this, is.that, is.channel_range),
-  λ value. rows_bind (test_junctors frame (channel + 1) (suc count)) (λ words. Ends (value ∷ words)) (junctor_rows frame (channel + 1) (suc count) (omega arith)) (λ words. tt),
-)
+  -- so once the walk of such a script wants a line junctor switch, it goes on to the next one, whatever that one shows
+  pub row_goes_on : {A : Type 0} (seen : Seen) (word next : ℕ) (script : Script A) → KeepsRows script → IsNextJunctor word next → value_read seen.readings next ≡ None → walk conn_eq seen script ≡ Err (Test word) → GoesOnTo conn_eq seen script (Test word) next
+  row_goes_on seen word next script rows is unread wants = λ value.
+      let last : Reading ℕ = record { word = word; value = value } in
+      let grows : Grows conn_eq conn_eq-itself seen (seen_with seen (Test word) value) = record { held = λ c e. e; readings = λ w v e. read_before conn_eq conn_eq-itself seen.readings last w v e } in
+      next_is_wanted seen (seen_with seen (Test word) value) word next script rows grows is (read_last conn_eq conn_eq-itself seen.readings last) (unread_more seen.readings last next (next_is_other word next is) unread) wants
 
--- the tests of both sides are such rows
-side_rows : (party : Party) → KeepsRows (test_side party)
-unfolding KeepsRows test_side
-side_rows party = rows_bind (test_junctors party.line.frame 0 10) _ (junctor_rows party.line.frame 0 10 refl) (λ words. tt)
+  at_seizing : {A : Type 0} (more : Seen) (conn : Conn) (word : ℕ) (rest : Script A) → KeepsRows rest → is_held conn_eq more.held conn ≡ true → behind conn ≡ Some word → value_read more.readings word ≡ None → first_wanted rest ≡ Err (Seize conn) → first_wanted (left conn_eq more rest) ≡ Err (Test word)
+  unfolding KeepsRows left left_of_seizing first_wanted
+  at_seizing more conn word (Ends found) rows own is unread wants = absurd cc
+  at_seizing more conn word (TestThen other rest) rows own is unread wants = absurd cc
+  at_seizing {A} more conn word (SeizeThen other rest) rows own is unread wants =
+      let same : other ≡ conn = cc in
+      let begins : BeginsWith word rest = subst (λ (o : Option ℕ). IfSome o (λ w. BeginsWith w rest)) (ap behind same ∙ is) rows.0 in
+      rw (ap (is_held conn_eq more.held) same ∙ own) (begins_wanted more word rest begins unread)
 
-called_rows : (called : Option Party) → KeepsRows (test_called called)
-unfolding KeepsRows test_called
-called_rows None = tt
-called_rows (Some party) = rows_bind (test_side party) _ (side_rows party) (λ side. tt)
+  -- and once it wants a connector that tells which word comes next, it goes on to that word
+  pub seizing_goes_on : {A : Type 0} (seen : Seen) (conn : Conn) (word : ℕ) (script : Script A) → KeepsRows script → behind conn ≡ Some word → value_read seen.readings word ≡ None → walk conn_eq seen script ≡ Err (Seize conn) → GoesOnTo conn_eq seen script (Seize conn) word
+  unfolding walk
+  seizing_goes_on seen conn word script rows is unread wants = λ value.
+      let more : Seen = seen_with seen (Seize conn) value in
+      let grows : Grows conn_eq conn_eq-itself seen more = record { held = λ c e. held_before conn_eq conn_eq-itself seen.held conn c e; readings = λ w v e. e } in
+      ap first_wanted (left_again conn_eq conn_eq-itself seen more script grows) ∙ at_seizing more conn word (left conn_eq seen script) (rows_left seen script rows) (held_last conn_eq conn_eq-itself seen.held conn) is unread wants
 
-sides_rows : (parties : CallParties) → KeepsRows (test_sides parties)
-unfolding KeepsRows test_sides
-sides_rows parties = rows_bind (test_side parties.calling) _ (side_rows parties.calling) (λ calling. rows_bind (test_called parties.called) _ (called_rows parties.called) (λ called. tt))
+  junctor_rows : (frame channel count : ℕ) → channel + count ≡ 10 → KeepsRows (test_junctors frame channel count)
+  unfolding KeepsRows test_junctors ◌>>=◌
+  junctor_rows frame channel zero sum = tt
+  junctor_rows frame channel (suc zero) sum = (λ next is value. absurd (omega (arith, is.this, is.channel_range)), λ value. tt)
+  junctor_rows frame channel (suc (suc count)) sum = (
+    λ next is value. omega (arith, is.this, is.that, is.channel_range),
+    λ value. rows_bind (test_junctors frame (channel + 1) (suc count)) (λ words. Ends (value ∷ words)) (junctor_rows frame (channel + 1) (suc count) (omega arith)) (λ words. tt),
+  )
 
--- no row begins with a trunk switch
-place_rows : (place : TrunkPlace) → KeepsRows (test_place place)
-unfolding KeepsRows test_place ◌>>=◌
-place_rows place = (λ next is value. absurd (omega (arith, is.this, is.frame_range, is.channel_range)), λ value. tt)
+  -- the tests of both sides are such rows
+  side_rows : (party : Party) → KeepsRows (test_side party)
+  unfolding KeepsRows test_side
+  side_rows party = rows_bind (test_junctors party.line.frame 0 10) _ (junctor_rows party.line.frame 0 10 refl) (λ words. tt)
 
-second_place_rows : (second : Option TrunkPlace) → KeepsRows (test_second second)
-unfolding KeepsRows test_second
-second_place_rows None = tt
-second_place_rows (Some place) = rows_bind (test_place place) _ (place_rows place) (λ reached. tt)
+  called_rows : (called : Option Party) → KeepsRows (test_called called)
+  unfolding KeepsRows test_called
+  called_rows None = tt
+  called_rows (Some party) = rows_bind (test_side party) _ (side_rows party) (λ side. tt)
 
-reach_rows : (member : Member) → KeepsRows (reach member)
-unfolding KeepsRows reach ◌>>=◌
-reach_rows member =
-    rows_bind (test_place member.first) _ (place_rows member.first)
-    (λ first. rows_bind (test_second member.second) _ (second_place_rows member.second) (λ second. tt))
+  sides_rows : (parties : CallParties) → KeepsRows (test_sides parties)
+  unfolding KeepsRows test_sides
+  sides_rows parties = rows_bind (test_side parties.calling) _ (side_rows parties.calling) (λ calling. rows_bind (test_called parties.called) _ (called_rows parties.called) (λ called. tt))
 
-second_rows : (plan : Tables) (sides : Sides) (trunks : Trunks) (cards : List Card) (index : ℕ) → KeepsRows (second_trial_at plan sides trunks cards index)
-unfolding KeepsRows second_trial_at second_trial_steps
-second_rows plan sides trunks cards index = at (slice_get trunks.members index) where
-  at : (o : Option Member) → KeepsRows (option_map_or (second_trial_steps plan sides cards index) o (Ends (second_decides cards index NoChannel)))
-  at None = tt
-  at (Some member) = rows_bind (reach member) _ (reach_rows member) (λ trunk. tt)
+  -- no row begins with a trunk switch
+  place_rows : (place : TrunkPlace) → KeepsRows (test_place place)
+  unfolding KeepsRows test_place ◌>>=◌
+  place_rows place = (λ next is value. absurd (omega (arith, is.this, is.frame_range, is.channel_range)), λ value. tt)
 
-after_rows : (plan : Tables) (sides : Sides) (trunks : Trunks) (first : ℕ) (end : TrialEnd) → KeepsRows (after_first_trial plan sides trunks first end)
-unfolding KeepsRows after_first_trial
-after_rows plan sides trunks first (Chosen call) = tt
-after_rows plan sides trunks first (Faulty link) = second_rows plan sides trunks (cards_of 1 (Faulty link)) (next_clear trunks first)
-after_rows plan sides trunks first NoChannel = second_rows plan sides trunks [] (next_clear trunks first)
+  second_place_rows : (second : Option TrunkPlace) → KeepsRows (test_second second)
+  unfolding KeepsRows test_second
+  second_place_rows None = tt
+  second_place_rows (Some place) = rows_bind (test_place place) _ (place_rows place) (λ reached. tt)
 
-trials_rows : (plan : Tables) (parties : CallParties) (trunks : Trunks) (first : ℕ) → KeepsRows (two_trials_steps plan parties trunks first)
-unfolding KeepsRows two_trials_steps first_trial_steps
-trials_rows plan parties trunks first = at (slice_get trunks.members first) where
-  at : (o : Option Member) → KeepsRows (option_map_or (first_trial_steps plan parties trunks first) o (Ends (second_decides [] first NoChannel)))
-  at None = tt
-  at (Some member) =
-      rows_bind (reach member) _ (reach_rows member)
-      (λ trunk. rows_bind (test_sides parties) _ (sides_rows parties) (λ sides. after_rows plan sides trunks first (trial_end plan sides 0 trunk)))
+  -- it tells nothing of trunk link frames, and of a group the group's word, or nothing
+  module _ (frames : (frame : ℕ) → behind (Tlf frame) ≡ None) (tells : (group : ℕ) → IfSome (behind (Group group)) (λ word. word_number (GroupWord group) ≡ word)) where
+    silent_at : {A : Type 0} (script : Script A) (o : Option ℕ) → o ≡ None → IfSome o (λ word. BeginsWith word script)
+    silent_at script None is = tt
+    silent_at script (Some word) is = absurd cc
 
--- nor with a group's word
-idle_rows : (group word : ℕ) (next : Script (Option IdleGroup)) (found : Option ℕ) → KeepsRows next → KeepsRows (idle_or group word next found)
-unfolding KeepsRows idle_or
-idle_rows group word next None rows = rows
-idle_rows group word next (Some first) rows = tt
+    reach_rows : (member : Member) → KeepsRows (reach member)
+    unfolding KeepsRows reach ◌>>=◌
+    reach_rows member = (
+      silent_at _ (behind (Tlf member.first.frame)) (frames member.first.frame),
+      rows_bind (test_place member.first) _ (place_rows member.first)
+      (λ first. rows_bind (test_second member.second) _ (second_place_rows member.second) (λ second. tt)),
+    )
 
-find_rows : (plan : Tables) (groups : List ℕ) → KeepsRows (find_trunk plan groups)
-unfolding KeepsRows find_trunk ◌>>=◌
-find_rows plan [] = tt
-find_rows plan (group ∷ groups) = (
-  λ next is value. absurd (omega (arith, is.this, is.frame_range, is.channel_range)),
-  λ word. idle_rows group word (find_trunk plan groups) (first_clear (trunks_of plan group word)) (find_rows plan groups),
-)
+    second_rows : (plan : Tables) (sides : Sides) (trunks : Trunks) (cards : List Card) (index : ℕ) → KeepsRows (second_trial_at plan sides trunks cards index)
+    unfolding KeepsRows second_trial_at second_trial_steps
+    second_rows plan sides trunks cards index = at (slice_get trunks.members index) where
+      at : (o : Option Member) → KeepsRows (option_map_or (second_trial_steps plan sides cards index) o (Ends (second_decides cards index NoChannel)))
+      at None = tt
+      at (Some member) = rows_bind (reach member) _ (reach_rows member) (λ trunk. tt)
 
-try_rows : (plan : Tables) (aim : Aim) (parties : CallParties) (idle : Option IdleGroup) → KeepsRows (try_trunk plan aim parties idle)
-unfolding KeepsRows try_trunk
-try_rows plan aim parties None = tt
-try_rows plan aim parties (Some idle) =
-    rows_bind (two_trials_steps plan parties (trunks_of plan idle.group idle.word) idle.first) _ (trials_rows plan parties (trunks_of plan idle.group idle.word) idle.first) (λ trials. tt)
+    after_rows : (plan : Tables) (sides : Sides) (trunks : Trunks) (first : ℕ) (end : TrialEnd) → KeepsRows (after_first_trial plan sides trunks first end)
+    unfolding KeepsRows after_first_trial
+    after_rows plan sides trunks first (Chosen call) = tt
+    after_rows plan sides trunks first (Faulty link) = second_rows plan sides trunks (cards_of 1 (Faulty link)) (next_clear trunks first)
+    after_rows plan sides trunks first NoChannel = second_rows plan sides trunks [] (next_clear trunks first)
 
--- whatever the parties and the groups are, connecting them is such a script
-pub connect_rows : (plan : Tables) (aim : Aim) (parties : CallParties) (groups : List ℕ) → KeepsRows (connect plan aim parties groups)
-unfolding connect
-connect_rows plan aim parties groups = rows_bind (find_trunk plan groups) _ (find_rows plan groups) (λ idle. try_rows plan aim parties idle)
+    trials_rows : (plan : Tables) (parties : CallParties) (trunks : Trunks) (first : ℕ) → KeepsRows (two_trials_steps plan parties trunks first)
+    unfolding KeepsRows two_trials_steps first_trial_steps
+    trials_rows plan parties trunks first = at (slice_get trunks.members first) where
+      at : (o : Option Member) → KeepsRows (option_map_or (first_trial_steps plan parties trunks first) o (Ends (second_decides [] first NoChannel)))
+      at None = tt
+      at (Some member) =
+          rows_bind (reach member) _ (reach_rows member)
+          (λ trunk. rows_bind (test_sides parties) _ (sides_rows parties) (λ sides. after_rows plan sides trunks first (trial_end plan sides 0 trunk)))
 
-idle_line_rows : (plan : Tables) (calling : Party) (channel : Option ℕ) → KeepsRows (serve_idle_line plan calling channel)
+    -- nor with a group's word
+    idle_rows : (group word : ℕ) (next : Script (Option IdleGroup)) (found : Option ℕ) → KeepsRows next → KeepsRows (idle_or group word next found)
+    unfolding KeepsRows idle_or
+    idle_rows group word next None rows = rows
+    idle_rows group word next (Some first) rows = tt
+
+    find_rows : (plan : Tables) (groups : List ℕ) → KeepsRows (find_trunk plan groups)
+    unfolding KeepsRows find_trunk ◌>>=◌
+    find_rows plan [] = tt
+    find_rows plan (group ∷ groups) = (
+      tells group,
+      λ next is value. absurd (omega (arith, is.this, is.frame_range, is.channel_range)),
+      λ word. idle_rows group word (find_trunk plan groups) (first_clear (trunks_of plan group word)) (find_rows plan groups),
+    )
+
+    try_rows : (plan : Tables) (aim : Aim) (parties : CallParties) (idle : Option IdleGroup) → KeepsRows (try_trunk plan aim parties idle)
+    unfolding KeepsRows try_trunk
+    try_rows plan aim parties None = tt
+    try_rows plan aim parties (Some idle) =
+        rows_bind (two_trials_steps plan parties (trunks_of plan idle.group idle.word) idle.first) _ (trials_rows plan parties (trunks_of plan idle.group idle.word) idle.first) (λ trials. tt)
+
+    -- whatever the parties and the groups are, connecting them is such a script
+    pub connect_rows : (plan : Tables) (aim : Aim) (parties : CallParties) (groups : List ℕ) → KeepsRows (connect plan aim parties groups)
+    unfolding connect
+    connect_rows plan aim parties groups = rows_bind (find_trunk plan groups) _ (find_rows plan groups) (λ idle. try_rows plan aim parties idle)
+
+idle_line_rows : (line : Line) (plan : Tables) (calling : Party) (channel : Option ℕ) → KeepsRows (word_behind (Dial line)) (serve_idle_line plan calling channel)
 unfolding KeepsRows serve_idle_line
-idle_line_rows plan calling (Some channel) = tt
-idle_line_rows plan calling None = connect_rows plan DialTone (alone calling) (register_group plan ∷ [])
+idle_line_rows line plan calling (Some channel) = tt
+idle_line_rows line plan calling None = connect_rows (word_behind (Dial line)) (λ frame. refl) (λ group. refl) plan DialTone (alone calling) (register_group plan ∷ [])
 
-pub dial_rows : (plan : Tables) (line : Line) → IsLine line → KeepsRows (dial_steps plan line)
+pub dial_rows : (plan : Tables) (line : Line) → IsLine line → KeepsRows (word_behind (Dial line)) (dial_steps plan line)
 unfolding KeepsRows dial_steps approach ◌>>=◌
 dial_rows plan line in_range = (
+  refl,
   λ next is value. absurd (omega (arith, is.this, is.channel_range, in_range.switch)),
-  λ word. idle_line_rows plan (record { line = line; word = word }) (field_at_place LineShape word line.x),
+  λ word. idle_line_rows line plan (record { line = line; word = word }) (field_at_place LineShape word line.x),
 )

@@ -1,8 +1,8 @@
-ghost use Rattle.std.specs.Prelude.{◌≡◌, Err, IfSome, IsTrue};
+ghost use Rattle.std.specs.Prelude.{◌≡◌, ◌<◌, Err, IfSome, IsTrue, Some};
 ghost use Rattle.turns.specs.Seen.{AreReadWords};
 ghost use Rattle.turns.specs.declared.wanted.Wanted.TheVariants.{Seize, Test};
 ghost use Rattle.attempts.specs.Points.{GoesOnTo};
-ghost use Rattle.xbar_equip.specs.Conn.{IsConn, conn_eq};
+ghost use Rattle.xbar_equip.specs.Conn.{conn_eq};
 ghost use Rattle.xbar_office.specs.Legal.{IsJob};
 ghost use Rattle.xbar_jobs.specs.Jobs.{TestsRows, script, first_conn as first_conn_of, job_line, word_behind as word_behind_of};
 ghost use Rattle.xbar_jobs.specs.Script.{walk as walk_of};
@@ -59,15 +59,20 @@ pub fn walk(plan: &Plan, gathered: &Gathered, job: &Job) -> Result<Decided, Want
 }
 
 fn word_behind(job: &Job, conn: Conn) -> Option<WordNo>
-    requires { IsConn conn }
-    ensures { result ≡ word_behind_of job.now conn }
+    ensures { IfSome result (λ word. word_behind_of job.now conn ≡ Some word) }
 {
     let Job::Dial(line) = job else {
         return None;
     };
     match conn {
         Conn::Llf(_) => Some(line_switch(line.frame(), line.switch())),
-        Conn::Group(group) => Some(group_word(group)),
+        Conn::Group(group) => {
+            if group < 16 {
+                Some(group_word(group))
+            } else {
+                None
+            }
+        }
         Conn::Tlf(_) => None,
     }
 }
