@@ -11,7 +11,7 @@ use Rattle.turns.specs.declared.phase.Phase.{Phase}
 use Rattle.turns.specs.declared.phase.Phase.TheVariants.{Requests, Seizes, Tests, Turns, Withdraws, GivesBack, Operates}
 use Rattle.turns.specs.declared.wanted.Wanted.{Wanted}
 use Rattle.turns.specs.declared.wanted.Wanted.TheVariants.{Seize, Test}
-use Rattle.attempts.specs.Counting.{Counted, after_answer, after_answers, count_in, counted, fresh}
+use Rattle.attempts.specs.Counting.{CountedOf, after_answer, after_answers, count_in, counted, fresh}
 
 -- while steady answers come, an attempt that has made a step seizes, holds something or has decided
 abbrev HasBegun : {Lock : Type 0} → Phase Lock ℕ → List Lock → Type 0
@@ -87,7 +87,7 @@ module _ (O : System) where
   begun_in a (Operates turn) answer at begun fits steady = subst (λ (phase : Phase Lock ℕ). HasBegun phase a.held) (sym at) tt
 
   -- each steady answer counts one more
-  count_along : (p : Counted O) (answers : List Answer) → HasBegun p.attempt.phase p.attempt.held → AreSteady O p.attempt answers → p.count + length answers < 2 ^ 32 → (after_answers O p answers).count ≡ p.count + length answers
+  count_along : (p : CountedOf O) (answers : List Answer) → HasBegun p.attempt.phase p.attempt.held → AreSteady O p.attempt answers → p.count + length answers < 2 ^ 32 → (after_answers O p answers).count ≡ p.count + length answers
   count_along p [] begun steady below = omega arith
   count_along p (answer ∷ answers) begun (fits, steady, later) below =
       let after : AttemptOf O = change O p.attempt answer in

@@ -1,8 +1,11 @@
 pub mod Points
 pub mod EffectsLeft
-pub mod Idle
+pub mod Inside
+pub mod Ended
 pub mod Places
-pub mod Walking
+pub mod Known
 pub mod Onward
+pub mod Beginning
 pub mod Giving
+pub mod Taken
 pub mod Counts

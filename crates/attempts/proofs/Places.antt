@@ -20,6 +20,7 @@ use Rattle.turns.proofs.Standing.{come_fits, stands_begin, stands_change, stands
 use Rattle.turns.proofs.SteadyAttempts.{job_stays}
 use Rattle.turns.proofs.Words.{read_more}
 use Rattle.attempts.specs.Standing.{AreLocks, AreThere, HasPlace, HasRoom, HasRoomIn}
+use Rattle.attempts.specs.Taken as taken
 
 -- an attempt that has room for what its script wants next has room for what is left then
 pub record RoomAfter (Room : Type 0) (length most : ℕ) : Type 0 where
@@ -28,14 +29,7 @@ pub record RoomAfter (Room : Type 0) (length most : ℕ) : Type 0 where
 
 -- a value that was tested fits a word
 abbrev pub FitsValue : Answer → Type 0
-FitsValue (Asked word) = ⊤
-FitsValue Seized = ⊤
-FitsValue (Held holder) = ⊤
-FitsValue (Preferred other) = ⊤
-FitsValue (Again word) = ⊤
-FitsValue (Value value) = value < 2 ^ 64
-FitsValue (Turn number) = ⊤
-FitsValue Done = ⊤
+FitsValue answer = taken.FitsValue answer
 
 none_read : AreReadWords []
 none_read = λ r none. absurd none

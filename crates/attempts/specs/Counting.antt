@@ -1,5 +1,5 @@
 use Rattle.std.specs.Prelude.{ℕ, ◌+◌, ◌-◌, ◌^◌, ◌==◌, Bool, false, List, [], ◌∷◌, length, if◌then◌else◌}
-use Rattle.turns.specs.Attempt.{AttemptOf, begin, change}
+use Rattle.turns.specs.Attempt.{Attempt, begin, change}
 use Rattle.turns.specs.System.{System}
 use Rattle.turns.specs.declared.answer.Answer.{Answer}
 use Rattle.turns.specs.declared.phase.Phase.{Phase}
@@ -23,23 +23,28 @@ has_made_none (Operates turn) held = false
 abbrev pub count_in : {Lock : Type 0} → Phase Lock ℕ → List Lock → ℕ → ℕ
 count_in phase held count = if has_made_none phase held then 0 else count
 
+-- an attempt, and how many steps it took so far
+pub record Counted (Lock Job Reply Effect : Type 0) : Type 0 where
+  pub attempt : Attempt Lock Job Reply Effect
+  pub count : ℕ
+
+-- an attempt that took so many steps to come to this
+abbrev pub with_count : {Lock Job Reply Effect : Type 0} → ℕ → Attempt Lock Job Reply Effect → Counted Lock Job Reply Effect
+with_count count a = record { attempt = a; count = count_in a.phase a.held count }
+
 module _ (O : System) where
-  -- an attempt, and how many steps it took so far
-  pub record Counted : Type 0 where
-    pub attempt : AttemptOf O
-    pub count : ℕ
+  abbrev pub CountedOf : Type 0
+  CountedOf = Counted O.Lock O.Job O.Reply O.Effect
 
   -- one that has made no step
-  abbrev pub fresh : O.Job → Counted
+  abbrev pub fresh : O.Job → CountedOf
   fresh job = record { attempt = begin O job; count = 0 }
 
   -- after an answer to its next step
-  abbrev pub after_answer : Counted → Answer → Counted
-  after_answer p answer =
-      let after : AttemptOf O = change O p.attempt answer in
-      record { attempt = after; count = count_in after.phase after.held (counted p.count) }
+  abbrev pub after_answer : CountedOf → Answer → CountedOf
+  after_answer p answer = with_count (counted p.count) (change O p.attempt answer)
 
   -- and after answers one after another, each to the step that is next then
-  abbrev pub after_answers : Counted → List Answer → Counted
+  abbrev pub after_answers : CountedOf → List Answer → CountedOf
   after_answers p [] = p
   after_answers p (answer ∷ answers) = after_answers (after_answer p answer) answers

@@ -1,15 +1,15 @@
 use Rattle.std.specs.Prelude.{◌<◌, ◌-◌, ℕ, Bool, Option, Some, None, List, [], drop, length, option_map, ⊤}
 use Rattle.turns.specs.Among.{IsIn}
 use Rattle.turns.specs.Attempt as generic
-use Rattle.turns.specs.Script.{Script, AsksAtMost, left}
+use Rattle.turns.specs.Script.{AsksAtMost, left}
 use Rattle.turns.specs.Seen.{Seen, AreReadWords}
-use Rattle.turns.specs.System.{System}
+use Rattle.turns.specs.System.{System, IsSystem}
 use Rattle.turns.specs.declared.phase.Phase.{Phase}
 use Rattle.turns.specs.declared.phase.Phase.TheVariants.{Requests, Seizes, Tests, Turns, Withdraws, GivesBack, Operates}
 use Rattle.turns.specs.declared.reading.Reading.{Reading}
 use Rattle.turns.specs.declared.wanted.Wanted.{Wanted}
 use Rattle.turns.specs.declared.wanted.Wanted.TheVariants.{Seize, Test}
-use Rattle.attempts.specs.Points.{GoesTo}
+use Rattle.attempts.specs.Points.{Extends}
 use Rattle.attempts.specs.SystemWith.{SystemWith, system_with}
 
 -- what an attempt is at run time
@@ -29,25 +29,6 @@ pub record Program (Lock Job Decision Point : Type 0) : Type 0 where
 abbrev pub wanted_phase : {Lock : Type 0} → Wanted Lock ℕ → Phase Lock ℕ
 wanted_phase (Seize lock) = Requests lock
 wanted_phase (Test word) = Tests word
-
--- its phase is another than this
-abbrev pub NotSeizing : {Lock : Type 0} → Phase Lock ℕ → Type 0
-NotSeizing (Requests lock) = ⊤
-NotSeizing (Seizes lock expected) = ⊥
-NotSeizing (Tests word) = ⊤
-NotSeizing Turns = ⊤
-NotSeizing (Withdraws lock) = ⊤
-NotSeizing GivesBack = ⊤
-NotSeizing (Operates turn) = ⊤
-
-abbrev pub NotTesting : {Lock : Type 0} → Phase Lock ℕ → Type 0
-NotTesting (Requests lock) = ⊤
-NotTesting (Seizes lock expected) = ⊤
-NotTesting (Tests word) = ⊥
-NotTesting Turns = ⊤
-NotTesting (Withdraws lock) = ⊤
-NotTesting GivesBack = ⊤
-NotTesting (Operates turn) = ⊤
 
 -- the effects that are still to be made
 abbrev pub effects_left : {Decision Effect : Type 0} → (Decision → List Effect) → Option Decision → ℕ → List Effect
@@ -98,30 +79,30 @@ module _ (O : System) (most_readings most_held : ℕ) where
     pub read : AreReadWords a.readings
     pub effects : AreThere a.effects
 
--- a way point stands where what is left from it on is what is left of the script
-module _ (O : System) {Point : Type 0} (rest : O.Job → Point → Script O.Lock O.Decision) where
-  open O use {Lock}
+-- what a point says matters only as long as the attempt goes through its script
+abbrev pub KnowsIn : {Lock Job Reply Effect Point : Type 0} → (Job → Point → Seen Lock → Type 0) → generic.Attempt Lock Job Reply Effect → Point → Phase Lock ℕ → Type 0
+KnowsIn Knows a point (Requests lock) = Knows a.job point (generic.seen_of a)
+KnowsIn Knows a point (Seizes lock expected) = Knows a.job point (generic.seen_of a)
+KnowsIn Knows a point (Tests word) = Knows a.job point (generic.seen_of a)
+KnowsIn Knows a point Turns = ⊤
+KnowsIn Knows a point (Withdraws lock) = ⊤
+KnowsIn Knows a point GivesBack = ⊤
+KnowsIn Knows a point (Operates turn) = ⊤
 
-  pub record PointStands (job : O.Job) (seen : Seen Lock) (point : Point) : Type 0 where
-    pub goes : GoesTo O.same seen (O.script job) (rest job point)
-
-  -- it matters only as long as the attempt goes through its script
-  abbrev pub PointStandsIn : generic.AttemptOf O → Point → Phase Lock ℕ → Type 0
-  PointStandsIn a point (Requests lock) = PointStands a.job (generic.seen_of a) point
-  PointStandsIn a point (Seizes lock expected) = PointStands a.job (generic.seen_of a) point
-  PointStandsIn a point (Tests word) = PointStands a.job (generic.seen_of a) point
-  PointStandsIn a point Turns = ⊤
-  PointStandsIn a point (Withdraws lock) = ⊤
-  PointStandsIn a point GivesBack = ⊤
-  PointStandsIn a point (Operates turn) = ⊤
-
-module _ {Lock Job Reply Effect Decision Point : Type 0} (same : Lock → Lock → Bool) (reply_of : Decision → Reply) (effects_of : Decision → List Effect) (S : SystemWith Lock Job Reply Effect Decision) (rest : Job → Point → Script Lock Decision) where
-  -- an attempt stands where its job brings it, and so does its way point
+module _ {Lock Job Reply Effect Decision Point : Type 0} (same : Lock → Lock → Bool) (reply_of : Decision → Reply) (effects_of : Decision → List Effect) (S : SystemWith Lock Job Reply Effect Decision) (Knows : Job → Point → Seen Lock → Type 0) where
+  -- an attempt stands where its job brings it, and what its point says is so
   pub record Stands (most_readings most_held : ℕ) (p : Program Lock Job Decision Point) : Type 0 where
     pub place : HasPlace (system_with same reply_of effects_of S) most_readings most_held (attempt_of reply_of effects_of p)
-    pub point : PointStandsIn (system_with same reply_of effects_of S) rest (attempt_of reply_of effects_of p) p.point p.phase
+    pub point : KnowsIn Knows (attempt_of reply_of effects_of p) p.point p.phase
 
-  -- it may go on from its way point
+  -- it may go on with what its point says
   pub record CanWalk (p : Program Lock Job Decision Point) : Type 0 where
     pub job : S.IsJob p.job
-    pub point : PointStands (system_with same reply_of effects_of S) rest p.job (generic.seen_of (attempt_of reply_of effects_of p)) p.point
+    pub read : AreReadWords p.readings
+    pub knows : Knows p.job p.point (generic.seen_of (attempt_of reply_of effects_of p))
+
+  -- the jobs are a system, none asks for more than there is room for, and what a point says stays so with more that is come by
+  pub record AreScripts (most_readings most_held : ℕ) : Type 0 where
+    pub is_system : IsSystem (system_with same reply_of effects_of S)
+    pub asks : (job : Job) → S.IsJob job → AsksAtMost most_readings most_held (S.script job)
+    pub knows_on : (job : Job) (point : Point) (seen more : Seen Lock) → Extends same seen more → Knows job point seen → Knows job point more

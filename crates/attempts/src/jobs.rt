@@ -1,5 +1,5 @@
 use crate::attempt::AttemptOf;
-use crate::scripts::Scripts;
+use crate::scripts::OnWords;
 use crate::showing::{is_done, next, outcome};
 use crate::starting::{begin, restart};
 use crate::step::{answer, operation, place};
@@ -14,7 +14,7 @@ pub struct Attempts<S, const READINGS: usize, const HELD: usize> {
     of: PhantomData<S>,
 }
 
-impl<S: Scripts<READINGS, HELD>, const READINGS: usize, const HELD: usize> Jobs
+impl<S: OnWords<READINGS, HELD>, const READINGS: usize, const HELD: usize> Jobs
     for Attempts<S, READINGS, HELD> {
     ghost use Rattle.attempts.specs.Standing.{Stands, attempt_of};
     ghost use Rattle.attempts.specs.SystemWith.{over_with};
@@ -42,7 +42,7 @@ impl<S: Scripts<READINGS, HELD>, const READINGS: usize, const HELD: usize> Jobs
     ghost attempt = { λ program. attempt_of S.reply_of S.effects_of program };
 
     ghost Stands = { λ setting program. S.IsSetting setting
-        × Stands S.Lock.eq S.reply_of S.effects_of (S.system setting) (S.rest setting) READINGS
+        × Stands S.Lock.eq S.reply_of S.effects_of (S.system setting) (S.Knows setting) READINGS
         HELD program };
 
     fn keep(setting: &S::Setting) -> S::Kept {
@@ -101,9 +101,9 @@ impl<S: Scripts<READINGS, HELD>, const READINGS: usize, const HELD: usize> Jobs
         told
     }
 
-    fn restart(setting: &S::Setting, program: &mut AttemptOf<S, READINGS, HELD>) {
-        restart::<S, READINGS, HELD>(program, setting);
+    fn restart(_setting: &S::Setting, program: &mut AttemptOf<S, READINGS, HELD>) {
+        restart::<S, READINGS, HELD>(program);
     }
 
-    ghost is_system = { S.is_system };
+    ghost is_system = { λ setting right. (S.are_scripts setting right).is_system };
 }

@@ -5,6 +5,7 @@ ghost use Rattle.turns.specs.Attempt.{begin};
 ghost use Rattle.turns.specs.Bounds.{AreSteady, EndsIn};
 ghost use Rattle.turns.specs.declared.answer.Answer.{Answer};
 ghost use Rattle.attempts.specs.Counting.{after_answers, fresh};
+ghost use Rattle.attempts.specs.Standing.{AreScripts};
 ghost use Rattle.attempts.specs.SystemWith.{system_with};
 
 use crate::scripts::Scripts;
@@ -20,7 +21,8 @@ pub fn steady_attempts_are_short<
 >()
     ensures short { (setting : S.Setting) (effects : ℕ) (job : S.Job) (answers : List Answer) →
         let O = system_with S.Lock.eq S.reply_of S.effects_of (S.system setting) in
-        S.IsSetting setting
+        AreScripts S.Lock.eq S.reply_of S.effects_of (S.system setting) (S.Knows setting) READINGS
+        HELD
         → ((other : S.Job) → O.IsJob other
         → EndsIn (λ decision. length (S.effects_of decision) ≤ effects) (O.script other))
         → O.IsJob job → AreSteady O (begin O job) answers

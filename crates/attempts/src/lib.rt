@@ -3,7 +3,7 @@
 
 pub use attempt::{Attempt, AttemptOf};
 pub use jobs::Attempts;
-pub use scripts::Scripts;
+pub use scripts::{OnWords, Scripts};
 pub use seen::Seen;
 pub use showing::{is_done, next, outcome};
 pub use starting::{begin, restart};

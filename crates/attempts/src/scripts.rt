@@ -8,19 +8,15 @@ use turns::{Operation, Wanted};
 /// locks.
 ///
 /// A script is written as a walk: straight code that asks `Seen` for each lock and each word, and
-/// leaves by `?` where it lacks one. An attempt walks again with each thing that it comes by. Where
-/// a walk sets its point further on, the next one goes on from there.
+/// leaves by `?` where it lacks one. An attempt walks again with each thing that it comes by. What
+/// a walk has made of what was read it may keep in its point, and the next one has it from there.
 pub trait Scripts<const READINGS: usize, const HELD: usize> {
-    ghost use Rattle.turns.specs.Script.{AsksAtMost, Script, walk};
-    ghost use Rattle.turns.specs.System.{IsSystem};
-    ghost use Rattle.attempts.specs.Points.{GoesTo};
-    ghost use Rattle.attempts.specs.SystemWith.{SystemWith, system_with};
+    ghost use Rattle.turns.specs.Script.{walk};
+    ghost use Rattle.turns.specs.Seen.{AreReadWords, Seen as WhatIsSeen};
+    ghost use Rattle.attempts.specs.SystemWith.{SystemWith};
 
     /// What tells the systems of a family apart, as a plan.
     type Setting;
-
-    /// What a desk keeps of its setting.
-    type Kept: Drop;
 
     type Lock: Copy + Default + PartialEq + Drop;
 
@@ -32,11 +28,8 @@ pub trait Scripts<const READINGS: usize, const HELD: usize> {
 
     type Decision: Drop;
 
-    /// What a walk has found so far, for the next one to go on with. Where walks always begin anew
-    /// it is `()`.
+    /// What walks have found so far. Where they always begin anew it is `()`.
     type Point: Drop;
-
-    ghost kept: { Self.Kept → Self.Setting };
 
     ghost system: { Self.Setting
         → SystemWith Self.Lock Self.Job Self.Reply Self.Effect Self.Decision };
@@ -47,23 +40,20 @@ pub trait Scripts<const READINGS: usize, const HELD: usize> {
 
     ghost IsSetting: { Self.Setting → Type 0 };
 
-    // What is left of a job's script from a point on.
-    ghost rest: { Self.Setting → Self.Job → Self.Point → Script Self.Lock Self.Decision };
-
-    fn keep(setting: &Self::Setting) -> Self::Kept
-        ensures { kept result ≡ setting.now };
+    // What a job's point says is so by what its attempt has come by.
+    ghost Knows: { Self.Setting → Self.Job → Self.Point → WhatIsSeen Self.Lock → Type 0 };
 
     /// The lock that a job seizes first, whatever the setting.
     fn first(job: &Self::Job) -> Self::Lock
         ensures { (setting : Self.Setting) → result ≡ (system setting).first job.now };
 
-    /// The point from which all of a job's script is left, whatever the setting.
+    /// The point of a job that has found nothing yet, whatever the setting.
     fn start(job: &Self::Job) -> Self::Point
-        ensures { (setting : Self.Setting)
-            → rest setting job.now result ≡ (system setting).script job.now };
+        ensures { (setting : Self.Setting) (seen : WhatIsSeen Self.Lock)
+            → Knows setting job.now result seen };
 
-    /// Goes through a job from a point on, by what an attempt has come by: to its decision, or to
-    /// what it wants first.
+    /// Goes through a job by what an attempt has come by: to its decision, or to what it wants
+    /// first.
     fn walk(
         setting: &Self::Setting,
         job: &Self::Job,
@@ -72,9 +62,10 @@ pub trait Scripts<const READINGS: usize, const HELD: usize> {
     ) -> Result<Self::Decision, Wanted<Self::Lock, usize>>
         requires setting { IsSetting setting.now }
         requires job { (system setting.now).IsJob job.now }
-        ensures walk { result ≡ walk Self.Lock.eq seen.now (rest setting.now job.now point.old) }
-        ensures point { GoesTo Self.Lock.eq seen.now (rest setting.now job.now point.old)
-            (rest setting.now job.now point.new) };
+        requires read { AreReadWords seen.now.readings }
+        requires knows { Knows setting.now job.now point.old seen.now }
+        ensures walk { result ≡ walk Self.Lock.eq seen.now ((system setting.now).script job.now) }
+        ensures knows { Knows setting.now job.now point.new seen.now };
 
     fn reply(decision: &Self::Decision) -> Self::Reply
         ensures { result ≡ reply_of decision.now };
@@ -83,32 +74,43 @@ pub trait Scripts<const READINGS: usize, const HELD: usize> {
     fn effect(decision: &Self::Decision, place: usize) -> Option<Self::Effect>
         ensures effect { result ≡ slice_get (effects_of decision.now) place }
         ensures more { IfSome result (λ effect. place + 1 < 2 ^ 64) };
+}
+
+/// Such jobs on words that actors share: they are a system, with room for what they ask for.
+pub trait OnWords<const READINGS: usize, const HELD: usize>: Scripts<READINGS, HELD> {
+    ghost use Rattle.attempts.specs.Standing.{AreScripts};
+
+    /// What a desk keeps of its setting.
+    type Kept: Drop;
+
+    ghost kept: { Self.Kept → Self.Setting };
+
+    fn keep(setting: &Self::Setting) -> Self::Kept
+        ensures { kept result ≡ setting.now };
 
     fn effect_word(setting: &Self::Setting, effect: Self::Effect) -> usize
-        ensures { result ≡ (system setting.now).effect_word effect };
+        ensures { result ≡ (Self.system setting.now).effect_word effect };
 
     fn effect_operation(setting: &Self::Setting, effect: Self::Effect) -> Operation
-        ensures { result ≡ (system setting.now).operation_of effect };
+        ensures { result ≡ (Self.system setting.now).operation_of effect };
 
     /// How many words there are.
     fn size(setting: &Self::Setting) -> usize
-        ensures { result ≡ (system setting.now).size };
+        ensures { result ≡ (Self.system setting.now).size };
 
     /// The words that it opens on.
     fn initial(alloc: Global, setting: &Self::Setting) -> Result<Vec<u64>, AllocError>
-        ensures { IfOk result (λ words. words.items ≡ (system setting.now).initial) };
+        ensures { IfOk result (λ words. words.items ≡ (Self.system setting.now).initial) };
 
     /// The number of the word that counts turns.
     fn turn_word(setting: &Self::Setting) -> usize
-        ensures { result ≡ (system setting.now).turn_word };
+        ensures { result ≡ (Self.system setting.now).turn_word };
 
     /// The number of a lock's own word.
     fn lock_word(setting: &Self::Setting, lock: Self::Lock) -> usize
-        ensures { result ≡ (system setting.now).lock_word lock };
+        ensures { result ≡ (Self.system setting.now).lock_word lock };
 
-    ghost is_system: { (setting : Self.Setting) → IsSetting setting
-        → IsSystem (system_with Self.Lock.eq reply_of effects_of (system setting)) };
-
-    ghost asks: { (setting : Self.Setting) (job : Self.Job) → IsSetting setting
-        → (system setting).IsJob job → AsksAtMost READINGS HELD ((system setting).script job) };
+    ghost are_scripts: { (setting : Self.Setting) → Self.IsSetting setting
+        → AreScripts Self.Lock.eq Self.reply_of Self.effects_of (Self.system setting)
+        (Self.Knows setting) READINGS HELD };
 }

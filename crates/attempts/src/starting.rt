@@ -1,9 +1,10 @@
 //! What an attempt begins with, and comes back to.
 
 ghost use Rattle.std.specs.Prelude.{◌≡◌};
-ghost use Rattle.turns.specs.Attempt.{begin as begin_of, forgotten, freed, restarted, seen_of};
+ghost use Rattle.turns.specs.Attempt.{begin as begin_of, forgotten, freed, restarted};
+ghost use Rattle.turns.specs.Seen.{Seen};
 ghost use Rattle.attempts.specs.Counting.{count_in};
-ghost use Rattle.attempts.specs.Standing.{PointStands, PointStandsIn, Stands, attempt_of};
+ghost use Rattle.attempts.specs.Standing.{AreScripts, KnowsIn, Stands, attempt_of};
 ghost use Rattle.attempts.specs.SystemWith.{system_with};
 
 use crate::attempt::{Attempt, AttemptOf};
@@ -11,7 +12,6 @@ use crate::scripts::Scripts;
 use turns::Phase;
 
 /// An attempt that has made no step, whatever the setting will be.
-#[tactic(auto, using(crate::proofs::Walking::stands_start))]
 pub fn begin<S: Scripts<READINGS, HELD>, const READINGS: usize, const HELD: usize>(
     job: S::Job,
 ) -> AttemptOf<S, READINGS, HELD>
@@ -19,26 +19,27 @@ pub fn begin<S: Scripts<READINGS, HELD>, const READINGS: usize, const HELD: usiz
         attempt_of S.reply_of S.effects_of result
         ≡ begin_of (system_with S.Lock.eq S.reply_of S.effects_of (S.system setting)) job }
     ensures count { result.count ≡ 0 }
-    ensures stands { (setting : S.Setting) → S.IsSetting setting → (S.system setting).IsJob job →
-        Stands S.Lock.eq S.reply_of S.effects_of (S.system setting) (S.rest setting) READINGS HELD
+    ensures stands { (setting : S.Setting) →
+        AreScripts S.Lock.eq S.reply_of S.effects_of (S.system setting) (S.Knows setting) READINGS
+        HELD → (S.system setting).IsJob job →
+        Stands S.Lock.eq S.reply_of S.effects_of (S.system setting) (S.Knows setting) READINGS HELD
         result }
+    ensures point { (setting : S.Setting) (seen : Seen S.Lock) →
+        S.Knows setting job result.point seen }
 {
     let lock = S::first(&job);
     let point = S::start(&job);
     Attempt::new(job, lock, point)
 }
 
-#[tactic(auto, using(crate::proofs::Walking::stands_start))]
 fn begin_again<S: Scripts<READINGS, HELD>, const READINGS: usize, const HELD: usize>(
     program: &mut AttemptOf<S, READINGS, HELD>,
-    _setting: &S::Setting,
 )
-    ensures begins { let O = system_with S.Lock.eq S.reply_of S.effects_of (S.system _setting.now) in
-        attempt_of S.reply_of S.effects_of program.new
-        ≡ begin_of O program.old.job }
-    ensures point { let O = system_with S.Lock.eq S.reply_of S.effects_of (S.system _setting.now) in
-        PointStands O (S.rest _setting.now) program.new.job
-        (seen_of (attempt_of S.reply_of S.effects_of program.new)) program.new.point }
+    ensures begins { (setting : S.Setting) →
+        let O = system_with S.Lock.eq S.reply_of S.effects_of (S.system setting) in
+        attempt_of S.reply_of S.effects_of program.new ≡ begin_of O program.old.job }
+    ensures point { (setting : S.Setting) (seen : Seen S.Lock) →
+        S.Knows setting program.new.job program.new.point seen }
     ensures count { program.new.count ≡ program.old.count }
 {
     let lock = S::first(&program.job);
@@ -49,18 +50,18 @@ fn begin_again<S: Scripts<READINGS, HELD>, const READINGS: usize, const HELD: us
 /// Goes on to free what is held, or to begin anew.
 pub(crate) fn give_back<S: Scripts<READINGS, HELD>, const READINGS: usize, const HELD: usize>(
     program: &mut AttemptOf<S, READINGS, HELD>,
-    setting: &S::Setting,
 )
-    ensures frees { let O = system_with S.Lock.eq S.reply_of S.effects_of (S.system setting.now) in
+    ensures frees { (setting : S.Setting) →
+        let O = system_with S.Lock.eq S.reply_of S.effects_of (S.system setting) in
         attempt_of S.reply_of S.effects_of program.new
         ≡ freed O (attempt_of S.reply_of S.effects_of program.old) program.old.held }
-    ensures point { let O = system_with S.Lock.eq S.reply_of S.effects_of (S.system setting.now) in
-        PointStandsIn O (S.rest setting.now) (attempt_of S.reply_of S.effects_of program.new)
+    ensures point { (setting : S.Setting) →
+        KnowsIn (S.Knows setting) (attempt_of S.reply_of S.effects_of program.new)
         program.new.point program.new.phase }
     ensures count { program.new.count ≡ program.old.count }
 {
     if program.held.is_empty() {
-        begin_again::<S, READINGS, HELD>(program, setting);
+        begin_again::<S, READINGS, HELD>(program);
     } else {
         program.phase = Phase::GivesBack;
     }
@@ -69,42 +70,37 @@ pub(crate) fn give_back<S: Scripts<READINGS, HELD>, const READINGS: usize, const
 /// Gives up before the turn.
 fn give_up<S: Scripts<READINGS, HELD>, const READINGS: usize, const HELD: usize>(
     program: &mut AttemptOf<S, READINGS, HELD>,
-    setting: &S::Setting,
 )
-    ensures frees { let O = system_with S.Lock.eq S.reply_of S.effects_of (S.system setting.now) in
+    ensures frees { (setting : S.Setting) →
+        let O = system_with S.Lock.eq S.reply_of S.effects_of (S.system setting) in
         attempt_of S.reply_of S.effects_of program.new
         ≡ freed O (forgotten (attempt_of S.reply_of S.effects_of program.old)) program.old.held }
-    ensures point { let O = system_with S.Lock.eq S.reply_of S.effects_of (S.system setting.now) in
-        PointStandsIn O (S.rest setting.now) (attempt_of S.reply_of S.effects_of program.new)
+    ensures point { (setting : S.Setting) →
+        KnowsIn (S.Knows setting) (attempt_of S.reply_of S.effects_of program.new)
         program.new.point program.new.phase }
     ensures count { program.new.count ≡ program.old.count }
 {
-    if program.held.is_empty() {
-        begin_again::<S, READINGS, HELD>(program, setting);
-    } else {
-        program.phase = Phase::GivesBack;
-        program.forget();
-    }
+    program.forget();
+    give_back::<S, READINGS, HELD>(program);
 }
 
+/// Begins anew, once all that is held is given back. Past the turn nothing changes.
 fn go_back<S: Scripts<READINGS, HELD>, const READINGS: usize, const HELD: usize>(
     program: &mut AttemptOf<S, READINGS, HELD>,
-    setting: &S::Setting,
 )
-    requires stands { Stands S.Lock.eq S.reply_of S.effects_of (S.system setting.now)
-        (S.rest setting.now) READINGS HELD program.old }
-    ensures restarts { let O = system_with S.Lock.eq S.reply_of S.effects_of (S.system setting.now) in
+    ensures restarts { (setting : S.Setting) →
+        let O = system_with S.Lock.eq S.reply_of S.effects_of (S.system setting) in
         attempt_of S.reply_of S.effects_of program.new
         ≡ restarted O (attempt_of S.reply_of S.effects_of program.old) }
-    ensures point { let O = system_with S.Lock.eq S.reply_of S.effects_of (S.system setting.now) in
-        PointStandsIn O (S.rest setting.now) (attempt_of S.reply_of S.effects_of program.new)
-        program.new.point program.new.phase }
+    ensures point { (setting : S.Setting) →
+        KnowsIn (S.Knows setting) (attempt_of S.reply_of S.effects_of program.old) program.old.point program.old.phase →
+        KnowsIn (S.Knows setting) (attempt_of S.reply_of S.effects_of program.new) program.new.point program.new.phase }
     ensures count { program.new.count ≡ program.old.count }
 {
     let phase = program.phase;
     match phase {
         Phase::Requests(_) | Phase::Tests(_) | Phase::Turns => {
-            give_up::<S, READINGS, HELD>(program, setting);
+            give_up::<S, READINGS, HELD>(program);
         }
         Phase::Seizes(lock, _) => program.put_off(lock),
         Phase::Withdraws(_) | Phase::GivesBack | Phase::Operates(_) => {}
@@ -114,19 +110,24 @@ fn go_back<S: Scripts<READINGS, HELD>, const READINGS: usize, const HELD: usize>
 /// Begins anew, once all that is held is given back. Past the turn nothing changes.
 pub fn restart<S: Scripts<READINGS, HELD>, const READINGS: usize, const HELD: usize>(
     program: &mut AttemptOf<S, READINGS, HELD>,
-    setting: &S::Setting,
 )
-    requires setting { S.IsSetting setting.now }
-    requires stands { Stands S.Lock.eq S.reply_of S.effects_of (S.system setting.now)
-        (S.rest setting.now) READINGS HELD program.old }
-    ensures restarts { let O = system_with S.Lock.eq S.reply_of S.effects_of (S.system setting.now) in
+    ensures restarts { (setting : S.Setting) →
+        let O = system_with S.Lock.eq S.reply_of S.effects_of (S.system setting) in
         attempt_of S.reply_of S.effects_of program.new
         ≡ restarted O (attempt_of S.reply_of S.effects_of program.old) }
     ensures count { program.new.count
         ≡ count_in program.new.phase program.new.held program.old.count }
-    ensures stands { Stands S.Lock.eq S.reply_of S.effects_of (S.system setting.now)
-        (S.rest setting.now) READINGS HELD program.new }
+    ensures point { (setting : S.Setting) →
+        KnowsIn (S.Knows setting) (attempt_of S.reply_of S.effects_of program.old) program.old.point program.old.phase →
+        KnowsIn (S.Knows setting) (attempt_of S.reply_of S.effects_of program.new) program.new.point program.new.phase }
+    ensures stands { (setting : S.Setting) →
+        AreScripts S.Lock.eq S.reply_of S.effects_of (S.system setting) (S.Knows setting) READINGS
+        HELD →
+        Stands S.Lock.eq S.reply_of S.effects_of (S.system setting) (S.Knows setting) READINGS HELD
+        program.old →
+        Stands S.Lock.eq S.reply_of S.effects_of (S.system setting) (S.Knows setting) READINGS HELD
+        program.new }
 {
-    go_back::<S, READINGS, HELD>(program, setting);
+    go_back::<S, READINGS, HELD>(program);
     program.count_beginning();
 }

@@ -6,7 +6,7 @@ ghost use Rattle.turns.specs.World.{operation as operation_of, place as place_of
 ghost use Rattle.attempts.specs.Steps.{act_of};
 ghost use Rattle.attempts.specs.SystemWith.{system_with};
 
-use crate::scripts::Scripts;
+use crate::scripts::{OnWords, Scripts};
 use turns::lock_word::{asked_by, request_bit, taken_by};
 use turns::{Answer, Judgement, Operation};
 
@@ -37,7 +37,7 @@ fn tell(answer: Answer, judgement: Judgement) -> Answer
 }
 
 /// The number of the word that a step is made on.
-pub fn place<S: Scripts<READINGS, HELD>, const READINGS: usize, const HELD: usize>(
+pub fn place<S: OnWords<READINGS, HELD>, const READINGS: usize, const HELD: usize>(
     setting: &S::Setting,
     step: Step<S::Lock, S::Effect>,
 ) -> usize
@@ -57,7 +57,7 @@ pub fn place<S: Scripts<READINGS, HELD>, const READINGS: usize, const HELD: usiz
 }
 
 /// The operation by which an actor makes a step on its word.
-pub fn operation<S: Scripts<READINGS, HELD>, const READINGS: usize, const HELD: usize>(
+pub fn operation<S: OnWords<READINGS, HELD>, const READINGS: usize, const HELD: usize>(
     setting: &S::Setting,
     actor: u32,
     step: Step<S::Lock, S::Effect>,

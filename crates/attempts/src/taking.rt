@@ -1,10 +1,11 @@
 //! What an attempt makes of the answer to its next step.
 
-ghost use Rattle.std.specs.Prelude.{◌≡◌, ◌<◌, ◌^◌, ℕ};
-ghost use Rattle.turns.specs.Attempt.{change, changed, freed, operated, rest_of, walks_on};
+ghost use Rattle.std.specs.Prelude.{◌≡◌, ℕ};
+ghost use Rattle.turns.specs.Attempt.{change, freed, operated, rest_of};
 ghost use Rattle.attempts.specs.Counting.{count_in, counted};
-ghost use Rattle.attempts.specs.Standing.{CanWalk, PointStandsIn, Stands, attempt_of};
+ghost use Rattle.attempts.specs.Standing.{AreScripts, KnowsIn, Stands, attempt_of};
 ghost use Rattle.attempts.specs.SystemWith.{system_with};
+ghost use Rattle.attempts.specs.Taken.{Takes};
 
 use crate::attempt::AttemptOf;
 use crate::scripts::Scripts;
@@ -13,29 +14,6 @@ use crate::showing::next_effect;
 use crate::starting::give_back;
 use turns::{Answer, Phase, Reading};
 
-/// Goes on through the job from where it stands, as far as it goes.
-fn walk_on<S: Scripts<READINGS, HELD>, const READINGS: usize, const HELD: usize>(
-    program: &mut AttemptOf<S, READINGS, HELD>,
-    setting: &S::Setting,
-)
-    requires setting { S.IsSetting setting.now }
-    requires walk { CanWalk S.Lock.eq S.reply_of S.effects_of (S.system setting.now)
-        (S.rest setting.now) program.old }
-    ensures walk { let O = system_with S.Lock.eq S.reply_of S.effects_of (S.system setting.now) in
-        attempt_of S.reply_of S.effects_of program.new
-        ≡ walks_on O (attempt_of S.reply_of S.effects_of program.old) }
-    ensures point { let O = system_with S.Lock.eq S.reply_of S.effects_of (S.system setting.now) in
-        PointStandsIn O (S.rest setting.now) (attempt_of S.reply_of S.effects_of program.new)
-        program.new.point program.new.phase }
-    ensures count { program.new.count ≡ program.old.count }
-{
-    let seen = Seen::new(program.held.as_slice(), program.readings.as_slice());
-    match S::walk(setting, &program.job, &mut program.point, &seen) {
-        Ok(decision) => program.decide(decision),
-        Err(wanted) => program.want(wanted),
-    }
-}
-
 /// Its request stands.
 fn take_request<S: Scripts<READINGS, HELD>, const READINGS: usize, const HELD: usize>(
     program: &mut AttemptOf<S, READINGS, HELD>,
@@ -43,25 +21,13 @@ fn take_request<S: Scripts<READINGS, HELD>, const READINGS: usize, const HELD: u
     word: u64,
 )
     requires stands { Stands S.Lock.eq S.reply_of S.effects_of (S.system setting.now)
-        (S.rest setting.now) READINGS HELD program.old }
-    ensures change { let O = system_with S.Lock.eq S.reply_of S.effects_of (S.system setting.now) in
-        attempt_of S.reply_of S.effects_of program.new
-        ≡ changed O (attempt_of S.reply_of S.effects_of program.old)
-        program.old.phase (Answer.Asked word) }
-    ensures point { let O = system_with S.Lock.eq S.reply_of S.effects_of (S.system setting.now) in
-        PointStandsIn O (S.rest setting.now) (attempt_of S.reply_of S.effects_of program.new)
-        program.new.point program.new.phase }
-    ensures count { program.new.count ≡ program.old.count }
+        (S.Knows setting.now) READINGS HELD program.old }
+    ensures { Takes S.Lock.eq S.reply_of S.effects_of (S.system setting.now) (S.Knows setting.now)
+        (Answer.Asked word) program.old program.new }
 {
     let phase = program.phase;
-    match phase {
-        Phase::Requests(lock) => program.phase = Phase::Seizes(lock, word),
-        Phase::Seizes(_, _)
-        | Phase::Tests(_)
-        | Phase::Turns
-        | Phase::Withdraws(_)
-        | Phase::GivesBack
-        | Phase::Operates(_) => {}
+    if let Phase::Requests(lock) = phase {
+        program.phase = Phase::Seizes(lock, word);
     }
 }
 
@@ -72,25 +38,13 @@ fn take_again<S: Scripts<READINGS, HELD>, const READINGS: usize, const HELD: usi
     word: u64,
 )
     requires stands { Stands S.Lock.eq S.reply_of S.effects_of (S.system setting.now)
-        (S.rest setting.now) READINGS HELD program.old }
-    ensures change { let O = system_with S.Lock.eq S.reply_of S.effects_of (S.system setting.now) in
-        attempt_of S.reply_of S.effects_of program.new
-        ≡ changed O (attempt_of S.reply_of S.effects_of program.old)
-        program.old.phase (Answer.Again word) }
-    ensures point { let O = system_with S.Lock.eq S.reply_of S.effects_of (S.system setting.now) in
-        PointStandsIn O (S.rest setting.now) (attempt_of S.reply_of S.effects_of program.new)
-        program.new.point program.new.phase }
-    ensures count { program.new.count ≡ program.old.count }
+        (S.Knows setting.now) READINGS HELD program.old }
+    ensures { Takes S.Lock.eq S.reply_of S.effects_of (S.system setting.now) (S.Knows setting.now)
+        (Answer.Again word) program.old program.new }
 {
     let phase = program.phase;
-    match phase {
-        Phase::Seizes(lock, _) => program.phase = Phase::Seizes(lock, word),
-        Phase::Requests(_)
-        | Phase::Tests(_)
-        | Phase::Turns
-        | Phase::Withdraws(_)
-        | Phase::GivesBack
-        | Phase::Operates(_) => {}
+    if let Phase::Seizes(lock, _) = phase {
+        program.phase = Phase::Seizes(lock, word);
     }
 }
 
@@ -100,70 +54,61 @@ fn take_refusal<S: Scripts<READINGS, HELD>, const READINGS: usize, const HELD: u
     setting: &S::Setting,
 )
     requires stands { Stands S.Lock.eq S.reply_of S.effects_of (S.system setting.now)
-        (S.rest setting.now) READINGS HELD program.old }
-    ensures held { let O = system_with S.Lock.eq S.reply_of S.effects_of (S.system setting.now) in
-        (holder : ℕ) → attempt_of S.reply_of S.effects_of program.new
-        ≡ changed O (attempt_of S.reply_of S.effects_of program.old)
-        program.old.phase (Answer.Held holder) }
-    ensures preferred { let O = system_with S.Lock.eq S.reply_of S.effects_of (S.system setting.now) in
-        (other : ℕ) → attempt_of S.reply_of S.effects_of program.new
-        ≡ changed O (attempt_of S.reply_of S.effects_of program.old)
-        program.old.phase (Answer.Preferred other) }
-    ensures point { let O = system_with S.Lock.eq S.reply_of S.effects_of (S.system setting.now) in
-        PointStandsIn O (S.rest setting.now) (attempt_of S.reply_of S.effects_of program.new)
-        program.new.point program.new.phase }
-    ensures count { program.new.count ≡ program.old.count }
+        (S.Knows setting.now) READINGS HELD program.old }
+    ensures held { (holder : ℕ) →
+        Takes S.Lock.eq S.reply_of S.effects_of (S.system setting.now) (S.Knows setting.now)
+        (Answer.Held holder) program.old program.new }
+    ensures preferred { (other : ℕ) →
+        Takes S.Lock.eq S.reply_of S.effects_of (S.system setting.now) (S.Knows setting.now)
+        (Answer.Preferred other) program.old program.new }
 {
     if let Some(lock) = program.to_ask() {
         program.put_off(lock);
     }
 }
 
-/// The lock is its own.
+/// The lock is its own: it goes on through its job.
 fn take_lock<S: Scripts<READINGS, HELD>, const READINGS: usize, const HELD: usize>(
     program: &mut AttemptOf<S, READINGS, HELD>,
     setting: &S::Setting,
 )
     requires setting { S.IsSetting setting.now }
+    requires scripts { AreScripts S.Lock.eq S.reply_of S.effects_of (S.system setting.now)
+        (S.Knows setting.now) READINGS HELD }
     requires stands { Stands S.Lock.eq S.reply_of S.effects_of (S.system setting.now)
-        (S.rest setting.now) READINGS HELD program.old }
-    ensures change { let O = system_with S.Lock.eq S.reply_of S.effects_of (S.system setting.now) in
-        attempt_of S.reply_of S.effects_of program.new
-        ≡ changed O (attempt_of S.reply_of S.effects_of program.old)
-        program.old.phase Answer.Seized }
-    ensures point { let O = system_with S.Lock.eq S.reply_of S.effects_of (S.system setting.now) in
-        PointStandsIn O (S.rest setting.now) (attempt_of S.reply_of S.effects_of program.new)
-        program.new.point program.new.phase }
-    ensures count { program.new.count ≡ program.old.count }
+        (S.Knows setting.now) READINGS HELD program.old }
+    ensures { Takes S.Lock.eq S.reply_of S.effects_of (S.system setting.now) (S.Knows setting.now)
+        Answer.Seized program.old program.new }
 {
-    if let Some(lock) = program.to_seize() {
+    let phase = program.phase;
+    if let Phase::Seizes(lock, _) = phase {
         program.hold(lock);
-        walk_on::<S, READINGS, HELD>(program, setting);
+        let seen = Seen::new(program.held.as_slice(), program.readings.as_slice());
+        let found = S::walk(setting, &program.job, &mut program.point, &seen);
+        program.go_on(found);
     }
 }
 
-/// The word that it tested has this value.
+/// The word that it tested has this value: it goes on through its job.
 fn take_reading<S: Scripts<READINGS, HELD>, const READINGS: usize, const HELD: usize>(
     program: &mut AttemptOf<S, READINGS, HELD>,
     setting: &S::Setting,
     value: u64,
 )
     requires setting { S.IsSetting setting.now }
+    requires scripts { AreScripts S.Lock.eq S.reply_of S.effects_of (S.system setting.now)
+        (S.Knows setting.now) READINGS HELD }
     requires stands { Stands S.Lock.eq S.reply_of S.effects_of (S.system setting.now)
-        (S.rest setting.now) READINGS HELD program.old }
-    ensures change { let O = system_with S.Lock.eq S.reply_of S.effects_of (S.system setting.now) in
-        attempt_of S.reply_of S.effects_of program.new
-        ≡ changed O (attempt_of S.reply_of S.effects_of program.old)
-        program.old.phase (Answer.Value value) }
-    ensures fits { value < 2 ^ 64 }
-    ensures point { let O = system_with S.Lock.eq S.reply_of S.effects_of (S.system setting.now) in
-        PointStandsIn O (S.rest setting.now) (attempt_of S.reply_of S.effects_of program.new)
-        program.new.point program.new.phase }
-    ensures count { program.new.count ≡ program.old.count }
+        (S.Knows setting.now) READINGS HELD program.old }
+    ensures { Takes S.Lock.eq S.reply_of S.effects_of (S.system setting.now) (S.Knows setting.now)
+        (Answer.Value value) program.old program.new }
 {
-    if let Some(word) = program.to_test() {
+    let phase = program.phase;
+    if let Phase::Tests(word) = phase {
         program.note(Reading { word, value });
-        walk_on::<S, READINGS, HELD>(program, setting);
+        let seen = Seen::new(program.held.as_slice(), program.readings.as_slice());
+        let found = S::walk(setting, &program.job, &mut program.point, &seen);
+        program.go_on(found);
     }
 }
 
@@ -174,25 +119,13 @@ fn take_turn<S: Scripts<READINGS, HELD>, const READINGS: usize, const HELD: usiz
     number: u64,
 )
     requires stands { Stands S.Lock.eq S.reply_of S.effects_of (S.system setting.now)
-        (S.rest setting.now) READINGS HELD program.old }
-    ensures change { let O = system_with S.Lock.eq S.reply_of S.effects_of (S.system setting.now) in
-        attempt_of S.reply_of S.effects_of program.new
-        ≡ changed O (attempt_of S.reply_of S.effects_of program.old)
-        program.old.phase (Answer.Turn number) }
-    ensures point { let O = system_with S.Lock.eq S.reply_of S.effects_of (S.system setting.now) in
-        PointStandsIn O (S.rest setting.now) (attempt_of S.reply_of S.effects_of program.new)
-        program.new.point program.new.phase }
-    ensures count { program.new.count ≡ program.old.count }
+        (S.Knows setting.now) READINGS HELD program.old }
+    ensures { Takes S.Lock.eq S.reply_of S.effects_of (S.system setting.now) (S.Knows setting.now)
+        (Answer.Turn number) program.old program.new }
 {
     let phase = program.phase;
-    match phase {
-        Phase::Turns => program.phase = Phase::Operates(number),
-        Phase::Requests(_)
-        | Phase::Seizes(_, _)
-        | Phase::Tests(_)
-        | Phase::Withdraws(_)
-        | Phase::GivesBack
-        | Phase::Operates(_) => {}
+    if let Phase::Turns = phase {
+        program.phase = Phase::Operates(number);
     }
 }
 
@@ -215,18 +148,18 @@ fn operate<S: Scripts<READINGS, HELD>, const READINGS: usize, const HELD: usize>
 /// What was held first is freed, and the rest is still to be given back.
 fn free_on<S: Scripts<READINGS, HELD>, const READINGS: usize, const HELD: usize>(
     program: &mut AttemptOf<S, READINGS, HELD>,
-    setting: &S::Setting,
 )
-    ensures frees { let O = system_with S.Lock.eq S.reply_of S.effects_of (S.system setting.now) in
+    ensures frees { (setting : S.Setting) →
+        let O = system_with S.Lock.eq S.reply_of S.effects_of (S.system setting) in
         attempt_of S.reply_of S.effects_of program.new
         ≡ freed O (attempt_of S.reply_of S.effects_of program.old) (rest_of program.old.held) }
-    ensures point { let O = system_with S.Lock.eq S.reply_of S.effects_of (S.system setting.now) in
-        PointStandsIn O (S.rest setting.now) (attempt_of S.reply_of S.effects_of program.new)
+    ensures point { (setting : S.Setting) →
+        KnowsIn (S.Knows setting) (attempt_of S.reply_of S.effects_of program.new)
         program.new.point program.new.phase }
     ensures count { program.new.count ≡ program.old.count }
 {
     program.free_first();
-    give_back::<S, READINGS, HELD>(program, setting);
+    give_back::<S, READINGS, HELD>(program);
 }
 
 /// A step was made of which there is no more to tell.
@@ -235,38 +168,32 @@ fn take_done<S: Scripts<READINGS, HELD>, const READINGS: usize, const HELD: usiz
     setting: &S::Setting,
 )
     requires stands { Stands S.Lock.eq S.reply_of S.effects_of (S.system setting.now)
-        (S.rest setting.now) READINGS HELD program.old }
-    ensures change { let O = system_with S.Lock.eq S.reply_of S.effects_of (S.system setting.now) in
-        attempt_of S.reply_of S.effects_of program.new
-        ≡ changed O (attempt_of S.reply_of S.effects_of program.old) program.old.phase Answer.Done }
-    ensures point { let O = system_with S.Lock.eq S.reply_of S.effects_of (S.system setting.now) in
-        PointStandsIn O (S.rest setting.now) (attempt_of S.reply_of S.effects_of program.new)
-        program.new.point program.new.phase }
-    ensures count { program.new.count ≡ program.old.count }
+        (S.Knows setting.now) READINGS HELD program.old }
+    ensures { Takes S.Lock.eq S.reply_of S.effects_of (S.system setting.now) (S.Knows setting.now)
+        Answer.Done program.old program.new }
 {
     let phase = program.phase;
     match phase {
-        Phase::Withdraws(_) => give_back::<S, READINGS, HELD>(program, setting),
-        Phase::GivesBack => free_on::<S, READINGS, HELD>(program, setting),
+        Phase::Withdraws(_) => give_back::<S, READINGS, HELD>(program),
+        Phase::GivesBack => free_on::<S, READINGS, HELD>(program),
         Phase::Operates(_) => operate::<S, READINGS, HELD>(program),
         Phase::Requests(_) | Phase::Seizes(_, _) | Phase::Tests(_) | Phase::Turns => {}
     }
 }
 
+/// Changes, but for its count.
 fn take_answer<S: Scripts<READINGS, HELD>, const READINGS: usize, const HELD: usize>(
     program: &mut AttemptOf<S, READINGS, HELD>,
     setting: &S::Setting,
     answer: Answer,
 )
     requires setting { S.IsSetting setting.now }
+    requires scripts { AreScripts S.Lock.eq S.reply_of S.effects_of (S.system setting.now)
+        (S.Knows setting.now) READINGS HELD }
     requires stands { Stands S.Lock.eq S.reply_of S.effects_of (S.system setting.now)
-        (S.rest setting.now) READINGS HELD program.old }
-    ensures change { let O = system_with S.Lock.eq S.reply_of S.effects_of (S.system setting.now) in
-        attempt_of S.reply_of S.effects_of program.new
-        ≡ change O (attempt_of S.reply_of S.effects_of program.old) answer }
-    ensures stands { Stands S.Lock.eq S.reply_of S.effects_of (S.system setting.now)
-        (S.rest setting.now) READINGS HELD program.new }
-    ensures count { program.new.count ≡ program.old.count }
+        (S.Knows setting.now) READINGS HELD program.old }
+    ensures { Takes S.Lock.eq S.reply_of S.effects_of (S.system setting.now) (S.Knows setting.now)
+        answer program.old program.new }
 {
     match answer {
         Answer::Asked(word) => take_request::<S, READINGS, HELD>(program, setting, word),
@@ -287,15 +214,17 @@ pub fn take<S: Scripts<READINGS, HELD>, const READINGS: usize, const HELD: usize
     answer: Answer,
 )
     requires setting { S.IsSetting setting.now }
+    requires scripts { AreScripts S.Lock.eq S.reply_of S.effects_of (S.system setting.now)
+        (S.Knows setting.now) READINGS HELD }
     requires stands { Stands S.Lock.eq S.reply_of S.effects_of (S.system setting.now)
-        (S.rest setting.now) READINGS HELD program.old }
+        (S.Knows setting.now) READINGS HELD program.old }
     ensures change { let O = system_with S.Lock.eq S.reply_of S.effects_of (S.system setting.now) in
         attempt_of S.reply_of S.effects_of program.new
         ≡ change O (attempt_of S.reply_of S.effects_of program.old) answer }
     ensures count { program.new.count
         ≡ count_in program.new.phase program.new.held (counted program.old.count) }
     ensures stands { Stands S.Lock.eq S.reply_of S.effects_of (S.system setting.now)
-        (S.rest setting.now) READINGS HELD program.new }
+        (S.Knows setting.now) READINGS HELD program.new }
 {
     take_answer::<S, READINGS, HELD>(program, setting, answer);
     program.count_step();

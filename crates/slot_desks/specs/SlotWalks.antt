@@ -1,12 +1,11 @@
-use Rattle.std.specs.Prelude.{ℕ, ◌/◌, Option, Some, None, []}
-use Rattle.turns.specs.Script.{Script, Ends, ◌>>=◌, ◌>>◌, seize, test}
+use Rattle.std.specs.Prelude.{◌≡◌, ℕ, ◌/◌, Option, Some, None, Ok, [], nat_eq, ⊤}
+use Rattle.turns.specs.Script.{Script, Ends, ◌>>=◌, ◌>>◌, seize, test, walk}
+use Rattle.turns.specs.Seen.{Seen}
 use Rattle.slots.specs.System.{and_upper, both_or_none, free_in, taken_or}
 use Rattle.slots.specs.declared.decision.Decision.{Decision}
 use Rattle.slots.specs.declared.decision.Decision.TheVariants.{Takes, Gives}
 use Rattle.slots.specs.declared.job.Job.{Job}
 use Rattle.slots.specs.declared.job.Job.TheVariants.{Take, TakeBoth, Give}
-use Rattle.slot_desks.specs.declared.walks.Point.{Point}
-use Rattle.slot_desks.specs.declared.walks.Point.TheVariants.{Start, Upper, UpperToo}
 
 -- the lowest free slot of a bank, once its lock is seized
 unfoldable pub slot_steps : ℕ → Script ℕ (Option ℕ)
@@ -35,8 +34,7 @@ job_steps Take = take_steps
 job_steps TakeBoth = both_steps
 job_steps (Give slot) = give_steps slot
 
--- what is left of it from a point on
-abbrev pub rest : Job → Point → Script ℕ Decision
-rest job Start = job_steps job
-rest job Upper = upper_steps
-rest job (UpperToo lower) = too_steps lower
+-- what is known of the lower bank is what a walk has found there
+abbrev pub Knows : Option (Option ℕ) → Seen ℕ → Type 0
+Knows None seen = ⊤
+Knows (Some free) seen = walk nat_eq seen (slot_steps 0) ≡ Ok free

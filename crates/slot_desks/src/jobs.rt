@@ -1,8 +1,8 @@
 ghost use Rattle.std.specs.Prelude.{◌≡◌, ◌<◌, ◌+◌, ◌^◌, IfSome, map, slice_get};
 ghost use Rattle.slots.specs.Few.{list_of};
 
-use crate::walks::{Point, walk_on};
-use attempts::{Attempts, Scripts, Seen};
+use crate::walks::{Lower, walk_job};
+use attempts::{Attempts, OnWords, Scripts, Seen};
 use slots::{Decision, Effect, Job, Taken, UpToTwo};
 use std::alloc::{AllocError, Global};
 use turns::{Operation, Wanted};
@@ -41,14 +41,10 @@ pub type SlotJobs = Attempts<SlotScripts, 2, 2>;
 
 impl Scripts<2, 2> for SlotScripts {
     ghost use Rattle.attempts.specs.SystemWith.{with};
-    ghost use Rattle.slots.proofs.SlotBounds.{slots_bounded};
-    ghost use Rattle.slots.proofs.SlotsSystem.{slots_system};
     ghost use Rattle.slots.specs.System.{effects_of, reply_of, slots_over};
-    ghost use Rattle.slot_desks.specs.SlotWalks.{rest};
+    ghost use Rattle.slot_desks.specs.SlotWalks.{Knows};
 
     type Setting = ();
-
-    type Kept = ();
 
     type Lock = u32;
 
@@ -60,9 +56,7 @@ impl Scripts<2, 2> for SlotScripts {
 
     type Decision = Decision;
 
-    type Point = Point;
-
-    ghost kept = { λ unit. unit };
+    type Point = Lower;
 
     ghost system = { λ _. with slots_over };
 
@@ -72,9 +66,7 @@ impl Scripts<2, 2> for SlotScripts {
 
     ghost IsSetting = { λ _. Unit {0} };
 
-    ghost rest = { λ _ job point. rest job point };
-
-    fn keep(_setting: &()) {}
+    ghost Knows = { λ _ _ lower seen. Knows lower seen };
 
     fn first(job: &Job) -> u32 {
         match job {
@@ -84,17 +76,17 @@ impl Scripts<2, 2> for SlotScripts {
         }
     }
 
-    fn start(_job: &Job) -> Point {
-        Point::Start
+    fn start(_job: &Job) -> Lower {
+        None
     }
 
     fn walk(
         _setting: &(),
         job: &Job,
-        point: &mut Point,
+        point: &mut Lower,
         seen: &Seen<u32>,
     ) -> Result<Decision, Wanted<u32, usize>> {
-        walk_on(*job, point, seen)
+        walk_job(*job, point, seen)
     }
 
     fn reply(decision: &Decision) -> Taken {
@@ -116,6 +108,20 @@ impl Scripts<2, 2> for SlotScripts {
             }
         }
     }
+}
+
+impl OnWords<2, 2> for SlotScripts {
+    ghost use Rattle.slots.proofs.SlotBounds.{slots_bounded};
+    ghost use Rattle.slots.proofs.SlotsSystem.{slots_system};
+    ghost use Rattle.attempts.proofs.Points.{gone_through};
+    ghost use Rattle.slot_desks.specs.SlotWalks.{Knows, slot_steps};
+    ghost use Rattle.std.specs.Prelude.{None, Some, nat_eq};
+
+    type Kept = ();
+
+    ghost kept = { λ unit. unit };
+
+    fn keep(_setting: &()) {}
 
     fn effect_word(_setting: &(), effect: Effect) -> usize {
         match effect {
@@ -144,7 +150,12 @@ impl Scripts<2, 2> for SlotScripts {
         2 + lock as usize
     }
 
-    ghost is_system = { λ _ _. slots_system };
-
-    ghost asks = { λ _ job _ right. slots_bounded.asks job right };
+    ghost are_scripts = { λ _ _. record {
+      is_system = slots_system;
+      asks = λ job right. slots_bounded.asks job right;
+      knows_on = λ _ lower seen more extends. elim lower as (λ l. Knows l seen → Knows l more) [
+        | None ↦ λ known. known
+        | Some free ↦ λ known. gone_through nat_eq seen more (slot_steps 0) free extends known
+      ];
+    } };
 }

@@ -9,8 +9,8 @@ use Rattle.attempts.proofs.laws.steady_attempts_are_short.Goals as goal
 pub returns-clause-short : goal.returns-clause-short
 returns-clause-short g c = λ setting effects job answers right bounded is_job steady.
     let O = system_with g.S.Lock.PartialEq.eq g.S.Scripts.reply_of g.S.Scripts.effects_of (g.S.Scripts.system setting) in
-    let is = g.met.S.Scripts.is_system setting right in
-    steady_within O is _ _ effects (record { asks = λ other other_right. g.met.S.Scripts.asks setting other right other_right; effects = bounded }) _ (begin O job) answers is_job (stands_begin O is job is_job) (within_begin O is _ _ effects (record { asks = λ other other_right. g.met.S.Scripts.asks setting other right other_right; effects = bounded }) _ job is_job (omega arith)) steady
+    let is = right.is_system in
+    steady_within O is _ _ effects (record { asks = right.asks; effects = bounded }) _ (begin O job) answers is_job (stands_begin O is job is_job) (within_begin O is _ _ effects (record { asks = right.asks; effects = bounded }) _ job is_job (omega arith)) steady
 
 pub returns-clause-count : goal.returns-clause-count
 returns-clause-count g c = λ setting job answers steady below.

@@ -1,20 +1,26 @@
-use Rattle.std.proofs.Common.{arith, rules, sym, ap, ◌∙◌}
-use Rattle.turns.specs.Attempt.{changed, walks_on}
-use Rattle.turns.specs.declared.answer.Answer.TheVariants.{Value}
-use Rattle.attempts.specs.Standing.{attempt_of}
-use Rattle.attempts.specs.SystemWith.{system_with}
-use Rattle.attempts.proofs.Idle.{idle_read}
+use Rattle.turns.specs.declared.phase.Phase.TheVariants.{Tests}
+use Rattle.attempts.proofs.Inside.{phase_now}
 use Rattle.attempts.proofs.Onward.{room_to_test, walks_read}
+use Rattle.attempts.proofs.Taken.{able, not_read, reads}
 use Rattle.attempts.proofs.taking.take_reading.Goals as goal
 
 pub note-requires : goal.note-requires
-note-requires g c = (omega arith, room_to_test g.S.Lock.PartialEq.eq g.S.Scripts.reply_of g.S.Scripts.effects_of (g.S.Scripts.system c.args.setting.now) (g.S.Scripts.rest c.args.setting.now) (g.met.S.Scripts.is_system c.args.setting.now c.requires.setting) _ _ (λ job right. g.met.S.Scripts.asks c.args.setting.now job c.requires.setting right) c.args.program.now c.in-Some.word c.requires.stands c.in-Some.ensures.some)
+note-requires g c = (search, room_to_test g.S.Lock.PartialEq.eq g.S.Scripts.reply_of g.S.Scripts.effects_of (g.S.Scripts.system c.args.setting.now) (g.S.Scripts.Knows c.args.setting.now) _ _ c.requires.scripts c.args.program.now c.in-Tests.word c.requires.stands (phase_now _ c.args.program.now (Tests c.in-Tests.word) c.program.view_is c.in-Tests.is))
 
-pub walk_on-requires : goal.walk_on-requires
-walk_on-requires g c = (first_of (search rules, omega arith), (c.requires.setting, walks_read g.S.Lock.PartialEq.eq g.S.Scripts.reply_of g.S.Scripts.effects_of (g.S.Scripts.system c.args.setting.now) (g.S.Scripts.rest c.args.setting.now) (g.met.S.Scripts.is_system c.args.setting.now c.requires.setting) _ _ (λ job right. g.met.S.Scripts.asks c.args.setting.now job c.requires.setting right) c.args.program.now c.in-Some.word c.args.value _ c.requires.stands c.in-Some.ensures.some c.note.ensures))
+pub walk-found-requires-clause-setting : goal.walk-found-requires-clause-setting
+walk-found-requires-clause-setting g c = c.requires.setting
 
-pub returns-in-Some-clause-change : goal.returns-in-Some-clause-change
-returns-in-Some-clause-change g c = c.walk_on.ensures.walk ∙ ap (λ p. walks_on (system_with g.S.Lock.PartialEq.eq g.S.Scripts.reply_of g.S.Scripts.effects_of (g.S.Scripts.system c.args.setting.now)) (attempt_of g.S.Scripts.reply_of g.S.Scripts.effects_of p)) c.note.ensures ∙ ap (λ phase. changed (system_with g.S.Lock.PartialEq.eq g.S.Scripts.reply_of g.S.Scripts.effects_of (g.S.Scripts.system c.args.setting.now)) (attempt_of g.S.Scripts.reply_of g.S.Scripts.effects_of c.args.program.now) phase (Value c.args.value)) (sym c.in-Some.ensures.some)
+pub walk-found-requires-clause-job : goal.walk-found-requires-clause-job
+walk-found-requires-clause-job g c = (able g.S.Lock.PartialEq.eq g.S.Scripts.reply_of g.S.Scripts.effects_of (g.S.Scripts.system c.args.setting.now) (g.S.Scripts.Knows c.args.setting.now) c.note.new.self _ c.new-seen.result c.as_slice.result.now c.as_slice-in-Tests.result.now c.program-in-Tests.view_is c.new-seen.ensures c.as_slice.ensures.value c.as_slice-in-Tests.ensures.value (walks_read g.S.Lock.PartialEq.eq g.S.Scripts.reply_of g.S.Scripts.effects_of (g.S.Scripts.system c.args.setting.now) (g.S.Scripts.Knows c.args.setting.now) _ _ c.requires.scripts c.args.program.now c.in-Tests.word c.args.value c.note.new.self c.ranges.value.fits c.requires.stands (phase_now _ c.args.program.now (Tests c.in-Tests.word) c.program.view_is c.in-Tests.is) c.note.ensures)).job
 
-pub returns-in_default-clause-change : goal.returns-in_default-clause-change
-returns-in_default-clause-change g c = idle_read (system_with g.S.Lock.PartialEq.eq g.S.Scripts.reply_of g.S.Scripts.effects_of (g.S.Scripts.system c.args.setting.now)) (attempt_of g.S.Scripts.reply_of g.S.Scripts.effects_of c.args.program.now) c.args.program.now.phase c.args.value c.in_default.ensures.none
+pub walk-found-requires-clause-read : goal.walk-found-requires-clause-read
+walk-found-requires-clause-read g c = (able g.S.Lock.PartialEq.eq g.S.Scripts.reply_of g.S.Scripts.effects_of (g.S.Scripts.system c.args.setting.now) (g.S.Scripts.Knows c.args.setting.now) c.note.new.self _ c.new-seen.result c.as_slice.result.now c.as_slice-in-Tests.result.now c.program-in-Tests.view_is c.new-seen.ensures c.as_slice.ensures.value c.as_slice-in-Tests.ensures.value (walks_read g.S.Lock.PartialEq.eq g.S.Scripts.reply_of g.S.Scripts.effects_of (g.S.Scripts.system c.args.setting.now) (g.S.Scripts.Knows c.args.setting.now) _ _ c.requires.scripts c.args.program.now c.in-Tests.word c.args.value c.note.new.self c.ranges.value.fits c.requires.stands (phase_now _ c.args.program.now (Tests c.in-Tests.word) c.program.view_is c.in-Tests.is) c.note.ensures)).read
+
+pub walk-found-requires-clause-knows : goal.walk-found-requires-clause-knows
+walk-found-requires-clause-knows g c = (able g.S.Lock.PartialEq.eq g.S.Scripts.reply_of g.S.Scripts.effects_of (g.S.Scripts.system c.args.setting.now) (g.S.Scripts.Knows c.args.setting.now) c.note.new.self _ c.new-seen.result c.as_slice.result.now c.as_slice-in-Tests.result.now c.program-in-Tests.view_is c.new-seen.ensures c.as_slice.ensures.value c.as_slice-in-Tests.ensures.value (walks_read g.S.Lock.PartialEq.eq g.S.Scripts.reply_of g.S.Scripts.effects_of (g.S.Scripts.system c.args.setting.now) (g.S.Scripts.Knows c.args.setting.now) _ _ c.requires.scripts c.args.program.now c.in-Tests.word c.args.value c.note.new.self c.ranges.value.fits c.requires.stands (phase_now _ c.args.program.now (Tests c.in-Tests.word) c.program.view_is c.in-Tests.is) c.note.ensures)).knows
+
+pub returns-in-Tests : goal.returns-in-Tests
+returns-in-Tests g c = reads g.S.Lock.PartialEq.eq g.S.Scripts.reply_of g.S.Scripts.effects_of (g.S.Scripts.system c.args.setting.now) (g.S.Scripts.Knows c.args.setting.now) c.note.new.self _ c.new-seen.result c.as_slice.result.now c.as_slice-in-Tests.result.now c.program-in-Tests.view_is c.new-seen.ensures c.as_slice.ensures.value c.as_slice-in-Tests.ensures.value c.args.program.now c.go_on.new.self c.walk-found.new.point c.walk-found.result c.walk-found.ensures.walk c.walk-found.ensures.knows c.go_on.ensures c.in-Tests.word c.args.value (phase_now _ c.args.program.now (Tests c.in-Tests.word) c.program.view_is c.in-Tests.is) c.ranges.value.fits c.note.ensures
+
+pub returns-in_default : goal.returns-in_default
+returns-in_default g c = not_read g.S.Lock.PartialEq.eq g.S.Scripts.reply_of g.S.Scripts.effects_of (g.S.Scripts.system c.args.setting.now) (g.S.Scripts.Knows c.args.setting.now) _ c.args.program.now c.program.view_is c.requires.stands.point c.args.value c.ranges.value.fits c.in_default.not-Tests
