@@ -5,12 +5,6 @@ use Rattle.attempts.specs.Standing.{attempt_of}
 use Rattle.attempts.proofs.Inside.{in_phase, phase_now}
 use Rattle.attempts.proofs.showing.next.Goals as goal
 
-pub next_free-requires : goal.next_free-requires
-next_free-requires g c = search
-
-pub next_closing-requires : goal.next_closing-requires
-next_closing-requires g c = search
-
 pub returns-in-Requests : goal.returns-in-Requests
 returns-in-Requests g c = in_phase (λ p phase. act_in phase (attempt_of g.S.Scripts.reply_of g.S.Scripts.effects_of p)) _ c.args.program.now (Requests c.in-Requests.lock) c.program.view_is c.in-Requests.is
 

@@ -2,12 +2,6 @@ use Rattle.std.proofs.Common.{ap, sym, ◌∙◌}
 use Rattle.turns.specs.Attempt.{closing_act}
 use Rattle.attempts.proofs.showing.next_closing.Goals as goal
 
-pub next_effect-requires : goal.next_effect-requires
-next_effect-requires g c = search
-
-pub next_free-requires : goal.next_free-requires
-next_free-requires g c = search
-
 pub returns-in-Some : goal.returns-in-Some
 returns-in-Some g c = ap (λ effects. closing_act effects c.args.program.now.held) (sym c.in-Some.ensures.some)
 

@@ -4,9 +4,6 @@ use Rattle.attempts.proofs.Giving.{begins_anew, gives_back}
 use Rattle.attempts.proofs.Known.{known_anywhere}
 use Rattle.attempts.proofs.starting.give_back.Goals as goal
 
-pub begin_again-requires : goal.begin_again-requires
-begin_again-requires g c = search
-
 pub returns-then-is_empty-clause-frees : goal.returns-then-is_empty-clause-frees
 returns-then-is_empty-clause-frees g c = λ setting. begins_anew g.S.Lock.PartialEq.eq g.S.Scripts.reply_of g.S.Scripts.effects_of (g.S.Scripts.system setting) _ c.args.program.now c.program.view_is c.is_empty.result c.is_empty.ensures c.begin_again.new.program c.if-is_empty.true (c.begin_again.ensures.begins setting)
 

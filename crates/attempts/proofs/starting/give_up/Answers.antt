@@ -7,9 +7,6 @@ use Rattle.attempts.proofs.starting.give_up.Goals as goal
 pub forget-requires : goal.forget-requires
 forget-requires g c = search
 
-pub give_back-requires : goal.give_back-requires
-give_back-requires g c = search
-
 pub returns-clause-frees : goal.returns-clause-frees
 returns-clause-frees g c = λ setting. c.give_back.ensures.frees setting ∙ ap (λ (p : Program _ _ _ _). freed (system_with g.S.Lock.PartialEq.eq g.S.Scripts.reply_of g.S.Scripts.effects_of (g.S.Scripts.system setting)) (attempt_of g.S.Scripts.reply_of g.S.Scripts.effects_of p) p.held) c.forget.ensures
 

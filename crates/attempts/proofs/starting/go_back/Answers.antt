@@ -3,9 +3,6 @@ use Rattle.attempts.specs.Standing.{Program, KnowsIn, attempt_of}
 use Rattle.attempts.proofs.Giving.{gives_up, stays, withdraws}
 use Rattle.attempts.proofs.starting.go_back.Goals as goal
 
-pub give_up-requires : goal.give_up-requires
-give_up-requires g c = search
-
 pub put_off-requires : goal.put_off-requires
 put_off-requires g c = search
 

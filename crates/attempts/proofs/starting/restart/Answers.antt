@@ -5,9 +5,6 @@ use Rattle.attempts.proofs.Onward.{stands_back, stands_counted}
 use Rattle.attempts.proofs.Taken.{counted_so}
 use Rattle.attempts.proofs.starting.restart.Goals as goal
 
-pub go_back-requires : goal.go_back-requires
-go_back-requires g c = search
-
 pub count_beginning-requires : goal.count_beginning-requires
 count_beginning-requires g c = search
 

@@ -6,9 +6,6 @@ use Rattle.attempts.proofs.taking.free_on.Goals as goal
 pub free_first-requires : goal.free_first-requires
 free_first-requires g c = search
 
-pub give_back-requires : goal.give_back-requires
-give_back-requires g c = search
-
 pub returns-clause-frees : goal.returns-clause-frees
 returns-clause-frees g c = λ setting. frees_on g.S.Lock.PartialEq.eq g.S.Scripts.reply_of g.S.Scripts.effects_of (g.S.Scripts.system setting) c.args.program.now c.free_first.new.self c.give_back.new.program c.free_first.ensures (c.give_back.ensures.frees setting)
 

@@ -3,9 +3,6 @@ use Rattle.attempts.specs.Standing.{Program}
 use Rattle.attempts.proofs.Taken.{frees_lock, makes_effect}
 use Rattle.attempts.proofs.taking.operate.Goals as goal
 
-pub next_effect-requires : goal.next_effect-requires
-next_effect-requires g c = search
-
 pub free_first-requires : goal.free_first-requires
 free_first-requires g c = search
 

@@ -5,15 +5,6 @@ use Rattle.attempts.proofs.Inside.{phase_now}
 use Rattle.attempts.proofs.Taken.{not_done, operates_point, took}
 use Rattle.attempts.proofs.taking.take_done.Goals as goal
 
-pub give_back-requires : goal.give_back-requires
-give_back-requires g c = search
-
-pub free_on-requires : goal.free_on-requires
-free_on-requires g c = search
-
-pub operate-requires : goal.operate-requires
-operate-requires g c = search
-
 pub returns-in-Withdraws : goal.returns-in-Withdraws
 returns-in-Withdraws g c = took g.S.Lock.PartialEq.eq g.S.Scripts.reply_of g.S.Scripts.effects_of (g.S.Scripts.system c.args.setting.now) (g.S.Scripts.Knows c.args.setting.now) c.args.program.now c.give_back.new.program (Withdraws c.in-Withdraws.field-0) Done (phase_now _ c.args.program.now (Withdraws c.in-Withdraws.field-0) c.program.view_is c.in-Withdraws.is) tt (c.give_back.ensures.frees c.args.setting.now) (c.give_back.ensures.point c.args.setting.now) c.give_back.ensures.count
 
