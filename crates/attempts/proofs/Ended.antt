@@ -1,5 +1,5 @@
 -- what is told of an attempt past its turn
-use Rattle.std.proofs.Common.{◌≡◌, ℕ, refl, sym, ◌∙◌, ap, subst}
+use Rattle.std.proofs.Common.{◌≡◌, ℕ, refl, sym, ◌∙◌, ap}
 use Rattle.std.specs.Prelude.{Option, Some, None, option_map}
 use Rattle.turns.specs.Attempt.{turn_in}
 use Rattle.turns.specs.declared.phase.Phase.{Phase}

@@ -1,6 +1,6 @@
 -- an attempt has room for what is left of its script, and stands where its words are
 use Rattle.std.proofs.Common.{◌≡◌, ℕ, true, ◌+◌, ◌-◌, ◌<◌, ◌^◌, List, [], ◌∷◌, ◌++◌, length, length-append, inl, inr, refl, sym, subst, arith}
-use Rattle.std.specs.Prelude.{Result, Ok, Err, ⊤}
+use Rattle.std.specs.Prelude.{Result, Ok, Err}
 use Rattle.turns.specs.Attempt.{AttemptOf, StandsIn, act, act_in, closing_act, free_act, begin, change, changed, come_to, forgotten, freed, goes_on, operated, read_in, rest_of, restarted, restarted_in, seen_of}
 use Rattle.turns.specs.Script.{AsksAtMost, left, walk}
 use Rattle.turns.specs.Seen.{Seen, AreReadWords}

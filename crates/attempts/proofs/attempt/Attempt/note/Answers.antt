@@ -1,4 +1,4 @@
-use Rattle.std.proofs.Common.{List, [], ◌∷◌, ◌++◌}
+use Rattle.std.proofs.Common.{[], ◌∷◌, ◌++◌}
 use Rattle.attempts.proofs.Inside.{with_readings}
 use Rattle.attempts.proofs.attempt.Attempt.note.Goals as goal
 
