@@ -3,7 +3,7 @@ pub mod EffectsLeft
 pub mod Inside
 pub mod Ended
 pub mod Places
-pub mod Known
+pub mod Walking
 pub mod Onward
 pub mod Beginning
 pub mod Giving

@@ -1,7 +1,7 @@
 use Rattle.std.proofs.Common.{ap}
 use Rattle.attempts.specs.Standing.{Program, attempt_of}
 use Rattle.attempts.proofs.Giving.{begins_anew, gives_back}
-use Rattle.attempts.proofs.Known.{known_anywhere}
+use Rattle.attempts.proofs.Walking.{known_anywhere}
 use Rattle.attempts.proofs.starting.give_back.Goals as goal
 
 pub returns-then-is_empty-clause-frees : goal.returns-then-is_empty-clause-frees

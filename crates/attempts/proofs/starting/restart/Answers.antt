@@ -1,6 +1,6 @@
 use Rattle.std.proofs.Common.{ap, ◌∙◌}
 use Rattle.attempts.specs.Standing.{attempt_of}
-use Rattle.attempts.proofs.Known.{known_counted}
+use Rattle.attempts.proofs.Walking.{known_counted}
 use Rattle.attempts.proofs.Onward.{stands_back, stands_counted}
 use Rattle.attempts.proofs.Taken.{counted_so}
 use Rattle.attempts.proofs.starting.restart.Goals as goal
