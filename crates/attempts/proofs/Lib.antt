@@ -1,6 +1,7 @@
 pub mod Points
 pub mod EffectsLeft
 pub mod Inside
+pub mod Freeing
 pub mod Ended
 pub mod Places
 pub mod Walking
