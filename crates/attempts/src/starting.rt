@@ -93,8 +93,10 @@ fn go_back<S: Scripts<READINGS, HELD>, const READINGS: usize, const HELD: usize>
         attempt_of S.reply_of S.effects_of program.new
         ≡ restarted O (attempt_of S.reply_of S.effects_of program.old) }
     ensures point { (setting : S.Setting) →
-        KnowsIn (S.Knows setting) (attempt_of S.reply_of S.effects_of program.old) program.old.point program.old.phase →
-        KnowsIn (S.Knows setting) (attempt_of S.reply_of S.effects_of program.new) program.new.point program.new.phase }
+        KnowsIn (S.Knows setting) (attempt_of S.reply_of S.effects_of program.old)
+        program.old.point program.old.phase →
+        KnowsIn (S.Knows setting) (attempt_of S.reply_of S.effects_of program.new)
+        program.new.point program.new.phase }
     ensures count { program.new.count ≡ program.old.count }
 {
     let phase = program.phase;
@@ -118,8 +120,10 @@ pub fn restart<S: Scripts<READINGS, HELD>, const READINGS: usize, const HELD: us
     ensures count { program.new.count
         ≡ count_in program.new.phase program.new.held program.old.count }
     ensures point { (setting : S.Setting) →
-        KnowsIn (S.Knows setting) (attempt_of S.reply_of S.effects_of program.old) program.old.point program.old.phase →
-        KnowsIn (S.Knows setting) (attempt_of S.reply_of S.effects_of program.new) program.new.point program.new.phase }
+        KnowsIn (S.Knows setting) (attempt_of S.reply_of S.effects_of program.old)
+        program.old.point program.old.phase →
+        KnowsIn (S.Knows setting) (attempt_of S.reply_of S.effects_of program.new)
+        program.new.point program.new.phase }
     ensures stands { (setting : S.Setting) →
         AreScripts S.Lock.eq S.reply_of S.effects_of (S.system setting) (S.Knows setting) READINGS
         HELD →
