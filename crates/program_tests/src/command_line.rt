@@ -3,7 +3,7 @@
 use crate::checks::{check, check_eq};
 use clap::error::ErrorKind;
 use crossbar5_command::{Ask, CommandFault, command};
-use std::alloc::Global;
+use std::alloc::{AllocError, Global};
 use std::process::Abort;
 use std::test::Fail;
 
@@ -21,161 +21,151 @@ fn asked(alloc: Global, line: &str) -> Result<Ask, CommandFault> {
     }
 }
 
-fn is_replay(ask: &Ask, plan: Option<&str>, kinds: &str) -> bool {
-    let Ask::Replay {
-        plan: file,
-        kinds: letters,
-    } = ask
-    else {
-        return false;
-    };
-    file.as_ref().map(|name| name.as_str()) == plan && letters.as_str() == kinds
+/// What is asked for, as `Debug` has it. Where memory is refused it is made once more.
+fn text_of_ask(alloc: Global, ask: &Ask) -> Result<String, AllocError> {
+    match format!(in alloc; "{ask:?}") {
+        Ok(text) => Ok(text),
+        Err(_) => format!(in alloc; "{ask:?}"),
+    }
 }
 
-/// Lines of words that ask for a replay, each with the plan's file, if one is asked for, and the kinds.
-const ASKED: &[(&str, Option<&str>, &str)] = &[
-    ("crossbar5", None, "XX"),
-    ("", None, "XX"),
-    ("--help", None, "XX"),
-    ("crossbar5 --", None, "XX"),
-    ("crossbar5 replay", None, "XX"),
-    ("/usr/local/bin/other replay", None, "XX"),
-    (" replay", None, "XX"),
-    ("crossbar5 replay --", None, "XX"),
-    ("crossbar5 replay --plan a.toml", Some("a.toml"), "XX"),
-    ("crossbar5 replay --plan=a.toml", Some("a.toml"), "XX"),
-    ("crossbar5 replay --plan=", Some(""), "XX"),
-    ("crossbar5 replay --plan ", Some(""), "XX"),
-    ("crossbar5 replay --plan -", Some("-"), "XX"),
-    ("crossbar5 replay --plan=--plan", Some("--plan"), "XX"),
-    ("crossbar5 replay --plan replay", Some("replay"), "XX"),
-    ("crossbar5 replay --markers DDC", None, "DDC"),
-    ("crossbar5 replay --markers=X", None, "X"),
+/// A replay with the example plan and two markers for all jobs.
+const REPLAY: &str = r#"Replay { plan: None, kinds: "XX" }"#;
+
+/// A replay with this plan's file.
+const REPLAY_OF_FILE: &str = r#"Replay { plan: Some("a.toml"), kinds: "XX" }"#;
+
+/// A replay with one marker, which dials, and a plan's file.
+const REPLAY_OF_DIALS: &str = r#"Replay { plan: Some("a"), kinds: "D" }"#;
+
+/// Lines of words, each with what it asks for.
+const ASKED: &[(&str, &str)] = &[
+    ("crossbar5", REPLAY),
+    ("", REPLAY),
+    ("--help", REPLAY),
+    ("crossbar5 --", REPLAY),
+    ("crossbar5 replay", REPLAY),
+    ("/usr/local/bin/other replay", REPLAY),
+    (" replay", REPLAY),
+    ("crossbar5 replay --", REPLAY),
+    ("crossbar5 replay --plan a.toml", REPLAY_OF_FILE),
+    ("crossbar5 replay --plan=a.toml", REPLAY_OF_FILE),
+    (
+        "crossbar5 replay --plan=",
+        r#"Replay { plan: Some(""), kinds: "XX" }"#,
+    ),
+    (
+        "crossbar5 replay --plan ",
+        r#"Replay { plan: Some(""), kinds: "XX" }"#,
+    ),
+    (
+        "crossbar5 replay --plan -",
+        r#"Replay { plan: Some("-"), kinds: "XX" }"#,
+    ),
+    (
+        "crossbar5 replay --plan=--plan",
+        r#"Replay { plan: Some("--plan"), kinds: "XX" }"#,
+    ),
+    (
+        "crossbar5 replay --plan replay",
+        r#"Replay { plan: Some("replay"), kinds: "XX" }"#,
+    ),
+    (
+        "crossbar5 replay --markers DDC",
+        r#"Replay { plan: None, kinds: "DDC" }"#,
+    ),
+    (
+        "crossbar5 replay --markers=X",
+        r#"Replay { plan: None, kinds: "X" }"#,
+    ),
     (
         "crossbar5 replay --markers nobody,looks",
-        None,
-        "nobody,looks",
+        r#"Replay { plan: None, kinds: "nobody,looks" }"#,
     ),
-    ("crossbar5 replay --plan a --markers D", Some("a"), "D"),
-    ("crossbar5 replay --markers D --plan a", Some("a"), "D"),
-    ("crossbar5 replay --plan=a --markers D --", Some("a"), "D"),
+    ("crossbar5 replay --plan a --markers D", REPLAY_OF_DIALS),
+    ("crossbar5 replay --markers D --plan a", REPLAY_OF_DIALS),
+    ("crossbar5 replay --plan=a --markers D --", REPLAY_OF_DIALS),
     (
         "crossbar5 replay --markers DDDDDDDDDDDDDDDDDDDDDDDDCCCCCCCCCCCCCCCCXXXXXXXX",
-        None,
-        "DDDDDDDDDDDDDDDDDDDDDDDDCCCCCCCCCCCCCCCCXXXXXXXX",
+        r#"Replay { plan: None, kinds: "DDDDDDDDDDDDDDDDDDDDDDDDCCCCCCCCCCCCCCCCXXXXXXXX" }"#,
     ),
-];
-
-fn check_asked(
-    rt: &impl Abort,
-    alloc: Global,
-    line: &str,
-    plan: Option<&str>,
-    kinds: &str,
-) -> Result<(), Fail> {
-    let ask = asked(alloc, line)?;
-    check!(rt; is_replay(&ask, plan, kinds), "{line}");
-    Ok(())
-}
-
-#[test]
-fn words_ask_for_a_replay(rt: HostRuntime) -> Result<(), Fail> {
-    for (line, plan, kinds) in ASKED {
-        check_asked(&rt, rt.alloc(), line, *plan, kinds)?;
-    }
-    Ok(())
-}
-
-#[test]
-fn words_ask_for_a_walk(rt: HostRuntime) -> Result<(), Fail> {
-    for (line, file, letters) in [
-        ("crossbar5 walk", None, "XX"),
-        ("crossbar5 walk --markers DC", None, "DC"),
-        ("crossbar5 walk --plan a.toml", Some("a.toml"), "XX"),
-        ("crossbar5 walk --markers=X --plan=a", Some("a"), "X"),
-    ] {
-        let Ask::Walk { plan, kinds } = asked(rt.alloc(), line)? else {
-            return Err(Fail::from("another subcommand was asked for"));
-        };
-        let found = plan.as_ref().map(|name| name.as_str());
-        check_eq!(rt; (found, kinds.as_str()), (file, letters), "{line}");
-    }
-    Ok(())
-}
-
-#[test]
-fn words_ask_for_an_audit(rt: HostRuntime) -> Result<(), Fail> {
-    for (line, file) in [
-        ("crossbar5 audit", None),
-        ("crossbar5 audit --plan a.toml", Some("a.toml")),
-        ("crossbar5 audit --plan=a.toml", Some("a.toml")),
-    ] {
-        let Ask::Audit { plan } = asked(rt.alloc(), line)? else {
-            return Err(Fail::from("another subcommand was asked for"));
-        };
-        let found = plan.as_ref().map(|name| name.as_str());
-        check_eq!(rt; found, file, "{line}");
-    }
-    Ok(())
-}
-
-#[test]
-fn words_ask_for_a_drawing(rt: HostRuntime) -> Result<(), Fail> {
-    for (line, file, as_text) in [
-        ("crossbar5 draw", None, false),
-        ("crossbar5 draw --text", None, true),
-        ("crossbar5 draw --plan a.toml", Some("a.toml"), false),
-        ("crossbar5 draw --text --plan a.toml", Some("a.toml"), true),
-        ("crossbar5 draw --plan=--text --text", Some("--text"), true),
-        ("crossbar5 draw --plan=--text", Some("--text"), false),
-    ] {
-        let Ask::Draw { plan, text } = asked(rt.alloc(), line)? else {
-            return Err(Fail::from("another subcommand was asked for"));
-        };
-        let found = plan.as_ref().map(|name| name.as_str());
-        check_eq!(rt; (found, text), (file, as_text), "{line}");
-    }
-    Ok(())
-}
-
-#[test]
-fn words_ask_for_a_page(rt: HostRuntime) -> Result<(), Fail> {
-    let Ask::Page { plan } = asked(rt.alloc(), "crossbar5 page --plan a.toml")? else {
-        return Err(Fail::from("another subcommand was asked for"));
-    };
-    let found = plan.as_ref().map(|name| name.as_str());
-    check_eq!(rt; found, Some("a.toml"));
-    Ok(())
-}
-
-/// Lines of words that ask for live calls, each with the plan's file, if one is asked for, and how
-/// many markers dial and how many complete calls.
-const ASKED_LIVE: &[(&str, Option<&str>, u32, u32)] = &[
-    ("crossbar5 live", None, 1, 1),
-    ("crossbar5 live --dial 47", None, 47, 1),
-    ("crossbar5 live --completing 47", None, 1, 47),
-    ("crossbar5 live --dial=30 --completing=31", None, 30, 31),
+    ("crossbar5 walk", r#"Walk { plan: None, kinds: "XX" }"#),
+    (
+        "crossbar5 walk --markers DC",
+        r#"Walk { plan: None, kinds: "DC" }"#,
+    ),
+    (
+        "crossbar5 walk --plan a.toml",
+        r#"Walk { plan: Some("a.toml"), kinds: "XX" }"#,
+    ),
+    (
+        "crossbar5 walk --markers=X --plan=a",
+        r#"Walk { plan: Some("a"), kinds: "X" }"#,
+    ),
+    ("crossbar5 audit", "Audit { plan: None }"),
+    (
+        "crossbar5 audit --plan a.toml",
+        r#"Audit { plan: Some("a.toml") }"#,
+    ),
+    (
+        "crossbar5 audit --plan=a.toml",
+        r#"Audit { plan: Some("a.toml") }"#,
+    ),
+    ("crossbar5 draw", "Draw { plan: None, text: false }"),
+    ("crossbar5 draw --text", "Draw { plan: None, text: true }"),
+    (
+        "crossbar5 draw --plan a.toml",
+        r#"Draw { plan: Some("a.toml"), text: false }"#,
+    ),
+    (
+        "crossbar5 draw --text --plan a.toml",
+        r#"Draw { plan: Some("a.toml"), text: true }"#,
+    ),
+    (
+        "crossbar5 draw --plan=--text --text",
+        r#"Draw { plan: Some("--text"), text: true }"#,
+    ),
+    (
+        "crossbar5 draw --plan=--text",
+        r#"Draw { plan: Some("--text"), text: false }"#,
+    ),
+    (
+        "crossbar5 page --plan a.toml",
+        r#"Page { plan: Some("a.toml") }"#,
+    ),
+    (
+        "crossbar5 live",
+        "Live { plan: None, dial: 1, completing: 1 }",
+    ),
+    (
+        "crossbar5 live --dial 47",
+        "Live { plan: None, dial: 47, completing: 1 }",
+    ),
+    (
+        "crossbar5 live --completing 47",
+        "Live { plan: None, dial: 1, completing: 47 }",
+    ),
+    (
+        "crossbar5 live --dial=30 --completing=31",
+        "Live { plan: None, dial: 30, completing: 31 }",
+    ),
     (
         "crossbar5 live --completing 3 --plan a --dial 2",
-        Some("a"),
-        2,
-        3,
+        r#"Live { plan: Some("a"), dial: 2, completing: 3 }"#,
     ),
 ];
 
+fn check_asked(rt: &impl Abort, alloc: Global, line: &str, wanted: &str) -> Result<(), Fail> {
+    let ask = asked(alloc, line)?;
+    let text = text_of_ask(alloc, &ask)?;
+    check_eq!(rt; text.as_str(), wanted, "{line}");
+    Ok(())
+}
+
 #[test]
-fn words_ask_for_live_calls(rt: HostRuntime) -> Result<(), Fail> {
-    for (line, file, dialling, completing) in ASKED_LIVE {
-        let Ask::Live {
-            plan,
-            dial,
-            completing: others,
-        } = asked(rt.alloc(), line)?
-        else {
-            return Err(Fail::from("another subcommand was asked for"));
-        };
-        let found = (plan.as_ref().map(|name| name.as_str()), dial, others);
-        check_eq!(rt; found, (*file, *dialling, *completing), "{line}");
+fn words_ask_for_something(rt: HostRuntime) -> Result<(), Fail> {
+    for (line, wanted) in ASKED {
+        check_asked(&rt, rt.alloc(), line, wanted)?;
     }
     Ok(())
 }
@@ -186,7 +176,7 @@ fn no_words_ask_for_a_replay(rt: HostRuntime) -> Result<(), Fail> {
         Err(CommandFault::Memory) => command(rt.alloc(), &[])?,
         answer => answer?,
     };
-    check!(rt; is_replay(&ask, None, "XX"));
+    check_eq!(rt; text_of_ask(rt.alloc(), &ask)?.as_str(), REPLAY);
     Ok(())
 }
 
@@ -286,30 +276,27 @@ fn check_refused(
     Ok(())
 }
 
+const FOR_STANDARD_OUTPUT: &[(&str, ErrorKind)] = &[
+    ("crossbar5 --help", ErrorKind::DisplayHelp),
+    ("crossbar5 -h", ErrorKind::DisplayHelp),
+    ("crossbar5 help", ErrorKind::DisplayHelp),
+    ("crossbar5 help replay", ErrorKind::DisplayHelp),
+    ("crossbar5 help live", ErrorKind::DisplayHelp),
+    ("crossbar5 --help call", ErrorKind::DisplayHelp),
+    ("crossbar5 --help a b c d e f g h", ErrorKind::DisplayHelp),
+    ("crossbar5 replay --help", ErrorKind::DisplayHelp),
+    ("crossbar5 replay --plan a -h", ErrorKind::DisplayHelp),
+    ("crossbar5 --version", ErrorKind::DisplayVersion),
+    ("crossbar5 -V", ErrorKind::DisplayVersion),
+];
+
 #[test]
 fn other_words_are_refused(rt: HostRuntime) -> Result<(), Fail> {
     for (line, kind) in REFUSED {
         check_refused(&rt, rt.alloc(), line, (*kind, true, 2))?;
     }
-    Ok(())
-}
-
-#[test]
-fn help_and_version_are_for_standard_output(rt: HostRuntime) -> Result<(), Fail> {
-    for (line, kind) in [
-        ("crossbar5 --help", ErrorKind::DisplayHelp),
-        ("crossbar5 -h", ErrorKind::DisplayHelp),
-        ("crossbar5 help", ErrorKind::DisplayHelp),
-        ("crossbar5 help replay", ErrorKind::DisplayHelp),
-        ("crossbar5 help live", ErrorKind::DisplayHelp),
-        ("crossbar5 --help call", ErrorKind::DisplayHelp),
-        ("crossbar5 --help a b c d e f g h", ErrorKind::DisplayHelp),
-        ("crossbar5 replay --help", ErrorKind::DisplayHelp),
-        ("crossbar5 replay --plan a -h", ErrorKind::DisplayHelp),
-        ("crossbar5 --version", ErrorKind::DisplayVersion),
-        ("crossbar5 -V", ErrorKind::DisplayVersion),
-    ] {
-        check_refused(&rt, rt.alloc(), line, (kind, false, 0))?;
+    for (line, kind) in FOR_STANDARD_OUTPUT {
+        check_refused(&rt, rt.alloc(), line, (*kind, false, 0))?;
     }
     Ok(())
 }
@@ -386,14 +373,6 @@ fn check_told(rt: &impl Abort, alloc: Global, line: &str, part: &str) -> Result<
     Ok(())
 }
 
-#[test]
-fn options_are_told(rt: HostRuntime) -> Result<(), Fail> {
-    for (line, part) in TOLD {
-        check_told(&rt, rt.alloc(), line, part)?;
-    }
-    Ok(())
-}
-
 /// What each help says of how to start, and of the statuses.
 const STARTS: &[&str] = &[
     "  printf 'J,0,1,D,3041\\nS,0,128,,\\n' | crossbar5 replay --markers XX\n",
@@ -412,24 +391,46 @@ const STARTS: &[&str] = &[
     "  7  The records, or the counts behind them, aren't right\n",
 ];
 
-#[test]
-fn help_tells_how_to_start(rt: HostRuntime) -> Result<(), Fail> {
-    for line in [
-        "crossbar5 --help",
-        "crossbar5 -h",
-        "crossbar5 replay --help",
-        "crossbar5 walk --help",
-        "crossbar5 live --help",
-        "crossbar5 audit --help",
-        "crossbar5 draw --help",
-        "crossbar5 page --help",
-    ] {
-        for part in STARTS {
-            check_told(&rt, rt.alloc(), line, part)?;
-        }
+const HELPS: &[&str] = &[
+    "crossbar5 --help",
+    "crossbar5 -h",
+    "crossbar5 replay --help",
+    "crossbar5 walk --help",
+    "crossbar5 live --help",
+    "crossbar5 audit --help",
+    "crossbar5 draw --help",
+    "crossbar5 page --help",
+];
+
+fn check_help(rt: &impl Abort, alloc: Global, line: &str) -> Result<(), Fail> {
+    let text = text_of(alloc, line)?;
+    for part in STARTS {
+        check!(rt; text.as_str().contains(*part), "{line}: {part}");
     }
     Ok(())
 }
+
+#[test]
+fn options_and_how_to_start_are_told(rt: HostRuntime) -> Result<(), Fail> {
+    for (line, part) in TOLD {
+        check_told(&rt, rt.alloc(), line, part)?;
+    }
+    for line in HELPS {
+        check_help(&rt, rt.alloc(), line)?;
+    }
+    Ok(())
+}
+
+/// Help as a word, and as an option.
+const SAME_HELP: &[(&str, &str)] = &[
+    ("crossbar5 help", "crossbar5 --help"),
+    ("crossbar5 help replay", "crossbar5 replay --help"),
+    ("crossbar5 help walk", "crossbar5 walk --help"),
+    ("crossbar5 help live", "crossbar5 live --help"),
+    ("crossbar5 help audit", "crossbar5 audit --help"),
+    ("crossbar5 help draw", "crossbar5 draw --help"),
+    ("crossbar5 help page", "crossbar5 page --help"),
+];
 
 /// Two lines of words are told the same.
 fn check_same(rt: &impl Abort, alloc: Global, one: &str, other: &str) -> Result<(), Fail> {
@@ -440,31 +441,18 @@ fn check_same(rt: &impl Abort, alloc: Global, one: &str, other: &str) -> Result<
 
 #[test]
 fn help_as_a_word_is_help_as_an_option(rt: HostRuntime) -> Result<(), Fail> {
-    for (word, option) in [
-        ("crossbar5 help", "crossbar5 --help"),
-        ("crossbar5 help replay", "crossbar5 replay --help"),
-        ("crossbar5 help walk", "crossbar5 walk --help"),
-        ("crossbar5 help live", "crossbar5 live --help"),
-        ("crossbar5 help audit", "crossbar5 audit --help"),
-        ("crossbar5 help draw", "crossbar5 draw --help"),
-        ("crossbar5 help page", "crossbar5 page --help"),
-    ] {
+    for (word, option) in SAME_HELP {
         check_same(&rt, rt.alloc(), word, option)?;
     }
     Ok(())
 }
 
 #[test]
-fn the_version_is_printed(rt: HostRuntime) -> Result<(), Fail> {
-    let text = text_of(rt.alloc(), "elsewhere/other --version")?;
-    check_eq!(rt; text.as_str(), "crossbar5 0.1.0\n");
-    Ok(())
-}
-
-#[test]
-fn a_refused_word_is_named(rt: HostRuntime) -> Result<(), Fail> {
-    let text = text_of(rt.alloc(), "crossbar5 call")?;
+fn versions_and_refused_words_are_told(rt: HostRuntime) -> Result<(), Fail> {
+    let version = text_of(rt.alloc(), "elsewhere/other --version")?;
+    check_eq!(rt; version.as_str(), "crossbar5 0.1.0\n");
+    let refused = text_of(rt.alloc(), "crossbar5 call")?;
     let head = "error: unrecognized subcommand 'call'\n";
-    check!(rt; text.as_str().starts_with(head), "{text}");
+    check!(rt; refused.as_str().starts_with(head), "{refused}");
     Ok(())
 }
