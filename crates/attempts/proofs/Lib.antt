@@ -1,9 +1,13 @@
 pub mod Points
 pub mod ReadOnce
 pub mod EffectsLeft
-pub mod Idle
+pub mod Inside
+pub mod Freeing
+pub mod Ended
 pub mod Places
 pub mod Walking
 pub mod Onward
+pub mod Beginning
 pub mod Giving
+pub mod Taken
 pub mod Counts

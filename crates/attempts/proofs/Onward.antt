@@ -49,16 +49,6 @@ module _ {Lock Job Reply Effect Decision Point : Type 0} (same : Lock → Lock �
   pub unread_to_test : (p : Doing) (word : ℕ) → StandsHere p → p.phase ≡ Tests word → value_read p.readings word ≡ None
   unread_to_test p word stands e = wants_unread same (record { held = p.held; readings = p.readings }) word (S.script p.job) (wants_to_test p word stands e)
 
-  -- where another one follows whatever that shows, that is tested next
-  pub tests_following : (p noted new : Doing) (word value next : ℕ) → p.phase ≡ Tests word → GoesOnTo same (record { held = p.held; readings = p.readings }) (S.script p.job) word next → noted ≡ record p { readings = p.readings ++ record { word = word; value = value } ∷ [] } → new ≡ record noted { phase = Tests next } → attempt_of reply_of effects_of new ≡ changed O (attempt_of reply_of effects_of p) p.phase (Value value)
-  tests_following p noted new word value next e goes noted_is made =
-      ap (attempt_of reply_of effects_of) made ∙ ap (λ (x : Doing). attempt_of reply_of effects_of (record x { phase = Tests next })) noted_is
-      ∙ ap (goes_on O (record (attempt_of reply_of effects_of p) { readings = p.readings ++ record { word = word; value = value } ∷ [] })) (sym (goes value))
-      ∙ ap (λ (phase : Phase Lock ℕ). changed O (attempt_of reply_of effects_of p) phase (Value value)) (sym e)
-
-  pub knows_following : (noted new : Doing) (next : ℕ) → CanWalk same reply_of effects_of S Knows noted → new ≡ record noted { phase = Tests next } → PointHere new
-  knows_following noted new next can made = subst PointHere (sym made) can.knows
-
   -- what the point says is so with a lock or a word more
   pub walks_seized : (p : Doing) (lock : Lock) (expected : ℕ) (new : Doing) → StandsHere p → p.phase ≡ Seizes lock expected → new ≡ record p { held = p.held ++ lock ∷ [] } → CanWalk same reply_of effects_of S Knows new
   walks_seized p lock expected new stands e made =

@@ -1,6 +1,6 @@
 -- an attempt has room for what is left of its script, and stands where its words are
 use Rattle.std.proofs.Common.{◌≡◌, ℕ, true, ◌+◌, ◌-◌, ◌<◌, ◌^◌, List, [], ◌∷◌, ◌++◌, length, length-append, inl, inr, refl, sym, subst, arith}
-use Rattle.std.specs.Prelude.{Result, Ok, Err, ⊤}
+use Rattle.std.specs.Prelude.{Result, Ok, Err}
 use Rattle.turns.specs.Attempt.{AttemptOf, StandsIn, act, act_in, closing_act, free_act, begin, change, changed, come_to, forgotten, freed, goes_on, operated, read_in, rest_of, restarted, restarted_in, seen_of}
 use Rattle.turns.specs.Script.{AsksAtMost, left, walk}
 use Rattle.turns.specs.Seen.{Seen, AreReadWords}
@@ -20,6 +20,7 @@ use Rattle.turns.proofs.Standing.{come_fits, stands_begin, stands_change, stands
 use Rattle.turns.proofs.SteadyAttempts.{job_stays}
 use Rattle.turns.proofs.Words.{read_more}
 use Rattle.attempts.specs.Standing.{AreLocks, AreThere, HasPlace, HasRoom, HasRoomIn}
+use Rattle.attempts.specs.Taken as taken
 
 -- an attempt that has room for what its script wants next has room for what is left then
 pub record RoomAfter (Room : Type 0) (length most : ℕ) : Type 0 where
@@ -28,14 +29,7 @@ pub record RoomAfter (Room : Type 0) (length most : ℕ) : Type 0 where
 
 -- a value that was tested fits a word
 abbrev pub FitsValue : Answer → Type 0
-FitsValue (Asked word) = ⊤
-FitsValue Seized = ⊤
-FitsValue (Held holder) = ⊤
-FitsValue (Preferred other) = ⊤
-FitsValue (Again word) = ⊤
-FitsValue (Value value) = value < 2 ^ 64
-FitsValue (Turn number) = ⊤
-FitsValue Done = ⊤
+FitsValue answer = taken.FitsValue answer
 
 none_read : AreReadWords []
 none_read = λ r none. absurd none

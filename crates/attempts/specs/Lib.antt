@@ -1,5 +1,6 @@
 pub mod SystemWith
 pub mod Points
 pub mod Standing
+pub mod Taken
 pub mod Steps
 pub mod Counting

@@ -30,25 +30,6 @@ abbrev pub wanted_phase : {Lock : Type 0} → Wanted Lock ℕ → Phase Lock ℕ
 wanted_phase (Seize lock) = Requests lock
 wanted_phase (Test word) = Tests word
 
--- its phase is another than this
-abbrev pub NotSeizing : {Lock : Type 0} → Phase Lock ℕ → Type 0
-NotSeizing (Requests lock) = ⊤
-NotSeizing (Seizes lock expected) = ⊥
-NotSeizing (Tests word) = ⊤
-NotSeizing Turns = ⊤
-NotSeizing (Withdraws lock) = ⊤
-NotSeizing GivesBack = ⊤
-NotSeizing (Operates turn) = ⊤
-
-abbrev pub NotTesting : {Lock : Type 0} → Phase Lock ℕ → Type 0
-NotTesting (Requests lock) = ⊤
-NotTesting (Seizes lock expected) = ⊤
-NotTesting (Tests word) = ⊥
-NotTesting Turns = ⊤
-NotTesting (Withdraws lock) = ⊤
-NotTesting GivesBack = ⊤
-NotTesting (Operates turn) = ⊤
-
 -- the effects that are still to be made
 abbrev pub effects_left : {Decision Effect : Type 0} → (Decision → List Effect) → Option Decision → ℕ → List Effect
 effects_left effects_of None made = []

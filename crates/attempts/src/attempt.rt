@@ -1,9 +1,9 @@
-ghost use Rattle.std.specs.Prelude.{◌≡◌, ◌<◌, ◌^◌, ◌++◌, ◌∷◌, [], ℕ, None, Some, IfNone, IfSome, length, option_copied};
+ghost use Rattle.std.specs.Prelude.{◌≡◌, ◌<◌, ◌^◌, ◌++◌, ◌∷◌, [], None, Some, length, option_copied};
 ghost use Rattle.turns.specs.Attempt.{asked_in, rest_of, turn_in};
 ghost use Rattle.turns.specs.Script.{value_read};
 ghost use Rattle.desks.specs.Outcomes.{is_given_up as is_given_up_in};
 ghost use Rattle.attempts.specs.Counting.{count_in, counted, has_made_none};
-ghost use Rattle.attempts.specs.Standing.{NotSeizing, NotTesting, wanted_phase};
+ghost use Rattle.attempts.specs.Taken.{gone_on};
 
 use crate::readings::Readings;
 use crate::scripts::Scripts;
@@ -137,21 +137,18 @@ impl<
         }
     }
 
-    pub(crate) fn decide(&mut self, decision: D)
-        ensures { self.new
-            ≡ record self.old { phase = Phase.Turns; decision = Some decision; made = 0 } }
+    /// Goes on with what its walk came to.
+    pub(crate) fn go_on(&mut self, found: Result<D, Wanted<L, usize>>)
+        ensures { self.new ≡ gone_on self.old found }
     {
-        self.phase = Phase::Turns;
-        self.decision = Some(decision);
-        self.made = 0;
-    }
-
-    pub(crate) fn want(&mut self, wanted: Wanted<L, usize>)
-        ensures { self.new ≡ record self.old { phase = wanted_phase wanted } }
-    {
-        match wanted {
-            Wanted::Seize(lock) => self.phase = Phase::Requests(lock),
-            Wanted::Test(word) => self.phase = Phase::Tests(word),
+        match found {
+            Ok(decision) => {
+                self.phase = Phase::Turns;
+                self.decision = Some(decision);
+                self.made = 0;
+            }
+            Err(Wanted::Seize(lock)) => self.phase = Phase::Requests(lock),
+            Err(Wanted::Test(word)) => self.phase = Phase::Tests(word),
         }
     }
 
@@ -164,41 +161,6 @@ impl<
             Phase::Requests(lock) => Some(lock),
             Phase::Seizes(lock, _) => Some(lock),
             Phase::Tests(_)
-            | Phase::Turns
-            | Phase::Withdraws(_)
-            | Phase::GivesBack
-            | Phase::Operates(_) => None,
-        }
-    }
-
-    /// The lock that it seizes next.
-    pub(crate) fn to_seize(&self) -> Option<L>
-        ensures some { IfSome result
-            (λ lock. (expected : ℕ) × (self.now.phase ≡ Phase.Seizes lock expected)) }
-        ensures none { IfNone result (NotSeizing self.now.phase) }
-    {
-        let phase = self.phase;
-        match phase {
-            Phase::Seizes(lock, _) => Some(lock),
-            Phase::Requests(_)
-            | Phase::Tests(_)
-            | Phase::Turns
-            | Phase::Withdraws(_)
-            | Phase::GivesBack
-            | Phase::Operates(_) => None,
-        }
-    }
-
-    /// The word that it tests next.
-    pub(crate) fn to_test(&self) -> Option<usize>
-        ensures some { IfSome result (λ word. self.now.phase ≡ Phase.Tests word) }
-        ensures none { IfNone result (NotTesting self.now.phase) }
-    {
-        let phase = self.phase;
-        match phase {
-            Phase::Tests(word) => Some(word),
-            Phase::Requests(_)
-            | Phase::Seizes(_, _)
             | Phase::Turns
             | Phase::Withdraws(_)
             | Phase::GivesBack
@@ -226,14 +188,10 @@ impl<
         ensures { result ≡ has_made_none self.now.phase self.now.held }
     {
         let phase = self.phase;
-        match phase {
-            Phase::Requests(_) => self.held.is_empty(),
-            Phase::Seizes(_, _)
-            | Phase::Tests(_)
-            | Phase::Turns
-            | Phase::Withdraws(_)
-            | Phase::GivesBack
-            | Phase::Operates(_) => false,
+        if let Phase::Requests(_) = phase {
+            self.held.is_empty()
+        } else {
+            false
         }
     }
 
@@ -285,14 +243,10 @@ impl<
         ensures { result ≡ turn_in self.now.phase }
     {
         let phase = self.phase;
-        match phase {
-            Phase::Operates(turn) => Some(turn),
-            Phase::Requests(_)
-            | Phase::Seizes(_, _)
-            | Phase::Tests(_)
-            | Phase::Turns
-            | Phase::Withdraws(_)
-            | Phase::GivesBack => None,
+        if let Phase::Operates(turn) = phase {
+            Some(turn)
+        } else {
+            None
         }
     }
 

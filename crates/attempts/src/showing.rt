@@ -24,7 +24,6 @@ fn next_free<S: Scripts<READINGS, HELD>, const READINGS: usize, const HELD: usiz
 }
 
 /// The next of the decision's effects.
-#[tactic(auto, using(crate::proofs::EffectsLeft::left_none))]
 pub(crate) fn next_effect<S: Scripts<READINGS, HELD>, const READINGS: usize, const HELD: usize>(
     program: &AttemptOf<S, READINGS, HELD>,
 ) -> Option<S::Effect>

@@ -80,12 +80,8 @@ fn give_up<S: Scripts<READINGS, HELD>, const READINGS: usize, const HELD: usize>
         program.new.point program.new.phase }
     ensures count { program.new.count ≡ program.old.count }
 {
-    if program.held.is_empty() {
-        begin_again::<S, READINGS, HELD>(program);
-    } else {
-        program.phase = Phase::GivesBack;
-        program.forget();
-    }
+    program.forget();
+    give_back::<S, READINGS, HELD>(program);
 }
 
 /// Begins anew, once all that is held is given back. Past the turn nothing changes.
@@ -97,8 +93,10 @@ fn go_back<S: Scripts<READINGS, HELD>, const READINGS: usize, const HELD: usize>
         attempt_of S.reply_of S.effects_of program.new
         ≡ restarted O (attempt_of S.reply_of S.effects_of program.old) }
     ensures point { (setting : S.Setting) →
-        KnowsIn (S.Knows setting) (attempt_of S.reply_of S.effects_of program.old) program.old.point program.old.phase →
-        KnowsIn (S.Knows setting) (attempt_of S.reply_of S.effects_of program.new) program.new.point program.new.phase }
+        KnowsIn (S.Knows setting) (attempt_of S.reply_of S.effects_of program.old)
+        program.old.point program.old.phase →
+        KnowsIn (S.Knows setting) (attempt_of S.reply_of S.effects_of program.new)
+        program.new.point program.new.phase }
     ensures count { program.new.count ≡ program.old.count }
 {
     let phase = program.phase;
@@ -122,8 +120,10 @@ pub fn restart<S: Scripts<READINGS, HELD>, const READINGS: usize, const HELD: us
     ensures count { program.new.count
         ≡ count_in program.new.phase program.new.held program.old.count }
     ensures point { (setting : S.Setting) →
-        KnowsIn (S.Knows setting) (attempt_of S.reply_of S.effects_of program.old) program.old.point program.old.phase →
-        KnowsIn (S.Knows setting) (attempt_of S.reply_of S.effects_of program.new) program.new.point program.new.phase }
+        KnowsIn (S.Knows setting) (attempt_of S.reply_of S.effects_of program.old)
+        program.old.point program.old.phase →
+        KnowsIn (S.Knows setting) (attempt_of S.reply_of S.effects_of program.new)
+        program.new.point program.new.phase }
     ensures stands { (setting : S.Setting) →
         AreScripts S.Lock.eq S.reply_of S.effects_of (S.system setting) (S.Knows setting) READINGS
         HELD →

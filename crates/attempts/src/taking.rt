@@ -1,11 +1,12 @@
 //! What an attempt makes of the answer to its next step.
 
-ghost use Rattle.std.specs.Prelude.{◌≡◌, ◌<◌, ◌^◌, ℕ, IfSome};
-ghost use Rattle.turns.specs.Attempt.{change, changed, freed, operated, rest_of, walks_on};
+ghost use Rattle.std.specs.Prelude.{◌≡◌, ℕ, IfSome};
+ghost use Rattle.turns.specs.Attempt.{change, freed, operated, rest_of};
 ghost use Rattle.attempts.specs.Counting.{count_in, counted};
 ghost use Rattle.attempts.specs.Points.{GoesOnTo};
 ghost use Rattle.attempts.specs.Standing.{AreScripts, CanWalk, KnowsIn, Stands, attempt_of};
 ghost use Rattle.attempts.specs.SystemWith.{system_with};
+ghost use Rattle.attempts.specs.Taken.{Takes, WalksOn};
 
 use crate::attempt::AttemptOf;
 use crate::scripts::Scripts;
@@ -22,18 +23,12 @@ fn walk_on<S: Scripts<READINGS, HELD>, const READINGS: usize, const HELD: usize>
     requires setting { S.IsSetting setting.now }
     requires walk { CanWalk S.Lock.eq S.reply_of S.effects_of (S.system setting.now)
         (S.Knows setting.now) program.old }
-    ensures walk { let O = system_with S.Lock.eq S.reply_of S.effects_of (S.system setting.now) in
-        attempt_of S.reply_of S.effects_of program.new
-        ≡ walks_on O (attempt_of S.reply_of S.effects_of program.old) }
-    ensures point { KnowsIn (S.Knows setting.now) (attempt_of S.reply_of S.effects_of program.new)
-        program.new.point program.new.phase }
-    ensures count { program.new.count ≡ program.old.count }
+    ensures { WalksOn S.Lock.eq S.reply_of S.effects_of (S.system setting.now) (S.Knows setting.now)
+        program.old program.new }
 {
     let seen = Seen::new(program.held.as_slice(), program.readings.as_slice());
-    match S::walk(setting, &program.job, &mut program.point, &seen) {
-        Ok(decision) => program.decide(decision),
-        Err(wanted) => program.want(wanted),
-    }
+    let found = S::walk(setting, &program.job, &mut program.point, &seen);
+    program.go_on(found);
 }
 
 /// The word that it tests next once it has read this one, where that needs no walk.
@@ -62,23 +57,12 @@ fn take_request<S: Scripts<READINGS, HELD>, const READINGS: usize, const HELD: u
 )
     requires stands { Stands S.Lock.eq S.reply_of S.effects_of (S.system setting.now)
         (S.Knows setting.now) READINGS HELD program.old }
-    ensures change { let O = system_with S.Lock.eq S.reply_of S.effects_of (S.system setting.now) in
-        attempt_of S.reply_of S.effects_of program.new
-        ≡ changed O (attempt_of S.reply_of S.effects_of program.old)
-        program.old.phase (Answer.Asked word) }
-    ensures point { KnowsIn (S.Knows setting.now) (attempt_of S.reply_of S.effects_of program.new)
-        program.new.point program.new.phase }
-    ensures count { program.new.count ≡ program.old.count }
+    ensures { Takes S.Lock.eq S.reply_of S.effects_of (S.system setting.now) (S.Knows setting.now)
+        (Answer.Asked word) program.old program.new }
 {
     let phase = program.phase;
-    match phase {
-        Phase::Requests(lock) => program.phase = Phase::Seizes(lock, word),
-        Phase::Seizes(_, _)
-        | Phase::Tests(_)
-        | Phase::Turns
-        | Phase::Withdraws(_)
-        | Phase::GivesBack
-        | Phase::Operates(_) => {}
+    if let Phase::Requests(lock) = phase {
+        program.phase = Phase::Seizes(lock, word);
     }
 }
 
@@ -90,23 +74,12 @@ fn take_again<S: Scripts<READINGS, HELD>, const READINGS: usize, const HELD: usi
 )
     requires stands { Stands S.Lock.eq S.reply_of S.effects_of (S.system setting.now)
         (S.Knows setting.now) READINGS HELD program.old }
-    ensures change { let O = system_with S.Lock.eq S.reply_of S.effects_of (S.system setting.now) in
-        attempt_of S.reply_of S.effects_of program.new
-        ≡ changed O (attempt_of S.reply_of S.effects_of program.old)
-        program.old.phase (Answer.Again word) }
-    ensures point { KnowsIn (S.Knows setting.now) (attempt_of S.reply_of S.effects_of program.new)
-        program.new.point program.new.phase }
-    ensures count { program.new.count ≡ program.old.count }
+    ensures { Takes S.Lock.eq S.reply_of S.effects_of (S.system setting.now) (S.Knows setting.now)
+        (Answer.Again word) program.old program.new }
 {
     let phase = program.phase;
-    match phase {
-        Phase::Seizes(lock, _) => program.phase = Phase::Seizes(lock, word),
-        Phase::Requests(_)
-        | Phase::Tests(_)
-        | Phase::Turns
-        | Phase::Withdraws(_)
-        | Phase::GivesBack
-        | Phase::Operates(_) => {}
+    if let Phase::Seizes(lock, _) = phase {
+        program.phase = Phase::Seizes(lock, word);
     }
 }
 
@@ -117,24 +90,19 @@ fn take_refusal<S: Scripts<READINGS, HELD>, const READINGS: usize, const HELD: u
 )
     requires stands { Stands S.Lock.eq S.reply_of S.effects_of (S.system setting.now)
         (S.Knows setting.now) READINGS HELD program.old }
-    ensures held { let O = system_with S.Lock.eq S.reply_of S.effects_of (S.system setting.now) in
-        (holder : ℕ) → attempt_of S.reply_of S.effects_of program.new
-        ≡ changed O (attempt_of S.reply_of S.effects_of program.old)
-        program.old.phase (Answer.Held holder) }
-    ensures preferred { let O = system_with S.Lock.eq S.reply_of S.effects_of (S.system setting.now) in
-        (other : ℕ) → attempt_of S.reply_of S.effects_of program.new
-        ≡ changed O (attempt_of S.reply_of S.effects_of program.old)
-        program.old.phase (Answer.Preferred other) }
-    ensures point { KnowsIn (S.Knows setting.now) (attempt_of S.reply_of S.effects_of program.new)
-        program.new.point program.new.phase }
-    ensures count { program.new.count ≡ program.old.count }
+    ensures held { (holder : ℕ) →
+        Takes S.Lock.eq S.reply_of S.effects_of (S.system setting.now) (S.Knows setting.now)
+        (Answer.Held holder) program.old program.new }
+    ensures preferred { (other : ℕ) →
+        Takes S.Lock.eq S.reply_of S.effects_of (S.system setting.now) (S.Knows setting.now)
+        (Answer.Preferred other) program.old program.new }
 {
     if let Some(lock) = program.to_ask() {
         program.put_off(lock);
     }
 }
 
-/// The lock is its own.
+/// The lock is its own: it goes on through its job.
 fn take_lock<S: Scripts<READINGS, HELD>, const READINGS: usize, const HELD: usize>(
     program: &mut AttemptOf<S, READINGS, HELD>,
     setting: &S::Setting,
@@ -144,21 +112,17 @@ fn take_lock<S: Scripts<READINGS, HELD>, const READINGS: usize, const HELD: usiz
         (S.Knows setting.now) READINGS HELD }
     requires stands { Stands S.Lock.eq S.reply_of S.effects_of (S.system setting.now)
         (S.Knows setting.now) READINGS HELD program.old }
-    ensures change { let O = system_with S.Lock.eq S.reply_of S.effects_of (S.system setting.now) in
-        attempt_of S.reply_of S.effects_of program.new
-        ≡ changed O (attempt_of S.reply_of S.effects_of program.old)
-        program.old.phase Answer.Seized }
-    ensures point { KnowsIn (S.Knows setting.now) (attempt_of S.reply_of S.effects_of program.new)
-        program.new.point program.new.phase }
-    ensures count { program.new.count ≡ program.old.count }
+    ensures { Takes S.Lock.eq S.reply_of S.effects_of (S.system setting.now) (S.Knows setting.now)
+        Answer.Seized program.old program.new }
 {
-    if let Some(lock) = program.to_seize() {
+    let phase = program.phase;
+    if let Phase::Seizes(lock, _) = phase {
         program.hold(lock);
         walk_on::<S, READINGS, HELD>(program, setting);
     }
 }
 
-/// The word that it tested has this value.
+/// The word that it tested has this value: it goes on through its job.
 fn take_reading<S: Scripts<READINGS, HELD>, const READINGS: usize, const HELD: usize>(
     program: &mut AttemptOf<S, READINGS, HELD>,
     setting: &S::Setting,
@@ -169,20 +133,15 @@ fn take_reading<S: Scripts<READINGS, HELD>, const READINGS: usize, const HELD: u
         (S.Knows setting.now) READINGS HELD }
     requires stands { Stands S.Lock.eq S.reply_of S.effects_of (S.system setting.now)
         (S.Knows setting.now) READINGS HELD program.old }
-    ensures change { let O = system_with S.Lock.eq S.reply_of S.effects_of (S.system setting.now) in
-        attempt_of S.reply_of S.effects_of program.new
-        ≡ changed O (attempt_of S.reply_of S.effects_of program.old)
-        program.old.phase (Answer.Value value) }
-    ensures fits { value < 2 ^ 64 }
-    ensures point { KnowsIn (S.Knows setting.now) (attempt_of S.reply_of S.effects_of program.new)
-        program.new.point program.new.phase }
-    ensures count { program.new.count ≡ program.old.count }
+    ensures { Takes S.Lock.eq S.reply_of S.effects_of (S.system setting.now) (S.Knows setting.now)
+        (Answer.Value value) program.old program.new }
 {
-    if let Some(word) = program.to_test() {
+    let phase = program.phase;
+    if let Phase::Tests(word) = phase {
         let following = following::<S, READINGS, HELD>(program, setting, word);
         program.note(Reading { word, value });
         match following {
-            Some(next) => program.want(Wanted::Test(next)),
+            Some(next) => program.go_on(Err(Wanted::Test(next))),
             None => walk_on::<S, READINGS, HELD>(program, setting),
         }
     }
@@ -196,23 +155,12 @@ fn take_turn<S: Scripts<READINGS, HELD>, const READINGS: usize, const HELD: usiz
 )
     requires stands { Stands S.Lock.eq S.reply_of S.effects_of (S.system setting.now)
         (S.Knows setting.now) READINGS HELD program.old }
-    ensures change { let O = system_with S.Lock.eq S.reply_of S.effects_of (S.system setting.now) in
-        attempt_of S.reply_of S.effects_of program.new
-        ≡ changed O (attempt_of S.reply_of S.effects_of program.old)
-        program.old.phase (Answer.Turn number) }
-    ensures point { KnowsIn (S.Knows setting.now) (attempt_of S.reply_of S.effects_of program.new)
-        program.new.point program.new.phase }
-    ensures count { program.new.count ≡ program.old.count }
+    ensures { Takes S.Lock.eq S.reply_of S.effects_of (S.system setting.now) (S.Knows setting.now)
+        (Answer.Turn number) program.old program.new }
 {
     let phase = program.phase;
-    match phase {
-        Phase::Turns => program.phase = Phase::Operates(number),
-        Phase::Requests(_)
-        | Phase::Seizes(_, _)
-        | Phase::Tests(_)
-        | Phase::Withdraws(_)
-        | Phase::GivesBack
-        | Phase::Operates(_) => {}
+    if let Phase::Turns = phase {
+        program.phase = Phase::Operates(number);
     }
 }
 
@@ -256,12 +204,8 @@ fn take_done<S: Scripts<READINGS, HELD>, const READINGS: usize, const HELD: usiz
 )
     requires stands { Stands S.Lock.eq S.reply_of S.effects_of (S.system setting.now)
         (S.Knows setting.now) READINGS HELD program.old }
-    ensures change { let O = system_with S.Lock.eq S.reply_of S.effects_of (S.system setting.now) in
-        attempt_of S.reply_of S.effects_of program.new
-        ≡ changed O (attempt_of S.reply_of S.effects_of program.old) program.old.phase Answer.Done }
-    ensures point { KnowsIn (S.Knows setting.now) (attempt_of S.reply_of S.effects_of program.new)
-        program.new.point program.new.phase }
-    ensures count { program.new.count ≡ program.old.count }
+    ensures { Takes S.Lock.eq S.reply_of S.effects_of (S.system setting.now) (S.Knows setting.now)
+        Answer.Done program.old program.new }
 {
     let phase = program.phase;
     match phase {
@@ -272,6 +216,7 @@ fn take_done<S: Scripts<READINGS, HELD>, const READINGS: usize, const HELD: usiz
     }
 }
 
+/// Changes, but for its count.
 fn take_answer<S: Scripts<READINGS, HELD>, const READINGS: usize, const HELD: usize>(
     program: &mut AttemptOf<S, READINGS, HELD>,
     setting: &S::Setting,
@@ -282,12 +227,8 @@ fn take_answer<S: Scripts<READINGS, HELD>, const READINGS: usize, const HELD: us
         (S.Knows setting.now) READINGS HELD }
     requires stands { Stands S.Lock.eq S.reply_of S.effects_of (S.system setting.now)
         (S.Knows setting.now) READINGS HELD program.old }
-    ensures change { let O = system_with S.Lock.eq S.reply_of S.effects_of (S.system setting.now) in
-        attempt_of S.reply_of S.effects_of program.new
-        ≡ change O (attempt_of S.reply_of S.effects_of program.old) answer }
-    ensures stands { Stands S.Lock.eq S.reply_of S.effects_of (S.system setting.now)
-        (S.Knows setting.now) READINGS HELD program.new }
-    ensures count { program.new.count ≡ program.old.count }
+    ensures { Takes S.Lock.eq S.reply_of S.effects_of (S.system setting.now) (S.Knows setting.now)
+        answer program.old program.new }
 {
     match answer {
         Answer::Asked(word) => take_request::<S, READINGS, HELD>(program, setting, word),

@@ -3,7 +3,8 @@ use Rattle.std.proofs.Common.{arith}
 use Rattle.turns.specs.Attempt.{Act, IsAnswerTo, Look, act, begin_with, change, restarted}
 use Rattle.turns.specs.declared.answer.Answer.{Answer}
 use Rattle.turns.specs.declared.answer.Answer.TheVariants.{Asked, Seized, Held, Preferred, Again, Value, Turn, Done}
-use Rattle.attempts.proofs.Places.{FitsValue, place_begin, place_change, place_restarted}
+use Rattle.attempts.specs.Taken.{FitsValue}
+use Rattle.attempts.proofs.Places.{place_begin, place_change, place_restarted}
 use Rattle.xbar_plan.specs.Tables.{Tables}
 use Rattle.xbar_plan.specs.Lawful.{IsLawful}
 use Rattle.xbar_office.specs.Legal.{IsJob}

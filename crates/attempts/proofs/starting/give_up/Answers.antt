@@ -1,10 +1,17 @@
-use Rattle.attempts.proofs.Giving.{gives_up}
-use Rattle.attempts.specs.Standing.{attempt_of}
-use Rattle.attempts.proofs.Walking.{known_anywhere}
+use Rattle.std.proofs.Common.{ap, ◌∙◌}
+use Rattle.turns.specs.Attempt.{freed}
+use Rattle.attempts.specs.Standing.{Program, attempt_of}
+use Rattle.attempts.specs.SystemWith.{system_with}
 use Rattle.attempts.proofs.starting.give_up.Goals as goal
 
-pub returns-then-is_empty-clause-point : goal.returns-then-is_empty-clause-point
-returns-then-is_empty-clause-point g c = λ setting. known_anywhere (g.S.Scripts.Knows setting) (attempt_of g.S.Scripts.reply_of g.S.Scripts.effects_of c.begin_again.new.program) c.begin_again.new.program.point c.begin_again.new.program.phase (c.begin_again.ensures.point setting)
+pub forget-requires : goal.forget-requires
+forget-requires g c = search
 
-pub returns-else-is_empty-clause-frees : goal.returns-else-is_empty-clause-frees
-returns-else-is_empty-clause-frees g c = λ setting. gives_up g.S.Lock.PartialEq.eq g.S.Scripts.reply_of g.S.Scripts.effects_of (g.S.Scripts.system setting) _ _ c.program.view_is c.is_empty.result c.is_empty.ensures c.if-is_empty.false _ c.forget.ensures
+pub returns-clause-frees : goal.returns-clause-frees
+returns-clause-frees g c = λ setting. c.give_back.ensures.frees setting ∙ ap (λ (p : Program _ _ _ _). freed (system_with g.S.Lock.PartialEq.eq g.S.Scripts.reply_of g.S.Scripts.effects_of (g.S.Scripts.system setting)) (attempt_of g.S.Scripts.reply_of g.S.Scripts.effects_of p) p.held) c.forget.ensures
+
+pub returns-clause-point : goal.returns-clause-point
+returns-clause-point g c = c.give_back.ensures.point
+
+pub returns-clause-count : goal.returns-clause-count
+returns-clause-count g c = c.give_back.ensures.count ∙ ap (λ (p : Program _ _ _ _). p.count) c.forget.ensures

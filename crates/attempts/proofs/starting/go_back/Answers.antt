@@ -1,4 +1,34 @@
+use Rattle.std.proofs.Common.{ap, refl, subst, sym}
+use Rattle.attempts.specs.Standing.{Program, KnowsIn, attempt_of}
+use Rattle.attempts.proofs.Giving.{gives_up, stays, withdraws}
 use Rattle.attempts.proofs.starting.go_back.Goals as goal
+
+pub put_off-requires : goal.put_off-requires
+put_off-requires g c = search
+
+pub returns-in-Requests-clause-restarts : goal.returns-in-Requests-clause-restarts
+returns-in-Requests-clause-restarts g c = λ setting. gives_up g.S.Lock.PartialEq.eq g.S.Scripts.reply_of g.S.Scripts.effects_of (g.S.Scripts.system setting) _ c.args.program.now c.give_up.new.program c.program.view_is c.in-Requests.is (c.give_up.ensures.frees setting)
 
 pub returns-in-Requests-clause-point : goal.returns-in-Requests-clause-point
 returns-in-Requests-clause-point g c = λ setting known. c.give_up.ensures.point setting
+
+pub returns-in-Requests-clause-count : goal.returns-in-Requests-clause-count
+returns-in-Requests-clause-count g c = c.give_up.ensures.count
+
+pub returns-in-Seizes-clause-restarts : goal.returns-in-Seizes-clause-restarts
+returns-in-Seizes-clause-restarts g c = λ setting. withdraws g.S.Lock.PartialEq.eq g.S.Scripts.reply_of g.S.Scripts.effects_of (g.S.Scripts.system setting) _ c.args.program.now c.put_off.new.self c.program.view_is c.in-Seizes.lock c.in-Seizes.field-1 c.in-Seizes.is c.put_off.ensures
+
+pub returns-in-Seizes-clause-point : goal.returns-in-Seizes-clause-point
+returns-in-Seizes-clause-point g c = λ setting known. subst (λ (p : Program _ _ _ _). KnowsIn (g.S.Scripts.Knows setting) (attempt_of g.S.Scripts.reply_of g.S.Scripts.effects_of p) p.point p.phase) (sym c.put_off.ensures) tt
+
+pub returns-in-Seizes-clause-count : goal.returns-in-Seizes-clause-count
+returns-in-Seizes-clause-count g c = ap (λ (p : Program _ _ _ _). p.count) c.put_off.ensures
+
+pub returns-in-Withdraws-clause-restarts : goal.returns-in-Withdraws-clause-restarts
+returns-in-Withdraws-clause-restarts g c = λ setting. stays g.S.Lock.PartialEq.eq g.S.Scripts.reply_of g.S.Scripts.effects_of (g.S.Scripts.system setting) _ c.args.program.now c.args.program.now c.program.view_is c.in-Withdraws.is
+
+pub returns-in-Withdraws-clause-point : goal.returns-in-Withdraws-clause-point
+returns-in-Withdraws-clause-point g c = λ setting known. known
+
+pub returns-in-Withdraws-clause-count : goal.returns-in-Withdraws-clause-count
+returns-in-Withdraws-clause-count g c = refl

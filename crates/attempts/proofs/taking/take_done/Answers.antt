@@ -1,7 +1,18 @@
+use Rattle.std.proofs.Common.{◌∙◌}
+use Rattle.turns.specs.declared.answer.Answer.TheVariants.{Done}
+use Rattle.turns.specs.declared.phase.Phase.TheVariants.{GivesBack, Operates, Withdraws}
+use Rattle.attempts.proofs.Inside.{phase_now}
+use Rattle.attempts.proofs.Taken.{not_done, operates_point, took}
 use Rattle.attempts.proofs.taking.take_done.Goals as goal
 
-pub returns-in-Withdraws-clause-point : goal.returns-in-Withdraws-clause-point
-returns-in-Withdraws-clause-point g c = c.give_back.ensures.point c.args.setting.now
+pub returns-in-Withdraws : goal.returns-in-Withdraws
+returns-in-Withdraws g c = took g.S.Lock.PartialEq.eq g.S.Scripts.reply_of g.S.Scripts.effects_of (g.S.Scripts.system c.args.setting.now) (g.S.Scripts.Knows c.args.setting.now) c.args.program.now c.give_back.new.program (Withdraws c.in-Withdraws.field-0) Done (phase_now _ c.args.program.now (Withdraws c.in-Withdraws.field-0) c.program.view_is c.in-Withdraws.is) tt (c.give_back.ensures.frees c.args.setting.now) (c.give_back.ensures.point c.args.setting.now) c.give_back.ensures.count
 
-pub returns-in-GivesBack-clause-point : goal.returns-in-GivesBack-clause-point
-returns-in-GivesBack-clause-point g c = c.free_on.ensures.point c.args.setting.now
+pub returns-in-GivesBack : goal.returns-in-GivesBack
+returns-in-GivesBack g c = took g.S.Lock.PartialEq.eq g.S.Scripts.reply_of g.S.Scripts.effects_of (g.S.Scripts.system c.args.setting.now) (g.S.Scripts.Knows c.args.setting.now) c.args.program.now c.free_on.new.program GivesBack Done (phase_now _ c.args.program.now GivesBack c.program.view_is c.in-GivesBack.is) tt (c.free_on.ensures.frees c.args.setting.now) (c.free_on.ensures.point c.args.setting.now) c.free_on.ensures.count
+
+pub returns-in-Operates : goal.returns-in-Operates
+returns-in-Operates g c = took g.S.Lock.PartialEq.eq g.S.Scripts.reply_of g.S.Scripts.effects_of (g.S.Scripts.system c.args.setting.now) (g.S.Scripts.Knows c.args.setting.now) c.args.program.now c.operate.new.program (Operates c.in-Operates.field-0) Done (phase_now _ c.args.program.now (Operates c.in-Operates.field-0) c.program.view_is c.in-Operates.is) tt c.operate.ensures.operates (operates_point g.S.Lock.PartialEq.eq g.S.Scripts.reply_of g.S.Scripts.effects_of (g.S.Scripts.system c.args.setting.now) (g.S.Scripts.Knows c.args.setting.now) c.operate.new.program c.in-Operates.field-0 (c.operate.ensures.phase ∙ (phase_now _ c.args.program.now (Operates c.in-Operates.field-0) c.program.view_is c.in-Operates.is))) c.operate.ensures.count
+
+pub returns-in-Requests : goal.returns-in-Requests
+returns-in-Requests g c = not_done g.S.Lock.PartialEq.eq g.S.Scripts.reply_of g.S.Scripts.effects_of (g.S.Scripts.system c.args.setting.now) (g.S.Scripts.Knows c.args.setting.now) _ c.args.program.now c.program.view_is c.requires.stands.point c.in-Requests.is

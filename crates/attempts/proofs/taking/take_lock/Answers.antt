@@ -1,20 +1,17 @@
-use Rattle.std.proofs.Common.{arith, rules, sym, ap, ◌∙◌}
-use Rattle.turns.specs.Attempt.{changed, walks_on}
-use Rattle.turns.specs.declared.answer.Answer.TheVariants.{Seized}
-use Rattle.attempts.specs.Standing.{attempt_of}
-use Rattle.attempts.specs.SystemWith.{system_with}
-use Rattle.attempts.proofs.Idle.{idle_seized}
+use Rattle.turns.specs.declared.phase.Phase.TheVariants.{Seizes}
+use Rattle.attempts.proofs.Inside.{phase_now}
 use Rattle.attempts.proofs.Onward.{room_to_seize, walks_seized}
+use Rattle.attempts.proofs.Taken.{not_seized, seized}
 use Rattle.attempts.proofs.taking.take_lock.Goals as goal
 
 pub hold-requires : goal.hold-requires
-hold-requires g c = (omega arith, room_to_seize g.S.Lock.PartialEq.eq g.S.Scripts.reply_of g.S.Scripts.effects_of (g.S.Scripts.system c.args.setting.now) (g.S.Scripts.Knows c.args.setting.now) _ _ c.requires.scripts c.args.program.now c.in-Some.lock c.in-Some.ensures.some.0 c.requires.stands c.in-Some.ensures.some.1)
+hold-requires g c = (search, room_to_seize g.S.Lock.PartialEq.eq g.S.Scripts.reply_of g.S.Scripts.effects_of (g.S.Scripts.system c.args.setting.now) (g.S.Scripts.Knows c.args.setting.now) _ _ c.requires.scripts c.args.program.now c.in-Seizes.lock c.in-Seizes.field-1 c.requires.stands (phase_now _ c.args.program.now (Seizes c.in-Seizes.lock c.in-Seizes.field-1) c.program.view_is c.in-Seizes.is))
 
 pub walk_on-requires : goal.walk_on-requires
-walk_on-requires g c = (first_of (search rules, omega arith), (c.requires.setting, walks_seized g.S.Lock.PartialEq.eq g.S.Scripts.reply_of g.S.Scripts.effects_of (g.S.Scripts.system c.args.setting.now) (g.S.Scripts.Knows c.args.setting.now) _ _ c.requires.scripts c.args.program.now c.in-Some.lock c.in-Some.ensures.some.0 _ c.requires.stands c.in-Some.ensures.some.1 c.hold.ensures))
+walk_on-requires g c = (search, (c.requires.setting, walks_seized g.S.Lock.PartialEq.eq g.S.Scripts.reply_of g.S.Scripts.effects_of (g.S.Scripts.system c.args.setting.now) (g.S.Scripts.Knows c.args.setting.now) _ _ c.requires.scripts c.args.program.now c.in-Seizes.lock c.in-Seizes.field-1 c.hold.new.self c.requires.stands (phase_now _ c.args.program.now (Seizes c.in-Seizes.lock c.in-Seizes.field-1) c.program.view_is c.in-Seizes.is) c.hold.ensures))
 
-pub returns-in-Some-clause-change : goal.returns-in-Some-clause-change
-returns-in-Some-clause-change g c = c.walk_on.ensures.walk ∙ ap (λ p. walks_on (system_with g.S.Lock.PartialEq.eq g.S.Scripts.reply_of g.S.Scripts.effects_of (g.S.Scripts.system c.args.setting.now)) (attempt_of g.S.Scripts.reply_of g.S.Scripts.effects_of p)) c.hold.ensures ∙ ap (λ phase. changed (system_with g.S.Lock.PartialEq.eq g.S.Scripts.reply_of g.S.Scripts.effects_of (g.S.Scripts.system c.args.setting.now)) (attempt_of g.S.Scripts.reply_of g.S.Scripts.effects_of c.args.program.now) phase Seized) (sym c.in-Some.ensures.some.1)
+pub returns-in-Seizes : goal.returns-in-Seizes
+returns-in-Seizes g c = seized g.S.Lock.PartialEq.eq g.S.Scripts.reply_of g.S.Scripts.effects_of (g.S.Scripts.system c.args.setting.now) (g.S.Scripts.Knows c.args.setting.now) c.args.program.now c.hold.new.self _ c.in-Seizes.lock c.in-Seizes.field-1 (phase_now _ c.args.program.now (Seizes c.in-Seizes.lock c.in-Seizes.field-1) c.program.view_is c.in-Seizes.is) c.hold.ensures c.walk_on.ensures
 
-pub returns-in_default-clause-change : goal.returns-in_default-clause-change
-returns-in_default-clause-change g c = idle_seized (system_with g.S.Lock.PartialEq.eq g.S.Scripts.reply_of g.S.Scripts.effects_of (g.S.Scripts.system c.args.setting.now)) (attempt_of g.S.Scripts.reply_of g.S.Scripts.effects_of c.args.program.now) c.args.program.now.phase c.in_default.ensures.none
+pub returns-in_default : goal.returns-in_default
+returns-in_default g c = not_seized g.S.Lock.PartialEq.eq g.S.Scripts.reply_of g.S.Scripts.effects_of (g.S.Scripts.system c.args.setting.now) (g.S.Scripts.Knows c.args.setting.now) _ c.args.program.now c.program.view_is c.requires.stands.point c.in_default.not-Seizes

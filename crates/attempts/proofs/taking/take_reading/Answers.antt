@@ -1,37 +1,29 @@
-use Rattle.std.proofs.Common.{arith, rules, sym, ap, ◌∙◌}
-use Rattle.turns.specs.Attempt.{changed, walks_on}
-use Rattle.turns.specs.declared.answer.Answer.TheVariants.{Value}
-use Rattle.attempts.specs.Standing.{attempt_of}
-use Rattle.attempts.specs.SystemWith.{system_with}
-use Rattle.attempts.proofs.Idle.{idle_read}
-use Rattle.attempts.proofs.Onward.{knows_following, room_to_test, tests_following, unread_to_test, walks_read}
+use Rattle.turns.specs.declared.phase.Phase.TheVariants.{Tests}
+use Rattle.attempts.proofs.Inside.{phase_now}
+use Rattle.attempts.proofs.Onward.{room_to_test, unread_to_test, walks_read}
+use Rattle.attempts.proofs.Taken.{follows, not_read, reads}
 use Rattle.attempts.proofs.taking.take_reading.Goals as goal
+
+pub following-following-requires : goal.following-following-requires
+following-following-requires g c = (search, (c.requires.setting, (c.requires.stands, phase_now _ c.args.program.now (Tests c.in-Tests.word) c.program.view_is c.in-Tests.is)))
 
 pub note-requires : goal.note-requires
 note-requires g c = (
-  omega arith,
+  search,
   (
-    room_to_test g.S.Lock.PartialEq.eq g.S.Scripts.reply_of g.S.Scripts.effects_of (g.S.Scripts.system c.args.setting.now) (g.S.Scripts.Knows c.args.setting.now) _ _ c.requires.scripts c.args.program.now c.in-Some.word c.requires.stands c.in-Some.ensures.some,
-    unread_to_test g.S.Lock.PartialEq.eq g.S.Scripts.reply_of g.S.Scripts.effects_of (g.S.Scripts.system c.args.setting.now) (g.S.Scripts.Knows c.args.setting.now) _ _ c.requires.scripts c.args.program.now c.in-Some.word c.requires.stands c.in-Some.ensures.some,
+    room_to_test g.S.Lock.PartialEq.eq g.S.Scripts.reply_of g.S.Scripts.effects_of (g.S.Scripts.system c.args.setting.now) (g.S.Scripts.Knows c.args.setting.now) _ _ c.requires.scripts c.args.program.now c.in-Tests.word c.requires.stands (phase_now _ c.args.program.now (Tests c.in-Tests.word) c.program.view_is c.in-Tests.is),
+    unread_to_test g.S.Lock.PartialEq.eq g.S.Scripts.reply_of g.S.Scripts.effects_of (g.S.Scripts.system c.args.setting.now) (g.S.Scripts.Knows c.args.setting.now) _ _ c.requires.scripts c.args.program.now c.in-Tests.word c.requires.stands (phase_now _ c.args.program.now (Tests c.in-Tests.word) c.program.view_is c.in-Tests.is),
   ),
 )
 
-pub want-requires : goal.want-requires
-want-requires g c = first_of (omega arith, search rules)
-
 pub walk_on-requires : goal.walk_on-requires
-walk_on-requires g c = (first_of (search rules, omega arith), (c.requires.setting, walks_read g.S.Lock.PartialEq.eq g.S.Scripts.reply_of g.S.Scripts.effects_of (g.S.Scripts.system c.args.setting.now) (g.S.Scripts.Knows c.args.setting.now) _ _ c.requires.scripts c.args.program.now c.in-Some.word c.args.value _ (omega arith) c.requires.stands c.in-Some.ensures.some c.note.ensures))
+walk_on-requires g c = (search, (c.requires.setting, walks_read g.S.Lock.PartialEq.eq g.S.Scripts.reply_of g.S.Scripts.effects_of (g.S.Scripts.system c.args.setting.now) (g.S.Scripts.Knows c.args.setting.now) _ _ c.requires.scripts c.args.program.now c.in-Tests.word c.args.value c.note.new.self c.ranges.value.fits c.requires.stands (phase_now _ c.args.program.now (Tests c.in-Tests.word) c.program.view_is c.in-Tests.is) c.note.ensures))
 
-pub returns-in-Some-following-clause-change : goal.returns-in-Some-following-clause-change
-returns-in-Some-following-clause-change g c = tests_following g.S.Lock.PartialEq.eq g.S.Scripts.reply_of g.S.Scripts.effects_of (g.S.Scripts.system c.args.setting.now) (g.S.Scripts.Knows c.args.setting.now) _ _ c.requires.scripts c.args.program.now _ _ c.in-Some.word c.args.value c.in-Some-following.next c.in-Some.ensures.some c.in-Some-following.ensures c.note.ensures c.want.ensures
+pub returns-in-Some : goal.returns-in-Some
+returns-in-Some g c = follows g.S.Lock.PartialEq.eq g.S.Scripts.reply_of g.S.Scripts.effects_of (g.S.Scripts.system c.args.setting.now) (g.S.Scripts.Knows c.args.setting.now) c.args.program.now c.note.new.self c.go_on.new.self c.in-Tests.word c.args.value (phase_now _ c.args.program.now (Tests c.in-Tests.word) c.program.view_is c.in-Tests.is) c.ranges.value.fits c.note.ensures c.in-Some.next c.in-Some.ensures (walks_read g.S.Lock.PartialEq.eq g.S.Scripts.reply_of g.S.Scripts.effects_of (g.S.Scripts.system c.args.setting.now) (g.S.Scripts.Knows c.args.setting.now) _ _ c.requires.scripts c.args.program.now c.in-Tests.word c.args.value c.note.new.self c.ranges.value.fits c.requires.stands (phase_now _ c.args.program.now (Tests c.in-Tests.word) c.program.view_is c.in-Tests.is) c.note.ensures) c.go_on.ensures
 
-pub returns-in-Some-following-clause-point : goal.returns-in-Some-following-clause-point
-returns-in-Some-following-clause-point g c =
-    let can = walks_read g.S.Lock.PartialEq.eq g.S.Scripts.reply_of g.S.Scripts.effects_of (g.S.Scripts.system c.args.setting.now) (g.S.Scripts.Knows c.args.setting.now) _ _ c.requires.scripts c.args.program.now c.in-Some.word c.args.value _ (omega arith) c.requires.stands c.in-Some.ensures.some c.note.ensures in
-    knows_following g.S.Lock.PartialEq.eq g.S.Scripts.reply_of g.S.Scripts.effects_of (g.S.Scripts.system c.args.setting.now) (g.S.Scripts.Knows c.args.setting.now) _ _ c.requires.scripts _ _ c.in-Some-following.next can c.want.ensures
+pub returns-in-None : goal.returns-in-None
+returns-in-None g c = reads g.S.Lock.PartialEq.eq g.S.Scripts.reply_of g.S.Scripts.effects_of (g.S.Scripts.system c.args.setting.now) (g.S.Scripts.Knows c.args.setting.now) c.args.program.now c.note.new.self _ c.in-Tests.word c.args.value (phase_now _ c.args.program.now (Tests c.in-Tests.word) c.program.view_is c.in-Tests.is) c.ranges.value.fits c.note.ensures c.walk_on.ensures
 
-pub returns-in-None-clause-change : goal.returns-in-None-clause-change
-returns-in-None-clause-change g c = c.walk_on.ensures.walk ∙ ap (λ p. walks_on (system_with g.S.Lock.PartialEq.eq g.S.Scripts.reply_of g.S.Scripts.effects_of (g.S.Scripts.system c.args.setting.now)) (attempt_of g.S.Scripts.reply_of g.S.Scripts.effects_of p)) c.note.ensures ∙ ap (λ phase. changed (system_with g.S.Lock.PartialEq.eq g.S.Scripts.reply_of g.S.Scripts.effects_of (g.S.Scripts.system c.args.setting.now)) (attempt_of g.S.Scripts.reply_of g.S.Scripts.effects_of c.args.program.now) phase (Value c.args.value)) (sym c.in-Some.ensures.some)
-
-pub returns-in_default-clause-change : goal.returns-in_default-clause-change
-returns-in_default-clause-change g c = idle_read (system_with g.S.Lock.PartialEq.eq g.S.Scripts.reply_of g.S.Scripts.effects_of (g.S.Scripts.system c.args.setting.now)) (attempt_of g.S.Scripts.reply_of g.S.Scripts.effects_of c.args.program.now) c.args.program.now.phase c.args.value c.in_default.ensures.none
+pub returns-in_default : goal.returns-in_default
+returns-in_default g c = not_read g.S.Lock.PartialEq.eq g.S.Scripts.reply_of g.S.Scripts.effects_of (g.S.Scripts.system c.args.setting.now) (g.S.Scripts.Knows c.args.setting.now) _ c.args.program.now c.program.view_is c.requires.stands.point c.args.value c.ranges.value.fits c.in_default.not-Tests

@@ -1,18 +1,17 @@
-use Rattle.std.proofs.Common.{arith, rules}
-use Rattle.attempts.proofs.Walking.{answers_err, answers_ok, answers_point, read_inside}
+use Rattle.attempts.proofs.Taken.{able, walked}
 use Rattle.attempts.proofs.taking.walk_on.Goals as goal
 
-pub walk-requires-clause-read : goal.walk-requires-clause-read
-walk-requires-clause-read g c = read_inside g.S.Lock.PartialEq.eq g.S.Scripts.reply_of g.S.Scripts.effects_of (g.S.Scripts.system c.args.setting.now) (g.S.Scripts.Knows c.args.setting.now) _ _ _ _ _ c.program.view_is c.new-seen.ensures c.as_slice-2.ensures.value c.requires.walk.read
+pub walk-found-requires-clause-setting : goal.walk-found-requires-clause-setting
+walk-found-requires-clause-setting g c = c.requires.setting
 
-pub want-requires : goal.want-requires
-want-requires g c = first_of (omega arith, search rules)
+pub walk-found-requires-clause-job : goal.walk-found-requires-clause-job
+walk-found-requires-clause-job g c = (able g.S.Lock.PartialEq.eq g.S.Scripts.reply_of g.S.Scripts.effects_of (g.S.Scripts.system c.args.setting.now) (g.S.Scripts.Knows c.args.setting.now) c.args.program.now _ c.new-seen.result c.as_slice.result.now c.as_slice-2.result.now c.program.view_is c.new-seen.ensures c.as_slice.ensures.value c.as_slice-2.ensures.value c.requires.walk).job
 
-pub returns-in-Ok-clause-walk : goal.returns-in-Ok-clause-walk
-returns-in-Ok-clause-walk g c = answers_ok g.S.Lock.PartialEq.eq g.S.Scripts.reply_of g.S.Scripts.effects_of (g.S.Scripts.system c.args.setting.now) (g.S.Scripts.Knows c.args.setting.now) _ _ _ _ _ _ c.program.view_is c.new-seen.ensures c.as_slice.ensures.value c.as_slice-2.ensures.value c.walk.ensures.walk _ _ _ c.in-Ok.is c.decide.ensures
+pub walk-found-requires-clause-read : goal.walk-found-requires-clause-read
+walk-found-requires-clause-read g c = (able g.S.Lock.PartialEq.eq g.S.Scripts.reply_of g.S.Scripts.effects_of (g.S.Scripts.system c.args.setting.now) (g.S.Scripts.Knows c.args.setting.now) c.args.program.now _ c.new-seen.result c.as_slice.result.now c.as_slice-2.result.now c.program.view_is c.new-seen.ensures c.as_slice.ensures.value c.as_slice-2.ensures.value c.requires.walk).read
 
-pub returns-in-Err-clause-walk : goal.returns-in-Err-clause-walk
-returns-in-Err-clause-walk g c = answers_err g.S.Lock.PartialEq.eq g.S.Scripts.reply_of g.S.Scripts.effects_of (g.S.Scripts.system c.args.setting.now) (g.S.Scripts.Knows c.args.setting.now) _ _ _ _ _ _ c.program.view_is c.new-seen.ensures c.as_slice.ensures.value c.as_slice-2.ensures.value c.walk.ensures.walk _ _ _ c.in-Err.is c.want.ensures
+pub walk-found-requires-clause-knows : goal.walk-found-requires-clause-knows
+walk-found-requires-clause-knows g c = (able g.S.Lock.PartialEq.eq g.S.Scripts.reply_of g.S.Scripts.effects_of (g.S.Scripts.system c.args.setting.now) (g.S.Scripts.Knows c.args.setting.now) c.args.program.now _ c.new-seen.result c.as_slice.result.now c.as_slice-2.result.now c.program.view_is c.new-seen.ensures c.as_slice.ensures.value c.as_slice-2.ensures.value c.requires.walk).knows
 
-pub returns-in-Err-clause-point : goal.returns-in-Err-clause-point
-returns-in-Err-clause-point g c = answers_point g.S.Lock.PartialEq.eq g.S.Scripts.reply_of g.S.Scripts.effects_of (g.S.Scripts.system c.args.setting.now) (g.S.Scripts.Knows c.args.setting.now) _ _ _ _ _ c.walk.result c.program.view_is c.new-seen.ensures c.as_slice.ensures.value c.as_slice-2.ensures.value _ _ _ c.walk.ensures.knows c.want.ensures
+pub returns : goal.returns
+returns g c = walked g.S.Lock.PartialEq.eq g.S.Scripts.reply_of g.S.Scripts.effects_of (g.S.Scripts.system c.args.setting.now) (g.S.Scripts.Knows c.args.setting.now) c.args.program.now _ c.new-seen.result c.as_slice.result.now c.as_slice-2.result.now c.program.view_is c.new-seen.ensures c.as_slice.ensures.value c.as_slice-2.ensures.value c.go_on.new.self c.walk-found.new.point c.walk-found.result c.walk-found.ensures.walk c.walk-found.ensures.knows c.go_on.ensures

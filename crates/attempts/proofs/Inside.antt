@@ -1,0 +1,73 @@
+-- an attempt from inside, as its methods have it, and from outside
+use Rattle.std.proofs.Common.{◌≡◌, ℕ, ◌<◌, ◌+◌, ◌^◌, false, List, [], ◌∷◌, refl, sym, ◌∙◌, ap, subst}
+use Rattle.std.specs.Prelude.{Option, Some, None, IfSome, slice_get}
+use Rattle.turns.specs.Attempt.{Act, Free, Rest, free_act, turn_in}
+use Rattle.turns.specs.declared.phase.Phase.{Phase}
+use Rattle.turns.specs.declared.phase.Phase.TheVariants.{Requests, Seizes, Tests, Turns, Withdraws, GivesBack, Operates}
+use Rattle.turns.specs.declared.reading.Reading.{Reading}
+use Rattle.attempts.specs.Counting.{has_made_none}
+use Rattle.attempts.specs.Standing.{Program, effects_left}
+
+-- what is told by its phase
+pub in_phase : {Lock Job Decision Point A : Type 0} (f : Program Lock Job Decision Point → Phase Lock ℕ → A) (p now : Program Lock Job Decision Point) (phase : Phase Lock ℕ) → p ≡ now → p.phase ≡ phase → f p phase ≡ f now now.phase
+in_phase f p now phase inside is = ap (f p) (sym is) ∙ ap (λ (x : Program _ _ _ _). f x x.phase) inside
+
+pub phase_now : {Lock Job Decision Point : Type 0} (p now : Program Lock Job Decision Point) (phase : Phase Lock ℕ) → p ≡ now → p.phase ≡ phase → now.phase ≡ phase
+phase_now p now phase inside is = sym (ap (λ (x : Program _ _ _ _). x.phase) inside) ∙ is
+
+pub same_count : {Lock Job Decision Point : Type 0} (p now : Program Lock Job Decision Point) → p ≡ now → p.count ≡ now.count
+same_count p now inside = ap (λ (x : Program _ _ _ _). x.count) inside
+
+-- with other readings, or holding others
+pub with_readings : {Lock Job Decision Point : Type 0} (p : Program Lock Job Decision Point) (now : Program Lock Job Decision Point) (readings : List (Reading ℕ)) (of : List (Reading ℕ) → List (Reading ℕ)) → p ≡ now → readings ≡ of p.readings → record p { readings = readings } ≡ record now { readings = of now.readings }
+with_readings p now readings of inside are = ap (λ (rs : List (Reading ℕ)). record p { readings = rs }) are ∙ ap (λ (x : Program _ _ _ _). record x { readings = of x.readings }) inside
+
+pub with_held : {Lock Job Decision Point : Type 0} (p now : Program Lock Job Decision Point) (held : List Lock) (of : List Lock → List Lock) → p ≡ now → held ≡ of p.held → record p { held = held } ≡ record now { held = of now.held }
+with_held p now held of inside is = ap (λ (h : List _). record p { held = h }) is ∙ ap (λ (x : Program _ _ _ _). record x { held = of x.held }) inside
+
+pub forgets : {Lock Job Decision Point : Type 0} (p now : Program Lock Job Decision Point) (readings : List (Reading ℕ)) → p ≡ now → readings ≡ [] → record p { readings = readings; decision = None; made = 0 } ≡ record now { readings = []; decision = None; made = 0 }
+forgets p now readings inside none = ap (λ (rs : List (Reading ℕ)). record p { readings = rs; decision = None; made = 0 }) none ∙ ap (λ (x : Program _ _ _ _). record x { readings = []; decision = None; made = 0 }) inside
+
+pub begins_anew : {Lock Job Decision Point : Type 0} (p now new : Program Lock Job Decision Point) (held : List Lock) (first : Lock) (point : Point) → p ≡ now → held ≡ [] → new ≡ record p { point = point; readings = []; held = held; phase = Requests first; decision = None; made = 0 } → new ≡ record now { point = point; readings = []; held = []; phase = Requests first; decision = None; made = 0 }
+begins_anew p now new held first point inside none made = made ∙ ap (λ (h : List _). record p { point = point; readings = []; held = h; phase = Requests first; decision = None; made = 0 }) none ∙ ap (λ (x : Program _ _ _ _). record x { point = point; readings = []; held = []; phase = Requests first; decision = None; made = 0 }) inside
+
+-- with nothing read and nothing held
+pub is_new : {Lock Job Decision Point : Type 0} (job : Job) (point : Point) (first : Lock) (readings : List (Reading ℕ)) (held : List Lock) → readings ≡ [] → held ≡ [] → ◌≡◌ {A = Program Lock Job Decision Point} (record { job = job; point = point; readings = readings; held = held; phase = Requests first; decision = None; made = 0; count = 0 }) (record { job = job; point = point; readings = []; held = []; phase = Requests first; decision = None; made = 0; count = 0 })
+is_new {Lock} {Job} {Decision} {Point} job point first readings held none empty =
+    let made : List (Reading ℕ) → List Lock → Program Lock Job Decision Point = λ rs h. record { job = job; point = point; readings = rs; held = h; phase = Requests first; decision = None; made = 0; count = 0 } in
+    ap (λ (rs : List (Reading ℕ)). made rs held) none ∙ ap (made []) empty
+
+-- a phase that is no other's has no turn, and is no beginning
+pub no_turn : {Lock : Type 0} (phase : Phase Lock ℕ) → ((turn : ℕ) → phase ≡ Operates turn → ⊥) → None ≡ turn_in phase
+no_turn (Requests lock) not = refl
+no_turn (Seizes lock expected) not = refl
+no_turn (Tests word) not = refl
+no_turn Turns not = refl
+no_turn (Withdraws lock) not = refl
+no_turn GivesBack not = refl
+no_turn (Operates turn) not = absurd (not turn refl)
+
+pub has_begun : {Lock : Type 0} (phase : Phase Lock ℕ) (held : List Lock) → ((lock : Lock) → phase ≡ Requests lock → ⊥) → false ≡ has_made_none phase held
+has_begun (Requests lock) held not = absurd (not lock refl)
+has_begun (Seizes lock expected) held not = refl
+has_begun (Tests word) held not = refl
+has_begun Turns held not = refl
+has_begun (Withdraws lock) held not = refl
+has_begun GivesBack held not = refl
+has_begun (Operates turn) held not = refl
+
+-- what is held is freed from the first on
+pub frees_first : {Lock Effect : Type 0} (held : List Lock) (lock : Lock) → Some lock ≡ slice_get held 0 → ◌≡◌ {A = Act Lock Effect} (Free lock) (free_act held)
+frees_first [] lock e = absurd cc
+frees_first (own ∷ held) lock e = let same : lock ≡ own = cc in ap Free same
+
+pub frees_none : {Lock Effect : Type 0} (held : List Lock) → None ≡ slice_get held 0 → ◌≡◌ {A = Act Lock Effect} Rest (free_act held)
+frees_none [] e = refl
+frees_none (own ∷ held) e = absurd cc
+
+-- undecided, it has no effect left to make
+pub undecided : {Lock Job Decision Point Effect : Type 0} (effects_of : Decision → List Effect) (p now : Program Lock Job Decision Point) → p ≡ now → p.decision ≡ None → effects_left effects_of now.decision now.made ≡ []
+undecided effects_of p now inside none = sym (ap (λ (x : Program _ _ _ _). effects_left effects_of x.decision x.made) inside) ∙ ap (λ (d : Option _). effects_left effects_of d p.made) none
+
+pub more_fits : {Lock Job Decision Point Effect : Type 0} (p now : Program Lock Job Decision Point) (found : Option Effect) → p ≡ now → IfSome found (λ effect. p.made + 1 < 2 ^ 64) → IfSome found (λ effect. now.made + 1 < 2 ^ 64)
+more_fits p now found inside more = subst (λ (x : Program _ _ _ _). IfSome found (λ effect. x.made + 1 < 2 ^ 64)) inside more

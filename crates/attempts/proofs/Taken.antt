@@ -1,0 +1,243 @@
+-- what attempts make of answers, as the code has it
+use Rattle.std.proofs.Common.{◌≡◌, ℕ, Bool, List, [], ◌∷◌, ◌++◌, ◌+◌, ◌⊎◌, inl, inr, refl, sym, ◌∙◌, ap, subst}
+use Rattle.std.specs.Prelude.{Some, None, Result, Ok, Err}
+use Rattle.turns.specs.Attempt.{AttemptOf, asked_in, changed, goes_on, operated, rest_of, seen_of, walks_on}
+use Rattle.turns.specs.Script.{walk}
+use Rattle.turns.specs.Seen.{AreReadWords, Seen}
+use Rattle.turns.specs.System.{System}
+use Rattle.turns.specs.declared.answer.Answer.{Answer}
+use Rattle.turns.specs.declared.answer.Answer.TheVariants.{Asked, Seized, Held, Preferred, Again, Value, Turn, Done}
+use Rattle.turns.specs.declared.phase.Phase.{Phase}
+use Rattle.turns.specs.declared.phase.Phase.TheVariants.{Requests, Seizes, Tests, Turns, Withdraws, GivesBack, Operates}
+use Rattle.turns.specs.declared.reading.Reading.{Reading}
+use Rattle.turns.specs.declared.wanted.Wanted.{Wanted}
+use Rattle.turns.specs.declared.wanted.Wanted.TheVariants.{Seize, Test}
+use Rattle.attempts.specs.Counting.{count_in}
+use Rattle.attempts.specs.Points.{GoesOnTo}
+use Rattle.attempts.specs.Standing.{CanWalk, KnowsIn, Program, attempt_of, effects_left}
+use Rattle.attempts.specs.SystemWith.{SystemWith, system_with}
+use Rattle.attempts.specs.Taken.{FitsValue, Takes, WalksOn, gone_on}
+use Rattle.attempts.proofs.Giving.{held_off, held_stays, preferred_off, preferred_stays}
+use Rattle.attempts.proofs.Inside.{phase_now}
+
+-- a phase before its turn is taken and what it holds is given back
+abbrev IsEarly : {Lock : Type 0} → Phase Lock ℕ → Type 0
+IsEarly {Lock} phase = ((lock : Lock) × (phase ≡ Requests lock)) ⊎ (((lock : Lock) × (expected : ℕ) × (phase ≡ Seizes lock expected)) ⊎ (((word : ℕ) × (phase ≡ Tests word)) ⊎ (phase ≡ Turns)))
+
+-- an answer that does not come in a phase changes nothing
+module _ (O : System) where
+  open O use {Lock}
+
+  idle_asked : (a : AttemptOf O) (phase : Phase Lock ℕ) (word : ℕ) → ((lock : Lock) → phase ≡ Requests lock → ⊥) → a ≡ changed O a phase (Asked word)
+  idle_asked a (Requests lock) word not = absurd (not lock refl)
+  idle_asked a (Seizes lock expected) word not = refl
+  idle_asked a (Tests other) word not = refl
+  idle_asked a Turns word not = refl
+  idle_asked a (Withdraws lock) word not = refl
+  idle_asked a GivesBack word not = refl
+  idle_asked a (Operates turn) word not = refl
+
+  idle_again : (a : AttemptOf O) (phase : Phase Lock ℕ) (word : ℕ) → ((lock : Lock) (expected : ℕ) → phase ≡ Seizes lock expected → ⊥) → a ≡ changed O a phase (Again word)
+  idle_again a (Requests lock) word not = refl
+  idle_again a (Seizes lock expected) word not = absurd (not lock expected refl)
+  idle_again a (Tests other) word not = refl
+  idle_again a Turns word not = refl
+  idle_again a (Withdraws lock) word not = refl
+  idle_again a GivesBack word not = refl
+  idle_again a (Operates turn) word not = refl
+
+  idle_seized : (a : AttemptOf O) (phase : Phase Lock ℕ) → ((lock : Lock) (expected : ℕ) → phase ≡ Seizes lock expected → ⊥) → a ≡ changed O a phase Seized
+  idle_seized a (Requests lock) not = refl
+  idle_seized a (Seizes lock expected) not = absurd (not lock expected refl)
+  idle_seized a (Tests word) not = refl
+  idle_seized a Turns not = refl
+  idle_seized a (Withdraws lock) not = refl
+  idle_seized a GivesBack not = refl
+  idle_seized a (Operates turn) not = refl
+
+  idle_value : (a : AttemptOf O) (phase : Phase Lock ℕ) (value : ℕ) → ((word : ℕ) → phase ≡ Tests word → ⊥) → a ≡ changed O a phase (Value value)
+  idle_value a (Requests lock) value not = refl
+  idle_value a (Seizes lock expected) value not = refl
+  idle_value a (Tests word) value not = absurd (not word refl)
+  idle_value a Turns value not = refl
+  idle_value a (Withdraws lock) value not = refl
+  idle_value a GivesBack value not = refl
+  idle_value a (Operates turn) value not = refl
+
+  idle_turn : (a : AttemptOf O) (phase : Phase Lock ℕ) (number : ℕ) → (phase ≡ Turns → ⊥) → a ≡ changed O a phase (Turn number)
+  idle_turn a (Requests lock) number not = refl
+  idle_turn a (Seizes lock expected) number not = refl
+  idle_turn a (Tests word) number not = refl
+  idle_turn a Turns number not = absurd (not refl)
+  idle_turn a (Withdraws lock) number not = refl
+  idle_turn a GivesBack number not = refl
+  idle_turn a (Operates turn) number not = refl
+
+  idle_done : (a : AttemptOf O) (phase : Phase Lock ℕ) → IsEarly phase → a ≡ changed O a phase Done
+  idle_done a phase (inl (lock, e)) = ap (λ (at : Phase Lock ℕ). changed O a at Done) (sym e)
+  idle_done a phase (inr (inl (lock, expected, e))) = ap (λ (at : Phase Lock ℕ). changed O a at Done) (sym e)
+  idle_done a phase (inr (inr (inl (word, e)))) = ap (λ (at : Phase Lock ℕ). changed O a at Done) (sym e)
+  idle_done a phase (inr (inr (inr e))) = ap (λ (at : Phase Lock ℕ). changed O a at Done) (sym e)
+
+-- an effect is made, or the first lock is freed
+module _ {Lock Job Reply Effect Decision Point : Type 0} (reply_of : Decision → Reply) (effects_of : Decision → List Effect) where
+  pub makes_effect : (p now : Program Lock Job Decision Point) (effect : Effect) → p ≡ now → effects_left effects_of now.decision now.made ≡ effect ∷ effects_left effects_of now.decision (now.made + 1) → attempt_of reply_of effects_of (record p { made = p.made + 1 }) ≡ operated (attempt_of reply_of effects_of now) (effects_left effects_of now.decision now.made)
+  makes_effect p now effect inside left = ap (λ (x : Program Lock Job Decision Point). attempt_of reply_of effects_of (record x { made = x.made + 1 })) inside ∙ ap (operated (attempt_of reply_of effects_of now)) (sym left)
+
+  pub frees_lock : (now new : Program Lock Job Decision Point) → new ≡ record now { held = rest_of now.held } → effects_left effects_of now.decision now.made ≡ [] → attempt_of reply_of effects_of new ≡ operated (attempt_of reply_of effects_of now) (effects_left effects_of now.decision now.made)
+  frees_lock now new made none = ap (attempt_of reply_of effects_of) made ∙ ap (operated (attempt_of reply_of effects_of now)) (sym none)
+
+-- the count goes with the phase that it comes to
+pub counted_so : {Lock Job Decision Point : Type 0} (mid new : Program Lock Job Decision Point) (before : ℕ) (on : ℕ → ℕ) → new ≡ record mid { count = count_in mid.phase mid.held (on mid.count) } → mid.count ≡ before → new.count ≡ count_in new.phase new.held (on before)
+counted_so mid new before on made same = subst (λ (x : Program _ _ _ _). x.count ≡ count_in x.phase x.held (on before)) (sym made) (ap (λ (n : ℕ). count_in mid.phase mid.held (on n)) same)
+
+module _ {Lock Job Reply Effect Decision Point : Type 0} (same : Lock → Lock → Bool) (reply_of : Decision → Reply) (effects_of : Decision → List Effect) (S : SystemWith Lock Job Reply Effect Decision) (Knows : Job → Point → Seen Lock → Type 0) where
+  abbrev O : System
+  O = system_with same reply_of effects_of S
+
+  abbrev Doing : Type 0
+  Doing = Program Lock Job Decision Point
+
+  abbrev outside : Doing → AttemptOf O
+  outside p = attempt_of reply_of effects_of p
+
+  abbrev PointHere : Doing → Type 0
+  PointHere p = KnowsIn Knows (outside p) p.point p.phase
+
+  abbrev Walks : Doing → Doing → Type 0
+  Walks old new = WalksOn same reply_of effects_of S Knows old new
+
+  abbrev Took : Answer → Doing → Doing → Type 0
+  Took answer old new = Takes same reply_of effects_of S Knows answer old new
+
+  pub took : (now new : Doing) (phase : Phase Lock ℕ) (answer : Answer) → now.phase ≡ phase → FitsValue answer → outside new ≡ changed O (outside now) phase answer → PointHere new → new.count ≡ now.count → Took answer now new
+  took now new phase answer is fits change point count = record {
+    fits = fits;
+    change = change ∙ ap (λ (at : Phase Lock ℕ). changed O (outside now) at answer) (sym is);
+    point = point;
+    count = count;
+  }
+
+  idle : (now : Doing) (answer : Answer) → FitsValue answer → PointHere now → outside now ≡ changed O (outside now) now.phase answer → Took answer now now
+  idle now answer fits point stays = record { fits = fits; change = stays; point = point; count = refl }
+
+  -- with another phase of the walk its point says the same
+  module _ (p now : Doing) (inside : p ≡ now) (point : PointHere now) where
+    phases : p.phase ≡ now.phase
+    phases = ap (λ (x : Doing). x.phase) inside
+
+    point_in : (phase : Phase Lock ℕ) → p.phase ≡ phase → KnowsIn Knows (outside p) p.point phase
+    point_in phase is = subst (λ (at : Phase Lock ℕ). KnowsIn Knows (outside p) p.point at) is (subst PointHere (sym inside) point)
+
+    with_phase : (phase next : Phase Lock ℕ) (answer : Answer) → p.phase ≡ phase → FitsValue answer → outside (record p { phase = next }) ≡ changed O (outside p) phase answer → KnowsIn Knows (outside p) p.point next → Took answer now (record p { phase = next })
+    with_phase phase next answer is fits change knows =
+        took now (record p { phase = next }) phase answer (phase_now p now phase inside is) fits (change ∙ ap (λ (x : Doing). changed O (outside x) phase answer) inside) knows (ap (λ (x : Doing). x.count) inside)
+
+    pub asked : (lock : Lock) (word : ℕ) → p.phase ≡ Requests lock → Took (Asked word) now (record p { phase = Seizes lock word })
+    asked lock word is = with_phase (Requests lock) (Seizes lock word) (Asked word) is tt refl (point_in (Requests lock) is)
+
+    pub again : (lock : Lock) (expected word : ℕ) → p.phase ≡ Seizes lock expected → Took (Again word) now (record p { phase = Seizes lock word })
+    again lock expected word is = with_phase (Seizes lock expected) (Seizes lock word) (Again word) is tt refl (point_in (Seizes lock expected) is)
+
+    pub turned : (number : ℕ) → p.phase ≡ Turns → Took (Turn number) now (record p { phase = Operates number })
+    turned number is = with_phase Turns (Operates number) (Turn number) is tt refl tt
+
+    pub not_asked : (word : ℕ) → ((lock : Lock) → p.phase ≡ Requests lock → ⊥) → Took (Asked word) now now
+    not_asked word not = idle now (Asked word) tt point (idle_asked O (outside now) now.phase word (λ lock e. not lock (phases ∙ e)))
+
+    pub not_again : (word : ℕ) → ((lock : Lock) (expected : ℕ) → p.phase ≡ Seizes lock expected → ⊥) → Took (Again word) now now
+    not_again word not = idle now (Again word) tt point (idle_again O (outside now) now.phase word (λ lock expected e. not lock expected (phases ∙ e)))
+
+    pub not_seized : ((lock : Lock) (expected : ℕ) → p.phase ≡ Seizes lock expected → ⊥) → Took Seized now now
+    not_seized not = idle now Seized tt point (idle_seized O (outside now) now.phase (λ lock expected e. not lock expected (phases ∙ e)))
+
+    pub not_read : (value : ℕ) → FitsValue (Value value) → ((word : ℕ) → p.phase ≡ Tests word → ⊥) → Took (Value value) now now
+    not_read value fits not = idle now (Value value) fits point (idle_value O (outside now) now.phase value (λ word e. not word (phases ∙ e)))
+
+    pub not_turned : (number : ℕ) → (p.phase ≡ Turns → ⊥) → Took (Turn number) now now
+    not_turned number not = idle now (Turn number) tt point (idle_turn O (outside now) now.phase number (λ e. not (phases ∙ e)))
+
+    pub not_done : IsEarly p.phase → Took Done now now
+    not_done early = idle now Done tt point (idle_done O (outside now) now.phase (subst IsEarly phases early))
+
+  -- put off, or nothing to put off
+  module _ (now : Doing) where
+    pub put_off_held : (new : Doing) (lock : Lock) (holder : ℕ) → Some lock ≡ asked_in now.phase → new ≡ record now { readings = []; decision = None; made = 0; phase = Withdraws lock } → Took (Held holder) now new
+    put_off_held new lock holder asks made = record {
+      fits = tt;
+      change = ap outside made ∙ held_off O (outside now) now.phase lock holder asks;
+      point = subst PointHere (sym made) tt;
+      count = ap (λ (x : Doing). x.count) made;
+    }
+
+    pub put_off_preferred : (new : Doing) (lock : Lock) (other : ℕ) → Some lock ≡ asked_in now.phase → new ≡ record now { readings = []; decision = None; made = 0; phase = Withdraws lock } → Took (Preferred other) now new
+    put_off_preferred new lock other asks made = record {
+      fits = tt;
+      change = ap outside made ∙ preferred_off O (outside now) now.phase lock other asks;
+      point = subst PointHere (sym made) tt;
+      count = ap (λ (x : Doing). x.count) made;
+    }
+
+    pub stays_held : (holder : ℕ) → None ≡ asked_in now.phase → PointHere now → Took (Held holder) now now
+    stays_held holder none point = idle now (Held holder) tt point (held_stays O (outside now) now.phase holder (sym none))
+
+    pub stays_preferred : (other : ℕ) → None ≡ asked_in now.phase → PointHere now → Took (Preferred other) now now
+    stays_preferred other none point = idle now (Preferred other) tt point (preferred_stays O (outside now) now.phase other (sym none))
+
+  pub operates_point : (p : Doing) (turn : ℕ) → p.phase ≡ Operates turn → PointHere p
+  operates_point p turn is = subst (λ (at : Phase Lock ℕ). KnowsIn Knows (outside p) p.point at) (sym is) tt
+
+  went : (p : Doing) (q : Point) (found : Result Decision (Wanted Lock ℕ)) → outside (gone_on (record p { point = q }) found) ≡ goes_on O (outside p) found
+  went p q (Ok decision) = refl
+  went p q (Err (Seize lock)) = refl
+  went p q (Err (Test word)) = refl
+
+  went_point : (p : Doing) (q : Point) (found : Result Decision (Wanted Lock ℕ)) → Knows p.job q (seen_of (outside p)) → PointHere (gone_on (record p { point = q }) found)
+  went_point p q (Ok decision) knows = tt
+  went_point p q (Err (Seize lock)) knows = knows
+  went_point p q (Err (Test word)) knows = knows
+
+  went_count : (p : Doing) (q : Point) (found : Result Decision (Wanted Lock ℕ)) → (gone_on (record p { point = q }) found).count ≡ p.count
+  went_count p q (Ok decision) = refl
+  went_count p q (Err wanted) = refl
+
+  -- what it has come by is lent to the walk
+  module _ (mid p : Doing) (seen : Seen Lock) (held : List Lock) (readings : List (Reading ℕ)) (inside : p ≡ mid) (seen_is : seen ≡ record { held = held; readings = readings }) (held_is : held ≡ p.held) (readings_are : readings ≡ p.readings) where
+    seen_here : seen ≡ seen_of (outside p)
+    seen_here = cc
+
+    -- what the walk wants
+    pub record Able : Type 0 where
+      pub job : S.IsJob p.job
+      pub read : AreReadWords seen.readings
+      pub knows : Knows p.job p.point seen
+
+    pub able : CanWalk same reply_of effects_of S Knows mid → Able
+    able can =
+        let here : CanWalk same reply_of effects_of S Knows p = subst (λ (x : Doing). CanWalk same reply_of effects_of S Knows x) (sym inside) can in
+        record {
+          job = here.job;
+          read = subst (λ (s : Seen Lock). AreReadWords s.readings) (sym seen_here) here.read;
+          knows = subst (Knows p.job p.point) (sym seen_here) here.knows;
+        }
+
+    pub walked : (new : Doing) (q : Point) (found : Result Decision (Wanted Lock ℕ)) → found ≡ walk same seen (S.script p.job) → Knows p.job q seen → new ≡ gone_on (record p { point = q }) found → Walks mid new
+    walked new q found walks knows made = subst (λ (x : Doing). Walks x new) inside (record {
+      change = ap outside made ∙ went p q found ∙ ap (goes_on O (outside p)) (walks ∙ ap (λ (s : Seen Lock). walk same s (S.script p.job)) seen_here);
+      point = subst PointHere (sym made) (went_point p q found (subst (Knows p.job q) seen_here knows));
+      count = ap (λ (x : Doing). x.count) made ∙ went_count p q found;
+    })
+
+  -- with a lock or a reading more it goes on through its job
+  pub seized : (now mid new : Doing) (lock : Lock) (expected : ℕ) → now.phase ≡ Seizes lock expected → mid ≡ record now { held = now.held ++ lock ∷ [] } → Walks mid new → Took Seized now new
+  seized now mid new lock expected is holds by = took now new (Seizes lock expected) Seized is tt (by.change ∙ ap (λ (x : Doing). walks_on O (outside x)) holds) by.point (by.count ∙ ap (λ (x : Doing). x.count) holds)
+
+  module _ (now mid new : Doing) (word value : ℕ) (is : now.phase ≡ Tests word) (fits : FitsValue (Value value)) (notes : mid ≡ record now { readings = now.readings ++ record { word = word; value = value } ∷ [] }) where
+    pub reads : Walks mid new → Took (Value value) now new
+    reads by = took now new (Tests word) (Value value) is fits (by.change ∙ ap (λ (x : Doing). walks_on O (outside x)) notes) by.point (by.count ∙ ap (λ (x : Doing). x.count) notes)
+
+    -- or to the word that follows whatever the first one showed
+    pub follows : (next : ℕ) → GoesOnTo same (record { held = now.held; readings = now.readings }) (S.script now.job) word next → CanWalk same reply_of effects_of S Knows mid → new ≡ gone_on mid (Err (Test next)) → Took (Value value) now new
+    follows next goes can made = took now new (Tests word) (Value value) is fits change (subst PointHere (sym made) can.knows) (ap (λ (x : Doing). x.count) made ∙ ap (λ (x : Doing). x.count) notes) where
+      change : outside new ≡ changed O (outside now) (Tests word) (Value value)
+      change = ap outside made ∙ ap (λ (x : Doing). outside (record x { phase = Tests next })) notes ∙ ap (goes_on O (record (outside now) { readings = now.readings ++ record { word = word; value = value } ∷ [] })) (sym (goes value))

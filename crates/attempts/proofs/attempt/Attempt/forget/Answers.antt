@@ -1,0 +1,5 @@
+use Rattle.attempts.proofs.Inside.{forgets}
+use Rattle.attempts.proofs.attempt.Attempt.forget.Goals as goal
+
+pub returns : goal.returns
+returns g c = forgets _ c.args.self.now _ c.self.view_is c.clear.ensures

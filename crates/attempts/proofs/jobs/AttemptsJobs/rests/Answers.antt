@@ -1,0 +1,4 @@
+use Rattle.attempts.proofs.jobs.AttemptsJobs.rests.Goals as goal
+
+pub returns : goal.returns
+returns g c = c.is_done.ensures

@@ -1,0 +1,27 @@
+use Rattle.std.proofs.Common.{ap, sym, ◌∙◌}
+use Rattle.turns.specs.Attempt.{act_in}
+use Rattle.turns.specs.declared.phase.Phase.TheVariants.{Requests, Seizes, Tests, Turns, Withdraws, GivesBack, Operates}
+use Rattle.attempts.specs.Standing.{attempt_of}
+use Rattle.attempts.proofs.Inside.{in_phase, phase_now}
+use Rattle.attempts.proofs.showing.next.Goals as goal
+
+pub returns-in-Requests : goal.returns-in-Requests
+returns-in-Requests g c = in_phase (λ p phase. act_in phase (attempt_of g.S.Scripts.reply_of g.S.Scripts.effects_of p)) _ c.args.program.now (Requests c.in-Requests.lock) c.program.view_is c.in-Requests.is
+
+pub returns-in-Seizes : goal.returns-in-Seizes
+returns-in-Seizes g c = in_phase (λ p phase. act_in phase (attempt_of g.S.Scripts.reply_of g.S.Scripts.effects_of p)) _ c.args.program.now (Seizes c.in-Seizes.lock c.in-Seizes.expected) c.program.view_is c.in-Seizes.is
+
+pub returns-in-Tests : goal.returns-in-Tests
+returns-in-Tests g c = in_phase (λ p phase. act_in phase (attempt_of g.S.Scripts.reply_of g.S.Scripts.effects_of p)) _ c.args.program.now (Tests c.in-Tests.word) c.program.view_is c.in-Tests.is
+
+pub returns-in-Turns : goal.returns-in-Turns
+returns-in-Turns g c = in_phase (λ p phase. act_in phase (attempt_of g.S.Scripts.reply_of g.S.Scripts.effects_of p)) _ c.args.program.now Turns c.program.view_is c.in-Turns.is
+
+pub returns-in-Withdraws : goal.returns-in-Withdraws
+returns-in-Withdraws g c = in_phase (λ p phase. act_in phase (attempt_of g.S.Scripts.reply_of g.S.Scripts.effects_of p)) _ c.args.program.now (Withdraws c.in-Withdraws.lock) c.program.view_is c.in-Withdraws.is
+
+pub returns-in-GivesBack : goal.returns-in-GivesBack
+returns-in-GivesBack g c = c.next_free.ensures ∙ ap (λ phase. act_in phase (attempt_of g.S.Scripts.reply_of g.S.Scripts.effects_of c.args.program.now)) (sym (phase_now _ c.args.program.now GivesBack c.program.view_is c.in-GivesBack.is))
+
+pub returns-in-Operates : goal.returns-in-Operates
+returns-in-Operates g c = c.next_closing.ensures ∙ ap (λ phase. act_in phase (attempt_of g.S.Scripts.reply_of g.S.Scripts.effects_of c.args.program.now)) (sym (phase_now _ c.args.program.now (Operates c.in-Operates.field-0) c.program.view_is c.in-Operates.is))

@@ -1,0 +1,9 @@
+use Rattle.std.proofs.Common.{ap, sym, ◌∙◌}
+use Rattle.turns.specs.Attempt.{closing_act}
+use Rattle.attempts.proofs.showing.next_closing.Goals as goal
+
+pub returns-in-Some : goal.returns-in-Some
+returns-in-Some g c = ap (λ effects. closing_act effects c.args.program.now.held) (sym c.in-Some.ensures.some)
+
+pub returns-in-None : goal.returns-in-None
+returns-in-None g c = c.next_free.ensures ∙ ap (λ effects. closing_act effects c.args.program.now.held) (sym c.in-None.ensures.none)

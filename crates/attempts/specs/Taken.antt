@@ -1,0 +1,38 @@
+use Rattle.std.specs.Prelude.{◌≡◌, ◌<◌, ◌^◌, ℕ, Bool, List, Some, Result, Ok, Err, ⊤}
+use Rattle.turns.specs.Attempt as turns
+use Rattle.turns.specs.Seen.{Seen}
+use Rattle.turns.specs.declared.answer.Answer.{Answer}
+use Rattle.turns.specs.declared.answer.Answer.TheVariants.{Asked, Seized, Held, Preferred, Again, Value, Turn, Done}
+use Rattle.turns.specs.declared.phase.Phase.TheVariants.{Turns}
+use Rattle.turns.specs.declared.wanted.Wanted.{Wanted}
+use Rattle.attempts.specs.Standing.{KnowsIn, Program, attempt_of, wanted_phase}
+use Rattle.attempts.specs.SystemWith.{SystemWith, system_with}
+
+-- a value that was tested fits a word
+abbrev pub FitsValue : Answer → Type 0
+FitsValue (Asked word) = ⊤
+FitsValue Seized = ⊤
+FitsValue (Held holder) = ⊤
+FitsValue (Preferred other) = ⊤
+FitsValue (Again word) = ⊤
+FitsValue (Value value) = value < 2 ^ 64
+FitsValue (Turn number) = ⊤
+FitsValue Done = ⊤
+
+-- with what its walk came to
+abbrev pub gone_on : {Lock Job Decision Point : Type 0} → Program Lock Job Decision Point → Result Decision (Wanted Lock ℕ) → Program Lock Job Decision Point
+gone_on p (Ok decision) = record p { phase = Turns; decision = Some decision; made = 0 }
+gone_on p (Err wanted) = record p { phase = wanted_phase wanted }
+
+-- where it comes to by going on through its job, and what its point says there
+pub record WalksOn {Lock Job Reply Effect Decision Point : Type 0} (same : Lock → Lock → Bool) (reply_of : Decision → Reply) (effects_of : Decision → List Effect) (S : SystemWith Lock Job Reply Effect Decision) (Knows : Job → Point → Seen Lock → Type 0) (old new : Program Lock Job Decision Point) : Type 0 where
+  pub change : attempt_of reply_of effects_of new ≡ turns.walks_on (system_with same reply_of effects_of S) (attempt_of reply_of effects_of old)
+  pub point : KnowsIn Knows (attempt_of reply_of effects_of new) new.point new.phase
+  pub count : new.count ≡ old.count
+
+-- what an attempt makes of an answer, whatever its count, and what its point says then
+pub record Takes {Lock Job Reply Effect Decision Point : Type 0} (same : Lock → Lock → Bool) (reply_of : Decision → Reply) (effects_of : Decision → List Effect) (S : SystemWith Lock Job Reply Effect Decision) (Knows : Job → Point → Seen Lock → Type 0) (answer : Answer) (old new : Program Lock Job Decision Point) : Type 0 where
+  pub fits : FitsValue answer
+  pub change : attempt_of reply_of effects_of new ≡ turns.change (system_with same reply_of effects_of S) (attempt_of reply_of effects_of old) answer
+  pub point : KnowsIn Knows (attempt_of reply_of effects_of new) new.point new.phase
+  pub count : new.count ≡ old.count
