@@ -1,1 +1,2 @@
 pub mod SlotWalks
+pub mod Shifts

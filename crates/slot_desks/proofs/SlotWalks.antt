@@ -1,18 +1,11 @@
 -- the walks of the slots' jobs are those of their scripts
-use Rattle.std.proofs.Common.{◌≡◌, ℕ, Bool, refl, subst, nat_eq}
-use Rattle.std.specs.Prelude.{Option, Some, None}
+use Rattle.std.proofs.Common.{◌≡◌, ℕ, refl}
+use Rattle.std.specs.Prelude.{Some}
 use Rattle.turns.specs.Script.{◌>>=◌}
-use Rattle.turns.specs.Seen.{Seen}
-use Rattle.attempts.specs.Points.{Extends}
-use Rattle.attempts.specs.Standing.{AreScripts}
-use Rattle.attempts.specs.SystemWith.{with}
-use Rattle.attempts.proofs.Points.{gone_through}
-use Rattle.slots.proofs.SlotBounds.{slots_bounded}
-use Rattle.slots.proofs.SlotsSystem.{slots_system}
-use Rattle.slots.specs.System.{and_upper, effects_of, reply_of, script, slots_over}
+use Rattle.slots.specs.System.{and_upper, script}
 use Rattle.slots.specs.declared.job.Job.{Job}
 use Rattle.slots.specs.declared.job.Job.TheVariants.{Take, TakeBoth, Give}
-use Rattle.slot_desks.specs.SlotWalks.{Knows, both_steps, give_steps, job_steps, slot_steps, take_steps, too_steps, upper_steps}
+use Rattle.slot_desks.specs.SlotWalks.{both_steps, give_steps, job_steps, slot_steps, take_steps, too_steps, upper_steps}
 
 -- a job's steps are its script
 pub steps_are : (job : Job) → job_steps job ≡ script job

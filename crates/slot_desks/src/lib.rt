@@ -3,9 +3,9 @@
 
 pub use jobs::{SlotJobs, SlotScripts};
 
-pub mod crossing;
 pub mod driving;
 mod jobs;
+pub mod on_threads;
 #[cfg(test)]
 mod tests;
 mod walks;

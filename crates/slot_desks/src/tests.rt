@@ -1,10 +1,6 @@
-ghost use Rattle.std.specs.Prelude.{◌≡◌, ◌+◌, IfSome, vec_len};
-ghost use Rattle.desks.specs.Views.{IsDeskOf, new_desk};
-ghost use Rattle.slot_desks.specs.Driving.{AreNewDesks};
-
 use crate::SlotJobs;
-use crate::crossing::on_four_threads;
-use crate::driving::{Shift, SlotDesk, SlotRoom, SlotTold, finish, in_turn, last_desk, put_desk};
+use crate::driving::{Shift, SlotDesk, SlotTold, finish, in_turn, last_desk, put_desk};
+use crate::on_threads::{idle_desks, take_and_give_at_once};
 use desks::{Room, meet, shut_all};
 use slots::{Job, UpToTwo};
 use std::alloc::Global;
@@ -46,7 +42,10 @@ fn done(busy: u64, job: Job) -> (UpToTwo<u32>, u64) {
 
 /// The busy slots after all records, if these are the jobs of turns from 0 on, each with the reply
 /// of that job done alone on the slots that those before it leave.
-fn after_all(records: &[SlotTold]) -> Option<u64> {
+fn after_all(mut records: Vec<&SlotTold>) -> Option<u64> {
+    records
+        .as_mut_slice()
+        .sort_unstable_by_key(|told| told.turn);
     let mut busy = 0;
     for (turn, told) in records.iter().enumerate() {
         let (want, after) = done(busy, told.job);
@@ -59,10 +58,10 @@ fn after_all(records: &[SlotTold]) -> Option<u64> {
 }
 
 /// Whether these are records of this actor's, in the order of their turns.
-fn is_log_of(actor: u32, log: &[SlotTold]) -> bool {
+fn is_log_of(actor: usize, log: &[SlotTold]) -> bool {
     let mut next = 0;
     for told in log {
-        if told.actor != actor || told.turn < next || told.turn == u64::MAX {
+        if told.actor as usize != actor || told.turn < next || told.turn == u64::MAX {
             return false;
         }
         next = told.turn + 1;
@@ -70,98 +69,45 @@ fn is_log_of(actor: u32, log: &[SlotTold]) -> bool {
     true
 }
 
-/// The words of a room that was shut count these records, show just the slots that are busy after
-/// them, and have no lock.
-fn words_agree(words: &[u64], mut records: Vec<SlotTold>) -> bool {
-    records
-        .as_mut_slice()
-        .sort_unstable_by_key(|told| told.turn);
-    let busy = after_all(records.as_slice());
+/// The words of a room that was shut count so many turns, show just these slots as busy, and have no
+/// lock.
+fn words_agree(words: &[u64], turns: usize, busy: Option<u64>) -> bool {
     words.len() == 5
         && words[2] == 0
         && words[3] == 0
-        && words[4] == records.len() as u64
+        && words[4] == turns as u64
         && busy == Some(words[0] | words[1] << 4)
 }
 
-/// The last of the desks that a room opened with, at the beginning of its work.
-fn last_shift(alloc: Global, room: &SlotRoom, desks: &mut Vec<SlotDesk>) -> Option<Shift>
-    requires { AreNewDesks room.now desks.old.items }
-    ensures rest { AreNewDesks room.now desks.new.items }
-    ensures desk { IfSome result (λ shift. shift.desk ≡ new_desk room.now (vec_len desks.new)) }
-    ensures len { IfSome result (λ shift. vec_len desks.old ≡ vec_len desks.new + 1) }
-{
-    let desk = last_desk(room, desks)?;
-    Some(Shift {
-        desk,
-        log: Vec::new(alloc),
-    })
-}
-
-/// Shuts a room of four desks, if all are idle, and gives its words.
-fn shut_four(
-    alloc: Global,
-    room: SlotRoom,
-    ones: (SlotDesk, SlotDesk),
-    others: (SlotDesk, SlotDesk),
-) -> Option<Vec<u64>>
-    requires count { room.count ≡ 4 }
-    requires ones { IsDeskOf ones.0 room tt × IsDeskOf ones.1 room tt }
-    requires others { IsDeskOf others.0 room tt × IsDeskOf others.1 room tt }
-    requires numbers { (ones.0.number ≡ 0)
-        × (ones.1.number ≡ 1)
-        × (others.0.number ≡ 2)
-        × (others.1.number ≡ 3) }
-{
-    let (zero, one) = ones;
-    let (two, three) = others;
-    if !(zero.is_idle() && one.is_idle() && two.is_idle() && three.is_idle()) {
-        return None;
+/// The records of all shifts, if those of each are its desk's own, in the order of their turns.
+fn records_of<'a>(alloc: Global, shifts: &'a [Shift]) -> Result<Vec<&'a SlotTold>, Fail> {
+    let mut records = Vec::new(alloc);
+    for (number, shift) in shifts.iter().enumerate() {
+        if !is_log_of(number, shift.log.as_slice()) {
+            return Err("each desk logs its own records in their order".into());
+        }
+        let log: Vec<&SlotTold> = shift.log.iter().collect(alloc)?;
+        records.extend_from_slice(log.as_slice())?;
     }
-    let Ok(mut all) = Vec::with_capacity(alloc, 4) else {
-        return None;
-    };
-    put_desk(&room, &mut all, zero);
-    put_desk(&room, &mut all, one);
-    put_desk(&room, &mut all, two);
-    put_desk(&room, &mut all, three);
-    shut_all::<SlotJobs>(alloc, room, &(), all).ok()
+    Ok(records)
 }
 
 #[test]
-fn four_desks_take_and_give_slots_on_threads(rt: HostRuntime) -> Result<(), Fail> {
+fn eight_desks_take_and_give_slots_on_threads(rt: HostRuntime) -> Result<(), Fail> {
     let alloc = rt.alloc();
-    let (room, mut desks) = Room::<SlotJobs>::open(alloc, &(), 4)?;
-    let desks = &mut desks;
-    let (Some(three), Some(two), Some(one), Some(zero)) = (
-        last_shift(alloc, &room, desks),
-        last_shift(alloc, &room, desks),
-        last_shift(alloc, &room, desks),
-        last_shift(alloc, &room, desks),
-    ) else {
-        return Err("there are four desks".into());
-    };
-    let ((mut zero, mut one), (mut two, mut three)) = on_four_threads(
-        &rt,
-        &room,
-        (zero, one),
-        (two, three),
-        60,
-    );
-    assert!(rt; is_log_of(0, zero.log.as_slice()) && is_log_of(1, one.log.as_slice()));
-    assert!(rt; is_log_of(2, two.log.as_slice()) && is_log_of(3, three.log.as_slice()));
-    meet(&room, &(), &mut zero.desk, &mut one.desk);
-    meet(&room, &(), &mut two.desk, &mut three.desk);
-    meet(&room, &(), &mut one.desk, &mut two.desk);
-    let mut records = zero.log;
-    records.append(&mut one.log)?;
-    records.append(&mut two.log)?;
-    records.append(&mut three.log)?;
-    let Some(words) = shut_four(alloc, room, (zero.desk, one.desk), (two.desk, three.desk)) else {
+    let (room, desks) = Room::<SlotJobs>::open(alloc, &(), 8)?;
+    let shifts = take_and_give_at_once(&rt, alloc, &room, desks, 1_000)?;
+    let records = records_of(alloc, shifts.as_slice())?;
+    let turns = records.len();
+    let busy = after_all(records);
+    let Some(desks) = idle_desks(alloc, &room, shifts)? else {
         return Err("each job has ended".into());
     };
-    assert!(rt; records.len() > 400);
-    assert!(rt; words_agree(words.as_slice(), records));
+    let Ok(words) = shut_all::<SlotJobs>(alloc, room, &(), desks) else {
+        return Err("there is memory for five words".into());
+    };
+    assert!(rt; turns > 8_000);
+    assert!(rt; words_agree(words.as_slice(), turns, busy));
     Ok(())
 }
 
@@ -196,6 +142,7 @@ fn two_desks_take_and_give_slots_in_turn(rt: HostRuntime) -> Result<(), Fail> {
         return Err("there is memory for five words".into());
     };
     assert!(rt; log.len() > 100);
-    assert!(rt; words_agree(words.as_slice(), log));
+    let busy = after_all(log.iter().collect(alloc)?);
+    assert!(rt; words_agree(words.as_slice(), log.len(), busy));
     Ok(())
 }
