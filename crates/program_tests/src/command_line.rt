@@ -3,7 +3,7 @@
 use crate::checks::{check, check_eq};
 use clap::error::ErrorKind;
 use crossbar5_command::{Ask, CommandFault, command};
-use std::alloc::Global;
+use std::alloc::{AllocError, Global};
 use std::process::Abort;
 use std::test::Fail;
 
@@ -21,167 +21,139 @@ fn asked(alloc: Global, line: &str) -> Result<Ask, CommandFault> {
     }
 }
 
-fn is_replay(ask: &Ask, plan: Option<&str>, kinds: &str) -> bool {
-    let Ask::Replay {
-        plan: file,
-        kinds: letters,
-    } = ask
-    else {
-        return false;
-    };
-    file.as_ref().map(|name| name.as_str()) == plan && letters.as_str() == kinds
-}
-
-/// Lines of words that ask for a replay, each with the plan's file, if one is asked for, and the kinds.
-const ASKED: &[(&str, Option<&str>, &str)] = &[
-    ("crossbar5", None, "XX"),
-    ("", None, "XX"),
-    ("--help", None, "XX"),
-    ("crossbar5 --", None, "XX"),
-    ("crossbar5 replay", None, "XX"),
-    ("/usr/local/bin/other replay", None, "XX"),
-    (" replay", None, "XX"),
-    ("crossbar5 replay --", None, "XX"),
-    ("crossbar5 replay --plan a.toml", Some("a.toml"), "XX"),
-    ("crossbar5 replay --plan=a.toml", Some("a.toml"), "XX"),
-    ("crossbar5 replay --plan=", Some(""), "XX"),
-    ("crossbar5 replay --plan ", Some(""), "XX"),
-    ("crossbar5 replay --plan -", Some("-"), "XX"),
-    ("crossbar5 replay --plan=--plan", Some("--plan"), "XX"),
-    ("crossbar5 replay --plan replay", Some("replay"), "XX"),
-    ("crossbar5 replay --markers DDC", None, "DDC"),
-    ("crossbar5 replay --markers=X", None, "X"),
-    (
-        "crossbar5 replay --markers nobody,looks",
-        None,
-        "nobody,looks",
-    ),
-    ("crossbar5 replay --plan a --markers D", Some("a"), "D"),
-    ("crossbar5 replay --markers D --plan a", Some("a"), "D"),
-    ("crossbar5 replay --plan=a --markers D --", Some("a"), "D"),
-    (
-        "crossbar5 replay --markers DDDDDDDDDDDDDDDDDDDDDDDDCCCCCCCCCCCCCCCCXXXXXXXX",
-        None,
-        "DDDDDDDDDDDDDDDDDDDDDDDDCCCCCCCCCCCCCCCCXXXXXXXX",
-    ),
-];
-
-fn check_asked(
-    rt: &impl Abort,
-    alloc: Global,
-    line: &str,
-    plan: Option<&str>,
-    kinds: &str,
-) -> Result<(), Fail> {
-    let ask = asked(alloc, line)?;
-    check!(rt; is_replay(&ask, plan, kinds), "{line}");
-    Ok(())
-}
-
-#[test]
-fn words_ask_for_a_replay(rt: HostRuntime) -> Result<(), Fail> {
-    for (line, plan, kinds) in ASKED {
-        check_asked(&rt, rt.alloc(), line, *plan, kinds)?;
-    }
-    Ok(())
-}
-
-#[test]
-fn words_ask_for_a_walk(rt: HostRuntime) -> Result<(), Fail> {
-    for (line, file, letters, in_short) in [
-        ("crossbar5 walk", None, "XX", false),
-        ("crossbar5 walk --short", None, "XX", true),
-        ("crossbar5 walk --markers DC", None, "DC", false),
-        (
-            "crossbar5 walk --short --plan a.toml",
-            Some("a.toml"),
-            "XX",
-            true,
-        ),
-        ("crossbar5 walk --markers=X --plan=a", Some("a"), "X", false),
-    ] {
-        let Ask::Walk { plan, kinds, short } = asked(rt.alloc(), line)? else {
-            return Err(Fail::from("another subcommand was asked for"));
-        };
-        let found = plan.as_ref().map(|name| name.as_str());
-        check_eq!(rt; (found, kinds.as_str(), short), (file, letters, in_short), "{line}");
-    }
-    Ok(())
-}
-
-#[test]
-fn words_ask_for_an_audit(rt: HostRuntime) -> Result<(), Fail> {
-    for (line, file) in [
-        ("crossbar5 audit", None),
-        ("crossbar5 audit --plan a.toml", Some("a.toml")),
-        ("crossbar5 audit --plan=a.toml", Some("a.toml")),
-    ] {
-        let Ask::Audit { plan } = asked(rt.alloc(), line)? else {
-            return Err(Fail::from("another subcommand was asked for"));
-        };
-        let found = plan.as_ref().map(|name| name.as_str());
-        check_eq!(rt; found, file, "{line}");
-    }
-    Ok(())
-}
-
-#[test]
-fn words_ask_for_a_drawing(rt: HostRuntime) -> Result<(), Fail> {
-    for (line, file, as_text) in [
-        ("crossbar5 draw", None, false),
-        ("crossbar5 draw --text", None, true),
-        ("crossbar5 draw --plan a.toml", Some("a.toml"), false),
-        ("crossbar5 draw --text --plan a.toml", Some("a.toml"), true),
-        ("crossbar5 draw --plan=--text --text", Some("--text"), true),
-        ("crossbar5 draw --plan=--text", Some("--text"), false),
-    ] {
-        let Ask::Draw { plan, text } = asked(rt.alloc(), line)? else {
-            return Err(Fail::from("another subcommand was asked for"));
-        };
-        let found = plan.as_ref().map(|name| name.as_str());
-        check_eq!(rt; (found, text), (file, as_text), "{line}");
-    }
-    Ok(())
-}
-
-#[test]
-fn words_ask_for_a_page(rt: HostRuntime) -> Result<(), Fail> {
-    let Ask::Page { plan } = asked(rt.alloc(), "crossbar5 page --plan a.toml")? else {
-        return Err(Fail::from("another subcommand was asked for"));
-    };
-    let found = plan.as_ref().map(|name| name.as_str());
-    check_eq!(rt; found, Some("a.toml"));
-    Ok(())
-}
-
-/// Lines of words that ask for live calls, each with the plan's file, if one is asked for, and how
-/// many markers dial and how many complete calls.
-const ASKED_LIVE: &[(&str, Option<&str>, u32, u32)] = &[
-    ("crossbar5 live", None, 1, 1),
-    ("crossbar5 live --dial 47", None, 47, 1),
-    ("crossbar5 live --completing 47", None, 1, 47),
-    ("crossbar5 live --dial=30 --completing=31", None, 30, 31),
-    (
-        "crossbar5 live --completing 3 --plan a --dial 2",
-        Some("a"),
-        2,
-        3,
-    ),
-];
-
-#[test]
-fn words_ask_for_live_calls(rt: HostRuntime) -> Result<(), Fail> {
-    for (line, file, dialling, completing) in ASKED_LIVE {
-        let Ask::Live {
+/// The subcommand, the plan's file, if one is asked for, and what else is asked for, in the order of
+/// the fields.
+fn text_of_ask_once(alloc: Global, ask: &Ask) -> Result<String, AllocError> {
+    match ask {
+        Ask::Replay { plan, kinds } => format!(in alloc; "replay {plan:?} {kinds}"),
+        Ask::Walk { plan, kinds, short } => format!(in alloc; "walk {plan:?} {kinds} {short}"),
+        Ask::Live {
             plan,
             dial,
-            completing: others,
-        } = asked(rt.alloc(), line)?
-        else {
-            return Err(Fail::from("another subcommand was asked for"));
-        };
-        let found = (plan.as_ref().map(|name| name.as_str()), dial, others);
-        check_eq!(rt; found, (*file, *dialling, *completing), "{line}");
+            completing,
+        } => format!(in alloc; "live {plan:?} {dial} {completing}"),
+        Ask::Audit { plan } => format!(in alloc; "audit {plan:?}"),
+        Ask::Draw { plan, text } => format!(in alloc; "draw {plan:?} {text}"),
+        Ask::Page { plan } => format!(in alloc; "page {plan:?}"),
+    }
+}
+
+/// What is asked for, and where memory is refused its text is made once more.
+fn text_of_ask(alloc: Global, ask: &Ask) -> Result<String, AllocError> {
+    match text_of_ask_once(alloc, ask) {
+        Ok(text) => Ok(text),
+        Err(_) => text_of_ask_once(alloc, ask),
+    }
+}
+
+/// Lines of words, each with what it asks for.
+const ASKED: &[(&str, &str)] = &[
+    ("crossbar5", "replay None XX"),
+    ("", "replay None XX"),
+    ("--help", "replay None XX"),
+    ("crossbar5 --", "replay None XX"),
+    ("crossbar5 replay", "replay None XX"),
+    ("/usr/local/bin/other replay", "replay None XX"),
+    (" replay", "replay None XX"),
+    ("crossbar5 replay --", "replay None XX"),
+    (
+        "crossbar5 replay --plan a.toml",
+        r#"replay Some("a.toml") XX"#,
+    ),
+    (
+        "crossbar5 replay --plan=a.toml",
+        r#"replay Some("a.toml") XX"#,
+    ),
+    ("crossbar5 replay --plan=", r#"replay Some("") XX"#),
+    ("crossbar5 replay --plan ", r#"replay Some("") XX"#),
+    ("crossbar5 replay --plan -", r#"replay Some("-") XX"#),
+    (
+        "crossbar5 replay --plan=--plan",
+        r#"replay Some("--plan") XX"#,
+    ),
+    (
+        "crossbar5 replay --plan replay",
+        r#"replay Some("replay") XX"#,
+    ),
+    ("crossbar5 replay --markers DDC", "replay None DDC"),
+    ("crossbar5 replay --markers=X", "replay None X"),
+    (
+        "crossbar5 replay --markers nobody,looks",
+        "replay None nobody,looks",
+    ),
+    (
+        "crossbar5 replay --plan a --markers D",
+        r#"replay Some("a") D"#,
+    ),
+    (
+        "crossbar5 replay --markers D --plan a",
+        r#"replay Some("a") D"#,
+    ),
+    (
+        "crossbar5 replay --plan=a --markers D --",
+        r#"replay Some("a") D"#,
+    ),
+    (
+        "crossbar5 replay --markers DDDDDDDDDDDDDDDDDDDDDDDDCCCCCCCCCCCCCCCCXXXXXXXX",
+        "replay None DDDDDDDDDDDDDDDDDDDDDDDDCCCCCCCCCCCCCCCCXXXXXXXX",
+    ),
+    ("crossbar5 walk", "walk None XX false"),
+    ("crossbar5 walk --short", "walk None XX true"),
+    ("crossbar5 walk --markers DC", "walk None DC false"),
+    (
+        "crossbar5 walk --short --plan a.toml",
+        r#"walk Some("a.toml") XX true"#,
+    ),
+    (
+        "crossbar5 walk --markers=X --plan=a",
+        r#"walk Some("a") X false"#,
+    ),
+    ("crossbar5 audit", "audit None"),
+    ("crossbar5 audit --plan a.toml", r#"audit Some("a.toml")"#),
+    ("crossbar5 audit --plan=a.toml", r#"audit Some("a.toml")"#),
+    ("crossbar5 draw", "draw None false"),
+    ("crossbar5 draw --text", "draw None true"),
+    (
+        "crossbar5 draw --plan a.toml",
+        r#"draw Some("a.toml") false"#,
+    ),
+    (
+        "crossbar5 draw --text --plan a.toml",
+        r#"draw Some("a.toml") true"#,
+    ),
+    (
+        "crossbar5 draw --plan=--text --text",
+        r#"draw Some("--text") true"#,
+    ),
+    (
+        "crossbar5 draw --plan=--text",
+        r#"draw Some("--text") false"#,
+    ),
+    ("crossbar5 page --plan a.toml", r#"page Some("a.toml")"#),
+    ("crossbar5 live", "live None 1 1"),
+    ("crossbar5 live --dial 47", "live None 47 1"),
+    ("crossbar5 live --completing 47", "live None 1 47"),
+    (
+        "crossbar5 live --dial=30 --completing=31",
+        "live None 30 31",
+    ),
+    (
+        "crossbar5 live --completing 3 --plan a --dial 2",
+        r#"live Some("a") 2 3"#,
+    ),
+];
+
+fn check_asked(rt: &impl Abort, alloc: Global, line: &str, wanted: &str) -> Result<(), Fail> {
+    let ask = asked(alloc, line)?;
+    let text = text_of_ask(alloc, &ask)?;
+    check_eq!(rt; text.as_str(), wanted, "{line}");
+    Ok(())
+}
+
+#[test]
+fn words_ask_for_something(rt: HostRuntime) -> Result<(), Fail> {
+    for (line, wanted) in ASKED {
+        check_asked(&rt, rt.alloc(), line, wanted)?;
     }
     Ok(())
 }
@@ -192,7 +164,7 @@ fn no_words_ask_for_a_replay(rt: HostRuntime) -> Result<(), Fail> {
         Err(CommandFault::Memory) => command(rt.alloc(), &[])?,
         answer => answer?,
     };
-    check!(rt; is_replay(&ask, None, "XX"));
+    check_eq!(rt; text_of_ask(rt.alloc(), &ask)?.as_str(), "replay None XX");
     Ok(())
 }
 
@@ -297,30 +269,27 @@ fn check_refused(
     Ok(())
 }
 
+const FOR_STANDARD_OUTPUT: &[(&str, ErrorKind)] = &[
+    ("crossbar5 --help", ErrorKind::DisplayHelp),
+    ("crossbar5 -h", ErrorKind::DisplayHelp),
+    ("crossbar5 help", ErrorKind::DisplayHelp),
+    ("crossbar5 help replay", ErrorKind::DisplayHelp),
+    ("crossbar5 help live", ErrorKind::DisplayHelp),
+    ("crossbar5 --help call", ErrorKind::DisplayHelp),
+    ("crossbar5 --help a b c d e f g h", ErrorKind::DisplayHelp),
+    ("crossbar5 replay --help", ErrorKind::DisplayHelp),
+    ("crossbar5 replay --plan a -h", ErrorKind::DisplayHelp),
+    ("crossbar5 --version", ErrorKind::DisplayVersion),
+    ("crossbar5 -V", ErrorKind::DisplayVersion),
+];
+
 #[test]
 fn other_words_are_refused(rt: HostRuntime) -> Result<(), Fail> {
     for (line, kind) in REFUSED {
         check_refused(&rt, rt.alloc(), line, (*kind, true, 2))?;
     }
-    Ok(())
-}
-
-#[test]
-fn help_and_version_are_for_standard_output(rt: HostRuntime) -> Result<(), Fail> {
-    for (line, kind) in [
-        ("crossbar5 --help", ErrorKind::DisplayHelp),
-        ("crossbar5 -h", ErrorKind::DisplayHelp),
-        ("crossbar5 help", ErrorKind::DisplayHelp),
-        ("crossbar5 help replay", ErrorKind::DisplayHelp),
-        ("crossbar5 help live", ErrorKind::DisplayHelp),
-        ("crossbar5 --help call", ErrorKind::DisplayHelp),
-        ("crossbar5 --help a b c d e f g h", ErrorKind::DisplayHelp),
-        ("crossbar5 replay --help", ErrorKind::DisplayHelp),
-        ("crossbar5 replay --plan a -h", ErrorKind::DisplayHelp),
-        ("crossbar5 --version", ErrorKind::DisplayVersion),
-        ("crossbar5 -V", ErrorKind::DisplayVersion),
-    ] {
-        check_refused(&rt, rt.alloc(), line, (kind, false, 0))?;
+    for (line, kind) in FOR_STANDARD_OUTPUT {
+        check_refused(&rt, rt.alloc(), line, (*kind, false, 0))?;
     }
     Ok(())
 }
@@ -402,14 +371,6 @@ fn check_told(rt: &impl Abort, alloc: Global, line: &str, part: &str) -> Result<
     Ok(())
 }
 
-#[test]
-fn options_are_told(rt: HostRuntime) -> Result<(), Fail> {
-    for (line, part) in TOLD {
-        check_told(&rt, rt.alloc(), line, part)?;
-    }
-    Ok(())
-}
-
 /// What each help says of how to start, and of the statuses.
 const STARTS: &[&str] = &[
     "  printf 'J,0,1,D,3041\\nS,0,128,,\\n' | crossbar5 replay --markers XX\n",
@@ -428,24 +389,46 @@ const STARTS: &[&str] = &[
     "  7  The records, or the counts behind them, aren't right\n",
 ];
 
-#[test]
-fn help_tells_how_to_start(rt: HostRuntime) -> Result<(), Fail> {
-    for line in [
-        "crossbar5 --help",
-        "crossbar5 -h",
-        "crossbar5 replay --help",
-        "crossbar5 walk --help",
-        "crossbar5 live --help",
-        "crossbar5 audit --help",
-        "crossbar5 draw --help",
-        "crossbar5 page --help",
-    ] {
-        for part in STARTS {
-            check_told(&rt, rt.alloc(), line, part)?;
-        }
+const HELPS: &[&str] = &[
+    "crossbar5 --help",
+    "crossbar5 -h",
+    "crossbar5 replay --help",
+    "crossbar5 walk --help",
+    "crossbar5 live --help",
+    "crossbar5 audit --help",
+    "crossbar5 draw --help",
+    "crossbar5 page --help",
+];
+
+fn check_help(rt: &impl Abort, alloc: Global, line: &str) -> Result<(), Fail> {
+    let text = text_of(alloc, line)?;
+    for part in STARTS {
+        check!(rt; text.as_str().contains(*part), "{line}: {part}");
     }
     Ok(())
 }
+
+#[test]
+fn options_and_how_to_start_are_told(rt: HostRuntime) -> Result<(), Fail> {
+    for (line, part) in TOLD {
+        check_told(&rt, rt.alloc(), line, part)?;
+    }
+    for line in HELPS {
+        check_help(&rt, rt.alloc(), line)?;
+    }
+    Ok(())
+}
+
+/// Help as a word, and as an option.
+const SAME_HELP: &[(&str, &str)] = &[
+    ("crossbar5 help", "crossbar5 --help"),
+    ("crossbar5 help replay", "crossbar5 replay --help"),
+    ("crossbar5 help walk", "crossbar5 walk --help"),
+    ("crossbar5 help live", "crossbar5 live --help"),
+    ("crossbar5 help audit", "crossbar5 audit --help"),
+    ("crossbar5 help draw", "crossbar5 draw --help"),
+    ("crossbar5 help page", "crossbar5 page --help"),
+];
 
 /// Two lines of words are told the same.
 fn check_same(rt: &impl Abort, alloc: Global, one: &str, other: &str) -> Result<(), Fail> {
@@ -456,31 +439,18 @@ fn check_same(rt: &impl Abort, alloc: Global, one: &str, other: &str) -> Result<
 
 #[test]
 fn help_as_a_word_is_help_as_an_option(rt: HostRuntime) -> Result<(), Fail> {
-    for (word, option) in [
-        ("crossbar5 help", "crossbar5 --help"),
-        ("crossbar5 help replay", "crossbar5 replay --help"),
-        ("crossbar5 help walk", "crossbar5 walk --help"),
-        ("crossbar5 help live", "crossbar5 live --help"),
-        ("crossbar5 help audit", "crossbar5 audit --help"),
-        ("crossbar5 help draw", "crossbar5 draw --help"),
-        ("crossbar5 help page", "crossbar5 page --help"),
-    ] {
+    for (word, option) in SAME_HELP {
         check_same(&rt, rt.alloc(), word, option)?;
     }
     Ok(())
 }
 
 #[test]
-fn the_version_is_printed(rt: HostRuntime) -> Result<(), Fail> {
-    let text = text_of(rt.alloc(), "elsewhere/other --version")?;
-    check_eq!(rt; text.as_str(), "crossbar5 0.1.0\n");
-    Ok(())
-}
-
-#[test]
-fn a_refused_word_is_named(rt: HostRuntime) -> Result<(), Fail> {
-    let text = text_of(rt.alloc(), "crossbar5 call")?;
+fn versions_and_refused_words_are_told(rt: HostRuntime) -> Result<(), Fail> {
+    let version = text_of(rt.alloc(), "elsewhere/other --version")?;
+    check_eq!(rt; version.as_str(), "crossbar5 0.1.0\n");
+    let refused = text_of(rt.alloc(), "crossbar5 call")?;
     let head = "error: unrecognized subcommand 'call'\n";
-    check!(rt; text.as_str().starts_with(head), "{text}");
+    check!(rt; refused.as_str().starts_with(head), "{refused}");
     Ok(())
 }

@@ -1,10 +1,9 @@
 //! Texts of traffic, with their rows and their faults as the formats have them.
 
 use crate::checks::check_eq;
-use std::alloc::Global;
+use std::alloc::{AllocError, Global};
 use std::process::Abort;
 use std::test::Fail;
-use xbar_equip::{Dialled, Len};
 use xbar_office::Job;
 use xbar_traffic::{MarkerFault, Mode, Row, RowFault, Traffic, TrafficFault};
 
@@ -12,12 +11,48 @@ mod lines;
 mod live;
 mod replay;
 
-fn line(rt: &impl Abort, text: &[u8]) -> Len {
-    let Ok(line) = Len::parse(text) else {
-        panic!(rt; "{text:?} is no line");
-    };
-    line
+fn add_job(text: &mut String, job: &Job) -> Result<(), AllocError> {
+    match job {
+        Job::Dial(line) => write!(text, "D {line}")?,
+        Job::Complete(line, dialled) => write!(text, "C {line} {dialled}")?,
+        Job::Release(line) => write!(text, "R {line}")?,
+    }
+    Ok(())
 }
+
+fn add_row(text: &mut String, row: &Row) -> Result<(), AllocError> {
+    match row {
+        Row::Assign {
+            marker,
+            job_no,
+            job,
+        } => {
+            write!(text, "marker {marker}: job {job_no}, ")?;
+            add_job(text, job)?;
+        }
+        Row::Steps { marker, count } => write!(text, "marker {marker}: {count} steps")?,
+        Row::Call {
+            call_no,
+            line,
+            dialled,
+            release,
+        } => write!(text, "call {call_no}: {line} {dialled}, {release}")?,
+    }
+    text.push_str("\n")?;
+    Ok(())
+}
+
+fn text_of_rows(alloc: Global, rows: &[Row]) -> Result<String, AllocError> {
+    let mut text = String::new(alloc);
+    for row in rows {
+        add_row(&mut text, row)?;
+    }
+    Ok(text)
+}
+
+/// A text, and its rows, a line each: what a marker is assigned or how many steps it makes, or a call
+/// and whether it is released.
+type Rows = (&'static [u8], &'static str);
 
 /// The traffic has just these rows, and no fault.
 fn check_rows(
@@ -25,15 +60,25 @@ fn check_rows(
     alloc: Global,
     mode: Mode,
     text: &[u8],
-    wanted: &[Row],
+    wanted: &str,
 ) -> Result<(), Fail> {
     let traffic = Traffic::read(alloc, mode, text)?;
-    check_eq!(rt; traffic.rows.as_slice(), wanted, "of {text:?}");
-    check_eq!(rt; traffic.fault, None, "of {text:?}");
+    let rows = text_of_rows(alloc, &traffic.rows)?;
+    check_eq!(rt; (rows.as_str(), traffic.fault), (wanted, None), "of {text:?}");
     Ok(())
 }
 
-/// The traffic has so many rows, and then the fault of this line, or none where it is `none`.
+/// A text, and how many rows it has before the fault of this line, or in all where that is `none`.
+type Told = (&'static [u8], usize, &'static str);
+
+/// The line of the fault that traffic has, or `none`.
+fn fault_line(alloc: Global, traffic: &Traffic) -> Result<String, Fail> {
+    match traffic.refusal() {
+        Some(refusal) => Ok(refusal.text(alloc)?),
+        None => Ok(String::from_str(alloc, "none")?),
+    }
+}
+
 fn check_told(
     rt: &impl Abort,
     alloc: Global,
@@ -43,25 +88,25 @@ fn check_told(
     wanted: &str,
 ) -> Result<(), Fail> {
     let traffic = Traffic::read(alloc, mode, text)?;
-    let line = match traffic.refusal() {
-        Some(refusal) => refusal.text(alloc)?,
-        None => String::from_str(alloc, "none")?,
-    };
-    check_eq!(rt; line.as_str(), wanted, "of {text:?}");
-    check_eq!(rt; traffic.rows.len(), rows, "of {text:?}");
+    let line = fault_line(alloc, &traffic)?;
+    let found = (traffic.rows.len(), line.as_str());
+    check_eq!(rt; found, (rows, wanted), "of {text:?}");
     Ok(())
 }
 
-/// Each of these texts is refused for its first row.
+/// Texts each of which is refused for its first row, by this line.
+type Refused = (&'static str, &'static [&'static [u8]]);
+
 fn check_refused(
     rt: &impl Abort,
     alloc: Global,
     mode: Mode,
-    texts: &[&[u8]],
-    wanted: &str,
+    refused: &[Refused],
 ) -> Result<(), Fail> {
-    for text in texts {
-        check_told(rt, alloc, mode, text, 0, wanted)?;
+    for (line, texts) in refused {
+        for text in *texts {
+            check_told(rt, alloc, mode, text, 0, line)?;
+        }
     }
     Ok(())
 }

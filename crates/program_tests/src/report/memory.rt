@@ -17,20 +17,21 @@ const STRAY: &str = "0,1,0,D,3041,-,TROUBLE,-,-,-\n\
     1,2,1,D,3052,-,LINEBUSY,-,-,-\n\
     TROUBLE,2,1,1,JU340\n";
 
+const TEXTS: &[(&str, Option<ReadFault>)] = &[
+    (RIGHT, None),
+    (STRAY, Some(ReadFault::Line { number: 3 })),
+    (
+        "1,1,0,D,3041,-,NOPATH,-,-,-\n",
+        Some(ReadFault::Turns { place: 0 }),
+    ),
+];
+
 #[test]
 fn a_text_is_judged_right_or_memory_is_told(rt: HostRuntime) {
-    let texts = [
-        (RIGHT, None),
-        (STRAY, Some(ReadFault::Line { number: 3 })),
-        (
-            "1,1,0,D,3041,-,NOPATH,-,-,-\n",
-            Some(ReadFault::Turns { place: 0 }),
-        ),
-    ];
-    for (text, wanted) in texts {
+    for (text, wanted) in TEXTS {
         let fault = read(rt.alloc(), text.as_bytes()).err();
         if fault != Some(ReadFault::Memory) {
-            check_eq!(rt; fault, wanted);
+            check_eq!(rt; fault, *wanted);
         }
     }
 }

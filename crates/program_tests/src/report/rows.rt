@@ -7,7 +7,7 @@ use std::test::Fail;
 use xbar_report::{Counts, read, report};
 
 /// What replays of worked rows write.
-const TEXTS: [&str; 21] = [
+const TEXTS: &[&str] = &[
     "0,1,0,D,3041,-,DIALTONE,1,3041-0-417,-\n\
     PATHS,1\n\
     CLOSED,4\n",

@@ -22,7 +22,7 @@ fn fault_of(alloc: Global, text: &str) -> Option<ReadFault> {
 
 /// Each an old part, which stands in the right text once, the new one in its place, and the line
 /// that is told.
-const SPOILED: [(&str, &str, usize); 42] = [
+const SPOILED: &[(&str, &str, usize)] = &[
     ("0,1,0,D,3041", "x,1,0,D,3041", 1),
     ("0,1,0,D,3041", "00,1,0,D,3041", 1),
     ("0,1,0,D,3041", "+0,1,0,D,3041", 1),
@@ -102,46 +102,53 @@ fn check_spoiled(
     Ok(())
 }
 
-#[test]
-fn the_right_text_is_read(rt: HostRuntime) {
-    for text in [RIGHT, "", "PATHS,0\nCLOSED,0\n"] {
-        check_eq!(rt; fault_of(rt.alloc(), text), None, "{text}");
-    }
-}
+/// A turn that is wrong is told before whose the cards are: an old part, the new one in its place,
+/// and the place of the record.
+const WRONG_TURNS: &[(&str, &str, usize)] = &[
+    ("1,2,1,D,3052", "2,2,1,D,3052", 1),
+    ("0,1,0,D", "1,1,0,D", 0),
+];
 
 #[test]
 fn a_spoiled_text_is_refused_at_its_line(rt: HostRuntime) -> Result<(), Fail> {
     for (old, new, number) in SPOILED {
-        check_spoiled(&rt, rt.alloc(), old, new, ReadFault::Line { number })?;
+        let fault = ReadFault::Line { number: *number };
+        check_spoiled(&rt, rt.alloc(), old, new, fault)?;
+    }
+    for (old, new, place) in WRONG_TURNS {
+        let fault = ReadFault::Turns { place: *place };
+        check_spoiled(&rt, rt.alloc(), old, new, fault)?;
     }
     Ok(())
 }
 
-#[test]
-fn lines_behind_their_place_are_refused(rt: HostRuntime) {
-    let texts = [
-        ("\n", 1),
-        ("CLOSED,0\nPATHS,0\n", 1),
-        ("PATHS,0\n", 2),
-        ("PATHS,0\n0,1,0,D,3041,-,NOPATH,-,-,-\n", 2),
-        ("TROUBLE,0,1,1,JU340\n0,1,0,D,3041,-,TROUBLE,-,-,-\n", 2),
-        ("TROUBLE,0,1,1,JU340\n", 1),
-        ("0,1,0,D,3041,-,NOPATH,-,-,-", 1),
-        ("TROUBLE", 1),
-    ];
-    for (text, number) in texts {
-        let fault = fault_of(rt.alloc(), text);
-        check_eq!(rt; fault, Some(ReadFault::Line { number }), "{text}");
-    }
-}
+/// Texts, each with its fault, if it has one.
+const TEXTS: &[(&str, Option<ReadFault>)] = &[
+    (RIGHT, None),
+    ("", None),
+    ("PATHS,0\nCLOSED,0\n", None),
+    ("\n", Some(ReadFault::Line { number: 1 })),
+    ("CLOSED,0\nPATHS,0\n", Some(ReadFault::Line { number: 1 })),
+    ("PATHS,0\n", Some(ReadFault::Line { number: 2 })),
+    (
+        "PATHS,0\n0,1,0,D,3041,-,NOPATH,-,-,-\n",
+        Some(ReadFault::Line { number: 2 }),
+    ),
+    (
+        "TROUBLE,0,1,1,JU340\n0,1,0,D,3041,-,TROUBLE,-,-,-\n",
+        Some(ReadFault::Line { number: 2 }),
+    ),
+    ("TROUBLE,0,1,1,JU340\n", Some(ReadFault::Line { number: 1 })),
+    (
+        "0,1,0,D,3041,-,NOPATH,-,-,-",
+        Some(ReadFault::Line { number: 1 }),
+    ),
+    ("TROUBLE", Some(ReadFault::Line { number: 1 })),
+];
 
 #[test]
-fn a_wrong_turn_is_told_before_whose_the_cards_are(rt: HostRuntime) -> Result<(), Fail> {
-    for (old, new, place) in [
-        ("1,2,1,D,3052", "2,2,1,D,3052", 1),
-        ("0,1,0,D", "1,1,0,D", 0),
-    ] {
-        check_spoiled(&rt, rt.alloc(), old, new, ReadFault::Turns { place })?;
+fn lines_are_read_in_their_places(rt: HostRuntime) {
+    for (text, wanted) in TEXTS {
+        check_eq!(rt; fault_of(rt.alloc(), text), *wanted, "{text}");
     }
-    Ok(())
 }

@@ -2,6 +2,7 @@
 
 use crate::checks::{check, check_eq};
 use std::alloc::Global;
+use std::process::Abort;
 use std::test::Fail;
 use xbar_equip::{Channel, Dialled, Len, Link, LinkKind, Path, Ten};
 use xbar_office::{Card, Cards, End, Job, Record, Reply};
@@ -88,54 +89,25 @@ fn trouble() -> Reply {
 }
 
 /// The records of each end of a dial tone job, in turn order.
-fn records(alloc: Global) -> Result<Vec<Record>, Fail> {
-    let records = vec![in alloc;
+fn records() -> [Record; 5] {
+    [
         record(0, 1, trouble()),
         record(1, 2, dial_tone()),
         record(2, 3, plain(End::LineBusy)),
         record(3, 4, plain(End::RegistersBusy)),
         record(4, 9999, plain(End::NoPath)),
-    ]?;
-    Ok(records)
+    ]
 }
 
-#[test]
-fn the_text_of_no_record(rt: HostRuntime) -> Result<(), Fail> {
-    let text = report(rt.alloc(), &[], 0, 0)?;
-    check_eq!(rt; text.as_slice(), b"PATHS,0\nCLOSED,0\n".as_slice());
-    Ok(())
-}
-
-#[test]
-fn the_text_of_records(rt: HostRuntime) -> Result<(), Fail> {
-    let records = records(rt.alloc())?;
-    let text = report(rt.alloc(), &records, 1, 4)?;
-    let want = b"0,1,0,D,3041,-,TROUBLE,-,-,-\n\
-        1,2,0,D,3041,-,DIALTONE,1,3041-0-417,-\n\
-        2,3,0,D,3041,-,LINEBUSY,-,-,-\n\
-        3,4,0,D,3041,-,REGISTERSBUSY,-,-,-\n\
-        4,9999,0,D,3041,-,NOPATH,-,-,-\n\
-        TROUBLE,0,1,1,JU340\n\
-        TROUBLE,0,1,2,JU345\n\
-        PATHS,1\n\
-        CLOSED,4\n";
-    check_eq!(rt; text.as_slice(), want.as_slice());
-    Ok(())
-}
-
-#[test]
-fn the_text_of_many_records(rt: HostRuntime) -> Result<(), Fail> {
-    let mut records = Vec::new(rt.alloc());
-    for turn in 0..100_001 {
-        records.push(record(turn, 7, plain(End::LineBusy)))?;
-    }
-    let text = report(rt.alloc(), &records, 0, 0)?;
-    // The turns have 488,896 digits, and each line has 29 bytes more.
-    check_eq!(rt; text.len(), 3_388_942);
-    let last = b"\n100000,7,0,D,3041,-,LINEBUSY,-,-,-\nPATHS,0\nCLOSED,0\n";
-    check!(rt; text.ends_with(last));
-    Ok(())
-}
+const RECORDS: &str = "0,1,0,D,3041,-,TROUBLE,-,-,-\n\
+    1,2,0,D,3041,-,DIALTONE,1,3041-0-417,-\n\
+    2,3,0,D,3041,-,LINEBUSY,-,-,-\n\
+    3,4,0,D,3041,-,REGISTERSBUSY,-,-,-\n\
+    4,9999,0,D,3041,-,NOPATH,-,-,-\n\
+    TROUBLE,0,1,1,JU340\n\
+    TROUBLE,0,1,2,JU345\n\
+    PATHS,1\n\
+    CLOSED,4\n";
 
 /// The end of a call by the path 3041-0-600.
 fn connected_end(called: Option<Path>, trial: u8) -> End {
@@ -150,9 +122,9 @@ fn released_end(own: Path, other: Option<Path>) -> End {
     End::Released { own, other }
 }
 
-/// The records of each end that only other kinds of job have, in turn order.
-fn call_records(alloc: Global) -> Result<Vec<Record>, Fail> {
-    let records = vec![in alloc;
+/// The records of each end of a completing job alone, in turn order.
+fn completed_records() -> [Record; 7] {
+    [
         completed(0, 1, connected_end(Some(called_path()), 1)),
         completed(1, 2, connected_end(None, 2)),
         completed(2, 3, End::NoRegister),
@@ -160,29 +132,67 @@ fn call_records(alloc: Global) -> Result<Vec<Record>, Fail> {
         completed(4, 5, End::VacantNumber),
         completed(5, 6, End::CalledBusy),
         completed(6, 7, End::TrunksBusy),
+    ]
+}
+
+const COMPLETED: &str = "0,1,0,C,3041,2340004,CONNECTED,1,3041-0-600,3100-1-601\n\
+    1,2,0,C,3041,2340004,CONNECTED,2,3041-0-600,-\n\
+    2,3,0,C,3041,2340004,NOREGISTER,-,-,-\n\
+    3,4,0,C,3041,2340004,VACANTCODE,-,-,-\n\
+    4,5,0,C,3041,2340004,VACANTNUMBER,-,-,-\n\
+    5,6,0,C,3041,2340004,CALLEDBUSY,-,-,-\n\
+    6,7,0,C,3041,2340004,TRUNKSBUSY,-,-,-\n\
+    PATHS,0\n\
+    CLOSED,0\n";
+
+/// And of a release.
+fn released_records() -> [Record; 3] {
+    [
         released(7, 8, released_end(called_path(), Some(calling_path()))),
         released(8, 9, released_end(calling_path(), None)),
         released(9, 10, End::NoCall),
-    ]?;
-    Ok(records)
+    ]
+}
+
+const RELEASED: &str = "7,8,0,R,3041,-,RELEASED,-,3100-1-601,3041-0-600\n\
+    8,9,0,R,3041,-,RELEASED,-,3041-0-600,-\n\
+    9,10,0,R,3041,-,NOCALL,-,-,-\n\
+    PATHS,0\n\
+    CLOSED,0\n";
+
+/// The text of records, with so many paths and closed crosspoints.
+fn check_text(
+    rt: &impl Abort,
+    alloc: Global,
+    records: &[Record],
+    counts: (u16, u16),
+    wanted: &str,
+) -> Result<(), Fail> {
+    let (paths, closed) = counts;
+    let text = report(alloc, records, paths, closed)?;
+    check_eq!(rt; str::from_utf8(&text).unwrap_or("this is no text"), wanted);
+    Ok(())
 }
 
 #[test]
-fn the_text_of_calls(rt: HostRuntime) -> Result<(), Fail> {
-    let records = call_records(rt.alloc())?;
+fn records_have_their_text(rt: HostRuntime) -> Result<(), Fail> {
+    let alloc = rt.alloc();
+    check_text(&rt, alloc, &[], (0, 0), "PATHS,0\nCLOSED,0\n")?;
+    check_text(&rt, alloc, &records(), (1, 4), RECORDS)?;
+    check_text(&rt, alloc, &completed_records(), (0, 0), COMPLETED)?;
+    check_text(&rt, alloc, &released_records(), (0, 0), RELEASED)
+}
+
+#[test]
+fn the_text_of_many_records(rt: HostRuntime) -> Result<(), Fail> {
+    let mut records = Vec::new(rt.alloc());
+    for turn in 0..100_001 {
+        records.push(record(turn, 7, plain(End::LineBusy)))?;
+    }
     let text = report(rt.alloc(), &records, 0, 0)?;
-    let want = b"0,1,0,C,3041,2340004,CONNECTED,1,3041-0-600,3100-1-601\n\
-        1,2,0,C,3041,2340004,CONNECTED,2,3041-0-600,-\n\
-        2,3,0,C,3041,2340004,NOREGISTER,-,-,-\n\
-        3,4,0,C,3041,2340004,VACANTCODE,-,-,-\n\
-        4,5,0,C,3041,2340004,VACANTNUMBER,-,-,-\n\
-        5,6,0,C,3041,2340004,CALLEDBUSY,-,-,-\n\
-        6,7,0,C,3041,2340004,TRUNKSBUSY,-,-,-\n\
-        7,8,0,R,3041,-,RELEASED,-,3100-1-601,3041-0-600\n\
-        8,9,0,R,3041,-,RELEASED,-,3041-0-600,-\n\
-        9,10,0,R,3041,-,NOCALL,-,-,-\n\
-        PATHS,0\n\
-        CLOSED,0\n";
-    check_eq!(rt; text.as_slice(), want.as_slice());
+    // The turns have 488,896 digits, and each line has 29 bytes more.
+    check_eq!(rt; text.len(), 3_388_942);
+    let last = b"\n100000,7,0,D,3041,-,LINEBUSY,-,-,-\nPATHS,0\nCLOSED,0\n";
+    check!(rt; text.ends_with(last));
     Ok(())
 }

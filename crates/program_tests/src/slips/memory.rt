@@ -2,53 +2,63 @@
 //! then, and never another one.
 
 use super::*;
-use crate::checks::{check, check_eq};
+use crate::checks::check;
+use std::fmt::Display;
 use xbar_plan::PlanFault;
 use xbar_traffic::{Mode, RowFault, TrafficFault};
 
-#[test]
-fn slips_of_plans_are_right_or_not_told(rt: HostRuntime) {
-    let alloc = rt.alloc();
-    let plan = r#"version = 1
+/// A plan with a fault of many a kind.
+const PLAN: &str = r#"version = 1
 groups = ["REG register 417 418", "OUTA outgoing 800", "OUTA outgoing 418"]
 numbers = ["0001 3041", "0002 3052", "0001 1000"]
 codes = ["234 OUTA", "555 OUTA REG", "777 NONE"]
 faults = ["JU340", "JX340"]
 "#;
-    let table = [
-        (
-            PlanFault::Malformed,
-            r#"faults, item 2 "JX340": LL, JU or TL and three digits are wanted (P5)"#,
-        ),
-        (
-            PlanFault::GroupTwice,
-            "groups, item 3: name OUTA stands already in item 2 (P7)",
-        ),
-        (
-            PlanFault::PlaceTwice,
-            "groups, item 3: place 418 stands already in item 1 (P9)",
-        ),
-        (
-            PlanFault::NumberTwice,
-            "numbers, item 3: number 0001 stands already in item 1 (P11)",
-        ),
-        (
-            PlanFault::UnknownGroup,
-            "codes, item 3: no group has the name NONE (P13)",
-        ),
-        (
-            PlanFault::MixedRoute,
-            "codes, item 2: REG has registers; intra groups or outgoing groups are wanted (P14)",
-        ),
-    ];
-    for (fault, wanted) in table {
-        if let Ok(slip) = plan_slip(alloc, plan.as_bytes(), fault) {
-            let told = slip.map(|slip| slip.to_string(alloc));
-            if let Some(Ok(told)) = told {
-                check_eq!(rt; told.as_str(), wanted);
-            } else {
-                check!(rt; told.is_some(), "a slip of {fault}");
-            }
+
+const OF_THE_PLAN: &[(PlanFault, &str)] = &[
+    (
+        PlanFault::Malformed,
+        r#"faults, item 2 "JX340": LL, JU or TL and three digits are wanted (P5)"#,
+    ),
+    (
+        PlanFault::GroupTwice,
+        "groups, item 3: name OUTA stands already in item 2 (P7)",
+    ),
+    (
+        PlanFault::PlaceTwice,
+        "groups, item 3: place 418 stands already in item 1 (P9)",
+    ),
+    (
+        PlanFault::NumberTwice,
+        "numbers, item 3: number 0001 stands already in item 1 (P11)",
+    ),
+    (
+        PlanFault::UnknownGroup,
+        "codes, item 3: no group has the name NONE (P13)",
+    ),
+    (
+        PlanFault::MixedRoute,
+        "codes, item 2: REG has registers; intra groups or outgoing groups are wanted (P14)",
+    ),
+];
+
+/// A slip that is told is told so. Where one was found, it may be that memory is refused for its text.
+fn is_told_so<S: Display + Drop>(alloc: Global, slip: Option<S>, wanted: &str) -> bool {
+    let Some(slip) = slip else {
+        return false;
+    };
+    match slip.to_string(alloc) {
+        Ok(text) => text.as_str() == wanted,
+        Err(_) => true,
+    }
+}
+
+#[test]
+fn slips_of_plans_are_right_or_not_told(rt: HostRuntime) {
+    let alloc = rt.alloc();
+    for (fault, wanted) in OF_THE_PLAN {
+        if let Ok(slip) = plan_slip(alloc, PLAN.as_bytes(), *fault) {
+            check!(rt; is_told_so(alloc, slip, wanted), "a slip of {fault}");
         }
     }
 }
@@ -57,34 +67,33 @@ faults = ["JU340", "JX340"]
 fn slips_of_texts_are_right_or_not_told(rt: HostRuntime) {
     let alloc = rt.alloc();
     if let Ok(slip) = plan_slip(alloc, b"version = 1\nversion = 2", PlanFault::NotToml) {
-        check!(rt; slip.is_some());
-        if let Some(Ok(told)) = slip.map(|slip| slip.to_string(alloc)) {
-            check_eq!(rt; told.as_str(), "line 2, column 1: duplicate key (P1)");
-        }
+        check!(rt; is_told_so(alloc, slip, "line 2, column 1: duplicate key (P1)"));
     }
 }
+
+const TRAFFIC: &[u8] = b"J,0,1,D,3041\n\nJ,0,1,D,3045\n";
+
+const OF_THE_TRAFFIC: &[(RowFault, &str)] = &[
+    (
+        RowFault::NumberTwice,
+        r#"traffic line 3 (row 2), field 3 "1": this number stands already on line 1 (row 1) (T4)"#,
+    ),
+    (
+        RowFault::Malformed,
+        r#"traffic line 3 (row 2), field 5 "3045": a line of four digits, the third at most 5 and the fourth at most 4, is wanted (T3)"#,
+    ),
+];
 
 #[test]
 fn slips_of_traffic_are_right_or_not_told(rt: HostRuntime) {
     let alloc = rt.alloc();
-    let bytes = b"J,0,1,D,3041\n\nJ,0,1,D,3045\n";
-    let table = [
-        (
-            RowFault::NumberTwice,
-            r#"traffic line 3 (row 2), field 3 "1": this number stands already on line 1 (row 1) (T4)"#,
-        ),
-        (
-            RowFault::Malformed,
-            r#"traffic line 3 (row 2), field 5 "3045": a line of four digits, the third at most 5 and the fourth at most 4, is wanted (T3)"#,
-        ),
-    ];
-    for (fault, wanted) in table {
-        let fault = TrafficFault { row: 2, fault };
-        if let Ok(slip) = traffic_slip(alloc, Mode::Replay, bytes, fault) {
-            check!(rt; slip.is_some());
-            if let Some(Ok(told)) = slip.map(|slip| slip.to_string(alloc)) {
-                check_eq!(rt; told.as_str(), wanted);
-            }
+    for (fault, wanted) in OF_THE_TRAFFIC {
+        let fault = TrafficFault {
+            row: 2,
+            fault: *fault,
+        };
+        if let Ok(slip) = traffic_slip(alloc, Mode::Replay, TRAFFIC, fault) {
+            check!(rt; is_told_so(alloc, slip, wanted), "a slip of {fault:?}");
         }
     }
 }
