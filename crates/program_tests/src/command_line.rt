@@ -7,23 +7,9 @@ use std::alloc::{AllocError, Global};
 use std::process::Abort;
 use std::test::Fail;
 
-/// Asks with the words of a line, between single spaces.
-fn asked_once(alloc: Global, line: &str) -> Result<Ask, CommandFault> {
-    let words: Vec<&str> = line.split(' ').collect(alloc)?;
-    command(alloc, words.as_slice())
-}
-
-/// Asks, and where memory is refused once more.
-fn asked(alloc: Global, line: &str) -> Result<Ask, CommandFault> {
-    match asked_once(alloc, line) {
-        Err(CommandFault::Memory) => asked_once(alloc, line),
-        answer => answer,
-    }
-}
-
 /// The subcommand, the plan's file, if one is asked for, and what else is asked for, in the order of
 /// the fields.
-fn text_of_ask_once(alloc: Global, ask: &Ask) -> Result<String, AllocError> {
+fn text_of_ask(alloc: Global, ask: &Ask) -> Result<String, AllocError> {
     match ask {
         Ask::Replay { plan, kinds } => format!(in alloc; "replay {plan:?} {kinds}"),
         Ask::Walk { plan, kinds, short } => format!(in alloc; "walk {plan:?} {kinds} {short}"),
@@ -38,11 +24,26 @@ fn text_of_ask_once(alloc: Global, ask: &Ask) -> Result<String, AllocError> {
     }
 }
 
-/// What is asked for, and where memory is refused its text is made once more.
-fn text_of_ask(alloc: Global, ask: &Ask) -> Result<String, AllocError> {
-    match text_of_ask_once(alloc, ask) {
-        Ok(text) => Ok(text),
-        Err(_) => text_of_ask_once(alloc, ask),
+/// What these words ask for.
+fn asked_by(alloc: Global, words: &[&str]) -> Result<String, CommandFault> {
+    let ask = command(alloc, words)?;
+    Ok(text_of_ask(alloc, &ask)?)
+}
+
+/// What the words of a line ask for, between single spaces. Without a line there are no words.
+fn asked_once(alloc: Global, line: Option<&str>) -> Result<String, CommandFault> {
+    let Some(line) = line else {
+        return asked_by(alloc, &[]);
+    };
+    let words: Vec<&str> = line.split(' ').collect(alloc)?;
+    asked_by(alloc, words.as_slice())
+}
+
+/// What is asked for. Where memory is refused it is asked once more.
+fn asked(alloc: Global, line: Option<&str>) -> Result<String, CommandFault> {
+    match asked_once(alloc, line) {
+        Err(CommandFault::Memory) => asked_once(alloc, line),
+        answer => answer,
     }
 }
 
@@ -144,9 +145,8 @@ const ASKED: &[(&str, &str)] = &[
 ];
 
 fn check_asked(rt: &impl Abort, alloc: Global, line: &str, wanted: &str) -> Result<(), Fail> {
-    let ask = asked(alloc, line)?;
-    let text = text_of_ask(alloc, &ask)?;
-    check_eq!(rt; text.as_str(), wanted, "{line}");
+    let told = asked(alloc, Some(line))?;
+    check_eq!(rt; told.as_str(), wanted, "{line}");
     Ok(())
 }
 
@@ -160,17 +160,13 @@ fn words_ask_for_something(rt: HostRuntime) -> Result<(), Fail> {
 
 #[test]
 fn no_words_ask_for_a_replay(rt: HostRuntime) -> Result<(), Fail> {
-    let ask = match command(rt.alloc(), &[]) {
-        Err(CommandFault::Memory) => command(rt.alloc(), &[])?,
-        answer => answer?,
-    };
-    check_eq!(rt; text_of_ask(rt.alloc(), &ask)?.as_str(), "replay None XX");
+    check_eq!(rt; asked(rt.alloc(), None)?.as_str(), "replay None XX");
     Ok(())
 }
 
 /// The error of clap for the words of a line.
 fn refused(alloc: Global, line: &str) -> Result<clap::Error, Fail> {
-    match asked(alloc, line) {
+    match asked(alloc, Some(line)) {
         Err(CommandFault::Refused(error)) => Ok(error),
         Err(CommandFault::Memory) => Err(Fail::from("memory was refused twice")),
         Ok(_) => Err(Fail::from("the words were taken")),
@@ -400,11 +396,15 @@ const HELPS: &[&str] = &[
     "crossbar5 page --help",
 ];
 
+fn check_starts(rt: &impl Abort, line: &str, text: &str) {
+    for part in STARTS {
+        check!(rt; text.contains(*part), "{line}: {part}");
+    }
+}
+
 fn check_help(rt: &impl Abort, alloc: Global, line: &str) -> Result<(), Fail> {
     let text = text_of(alloc, line)?;
-    for part in STARTS {
-        check!(rt; text.as_str().contains(*part), "{line}: {part}");
-    }
+    check_starts(rt, line, &text);
     Ok(())
 }
 

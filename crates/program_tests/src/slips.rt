@@ -1,6 +1,7 @@
 //! The sentences of slips, each written down from what stands in the text.
 
-use std::alloc::Global;
+use std::alloc::{AllocError, Global};
+use std::fmt::Display;
 use std::process::Abort;
 use std::test::Fail;
 use xbar_slips::{kinds_slip, plan_slip, traffic_slip};
@@ -9,3 +10,14 @@ mod kinds;
 mod memory;
 mod plan;
 mod traffic;
+
+/// What stands for the sentence where no slip is told.
+const NO_SLIP: &str = "no slip";
+
+/// The sentence of a slip, if there's one.
+fn told<S: Display + Drop>(alloc: Global, slip: Option<S>) -> Result<String, AllocError> {
+    match slip {
+        Some(slip) => slip.to_string(alloc),
+        None => String::from_str(alloc, NO_SLIP),
+    }
+}

@@ -1,5 +1,6 @@
 //! Each call reaches the device inside once, with the buffer that it was given.
 
+use super::check_device;
 use crate::checks::{check, check_eq};
 use counted_io::{Counted, Sink, Source, read_all, write_all};
 use std::alloc::Global;
@@ -49,13 +50,8 @@ const WRITES: &[Call] = &[
     Call::Flush,
 ];
 
-fn check_device(rt: &impl Abort, device: &Recorder<Vec<u8>>, calls: &[Call], bytes: &[u8]) {
-    check_eq!(rt; device.calls.as_slice(), calls);
-    check_eq!(rt; device.inner.as_slice(), bytes);
-}
-
 /// A write and a flush, and then two writes and a flush that are counted.
-fn write_and_flush(sink: &mut Counted<Recorder<Vec<u8>>>) -> io::Result<[usize; 3]> {
+fn write_and_flush<S: Sink>(sink: &mut S) -> io::Result<[usize; 3]> {
     let first = sink.write(b"some")?;
     sink.flush()?;
     let second = sink.write_and_count(b"")?;
@@ -109,13 +105,17 @@ fn each_failure_is_the_device_s_own(rt: HostRuntime) {
 
 const FULL_CHUNKS: &[Call] = &[Call::Read(4096); 4];
 
+fn check_chunks(rt: &impl Abort, alloc: Global, text: &[u8]) -> Result<(), Fail> {
+    let mut source = Counted::new(Recorder::new(alloc, text));
+    check_eq!(rt; read_all(alloc, &mut source)?.len(), text.len());
+    check_eq!(rt; source.get_ref().calls.as_slice(), FULL_CHUNKS);
+    Ok(())
+}
+
 #[test]
 fn all_is_read_by_full_chunks(rt: HostRuntime) -> Result<(), Fail> {
     let text = vec![in rt.alloc(); b'x'; 10_000]?;
-    let mut source = Counted::new(Recorder::new(rt.alloc(), text.as_slice()));
-    check_eq!(rt; read_all(rt.alloc(), &mut source)?.len(), 10_000);
-    check_eq!(rt; source.get_ref().calls.as_slice(), FULL_CHUNKS);
-    Ok(())
+    check_chunks(&rt, rt.alloc(), &text)
 }
 
 /// Bytes, and the calls that write all of them.

@@ -4,6 +4,7 @@ use super::fakes::{Still, Stuck};
 use crate::checks::{check, check_eq};
 use counted_io::{Counted, ReadFault, Sink, Source, WriteFault, read_all, write_all};
 use std::alloc::Global;
+use std::io;
 use std::io::{Read, Write};
 use std::process::Abort;
 use std::test::Fail;
@@ -25,14 +26,18 @@ fn texts_of_faults(rt: HostRuntime) -> Result<(), Fail> {
     Ok(())
 }
 
+fn check_used_up(rt: &impl Abort, source: Counted<&[u8]>, reads: u64) {
+    check_eq!(rt; (source.failures(), source.reads()), (0, reads));
+    check!(rt; source.get_ref().is_empty());
+    check!(rt; source.into_inner().is_empty());
+}
+
 /// Reads all, which has so many reads and no failure.
 fn check_read(rt: &impl Abort, alloc: Global, text: &[u8], reads: u64) -> Result<(), Fail> {
     let mut source = Counted::new(text);
     let read = read_all(alloc, &mut source)?;
     check_eq!(rt; read.as_slice(), text);
-    check_eq!(rt; (source.failures(), source.reads()), (0, reads));
-    check!(rt; source.get_ref().is_empty());
-    check!(rt; source.into_inner().is_empty());
+    check_used_up(rt, source, reads);
     Ok(())
 }
 
@@ -82,12 +87,18 @@ fn the_longest_input(rt: HostRuntime) {
     check_eq!(rt; read_whole(rt.alloc(), Endless.take(1_048_575)), longest);
 }
 
+/// How many bytes each of two reads gives.
+fn read_twice<R: Read>(reader: &mut R) -> io::Result<[usize; 2]> {
+    let mut two = [0; 2];
+    let first = reader.read(&mut two)?;
+    let second = reader.read(&mut two)?;
+    Ok([first, second])
+}
+
 #[test]
 fn only_reads_since_the_beginning_make_an_input_long(rt: HostRuntime) -> Result<(), Fail> {
     let mut source = Counted::new(Endless.take(5));
-    let mut first = [0; 2];
-    let counts = (source.read(&mut first)?, source.read(&mut first)?);
-    check_eq!(rt; counts, (1, 1));
+    check_eq!(rt; read_twice(&mut source)?, [1, 1]);
     let read = read_all(rt.alloc(), &mut source)?;
     check_eq!(rt; (read.as_slice(), source.reads()), (b"xxx".as_slice(), 5));
     Ok(())
@@ -200,11 +211,20 @@ fn a_failed_write_or_flush(rt: HostRuntime) {
     }
 }
 
+/// The bytes of each write, how many it takes, and how many failures there are then.
+const STUCK_AT_FIRST: &[(&[u8], usize, u64)] = &[(b"ab", 0, 1), (b"ab", 2, 1), (b"", 0, 1)];
+
+fn check_writes<S: Sink>(rt: &impl Abort, sink: &mut S) -> io::Result<()> {
+    for (bytes, count, failures) in STUCK_AT_FIRST {
+        let found = sink.write(bytes)?;
+        check_eq!(rt; (found, sink.failures()), (*count, *failures));
+    }
+    Ok(())
+}
+
 #[test]
 fn an_empty_write_is_no_failure(rt: HostRuntime) -> Result<(), Fail> {
     let mut sink = stuck(rt.alloc(), 0);
-    let first = (sink.write(b"ab")?, sink.failures());
-    let then = (sink.write(b"ab")?, sink.write(b"")?, sink.failures());
-    check_eq!(rt; (first, then), ((0, 1), (2, 0, 1)));
+    check_writes(&rt, &mut sink)?;
     Ok(())
 }

@@ -122,8 +122,8 @@ fn released_end(own: Path, other: Option<Path>) -> End {
     End::Released { own, other }
 }
 
-/// The records of each end of a completing job alone, in turn order.
-fn completed_records() -> [Record; 7] {
+/// The records of each end that only other kinds of job have, in turn order.
+fn call_records() -> [Record; 10] {
     [
         completed(0, 1, connected_end(Some(called_path()), 1)),
         completed(1, 2, connected_end(None, 2)),
@@ -132,29 +132,20 @@ fn completed_records() -> [Record; 7] {
         completed(4, 5, End::VacantNumber),
         completed(5, 6, End::CalledBusy),
         completed(6, 7, End::TrunksBusy),
-    ]
-}
-
-const COMPLETED: &str = "0,1,0,C,3041,2340004,CONNECTED,1,3041-0-600,3100-1-601\n\
-    1,2,0,C,3041,2340004,CONNECTED,2,3041-0-600,-\n\
-    2,3,0,C,3041,2340004,NOREGISTER,-,-,-\n\
-    3,4,0,C,3041,2340004,VACANTCODE,-,-,-\n\
-    4,5,0,C,3041,2340004,VACANTNUMBER,-,-,-\n\
-    5,6,0,C,3041,2340004,CALLEDBUSY,-,-,-\n\
-    6,7,0,C,3041,2340004,TRUNKSBUSY,-,-,-\n\
-    PATHS,0\n\
-    CLOSED,0\n";
-
-/// And of a release.
-fn released_records() -> [Record; 3] {
-    [
         released(7, 8, released_end(called_path(), Some(calling_path()))),
         released(8, 9, released_end(calling_path(), None)),
         released(9, 10, End::NoCall),
     ]
 }
 
-const RELEASED: &str = "7,8,0,R,3041,-,RELEASED,-,3100-1-601,3041-0-600\n\
+const CALL_RECORDS: &str = "0,1,0,C,3041,2340004,CONNECTED,1,3041-0-600,3100-1-601\n\
+    1,2,0,C,3041,2340004,CONNECTED,2,3041-0-600,-\n\
+    2,3,0,C,3041,2340004,NOREGISTER,-,-,-\n\
+    3,4,0,C,3041,2340004,VACANTCODE,-,-,-\n\
+    4,5,0,C,3041,2340004,VACANTNUMBER,-,-,-\n\
+    5,6,0,C,3041,2340004,CALLEDBUSY,-,-,-\n\
+    6,7,0,C,3041,2340004,TRUNKSBUSY,-,-,-\n\
+    7,8,0,R,3041,-,RELEASED,-,3100-1-601,3041-0-600\n\
     8,9,0,R,3041,-,RELEASED,-,3041-0-600,-\n\
     9,10,0,R,3041,-,NOCALL,-,-,-\n\
     PATHS,0\n\
@@ -179,8 +170,7 @@ fn records_have_their_text(rt: HostRuntime) -> Result<(), Fail> {
     let alloc = rt.alloc();
     check_text(&rt, alloc, &[], (0, 0), "PATHS,0\nCLOSED,0\n")?;
     check_text(&rt, alloc, &records(), (1, 4), RECORDS)?;
-    check_text(&rt, alloc, &completed_records(), (0, 0), COMPLETED)?;
-    check_text(&rt, alloc, &released_records(), (0, 0), RELEASED)
+    check_text(&rt, alloc, &call_records(), (0, 0), CALL_RECORDS)
 }
 
 #[test]

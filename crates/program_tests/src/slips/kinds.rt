@@ -37,19 +37,11 @@ const KINDS: &[(&str, Option<&str>)] = &[
     ("XXXXXXXXXXXXXXXXXXXXXXXXXXXXXXXXXXXXXXXXXXXXXXXX", None),
 ];
 
-/// What is told of these kinds, or that they are taken.
-fn told(alloc: Global, kinds: &str) -> Result<String, Fail> {
-    match kinds_slip(kinds) {
-        Some(slip) => Ok(slip.to_string(alloc)?),
-        None => Ok(String::from_str(alloc, "taken")?),
-    }
-}
-
 #[test]
 fn sentences_about_kinds(rt: HostRuntime) -> Result<(), Fail> {
     for (kinds, wanted) in KINDS {
-        let told = told(rt.alloc(), kinds)?;
-        check_eq!(rt; told.as_str(), wanted.unwrap_or("taken"), "{kinds}");
+        let told = told(rt.alloc(), kinds_slip(kinds))?;
+        check_eq!(rt; told.as_str(), wanted.unwrap_or(NO_SLIP), "{kinds}");
     }
     Ok(())
 }

@@ -3,7 +3,6 @@
 
 use super::*;
 use crate::checks::check;
-use std::fmt::Display;
 use xbar_plan::PlanFault;
 use xbar_traffic::{Mode, RowFault, TrafficFault};
 

@@ -1,7 +1,7 @@
 //! Plans.
 
 use super::*;
-use crate::checks::{check, check_eq};
+use crate::checks::check_eq;
 use xbar_plan::{Plan, PlanFault};
 
 /// The five lines of the example plan.
@@ -23,11 +23,19 @@ const CODES: usize = 3;
 
 const FAULTS: usize = 4;
 
+fn fault_of(alloc: Global, text: &[u8]) -> Option<PlanFault> {
+    Plan::read(alloc, text).err()
+}
+
+/// The sentence about this fault of the text.
+fn sentence_about(alloc: Global, text: &[u8], fault: PlanFault) -> Result<String, AllocError> {
+    told(alloc, plan_slip(alloc, text, fault)?)
+}
+
 /// The sentence about a text that is no plan.
 fn sentence(alloc: Global, text: &[u8]) -> Result<String, Fail> {
-    let fault = Plan::read(alloc, text).err().ok_or("it is a plan")?;
-    let slip = plan_slip(alloc, text, fault)?.ok_or("a slip")?;
-    Ok(slip.to_string(alloc)?)
+    let fault = fault_of(alloc, text).ok_or("it is a plan")?;
+    Ok(sentence_about(alloc, text, fault)?)
 }
 
 /// The example plan with one line changed.
@@ -331,8 +339,8 @@ const ALL_FAULTS: &[PlanFault] = &[
 fn no_slip_is_told_where_its_fault_is_not(rt: HostRuntime) -> Result<(), Fail> {
     let text = changed(rt.alloc(), EXAMPLE.len(), "")?;
     for fault in ALL_FAULTS {
-        let slip = plan_slip(rt.alloc(), text.as_bytes(), *fault)?;
-        check!(rt; slip.is_none(), "{fault}");
+        let told = sentence_about(rt.alloc(), text.as_bytes(), *fault)?;
+        check_eq!(rt; told.as_str(), NO_SLIP, "{fault}");
     }
     Ok(())
 }

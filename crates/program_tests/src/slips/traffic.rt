@@ -1,7 +1,7 @@
 //! Traffic.
 
 use super::*;
-use crate::checks::{check, check_eq};
+use crate::checks::check_eq;
 use xbar_traffic::{MarkerFault, Mode, RowFault, Traffic, TrafficFault};
 
 /// Traffic that is refused by its rows alone, and what is told of it.
@@ -118,7 +118,7 @@ fn check_told(rt: &impl Abort, alloc: Global, mode: Mode, rows: Told) -> Result<
     Ok(())
 }
 
-/// The sentence about this fault of the traffic.
+/// The sentence about this fault of the traffic, or `NO_SLIP`.
 fn check_slip(
     rt: &impl Abort,
     alloc: Global,
@@ -127,8 +127,8 @@ fn check_slip(
     fault: TrafficFault,
     wanted: &str,
 ) -> Result<(), Fail> {
-    let slip = traffic_slip(alloc, mode, bytes, fault)?.ok_or("a slip")?;
-    check_eq!(rt; slip.to_string(alloc)?.as_str(), wanted);
+    let told = told(alloc, traffic_slip(alloc, mode, bytes, fault)?)?;
+    check_eq!(rt; told.as_str(), wanted, "{fault:?}");
     Ok(())
 }
 
@@ -194,8 +194,7 @@ fn no_slip_is_told_without_its_row_or_fault(rt: HostRuntime) -> Result<(), Fail>
             row: *row,
             fault: *fault,
         };
-        let slip = traffic_slip(rt.alloc(), Mode::Replay, RIGHT, fault)?;
-        check!(rt; slip.is_none(), "{fault:?}");
+        check_slip(&rt, rt.alloc(), Mode::Replay, RIGHT, fault, NO_SLIP)?;
     }
     Ok(())
 }
