@@ -27,7 +27,6 @@ impl Model for CodeEntry {
     ghost view = { λ a. record { code = a.code; names = map string_bytes a.names.items } };
 }
 
-#[tactic(auto, using(crate::proofs::ReadAll::read_whole))]
 fn read_names(alloc: Global, parts: &[&[u8]]) -> Result<Vec<String>, PlanFault>
     ensures { IsReadAs (λ names. map string_bytes names.items)
         (read_all (λ part. name_of part.now) parts.now) result }
@@ -69,7 +68,6 @@ pub fn read_entry(alloc: Global, text: &[u8]) -> Result<CodeEntry, PlanFault>
     read_entry_parts(alloc, &parts)
 }
 
-#[tactic(auto, using(crate::proofs::ReadAll::read_whole))]
 pub fn read_entries(alloc: Global, texts: &[&[u8]]) -> Result<Vec<CodeEntry>, PlanFault>
     ensures { IsReadAs (λ entries. entries.items)
         (read_all (λ text. code_entry_of text.now) texts.now) result }

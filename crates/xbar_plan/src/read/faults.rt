@@ -7,7 +7,6 @@ use crate::fault::PlanFault;
 use std::alloc::Global;
 use xbar_equip::Link;
 
-#[tactic(auto, using(crate::proofs::ReadAll::read_whole))]
 pub fn read_faults(alloc: Global, texts: &[&[u8]]) -> Result<Vec<Link>, PlanFault>
     ensures { IsReadAs (λ links. links.items)
         (read_all (λ text. fault_of text.now) texts.now) result }

@@ -45,7 +45,6 @@ pub fn read_member(kind: GroupKind, text: &[u8]) -> Option<Member>
     }
 }
 
-#[tactic(auto, using(crate::proofs::ReadAll::read_whole))]
 fn read_members(alloc: Global, kind: GroupKind, parts: &[&[u8]]) -> Result<Vec<Member>, PlanFault>
     ensures { IsReadAs (λ members. members.items)
         (read_all (λ part. member_of_text kind part.now) parts.now) result }
@@ -125,7 +124,6 @@ pub fn read_group(alloc: Global, text: &[u8]) -> Result<Group, PlanFault>
     read_group_parts(alloc, &parts)
 }
 
-#[tactic(auto, using(crate::proofs::ReadAll::read_whole))]
 pub fn read_groups(alloc: Global, texts: &[&[u8]]) -> Result<Vec<Group>, PlanFault>
     ensures { IsReadAs (λ groups. groups.items)
         (read_all (λ text. group_of text.now) texts.now) result }

@@ -10,7 +10,6 @@ use crate::station::Station;
 use std::alloc::Global;
 use xbar_equip::Len;
 
-#[tactic(auto, using(crate::proofs::ReadAll::read_whole))]
 fn read_lines(alloc: Global, parts: &[&[u8]]) -> Result<Vec<Len>, PlanFault>
     ensures { IsReadAs (λ lines. lines.items)
         (read_all (λ part. line_of part.now) parts.now) result }
@@ -75,7 +74,6 @@ pub fn read_station(alloc: Global, version: Version, text: &[u8]) -> Result<Stat
     read_station_parts(alloc, version, &parts)
 }
 
-#[tactic(auto, using(crate::proofs::ReadAll::read_whole))]
 pub fn read_stations(
     alloc: Global,
     version: Version,

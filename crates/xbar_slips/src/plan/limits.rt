@@ -38,9 +38,9 @@ fn counted_in(list: PlanList) -> Option<Counted> {
 /// The first list with too many items, or with an item that has too few parts or too many.
 pub fn passed_limit(alloc: Global, lists: &Lists<'_>) -> Result<Option<PlanWrong>, AllocError> {
     for list in PlanList::ALL {
-        let wrong = passed_limit_in(alloc, list, lists.texts(list))?;
-        if wrong.is_some() {
-            return Ok(wrong);
+        match passed_limit_in(alloc, list, lists.texts(list)) {
+            Ok(None) => {}
+            ended => return ended,
         }
     }
     Ok(None)
@@ -64,6 +64,12 @@ fn passed_limit_in(
     }
 }
 
+/// How many parts of an item stand behind so many others.
+fn parts_behind(alloc: Global, text: &[u8], behind: usize) -> Result<usize, AllocError> {
+    let parts = reading::split_parts(alloc, text)?;
+    Ok(parts.len().saturating_sub(behind))
+}
+
 fn item_past_limit(
     alloc: Global,
     list: PlanList,
@@ -72,8 +78,7 @@ fn item_past_limit(
 ) -> Result<Option<PlanWrong>, AllocError> {
     let Counted { noun, behind, most } = counted;
     for (index, text) in texts.iter().enumerate() {
-        let parts = reading::split_parts(alloc, text)?;
-        let count = parts.len().saturating_sub(behind);
+        let count = parts_behind(alloc, text, behind)?;
         if count == 0 || count > most {
             let item = ItemText {
                 list,

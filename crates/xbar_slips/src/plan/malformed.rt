@@ -130,19 +130,23 @@ fn want_in(version: Version, list: PlanList, text: &[u8], parts: &[&[u8]]) -> Wa
     if list == PlanList::Faults || text.is_empty() {
         return Want::whole(form);
     }
-    if text.first() == Some(&b' ') || text.last() == Some(&b' ') {
+    if text.starts_with(b" ") || text.ends_with(b" ") {
         return Want::whole(PlanWanted::NoSpace);
     }
     if parts.iter().any(|part| part.is_empty()) {
         return Want::whole(PlanWanted::OneSpace);
     }
-    let want = match (list, parts) {
+    want_in_parts(list, parts).unwrap_or(Want::whole(form))
+}
+
+/// What is wanted in the first part that isn't what it has to be.
+fn want_in_parts(list: PlanList, parts: &[&[u8]]) -> Option<Want> {
+    match (list, parts) {
         (PlanList::Groups, [name, kind, members @ ..]) => want_in_group(name, kind, members),
         (PlanList::Numbers, [number, lines @ ..]) => want_in_number(number, lines),
         (PlanList::Codes, [code, names @ ..]) => want_in_code(code, names),
         _ => None,
-    };
-    want.unwrap_or(Want::whole(form))
+    }
 }
 
 /// What an item of the list is as a whole.

@@ -23,7 +23,7 @@ pub use slip::{ItemText, PlanPlace, PlanSlip, PlanWrong};
 use std::alloc::{AllocError, Global};
 use toml::Table;
 pub use wanted::{Found, PlanWanted};
-use xbar_plan::PlanFault;
+use xbar_plan::{Group, PlanFault};
 
 /// What is wrong with a plan's text that was refused for this fault. Nothing is found for a fault
 /// that the text doesn't have, nor for want of memory.
@@ -81,11 +81,25 @@ fn wrong_with_lists(
         PlanFault::GroupTwice => repeats::repeated_first_part(alloc, lists, PlanList::Groups),
         PlanFault::NumberTwice => repeats::repeated_first_part(alloc, lists, PlanList::Numbers),
         PlanFault::CodeTwice => repeats::repeated_first_part(alloc, lists, PlanList::Codes),
-        PlanFault::RegisterGroups => groups::wrong_registers(alloc, lists),
-        PlanFault::PlaceTwice => groups::repeated_place(alloc, lists),
-        PlanFault::PairApart => groups::pair_apart(alloc, lists),
-        PlanFault::UnknownGroup => routes::unknown_group(alloc, lists),
-        PlanFault::MixedRoute => routes::mixed_route(alloc, lists),
+        _ => match lists.read_groups(alloc)? {
+            Some(groups) => wrong_with_groups(alloc, &groups, lists.texts(PlanList::Codes), fault),
+            None => Ok(None),
+        },
+    }
+}
+
+fn wrong_with_groups(
+    alloc: Global,
+    groups: &[Group],
+    codes: &[&[u8]],
+    fault: PlanFault,
+) -> Result<Option<PlanWrong>, AllocError> {
+    match fault {
+        PlanFault::RegisterGroups => Ok(groups::wrong_registers(groups)),
+        PlanFault::PlaceTwice => groups::repeated_place(alloc, groups),
+        PlanFault::PairApart => Ok(groups::pair_apart(groups)),
+        PlanFault::UnknownGroup => routes::unknown_group(alloc, groups, codes),
+        PlanFault::MixedRoute => routes::mixed_route(alloc, groups, codes),
         _ => Ok(None),
     }
 }

@@ -16,13 +16,18 @@ pub enum Repeat {
 impl fmt::Display for Repeat {
     fn fmt<W: fmt::Write>(&self, f: &mut fmt::Formatter<W>) -> fmt::Result {
         match self {
-            Repeat::Name(name) => write!(f, "name {}", Bare(name)),
-            Repeat::Number(number) => write!(f, "number {}", Bare(number)),
-            Repeat::Code(code) => write!(f, "code {}", Bare(code)),
+            Repeat::Name(name) => write_bare(f, "name", name),
+            Repeat::Number(number) => write_bare(f, "number", number),
+            Repeat::Code(code) => write_bare(f, "code", code),
             Repeat::Place(place) => write!(f, "place {place}"),
             Repeat::Registers => f.write_str("a register group"),
         }
     }
+}
+
+/// Writes a text without quotes behind what it is.
+fn write_bare<W: fmt::Write>(f: &mut fmt::Formatter<W>, noun: &str, text: &[u8]) -> fmt::Result {
+    write!(f, "{noun} {}", Bare(text))
 }
 
 /// Why a plan is wrong at a place.
@@ -78,12 +83,8 @@ impl fmt::Display for PlanReason {
             PlanReason::Toml(error) => f.write_str(error.message()),
             PlanReason::Instead { found, wanted } => write!(f, "{found} stands there; {wanted}"),
             PlanReason::Wanted(wanted) => write!(f, "{wanted}"),
-            PlanReason::Items { count, most } => {
-                write!(f, "{count} items stand there; at most {most} are wanted")
-            }
-            PlanReason::Parts { count, noun, most } => {
-                write!(f, "{count} {noun} stand there; 1 to {most} are wanted")
-            }
+            PlanReason::Items { count, most } => write_limit(f, *count, "items", "at most", *most),
+            PlanReason::Parts { count, noun, most } => write_limit(f, *count, noun, "1 to", *most),
             PlanReason::Already { repeat, item } => {
                 write!(f, "{repeat} stands already in item {item}")
             }
@@ -95,18 +96,40 @@ impl fmt::Display for PlanReason {
                 f,
                 "{first} and {second} are on two trunk link frames; one frame is wanted"
             ),
-            PlanReason::UnknownGroup(name) => write!(f, "no group has the name {}", Bare(name)),
-            PlanReason::RouteToRegisters(name) => write!(
-                f,
-                "{} has registers; intra groups or outgoing groups are wanted",
-                Bare(name)
-            ),
-            PlanReason::MixedRoute { intra, outgoing } => write!(
-                f,
-                "{} is intra and {} is outgoing; groups of one kind are wanted",
-                Bare(intra),
-                Bare(outgoing)
-            ),
+            PlanReason::UnknownGroup(name) => write_bare(f, "no group has the name", name),
+            PlanReason::RouteToRegisters(name) => write_registers(f, name),
+            PlanReason::MixedRoute { intra, outgoing } => write_mixed(f, intra, outgoing),
         }
     }
+}
+
+/// Writes how many of these stand there, and how many are wanted.
+fn write_limit<W: fmt::Write>(
+    f: &mut fmt::Formatter<W>,
+    count: usize,
+    noun: &str,
+    bound: &str,
+    most: usize,
+) -> fmt::Result {
+    write!(f, "{count} {noun} stand there; {bound} {most} are wanted")
+}
+
+fn write_registers<W: fmt::Write>(f: &mut fmt::Formatter<W>, name: &[u8]) -> fmt::Result {
+    let name = Bare(name);
+    write!(
+        f,
+        "{name} has registers; intra groups or outgoing groups are wanted"
+    )
+}
+
+fn write_mixed<W: fmt::Write>(
+    f: &mut fmt::Formatter<W>,
+    intra: &[u8],
+    outgoing: &[u8],
+) -> fmt::Result {
+    let (intra, outgoing) = (Bare(intra), Bare(outgoing));
+    write!(
+        f,
+        "{intra} is intra and {outgoing} is outgoing; groups of one kind are wanted"
+    )
 }

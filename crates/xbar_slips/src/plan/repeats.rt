@@ -60,8 +60,12 @@ pub fn repeated_first_part(
 fn first_parts<'t>(alloc: Global, texts: &[&'t [u8]]) -> Result<Vec<&'t [u8]>, AllocError> {
     let mut firsts = Vec::new(alloc);
     for text in texts {
-        let parts = reading::split_parts(alloc, text)?;
-        firsts.push(parts.first().copied().unwrap_or(*text))?;
+        firsts.push(first_part(alloc, text)?)?;
     }
     Ok(firsts)
+}
+
+fn first_part(alloc: Global, text: &[u8]) -> Result<&[u8], AllocError> {
+    let parts = reading::split_parts(alloc, text)?;
+    Ok(parts.first().copied().unwrap_or(text))
 }

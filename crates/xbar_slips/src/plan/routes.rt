@@ -1,20 +1,20 @@
 //! What is wrong with the groups that codes lead to.
 
 use super::list::PlanList;
-use super::lists::Lists;
 use super::reason::PlanReason;
 use super::slip::{PlanPlace, PlanWrong};
 use std::alloc::{AllocError, Global};
 use xbar_plan::{Group, GroupKind, reading};
 
 /// The first name in a code that no group has.
-pub fn unknown_group(alloc: Global, lists: &Lists<'_>) -> Result<Option<PlanWrong>, AllocError> {
-    let Some(groups) = lists.read_groups(alloc)? else {
-        return Ok(None);
-    };
-    for (index, text) in lists.texts(PlanList::Codes).iter().enumerate() {
+pub fn unknown_group(
+    alloc: Global,
+    groups: &[Group],
+    codes: &[&[u8]],
+) -> Result<Option<PlanWrong>, AllocError> {
+    for (index, text) in codes.iter().enumerate() {
         let parts = reading::split_parts(alloc, text)?;
-        if let Some(name) = unknown_name(&groups, names_in(&parts)) {
+        if let Some(name) = unknown_name(groups, names_in(&parts)) {
             let reason = PlanReason::UnknownGroup(name.to_vec(alloc)?);
             return Ok(Some(wrong_code(index, reason)));
         }
@@ -23,13 +23,14 @@ pub fn unknown_group(alloc: Global, lists: &Lists<'_>) -> Result<Option<PlanWron
 }
 
 /// The first code that leads to registers, or to groups of two kinds.
-pub fn mixed_route(alloc: Global, lists: &Lists<'_>) -> Result<Option<PlanWrong>, AllocError> {
-    let Some(groups) = lists.read_groups(alloc)? else {
-        return Ok(None);
-    };
-    for (index, text) in lists.texts(PlanList::Codes).iter().enumerate() {
+pub fn mixed_route(
+    alloc: Global,
+    groups: &[Group],
+    codes: &[&[u8]],
+) -> Result<Option<PlanWrong>, AllocError> {
+    for (index, text) in codes.iter().enumerate() {
         let parts = reading::split_parts(alloc, text)?;
-        if let Some(reason) = mixed_names(alloc, &groups, names_in(&parts))? {
+        if let Some(reason) = mixed_names(alloc, groups, names_in(&parts))? {
             return Ok(Some(wrong_code(index, reason)));
         }
     }

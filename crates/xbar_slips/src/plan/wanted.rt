@@ -31,16 +31,16 @@ impl Found {
 
 impl fmt::Display for Found {
     fn fmt<W: fmt::Write>(&self, f: &mut fmt::Formatter<W>) -> fmt::Result {
-        match self {
-            Found::Nothing => f.write_str("nothing"),
-            Found::Text => f.write_str("a text"),
-            Found::WholeNumber(number) => write!(f, "{number}"),
-            Found::Float => f.write_str("a float"),
-            Found::Boolean => f.write_str("a boolean"),
-            Found::DateTime => f.write_str("a date or time"),
-            Found::Array => f.write_str("an array"),
-            Found::Table => f.write_str("a table"),
-        }
+        f.write_str(match self {
+            Found::Nothing => "nothing",
+            Found::Text => "a text",
+            Found::WholeNumber(number) => return write!(f, "{number}"),
+            Found::Float => "a float",
+            Found::Boolean => "a boolean",
+            Found::DateTime => "a date or time",
+            Found::Array => "an array",
+            Found::Table => "a table",
+        })
     }
 }
 

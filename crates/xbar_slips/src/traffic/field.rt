@@ -38,22 +38,20 @@ impl FieldForm {
 
 impl fmt::Display for FieldForm {
     fn fmt<W: fmt::Write>(&self, f: &mut fmt::Formatter<W>) -> fmt::Result {
-        match self {
-            FieldForm::RowLetter(Mode::Replay) => f.write_str("J or S is wanted"),
-            FieldForm::RowLetter(Mode::Live) => f.write_str("C is wanted"),
-            FieldForm::JobKind => f.write_str("D, C or R is wanted"),
-            FieldForm::Marker => write_number_wanted(f, MARKER_LIMIT),
-            FieldForm::Number => write_number_wanted(f, NUMBER_LIMIT),
-            FieldForm::Line => f.write_str(
-                "a line of four digits, the third at most 5 and the fourth at most 4, is wanted",
-            ),
-            FieldForm::LineAndDigits => {
-                f.write_str("a line, a space and seven digits are wanted")
+        f.write_str(match self {
+            FieldForm::RowLetter(Mode::Replay) => "J or S is wanted",
+            FieldForm::RowLetter(Mode::Live) => "C is wanted",
+            FieldForm::JobKind => "D, C or R is wanted",
+            FieldForm::Marker => return write_number_wanted(f, MARKER_LIMIT),
+            FieldForm::Number => return write_number_wanted(f, NUMBER_LIMIT),
+            FieldForm::Line => {
+                "a line of four digits, the third at most 5 and the fourth at most 4, is wanted"
             }
-            FieldForm::Digits => f.write_str("seven digits are wanted"),
-            FieldForm::Hold => f.write_str("K or R is wanted"),
-            FieldForm::Empty => f.write_str("an empty field is wanted"),
-        }
+            FieldForm::LineAndDigits => "a line, a space and seven digits are wanted",
+            FieldForm::Digits => "seven digits are wanted",
+            FieldForm::Hold => "K or R is wanted",
+            FieldForm::Empty => "an empty field is wanted",
+        })
     }
 }
 

@@ -1,6 +1,6 @@
 //! The records of traffic, and the lines on which they begin.
 
-use csv::{ByteRecord, ReaderBuilder};
+use csv::{ByteRecord, ByteRecordsIntoIter, ReaderBuilder};
 use std::alloc::{AllocError, Global};
 
 /// The mark that may begin a text, which is no part of its first record.
@@ -16,15 +16,21 @@ pub fn records_up_to(
         .has_headers(false)
         .flexible(true)
         .from_reader(alloc, bytes);
+    take_records(alloc, &mut reader.into_byte_records(), count)
+}
+
+fn take_records(
+    alloc: Global,
+    rows: &mut ByteRecordsIntoIter<&[u8]>,
+    count: u64,
+) -> Result<Vec<ByteRecord>, AllocError> {
     let mut records = Vec::new(alloc);
-    for record in reader.into_byte_records() {
-        if records.len() as u64 >= count {
-            break;
-        }
-        match record {
-            Ok(record) => records.push(record)?,
+    for _ in 0..count {
+        match rows.next() {
+            Some(Ok(record)) => records.push(record)?,
             // A reader of bytes in memory fails for want of memory alone.
-            Err(_) => return Err(AllocError),
+            Some(Err(_)) => return Err(AllocError),
+            None => break,
         }
     }
     Ok(records)

@@ -1,7 +1,7 @@
 use Rattle.std.proofs.Common.{rules, ◌≡◌, [], ◌∷◌, ◌++◌, sym, ◌∙◌, ap}
 use Rattle.std.specs.Prelude.{Some, Err}
 use Rattle.xbar_plan.specs.Texts.{station_of}
-use Rattle.xbar_plan.proofs.ReadAll.{read_more, refused}
+use Rattle.xbar_plan.proofs.ReadAll.{read_more, refused, read_whole}
 use Rattle.xbar_plan.proofs.read.numbers.read_stations.Goals as goal
 
 pub returns-in_err-station : goal.returns-in_err-station
@@ -13,3 +13,6 @@ pub loop-text-preserved : goal.loop-text-preserved
 loop-text-preserved c =
     let kept : c.push.new.self.items ≡ c.loop-text.stations.items ++ c.in_ok-station.station ∷ [] = search rules in
     read_more (λ text. station_of c.args.version text.now) c.args.texts.now _ c.loop-text.text-index _ _ c.loop-text-test.true c.loop-text.invariant c.in_ok-station.ensures ∙ ap (λ z. Some z) (sym kept)
+
+pub returns : goal.returns
+returns c = read_whole (λ text. station_of c.args.version text.now) c.args.texts.now _ c.loop-text.text-index c.loop-text-test.false c.loop-text.invariant
