@@ -38,12 +38,9 @@ of_each {X} f P xs each i = subst (λ o. IfSome o (P i)) (sym (slice_get-map f x
     lt : i < length xs
     lt = slice_get_within xs i x some
 
-all_at : {X : Type 0} (p : X → Bool) (xs : List X) (i : ℕ) (x : X) → list_all p xs ≡ true → slice_get xs i ≡ Some x → p x ≡ true
-all_at p xs i x all some = subst (λ y. p y ≡ true) (get_or_from_slice_get xs i x x some) (AllPass-from_list_all p xs all i x (slice_get_within xs i x some))
-
 -- desks at work, none of which is at a job
 pub all_idle : (room : SlotRoom) (desks : List SlotDesk) → AreAtWork room desks → list_all (λ desk. is_free slots desk.actor) desks ≡ true → AreIdle slots room.table tt desks
 all_idle room desks work all i = at (slice_get desks i) refl (work i) where
   at : (o : Option SlotDesk) → slice_get desks i ≡ o → IfSome o (λ desk. IsDeskOf desk room tt × (desk.number ≡ i)) → IfSome o (λ desk. IsIdleDesk slots room.table tt i desk)
   at None none here = tt
-  at (Some desk) some here = record { number_is = here.1; table_is = here.0.table_is; setting_is = here.0.desk_is; idle = all_at (λ d. is_free slots d.actor) desks i desk all some }
+  at (Some desk) some here = record { number_is = here.1; table_is = here.0.table_is; setting_is = here.0.desk_is; idle = subst (λ (d : SlotDesk). is_free slots d.actor ≡ true) (get_or_from_slice_get desks i desk desk some) (AllPass-from_list_all (λ (d : SlotDesk). is_free slots d.actor) desks all i desk (slice_get_within desks i desk some)) }
