@@ -5,10 +5,11 @@ ghost use Rattle.std.specs.List.{range_with_len};
 ghost use Rattle.xbar_office_drawing.specs.Figures.{figures_text};
 ghost use Rattle.xbar_office_drawing.specs.Frames.{column, columns, frame, frames_and_links, frames_picture, link_class as link_class_of, links_of, path_names, path_strokes, path_title, path_told as path_told_of, row_at as row_of, switch_box, switch_class as switch_class_of};
 
-use crate::ends::{path_end, use_class};
+use crate::use_class::use_class;
 use std::alloc::{AllocError, Global};
 use svg::{Point, add_line, add_rectangle, add_words};
 use xbar_equip::{Channel, Link, Path};
+use xbar_office_text::path_end;
 use xbar_plan::Plan;
 
 /// Adds a path through its two frames.

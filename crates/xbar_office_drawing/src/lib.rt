@@ -2,15 +2,14 @@
 #![tactic(auto)]
 
 pub use drawing::{add_picture, office_drawing, style};
-pub use ends::path_end;
 pub use owned_card::{OwnedCard, cards_of};
 
 mod card_face;
 mod drawing;
-mod ends;
 mod frames;
 mod grids;
 pub mod laws;
 mod office_map;
 mod owned_card;
 mod sheet;
+mod use_class;

@@ -6,8 +6,8 @@ ghost use Rattle.svg.specs.Figure.{figure_text};
 ghost use Rattle.xbar_office_drawing.specs.Figures.{figures_text};
 ghost use Rattle.xbar_office_drawing.specs.OfficeMap.{channel_top as channel_top_of, frame_box, frame_top as frame_top_of, count_text as count_text_of, map_height, map_key, map_title, office_map, path_on_map, two_frames};
 
-use crate::ends::use_class;
 use crate::sheet::SHEET_WIDTH;
+use crate::use_class::use_class;
 use std::alloc::{AllocError, Global};
 use svg::{Point, add_line, add_rectangle, add_words};
 use xbar_equip::Path;

@@ -2,6 +2,7 @@
 //! and the trouble cards.
 #![tactic(auto)]
 
+pub use ends::{ends_at_register, path_end};
 pub use text::office_text;
 
 mod card_rows;

@@ -7,7 +7,7 @@ use std::alloc::{AllocError, Global};
 use std::fmt;
 use xbar_equip::Path;
 use xbar_office::{Card, End, Job, Record};
-use xbar_office_drawing::path_end;
+use xbar_office_text::path_end;
 use xbar_plan::Plan;
 
 /// What a line asks for.
