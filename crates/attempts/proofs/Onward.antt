@@ -1,20 +1,19 @@
 -- with what was seized or read there is room, and what the point says is so
 use Rattle.std.proofs.Common.{◌≡◌, ℕ, ◌<◌, ◌^◌, Bool, true, List, [], ◌∷◌, ◌++◌, length, refl, sym, ◌∙◌, ap, subst}
 use Rattle.std.specs.Prelude.{None, Err}
-use Rattle.turns.specs.Attempt.{Act, StandsIn, act, change, changed, goes_on, restarted}
+use Rattle.turns.specs.Attempt.{Act, StandsIn, act, change, restarted}
 use Rattle.turns.specs.Script.{value_read, walk}
 use Rattle.turns.specs.Seen.{Seen}
 use Rattle.turns.specs.System.{System}
 use Rattle.turns.specs.World.{place}
 use Rattle.turns.specs.declared.answer.Answer.{Answer}
-use Rattle.turns.specs.declared.answer.Answer.TheVariants.{Value}
 use Rattle.turns.specs.declared.phase.Phase.{Phase}
 use Rattle.turns.specs.declared.phase.Phase.TheVariants.{Requests, Seizes, Tests}
 use Rattle.turns.specs.declared.reading.Reading.{Reading}
 use Rattle.turns.specs.declared.wanted.Wanted.TheVariants.{Test}
 use Rattle.turns.proofs.Room.{held_before, read_before}
 use Rattle.turns.proofs.Words.{read_more}
-use Rattle.attempts.specs.Points.{Extends, GoesOnTo}
+use Rattle.attempts.specs.Points.{Extends}
 use Rattle.attempts.specs.Standing.{AreScripts, Program, CanWalk, HasPlace, KnowsIn, Stands, attempt_of}
 use Rattle.attempts.specs.SystemWith.{SystemWith, system_with}
 use Rattle.attempts.proofs.ReadOnce.{wants_unread}
