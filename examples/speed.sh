@@ -21,6 +21,7 @@ jobs() {
 }
 
 seq 1 9999 | awk '{ print "J,0," $1 ",D,3041"; print "S,0,96,," }' >"$folder/dials.csv"
+seq 1 9999 | awk '{ print "J,0," $1 "," ($1 % 2 ? "D" : "R") ",3041"; print "S,0,96,," }' >"$folder/tones.csv"
 for ((row = 0; row < 100000; row++)); do echo S,0,9999,,; done >"$folder/idle.csv"
 jobs 2 >"$folder/calls.csv"
 jobs 48 >"$folder/calls48.csv"
@@ -42,6 +43,7 @@ measure() {
 
 grep -m 1 "model name" /proc/cpuinfo || true
 measure dials.csv replay
+measure tones.csv replay
 measure idle.csv replay
 measure calls.csv replay
 measure calls48.csv replay --markers "$(printf 'X%.0s' {1..48})"

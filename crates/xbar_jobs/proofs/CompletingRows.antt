@@ -1,10 +1,10 @@
 -- once its own path was traced, a completing job tests line junctor switches in their rows alone
-use Rattle.std.proofs.Common.{◌≡◌, ℕ, suc, Bool, true, false, List, [], ◌∷◌, refl, sym, ◌∙◌, subst, arith}
-use Rattle.std.specs.Prelude.{Option, Some, None, Result, Ok, Err, IsOk, IfSome, is_some, slice_get}
+use Rattle.std.proofs.Common.{◌≡◌, ℕ, suc, Bool, true, false, List, [], ◌∷◌, refl, sym, ◌∙◌, arith}
+use Rattle.std.specs.Prelude.{Option, Some, None, Err, IfSome, is_some, slice_get}
 use Rattle.turns.specs.Script.{Ends, TestThen, SeizeThen, ◌>>=◌, read_with, value_read}
 use Rattle.turns.specs.declared.wanted.Wanted.TheVariants.{Test}
 use Rattle.turns.proofs.Room.{read_before}
-use Rattle.turns.proofs.Walks.{then_walk, walk_bind, walk_goes_on}
+use Rattle.turns.proofs.Walks.{walk_goes_on}
 use Rattle.attempts.specs.Points.{Extends, GoesOnTo, seen_with}
 use Rattle.attempts.proofs.Points.{gone_through}
 use Rattle.xbar_equip.specs.Conn.{conn_eq}
@@ -24,13 +24,15 @@ use Rattle.xbar_office.specs.declared.job.Job.TheVariants.{Dial, Complete, Relea
 use Rattle.xbar_jobs.specs.Closing.{leave_effects, leave_of, value_after}
 use Rattle.xbar_jobs.specs.Completing.{call, call_by, call_from, call_line, call_number, call_without, complete_from, complete_steps, hunt, register_at, unless_busy, unless_calling}
 use Rattle.xbar_jobs.specs.Connecting.{alone}
-use Rattle.xbar_jobs.specs.Jobs.{TestsRows, script}
-use Rattle.xbar_jobs.specs.Script.{Script, Seen, Wanted, as_if_made, walk}
+use Rattle.xbar_jobs.specs.Jobs.{TestsRows, job_line, script}
+use Rattle.xbar_jobs.specs.Script.{Script, Seen, as_if_made, walk}
 use Rattle.xbar_jobs.specs.Sides.{IsNextJunctor, party_after}
-use Rattle.xbar_jobs.specs.Tracing.{HasTraced, approach, channel_of, trace, trace_line}
+use Rattle.xbar_jobs.specs.Tracing.{HasTraced, Knows, approach, channel_of, trace}
 use Rattle.xbar_jobs.specs.declared.decision.Decision.{Decision}
 use Rattle.xbar_jobs.specs.declared.leave.Leave.{Leave}
 use Rattle.xbar_jobs.specs.declared.party.Party.{Party}
+use Rattle.xbar_jobs.specs.declared.way.Way.{Way}
+use Rattle.xbar_jobs.specs.declared.way.Way.TheVariants.{Begun, Traced}
 use Rattle.xbar_jobs.proofs.JunctorRows.{BeginsWith, KeepsRows, connect_rows, dial_rows, row_goes_on, rows_bind}
 
 begins_read_with : {A : Type 0} (number : ℕ) (change : ℕ → ℕ → ℕ) (script : Script A) → BeginsWith number script → BeginsWith number (read_with change script)
@@ -72,6 +74,22 @@ hunt_rows : (calling : Line) (lines : List Line) → AreLines lines → KeepsRow
 unfolding KeepsRows hunt
 hunt_rows calling [] ranges = tt
 hunt_rows calling (line ∷ lines) ranges = calling_rows line (hunt calling lines) (line_eq line calling) (ranges 0 line refl) (hunt_rows calling lines (λ k other is. ranges (suc k) other is))
+
+-- what was traced stays so with more that is come by
+still_traced : (line : Line) (calling : Party) (own : Option Path) (seen more : Seen) → Extends conn_eq seen more → HasTraced line calling own seen → HasTraced line calling own more
+still_traced line calling own seen more extends has = record {
+  approached = gone_through conn_eq seen more (approach line) calling extends has.approached;
+  traced = gone_through conn_eq seen more (trace calling) own extends has.traced;
+}
+
+pub known_on : (line : Line) (way : Way) (seen more : Seen) → Extends conn_eq seen more → Knows line way seen → Knows line way more
+known_on line Begun seen more extends knows = tt
+known_on line (Traced calling own) seen more extends knows = still_traced line calling own seen more extends knows
+
+-- what is left of a completing job, once its own path was traced
+pub from_path : (plan : Tables) (line : Line) (dialled : ℕ) (calling : Party) (own : Option Path) (seen : Seen) → HasTraced line calling own seen → walk seen (complete_steps plan line dialled) ≡ walk seen (complete_from plan calling dialled own)
+unfolding complete_steps
+from_path plan line dialled calling own seen has = walk_goes_on conn_eq seen (approach line) _ calling has.approached ∙ walk_goes_on conn_eq seen (trace calling) _ own has.traced
 
 module _ (plan : Tables) (laws : IsLawful plan) where
   call_line_rows : (calling : Party) (groups : List ℕ) (called : Option Party) → KeepsRows (call_line plan calling groups called)
@@ -116,34 +134,26 @@ module _ (plan : Tables) (laws : IsLawful plan) where
   complete_from_rows calling dialled None = tt
   complete_from_rows calling dialled (Some own) = from_rows calling dialled own (register_at plan own)
 
-  module _ (seen : Seen) (line : Line) (dialled word next : ℕ) (is : IsNextJunctor word next) (unread : value_read seen.readings next ≡ None) where
-    -- what is left of a completing job, once its own path was traced
-    from_path : (calling : Party) (own : Option Path) (more : Seen) → walk more (approach line) ≡ Ok calling → walk more (trace calling) ≡ Ok own → walk more (complete_steps plan line dialled) ≡ walk more (complete_from plan calling dialled own)
-    unfolding complete_steps
-    from_path calling own more approached traced = walk_goes_on conn_eq more (approach line) _ calling approached ∙ walk_goes_on conn_eq more (trace calling) _ own traced
-
-    traced_goes_on : HasTraced line seen → walk seen (complete_steps plan line dialled) ≡ Err (Test word) → GoesOnTo conn_eq seen (complete_steps plan line dialled) word next
-    unfolding trace_line
-    traced_goes_on traced wants = on (walk seen (approach line)) refl (subst (λ (r : Result (Option Path) Wanted). IsOk r) (walk_bind conn_eq seen (approach line) trace) traced) where
-      at : (calling : Party) → walk seen (approach line) ≡ Ok calling → (found : Result (Option Path) Wanted) → walk seen (trace calling) ≡ found → IsOk found → GoesOnTo conn_eq seen (complete_steps plan line dialled) word next
-      at calling approached (Err wanted) here ok = absurd cc
-      at calling approached (Ok own) here ok = λ value.
-          let more : Seen = seen_with seen word value in
-          let extends : Extends conn_eq seen more = record { held = λ c e. e; readings = λ w v e. read_before conn_eq conn_eq-itself seen.readings (record { word = word; value = value }) w v e } in
-          from_path calling own more (gone_through conn_eq seen more (approach line) calling extends approached) (gone_through conn_eq seen more (trace calling) own extends here)
-          ∙ row_goes_on seen word next (complete_from plan calling dialled own) (complete_from_rows calling dialled own) is unread (sym (from_path calling own seen approached here) ∙ wants) value
-
-      on : (found : Result Party Wanted) → walk seen (approach line) ≡ found → IsOk (then_walk found (λ calling. walk seen (trace calling))) → GoesOnTo conn_eq seen (complete_steps plan line dialled) word next
-      on (Err wanted) is ok = absurd cc
-      on (Ok calling) approached ok = at calling approached (walk seen (trace calling)) refl ok
+  traced_goes_on : (seen : Seen) (line : Line) (dialled word next : ℕ) (calling : Party) (own : Option Path) → IsNextJunctor word next → value_read seen.readings next ≡ None → HasTraced line calling own seen → walk seen (complete_steps plan line dialled) ≡ Err (Test word) → GoesOnTo conn_eq seen (complete_steps plan line dialled) word next
+  traced_goes_on seen line dialled word next calling own is unread has wants = λ value.
+      let more : Seen = seen_with seen word value in
+      let extends : Extends conn_eq seen more = record { held = λ c e. e; readings = λ w v e. read_before conn_eq conn_eq-itself seen.readings (record { word = word; value = value }) w v e } in
+      from_path plan line dialled calling own more (still_traced line calling own seen more extends has)
+      ∙ row_goes_on seen word next (complete_from plan calling dialled own) (complete_from_rows calling dialled own) is unread (sym (from_path plan line dialled calling own seen has) ∙ wants) value
 
 pub not_some : (o : Option ℕ) → is_some o ≡ false → o ≡ None
 not_some None e = refl
 not_some (Some n) e = absurd cc
 
 -- a job that tests its rows in order goes on in a row, whatever a line junctor switch shows
-pub goes_in_row : (plan : Tables) (laws : IsLawful plan) (seen : Seen) (job : Job) (word next : ℕ) → IsJob job → TestsRows job seen → IsNextJunctor word next → value_read seen.readings next ≡ None → walk seen (script plan job) ≡ Err (Test word) → GoesOnTo conn_eq seen (script plan job) word next
+goes_in_row : (plan : Tables) (laws : IsLawful plan) (seen : Seen) (job : Job) (way : Way) (word next : ℕ) → IsJob job → TestsRows job way → Knows (job_line job) way seen → IsNextJunctor word next → value_read seen.readings next ≡ None → walk seen (script plan job) ≡ Err (Test word) → GoesOnTo conn_eq seen (script plan job) word next
 unfolding script
-goes_in_row plan laws seen (Dial line) word next range rows is unread wants = row_goes_on seen word next _ (dial_rows plan line range) is unread wants
-goes_in_row plan laws seen (Complete line dialled) word next range rows is unread wants = traced_goes_on plan laws seen line dialled word next is unread rows wants
-goes_in_row plan laws seen (Release line) word next range rows is unread wants = absurd rows
+goes_in_row plan laws seen (Dial line) way word next range rows knows is unread wants = row_goes_on seen word next _ (dial_rows plan line range) is unread wants
+goes_in_row plan laws seen (Complete line dialled) Begun word next range rows knows is unread wants = absurd rows
+goes_in_row plan laws seen (Complete line dialled) (Traced calling own) word next range rows knows is unread wants = traced_goes_on plan laws seen line dialled word next calling own is unread knows wants
+goes_in_row plan laws seen (Release line) way word next range rows knows is unread wants = absurd rows
+
+-- where it goes on, if it does
+pub row_found : (plan : Tables) (laws : IsLawful plan) (seen : Seen) (job : Job) (way : Way) (word : ℕ) (found : Option ℕ) → IsJob job → TestsRows job way → Knows (job_line job) way seen → walk seen (script plan job) ≡ Err (Test word) → IfSome found (λ next. IsNextJunctor word next) → IfSome found (λ next. value_read seen.readings next ≡ None) → IfSome found (GoesOnTo conn_eq seen (script plan job) word)
+row_found plan laws seen job way word None range rows knows wants is unread = tt
+row_found plan laws seen job way word (Some next) range rows knows wants is unread = goes_in_row plan laws seen job way word next range rows knows is unread wants

@@ -9,7 +9,7 @@ use Rattle.turns.specs.declared.phase.Phase.TheVariants.{Requests, Seizes, Tests
 use Rattle.turns.proofs.Keeping.{WalkFits}
 use Rattle.turns.proofs.Standing.{come_fits, wanted_lock}
 use Rattle.attempts.specs.Standing as standing
-use Rattle.attempts.specs.Standing.{AreScripts, effects_left}
+use Rattle.attempts.specs.Standing.{AreScripts, KnowsIn, effects_left}
 use Rattle.attempts.specs.SystemWith.{system_with, with}
 use Rattle.attempts.proofs.Walking.{known_anywhere}
 use Rattle.xbar_equip.specs.Conn.{IsConn}
@@ -22,16 +22,19 @@ use Rattle.xbar_office.specs.declared.job.Job.{Job}
 use Rattle.xbar_office.specs.declared.job.Job.TheVariants.{Dial, Complete, Release}
 use Rattle.xbar_jobs.specs.Attempt.{Act, Attempt, Counted, Phase, fresh, step_of, with_count}
 use Rattle.xbar_jobs.specs.Closing.{effects as effects_of}
-use Rattle.xbar_jobs.specs.Jobs.{first_conn}
+use Rattle.xbar_jobs.specs.Jobs.{first_conn, job_line}
 use Rattle.xbar_jobs.specs.Keeping.{AreEffects}
 use Rattle.xbar_jobs.specs.Office.{office, office_over}
 use Rattle.xbar_jobs.specs.Script.{Seen}
 use Rattle.xbar_jobs.specs.Standing.{AreConns, Doing, HasReplyIn, IsAttempt, IsPhase, Stands, attempt_at, reply_of, most_readings, most_seizings}
+use Rattle.xbar_jobs.specs.Tracing.{Knows}
 use Rattle.xbar_jobs.specs.Turning.{DoesAsOffice, IsAct, IsStep}
 use Rattle.xbar_jobs.specs.declared.decision.Decision.{Decision}
 use Rattle.xbar_jobs.specs.declared.effect.Effect.{Effect}
 use Rattle.xbar_jobs.specs.declared.effect.Effect.TheVariants.{Close, Open, SetBit, ClearBit}
+use Rattle.xbar_jobs.specs.declared.way.Way.{Way}
 use Rattle.xbar_jobs.proofs.AttemptStands.{stands_after}
+use Rattle.xbar_jobs.proofs.CompletingRows.{known_on}
 use Rattle.xbar_jobs.proofs.JobBounds.{jobs_bounded}
 use Rattle.xbar_jobs.proofs.JobTurns.{turn_does}
 use Rattle.xbar_jobs.proofs.OfficeSystem.{office_is}
@@ -150,24 +153,29 @@ pub attempt_restarted : (plan : Tables) (a new : Attempt) → IsAttempt a → ne
 attempt_restarted plan a new is made = subst IsAttempt (sym made) (attempt_restarted_in plan a a.phase refl is)
 
 -- what the code says of locks that it tells apart, as the law says it
-abbrev KnowsHere : Job → Unit {0} → Seen → Type 0
-KnowsHere job point seen = Unit {0}
+abbrev KnowsHere : Job → Way → Seen → Type 0
+KnowsHere job way seen = Knows (job_line job) way seen
 
 pub scripts_are : (plan : Tables) → IsLawful plan → AreScripts ghosts.eq reply_of effects_of (with (office_over plan)) KnowsHere most_readings most_seizings
 scripts_are plan laws = subst (λ (same : Conn → Conn → Bool). AreScripts same reply_of effects_of (with (office_over plan)) KnowsHere most_readings most_seizings) (sym told_apart) (record {
   is_system = office_is plan laws;
   asks = (jobs_bounded plan laws).asks;
-  knows_on = λ job point seen more extends knows. knows;
+  knows_on = λ job way seen more extends knows. known_on (job_line job) way seen more extends knows;
 })
 
-pub stands_here : (plan : Tables) (p : Doing) → Stands plan (attempt_at p) → standing.Stands ghosts.eq reply_of effects_of (with (office_over plan)) KnowsHere most_readings most_seizings p
-stands_here plan p stands = subst (λ (same : Conn → Conn → Bool). standing.Stands same reply_of effects_of (with (office_over plan)) KnowsHere most_readings most_seizings p) (sym told_apart) (record { place = stands.place; point = known_anywhere KnowsHere (attempt_at p) p.point p.phase (λ seen. tt) })
+pub stands_here : (plan : Tables) (p : Doing) → Stands plan (attempt_at p) → KnowsIn KnowsHere (attempt_at p) p.point p.phase → standing.Stands ghosts.eq reply_of effects_of (with (office_over plan)) KnowsHere most_readings most_seizings p
+stands_here plan p stands knows = subst (λ (same : Conn → Conn → Bool). standing.Stands same reply_of effects_of (with (office_over plan)) KnowsHere most_readings most_seizings p) (sym told_apart) (record { place = stands.place; point = knows })
 
 pub changed_here : (plan : Tables) (a new : Attempt) (answer : Answer) → new ≡ change (system_with ghosts.eq reply_of effects_of (with (office_over plan))) a answer → new ≡ change (office plan) a answer
 changed_here plan a new answer made = subst (λ (same : Conn → Conn → Bool). new ≡ change (system_with same reply_of effects_of (with (office_over plan))) a answer) told_apart made
 
 pub restarted_here : (plan : Tables) (a new : Attempt) → new ≡ restarted (system_with ghosts.eq reply_of effects_of (with (office_over plan))) a → new ≡ restarted (office plan) a
 restarted_here plan a new made = subst (λ (same : Conn → Conn → Bool). new ≡ restarted (system_with same reply_of effects_of (with (office_over plan))) a) told_apart made
+
+-- what a program that has just begun knows
+pub knows_begun : (p : Doing) (job : Job) → attempt_at p ≡ begin_with (first_conn job) job → ((seen : Seen) → Knows (job_line job) p.point seen) → KnowsIn KnowsHere (attempt_at p) p.point p.phase
+knows_begun p job made always =
+    known_anywhere KnowsHere (attempt_at p) p.point p.phase (λ seen. subst (λ (j : Job). Knows (job_line j) p.point seen) (sym (ap (λ (a : Attempt). a.job) made)) (always seen))
 
 -- whatever the plan, for what doesn't depend on it
 pub no_plan : Tables

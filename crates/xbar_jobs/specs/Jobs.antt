@@ -12,10 +12,12 @@ use Rattle.xbar_jobs.specs.Closing.{refused}
 use Rattle.xbar_jobs.specs.Completing.{complete_steps}
 use Rattle.xbar_jobs.specs.Connecting.{alone, connect}
 use Rattle.xbar_jobs.specs.Releasing.{release_steps}
-use Rattle.xbar_jobs.specs.Script.{Script, Seen}
-use Rattle.xbar_jobs.specs.Tracing.{HasTraced, approach, channel_of}
+use Rattle.xbar_jobs.specs.Script.{Script}
+use Rattle.xbar_jobs.specs.Tracing.{approach, channel_of}
 use Rattle.xbar_jobs.specs.declared.decision.Decision.{Decision}
 use Rattle.xbar_jobs.specs.declared.party.Party.{Party}
+use Rattle.xbar_jobs.specs.declared.way.Way.{Way}
+use Rattle.xbar_jobs.specs.declared.way.Way.TheVariants.{Begun, Traced}
 
 -- a line that has a path is busy; another gets a register
 unfoldable pub serve_idle_line : Tables → Party → Option ℕ → Script Decision
@@ -45,7 +47,8 @@ script plan (Complete line dialled) = complete_steps plan line dialled
 script plan (Release line) = release_steps plan line
 
 -- from here on a job tests line junctor switches in their rows alone: a dial tone job always, a completing one once its own path was traced
-abbrev pub TestsRows : Job → Seen → Type 0
-TestsRows (Dial line) seen = ⊤
-TestsRows (Complete line dialled) seen = HasTraced line seen
-TestsRows (Release line) seen = ⊥
+abbrev pub TestsRows : Job → Way → Type 0
+TestsRows (Dial line) way = ⊤
+TestsRows (Complete line dialled) Begun = ⊥
+TestsRows (Complete line dialled) (Traced calling own) = ⊤
+TestsRows (Release line) way = ⊥

@@ -1,4 +1,4 @@
-use Rattle.std.specs.Prelude.{◌<◌, ◌≤◌, ◌+◌, ℕ, Option, IsSome, List, length, ⊤}
+use Rattle.std.specs.Prelude.{◌≡◌, ◌<◌, ◌≤◌, ◌+◌, ℕ, Option, IsSome, List, length, ⊤}
 use Rattle.turns.specs.Among.{IsIn, AreDistinct}
 use Rattle.turns.specs.Attempt as generic
 use Rattle.turns.specs.Script.{left}
@@ -12,13 +12,17 @@ use Rattle.xbar_plan.specs.Tables.{Tables}
 use Rattle.xbar_office.specs.Legal.{IsJob}
 use Rattle.xbar_office.specs.declared.job.Job.{Job}
 use Rattle.xbar_office.specs.declared.reply.Reply.{Reply}
-use Rattle.xbar_jobs.specs.Attempt.{Attempt, Phase}
+use Rattle.xbar_jobs.specs.Attempt.{Attempt, Phase, next_step}
 use Rattle.xbar_jobs.specs.Closing.{effects as effects_of}
-use Rattle.xbar_jobs.specs.Jobs.{script}
+use Rattle.xbar_jobs.specs.Jobs.{job_line, script}
 use Rattle.xbar_jobs.specs.Keeping.{AreEffects}
 use Rattle.xbar_jobs.specs.Office.{office}
 use Rattle.xbar_jobs.specs.Others.{SeizesOthers, others_in}
+use Rattle.xbar_jobs.specs.Tracing.{Knows}
+use Rattle.xbar_jobs.specs.Turning.{IsStep}
 use Rattle.xbar_jobs.specs.declared.decision.Decision.{Decision}
+use Rattle.xbar_jobs.specs.declared.step.Step.{Step}
+use Rattle.xbar_jobs.specs.declared.way.Way.{Way}
 
 -- an attempt never reads more words, and never holds more connectors
 abbrev pub most_readings : ℕ
@@ -74,6 +78,11 @@ pub record IsAttempt (a : Attempt) : Type 0 where
   pub reply : HasReplyIn a.phase a.reply
   pub effects : AreEffects a.effects
 
+-- a step is the attempt's next, and on what there is
+pub record IsNextStep (a : Attempt) (step : Step) : Type 0 where
+  pub step_is : step ≡ next_step a
+  pub range : IsStep step
+
 -- the attempt holds connectors of the office, none of them twice; and besides line link frames no more than
 -- leave room for those that its script may still seize
 pub record HoldsFew (plan : Tables) (a : Attempt) : Type 0 where
@@ -101,10 +110,17 @@ pub record Stands (plan : Tables) (a : Attempt) : Type 0 where
 
 -- what an attempt is at run time: the attempt itself, and its decision
 abbrev pub Doing : Type 0
-Doing = standing.Program Conn Job Decision (Unit {0})
+Doing = standing.Program Conn Job Decision Way
 
 abbrev pub reply_of : Decision → Reply
 reply_of decision = decision.reply
 
 abbrev pub attempt_at : Doing → Attempt
 attempt_at p = standing.attempt_of reply_of effects_of p
+
+-- what every program keeps, whatever the plan: its attempt is one of the office, the step is the attempt's next, and walks
+-- that go on know what its way says
+pub record IsProgram (p : Doing) (next : Step) : Type 0 where
+  pub attempt : IsAttempt (attempt_at p)
+  pub next_is : IsNextStep (attempt_at p) next
+  pub knows : standing.KnowsIn (λ job way seen. Knows (job_line job) way seen) (attempt_at p) p.point p.phase

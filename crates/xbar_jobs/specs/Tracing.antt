@@ -1,4 +1,4 @@
-use Rattle.std.specs.Prelude.{ℕ, Option, Some, None, IsOk, option_map}
+use Rattle.std.specs.Prelude.{◌≡◌, ℕ, Option, Some, None, Ok, option_map, ⊤}
 use Rattle.xbar_equip.specs.Len.{Line}
 use Rattle.xbar_equip.specs.Path.{path_by}
 use Rattle.xbar_equip.specs.Ten.{TrunkPlace}
@@ -10,6 +10,8 @@ use Rattle.xbar_match.specs.Traces.{field_at_place, place_at_field}
 use Rattle.turns.specs.Script.{Ends, ◌>>=◌, ◌>>◌, seize}
 use Rattle.xbar_jobs.specs.Script.{Script, Seen, test, walk}
 use Rattle.xbar_jobs.specs.declared.party.Party.{Party}
+use Rattle.xbar_jobs.specs.declared.way.Way.{Way}
+use Rattle.xbar_jobs.specs.declared.way.Way.TheVariants.{Begun, Traced}
 
 -- approach a line: seize its frame and test its line switch
 unfoldable pub approach : Line → Script Party
@@ -48,15 +50,15 @@ trace_by line (Some channel) = do
 unfoldable pub trace : Party → Script (Option Path)
 trace party = trace_by party.line (channel_of party)
 
--- approach a line, and trace its path
-unfoldable pub trace_line : Line → Script (Option Path)
-trace_line line = do
-  calling ← approach line
-  trace calling
+-- the calling line was approached, and its own path traced
+pub record HasTraced (line : Line) (calling : Party) (own : Option Path) (seen : Seen) : Type 0 where
+  pub approached : walk seen (approach line) ≡ Ok calling
+  pub traced : walk seen (trace calling) ≡ Ok own
 
--- that is done
-abbrev pub HasTraced : Line → Seen → Type 0
-HasTraced line seen = IsOk (walk seen (trace_line line))
+-- what walks know by how far those before them have come
+abbrev pub Knows : Line → Way → Seen → Type 0
+Knows line Begun seen = ⊤
+Knows line (Traced calling own) seen = HasTraced line calling own seen
 
 -- a trunk place's path, once channel, line link frame and line switch are known
 unfoldable pub trace_back_at : TrunkPlace → ℕ → ℕ → Option ℕ → Script (Option Path)

@@ -5,6 +5,7 @@ ghost use Rattle.xbar_office.specs.Trunks.{AreGroups};
 ghost use Rattle.xbar_plan.specs.Tables.{lines_of, route_of};
 ghost use Rattle.xbar_jobs.specs.Completing.{call as call_script, call_line as call_line_script, call_number as call_number_script, call_without as call_without_script, complete_from as complete_from_script, complete_steps, hunt as hunt_script, register_at as register_at_of};
 ghost use Rattle.xbar_jobs.specs.Script.{walk};
+ghost use Rattle.xbar_jobs.specs.Tracing.{Knows};
 ghost use Rattle.xbar_equip.specs.Dialled.{code_of};
 
 use crate::connecting::connect;
@@ -15,6 +16,7 @@ use crate::leave::Leave;
 use crate::party::{CallParties, Party};
 use crate::seen::Seen;
 use crate::tracing::{approach, trace};
+use crate::way::Way;
 use xbar_equip::{Conn, Dialled, DirNo, Len, Path};
 use xbar_office::{Aim, End, leads_inside};
 use xbar_plan::{MemberPlace, Plan};
@@ -158,7 +160,7 @@ fn complete_from(
     call_without(plan, gathered, calling, dialled, leave)
 }
 
-/// Goes through a completing job, to its decision or to what is wanted first.
+/// Goes through a completing job, from where the walks before have come to.
 #[tactic(auto, using(turns::proofs::Walks::walk_bind), unfolding(crate::specs::Completing::complete_steps))]
 // Not inlined into every walk: a dial tone job would pay for its locals.
 #[inline(never)]
@@ -167,11 +169,18 @@ pub fn complete(
     gathered: &Gathered,
     line: Len,
     dialled: Dialled,
+    way: &mut Way,
 ) -> Result<Decision, Wanted>
-    ensures { result ≡ walk gathered.now (complete_steps plan.now line dialled) }
+    requires { Knows line way.old gathered.now }
+    ensures walk { result ≡ walk gathered.now (complete_steps plan.now line dialled) }
+    ensures knows { Knows line way.new gathered.now }
 {
+    if let Way::Traced { calling, own } = *way {
+        return complete_from(plan, gathered, &calling, dialled, &own);
+    }
     let seen = Seen::new(gathered);
     let calling = approach(&seen, line)?;
     let own = trace(&seen, &calling)?;
+    *way = Way::Traced { calling, own };
     complete_from(plan, gathered, &calling, dialled, &own)
 }

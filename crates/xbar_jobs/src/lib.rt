@@ -31,3 +31,4 @@ mod trials;
 mod trunk;
 mod trunks;
 mod walk;
+mod way;

@@ -2,6 +2,7 @@ use crate::decided::Decided;
 use crate::effect::Effect;
 use crate::kinds::Wanted;
 use crate::walk::{first_conn, next_in_row, walk};
+use crate::way::Way;
 use attempts::{Scripts, Seen};
 use turns::laws::Family;
 use xbar_equip::Conn;
@@ -24,7 +25,9 @@ impl Scripts<42, 19> for Offices {
     ghost use Rattle.attempts.specs.SystemWith.{with};
     ghost use Rattle.xbar_plan.specs.Lawful.{IsLawful};
     ghost use Rattle.xbar_jobs.specs.Closing.{effects as effects_by};
+    ghost use Rattle.xbar_jobs.specs.Jobs.{job_line};
     ghost use Rattle.xbar_jobs.specs.Office.{office_over};
+    ghost use Rattle.xbar_jobs.specs.Tracing.{Knows};
 
     type Setting = Plan;
 
@@ -38,7 +41,7 @@ impl Scripts<42, 19> for Offices {
 
     type Decision = Decided;
 
-    type Point = ();
+    type Point = Way;
 
     ghost system = { λ plan. with (office_over plan) };
 
@@ -48,26 +51,28 @@ impl Scripts<42, 19> for Offices {
 
     ghost IsSetting = { IsLawful };
 
-    ghost Knows = { λ _ _ _ _. Unit {0} };
+    ghost Knows = { λ _ job way seen. Knows (job_line job) way seen };
 
     fn first(job: &Job) -> Conn {
         first_conn(job)
     }
 
-    fn start(_job: &Job) {}
+    fn start(_job: &Job) -> Way {
+        Way::Begun
+    }
 
-    fn walk(plan: &Plan, job: &Job, _point: &mut (), seen: &Seen<Conn>) -> Result<Decided, Wanted> {
-        walk(plan, seen, job)
+    fn walk(plan: &Plan, job: &Job, way: &mut Way, seen: &Seen<Conn>) -> Result<Decided, Wanted> {
+        walk(plan, seen, job, way)
     }
 
     fn following(
         plan: &Plan,
         job: &Job,
-        _point: &(),
+        way: &Way,
         seen: &Seen<Conn>,
         word: usize,
     ) -> Option<usize> {
-        next_in_row(plan, seen, job, word)
+        next_in_row(plan, seen, job, way, word)
     }
 
     fn reply(decision: &Decided) -> Reply {

@@ -2,7 +2,7 @@ ghost use Rattle.std.specs.Prelude.{◌≡◌, ◌<◌, option_copied, is_some};
 ghost use Rattle.attempts.specs.Steps.{act_of};
 ghost use Rattle.xbar_jobs.specs.Attempt.{next_step, step_of as step_of_act};
 ghost use Rattle.xbar_jobs.specs.Keeping.{AreEffects};
-ghost use Rattle.xbar_jobs.specs.Standing.{IsAttempt, attempt_at};
+ghost use Rattle.xbar_jobs.specs.Standing.{IsAttempt, IsNextStep, attempt_at};
 ghost use Rattle.xbar_jobs.specs.Turning.{IsAct, IsStep};
 
 use crate::effect::Effect;
@@ -20,17 +20,19 @@ use xbar_plan::Plan;
 #[derive(Debug, Drop)]
 pub struct Program {
     attempt: AttemptOf<Offices, 42, 19>,
+    /// The attempt's next step, which is asked for several times before it is made.
+    next: Step,
 }
 
 impl Model for Program {
     ghost use Rattle.xbar_jobs.specs.Attempt.{Counted};
-    ghost use Rattle.xbar_jobs.specs.Standing.{IsAttempt, attempt_at};
+    ghost use Rattle.xbar_jobs.specs.Standing.{IsProgram, attempt_at};
 
     ghost Value = { Counted };
 
     ghost view = { λ a. record { attempt = attempt_at a.attempt; count = a.attempt.count } };
 
-    ghost invariant = { λ a. IsAttempt (attempt_at a.attempt) };
+    ghost invariant = { λ a. IsProgram a.attempt a.next };
 }
 
 /// The effects that are left are the office's. Called for its clause alone.
@@ -66,8 +68,7 @@ fn step_by(next: attempts::Step<Conn, Effect>) -> Step
 #[tactic(auto, using(crate::proofs::Programs::made_range))]
 fn step_of(attempt: &AttemptOf<Offices, 42, 19>) -> Step
     requires { IsAttempt (attempt_at attempt.now) }
-    ensures step { result ≡ next_step (attempt_at attempt.now) }
-    ensures range { IsStep result }
+    ensures { IsNextStep (attempt_at attempt.now) result }
 {
     step_by(next::<Offices, 42, 19>(attempt))
 }
@@ -92,9 +93,9 @@ impl Program {
         ensures begin { result ≡ fresh job }
         ensures plan { (plan : Tables) → IsLawful plan → Stands plan result.attempt }
     {
-        Program {
-            attempt: begin::<Offices, 42, 19>(job),
-        }
+        let attempt = begin::<Offices, 42, 19>(job);
+        let next = step_of(&attempt);
+        Program { attempt, next }
     }
 
     /// The step that the attempt wants made next.
@@ -103,10 +104,9 @@ impl Program {
         ensures range { IsStep result }
         ensures word { step_word result < word_count }
     {
-        let step = step_of(&self.attempt);
         // Called for its clauses alone.
-        let _word = step.word();
-        step
+        let _word = self.next.word();
+        self.next
     }
 
     pub fn job(&self) -> &Job
@@ -157,6 +157,7 @@ impl Program {
         xbar_plan::laws::every_plan_is_lawful(plan);
         take::<Offices, 42, 19>(&mut self.attempt, plan, answer);
         effects_are(&self.attempt);
+        self.next = step_of(&self.attempt);
     }
 
     /// Begins anew, once all that is held is given back. Past the turn nothing changes.
@@ -167,5 +168,6 @@ impl Program {
             → Stands plan self.new.attempt }
     {
         restart::<Offices, 42, 19>(&mut self.attempt);
+        self.next = step_of(&self.attempt);
     }
 }

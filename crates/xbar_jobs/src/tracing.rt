@@ -1,8 +1,8 @@
 //! Paths, traced from switch to switch as far as an attempt has come with them.
 
-ghost use Rattle.std.specs.Prelude.{◌≡◌, ◌<◌, IfSome, IsTrue};
+ghost use Rattle.std.specs.Prelude.{◌≡◌, ◌<◌, IfSome};
 ghost use Rattle.xbar_jobs.specs.Script.{walk};
-ghost use Rattle.xbar_jobs.specs.Tracing.{HasTraced, approach as approach_script, trace as trace_script, trace_line as trace_line_script, trace_at as trace_at_script, trace_to as trace_to_script, trace_by as trace_by_script, trace_back as trace_back_script, trace_back_at as trace_back_at_script, trace_back_to as trace_back_to_script, trace_back_by as trace_back_by_script};
+ghost use Rattle.xbar_jobs.specs.Tracing.{approach as approach_script, trace as trace_script, trace_at as trace_at_script, trace_to as trace_to_script, trace_by as trace_by_script, trace_back as trace_back_script, trace_back_at as trace_back_at_script, trace_back_to as trace_back_to_script, trace_back_by as trace_back_by_script};
 
 use crate::kinds::Wanted;
 use crate::party::Party;
@@ -84,21 +84,6 @@ pub fn trace(seen: &Seen, party: &Party) -> Result<Option<Path>, Wanted>
     ensures { result ≡ walk seen.now (trace_script party.now) }
 {
     trace_by(seen, party.line, party.channel())
-}
-
-#[tactic(auto, using(turns::proofs::Walks::walk_bind), unfolding(crate::specs::Tracing::trace_line))]
-fn trace_line(seen: &Seen, line: Len) -> Result<Option<Path>, Wanted>
-    ensures { result ≡ walk seen.now (trace_line_script line) }
-{
-    let party = approach(seen, line)?;
-    trace(seen, &party)
-}
-
-/// Whether a line's path was traced.
-pub fn has_traced(seen: &Seen, line: Len) -> bool
-    ensures { IsTrue result → HasTraced line seen.now }
-{
-    trace_line(seen, line).is_ok()
 }
 
 #[tactic(auto, using(turns::proofs::Walks::walk_bind, turns::proofs::Walks::walk_end), unfolding(crate::specs::Tracing::trace_back_at))]

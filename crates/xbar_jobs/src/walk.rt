@@ -1,4 +1,5 @@
-ghost use Rattle.std.specs.Prelude.{◌≡◌, Err, IfSome, IsTrue};
+ghost use Rattle.std.specs.Prelude.{◌≡◌, Err, IfSome, IsTrue, None};
+ghost use Rattle.turns.specs.Script.{value_read};
 ghost use Rattle.turns.specs.Seen.{AreReadWords};
 ghost use Rattle.turns.specs.declared.wanted.Wanted.TheVariants.{Test};
 ghost use Rattle.attempts.specs.Points.{GoesOnTo};
@@ -6,6 +7,8 @@ ghost use Rattle.xbar_equip.specs.Conn.{conn_eq};
 ghost use Rattle.xbar_office.specs.Legal.{IsJob};
 ghost use Rattle.xbar_jobs.specs.Jobs.{TestsRows, script, first_conn as first_conn_of, job_line};
 ghost use Rattle.xbar_jobs.specs.Script.{walk as walk_of};
+ghost use Rattle.xbar_jobs.specs.Sides.{IsNextJunctor};
+ghost use Rattle.xbar_jobs.specs.Tracing.{Knows};
 
 use crate::completing::complete;
 use crate::decided::Decided;
@@ -15,7 +18,7 @@ use crate::kinds::{Gathered, Wanted};
 use crate::releasing::release;
 use crate::seen::Seen;
 use crate::sides::next_junctor;
-use crate::tracing::has_traced;
+use crate::way::Way;
 use xbar_equip::{Conn, Len};
 use xbar_office::Job;
 use xbar_plan::Plan;
@@ -38,53 +41,76 @@ pub fn first_conn(job: &Job) -> Conn
 #[tactic(auto, unfolding(crate::specs::Jobs::script))]
 // Not inlined, so that a walk that stops early pays for few locals.
 #[inline(never)]
-fn follow(plan: &Plan, gathered: &Gathered, job: &Job) -> Result<Decision, Wanted>
-    ensures { result ≡ walk_of gathered.now (script plan.now job.now) }
+fn follow(plan: &Plan, gathered: &Gathered, job: &Job, way: &mut Way) -> Result<Decision, Wanted>
+    requires { Knows (job_line job.now) way.old gathered.now }
+    ensures walk { result ≡ walk_of gathered.now (script plan.now job.now) }
+    ensures knows { Knows (job_line job.now) way.new gathered.now }
 {
     match job {
         Job::Dial(line) => dial(plan, &Seen::new(gathered), *line),
-        Job::Complete(line, dialled) => complete(plan, gathered, *line, *dialled),
+        Job::Complete(line, dialled) => complete(plan, gathered, *line, *dialled, way),
         Job::Release(line) => release(plan, &Seen::new(gathered), *line),
     }
 }
 
 /// Goes through a job with what an attempt has come by: to its decision, or to what it wants first.
-pub fn walk(plan: &Plan, gathered: &Gathered, job: &Job) -> Result<Decided, Wanted>
+pub fn walk(plan: &Plan, gathered: &Gathered, job: &Job, way: &mut Way) -> Result<Decided, Wanted>
     requires job { IsJob job.now }
     requires read { AreReadWords gathered.now.readings }
-    ensures { result ≡ walk_of gathered.now (script plan.now job.now) }
+    requires knows { Knows (job_line job.now) way.old gathered.now }
+    ensures walk { result ≡ walk_of gathered.now (script plan.now job.now) }
+    ensures knows { Knows (job_line job.now) way.new gathered.now }
 {
     // Called for its clauses alone.
     xbar_plan::laws::every_plan_is_lawful(plan);
-    let decision = follow(plan, gathered, job)?;
+    let decision = follow(plan, gathered, job, way)?;
     Ok(Decided::new(decision))
 }
 
-fn tests_rows(gathered: &Gathered, job: &Job) -> bool
-    ensures { IsTrue result → TestsRows job.now gathered.now }
+fn tests_rows(job: &Job, way: &Way) -> bool
+    ensures { IsTrue result → TestsRows job.now way.now }
 {
     match job {
         Job::Dial(_) => true,
-        Job::Complete(line, _) => has_traced(&Seen::new(gathered), *line),
+        Job::Complete(_, _) => match way {
+            Way::Begun => false,
+            Way::Traced { .. } => true,
+        },
         Job::Release(_) => false,
+    }
+}
+
+/// The line junctor switch after this word, where that isn't its frame's last, and it wasn't read.
+fn unread_after(gathered: &Gathered, word: usize) -> Option<usize>
+    ensures next { IfSome result (λ next. IsNextJunctor word next) }
+    ensures unread { IfSome result (λ next. value_read gathered.now.readings next ≡ None) }
+{
+    let next = next_junctor(word)?;
+    if gathered.has_read(next) {
+        None
+    } else {
+        Some(next)
     }
 }
 
 /// The word that a job tests next once it has read the one that it wants, if that needs no walk: the
 /// ten line junctor switches of a frame are tested in order, whatever they show and whatever the plan is.
-pub fn next_in_row(plan: &Plan, gathered: &Gathered, job: &Job, word: usize) -> Option<usize>
+pub fn next_in_row(
+    plan: &Plan,
+    gathered: &Gathered,
+    job: &Job,
+    way: &Way,
+    word: usize,
+) -> Option<usize>
     requires job { IsJob job.now }
+    requires knows { Knows (job_line job.now) way.now gathered.now }
     requires wants { walk_of gathered.now (script plan.now job.now) ≡ Err (Test word) }
     ensures { IfSome result (GoesOnTo conn_eq gathered.now (script plan.now job.now) word) }
 {
     // Called for its clauses alone.
     xbar_plan::laws::every_plan_is_lawful(plan);
-    let next = next_junctor(word)?;
-    if gathered.has_read(next) {
-        return None;
-    }
-    if tests_rows(gathered, job) {
-        Some(next)
+    if tests_rows(job, way) {
+        unread_after(gathered, word)
     } else {
         None
     }
