@@ -5,7 +5,6 @@ use Rattle.std.specs.Prelude.{◌==◌, ◌%◌, Option, Some, None, if◌then�
 use Rattle.std.proofs.lemmas.Option.{same_Some}
 use Rattle.turns.specs.Attempt.{asked_in}
 use Rattle.turns.specs.Sharings.{by_holder, by_request, first_request, judged, lower_request}
-use Rattle.turns.specs.declared.answer.Answer.TheVariants.{Preferred}
 use Rattle.turns.specs.declared.judgement.Judgement.TheVariants as judgement
 use Rattle.turns.proofs.Lists.{one_or_two}
 use Rattle.xbar_equip.specs.declared.conn.Conn.{Conn}

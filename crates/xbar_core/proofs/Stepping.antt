@@ -1,19 +1,22 @@
 -- what a step of a marker comes to, part by part
 use Rattle.std.proofs.Common.{◌≡◌, ℕ, ◌<◌, Bool, true, false, List, ◌++◌, length, get_or, take, drop, refl, sym, ◌∙◌, ap, subst}
-use Rattle.std.specs.Prelude.{Some, slice_get, slice_set}
+use Rattle.std.specs.Prelude.{Option, Some, None, slice_get, slice_set, if◌then◌else◌}
 use Rattle.std.proofs.Math.Seq.{take-append_seam}
 use Rattle.std.proofs.lemmas.Option.{slice_get_read}
 use Rattle.turns.specs.Attempt.{act, change}
 use Rattle.turns.specs.Runs.{is_rest}
 use Rattle.turns.specs.World.{Idle, Does}
+use Rattle.turns.specs.declared.answer.Answer.{Answer}
 use Rattle.xbar_plan.specs.Tables.{Tables}
 use Rattle.xbar_office.specs.declared.reply.Record.{Record}
-use Rattle.xbar_jobs.specs.Attempt.{counted, next_step, with_count}
+use Rattle.xbar_jobs.specs.Attempt.{Attempt, counted, next_step, with_count}
 use Rattle.xbar_jobs.specs.Office.{office}
 use Rattle.xbar_jobs.specs.OnWords.{words_after}
-use Rattle.xbar_core.specs.AtWork.{told_of}
+use Rattle.xbar_jobs.specs.declared.step.Step.{Step}
+use Rattle.xbar_core.specs.AtWork.{next_step_at, told_of}
 use Rattle.xbar_core.specs.Exchange.{Exchange, Marker, Work as TheWork, at_marker, is_idle, on_job}
-use Rattle.xbar_core.specs.Moves.{event_at_step, event_by, added_record, after_step}
+use Rattle.xbar_core.specs.Moves.{IsAnswered, event_at_step, event_by, event_of, added_record, after_step}
+use Rattle.xbar_core.specs.declared.event.Event.{Event}
 use Rattle.xbar_core.specs.declared.event.Event.TheVariants as event
 use Rattle.xbar_core.specs.declared.kind.Kind.{Kind}
 use Rattle.xbar_core.specs.declared.work.Work.{Work}
@@ -34,6 +37,26 @@ step_whole plan e k len words new markers records same whole keeps is =
 -- the marker that is read at a place
 pub marker_read : (markers : List Marker) (k : ℕ) (read : Marker) → k < length markers → read ≡ get_or markers k read → slice_get markers k ≡ Some read
 marker_read markers k read within is = slice_get_read markers (length markers) k read refl within is
+
+-- what comes of a step, by how the marker is answered
+module _ (plan : Tables) (k : ℕ) (words : List ℕ) (before after : TheWork) (told : Option Answer) (answered : IsAnswered plan k words before after told) where
+  abbrev event_if : Bool → ℕ → Attempt → Event
+  event_if idle n a = if idle then event.Idle else event_of k n a (change (office plan) a (told_of k words a)) (told_of k words a)
+
+  pub event_idle : told ≡ None → event.Idle ≡ event_by plan k words before
+  event_idle none = by before (subst (IsAnswered plan k words before after) none answered) where
+    by : (work : TheWork) → is_idle work ≡ true → event.Idle ≡ event_by plan k words work
+    by Idle is = refl
+    by (Does n a) is = ap (λ (idle : Bool). event_if idle n a) (sym is)
+
+  pub event_answered : (answer : Answer) (step : Step) (comes : Event) → told ≡ Some answer → step ≡ next_step_at before → ((n : ℕ) (a later : Attempt) → step ≡ next_step a → after ≡ Does n later → comes ≡ event_of k n a later answer) → comes ≡ event_by plan k words before
+  event_answered answer step comes some is by_answer = by before (subst (IsAnswered plan k words before after) some answered) is where
+    by : (work : TheWork) → IsAnswered plan k words work after (Some answer) → step ≡ next_step_at work → comes ≡ event_by plan k words work
+    by Idle has is = absurd has
+    by (Does n a) has is =
+        by_answer n a (change (office plan) a answer) is has.2
+        ∙ ap (λ (t : Answer). event_of k n a (change (office plan) a t) t) has.1
+        ∙ ap (λ (idle : Bool). event_if idle n a) (sym has.0)
 
 module _ (plan : Tables) (e : Exchange) (k : ℕ) (m : Marker) (there : slice_get e.markers k ≡ Some m) where
   -- an idle marker makes no step

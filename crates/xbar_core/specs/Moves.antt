@@ -1,4 +1,4 @@
-use Rattle.std.specs.Prelude.{ℕ, zero, suc, ◌+◌, Bool, true, false, Option, Some, None, is_some, List, [], ◌∷◌, ◌++◌, length, slice_get, slice_set, if◌then◌else◌, option_map, option_to_list, unwrap_or}
+use Rattle.std.specs.Prelude.{◌≡◌, ℕ, zero, suc, ◌+◌, Bool, true, false, Option, Some, None, is_some, List, [], ◌∷◌, ◌++◌, length, slice_get, slice_set, if◌then◌else◌, option_map, option_to_list, unwrap_or}
 use Rattle.turns.specs.Attempt.{act, asked_in, begin_with, change, request_in, restarted, turn_in}
 use Rattle.turns.specs.Runs.{is_rest}
 use Rattle.turns.specs.World.{Idle, Does}
@@ -109,6 +109,14 @@ event_by plan k words work =
     let told = answer_of k (next_step a) words in
     if is_rest (act a) then event.Idle else event_of k number a (change (office plan) a told) told)
     work
+
+-- how a marker is answered that comes from one work to another by its next step: not at all where it is idle
+abbrev pub IsAnswered : Tables → ℕ → List ℕ → Work → Work → Option Answer → Type 0
+IsAnswered plan k words before after None = is_idle before ≡ true
+IsAnswered plan k words before after (Some told) =
+    on_job ⊥ (λ number a. (is_rest (act a) ≡ false) × (told ≡ answer_of k (next_step a) words)
+    × (after ≡ Does number (change (office plan) a told)))
+    before
 
 -- what comes of marker k's next step
 abbrev pub event_at_step : Tables → ℕ → Exchange → Event

@@ -1,13 +1,14 @@
-ghost use Rattle.std.specs.Prelude.{◌≡◌, ◌+◌, ◌<◌, ◌≤◌, List, Some, length, slice_get, slice_set, vec_capacity};
+ghost use Rattle.std.specs.Prelude.{◌≡◌, ◌+◌, ◌<◌, ◌≤◌, ℕ, List, Some, length, slice_get, slice_set, vec_capacity};
 ghost use Rattle.turns.specs.Attempt.{begin_with};
 ghost use Rattle.turns.specs.World.{Idle, Does};
 ghost use Rattle.xbar_equip.specs.Word.{word_count};
 ghost use Rattle.xbar_office.specs.Legal.{IsJob};
 ghost use Rattle.xbar_plan.specs.Tables.{Tables};
+ghost use Rattle.xbar_jobs.specs.Attempt.{Attempt, next_step};
 ghost use Rattle.xbar_jobs.specs.Jobs.{first_conn};
 ghost use Rattle.xbar_core.specs.AtWork.{gives_up_at, is_turned, next_step_at};
 ghost use Rattle.xbar_core.specs.Exchange.{Marker as TheMarker, is_idle as is_idle_at};
-ghost use Rattle.xbar_core.specs.Moves.{event_by, given_by, refusal_of, after_step, work_anew};
+ghost use Rattle.xbar_core.specs.Moves.{IsAnswered, event_by, event_of, given_by, refusal_of, after_step, work_anew};
 ghost use Rattle.xbar_core.specs.Standing.{StandsAt, waits};
 
 use crate::assign_fault::AssignFault;
@@ -16,7 +17,7 @@ use crate::given::Given;
 use crate::kind::Kind;
 use crate::work::Work;
 use std::marker::Model;
-use xbar_jobs::Step;
+use xbar_jobs::{Answer, Step};
 use xbar_office::{Job, Record};
 use xbar_plan::Plan;
 
@@ -136,8 +137,49 @@ impl Marker {
         }
     }
 
-    /// Makes its next step, as the marker of this number, and tells what came of it. An idle marker
+    /// What came of its step that was answered so.
+    fn event(&self, number: u32, step: Step, answer: Answer) -> Event
+        ensures { (n : ℕ) (a after : Attempt) → step ≡ next_step a → self.now.work ≡ Does n after →
+            result ≡ event_of number n a after answer }
+    {
+        match &self.work {
+            None => Event::Idle,
+            Some(work) => work.event(number, step, answer),
+        }
+    }
+
+    /// Makes its next step, as the marker of this number, and gives the answer to it. An idle marker
     /// makes none. There is room for the record of its turn.
+    pub fn advance(
+        &mut self,
+        plan: &Plan,
+        number: u32,
+        words: &mut [u64],
+        records: &mut Vec<Record>,
+    ) -> Option<Answer>
+        requires plan { StandsAt plan.now self.old.work }
+        requires number { number < 48 }
+        requires words { length words.old ≡ word_count }
+        requires room { length records.old.items + waits self.old.work ≤ vec_capacity records.old }
+        ensures step { (markers : List TheMarker) → slice_get markers number ≡ Some self.old →
+            record {
+              words = words.new;
+              markers = slice_set markers number self.new;
+              records = records.new.items;
+            }
+            ≡ after_step plan.now number
+            (record { words = words.old; markers = markers; records = records.old.items }) }
+        ensures room { vec_capacity records.old ≤ vec_capacity records.new }
+        ensures answer { IsAnswered plan.now number words.old self.old.work self.new.work result }
+    {
+        match &mut self.work {
+            None => None,
+            Some(work) if work.is_done() => None,
+            Some(work) => Some(work.step(plan, number, words, records)),
+        }
+    }
+
+    /// The same, and tells what came of it.
     pub fn step(
         &mut self,
         plan: &Plan,
@@ -160,10 +202,10 @@ impl Marker {
         ensures room { vec_capacity records.old ≤ vec_capacity records.new }
         ensures event { result ≡ event_by plan.now number words.old self.old.work }
     {
-        match &mut self.work {
+        let step = self.next_step();
+        match self.advance(plan, number, words, records) {
             None => Event::Idle,
-            Some(work) if work.is_done() => Event::Idle,
-            Some(work) => work.step(plan, number, words, records),
+            Some(answer) => self.event(number, step, answer),
         }
     }
 }

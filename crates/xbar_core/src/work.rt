@@ -119,7 +119,7 @@ impl Work {
     }
 
     /// What came of a step that was answered so.
-    fn event(&self, marker: u32, step: Step, answer: Answer) -> Event
+    pub fn event(&self, marker: u32, step: Step, answer: Answer) -> Event
         ensures { (a : Attempt) → step ≡ next_step a →
             result ≡ event_of marker self.now.job_no a self.now.program.attempt answer }
     {
@@ -143,7 +143,7 @@ impl Work {
         }
     }
 
-    /// Makes the job's next step on the words, and tells what came of it. A turn adds its record, for
+    /// Makes the job's next step on the words, and gives the answer to it. A turn adds its record, for
     /// which there is room.
     pub fn step(
         &mut self,
@@ -151,7 +151,7 @@ impl Work {
         marker: u32,
         words: &mut [u64],
         records: &mut Vec<Record>,
-    ) -> Event
+    ) -> Answer
         requires plan { Stands plan.now self.old.program.attempt }
         requires goes_on { is_rest (act self.old.program.attempt) ≡ false }
         requires marker { marker < 48 }
@@ -168,15 +168,11 @@ impl Work {
             ++ added_record marker self.old.job_no self.old.program.attempt
             (told_of marker words.old self.old.program.attempt) }
         ensures room { vec_capacity records.old ≤ vec_capacity records.new }
-        ensures event { result ≡ event_of marker self.old.job_no self.old.program.attempt
-            (change (office plan.now) self.old.program.attempt
-            (told_of marker words.old self.old.program.attempt))
-            (told_of marker words.old self.old.program.attempt) }
+        ensures answer { result ≡ told_of marker words.old self.old.program.attempt }
     {
-        let step = self.program.next();
-        let answer = step.make(marker, words);
+        let answer = self.program.next().make(marker, words);
         self.program.take(plan, answer);
         self.enter(marker, answer, records);
-        self.event(marker, step, answer)
+        answer
     }
 }
