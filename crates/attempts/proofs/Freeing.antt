@@ -1,5 +1,5 @@
 -- the first of what is held is freed
-use Rattle.std.proofs.Common.{◌≡◌, Bool, true, List, [], ◌∷◌, length, refl, sym, ◌∙◌, ap, arith}
+use Rattle.std.proofs.Common.{◌≡◌, ◌<◌, Bool, true, false, List, [], ◌∷◌, length, refl, sym, ◌∙◌, ap, arith}
 use Rattle.std.proofs.lemmas.Bool.{eqb-true}
 use Rattle.std.specs.List.{remove}
 use Rattle.std.specs.Prelude.{◌==◌}
@@ -20,3 +20,8 @@ frees_one p now held inside is = with_held p now held rest_of inside (is ∙ rem
 
 pub frees_nothing : {Lock Job Decision Point : Type 0} (p now : Program Lock Job Decision Point) (b : Bool) → p ≡ now → b ≡ (length p.held == 0) → b ≡ true → now ≡ record now { held = rest_of now.held }
 frees_nothing p now b inside is empty = ap (λ (h : List _). record now { held = h }) (none_left now.held b (is ∙ ap (λ (x : Program _ _ _ _). length x.held == 0) inside) empty)
+
+-- what holds a lock has one to remove
+pub one_left : {Lock : Type 0} (held : List Lock) (b : Bool) → b ≡ (length held == 0) → b ≡ false → 0 < length held
+one_left [] b is left = absurd cc
+one_left (lock ∷ held) b is left = omega arith

@@ -1,7 +1,8 @@
 -- an attempt from inside, as its methods have it, and from outside
-use Rattle.std.proofs.Common.{◌≡◌, ℕ, ◌<◌, ◌+◌, ◌^◌, false, List, [], ◌∷◌, refl, sym, ◌∙◌, ap, subst}
-use Rattle.std.specs.Prelude.{Option, Some, None, IfSome, slice_get}
-use Rattle.turns.specs.Attempt.{Act, Free, Rest, free_act, turn_in}
+use Rattle.std.proofs.Common.{◌≡◌, ℕ, ◌<◌, ◌+◌, ◌^◌, Bool, true, false, List, [], ◌∷◌, length, refl, sym, ◌∙◌, ap, subst, inl, inr}
+use Rattle.std.specs.Prelude.{◌⊎◌, if◌then◌else◌, Option, Some, None, IfSome, slice_get}
+use Rattle.turns.specs.Attempt.{Act, Free, Rest, asked_in, free_act, turn_in}
+use Rattle.desks.specs.Outcomes.{is_given_up}
 use Rattle.turns.specs.declared.phase.Phase.{Phase}
 use Rattle.turns.specs.declared.phase.Phase.TheVariants.{Requests, Seizes, Tests, Turns, Withdraws, GivesBack, Operates}
 use Rattle.turns.specs.declared.reading.Reading.{Reading}
@@ -14,6 +15,9 @@ in_phase f p now phase inside is = ap (f p) (sym is) ∙ ap (λ (x : Program _ _
 
 pub phase_now : {Lock Job Decision Point : Type 0} (p now : Program Lock Job Decision Point) (phase : Phase Lock ℕ) → p ≡ now → p.phase ≡ phase → now.phase ≡ phase
 phase_now p now phase inside is = sym (ap (λ (x : Program _ _ _ _). x.phase) inside) ∙ is
+
+pub same_phase : {Lock Job Decision Point : Type 0} (p now : Program Lock Job Decision Point) → p ≡ now → p.phase ≡ now.phase
+same_phase p now inside = ap (λ (x : Program _ _ _ _). x.phase) inside
 
 pub same_count : {Lock Job Decision Point : Type 0} (p now : Program Lock Job Decision Point) → p ≡ now → p.count ≡ now.count
 same_count p now inside = ap (λ (x : Program _ _ _ _). x.count) inside
@@ -55,6 +59,35 @@ has_begun Turns held not = refl
 has_begun (Withdraws lock) held not = refl
 has_begun GivesBack held not = refl
 has_begun (Operates turn) held not = refl
+
+-- nor does any other but these ask for a lock, or give one up
+pub asks_none : {Lock : Type 0} (phase : Phase Lock ℕ) → ((word : ℕ) × (phase ≡ Tests word)) ⊎ ((phase ≡ Turns) ⊎ (((lock : Lock) × (phase ≡ Withdraws lock)) ⊎ ((phase ≡ GivesBack) ⊎ ((turn : ℕ) × (phase ≡ Operates turn))))) → None ≡ asked_in phase
+asks_none phase (inl (word, e)) = ap asked_in (sym e)
+asks_none phase (inr (inl e)) = ap asked_in (sym e)
+asks_none phase (inr (inr (inl (lock, e)))) = ap asked_in (sym e)
+asks_none phase (inr (inr (inr (inl e)))) = ap asked_in (sym e)
+asks_none phase (inr (inr (inr (inr (turn, e))))) = ap asked_in (sym e)
+
+pub goes_ahead : {Lock : Type 0} (phase : Phase Lock ℕ) → ((lock : Lock) × (phase ≡ Requests lock)) ⊎ (((lock : Lock) × (expected : ℕ) × (phase ≡ Seizes lock expected)) ⊎ (((word : ℕ) × (phase ≡ Tests word)) ⊎ ((phase ≡ Turns) ⊎ ((turn : ℕ) × (phase ≡ Operates turn))))) → false ≡ is_given_up phase
+goes_ahead phase (inl (lock, e)) = ap is_given_up (sym e)
+goes_ahead phase (inr (inl (lock, expected, e))) = ap is_given_up (sym e)
+goes_ahead phase (inr (inr (inl (word, e)))) = ap is_given_up (sym e)
+goes_ahead phase (inr (inr (inr (inl e)))) = ap is_given_up (sym e)
+goes_ahead phase (inr (inr (inr (inr (turn, e))))) = ap is_given_up (sym e)
+
+-- it has room from inside where it has it from outside
+pub has_room : {Lock Job Decision Point : Type 0} (p now : Program Lock Job Decision Point) (most : ℕ) → p ≡ now → length now.held < most → length p.held < most
+has_room p now most inside room = subst (λ (x : Program _ _ _ _). length x.held < most) (sym inside) room
+
+-- with another count
+pub recounts : {Lock Job Decision Point : Type 0} (p now : Program Lock Job Decision Point) (count : ℕ) (of : Program Lock Job Decision Point → ℕ) → p ≡ now → count ≡ of now → record p { count = count } ≡ record now { count = of now }
+recounts p now count of inside is = ap (λ (n : ℕ). record p { count = n }) is ∙ ap (λ (x : Program _ _ _ _). record x { count = of now }) inside
+
+pub counts_from_none : (count more : ℕ) (fresh made_none : Bool) → count ≡ 0 → fresh ≡ true → fresh ≡ made_none → count ≡ (if made_none then 0 else more)
+counts_from_none count more fresh made_none none is_true is = none ∙ ap (λ (b : Bool). if b then 0 else more) (sym is_true ∙ is)
+
+pub counts_more : (count more : ℕ) (fresh made_none : Bool) → count ≡ more → fresh ≡ false → fresh ≡ made_none → count ≡ (if made_none then 0 else more)
+counts_more count more fresh made_none one_more is_false is = one_more ∙ ap (λ (b : Bool). if b then 0 else more) (sym is_false ∙ is)
 
 -- what is held is freed from the first on
 pub frees_first : {Lock Effect : Type 0} (held : List Lock) (lock : Lock) → Some lock ≡ slice_get held 0 → ◌≡◌ {A = Act Lock Effect} (Free lock) (free_act held)

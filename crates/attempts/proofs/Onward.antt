@@ -16,6 +16,7 @@ use Rattle.turns.proofs.Words.{read_more}
 use Rattle.attempts.specs.Points.{Extends}
 use Rattle.attempts.specs.Standing.{AreScripts, Program, CanWalk, HasPlace, KnowsIn, Stands, attempt_of}
 use Rattle.attempts.specs.SystemWith.{SystemWith, system_with}
+use Rattle.attempts.specs.Taken.{MayRead}
 use Rattle.attempts.proofs.ReadOnce.{wants_unread}
 use Rattle.attempts.proofs.Places.{FitsValue, fits_seize, fits_test, place_begin, place_change, place_restarted, place_there}
 
@@ -61,6 +62,15 @@ module _ {Lock Job Reply Effect Decision Point : Type 0} (same : Lock → Lock �
       let last : Reading ℕ = record { word = word; value = value } in
       let more : Extends same (record { held = p.held; readings = p.readings }) (record { held = p.held; readings = p.readings ++ last ∷ [] }) = record { held = λ l h. h; readings = λ w v h. read_before same itself p.readings last w v h } in
       subst (λ (x : Doing). CanWalk same reply_of effects_of S Knows x) (sym made) (record { job = stands.place.job; read = read_more p.readings last stands.place.read below; knows = are.knows_on p.job p.point _ _ more before })
+
+  pub may_read : (p : Doing) (word value : ℕ) → value < 2 ^ 64 → StandsHere p → p.phase ≡ Tests word → MayRead same reply_of effects_of S Knows R (record { word = word; value = value }) p
+  may_read p word value below stands e = record {
+    tests = e;
+    room = room_to_test p word stands e;
+    unread = unread_to_test p word stands e;
+    fits = below;
+    walk = walks_read p word value (record p { readings = p.readings ++ record { word = word; value = value } ∷ [] }) below stands e refl;
+  }
 
   -- an attempt that has just begun stands
   pub stands_begun : (job : Job) (first : Lock) (point : Point) (new : Doing) → S.IsJob job → first ≡ S.first job → ((seen : Seen Lock) → Knows job point seen) → new ≡ record { job = job; point = point; readings = []; held = []; phase = Requests first; decision = None; made = 0; count = 0 } → StandsHere new

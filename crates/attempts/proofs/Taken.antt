@@ -228,6 +228,10 @@ module _ {Lock Job Reply Effect Decision Point : Type 0} (same : Lock → Lock �
       count = ap (λ (x : Doing). x.count) made ∙ went_count p q found;
     })
 
+  -- by what it goes on from
+  pub walks_from : (mid made new : Doing) → mid ≡ made → Walks mid new → Walks made new
+  walks_from mid made new is by = subst (λ (x : Doing). Walks x new) is by
+
   -- with a lock or a reading more it goes on through its job
   pub seized : (now mid new : Doing) (lock : Lock) (expected : ℕ) → now.phase ≡ Seizes lock expected → mid ≡ record now { held = now.held ++ lock ∷ [] } → Walks mid new → Took Seized now new
   seized now mid new lock expected is holds by = took now new (Seizes lock expected) Seized is tt (by.change ∙ ap (λ (x : Doing). walks_on O (outside x)) holds) by.point (by.count ∙ ap (λ (x : Doing). x.count) holds)

@@ -11,6 +11,13 @@ use arrayvec::ArrayVec;
 use std::marker::Model;
 use turns::{Phase, Reading, Wanted};
 
+/// One step more is counted, as far as `u32` counts.
+fn next_count(count: u32) -> u32
+    ensures { result ≡ counted count }
+{
+    count.saturating_add(1)
+}
+
 /// What an actor knows of its job since it last began it. It has a fixed size, and holds no borrow
 /// of the setting.
 #[derive(Debug, Drop)]
@@ -205,7 +212,7 @@ impl<
         self.count = if self.is_fresh() {
             0
         } else {
-            self.count.saturating_add(1)
+            next_count(self.count)
         };
     }
 

@@ -1,19 +1,19 @@
 //! What an attempt makes of the answer to its next step.
 
-ghost use Rattle.std.specs.Prelude.{◌≡◌, ℕ, IfSome};
+ghost use Rattle.std.specs.Prelude.{◌≡◌, ◌<◌, ◌++◌, ◌∷◌, [], ℕ, IfNone, IfSome, length};
 ghost use Rattle.turns.specs.Attempt.{change, freed, operated, rest_of};
 ghost use Rattle.attempts.specs.Counting.{count_in, counted};
 ghost use Rattle.attempts.specs.Points.{GoesOnTo};
 ghost use Rattle.attempts.specs.Standing.{AreScripts, CanWalk, KnowsIn, Stands, attempt_of};
 ghost use Rattle.attempts.specs.SystemWith.{system_with};
-ghost use Rattle.attempts.specs.Taken.{Takes, WalksOn};
+ghost use Rattle.attempts.specs.Taken.{MayRead, SeizesLock, Takes, WalksOn};
 
 use crate::attempt::AttemptOf;
 use crate::scripts::Scripts;
 use crate::seen::Seen;
 use crate::showing::next_effect;
 use crate::starting::give_back;
-use turns::{Answer, Phase, Reading, Wanted};
+use turns::{Answer, Phase, Reading};
 
 /// Goes on through the job from where it stands, as far as it goes.
 fn walk_on<S: Scripts<READINGS, HELD>, const READINGS: usize, const HELD: usize>(
@@ -102,6 +102,30 @@ fn take_refusal<S: Scripts<READINGS, HELD>, const READINGS: usize, const HELD: u
     }
 }
 
+/// The lock that it seizes.
+fn to_seize<S: Scripts<READINGS, HELD>, const READINGS: usize, const HELD: usize>(
+    program: &AttemptOf<S, READINGS, HELD>,
+    setting: &S::Setting,
+) -> Option<S::Lock>
+    requires scripts { AreScripts S.Lock.eq S.reply_of S.effects_of (S.system setting.now)
+        (S.Knows setting.now) READINGS HELD }
+    requires stands { Stands S.Lock.eq S.reply_of S.effects_of (S.system setting.now)
+        (S.Knows setting.now) READINGS HELD program.now }
+    ensures seizes { IfSome result (SeizesLock program.now.phase) }
+    ensures room { IfSome result (λ lock. length program.now.held < HELD) }
+    ensures walk { IfSome result (λ lock.
+        CanWalk S.Lock.eq S.reply_of S.effects_of (S.system setting.now) (S.Knows setting.now)
+        (record program.now { held = program.now.held ++ lock ∷ [] })) }
+    ensures none { IfNone result ((lock : S.Lock) → SeizesLock program.now.phase lock → ⊥) }
+{
+    let phase = program.phase;
+    if let Phase::Seizes(lock, _) = phase {
+        Some(lock)
+    } else {
+        None
+    }
+}
+
 /// The lock is its own: it goes on through its job.
 fn take_lock<S: Scripts<READINGS, HELD>, const READINGS: usize, const HELD: usize>(
     program: &mut AttemptOf<S, READINGS, HELD>,
@@ -115,10 +139,87 @@ fn take_lock<S: Scripts<READINGS, HELD>, const READINGS: usize, const HELD: usiz
     ensures { Takes S.Lock.eq S.reply_of S.effects_of (S.system setting.now) (S.Knows setting.now)
         Answer.Seized program.old program.new }
 {
-    let phase = program.phase;
-    if let Phase::Seizes(lock, _) = phase {
+    if let Some(lock) = to_seize::<S, READINGS, HELD>(program, setting) {
         program.hold(lock);
         walk_on::<S, READINGS, HELD>(program, setting);
+    }
+}
+
+/// The word that it tests, which may have this value.
+fn to_test<S: Scripts<READINGS, HELD>, const READINGS: usize, const HELD: usize>(
+    program: &AttemptOf<S, READINGS, HELD>,
+    setting: &S::Setting,
+    value: u64,
+) -> Option<usize>
+    requires scripts { AreScripts S.Lock.eq S.reply_of S.effects_of (S.system setting.now)
+        (S.Knows setting.now) READINGS HELD }
+    requires stands { Stands S.Lock.eq S.reply_of S.effects_of (S.system setting.now)
+        (S.Knows setting.now) READINGS HELD program.now }
+    ensures reads { IfSome result (λ word.
+        MayRead S.Lock.eq S.reply_of S.effects_of (S.system setting.now) (S.Knows setting.now)
+        READINGS (record { word = word; value = value }) program.now) }
+    ensures none { IfNone result ((word : ℕ) → program.now.phase ≡ Phase.Tests word → ⊥) }
+{
+    let phase = program.phase;
+    if let Phase::Tests(word) = phase {
+        Some(word)
+    } else {
+        None
+    }
+}
+
+/// Goes on through the job with this read too.
+fn read_on<S: Scripts<READINGS, HELD>, const READINGS: usize, const HELD: usize>(
+    program: &mut AttemptOf<S, READINGS, HELD>,
+    setting: &S::Setting,
+    reading: Reading<usize>,
+)
+    requires setting { S.IsSetting setting.now }
+    requires reads { MayRead S.Lock.eq S.reply_of S.effects_of (S.system setting.now)
+        (S.Knows setting.now) READINGS reading program.old }
+    ensures { WalksOn S.Lock.eq S.reply_of S.effects_of (S.system setting.now) (S.Knows setting.now)
+        (record program.old { readings = program.old.readings ++ reading ∷ [] }) program.new }
+{
+    program.note(reading);
+    walk_on::<S, READINGS, HELD>(program, setting);
+}
+
+/// Goes on to this word with this read too.
+fn read_up_to<S: Scripts<READINGS, HELD>, const READINGS: usize, const HELD: usize>(
+    program: &mut AttemptOf<S, READINGS, HELD>,
+    setting: &S::Setting,
+    reading: Reading<usize>,
+    next: usize,
+)
+    requires reads { MayRead S.Lock.eq S.reply_of S.effects_of (S.system setting.now)
+        (S.Knows setting.now) READINGS reading program.old }
+    ensures { program.new
+        ≡ record program.old {
+          readings = program.old.readings ++ reading ∷ [];
+          phase = Phase.Tests next;
+        } }
+{
+    program.note(reading);
+    program.phase = Phase::Tests(next);
+}
+
+/// Goes on with this read too, without a walk where none is needed.
+fn read<S: Scripts<READINGS, HELD>, const READINGS: usize, const HELD: usize>(
+    program: &mut AttemptOf<S, READINGS, HELD>,
+    setting: &S::Setting,
+    reading: Reading<usize>,
+)
+    requires setting { S.IsSetting setting.now }
+    requires stands { Stands S.Lock.eq S.reply_of S.effects_of (S.system setting.now)
+        (S.Knows setting.now) READINGS HELD program.old }
+    requires reads { MayRead S.Lock.eq S.reply_of S.effects_of (S.system setting.now)
+        (S.Knows setting.now) READINGS reading program.old }
+    ensures { Takes S.Lock.eq S.reply_of S.effects_of (S.system setting.now) (S.Knows setting.now)
+        (Answer.Value reading.value) program.old program.new }
+{
+    match following::<S, READINGS, HELD>(program, setting, reading.word) {
+        Some(next) => read_up_to::<S, READINGS, HELD>(program, setting, reading, next),
+        None => read_on::<S, READINGS, HELD>(program, setting, reading),
     }
 }
 
@@ -136,14 +237,8 @@ fn take_reading<S: Scripts<READINGS, HELD>, const READINGS: usize, const HELD: u
     ensures { Takes S.Lock.eq S.reply_of S.effects_of (S.system setting.now) (S.Knows setting.now)
         (Answer.Value value) program.old program.new }
 {
-    let phase = program.phase;
-    if let Phase::Tests(word) = phase {
-        let following = following::<S, READINGS, HELD>(program, setting, word);
-        program.note(Reading { word, value });
-        match following {
-            Some(next) => program.go_on(Err(Wanted::Test(next))),
-            None => walk_on::<S, READINGS, HELD>(program, setting),
-        }
+    if let Some(word) = to_test::<S, READINGS, HELD>(program, setting, value) {
+        read::<S, READINGS, HELD>(program, setting, Reading { word, value });
     }
 }
 

@@ -23,3 +23,6 @@ returns-in-None-clause-phase g c = ap (λ (p : Program _ _ _ _). p.phase) c.free
 
 pub returns-in-None-clause-count : goal.returns-in-None-clause-count
 returns-in-None-clause-count g c = ap (λ (p : Program _ _ _ _). p.count) c.free_first.ensures
+
+pub next_effect-requires : goal.next_effect-requires
+next_effect-requires g c = search

@@ -1,5 +1,15 @@
+use Rattle.std.proofs.Common.{arith}
 use Rattle.attempts.proofs.Taken.{able, walked}
 use Rattle.attempts.proofs.taking.walk_on.Goals as goal
+
+pub as_slice-requires : goal.as_slice-requires
+as_slice-requires g c = grind arith
+
+pub as_slice-requires-2 : goal.as_slice-requires-2
+as_slice-requires-2 g c = grind arith
+
+pub go_on-requires : goal.go_on-requires
+go_on-requires g c = search
 
 pub walk-found-requires-clause-setting : goal.walk-found-requires-clause-setting
 walk-found-requires-clause-setting g c = c.requires.setting

@@ -1,4 +1,4 @@
-use Rattle.std.proofs.Common.{ap, ◌∙◌}
+use Rattle.std.proofs.Common.{arith, ap, ◌∙◌}
 use Rattle.turns.specs.declared.phase.Phase.TheVariants.{Requests}
 use Rattle.attempts.specs.Counting.{has_made_none}
 use Rattle.attempts.specs.Standing.{Program}
@@ -10,3 +10,6 @@ returns-in-Requests g c = c.is_empty.ensures ∙ in_phase (λ p phase. has_made_
 
 pub returns-in_default : goal.returns-in_default
 returns-in_default g c = has_begun _ _ c.in_default.not-Requests ∙ ap (λ (p : Program _ _ _ _). has_made_none p.phase p.held) c.self.view_is
+
+pub is_empty-requires : goal.is_empty-requires
+is_empty-requires g c = grind arith

@@ -1,0 +1,15 @@
+use Rattle.std.proofs.Common.{ap, ◌∙◌}
+use Rattle.turns.specs.declared.phase.Phase.TheVariants.{GivesBack, Withdraws}
+use Rattle.desks.specs.Outcomes.{is_given_up as is_given_up_in}
+use Rattle.attempts.specs.Standing.{Program}
+use Rattle.attempts.proofs.Inside.{goes_ahead, in_phase}
+use Rattle.attempts.proofs.attempt.Attempt.is_given_up.Goals as goal
+
+pub returns-in-Withdraws : goal.returns-in-Withdraws
+returns-in-Withdraws g c = in_phase (λ p phase. is_given_up_in phase) _ c.args.self.now (Withdraws c.in-Withdraws.field-0) c.self.view_is c.in-Withdraws.is
+
+pub returns-in-GivesBack : goal.returns-in-GivesBack
+returns-in-GivesBack g c = in_phase (λ p phase. is_given_up_in phase) _ c.args.self.now GivesBack c.self.view_is c.in-GivesBack.is
+
+pub returns-in-Requests : goal.returns-in-Requests
+returns-in-Requests g c = goes_ahead _ c.in-Requests.is ∙ ap (λ (p : Program _ _ _ _). is_given_up_in p.phase) c.self.view_is
