@@ -230,12 +230,11 @@ impl<'p> Exchange<'p> {
     {
         // Called for its clauses alone.
         xbar_plan::laws::every_plan_is_lawful(self.plan);
-        self.markers[marker as usize].step(
-            self.plan,
-            marker,
-            self.words.as_mut_slice(),
-            &mut self.records,
-        )
+        let own = &mut self.markers[marker as usize];
+        let step = own.next_step();
+        let words = self.words.as_mut_slice();
+        let answer = own.advance(self.plan, marker, words, &mut self.records);
+        own.event(marker, step, answer)
     }
 
     /// The marker is to begin its job anew, unless it is past its turn: its next steps withdraw its

@@ -7,7 +7,7 @@ ghost use Rattle.xbar_plan.specs.Tables.{Tables};
 ghost use Rattle.xbar_jobs.specs.Attempt.{Attempt, next_step};
 ghost use Rattle.xbar_jobs.specs.Jobs.{first_conn};
 ghost use Rattle.xbar_core.specs.AtWork.{gives_up_at, is_turned, next_step_at};
-ghost use Rattle.xbar_core.specs.Exchange.{Marker as TheMarker, is_idle as is_idle_at};
+ghost use Rattle.xbar_core.specs.Exchange.{Marker as TheMarker, Work as TheWork, is_idle as is_idle_at};
 ghost use Rattle.xbar_core.specs.Moves.{IsAnswered, event_by, event_of, given_by, refusal_of, after_step, work_anew};
 ghost use Rattle.xbar_core.specs.Standing.{StandsAt, waits};
 
@@ -138,13 +138,25 @@ impl Marker {
     }
 
     /// What came of its step that was answered so.
-    fn event(&self, number: u32, step: Step, answer: Answer) -> Event
+    fn event_of(&self, number: u32, step: Step, answer: Answer) -> Event
         ensures { (n : ℕ) (a after : Attempt) → step ≡ next_step a → self.now.work ≡ Does n after →
             result ≡ event_of number n a after answer }
     {
         match &self.work {
             None => Event::Idle,
             Some(work) => work.event(number, step, answer),
+        }
+    }
+
+    /// What came of its step, by what `advance` answered.
+    pub fn event(&self, number: u32, step: Step, answer: Option<Answer>) -> Event
+        ensures { (plan : Tables) (words : List ℕ) (before : TheWork) → step ≡ next_step_at before →
+            IsAnswered plan number words before self.now.work answer →
+            result ≡ event_by plan number words before }
+    {
+        match answer {
+            None => Event::Idle,
+            Some(answer) => self.event_of(number, step, answer),
         }
     }
 
@@ -176,36 +188,6 @@ impl Marker {
             None => None,
             Some(work) if work.is_done() => None,
             Some(work) => Some(work.step(plan, number, words, records)),
-        }
-    }
-
-    /// The same, and tells what came of it.
-    pub fn step(
-        &mut self,
-        plan: &Plan,
-        number: u32,
-        words: &mut [u64],
-        records: &mut Vec<Record>,
-    ) -> Event
-        requires plan { StandsAt plan.now self.old.work }
-        requires number { number < 48 }
-        requires words { length words.old ≡ word_count }
-        requires room { length records.old.items + waits self.old.work ≤ vec_capacity records.old }
-        ensures step { (markers : List TheMarker) → slice_get markers number ≡ Some self.old →
-            record {
-              words = words.new;
-              markers = slice_set markers number self.new;
-              records = records.new.items;
-            }
-            ≡ after_step plan.now number
-            (record { words = words.old; markers = markers; records = records.old.items }) }
-        ensures room { vec_capacity records.old ≤ vec_capacity records.new }
-        ensures event { result ≡ event_by plan.now number words.old self.old.work }
-    {
-        let step = self.next_step();
-        match self.advance(plan, number, words, records) {
-            None => Event::Idle,
-            Some(answer) => self.event(number, step, answer),
         }
     }
 }

@@ -7,11 +7,11 @@ use Rattle.xbar_core.proofs.Kept.{kept_stepped, room_stepped}
 use Rattle.xbar_core.proofs.Stepping.{event_there, marker_read, step_whole}
 use Rattle.xbar_core.proofs.exchange.Exchange.step.Goals as goal
 
-pub step-requires-clause-room : goal.step-requires-clause-room
-step-requires-clause-room c =
+pub advance-answer-requires-clause-room : goal.advance-answer-requires-clause-room
+advance-answer-requires-clause-room c =
     let within : c.args.marker < length c.self.inside.markers.items = omega (arith, ap (λ (o : OfPlan). length o.exchange.markers) c.self.view_is) in
-    let there = marker_read c.self.inside.markers.items c.args.marker c.index_mut.result.now within c.index_mut.ensures.value in
-    let among = waits_among c.self.inside.markers.items c.args.marker c.index_mut.result.now there in
+    let there = marker_read c.self.inside.markers.items c.args.marker c.index_mut-own.result.now within c.index_mut-own.ensures.value in
+    let among = waits_among c.self.inside.markers.items c.args.marker c.index_mut-own.result.now there in
     omega (arith, among, c.self.invariant.1)
 
 pub invariant_of-self : goal.invariant_of-self
@@ -20,10 +20,10 @@ invariant_of-self c =
     let k = c.args.marker in
     let e : Exchange = record { words = c.self.inside.words.items; markers = c.self.inside.markers.items; records = c.self.inside.records.items } in
     let within : k < length e.markers = omega (arith, ap (λ (o : OfPlan). length o.exchange.markers) c.self.view_is) in
-    let there = marker_read e.markers k c.index_mut.result.now within c.index_mut.ensures.value in
-    let is = sym (step_whole plan e k c.self.inside.words.len _ _ _ _ c.as_mut_slice.ensures.value c.self.inside.words.ok.0 c.step.auto.words (c.step.ensures.step e.markers there)) in
-    let room : HasRoom (after_step plan k e) c.step.new.records.cap = omega (arith, room_stepped plan e k c.self.inside.records.cap c.self.invariant.1, c.step.ensures.room) in
-    (subst (IsExchange plan) is (kept_stepped plan c.every_plan_is_lawful.ensures e k c.self.invariant.0), subst (λ (x : Exchange). HasRoom x c.step.new.records.cap) is room)
+    let there = marker_read e.markers k c.index_mut-own.result.now within c.index_mut-own.ensures.value in
+    let is = sym (step_whole plan e k c.self.inside.words.len _ _ _ _ c.as_mut_slice-words.ensures.value c.self.inside.words.ok.0 c.advance-answer.auto.words (c.advance-answer.ensures.step e.markers there)) in
+    let room : HasRoom (after_step plan k e) c.advance-answer.new.records.cap = omega (arith, room_stepped plan e k c.self.inside.records.cap c.self.invariant.1, c.advance-answer.ensures.room) in
+    (subst (IsExchange plan) is (kept_stepped plan c.every_plan_is_lawful.ensures e k c.self.invariant.0), subst (λ (x : Exchange). HasRoom x c.advance-answer.new.records.cap) is room)
 
 pub returns-clause-step : goal.returns-clause-step
 returns-clause-step c =
@@ -31,8 +31,8 @@ returns-clause-step c =
     let k = c.args.marker in
     let e : Exchange = record { words = c.self.inside.words.items; markers = c.self.inside.markers.items; records = c.self.inside.records.items } in
     let within : k < length e.markers = omega (arith, ap (λ (o : OfPlan). length o.exchange.markers) c.self.view_is) in
-    let there = marker_read e.markers k c.index_mut.result.now within c.index_mut.ensures.value in
-    let is = step_whole plan e k c.self.inside.words.len _ _ _ _ c.as_mut_slice.ensures.value c.self.inside.words.ok.0 c.step.auto.words (c.step.ensures.step e.markers there) in
+    let there = marker_read e.markers k c.index_mut-own.result.now within c.index_mut-own.ensures.value in
+    let is = step_whole plan e k c.self.inside.words.len _ _ _ _ c.as_mut_slice-words.ensures.value c.self.inside.words.ok.0 c.advance-answer.auto.words (c.advance-answer.ensures.step e.markers there) in
     ap (λ (x : Exchange). record { plan = plan; exchange = x }) is ∙ ap (λ (o : OfPlan). record { plan = o.plan; exchange = after_step o.plan k o.exchange }) c.self.view_is
 
 pub returns-clause-event : goal.returns-clause-event
@@ -41,6 +41,6 @@ returns-clause-event c =
     let k = c.args.marker in
     let e : Exchange = record { words = c.self.inside.words.items; markers = c.self.inside.markers.items; records = c.self.inside.records.items } in
     let within : k < length e.markers = omega (arith, ap (λ (o : OfPlan). length o.exchange.markers) c.self.view_is) in
-    let m = c.index_mut.result.now in
-    let there = marker_read e.markers k m within c.index_mut.ensures.value in
-    c.step.ensures.event ∙ ap (λ words. event_by plan k words m.work) c.as_mut_slice.ensures.value ∙ event_there plan e k m there ∙ ap (λ (o : OfPlan). event_at_step o.plan k o.exchange) c.self.view_is
+    let m = c.index_mut-own.result.now in
+    let there = marker_read e.markers k m within c.index_mut-own.ensures.value in
+    c.event.ensures plan c.as_mut_slice-words.result.now m.work c.next_step-step.ensures c.advance-answer.ensures.answer ∙ ap (λ words. event_by plan k words m.work) c.as_mut_slice-words.ensures.value ∙ event_there plan e k m there ∙ ap (λ (o : OfPlan). event_at_step o.plan k o.exchange) c.self.view_is
