@@ -1,0 +1,16 @@
+use Rattle.std.proofs.Common.{refl, subst}
+use Rattle.std.proofs.lemmas.Option.{slice_get_read}
+use Rattle.std.specs.Prelude.{IfSome, Option}
+use denote.Param.Send.{sendable}
+use Rattle.xbar_fabric.specs.Views.{DeskView, IsDeskOf}
+use Rattle.xbar_fabric.proofs.Sent.{desk_send}
+use Rattle.benches.proofs.threads.office_work.work_all.Goals as goal
+
+pub map_vec-requires-send-J : goal.map_vec-requires-send-J
+map_vec-requires-send-J g c κs within = search (sendable, desk_send)
+
+pub map_vec-requires-after_bounds : goal.map_vec-requires-after_bounds
+map_vec-requires-after_bounds g c κs within i desk below there =
+    let opened = c.in-Ok in
+    subst (λ (found : Option DeskView). IfSome found (λ one. IsDeskOf one opened.fabric))
+    (slice_get_read opened.desks.items _ i desk refl below there) (opened.ensures.theirs i)

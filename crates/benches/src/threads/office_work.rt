@@ -1,0 +1,86 @@
+ghost use Rattle.xbar_fabric.specs.Views.{IsDeskOf};
+
+use super::tally::{State, Tally};
+use std::alloc::Global;
+use std::thread::Threads;
+use std::{io, thread};
+use xbar_fabric::{Desk, Fabric, Kind, Progress};
+use xbar_plan::Plan;
+
+/// More steps than a job has left that is past its turn.
+const MOST_STEPS_LEFT: u32 = 128;
+
+/// The desk's next step, or its next job. A desk that has waited long gives back what it holds, and
+/// lets other threads run.
+fn go_on(fabric: &Fabric, desk: &mut Desk, state: &mut State)
+    requires { IsDeskOf desk.old fabric.now }
+    ensures { IsDeskOf desk.new fabric.now }
+{
+    match desk.advance(fabric) {
+        Progress::Idle => {
+            let job = state.next_job(desk.marker());
+            let _assigned = desk.assign(0, job);
+            return;
+        }
+        Progress::Finished(_) => state.count_step(true),
+        Progress::Moved | Progress::Refused { .. } | Progress::Preferred(_) => {
+            state.count_step(false);
+        }
+    }
+    if state.gives_up() {
+        let _given = desk.give_back(fabric);
+        thread::yield_now();
+    }
+}
+
+/// The desk leaves no connector held, lest the others wait for it for ever.
+fn let_go(fabric: &Fabric, desk: &mut Desk)
+    requires { IsDeskOf desk.old fabric.now }
+{
+    let _given = desk.give_back(fabric);
+    for _made in 0..MOST_STEPS_LEFT {
+        if desk.is_idle() {
+            return;
+        }
+        let _event = desk.advance(fabric);
+    }
+    let _given = desk.give_back(fabric);
+}
+
+/// A desk goes on so many times.
+fn work(fabric: &Fabric, mut desk: Desk, times: u32) -> Tally
+    requires { IsDeskOf desk fabric.now }
+{
+    let mut state = State::default();
+    for _made in 0..times {
+        go_on(fabric, &mut desk, &mut state);
+    }
+    let_go(fabric, &mut desk);
+    state.tally
+}
+
+/// Desks of these kinds work on threads of their own, each going on so many times. Gives how much
+/// all have done.
+pub fn work_all<R: Threads + Sync>(
+    rt: &R,
+    alloc: Global,
+    plan: &Plan,
+    kinds: &[Kind],
+    times: u32,
+) -> io::Result<Tally> {
+    let Ok((fabric, desks)) = Fabric::open(alloc, plan, kinds) else {
+        return Ok(Tally::default());
+    };
+    let tallies = thread::map_vec(
+        rt,
+        desks,
+        &|desk: Desk| -> Tally
+            requires { IsDeskOf desk fabric }
+        { work(&fabric, desk, times) },
+    )?;
+    let mut all = Tally::default();
+    for tally in tallies {
+        all.add(tally);
+    }
+    Ok(all)
+}

@@ -1,5 +1,0 @@
-use Rattle.xbar_jobs.specs.Standing.{Stands}
-use Rattle.lone_marker.proofs.serve.Given as goal
-
-abbrev pub invariant-loop-made : goal.invariant-loop-made
-invariant-loop-made l = Stands l.plan l.program.attempt
