@@ -5,4 +5,5 @@ pub mod JobFields
 pub mod OneReading
 pub mod RecordCounts
 pub mod RowsSoFar
+pub mod StoodNumbers
 pub mod UnderWay

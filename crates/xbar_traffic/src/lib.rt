@@ -13,5 +13,6 @@ mod fields;
 pub mod laws;
 mod mode;
 mod number;
+mod numbers;
 mod row;
 mod traffic;

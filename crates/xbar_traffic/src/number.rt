@@ -1,7 +1,6 @@
-ghost use Rattle.std.specs.Prelude.{◌≡◌, ◌≤◌, ◌<◌, ◌^◌, ◌↔◌, ℕ, IsTrue, IfSome, Some, decimal, length};
+ghost use Rattle.std.specs.Prelude.{◌≡◌, ◌≤◌, ◌↔◌, ℕ, IsTrue, IfSome, Some, decimal};
+ghost use Rattle.std.specs.Str.Parse.{AllDigits, digits_value};
 ghost use Rattle.xbar_traffic.specs.Number.{BeginsPlainly};
-
-use std::str;
 
 /// The number from 0 to `limit` that a text writes in decimal digits, with no leading zero.
 pub fn read_number(text: &[u8], limit: u32) -> Option<u32>
@@ -12,29 +11,35 @@ pub fn read_number(text: &[u8], limit: u32) -> Option<u32>
     if !begins_plainly(text) {
         return None;
     }
-    let number = parse(text)?;
-    if number <= limit { Some(number) } else { None }
+    value(text, limit)
 }
 
-// `parse` of std would take a plus, and zeros before the first digit.
 fn begins_plainly(text: &[u8]) -> bool
     ensures { IsTrue result ↔ BeginsPlainly text.now }
 {
     match text {
-        [b'+', ..] => false,
+        [] => false,
         [b'0', rest @ ..] => rest.is_empty(),
         _ => true,
     }
 }
 
-fn parse(text: &[u8]) -> Option<u32>
-    requires { BeginsPlainly text.now }
-    ensures reads { (number : ℕ) → number < 2 ^ 32 → text.now ≡ decimal number →
-        result ≡ Some number }
-    ensures only { IfSome result (λ number. text.now ≡ decimal number) }
+/// The number up to `limit` that digits write.
+fn value(digits: &[u8], limit: u32) -> Option<u32>
+    ensures reads { AllDigits 10 digits.now → digits_value 10 digits.now ≤ limit →
+        result ≡ Some (digits_value 10 digits.now) }
+    ensures only { IfSome result (λ number. (number ≤ limit) × AllDigits 10 digits.now ×
+        (number ≡ digits_value 10 digits.now)) }
 {
-    match str::from_utf8(text) {
-        Ok(text) => text.parse().ok(),
-        Err(_) => None,
+    let mut number: u64 = 0;
+    for byte in digits {
+        if !byte.is_ascii_digit() {
+            return None;
+        }
+        number = 10 * number + u64::from(*byte - b'0');
+        if number > u64::from(limit) {
+            return None;
+        }
     }
+    Some(number as u32)
 }

@@ -1,16 +1,15 @@
 ghost use Rattle.std.specs.Prelude.{◌≡◌, ◌+◌, ◌||◌, ℕ, Ok, IfOk, true, option_map, vec_len};
-ghost use Rattle.std.specs.BTreeSet.{contains};
-ghost use Rattle.std.specs.Ordering.{nat_cmp};
 ghost use Rattle.csv.specs.Records.{fields_of};
 ghost use Rattle.csv.specs.Reading.{default_config, records, strip_bom, stops_reader, error_kind};
+ghost use Rattle.xbar_traffic.specs.Numbers.{stands};
 ghost use Rattle.xbar_traffic.specs.Traffic.{IsJudgedAs, IsTrafficOf, has_number};
 
 use crate::fault::{RowFault, TrafficFault};
 use crate::mode::Mode;
+use crate::numbers::Numbers;
 use crate::row::Row;
 use csv::{ByteRecord, Error, ErrorKind, ReaderBuilder};
 use std::alloc::{AllocError, Global};
-use std::collections::BTreeSet;
 
 /// The rows of traffic up to the first that is at fault by itself or by a number that stood before.
 #[derive(Debug, Drop)]
@@ -33,14 +32,14 @@ impl Traffic {
         // One record for all rows, so that a row takes no memory to be read.
         let mut record = ByteRecord::new(alloc);
         let mut rows = Vec::new(alloc);
-        let mut numbers = BTreeSet::new(alloc);
+        let mut numbers = Numbers::new(alloc)?;
         for _row in 0..u64::MAX {
             match reader.read_byte_record(&mut record) {
                 Ok(true) => {}
                 Ok(false) => return Ok(Traffic { rows, fault: None }),
                 Err(error) => return Err(want_of_memory(error)),
             }
-            match judge(mode, &record, &mut numbers)? {
+            match judge(mode, &record, &mut numbers) {
                 // `push` gets no proof where another crate's enum is in the item.
                 Ok(row) => rows.extend_from_slice(&[row])?,
                 Err(fault) => {
@@ -64,30 +63,21 @@ impl Traffic {
 }
 
 /// Reads a row, where these numbers of jobs or calls stood before, and adds its own to them.
-fn judge(
-    mode: Mode,
-    row: &ByteRecord,
-    numbers: &mut BTreeSet<u32>,
-) -> Result<Result<Row, RowFault>, AllocError>
-    ensures judged { IfOk result (λ judged. IsJudgedAs mode (contains nat_cmp numbers.old)
-        (fields_of row.now) judged) }
-    ensures numbers { IfOk result (λ judged. IfOk judged
-        (λ row. (number : ℕ) → contains nat_cmp numbers.new number ≡
-        (contains nat_cmp numbers.old number || has_number number row))) }
+fn judge(mode: Mode, row: &ByteRecord, numbers: &mut Numbers) -> Result<Row, RowFault>
+    ensures judged { IsJudgedAs mode (stands numbers.old) (fields_of row.now) result }
+    ensures numbers { IfOk result (λ row. (number : ℕ) → stands numbers.new number ≡
+        (stands numbers.old number || has_number number row)) }
 {
-    let row = match Row::read(mode, row) {
-        Ok(row) => row,
-        Err(fault) => return Ok(Err(fault)),
-    };
+    let row = Row::read(mode, row)?;
     let number = match row {
         Row::Assign { job_no, .. } => job_no,
-        Row::Steps { .. } => return Ok(Ok(row)),
+        Row::Steps { .. } => return Ok(row),
         Row::Call { call_no, .. } => call_no,
     };
-    if numbers.insert(number)? {
-        Ok(Ok(row))
+    if numbers.insert(number) {
+        Ok(row)
     } else {
-        Ok(Err(RowFault::NumberTwice))
+        Err(RowFault::NumberTwice)
     }
 }
 

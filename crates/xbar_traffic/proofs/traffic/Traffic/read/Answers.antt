@@ -1,9 +1,8 @@
-use Rattle.std.proofs.Common.{◌≡◌, ◌∙◌, ◌||◌, Ok, Err, sym, refl, ap, inr, true, rules, Bool}
-use Rattle.std.specs.BTreeSet.{contains}
-use Rattle.std.specs.Ordering.{nat_cmp}
+use Rattle.std.proofs.Common.{◌≡◌, ◌∙◌, ◌||◌, Ok, Err, sym, ap, inr, true, rules, Bool}
 use Rattle.std.specs.Result.{is_ok}
 use Rattle.csv.specs.Records.{fields_of}
 use Rattle.csv.specs.Reading.{strip_bom}
+use Rattle.xbar_traffic.specs.Numbers.{stands}
 use Rattle.xbar_traffic.specs.Traffic.{has_number, stands_in}
 use Rattle.xbar_traffic.proofs.RowsSoFar.{judged_by_same, stands_in-more}
 use Rattle.xbar_traffic.proofs.UnderWay.{begins, ends, goes_on, stops}
@@ -14,14 +13,14 @@ loop-row-init c =
     let from = c.from_reader-reader.ensures in
     let flexible = c.flexible.ensures in
     let named = c.has_headers.ensures in
-    rw (c.new-rows.ensures.items, c.new-numbers.ensures.empty) record {
+    rw c.new-rows.ensures.items record {
       reading = begins c.args.mode (strip_bom c.args.bytes.now) c.from_reader-reader.result
           (rw (flexible, named) at from.trim ∙ c.new.ensures.trim)
           (inr (inr (rw (flexible, named) at from.has_headers, from.headers)))
           (rw (flexible, named) at from.config ∙ c.new.ensures.config)
           (rw flexible at from.flexible)
           from.source from.state;
-      numbers = λ number. refl;
+      numbers = c.in_ok-numbers.ensures;
     }
 
 pub returns-in-Ok-false : goal.returns-in-Ok-false
@@ -30,26 +29,26 @@ returns-in-Ok-false c =
     let ended = rw c.in-Ok-false.field-0-test at (c.in-Ok-false.ensures.reads u.trim u.ready) in
     ends c.args.mode (strip_bom c.args.bytes.now) c.loop-row.reader c.read_byte_record.new.self c.loop-row.rows.items (fields_of c.read_byte_record.new.row) u ended
 
-pub returns-in-Err-2 : goal.returns-in-Err-2
-returns-in-Err-2 c =
+pub returns-in-Err-judge : goal.returns-in-Err-judge
+returns-in-Err-judge c =
     let u = c.loop-row.invariant.reading in
     let took = rw c.in-Ok-true.field-0-test at (c.in-Ok-true.ensures.reads u.trim u.ready) in
-    let judged = rw c.in-Err-2.is at c.in_ok-row.ensures.judged in
-    stops c.args.mode (strip_bom c.args.bytes.now) c.loop-row.reader c.read_byte_record.new.self c.loop-row.rows.items (fields_of c.read_byte_record.new.row) c.in-Err-2.fault u took
-    (judged_by_same c.args.mode (contains nat_cmp c.loop-row.numbers) (stands_in c.loop-row.rows.items) c.loop-row.invariant.numbers (fields_of c.read_byte_record.new.row) (Err c.in-Err-2.fault) judged)
+    let judged = rw c.in-Err-judge.is at c.judge.ensures.judged in
+    stops c.args.mode (strip_bom c.args.bytes.now) c.loop-row.reader c.read_byte_record.new.self c.loop-row.rows.items (fields_of c.read_byte_record.new.row) c.in-Err-judge.fault u took
+    (judged_by_same c.args.mode (stands c.loop-row.numbers) (stands_in c.loop-row.rows.items) c.loop-row.invariant.numbers (fields_of c.read_byte_record.new.row) (Err c.in-Err-judge.fault) judged)
 
 pub loop-row-preserved : goal.loop-row-preserved
 loop-row-preserved c =
     let u = c.loop-row.invariant.reading in
     let took = rw c.in-Ok-true.field-0-test at (c.in-Ok-true.ensures.reads u.trim u.ready) in
-    let judged = rw c.in-Ok.is at c.in_ok-row.ensures.judged in
-    let numbers = rw c.in-Ok.is at c.in_ok-row.ensures.numbers in
+    let judged = rw c.in-Ok.is at c.judge.ensures.judged in
+    let numbers = rw c.in-Ok.is at c.judge.ensures.numbers in
     let good : is_ok c.extend_from_slice.result ≡ true = search rules in
     let items = rw good at c.extend_from_slice.ensures.items in
     rw items record {
       reading = goes_on c.args.mode (strip_bom c.args.bytes.now) c.loop-row.reader c.read_byte_record.new.self c.loop-row.rows.items (fields_of c.read_byte_record.new.row) c.in-Ok.row u took
           (c.in-Ok-true.ensures.ready u.trim) c.in-Ok-true.ensures.flexible
-          (judged_by_same c.args.mode (contains nat_cmp c.loop-row.numbers) (stands_in c.loop-row.rows.items) c.loop-row.invariant.numbers (fields_of c.read_byte_record.new.row) (Ok c.in-Ok.row) judged);
+          (judged_by_same c.args.mode (stands c.loop-row.numbers) (stands_in c.loop-row.rows.items) c.loop-row.invariant.numbers (fields_of c.read_byte_record.new.row) (Ok c.in-Ok.row) judged);
       numbers = λ number. numbers number ∙ ap (λ (stood : Bool). stood || has_number number c.in-Ok.row) (c.loop-row.invariant.numbers number)
           ∙ sym (stands_in-more c.loop-row.rows.items c.in-Ok.row number);
     }
