@@ -21,6 +21,7 @@ use Rattle.xbar_markers.specs.Handing.{HasGiven, IsAtHand}
 use Rattle.xbar_markers.specs.Work as work
 use Rattle.xbar_markers.specs.Work.{IsDoing}
 use Rattle.xbar_markers.proofs.JobsInHand.{has_done, mine_at_end}
+use Rattle.xbar_markers.proofs.ToldRecords.{told_end}
 
 -- what begins by these begins by fewer
 begins_both : (one two three : List Record) → Begins one two → Begins two three → Begins one three
@@ -53,7 +54,7 @@ module _ (number : ℕ) (job : Job) (start : DeskView) where
       → IsAtHand start number job after told
   at_hand desk after None doing now step ends later = now
   at_hand desk after (Some r) doing now step ends later =
-      let advanced = subst (HasAdvanced desk after) step.told_is step.advanced in
+      let advanced = subst (HasAdvanced desk after) (told_end step.event r step.told_is) step.advanced in
       let ended = ends r advanced in
       let told = advanced.finished r refl in
       has_done number job start desk after r doing now told.0 told.1 ended (later r (mine_at_end number job start after r now ended))

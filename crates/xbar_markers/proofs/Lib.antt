@@ -15,6 +15,7 @@ pub mod StaffAgain
 pub mod StaffKinds
 pub mod Stayed
 pub mod TakenTasks
+pub mod ToldRecords
 pub mod Tones
 pub mod TurnOrder
 pub mod WholeHistory

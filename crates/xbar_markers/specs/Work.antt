@@ -1,12 +1,12 @@
 -- What desks have done between two moments.
-use Rattle.std.specs.Prelude.{◌≡◌, ℕ, ◌≤◌, ◌<◌, ◌^◌, Option, Some, IfSome, true, List, [], ◌∷◌, ◌++◌, All, length}
+use Rattle.std.specs.Prelude.{◌≡◌, ℕ, ◌≤◌, ◌<◌, ◌^◌, Option, Some, None, true, List, [], ◌∷◌, ◌++◌, All, length}
 use Rattle.fair_queue.specs.Items.{SameItems}
 use Rattle.desks.specs.Parts.{Begins}
 use Rattle.xbar_office.specs.declared.job.Job.{Job}
 use Rattle.xbar_office.specs.declared.reply.Record.{Record}
 use Rattle.xbar_core.specs.Exchange.{is_idle}
 use Rattle.xbar_core.specs.declared.event.Event.{Event}
-use Rattle.xbar_core.specs.declared.event.Event.TheVariants.{Finished}
+use Rattle.xbar_core.specs.declared.event.Event.TheVariants.{Idle, Moved, Refused, Preferred, Finished}
 use Rattle.xbar_fabric.specs.Advances.{HasAdvanced}
 use Rattle.xbar_core.specs.Kinds.{takes}
 use Rattle.xbar_fabric.specs.Histories.{job_at, turned_of}
@@ -56,9 +56,17 @@ pub record IsReady (desk : DeskView) (fabric : FabricView) : Type 0 where
   pub desk_of : IsDeskOf desk fabric
   pub idle : is_idle desk.work ≡ true
 
--- the desk advanced, and this record is what it was told, if its job ended
+-- the record of the job that ended, if one did
+abbrev pub record_told : Event → Option Record
+record_told (Finished r) = Some r
+record_told Idle = None
+record_told Moved = None
+record_told (Refused conn holder) = None
+record_told (Preferred other) = None
+
+-- the desk advanced, and told the record of its job where that ended, and none else
 pub record HasStepped (before after : DeskView) (told : Option Record) : Type 0 where
   pub event : Event
   pub advanced : HasAdvanced before after event
   pub same : after ≡ record before { work = after.work; seen = after.seen }
-  pub told_is : IfSome told (λ r. event ≡ Finished r)
+  pub told_is : told ≡ record_told event

@@ -3,6 +3,7 @@ use Rattle.xbar_fabric.specs.Advances.{HasAdvanced}
 use Rattle.xbar_fabric.specs.Views.{DeskView, mine}
 use Rattle.xbar_markers.specs.Work.{HasStepped}
 use Rattle.xbar_markers.proofs.JobsInHand.{assigned_now, goes_on, has_done, mine_at_end, stays_of}
+use Rattle.xbar_markers.proofs.ToldRecords.{told_end}
 use Rattle.xbar_markers.proofs.worker.Worker+Desk+G.do_job.Goals as goal
 
 pub loop-init : goal.loop-init
@@ -30,7 +31,7 @@ returns-in-Some-step g c =
     let after = c.step.new.self.desk in
     let r = c.in-Some-step.record in
     let step : HasStepped c.loop.self.desk c.step.new.self.desk (Some c.in-Some-step.record) = c.in-Some-step.ensures in
-    let advanced = subst (HasAdvanced c.loop.self.desk c.step.new.self.desk) step.told_is step.advanced in
+    let advanced = subst (HasAdvanced c.loop.self.desk c.step.new.self.desk) (told_end step.event r step.told_is) step.advanced in
     let doing = goes_on c.args.job_no c.args.job start desk after c.loop.invariant step.same step.advanced.grown
     (laws.advance desk after step.event (mine start) step.advanced c.loop.invariant.mine_are)
     (laws.job desk after step.event step.advanced) in
