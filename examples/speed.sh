@@ -23,6 +23,10 @@ jobs() {
 seq 1 9999 | awk '{ print "J,0," $1 ",D,3041"; print "S,0,96,," }' >"$folder/dials.csv"
 seq 1 9999 | awk '{ print "J,0," $1 "," ($1 % 2 ? "D" : "R") ",3041"; print "S,0,96,," }' >"$folder/tones.csv"
 for ((row = 0; row < 100000; row++)); do echo S,0,9999,,; done >"$folder/idle.csv"
+{
+    printf 'J,0,1,D,3041\nS,0,4,,\nJ,1,2,D,3052\n'
+    for ((row = 0; row < 200; row++)); do echo S,1,9999,,; done
+} >"$folder/wait.csv"
 jobs 2 >"$folder/calls.csv"
 jobs 48 >"$folder/calls48.csv"
 seq 0 9999 | awk '{ print "C," $1 "," $1 % 10 int($1 / 10) % 10 int($1 / 100) % 6 int($1 / 600) % 5 ",5551234,R" }' \
@@ -45,6 +49,7 @@ grep -m 1 "model name" /proc/cpuinfo || true
 measure dials.csv replay
 measure tones.csv replay
 measure idle.csv replay
+measure wait.csv replay
 measure calls.csv replay
 measure calls48.csv replay --markers "$(printf 'X%.0s' {1..48})"
 measure live.csv live
