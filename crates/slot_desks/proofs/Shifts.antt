@@ -3,6 +3,7 @@ use Rattle.std.proofs.Common.{◌≡◌, ℕ, ◌<◌, Bool, true, List, length,
 use Rattle.std.specs.List.{list_all}
 use Rattle.std.specs.Prelude.{Option, Some, None, IfSome, option_map, slice_get, slice_index_or}
 use Rattle.std.proofs.lemmas.Option.{slice_get-map, slice_get_read, slice_get_within, slice_get-get_or, get_or_from_slice_get}
+use Rattle.std.proofs.lemmas.List.Folds.{list_all-map}
 use Rattle.std.proofs.lemmas.List.Sums.{AllPass-from_list_all}
 use Rattle.desks.specs.Met.{AreIdle, IsIdleDesk}
 use Rattle.desks.specs.Views.{AreNew, DeskView, IsDeskOf, RoomView, new_desk}
@@ -44,3 +45,9 @@ all_idle room desks work all i = at (slice_get desks i) refl (work i) where
   at : (o : Option SlotDesk) → slice_get desks i ≡ o → IfSome o (λ desk. IsDeskOf desk room tt × (desk.number ≡ i)) → IfSome o (λ desk. IsIdleDesk slots room.table tt i desk)
   at None none here = tt
   at (Some desk) some here = record { number_is = here.1; table_is = here.0.table_is; setting_is = here.0.desk_is; idle = subst (λ (d : SlotDesk). is_free slots d.actor ≡ true) (get_or_from_slice_get desks i desk desk some) (AllPass-from_list_all (λ (d : SlotDesk). is_free slots d.actor) desks all i desk (slice_get_within desks i desk some)) }
+
+-- whether all shifts are free is whether all their desks are
+pub are_free : {Shift : Type 0} (desk_of : Shift → SlotDesk) (shifts : List Shift) (desks : List SlotDesk) (all : Bool) → desks ≡ map desk_of shifts → list_all (λ desk. is_free slots desk.actor) desks ≡ all → all ≡ list_all (λ shift. is_free slots (desk_of shift).actor) shifts
+are_free desk_of shifts desks all same free =
+    sym free ∙ ap (list_all (λ (desk : SlotDesk). is_free slots desk.actor)) same
+    ∙ list_all-map (λ (desk : SlotDesk). is_free slots desk.actor) desk_of shifts
