@@ -56,6 +56,7 @@ fn are_idle(desks: &[SlotDesk]) -> bool
 }
 
 /// The desks of shifts in their order, or None where one is still at a job.
+#[tactic(auto, using(crate::proofs::Shifts::all_idle))]
 pub fn idle_desks(
     alloc: Global,
     _room: &SlotRoom,
