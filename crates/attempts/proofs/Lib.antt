@@ -11,3 +11,5 @@ pub mod Beginning
 pub mod Giving
 pub mod Taken
 pub mod Counts
+pub mod LiveWalks
+pub mod LiveSteps
