@@ -1,23 +1,25 @@
 -- the steps that a walk makes itself are single steps of its actor
-use Rattle.std.proofs.Common.{◌≡◌, ◌<◌, ℕ, zero, suc, ◌+◌, ◌-◌, Bool, true, false, List, [], ◌∷◌, ◌++◌, length, refl, sym, ◌∙◌, ap, slice_set, slice_index, arith, inl, inr}
+use Rattle.std.proofs.Common.{subst, ◌≡◌, ◌<◌, ◌^◌, ℕ, zero, suc, ◌+◌, ◌-◌, Bool, true, false, List, [], ◌∷◌, ◌++◌, length, refl, sym, ◌∙◌, ap, slice_set, slice_index, arith, inl, inr}
 use Rattle.std.specs.Prelude.{Option, Some, None, ◌==◌, Result, Ok, Err, slice_get, if◌then◌else◌}
-use Rattle.std.proofs.lemmas.Bool.{eq-eqb}
+use Rattle.std.proofs.lemmas.Bool.{eq-eqb, eqb-true}
 use Rattle.std.proofs.lemmas.Option.{slice_get_cases, get_or_from_slice_get}
-use Rattle.turns.specs.Attempt.{AttemptOf, change, goes_on, unless_put_off, walks_on}
+use Rattle.turns.specs.Attempt.{Act, Ask, AttemptOf, IsAnswerTo, Take, change, goes_on, unless_put_off, walks_on}
 use Rattle.turns.specs.Script.{Script, Ends, TestThen, SeizeThen, is_held, value_read, left, left_of_test, left_of_seizing, first_wanted, walk}
 use Rattle.turns.specs.Seen.{Seen}
 use Rattle.turns.specs.Sharing.{IsSharing, IsUnused, with_request}
-use Rattle.turns.specs.System.{System}
+use Rattle.turns.specs.System.{AreWords, System}
+use Rattle.turns.specs.declared.answer.Answer.{Answer}
 use Rattle.turns.specs.declared.judgement.Judgement.{Judgement}
+use Rattle.turns.specs.declared.judgement.Judgement.TheVariants as judgement
 use Rattle.turns.specs.declared.judgement.Judgement.TheVariants.{Free}
 use Rattle.turns.specs.declared.answer.Answer.TheVariants.{Again, Asked, Seized, Value}
 use Rattle.turns.specs.declared.phase.Phase.{Phase}
 use Rattle.turns.specs.declared.phase.Phase.TheVariants.{Requests, Seizes, Tests}
 use Rattle.turns.specs.declared.wanted.Wanted.{Wanted}
 use Rattle.turns.specs.declared.wanted.Wanted.TheVariants.{Seize, Test}
-use Rattle.turns.proofs.Lists.{index_same, set_idle}
+use Rattle.turns.proofs.Lists.{index_other, index_same, set_idle}
 use Rattle.turns.proofs.Room.{Grows, held_last}
-use Rattle.attempts.specs.Live.{Course, Comes, Moment, IsMade, gone_on_by, stepped, stepped_by, with_reading, with_lock, read_at_once, may_seize, is_free, live_test, live_seize, live}
+use Rattle.attempts.specs.Live.{Course, Comes, Moment, IsMade, LeadsTo, gone_on_by, stepped, stepped_by, with_reading, with_lock, read_at_once, may_seize, is_free, live_test, live_seize, live}
 use Rattle.attempts.proofs.LiveWalks.{read_new, grows_reading, grows_lock}
 
 -- a word that is there is what is found at its place
@@ -118,16 +120,44 @@ module _ (O : System) (self : (lock : O.Lock) → O.same lock lock ≡ true) (re
   goes_on_from a phase (Err (Seize lock)) = refl
   goes_on_from a phase (Err (Test word)) = refl
 
+  abbrev IsAnswerHere : Act Lock O.Effect → Answer → Type 0
+  IsAnswerHere step answer = IsAnswerTo step answer
+
+  -- what is told of a request, and of a seizing, is of its kind
+  asked_answer : (lock : Lock) (answer : Answer) → IsAnswerHere (Ask lock) answer → (judgement : Judgement) → IsAnswerHere (Ask lock) (unless_put_off answer judgement)
+  asked_answer lock answer is judgement.Free = is
+  asked_answer lock answer is (judgement.Held holder) = tt
+  asked_answer lock answer is (judgement.Preferred other) = tt
+
+  taken_answer : (lock : Lock) (expected found : ℕ) (as_expected : Bool) (judgement : Judgement) → IsAnswerHere (Take lock expected) (if as_expected then Seized else unless_put_off (Again found) judgement)
+  taken_answer lock expected found true judgement = tt
+  taken_answer lock expected found false judgement.Free = tt
+  taken_answer lock expected found false (judgement.Held holder) = tt
+  taken_answer lock expected found false (judgement.Preferred other) = tt
+
+  -- words stay words where one of them is set to one
+  words_set : (words : List ℕ) (at value : ℕ) → AreWords words → at < length words → value < 2 ^ 64 → AreWords (slice_set words at value)
+  words_set words at value are there below n = by (n == at) refl where
+    by : (b : Bool) → (n == at) ≡ b → slice_index (slice_set words at value) n < 2 ^ 64
+    by true e = subst (λ (v : ℕ). v < 2 ^ 64) (sym (ap (slice_index (slice_set words at value)) (eqb-true n at e) ∙ index_same words at value there)) below
+    by false e = subst (λ (v : ℕ). v < 2 ^ 64) (sym (index_other words at n value (λ same. (let yes : (n == at) ≡ true = eq-eqb n at same in absurd cc)))) (are n)
+
   -- this script is what is left of a job with what has been come by
   abbrev pub IsRest : AttemptOf O → Script Lock Decision → Seen Lock → Type 0
   IsRest a script seen = (more : Seen Lock) → Grows O.same self seen more → walk O.same more (O.script a.job) ≡ walk O.same more script
 
+  -- steps through a script are steps
+  pub leads_by : (count : ℕ) (m last : Moment O) → LeadsTo O k count m last → stepped_by O k count m ≡ last
+  unfolding LeadsTo stepped_by
+  leads_by zero m last leads = leads
+  leads_by (suc count) m last leads = leads_by count (stepped O k m) last leads.1.1
+
   -- the steps that a walk makes itself, from where an attempt stands at what it wants, are single steps of actor k
-  pub live_steps : (a : AttemptOf O) (script : Script Lock Decision) (course : Course Lock) (words : List ℕ) → course.hold ≡ hold → IsRest a script course.seen → IsMade O k a course words (walk O.same course.seen script) (plain script course words)
-  unfolding live live_test live_seize walk left left_of_test left_of_seizing first_wanted stepped_by
-  live_steps a (Ends found) course words holds rest = record { made = 0; left = omega arith; steps = refl }
-  live_steps a (TestThen word script) course words holds rest =
-      at (value_read course.seen.readings word) (read_at_once course.left (reads - length course.seen.readings) words word) refl refl (λ value more. live_steps a (script value) more words) where
+  pub live_steps : (a : AttemptOf O) (script : Script Lock Decision) (course : Course Lock) (words : List ℕ) → AreWords words → hold < 2 ^ 64 → course.hold ≡ hold → IsRest a script course.seen → IsMade O k a course words (walk O.same course.seen script) (plain script course words)
+  unfolding live live_test live_seize walk left left_of_test left_of_seizing first_wanted LeadsTo
+  live_steps a (Ends found) course words are below holds rest = record { made = 0; left = omega arith; steps = refl }
+  live_steps a (TestThen word script) course words are below holds rest =
+      at (value_read course.seen.readings word) (read_at_once course.left (reads - length course.seen.readings) words word) refl refl (λ value more. live_steps a (script value) more words are below) where
         at : (read now : Option ℕ) → value_read course.seen.readings word ≡ read → read_at_once course.left (reads - length course.seen.readings) words word ≡ now
             → ((value : ℕ) (more : Course Lock) → more.hold ≡ hold → IsRest a (script value) more.seen → IsMade O k a more words (walk O.same more.seen (script value)) (plain (script value) more words))
             → IsMade O k a course words (first_wanted (left_of_test script (λ value. left O.same course.seen (script value)) word read)) (live_test O.same O.lock_word reads seizes (λ word value. value) (λ value. plain (script value)) word course words read now)
@@ -136,10 +166,13 @@ module _ (O : System) (self : (lock : O.Lock) → O.same lock lock ≡ true) (re
         at None (Some value) is there later = record {
           made = suc (made_later.made);
           left = (let above : 0 < course.left = (read_there course.left (reads - length course.seen.readings) words word value there).0 in let then_left : course.left - 1 ≡ made_later.made + (plain (script value) more words).course.left = made_later.left in omega arith);
-          steps = ap (stepped_by O k made_later.made) one ∙ made_later.steps;
+          steps = (tt, (are word, subst (λ (m : Moment O). LeadsTo O k made_later.made m last) (sym one) made_later.steps));
         } where
           more : Course Lock
           more = with_reading course word value
+
+          last : Moment O
+          last = record { attempt = gone_on_by O a (plain (script value) more words).course (plain (script value) more words).found; words = (plain (script value) more words).words }
 
           goes : (further : Seen Lock) → Grows O.same self more.seen further → walk O.same further (O.script a.job) ≡ walk O.same further (script value)
           goes further grows = rest further (record {
@@ -159,17 +192,17 @@ module _ (O : System) (self : (lock : O.Lock) → O.same lock lock ≡ true) (re
           one : stepped O k (record { attempt = record b { phase = Tests word }; words = words }) ≡ record { attempt = gone_on_by O a more (walk O.same more.seen (script value)); words = words }
           one = looks b word value words (found_there words word value ((read_there course.left (reads - length course.seen.readings) words word value there).1)).1
               ∙ ap (λ (x : AttemptOf O). record { attempt = x; words = words }) (ap (goes_on O c) (goes more.seen (record { held = λ lock held. held; readings = λ w v read. read })) ∙ goes_on_from (record a { held = more.seen.held; readings = more.seen.readings }) (Tests word) (walk O.same more.seen (script value)))
-  live_steps a (SeizeThen lock script) course words holds rest =
-      at (is_held O.same course.seen.held lock) (may_seize course.left (seizes - length course.seen.held) (slice_get words (O.lock_word lock))) refl refl (λ more after. live_steps a script more after) where
+  live_steps a (SeizeThen lock script) course words are below holds rest =
+      at (is_held O.same course.seen.held lock) (may_seize course.left (seizes - length course.seen.held) (slice_get words (O.lock_word lock))) refl refl (λ more after all. live_steps a script more after all below) where
         at : (held now : Bool) → is_held O.same course.seen.held lock ≡ held → may_seize course.left (seizes - length course.seen.held) (slice_get words (O.lock_word lock)) ≡ now
-            → ((more : Course Lock) (after : List ℕ) → more.hold ≡ hold → IsRest a script more.seen → IsMade O k a more after (walk O.same more.seen script) (plain script more after))
+            → ((more : Course Lock) (after : List ℕ) → AreWords after → more.hold ≡ hold → IsRest a script more.seen → IsMade O k a more after (walk O.same more.seen script) (plain script more after))
             → IsMade O k a course words (first_wanted (left_of_seizing script (left O.same course.seen script) lock held)) (live_seize O.same O.lock_word reads seizes (λ word value. value) (plain script) lock course words held now)
-        at true now is there later = later course words holds (λ more grows. rest more grows ∙ rw (grows.held lock is) refl)
+        at true now is there later = later course words are holds (λ more grows. rest more grows ∙ rw (grows.held lock is) refl)
         at false false is there later = record { made = 0; left = omega arith; steps = refl }
         at false true is there later = record {
           made = suc (suc (made_later.made));
           left = (let above : 1 < course.left = (seized_there course.left (seizes - length course.seen.held) (slice_get words (O.lock_word lock)) there).0 in let then_left : course.left - 2 ≡ made_later.made + (plain script more after).course.left = made_later.left in omega arith);
-          steps = ap (λ (m : Moment O). stepped_by O k made_later.made (stepped O k m)) asking ∙ ap (stepped_by O k made_later.made) taking ∙ made_later.steps;
+          steps = (tt, (asked_answer lock (Asked (with_request O.sharing k (slice_index words (O.lock_word lock)))) tt (O.sharing.judged k (with_request O.sharing k (slice_index words (O.lock_word lock)))), subst (λ (m : Moment O). LeadsTo O k (suc (made_later.made)) m last) (sym asking) (tt, (taken_answer lock asked between (between == asked) (O.sharing.judged k between), subst (λ (m : Moment O). LeadsTo O k made_later.made m last) (sym taking) made_later.steps))));
         } where
           more : Course Lock
           more = with_lock course lock
@@ -177,14 +210,20 @@ module _ (O : System) (self : (lock : O.Lock) → O.same lock lock ≡ true) (re
           after : List ℕ
           after = slice_set words (O.lock_word lock) course.hold
 
+          last : Moment O
+          last = record { attempt = gone_on_by O a (plain script more after).course (plain script more after).found; words = (plain script more after).words }
+
           goes : (further : Seen Lock) → Grows O.same self more.seen further → walk O.same further (O.script a.job) ≡ walk O.same further script
           goes further grows = rest further (record {
             held = λ l held. grows.held l ((grows_lock O.same self O.lock_word reads seizes course lock).held l held);
             readings = λ w v read. grows.readings w v read;
           }) ∙ rw (grows.held lock (held_last O.same self course.seen.held lock)) refl
 
+          found : (O.lock_word lock < length words) × (slice_index words (O.lock_word lock) ≡ 0)
+          found = found_there words (O.lock_word lock) 0 ((seized_there course.left (seizes - length course.seen.held) (slice_get words (O.lock_word lock)) there).1)
+
           made_later : IsMade O k a more after (walk O.same more.seen script) (plain script more after)
-          made_later = later more after holds goes
+          made_later = later more after (words_set words (O.lock_word lock) course.hold are found.0 (subst (λ (v : ℕ). v < 2 ^ 64) (sym holds) below)) holds goes
 
           b : AttemptOf O
           b = record a { held = course.seen.held; readings = course.seen.readings }
@@ -192,8 +231,8 @@ module _ (O : System) (self : (lock : O.Lock) → O.same lock lock ≡ true) (re
           c : AttemptOf O
           c = record b { held = course.seen.held ++ lock ∷ []; phase = Seizes lock asked }
 
-          found : (O.lock_word lock < length words) × (slice_index words (O.lock_word lock) ≡ 0)
-          found = found_there words (O.lock_word lock) 0 ((seized_there course.left (seizes - length course.seen.held) (slice_get words (O.lock_word lock)) there).1)
+          between : ℕ
+          between = slice_index (slice_set words (O.lock_word lock) asked) (O.lock_word lock)
 
           asking : stepped O k (record { attempt = record b { phase = Requests lock }; words = words }) ≡ record { attempt = record b { phase = Seizes lock asked }; words = slice_set words (O.lock_word lock) asked }
           asking = asks b lock words found.1

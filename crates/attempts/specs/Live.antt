@@ -1,10 +1,11 @@
 -- walks that go on by steps of their own, while nobody else makes any
-use Rattle.std.specs.Prelude.{◌≡◌, ℕ, zero, suc, ◌+◌, ◌-◌, Bool, true, false, Option, Some, None, List, [], ◌∷◌, ◌++◌, Result, Ok, Err, length, slice_get, slice_index, slice_set}
-use Rattle.turns.specs.Attempt.{AttemptOf, act, goes_on, next}
+use Rattle.std.specs.Prelude.{◌≡◌, ℕ, zero, suc, ◌+◌, ◌-◌, Bool, true, false, Option, Some, None, List, [], ◌∷◌, ◌++◌, Result, Ok, Err, length, slice_get, slice_index, slice_set, ⊤}
+use Rattle.turns.specs.Attempt.{Act, Ask, AttemptOf, Free, Leave, Look, Make, Rest, Take, Turn, IsAnswerTo, act, answer_to, goes_on, next}
 use Rattle.turns.specs.Script.{Script, Ends, TestThen, SeizeThen, is_held, value_read}
 use Rattle.turns.specs.Seen.{Seen}
 use Rattle.turns.specs.System.{System}
 use Rattle.turns.specs.World.{becomes, place}
+use Rattle.turns.specs.declared.answer.Answer.{Answer}
 use Rattle.turns.specs.declared.wanted.Wanted.{Wanted}
 use Rattle.turns.specs.declared.wanted.Wanted.TheVariants.{Seize, Test}
 
@@ -93,12 +94,32 @@ module _ (O : System) where
   stepped_by k zero m = m
   stepped_by k (suc count) m = stepped_by k count (stepped k m)
 
+  -- a step of an attempt that goes through its script: a request, a seizing or a test
+  abbrev pub IsOfScript : Act Lock O.Effect → Type 0
+  IsOfScript (Ask lock) = ⊤
+  IsOfScript (Take lock expected) = ⊤
+  IsOfScript (Look word) = ⊤
+  IsOfScript Rest = ⊥
+  IsOfScript (Leave lock) = ⊥
+  IsOfScript (Free lock) = ⊥
+  IsOfScript Turn = ⊥
+  IsOfScript (Make effect) = ⊥
+
+  -- what actor k is told of its next step
+  abbrev pub told : ℕ → Moment → Answer
+  told k m = answer_to O k (act m.attempt) (slice_index m.words (place O (act m.attempt)))
+
+  -- so many steps of actor k through its script lead from the one moment to the other, each answered in kind
+  unfoldable pub LeadsTo : ℕ → ℕ → Moment → Moment → Type 0
+  LeadsTo k zero m last = m ≡ last
+  LeadsTo k (suc count) m last = IsOfScript (act m.attempt) × (IsAnswerTo (act m.attempt) (told k m) × LeadsTo k count (stepped k m) last)
+
   -- an attempt at its script, by what it has come by and what its walk came to
   abbrev pub gone_on_by : AttemptOf O → Course Lock → Result Decision (Wanted Lock ℕ) → AttemptOf O
   gone_on_by a course found = goes_on O (record a { held = course.seen.held; readings = course.seen.readings }) found
 
-  -- the steps that a walk made itself are so many of the actor's steps, and bring its attempt to where the walk came to
+  -- the steps that a walk made itself are so many steps of actor k through its script, from where its attempt stood at what was wanted to where the walk came to
   pub record IsMade (k : ℕ) (a : AttemptOf O) (course : Course Lock) (words : List ℕ) (found : Result Decision (Wanted Lock ℕ)) (comes : Comes Lock Decision) : Type 0 where
     pub made : ℕ
     pub left : course.left ≡ made + comes.course.left
-    pub steps : stepped_by k made (record { attempt = gone_on_by a course found; words = words }) ≡ record { attempt = gone_on_by a comes.course comes.found; words = comes.words }
+    pub steps : LeadsTo k made (record { attempt = gone_on_by a course found; words = words }) (record { attempt = gone_on_by a comes.course comes.found; words = comes.words })
