@@ -13,3 +13,4 @@ pub mod Taken
 pub mod Counts
 pub mod LiveWalks
 pub mod LiveSteps
+pub mod LiveStands

@@ -2,7 +2,7 @@
 use Rattle.std.proofs.Common.{◌≡◌, ℕ, zero, suc, Bool, true, false, List, [], ◌∷◌, ◌++◌, ◌-◌, length, refl, ◌∙◌, ap, slice_set}
 use Rattle.std.specs.Prelude.{Option, Some, None, ◌==◌, Result, Ok, Err, find, option_map, slice_get, if◌then◌else◌}
 use Rattle.std.proofs.lemmas.Bool.{eq-eqb}
-use Rattle.turns.specs.Script.{Script, Ends, TestThen, SeizeThen, ◌>>=◌, read_with, is_held, value_read, left, left_of_test, left_of_seizing, first_wanted, walk}
+use Rattle.turns.specs.Script.{Script, Ends, TestThen, SeizeThen, ◌>>=◌, test, read_with, is_held, value_read, left, left_of_test, left_of_seizing, first_wanted, walk}
 use Rattle.turns.specs.Seen.{Seen}
 use Rattle.turns.specs.declared.reading.Reading.{Reading}
 use Rattle.turns.specs.declared.wanted.Wanted.{Wanted}
@@ -50,6 +50,16 @@ module _ {Lock : Type 0} (same : Lock → Lock → Bool) (lock_word : Lock → �
         at true now later = later course words
         at false true later = later (with_lock course lock) (slice_set words (lock_word lock) course.hold)
         at false false later = refl
+
+  -- a test that goes on by what something makes of its value
+  pub live_test_with : (word : ℕ) (course : Course Lock) (words : List ℕ) → live same lock_word reads seizes change (test word) course words ≡ then_on (live same lock_word reads seizes (λ word value. value) (test word) course words) (λ value more after. record { found = Ok (change word value); course = more; words = after })
+  unfolding live live_test
+  live_test_with word course words = at (value_read course.seen.readings word) (read_at_once course.left (reads - length course.seen.readings) words word) where
+    at : (read now : Option ℕ) → live_test same lock_word reads seizes change (λ value. live same lock_word reads seizes change (Ends value)) word course words read now
+        ≡ then_on (live_test same lock_word reads seizes (λ word value. value) (λ value. live same lock_word reads seizes (λ word value. value) (Ends value)) word course words read now) (λ value more after. record { found = Ok (change word value); course = more; words = after })
+    at (Some value) now = refl
+    at None (Some value) = refl
+    at None None = refl
 
   -- to go on by values that something makes is to go through the script that does so
   pub live_read_with : {A : Type 0} (script : Script Lock A) (course : Course Lock) (words : List ℕ) → live same lock_word reads seizes change script course words ≡ live same lock_word reads seizes (λ word value. value) (read_with change script) course words
