@@ -1,8 +1,8 @@
 -- what is seen as effects will leave it
 use Rattle.std.proofs.Common.{◌≡◌, ℕ, Bool, List, [], refl, sym, ◌∙◌, ap}
-use Rattle.std.specs.Prelude.{Result, Ok, Err}
+use Rattle.std.specs.Prelude.{Result, Ok}
 use mathlib.Core.Path.{fun_ext}
-use Rattle.turns.specs.Script.{Ends, TestThen, test}
+use Rattle.turns.specs.Script.{Ends, TestThen}
 use Rattle.attempts.specs.Live.{live as live_by}
 use Rattle.attempts.proofs.LiveWalks.{live_test_with, then_on}
 use Rattle.xbar_equip.specs.Conn.{conn_eq}

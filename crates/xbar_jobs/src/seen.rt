@@ -23,9 +23,9 @@ pub fn require_held(seen: &mut Seen, words: &mut [u64], conn: Conn) -> Result<()
 }
 
 /// Goes on with the word's value where it was read, or can be read at once.
-pub fn read(seen: &mut Seen, words: &mut [u64], word: WordNo) -> Result<u64, Wanted>
-    ensures { record { found = result; course = seen.new; words = words.new }
-        ≡ live [] (TestThen word Ends) seen.old words.old }
+pub fn read(seen: &mut Seen, words: &[u64], word: WordNo) -> Result<u64, Wanted>
+    ensures { record { found = result; course = seen.new; words = words.now }
+        ≡ live [] (TestThen word Ends) seen.old words.now }
 {
     seen.test(usize::from(word.number()), words)
 }
@@ -34,13 +34,13 @@ pub fn read(seen: &mut Seen, words: &mut [u64], word: WordNo) -> Result<u64, Wan
 #[inline(always)]
 pub fn value_of(
     seen: &mut Seen,
-    words: &mut [u64],
+    words: &[u64],
     made: &[Effect],
     word: WordNo,
 ) -> Result<u64, Wanted>
     requires { AreEffects made.now }
-    ensures { record { found = result; course = seen.new; words = words.new }
-        ≡ live made.now (TestThen word Ends) seen.old words.old }
+    ensures { record { found = result; course = seen.new; words = words.now }
+        ≡ live made.now (TestThen word Ends) seen.old words.now }
 {
     match read(seen, words, word) {
         Ok(value) => Ok(made_by(made, word, value)),

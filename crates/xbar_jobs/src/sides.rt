@@ -50,14 +50,14 @@ impl Model for Sides {
 #[tactic(auto, using(attempts::proofs::LiveWalks::live_bind), unfolding(crate::specs::Sides::test_junctors))]
 fn test_junctors(
     seen: &mut Seen,
-    words: &mut [u64],
+    words: &[u64],
     made: &[Effect],
     frame: u8,
 ) -> Result<[u64; 10], Wanted>
     requires made { AreEffects made.now }
     requires frame { frame < 10 }
-    ensures { record { found = result; course = seen.new; words = words.new }
-        ≡ live made.now (junctors_script frame 0 10) seen.old words.old }
+    ensures { record { found = result; course = seen.new; words = words.now }
+        ≡ live made.now (junctors_script frame 0 10) seen.old words.now }
 {
     let mut row = [0; 10];
     for channel in 0..10 {
@@ -96,15 +96,10 @@ impl Side {
     ghost use Rattle.xbar_jobs.specs.Sides.{side_after};
 
     #[tactic(auto, using(attempts::proofs::LiveWalks::live_bind, attempts::proofs::LiveWalks::live_end), unfolding(crate::specs::Sides::test_side))]
-    fn test(
-        seen: &mut Seen,
-        words: &mut [u64],
-        made: &[Effect],
-        party: &Party,
-    ) -> Result<Side, Wanted>
+    fn test(seen: &mut Seen, words: &[u64], made: &[Effect], party: &Party) -> Result<Side, Wanted>
         requires made { AreEffects made.now }
-        ensures { record { found = result; course = seen.new; words = words.new }
-            ≡ live made.now (test_side_script party.now) seen.old words.old }
+        ensures { record { found = result; course = seen.new; words = words.now }
+            ≡ live made.now (test_side_script party.now) seen.old words.now }
     {
         let junctors = test_junctors(seen, words, made, party.line.frame())?;
         Ok(Side {
@@ -150,13 +145,13 @@ impl Side {
 #[tactic(auto, using(attempts::proofs::LiveWalks::live_bind, attempts::proofs::LiveWalks::live_end), unfolding(crate::specs::Sides::test_called))]
 fn test_called(
     seen: &mut Seen,
-    words: &mut [u64],
+    words: &[u64],
     made: &[Effect],
     party: &Option<Party>,
 ) -> Result<Option<Side>, Wanted>
     requires made { AreEffects made.now }
-    ensures { record { found = result; course = seen.new; words = words.new }
-        ≡ live made.now (test_called_script party.now) seen.old words.old }
+    ensures { record { found = result; course = seen.new; words = words.now }
+        ≡ live made.now (test_called_script party.now) seen.old words.now }
 {
     match party {
         None => Ok(None),
@@ -197,13 +192,13 @@ impl Sides {
     #[tactic(auto, using(attempts::proofs::LiveWalks::live_bind, attempts::proofs::LiveWalks::live_end), unfolding(crate::specs::Sides::test_sides))]
     pub fn test(
         seen: &mut Seen,
-        words: &mut [u64],
+        words: &[u64],
         made: &[Effect],
         parties: &CallParties,
     ) -> Result<Sides, Wanted>
         requires made { AreEffects made.now }
-        ensures { record { found = result; course = seen.new; words = words.new }
-            ≡ live made.now (test_sides_script parties.now) seen.old words.old }
+        ensures { record { found = result; course = seen.new; words = words.now }
+            ≡ live made.now (test_sides_script parties.now) seen.old words.now }
     {
         let calling = Side::test(seen, words, made, &parties.calling)?;
         let called = test_called(seen, words, made, &parties.called)?;

@@ -36,7 +36,7 @@ pub fn approach(
 #[tactic(auto, using(attempts::proofs::LiveWalks::live_bind, attempts::proofs::LiveWalks::live_end), unfolding(crate::specs::Tracing::trace_at))]
 fn trace_at(
     seen: &mut Seen,
-    words: &mut [u64],
+    words: &[u64],
     line: Len,
     channel: u8,
     frame: u8,
@@ -45,8 +45,8 @@ fn trace_at(
     requires channel { channel < 10 }
     requires frame { frame < 10 }
     requires switch { IfSome switch (λ s. s < 10) }
-    ensures { record { found = result; course = seen.new; words = words.new }
-        ≡ live [] (trace_at_script line channel frame switch) seen.old words.old }
+    ensures { record { found = result; course = seen.new; words = words.now }
+        ≡ live [] (trace_at_script line channel frame switch) seen.old words.now }
 {
     let Some(switch) = switch else {
         return Ok(None);
@@ -121,7 +121,7 @@ pub fn trace(seen: &mut Seen, words: &mut [u64], party: &Party) -> Result<Option
 #[tactic(auto, using(attempts::proofs::LiveWalks::live_bind, attempts::proofs::LiveWalks::live_end), unfolding(crate::specs::Tracing::trace_back_at))]
 fn trace_back_at(
     seen: &mut Seen,
-    words: &mut [u64],
+    words: &[u64],
     place: Ten,
     channel: u8,
     frame: u8,
@@ -130,8 +130,8 @@ fn trace_back_at(
     requires channel { channel < 10 }
     requires frame { frame < 10 }
     requires switch { IfSome switch (λ s. s < 10) }
-    ensures { record { found = result; course = seen.new; words = words.new }
-        ≡ live [] (trace_back_at_script place channel frame switch) seen.old words.old }
+    ensures { record { found = result; course = seen.new; words = words.now }
+        ≡ live [] (trace_back_at_script place channel frame switch) seen.old words.now }
 {
     let Some(switch) = switch else {
         return Ok(None);

@@ -44,13 +44,13 @@ pub struct Trunk {
 #[tactic(auto, using(attempts::proofs::LiveWalks::live_bind, attempts::proofs::LiveWalks::live_end), unfolding(crate::specs::Sides::test_place))]
 fn test_place(
     seen: &mut Seen,
-    words: &mut [u64],
+    words: &[u64],
     made: &[Effect],
     place: Ten,
 ) -> Result<Reached, Wanted>
     requires made { AreEffects made.now }
-    ensures { record { found = result; course = seen.new; words = words.new }
-        ≡ live made.now (test_place_script place) seen.old words.old }
+    ensures { record { found = result; course = seen.new; words = words.now }
+        ≡ live made.now (test_place_script place) seen.old words.now }
 {
     let word = value_of(
         seen,
@@ -64,13 +64,13 @@ fn test_place(
 #[tactic(auto, using(attempts::proofs::LiveWalks::live_bind, attempts::proofs::LiveWalks::live_end), unfolding(crate::specs::Sides::test_second))]
 fn test_second(
     seen: &mut Seen,
-    words: &mut [u64],
+    words: &[u64],
     made: &[Effect],
     place: Option<Ten>,
 ) -> Result<Option<Reached>, Wanted>
     requires made { AreEffects made.now }
-    ensures { record { found = result; course = seen.new; words = words.new }
-        ≡ live made.now (test_second_script place) seen.old words.old }
+    ensures { record { found = result; course = seen.new; words = words.now }
+        ≡ live made.now (test_second_script place) seen.old words.now }
 {
     match place {
         None => Ok(None),

@@ -37,9 +37,9 @@ returns-in_err-word-clause-walk c =
     let group = slice_index c.args.groups.now c.loop-group.group-index in
     let own = came c.args.made.now (seize (Group group)) c.loop-group.seen c.require_held.new.seen c.loop-group.words c.require_held.new.words c.require_held.result (Ok tt) (c.require_held.ensures c.args.made.now) c.in_ok-require_held.was in
     let tests = c.value_of.ensures ∙ ap (λ (number : ℕ). live c.args.made.now (TestThen number Ends) c.require_held.new.seen c.require_held.new.words) c.group_word.ensures in
-    let stops = came c.args.made.now (test (GroupWord group)) c.require_held.new.seen c.value_of.new.seen c.require_held.new.words c.value_of.new.words c.value_of.result (Err c.in_err-word.field-0.0) tests c.in_err-word.was in
-    ap (λ (r : Result (Option IdleGroup) Wanted). comes r c.value_of.new.seen c.value_of.new.words) wanted
-    ∙ sym (testing_stops c.args.plan.now c.args.made.now c.args.groups.now c.loop-group.group-index c.loop-group-test.true c.loop-group.seen c.loop-group.words tt c.require_held.new.seen c.require_held.new.words own _ c.value_of.new.seen c.value_of.new.words stops)
+    let stops = came c.args.made.now (test (GroupWord group)) c.require_held.new.seen c.value_of.new.seen c.require_held.new.words c.require_held.new.words c.value_of.result (Err c.in_err-word.field-0.0) tests c.in_err-word.was in
+    ap (λ (r : Result (Option IdleGroup) Wanted). comes r c.value_of.new.seen c.require_held.new.words) wanted
+    ∙ sym (testing_stops c.args.plan.now c.args.made.now c.args.groups.now c.loop-group.group-index c.loop-group-test.true c.loop-group.seen c.loop-group.words tt c.require_held.new.seen c.require_held.new.words own _ c.value_of.new.seen c.require_held.new.words stops)
     ∙ c.loop-group.invariant
 
 pub trunks_of-trunks-requires : goal.trunks_of-trunks-requires
@@ -52,8 +52,8 @@ returns-in-Some-clause-walk c =
     c.first_clear.ensures.first ∙ ap (λ (trunks : Trunks). first_below (is_bit_clear c.in_ok-word.word) (length trunks.members)) (c.trunks.view_is ∙ c.trunks_of-trunks.ensures.trunks) in
     let own = came c.args.made.now (seize (Group group)) c.loop-group.seen c.require_held.new.seen c.loop-group.words c.require_held.new.words c.require_held.result (Ok tt) (c.require_held.ensures c.args.made.now) c.in_ok-require_held.was in
     let tests = c.value_of.ensures ∙ ap (λ (number : ℕ). live c.args.made.now (TestThen number Ends) c.require_held.new.seen c.require_held.new.words) c.group_word.ensures in
-    let read = came c.args.made.now (test (GroupWord group)) c.require_held.new.seen c.value_of.new.seen c.require_held.new.words c.value_of.new.words c.value_of.result (Ok c.in_ok-word.word) tests c.in_ok-word.was in
-    sym (idle_taken c.args.plan.now c.args.made.now c.args.groups.now c.loop-group.group-index c.loop-group-test.true c.loop-group.seen c.loop-group.words tt c.require_held.new.seen c.require_held.new.words own c.in_ok-word.word c.value_of.new.seen c.value_of.new.words read _ first _ c.in-Some.is)
+    let read = came c.args.made.now (test (GroupWord group)) c.require_held.new.seen c.value_of.new.seen c.require_held.new.words c.require_held.new.words c.value_of.result (Ok c.in_ok-word.word) tests c.in_ok-word.was in
+    sym (idle_taken c.args.plan.now c.args.made.now c.args.groups.now c.loop-group.group-index c.loop-group-test.true c.loop-group.seen c.loop-group.words tt c.require_held.new.seen c.require_held.new.words own c.in_ok-word.word c.value_of.new.seen c.require_held.new.words read _ first _ c.in-Some.is)
     ∙ c.loop-group.invariant
 
 pub returns-in-Some-clause-range : goal.returns-in-Some-clause-range
@@ -70,8 +70,8 @@ loop-group-preserved c =
     let none : c.first_clear.result ≡ None = search rules in
     let own = came c.args.made.now (seize (Group group)) c.loop-group.seen c.require_held.new.seen c.loop-group.words c.require_held.new.words c.require_held.result (Ok tt) (c.require_held.ensures c.args.made.now) c.in_ok-require_held.was in
     let tests = c.value_of.ensures ∙ ap (λ (number : ℕ). live c.args.made.now (TestThen number Ends) c.require_held.new.seen c.require_held.new.words) c.group_word.ensures in
-    let read = came c.args.made.now (test (GroupWord group)) c.require_held.new.seen c.value_of.new.seen c.require_held.new.words c.value_of.new.words c.value_of.result (Ok c.in_ok-word.word) tests c.in_ok-word.was in
-    sym (busy_passed c.args.plan.now c.args.made.now c.args.groups.now c.loop-group.group-index c.loop-group-test.true c.loop-group.seen c.loop-group.words tt c.require_held.new.seen c.require_held.new.words own c.in_ok-word.word c.value_of.new.seen c.value_of.new.words read _ first none)
+    let read = came c.args.made.now (test (GroupWord group)) c.require_held.new.seen c.value_of.new.seen c.require_held.new.words c.require_held.new.words c.value_of.result (Ok c.in_ok-word.word) tests c.in_ok-word.was in
+    sym (busy_passed c.args.plan.now c.args.made.now c.args.groups.now c.loop-group.group-index c.loop-group-test.true c.loop-group.seen c.loop-group.words tt c.require_held.new.seen c.require_held.new.words own c.in_ok-word.word c.value_of.new.seen c.require_held.new.words read _ first none)
     ∙ c.loop-group.invariant
 
 pub returns-clause-walk : goal.returns-clause-walk

@@ -1,4 +1,4 @@
-use Rattle.std.proofs.Common.{◌≡◌, ap, sym, ◌∙◌}
+use Rattle.std.proofs.Common.{ap, sym, ◌∙◌}
 use Rattle.std.specs.Prelude.{Ok, Result}
 use Rattle.xbar_jobs.specs.Jobs.{script}
 use Rattle.xbar_jobs.specs.Script.{Wanted}
