@@ -11,3 +11,6 @@ pub mod Beginning
 pub mod Giving
 pub mod Taken
 pub mod Counts
+pub mod LiveWalks
+pub mod LiveSteps
+pub mod LiveStands

@@ -4,3 +4,4 @@ pub mod Standing
 pub mod Taken
 pub mod Steps
 pub mod Counting
+pub mod Live

@@ -2,6 +2,7 @@ ghost use Rattle.std.specs.Prelude.{◌≡◌, ◌+◌, ◌<◌, ◌≤◌, ◌+
 ghost use Rattle.turns.specs.Attempt.{act, change, restarted, turn_in};
 ghost use Rattle.turns.specs.Runs.{is_rest};
 ghost use Rattle.turns.specs.declared.phase.Phase.{Phase};
+ghost use Rattle.attempts.specs.Live.{LeadsTo};
 ghost use Rattle.xbar_equip.specs.Word.{word_count};
 ghost use Rattle.xbar_office.specs.Legal.{IsJob};
 ghost use Rattle.xbar_plan.specs.Tables.{Tables};
@@ -174,5 +175,19 @@ impl Work {
         self.program.take(plan, answer);
         self.enter(marker, answer, records);
         answer
+    }
+
+    /// Makes the job's next steps on the words by itself, as many as its program comes to by its walk
+    /// and no more than this, and gives their number. None of them is its turn.
+    pub fn run(&mut self, plan: &Plan, marker: u32, words: &mut [u64], most: u32) -> u32
+        requires plan { Stands plan.now self.old.program.attempt }
+        requires marker { marker < 48 }
+        ensures job { self.new.job_no ≡ self.old.job_no }
+        ensures steps { LeadsTo (office plan.now) marker result
+            (record { attempt = self.old.program.attempt; words = words.old })
+            (record { attempt = self.new.program.attempt; words = words.new }) }
+        ensures most { result ≤ most }
+    {
+        self.program.run(plan, marker, words, most)
     }
 }

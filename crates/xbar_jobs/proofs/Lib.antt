@@ -1,6 +1,7 @@
 pub mod Items
 pub mod MadeWords
 pub mod EffectRanges
+pub mod Lives
 pub mod SeenTests
 pub mod JunctorTests
 pub mod JunctorsMade
@@ -42,6 +43,7 @@ pub mod ClearedBits
 pub mod FreedMembers
 pub mod OpenedPaths
 pub mod LeaveEffects
+pub mod LeavingLives
 pub mod ReleaseDecides
 pub mod CallDecides
 pub mod CompleteDecides
@@ -55,4 +57,5 @@ pub mod Counts
 pub mod StepActs
 pub mod JunctorRows
 pub mod CompletingRows
+pub mod TracedLives
 pub mod Programs

@@ -1,4 +1,4 @@
-ghost use Rattle.std.specs.Prelude.{◌≡◌, ◌<◌, option_copied, is_some};
+ghost use Rattle.std.specs.Prelude.{◌≡◌, ◌<◌, ◌≤◌, option_copied, is_some};
 ghost use Rattle.attempts.specs.Steps.{act_of};
 ghost use Rattle.xbar_jobs.specs.Attempt.{next_step, step_of as step_of_act};
 ghost use Rattle.xbar_jobs.specs.Keeping.{AreEffects};
@@ -8,7 +8,7 @@ ghost use Rattle.xbar_jobs.specs.Turning.{IsAct, IsStep};
 use crate::effect::Effect;
 use crate::offices::Offices;
 use crate::step::Step;
-use attempts::{AttemptOf, begin, next, restart, take};
+use attempts::{AttemptOf, begin, next, restart, run, take};
 use std::marker::Model;
 use turns::Answer;
 use xbar_equip::{Conn, WordNo};
@@ -76,6 +76,8 @@ fn step_of(attempt: &AttemptOf<Offices, 42, 19>) -> Step
 impl Program {
     ghost use Rattle.std.specs.Prelude.{ℕ};
     ghost use Rattle.turns.specs.Attempt.{act, change, reply_in, restarted, turn_in, IsAnswerTo};
+    ghost use Rattle.attempts.specs.Counting.{counted_by};
+    ghost use Rattle.attempts.specs.Live.{LeadsTo};
     ghost use Rattle.xbar_equip.specs.Word.{word_count};
     ghost use Rattle.xbar_office.specs.Legal.{IsJob};
     ghost use Rattle.xbar_plan.specs.Lawful.{IsLawful};
@@ -158,6 +160,27 @@ impl Program {
         take::<Offices, 42, 19>(&mut self.attempt, plan, answer);
         effects_are(&self.attempt);
         self.next = step_of(&self.attempt);
+    }
+
+    /// Makes its next steps on the words by itself, as this marker, where nobody else makes any in
+    /// between: as many as it comes to by its walk, and no more than this. Gives their number. All
+    /// calls are handed one plan.
+    pub fn run(&mut self, plan: &Plan, marker: u32, words: &mut [u64], most: u32) -> u32
+        requires marker { marker < 48 }
+        requires plan { Stands plan.now self.old.attempt }
+        ensures steps { LeadsTo (office plan.now) marker result
+            (record { attempt = self.old.attempt; words = words.old })
+            (record { attempt = self.new.attempt; words = words.new }) }
+        ensures most { result ≤ most }
+        ensures count { self.new.count ≡ counted_by result self.old.count }
+        ensures plan { Stands plan.now self.new.attempt }
+    {
+        // Called for its clauses alone.
+        xbar_plan::laws::every_plan_is_lawful(plan);
+        let made = run::<Offices, 42, 19>(&mut self.attempt, plan, marker, words, most);
+        effects_are(&self.attempt);
+        self.next = step_of(&self.attempt);
+        made
     }
 
     /// Begins anew, once all that is held is given back. Past the turn nothing changes.
