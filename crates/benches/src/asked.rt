@@ -13,6 +13,8 @@ pub enum Asked {
     Core { markers: u32 },
     /// Readings of a full plan.
     Plans,
+    /// Slots on threads, each of which does so many thousand jobs.
+    Slots { thousands: u32 },
     /// Desks on threads of their own, each of which makes so many thousand steps.
     Threads { thousands: u32 },
     /// So many hundred calls by markers on threads.
@@ -34,6 +36,9 @@ impl Asked {
                 markers: count(number, 1, 10)?,
             }),
             Some("plans") => Some(Asked::Plans),
+            Some("slots") => Some(Asked::Slots {
+                thousands: count(number, 100, 100_000)?,
+            }),
             Some("threads") => Some(Asked::Threads {
                 thousands: count(number, 100, 100_000)?,
             }),

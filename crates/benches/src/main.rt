@@ -14,6 +14,7 @@ mod live;
 mod lone_marker;
 mod markers;
 mod plans;
+mod slot_threads;
 mod threads;
 mod timing;
 
@@ -26,8 +27,8 @@ use std::thread::Threads;
 use std::{env, io};
 use xbar_plan::Plan;
 
-const USAGE: &str =
-    "usage: benches [dials | calls | core [MARKERS] | plans | threads [THOUSANDS] | live [HUNDREDS]]";
+const USAGE: &str = "usage: benches [dials | calls | core [MARKERS] | plans | slots [THOUSANDS] \
+                     | threads [THOUSANDS] | live [HUNDREDS]]";
 
 /// What the words of the command line ask for, if they are words of `USAGE`.
 fn read_words(rt: &(impl Env + AllocGlobal)) -> io::Result<Option<Asked>>
@@ -54,6 +55,7 @@ fn measure<R: Print + Eprint + Clock + Threads + Wait + Sync>(
         Asked::Calls => calls::measure(rt, plan),
         Asked::Core { markers } => markers::measure(rt, alloc, plan, markers),
         Asked::Plans => plans::measure(rt, alloc),
+        Asked::Slots { thousands } => slot_threads::measure(rt, alloc, thousands),
         Asked::Threads { thousands } => threads::measure(rt, alloc, plan, thousands),
         Asked::Live { hundreds } => live::measure(rt, alloc, plan, hundreds),
     }

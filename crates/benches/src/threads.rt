@@ -1,13 +1,11 @@
-//! Desks on threads of their own, one, two and four: those that take slots and give them back, and those
-//! of the office, beside which stand as many markers of the core behind one lock, and as many plain
-//! atomic operations.
+//! Desks of the office on threads of their own, one, two and four, and beside them as many markers of the
+//! core behind one lock, and as many plain atomic operations.
 
 ghost use Rattle.std.specs.Prelude.{◌≤◌, length};
 
 mod locked;
 mod office_work;
 mod plain;
-mod slot_work;
 mod tally;
 
 use std::alloc::Global;
@@ -36,20 +34,6 @@ fn print_paces(
     let step = each(time, threads, done.steps);
     let job = each(time, threads, done.jobs);
     eprintln!(rt; "{threads} {what}: {step} ns a step, {job} ns a job")
-}
-
-fn measure_slots<R: Eprint + Clock + Threads + Sync>(
-    rt: &R,
-    alloc: Global,
-    count: u32,
-    times: u32,
-) -> io::Result<()>
-    requires { count ≤ 4 }
-{
-    let start = Instant::now(rt)?;
-    let done = slot_work::work_all(rt, alloc, count, times)?;
-    let time = start.elapsed(rt)?;
-    print_paces(rt, "desks of slots", time, count, done)
 }
 
 fn measure_office<R: Eprint + Clock + Threads + Sync>(
@@ -116,7 +100,6 @@ pub fn measure<R: Eprint + Clock + Threads + Wait + Sync>(
     let kinds = [Kind::Combined; 4];
     for count in [1_u32, 2, 4] {
         let kinds = &kinds[..count as usize];
-        measure_slots(rt, alloc, count, times)?;
         measure_office(rt, alloc, plan, kinds, times)?;
         measure_locked(rt, alloc, plan, kinds, times)?;
         measure_plain(rt, alloc, count, times)?;

@@ -1,6 +1,7 @@
 use Rattle.std.specs.Prelude.{◌≡◌, ℕ, ◌/◌, Option, Some, None, Ok, [], nat_eq, ⊤}
 use Rattle.turns.specs.Script.{Script, Ends, ◌>>=◌, ◌>>◌, seize, test, walk}
 use Rattle.turns.specs.Seen.{Seen}
+use Rattle.slots.specs.declared.bank.TheConstants.{BANK_SIZE}
 use Rattle.slots.specs.System.{and_upper, both_or_none, free_in, taken_or}
 use Rattle.slots.specs.declared.decision.Decision.{Decision}
 use Rattle.slots.specs.declared.decision.Decision.TheVariants.{Takes, Gives}
@@ -26,7 +27,7 @@ unfoldable pub both_steps : Script ℕ Decision
 both_steps = slot_steps 0 >>= and_upper
 
 unfoldable pub give_steps : ℕ → Script ℕ Decision
-give_steps slot = seize (slot / 4) >> Ends (Gives slot)
+give_steps slot = seize (slot / BANK_SIZE) >> Ends (Gives slot)
 
 -- what a job does
 abbrev pub job_steps : Job → Script ℕ Decision

@@ -8,6 +8,7 @@ ghost use Rattle.slots.specs.System.{IsJob, slots};
 
 use crate::jobs::SlotJobs;
 use desks::{Desk, Progress, Room, Told};
+use slots::bank::SLOT_COUNT;
 use slots::{Job, Taken, UpToTwo};
 use std::thread;
 
@@ -44,14 +45,15 @@ pub fn finish(room: &SlotRoom, desk: &mut SlotDesk, most: u32) -> Option<SlotTol
     None
 }
 
-/// Makes the desk's steps until its job has ended. Each time that it has not within `patience`
-/// steps, the desk gives back what it holds, so that no desk waits for it, and lets other threads
-/// run.
-fn persist(room: &SlotRoom, desk: &mut SlotDesk, patience: u32) -> Option<SlotTold>
+/// Makes the desk's steps until its job has ended. Each time that it has not for a while, the desk
+/// gives back what it holds, so that no desk waits for it, and lets other threads run.
+pub fn persist(room: &SlotRoom, desk: &mut SlotDesk) -> Option<SlotTold>
     requires { IsDeskOf desk.old room.now tt }
     ensures desk { IsDeskOf desk.new room.now tt }
     ensures number { desk.new.number ≡ desk.old.number }
 {
+    // Each desk waits for a while of its own, lest two keep in step.
+    let patience = 30 + 7 * (desk.number() % 8);
     for _ in 0..TRIES {
         if let Some(told) = finish(room, desk, patience) {
             return Some(told);
@@ -72,9 +74,7 @@ fn work(room: &SlotRoom, shift: &mut Shift, number: u64, job: Job) -> Option<UpT
     if !shift.desk.assign(number, job) {
         return None;
     }
-    // Each desk waits for a while of its own, lest two keep in step.
-    let patience = 30 + 7 * (shift.desk.number() % 8);
-    let told = persist(room, &mut shift.desk, patience)?;
+    let told = persist(room, &mut shift.desk)?;
     let taken = told.reply.slots();
     match shift.log.push(told) {
         Ok(()) => Some(taken),
@@ -87,7 +87,7 @@ fn give(room: &SlotRoom, shift: &mut Shift, number: u64, slot: u32) -> Option<Up
     ensures desk { IsDeskOf shift.new.desk room.now tt }
     ensures number { shift.new.desk.number ≡ shift.old.desk.number }
 {
-    if slot < 8 {
+    if slot < SLOT_COUNT {
         work(room, shift, number, Job::Give(slot))
     } else {
         None
@@ -166,7 +166,7 @@ fn go_on(room: &SlotRoom, desk: &mut SlotDesk, number: u64, log: &mut Vec<SlotTo
 {
     match desk.advance(room, &()) {
         Progress::Idle => {
-            let slot = (number % 8) as u32;
+            let slot = (number % u64::from(SLOT_COUNT)) as u32;
             let job = match number % 3 {
                 0 => Job::Take,
                 1 => Job::TakeBoth,

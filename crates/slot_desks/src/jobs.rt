@@ -3,6 +3,7 @@ ghost use Rattle.slots.specs.Few.{list_of};
 
 use crate::walks::{Lower, walk_job};
 use attempts::{Attempts, OnWords, Scripts, Seen};
+use slots::bank::BANK_SIZE;
 use slots::{Decision, Effect, Job, Taken, UpToTwo};
 use std::alloc::{AllocError, Global};
 use turns::{Operation, Wanted};
@@ -72,7 +73,7 @@ impl Scripts<2, 2> for SlotScripts {
         match job {
             Job::Take => 0,
             Job::TakeBoth => 0,
-            Job::Give(slot) => slot / 4,
+            Job::Give(slot) => slot / BANK_SIZE,
         }
     }
 
@@ -135,8 +136,8 @@ impl OnWords<2, 2> for SlotScripts {
 
     fn effect_word(_setting: &(), effect: Effect) -> usize {
         match effect {
-            Effect::Mark(slot) => (slot / 4) as usize,
-            Effect::Clear(slot) => (slot / 4) as usize,
+            Effect::Mark(slot) => (slot / BANK_SIZE) as usize,
+            Effect::Clear(slot) => (slot / BANK_SIZE) as usize,
         }
     }
 

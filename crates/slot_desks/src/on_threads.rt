@@ -1,7 +1,7 @@
 //! Desks at work at once.
 
 ghost use Rattle.std.specs.List.{list_all};
-ghost use Rattle.std.specs.Prelude.{◌≡◌, IfOk, IfSome, map, vec_len};
+ghost use Rattle.std.specs.Prelude.{◌≡◌, IfOk, IfSome, is_some, map, vec_len};
 ghost use Rattle.desks.specs.Met.{AreIdle};
 ghost use Rattle.desks.specs.Views.{AreNew, IsDeskOf};
 ghost use Rattle.slot_desks.specs.Driving.{AreAtWork};
@@ -55,7 +55,7 @@ fn are_idle(desks: &[SlotDesk]) -> bool
     desks.iter().all(|desk| desk.is_idle())
 }
 
-/// The desks of shifts that have ended, if none is still at a job.
+/// The desks of shifts in their order, or None where one is still at a job.
 pub fn idle_desks(
     alloc: Global,
     _room: &SlotRoom,
@@ -64,6 +64,10 @@ pub fn idle_desks(
     requires { AreAtWork _room.now (map (λ shift. shift.desk) shifts.items) }
     ensures idle { IfOk result (λ ended.
         IfSome ended (λ desks. AreIdle slots _room.now.table tt desks.items)) }
+    ensures desks { IfOk result (λ ended.
+        IfSome ended (λ desks. desks.items ≡ map (λ shift. shift.desk) shifts.items)) }
+    ensures some { IfOk result (λ ended. is_some ended
+        ≡ list_all (λ shift. is_free slots shift.desk.actor) shifts.items) }
     ensures len { IfOk result (λ ended. IfSome ended (λ desks. vec_len desks ≡ vec_len shifts)) }
 {
     let desks = desks_of(alloc, shifts)?;

@@ -7,7 +7,7 @@ use std::alloc::Global;
 use std::test::Fail;
 
 fn lowest(busy: u64, from: u32, until: u32) -> Option<u32> {
-    for slot in 0..8_u32 {
+    for slot in 0..64_u32 {
         if slot >= from && slot < until && busy >> slot & 1 == 0 {
             return Some(slot);
         }
@@ -16,21 +16,21 @@ fn lowest(busy: u64, from: u32, until: u32) -> Option<u32> {
 }
 
 fn with(busy: u64, slot: u32) -> u64 {
-    if slot < 8 { busy | 1 << slot } else { busy }
+    if slot < 64 { busy | 1 << slot } else { busy }
 }
 
 fn without(busy: u64, slot: u32) -> u64 {
-    if slot < 8 { busy & !(1 << slot) } else { busy }
+    if slot < 64 { busy & !(1 << slot) } else { busy }
 }
 
-/// What a job takes of eight slots, and the slots that are busy after it.
+/// What a job takes of 64 slots, and the slots that are busy after it.
 fn done(busy: u64, job: Job) -> (UpToTwo<u32>, u64) {
     match job {
-        Job::Take => match lowest(busy, 0, 8) {
+        Job::Take => match lowest(busy, 0, 64) {
             Some(slot) => (UpToTwo::One(slot), with(busy, slot)),
             None => (UpToTwo::Empty, busy),
         },
-        Job::TakeBoth => match (lowest(busy, 0, 4), lowest(busy, 4, 8)) {
+        Job::TakeBoth => match (lowest(busy, 0, 32), lowest(busy, 32, 64)) {
             (Some(slot), Some(other)) => {
                 (UpToTwo::Two(slot, other), with(with(busy, slot), other))
             }
@@ -76,7 +76,7 @@ fn words_agree(words: &[u64], turns: usize, busy: Option<u64>) -> bool {
         && words[2] == 0
         && words[3] == 0
         && words[4] == turns as u64
-        && busy == Some(words[0] | words[1] << 4)
+        && busy == Some(words[0] | words[1] << 32)
 }
 
 /// The records of all shifts, if those of each are its desk's own, in the order of their turns.

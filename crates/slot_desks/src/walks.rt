@@ -5,7 +5,7 @@ ghost use Rattle.turns.specs.Script.{walk};
 ghost use Rattle.slot_desks.specs.SlotWalks.{Knows, both_steps, give_steps, job_steps, slot_steps, take_steps, too_steps, upper_steps};
 
 use attempts::Seen;
-use slots::bank::lowest_free;
+use slots::bank::{BANK_SIZE, lowest_free};
 use slots::{Decision, Job, Taken, UpToTwo};
 use turns::Wanted;
 
@@ -90,7 +90,7 @@ fn walk_take_both(lower: &mut Lower, seen: &Seen<u32>) -> Walked
 fn walk_give(seen: &Seen<u32>, slot: u32) -> Walked
     ensures { result ≡ walk ⟦<u32 as PartialEq>⟧.eq seen.now (give_steps slot) }
 {
-    seen.seize(slot / 4)?;
+    seen.seize(slot / BANK_SIZE)?;
     Ok(Decision::Gives(slot))
 }
 

@@ -6,80 +6,81 @@ use Rattle.std.proofs.lemmas.Bool.{eqb-true, eqb-false}
 use Rattle.std.proofs.lemmas.Nat.Bits.{bit_at_or, bit_at_and, bit_at_not, bit_at-pow_same, bit_at-pow_other, bit_at-lt}
 use Rattle.turns.specs.System.{perform, perform_all, AreDue}
 use Rattle.turns.proofs.Lists.{one_or_two, index_same, index_other}
+use Rattle.slots.specs.declared.bank.TheConstants.{BANK_SIZE, SLOT_COUNT}
 use Rattle.slots.specs.Slots.{Busy, with_slot, with_slots, without_slot}
 use Rattle.slots.specs.System.{Shows, slots}
 use Rattle.slots.specs.declared.effect.Effect.TheVariants.{Mark, Clear}
 use Rattle.slots.proofs.FreeSlots.{AreFree}
 
--- a word with one of its lowest four bits set to a value, and the others as they were
+-- a word with one of its lowest 32 bits set to a value, and the others as they were
 record IsOneBit (word place value after : ℕ) : Type 0 where
   here : bit_at after place ≡ value
-  others : (p : ℕ) → p < 4 → p ≢ place → bit_at after p ≡ bit_at word p
+  others : (p : ℕ) → p < BANK_SIZE → p ≢ place → bit_at after p ≡ bit_at word p
 
-marked : (word place : ℕ) → place < 4 → IsOneBit word place 1 (bit_or word (2 ^ place))
+marked : (word place : ℕ) → place < BANK_SIZE → IsOneBit word place 1 (bit_or word (2 ^ place))
 marked word place few = record {
   here = omega (arith, bit_at_or word (2 ^ place) place, bit_at-pow_same place, bit_at-lt word place);
   others = λ p low other. omega (arith, bit_at_or word (2 ^ place) p, bit_at-pow_other place p other);
 }
 
 -- such a bit is one of a word's
-pub place_below : (place : ℕ) → place < 4 → 2 ^ place < 2 ^ 64
-place_below place few = let x : 2 ^ place ≤ 2 ^ 3 = pow_mono {i = place} {j = 3} (omega arith) in omega arith
+pub place_below : (place : ℕ) → place < BANK_SIZE → 2 ^ place < 2 ^ 64
+place_below place few = let x : 2 ^ place ≤ 2 ^ 31 = pow_mono {i = place} {j = 31} (omega arith) in omega arith
 
-cleared : (word place : ℕ) → place < 4 → IsOneBit word place 0 (bit_and word (2 ^ 64 - 1 - 2 ^ place))
+cleared : (word place : ℕ) → place < BANK_SIZE → IsOneBit word place 0 (bit_and word (2 ^ 64 - 1 - 2 ^ place))
 cleared word place few = record {
   here = omega (arith, bit place few, bit_at-pow_same place);
   others = λ p low other. omega (arith, bit p low, bit_at-pow_other place p other, bit_at-lt word p);
 } where
-  bit : (p : ℕ) → p < 4 → bit_at (bit_and word (2 ^ 64 - 1 - 2 ^ place)) p ≡ min (bit_at word p) (1 - bit_at (2 ^ place) p)
+  bit : (p : ℕ) → p < BANK_SIZE → bit_at (bit_and word (2 ^ 64 - 1 - 2 ^ place)) p ≡ min (bit_at word p) (1 - bit_at (2 ^ place) p)
   bit p low = bit_at_and word (2 ^ 64 - 1 - 2 ^ place) p ∙ ap (min (bit_at word p)) (bit_at_not w64 (2 ^ place) p (place_below place few) (omega arith))
 
-module _ (words : List ℕ) (long : length words ≡ 5) (slot : ℕ) (below : slot < 8) (value after : ℕ) (one : IsOneBit (slice_index words (slot / 4)) (slot % 4) value after) where
+module _ (words : List ℕ) (long : length words ≡ 5) (slot : ℕ) (below : slot < SLOT_COUNT) (value after : ℕ) (one : IsOneBit (slice_index words (slot / BANK_SIZE)) (slot % BANK_SIZE) value after) where
   -- the slot's bit, and that of another slot, once the word is set
-  bit_here : (s : ℕ) → s ≡ slot → bit_at (slice_index (slice_set words (slot / 4) after) (s / 4)) (s % 4) ≡ value
+  bit_here : (s : ℕ) → s ≡ slot → bit_at (slice_index (slice_set words (slot / BANK_SIZE) after) (s / BANK_SIZE)) (s % BANK_SIZE) ≡ value
   bit_here s same =
-      ap (λ (t : ℕ). bit_at (slice_index (slice_set words (slot / 4) after) (t / 4)) (t % 4)) same
-      ∙ ap (λ (n : ℕ). bit_at n (slot % 4)) (index_same words (slot / 4) after (omega arith)) ∙ one.here
+      ap (λ (t : ℕ). bit_at (slice_index (slice_set words (slot / BANK_SIZE) after) (t / BANK_SIZE)) (t % BANK_SIZE)) same
+      ∙ ap (λ (n : ℕ). bit_at n (slot % BANK_SIZE)) (index_same words (slot / BANK_SIZE) after (omega arith)) ∙ one.here
 
-  bit_else : (s : ℕ) → s < 8 → s ≢ slot → bit_at (slice_index (slice_set words (slot / 4) after) (s / 4)) (s % 4) ≡ bit_at (slice_index words (s / 4)) (s % 4)
-  bit_else s low other = at (one_or_two (s / 4) (slot / 4)) where
-    at : (s / 4 ≡ slot / 4) ⊎ (s / 4 ≢ slot / 4) → bit_at (slice_index (slice_set words (slot / 4) after) (s / 4)) (s % 4) ≡ bit_at (slice_index words (s / 4)) (s % 4)
+  bit_else : (s : ℕ) → s < SLOT_COUNT → s ≢ slot → bit_at (slice_index (slice_set words (slot / BANK_SIZE) after) (s / BANK_SIZE)) (s % BANK_SIZE) ≡ bit_at (slice_index words (s / BANK_SIZE)) (s % BANK_SIZE)
+  bit_else s low other = at (one_or_two (s / BANK_SIZE) (slot / BANK_SIZE)) where
+    at : (s / BANK_SIZE ≡ slot / BANK_SIZE) ⊎ (s / BANK_SIZE ≢ slot / BANK_SIZE) → bit_at (slice_index (slice_set words (slot / BANK_SIZE) after) (s / BANK_SIZE)) (s % BANK_SIZE) ≡ bit_at (slice_index words (s / BANK_SIZE)) (s % BANK_SIZE)
     at (inl bank) =
-        let apart : s % 4 ≢ slot % 4 = λ place. other (omega arith) in
-        ap (λ (n : ℕ). bit_at (slice_index (slice_set words (slot / 4) after) n) (s % 4)) bank
-        ∙ ap (λ (n : ℕ). bit_at n (s % 4)) (index_same words (slot / 4) after (omega arith))
-        ∙ one.others (s % 4) (omega arith) apart
-        ∙ ap (λ (n : ℕ). bit_at (slice_index words n) (s % 4)) (sym bank)
-    at (inr apart) = ap (λ (n : ℕ). bit_at n (s % 4)) (index_other words (slot / 4) (s / 4) after apart)
+        let apart : s % BANK_SIZE ≢ slot % BANK_SIZE = λ place. other (omega arith) in
+        ap (λ (n : ℕ). bit_at (slice_index (slice_set words (slot / BANK_SIZE) after) n) (s % BANK_SIZE)) bank
+        ∙ ap (λ (n : ℕ). bit_at n (s % BANK_SIZE)) (index_same words (slot / BANK_SIZE) after (omega arith))
+        ∙ one.others (s % BANK_SIZE) (omega arith) apart
+        ∙ ap (λ (n : ℕ). bit_at (slice_index words n) (s % BANK_SIZE)) (sym bank)
+    at (inr apart) = ap (λ (n : ℕ). bit_at n (s % BANK_SIZE)) (index_other words (slot / BANK_SIZE) (s / BANK_SIZE) after apart)
 
 -- a slot is marked: the words show the set with it
-pub shows_mark : (words : List ℕ) (busy : Busy) (slot : ℕ) → length words ≡ 5 → slot < 8 → Shows words busy → Shows (perform slots words (Mark slot)) (with_slot busy slot)
+pub shows_mark : (words : List ℕ) (busy : Busy) (slot : ℕ) → length words ≡ 5 → slot < SLOT_COUNT → Shows words busy → Shows (perform slots words (Mark slot)) (with_slot busy slot)
 shows_mark words busy slot long below shows = record { bits = λ s low. at s low (s == slot) refl } where
-  one : IsOneBit (slice_index words (slot / 4)) (slot % 4) 1 (bit_or (slice_index words (slot / 4)) (2 ^ (slot % 4)))
-  one = marked (slice_index words (slot / 4)) (slot % 4) (omega arith)
+  one : IsOneBit (slice_index words (slot / BANK_SIZE)) (slot % BANK_SIZE) 1 (bit_or (slice_index words (slot / BANK_SIZE)) (2 ^ (slot % BANK_SIZE)))
+  one = marked (slice_index words (slot / BANK_SIZE)) (slot % BANK_SIZE) (omega arith)
 
-  at : (s : ℕ) → s < 8 → (b : Bool) → (s == slot) ≡ b → (b || busy s) ≡ (bit_at (slice_index (perform slots words (Mark slot)) (s / 4)) (s % 4) == 1)
-  at s low true e = sym (ap (λ (n : ℕ). n == 1) (bit_here words long slot below 1 (bit_or (slice_index words (slot / 4)) (2 ^ (slot % 4))) one s (eqb-true s slot e)))
-  at s low false e = shows.bits s low ∙ sym (ap (λ (n : ℕ). n == 1) (bit_else words long slot below 1 (bit_or (slice_index words (slot / 4)) (2 ^ (slot % 4))) one s low (eqb-false s slot e)))
+  at : (s : ℕ) → s < SLOT_COUNT → (b : Bool) → (s == slot) ≡ b → (b || busy s) ≡ (bit_at (slice_index (perform slots words (Mark slot)) (s / BANK_SIZE)) (s % BANK_SIZE) == 1)
+  at s low true e = sym (ap (λ (n : ℕ). n == 1) (bit_here words long slot below 1 (bit_or (slice_index words (slot / BANK_SIZE)) (2 ^ (slot % BANK_SIZE))) one s (eqb-true s slot e)))
+  at s low false e = shows.bits s low ∙ sym (ap (λ (n : ℕ). n == 1) (bit_else words long slot below 1 (bit_or (slice_index words (slot / BANK_SIZE)) (2 ^ (slot % BANK_SIZE))) one s low (eqb-false s slot e)))
 
 -- a slot is cleared: the words show the set without it
-pub shows_clear : (words : List ℕ) (busy : Busy) (slot : ℕ) → length words ≡ 5 → slot < 8 → Shows words busy → Shows (perform slots words (Clear slot)) (without_slot busy slot)
+pub shows_clear : (words : List ℕ) (busy : Busy) (slot : ℕ) → length words ≡ 5 → slot < SLOT_COUNT → Shows words busy → Shows (perform slots words (Clear slot)) (without_slot busy slot)
 shows_clear words busy slot long below shows = record { bits = λ s low. at s low (s == slot) refl } where
   after : ℕ
-  after = bit_and (slice_index words (slot / 4)) (2 ^ 64 - 1 - 2 ^ (slot % 4))
+  after = bit_and (slice_index words (slot / BANK_SIZE)) (2 ^ 64 - 1 - 2 ^ (slot % BANK_SIZE))
 
-  one : IsOneBit (slice_index words (slot / 4)) (slot % 4) 0 (bit_and (slice_index words (slot / 4)) (2 ^ 64 - 1 - 2 ^ (slot % 4)))
-  one = cleared (slice_index words (slot / 4)) (slot % 4) (omega arith)
+  one : IsOneBit (slice_index words (slot / BANK_SIZE)) (slot % BANK_SIZE) 0 (bit_and (slice_index words (slot / BANK_SIZE)) (2 ^ 64 - 1 - 2 ^ (slot % BANK_SIZE)))
+  one = cleared (slice_index words (slot / BANK_SIZE)) (slot % BANK_SIZE) (omega arith)
 
-  at : (s : ℕ) → s < 8 → (b : Bool) → (s == slot) ≡ b → (not b && busy s) ≡ (bit_at (slice_index (perform slots words (Clear slot)) (s / 4)) (s % 4) == 1)
-  at s low true e = sym (ap (λ (n : ℕ). n == 1) (bit_here words long slot below 0 (bit_and (slice_index words (slot / 4)) (2 ^ 64 - 1 - 2 ^ (slot % 4))) one s (eqb-true s slot e)))
-  at s low false e = shows.bits s low ∙ sym (ap (λ (n : ℕ). n == 1) (bit_else words long slot below 0 (bit_and (slice_index words (slot / 4)) (2 ^ 64 - 1 - 2 ^ (slot % 4))) one s low (eqb-false s slot e)))
+  at : (s : ℕ) → s < SLOT_COUNT → (b : Bool) → (s == slot) ≡ b → (not b && busy s) ≡ (bit_at (slice_index (perform slots words (Clear slot)) (s / BANK_SIZE)) (s % BANK_SIZE) == 1)
+  at s low true e = sym (ap (λ (n : ℕ). n == 1) (bit_here words long slot below 0 (bit_and (slice_index words (slot / BANK_SIZE)) (2 ^ 64 - 1 - 2 ^ (slot % BANK_SIZE))) one s (eqb-true s slot e)))
+  at s low false e = shows.bits s low ∙ sym (ap (λ (n : ℕ). n == 1) (bit_else words long slot below 0 (bit_and (slice_index words (slot / BANK_SIZE)) (2 ^ 64 - 1 - 2 ^ (slot % BANK_SIZE))) one s low (eqb-false s slot e)))
 
 -- a free slot's bit is 0
-free_bit : (words : List ℕ) (busy : Busy) (slot : ℕ) → slot < 8 → Shows words busy → busy slot ≡ false → bit_at (slice_index words (slot / 4)) (slot % 4) ≡ 0
+free_bit : (words : List ℕ) (busy : Busy) (slot : ℕ) → slot < SLOT_COUNT → Shows words busy → busy slot ≡ false → bit_at (slice_index words (slot / BANK_SIZE)) (slot % BANK_SIZE) ≡ 0
 free_bit words busy slot below shows free =
-    let not_one = eqb-false (bit_at (slice_index words (slot / 4)) (slot % 4)) 1 (sym (shows.bits slot below) ∙ free) in
-    omega (arith, bit_at-lt (slice_index words (slot / 4)) (slot % 4))
+    let not_one = eqb-false (bit_at (slice_index words (slot / BANK_SIZE)) (slot % BANK_SIZE)) 1 (sym (shows.bits slot below) ∙ free) in
+    omega (arith, bit_at-lt (slice_index words (slot / BANK_SIZE)) (slot % BANK_SIZE))
 
 -- free slots are marked one after another
 pub shows_marks : (words : List ℕ) (busy : Busy) (taken : List ℕ) → length words ≡ 5 → Shows words busy → AreFree busy taken → Shows (perform_all slots words (map Mark taken)) (with_slots busy taken)
@@ -87,12 +88,12 @@ unfolding perform_all
 shows_marks words busy [] long shows free = shows
 shows_marks words busy (slot ∷ taken) long shows free =
     shows_marks (perform slots words (Mark slot)) (with_slot busy slot) taken
-    (length-set words (slot / 4) (bit_or (slice_index words (slot / 4)) (2 ^ (slot % 4))) ∙ long) (shows_mark words busy slot long free.0 shows) free.2
+    (length-set words (slot / BANK_SIZE) (bit_or (slice_index words (slot / BANK_SIZE)) (2 ^ (slot % BANK_SIZE))) ∙ long) (shows_mark words busy slot long free.0 shows) free.2
 
 pub due_marks : (words : List ℕ) (busy : Busy) (taken : List ℕ) → length words ≡ 5 → Shows words busy → AreFree busy taken → AreDue slots words (map Mark taken)
 due_marks words busy [] long shows free = tt
 due_marks words busy (slot ∷ taken) long shows free = (
   free_bit words busy slot free.0 shows free.1,
   due_marks (perform slots words (Mark slot)) (with_slot busy slot) taken
-      (length-set words (slot / 4) (bit_or (slice_index words (slot / 4)) (2 ^ (slot % 4))) ∙ long) (shows_mark words busy slot long free.0 shows) free.2,
+      (length-set words (slot / BANK_SIZE) (bit_or (slice_index words (slot / BANK_SIZE)) (2 ^ (slot % BANK_SIZE))) ∙ long) (shows_mark words busy slot long free.0 shows) free.2,
 )

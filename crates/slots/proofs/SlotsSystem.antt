@@ -13,6 +13,7 @@ use Rattle.turns.specs.System.{IsSystem, IsUnder, AreUnder, AreAlike, KeepsTo, D
 use Rattle.turns.specs.declared.wanted.Wanted.TheVariants.{Seize}
 use Rattle.turns.proofs.Words.{zeros_below}
 use Rattle.turns.proofs.Preferring.{preferring_is, zero_unused}
+use Rattle.slots.specs.declared.bank.TheConstants.{BANK_SIZE, SLOT_COUNT}
 use Rattle.slots.specs.Slots.{Busy, none_busy, lowest_free, both_of, took, whole}
 use Rattle.slots.specs.System.{Shows, slot_of, operation_of, free_in, taken_or, both_or_none, and_upper, script, first_lock, IsJob, slots}
 use Rattle.slots.specs.declared.effect.Effect.{Effect}
@@ -26,19 +27,19 @@ use Rattle.slots.proofs.SlotBits.{place_below, shows_clear, shows_marks, due_mar
 
 -- each slot is of a bank whose lock is held
 abbrev AreHeld : List ℕ → List ℕ → Type 0
-AreHeld held taken = (slot : ℕ) → IsIn slot taken → (slot < 8) × IsIn (slot / 4) held
+AreHeld held taken = (slot : ℕ) → IsIn slot taken → (slot < SLOT_COUNT) × IsIn (slot / BANK_SIZE) held
 
 marks_under : (held taken : List ℕ) → AreHeld held taken → AreUnder slots held (map Mark taken)
 marks_under held [] all effect within = absurd within
 marks_under held (slot ∷ taken) all effect (inl e) =
     let own = all slot (inl refl) in
-    subst (λ (x : Effect). IsUnder slots held (slot_of x / 4)) (sym e) (record { lock = slot / 4; protects = (refl, omega (arith, own.0)); held = own.1 })
+    subst (λ (x : Effect). IsUnder slots held (slot_of x / BANK_SIZE)) (sym e) (record { lock = slot / BANK_SIZE; protects = (refl, omega (arith, own.0)); held = own.1 })
 marks_under held (slot ∷ taken) all effect (inr later) = marks_under held taken (λ s within. all s (inr within)) effect later
 
 -- a mark is one bit of its bank's word
 marks_fit : (taken : List ℕ) → FitWords slots (map Mark taken)
 marks_fit [] effect within = absurd within
-marks_fit (slot ∷ taken) effect (inl e) = subst (λ (x : Effect). FitsWord (operation_of x)) (sym e) (place_below (slot % 4) (omega arith))
+marks_fit (slot ∷ taken) effect (inl e) = subst (λ (x : Effect). FitsWord (operation_of x)) (sym e) (place_below (slot % BANK_SIZE) (omega arith))
 marks_fit (slot ∷ taken) effect (inr later) = marks_fit taken effect later
 
 may_mark : (held taken : List ℕ) → AreHeld held taken → MayMake slots held (map Mark taken)
@@ -50,8 +51,8 @@ word_under held bank below own = record { lock = bank; protects = (refl, below);
 -- a slot that was found in a bank's word is of that bank
 one_held : (held : List ℕ) (bank word slot : ℕ) → bank < 2 → IsIn bank held → free_in bank word ≡ Some slot → AreHeld held (slot ∷ [])
 one_held held bank word slot below own found s (inl e) =
-    let f = lowest_found (λ t. bit_at word (t % 4) == 1) (4 * bank) 4 slot found in
-    let same : s / 4 ≡ bank = omega (arith, f.above, f.below) in
+    let f = lowest_found (λ t. bit_at word (t % BANK_SIZE) == 1) (BANK_SIZE * bank) BANK_SIZE slot found in
+    let same : s / BANK_SIZE ≡ bank = omega (arith, f.above, f.below) in
     (omega (arith, f.below), subst (λ (b : ℕ). IsIn b held) (sym same) own)
 one_held held bank word slot below own found s (inr none) = absurd none
 
@@ -78,8 +79,8 @@ unfolding KeepsTo
 upper_keeps low None found = may_mark (0 ∷ []) [] (none_held (0 ∷ []))
 upper_keeps low (Some lower) found = (omega arith, (word_under (0 ∷ 1 ∷ []) 1 (omega arith) (inr (inl refl)), λ word below. both_keeps (0 ∷ 1 ∷ []) low word lower (free_in 1 word) found refl (inl refl) (inr (inl refl))))
 
-gives_under : (slot : ℕ) → slot < 8 → AreUnder slots (slot / 4 ∷ []) (Clear slot ∷ [])
-gives_under slot below effect (inl e) = subst (λ (x : Effect). IsUnder slots (slot / 4 ∷ []) (slot_of x / 4)) (sym e) (word_under (slot / 4 ∷ []) (slot / 4) (omega arith) (inl refl))
+gives_under : (slot : ℕ) → slot < SLOT_COUNT → AreUnder slots (slot / BANK_SIZE ∷ []) (Clear slot ∷ [])
+gives_under slot below effect (inl e) = subst (λ (x : Effect). IsUnder slots (slot / BANK_SIZE ∷ []) (slot_of x / BANK_SIZE)) (sym e) (word_under (slot / BANK_SIZE ∷ []) (slot / BANK_SIZE) (omega arith) (inl refl))
 gives_under slot below effect (inr none) = absurd none
 
 gives_fit : (slot : ℕ) → FitWords slots (Clear slot ∷ [])
@@ -107,17 +108,17 @@ firsts TakeBoth = refl
 firsts (Give slot) = refl
 
 -- on words that show a set, a bank's word tells its lowest free slot
-free_shown : (words : List ℕ) (busy : Busy) (bank : ℕ) → bank < 2 → Shows words busy → lowest_free busy (4 * bank) 4 ≡ free_in bank (slice_index words bank)
+free_shown : (words : List ℕ) (busy : Busy) (bank : ℕ) → bank < 2 → Shows words busy → lowest_free busy (BANK_SIZE * bank) BANK_SIZE ≡ free_in bank (slice_index words bank)
 free_shown words busy bank below shows =
-    lowest_same busy (λ slot. bit_at (slice_index words bank) (slot % 4) == 1) (4 * bank) 4
+    lowest_same busy (λ slot. bit_at (slice_index words bank) (slot % BANK_SIZE) == 1) (BANK_SIZE * bank) BANK_SIZE
     (λ s from until.
-    let same : s / 4 ≡ bank = omega arith in
-    shows.bits s (omega arith) ∙ ap (λ (b : ℕ). bit_at (slice_index words b) (s % 4) == 1) same)
+    let same : s / BANK_SIZE ≡ bank = omega arith in
+    shows.bits s (omega arith) ∙ ap (λ (b : ℕ). bit_at (slice_index words b) (s % BANK_SIZE) == 1) same)
 
 takes_as : (words : List ℕ) (busy : Busy) (taken : List ℕ) → length words ≡ 5 → Shows words busy → AreFree busy taken → DecidesAs slots words (took busy taken) (Takes taken)
 takes_as words busy taken long shows free = record { reply = refl; shows = shows_marks words busy taken long shows free; due = due_marks words busy taken long shows free }
 
-gives_as : (words : List ℕ) (busy : Busy) (slot : ℕ) → length words ≡ 5 → Shows words busy → slot < 8 → DecidesAs slots words (whole busy (Give slot)) (Gives slot)
+gives_as : (words : List ℕ) (busy : Busy) (slot : ℕ) → length words ≡ 5 → Shows words busy → slot < SLOT_COUNT → DecidesAs slots words (whole busy (Give slot)) (Gives slot)
 unfolding perform_all
 gives_as words busy slot long shows below = record { reply = refl; shows = shows_clear words busy slot long below shows; due = (tt, tt) }
 
@@ -143,42 +144,42 @@ module _ (words : List ℕ) where
   upper_run (Some lower) = both_run lower (free_in 1 (slice_index words 1))
 
   module _ (busy : Busy) (long : length words ≡ 5) (shows : Shows words busy) where
-    low_shown : lowest_free busy 0 4 ≡ free_in 0 (slice_index words 0)
+    low_shown : lowest_free busy 0 BANK_SIZE ≡ free_in 0 (slice_index words 0)
     low_shown = free_shown words busy 0 (omega arith) shows
 
-    high_shown : lowest_free busy 4 4 ≡ free_in 1 (slice_index words 1)
+    high_shown : lowest_free busy BANK_SIZE BANK_SIZE ≡ free_in 1 (slice_index words 1)
     high_shown = free_shown words busy 1 (omega arith) shows
 
-    take_is : run words (script Take) ≡ Takes (option_to_list (lowest_free busy 0 8))
+    take_is : run words (script Take) ≡ Takes (option_to_list (lowest_free busy 0 SLOT_COUNT))
     unfolding run
     take_is =
         take_run (free_in 0 (slice_index words 0))
-        ∙ ap (λ (o : Option ℕ). Takes (option_to_list o)) (ap (λ (o : Option ℕ). or_first o (free_in 1 (slice_index words 1))) (sym low_shown) ∙ ap (or_first (lowest_free busy 0 4)) (sym high_shown) ∙ sym (lowest_split busy))
+        ∙ ap (λ (o : Option ℕ). Takes (option_to_list o)) (ap (λ (o : Option ℕ). or_first o (free_in 1 (slice_index words 1))) (sym low_shown) ∙ ap (or_first (lowest_free busy 0 BANK_SIZE)) (sym high_shown) ∙ sym (lowest_split busy 0 BANK_SIZE BANK_SIZE))
 
-    both_is : run words (script TakeBoth) ≡ Takes (both_of (lowest_free busy 0 4) (lowest_free busy 4 4))
+    both_is : run words (script TakeBoth) ≡ Takes (both_of (lowest_free busy 0 BANK_SIZE) (lowest_free busy BANK_SIZE BANK_SIZE))
     unfolding run
     both_is =
         upper_run (free_in 0 (slice_index words 0))
-        ∙ ap Takes (ap (λ (o : Option ℕ). both_of o (free_in 1 (slice_index words 1))) (sym low_shown) ∙ ap (both_of (lowest_free busy 0 4)) (sym high_shown))
+        ∙ ap Takes (ap (λ (o : Option ℕ). both_of o (free_in 1 (slice_index words 1))) (sym low_shown) ∙ ap (both_of (lowest_free busy 0 BANK_SIZE)) (sym high_shown))
 
     decides : (job : Job) → IsJob job → DecidesAs slots words (whole busy job) (run words (script job))
     unfolding run
     decides Take right =
-        let taken = option_to_list (lowest_free busy 0 8) in
-        subst (DecidesAs slots words (took busy taken)) (sym take_is) (takes_as words busy taken long shows (one_free busy 0 8 (lowest_free busy 0 8) (omega arith) refl))
+        let taken = option_to_list (lowest_free busy 0 SLOT_COUNT) in
+        subst (DecidesAs slots words (took busy taken)) (sym take_is) (takes_as words busy taken long shows (one_free busy 0 SLOT_COUNT (lowest_free busy 0 SLOT_COUNT) (omega arith) refl))
     decides TakeBoth right =
-        let taken = both_of (lowest_free busy 0 4) (lowest_free busy 4 4) in
-        subst (DecidesAs slots words (took busy taken)) (sym both_is) (takes_as words busy taken long shows (both_free busy (lowest_free busy 0 4) (lowest_free busy 4 4) refl refl))
+        let taken = both_of (lowest_free busy 0 BANK_SIZE) (lowest_free busy BANK_SIZE BANK_SIZE) in
+        subst (DecidesAs slots words (took busy taken)) (sym both_is) (takes_as words busy taken long shows (both_free busy (lowest_free busy 0 BANK_SIZE) (lowest_free busy BANK_SIZE BANK_SIZE) refl refl))
     decides (Give slot) right = gives_as words busy slot long shows right
 
 looks : (words other : List ℕ) (busy : Busy) → AreAlike slots words other → Shows words busy → Shows other busy
-looks words other busy alike shows = record { bits = λ s below. shows.bits s below ∙ ap (λ (n : ℕ). bit_at n (s % 4) == 1) (alike.under (s / 4) (s / 4) (refl, omega arith)) }
+looks words other busy alike shows = record { bits = λ s below. shows.bits s below ∙ ap (λ (n : ℕ). bit_at n (s % BANK_SIZE) == 1) (alike.under (s / BANK_SIZE) (s / BANK_SIZE) (refl, omega arith)) }
 
 opens_shown : Shows (replicate 5 0) none_busy
-opens_shown = record { bits = λ s below. at s below (s / 4) refl } where
-  at : (s : ℕ) → s < 8 → (bank : ℕ) → s / 4 ≡ bank → none_busy s ≡ (bit_at (slice_index (replicate 5 0) (s / 4)) (s % 4) == 1)
-  at s below zero e = sym (ap (λ (b : ℕ). bit_at (slice_index (replicate 5 0) b) (s % 4) == 1) e ∙ ap (λ (n : ℕ). n == 1) (bit_at-zero (s % 4)))
-  at s below (suc zero) e = sym (ap (λ (b : ℕ). bit_at (slice_index (replicate 5 0) b) (s % 4) == 1) e ∙ ap (λ (n : ℕ). n == 1) (bit_at-zero (s % 4)))
+opens_shown = record { bits = λ s below. at s below (s / BANK_SIZE) refl } where
+  at : (s : ℕ) → s < SLOT_COUNT → (bank : ℕ) → s / BANK_SIZE ≡ bank → none_busy s ≡ (bit_at (slice_index (replicate 5 0) (s / BANK_SIZE)) (s % BANK_SIZE) == 1)
+  at s below zero e = sym (ap (λ (b : ℕ). bit_at (slice_index (replicate 5 0) b) (s % BANK_SIZE) == 1) e ∙ ap (λ (n : ℕ). n == 1) (bit_at-zero (s % BANK_SIZE)))
+  at s below (suc zero) e = sym (ap (λ (b : ℕ). bit_at (slice_index (replicate 5 0) b) (s % BANK_SIZE) == 1) e ∙ ap (λ (n : ℕ). n == 1) (bit_at-zero (s % BANK_SIZE)))
   at s below (suc (suc more)) e = absurd (omega arith)
 
 -- both locks are unused

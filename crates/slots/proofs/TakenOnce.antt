@@ -6,6 +6,7 @@ use mathlib.Core.Bool.{true≢false}
 use Rattle.turns.specs.Among.{IsIn}
 use Rattle.turns.specs.Law.{IsLegal}
 use Rattle.turns.specs.World.{RecordOf, after}
+use Rattle.slots.specs.declared.bank.TheConstants.{BANK_SIZE, SLOT_COUNT}
 use Rattle.slots.specs.Slots.{Busy, with_slot, with_slots, lowest_free, both_of, whole}
 use Rattle.slots.specs.System.{slots}
 use Rattle.slots.specs.Taken.{Took, IsGivenBack}
@@ -28,8 +29,8 @@ these_taken busy (first ∷ taken) slot (inl e) = more_taken (with_slot busy fir
 these_taken busy (first ∷ taken) slot (inr later) = these_taken (with_slot busy first) taken slot later
 
 taken_after : (busy : Busy) (job : Job) (slot : ℕ) → IsIn slot (whole busy job).reply → (whole busy job).state slot ≡ true
-taken_after busy Take slot within = these_taken busy (option_to_list (lowest_free busy 0 8)) slot within
-taken_after busy TakeBoth slot within = these_taken busy (both_of (lowest_free busy 0 4) (lowest_free busy 4 4)) slot within
+taken_after busy Take slot within = these_taken busy (option_to_list (lowest_free busy 0 SLOT_COUNT)) slot within
+taken_after busy TakeBoth slot within = these_taken busy (both_of (lowest_free busy 0 BANK_SIZE) (lowest_free busy BANK_SIZE BANK_SIZE)) slot within
 taken_after busy (Give other) slot none = absurd none
 
 -- a job takes what was free
@@ -38,22 +39,22 @@ found_free busy from count slot None e none = absurd none
 found_free busy from count slot (Some found) e (inl same) = ap busy same ∙ (lowest_found busy from count found e).free
 found_free busy from count slot (Some found) e (inr none) = absurd none
 
-both_found : (busy : Busy) (slot : ℕ) (lower upper : Option ℕ) → lowest_free busy 0 4 ≡ lower → lowest_free busy 4 4 ≡ upper → IsIn slot (both_of lower upper) → busy slot ≡ false
+both_found : (busy : Busy) (slot : ℕ) (lower upper : Option ℕ) → lowest_free busy 0 BANK_SIZE ≡ lower → lowest_free busy BANK_SIZE BANK_SIZE ≡ upper → IsIn slot (both_of lower upper) → busy slot ≡ false
 both_found busy slot None upper el eu none = absurd none
 both_found busy slot (Some a) None el eu none = absurd none
-both_found busy slot (Some a) (Some b) el eu (inl same) = ap busy same ∙ (lowest_found busy 0 4 a el).free
-both_found busy slot (Some a) (Some b) el eu (inr (inl same)) = ap busy same ∙ (lowest_found busy 4 4 b eu).free
+both_found busy slot (Some a) (Some b) el eu (inl same) = ap busy same ∙ (lowest_found busy 0 BANK_SIZE a el).free
+both_found busy slot (Some a) (Some b) el eu (inr (inl same)) = ap busy same ∙ (lowest_found busy BANK_SIZE BANK_SIZE b eu).free
 both_found busy slot (Some a) (Some b) el eu (inr (inr none)) = absurd none
 
 free_before : (busy : Busy) (job : Job) (slot : ℕ) → IsIn slot (whole busy job).reply → busy slot ≡ false
-free_before busy Take slot within = found_free busy 0 8 slot (lowest_free busy 0 8) refl within
-free_before busy TakeBoth slot within = both_found busy slot (lowest_free busy 0 4) (lowest_free busy 4 4) refl refl within
+free_before busy Take slot within = found_free busy 0 SLOT_COUNT slot (lowest_free busy 0 SLOT_COUNT) refl within
+free_before busy TakeBoth slot within = both_found busy slot (lowest_free busy 0 BANK_SIZE) (lowest_free busy BANK_SIZE BANK_SIZE) refl refl within
 free_before busy (Give other) slot none = absurd none
 
 -- a taken slot stays so, unless it is given back
 stays_or_given : (busy : Busy) (job : Job) (slot : ℕ) → busy slot ≡ true → (job ≡ Give slot) ⊎ ((whole busy job).state slot ≡ true)
-stays_or_given busy Take slot e = inr (more_taken busy (option_to_list (lowest_free busy 0 8)) slot e)
-stays_or_given busy TakeBoth slot e = inr (more_taken busy (both_of (lowest_free busy 0 4) (lowest_free busy 4 4)) slot e)
+stays_or_given busy Take slot e = inr (more_taken busy (option_to_list (lowest_free busy 0 SLOT_COUNT)) slot e)
+stays_or_given busy TakeBoth slot e = inr (more_taken busy (both_of (lowest_free busy 0 BANK_SIZE) (lowest_free busy BANK_SIZE BANK_SIZE)) slot e)
 stays_or_given busy (Give other) slot e = at (slot == other) refl where
   at : (b : Bool) → (slot == other) ≡ b → (◌≡◌ {A = Job} (Give other) (Give slot)) ⊎ ((not b && busy slot) ≡ true)
   at true same = inl (ap (λ (s : ℕ). Give s) (sym (eqb-true slot other same)))

@@ -1,9 +1,10 @@
 use Rattle.std.specs.Prelude.{ℕ, zero, suc, ◌==◌, ◌||◌, ◌&&◌, not, Bool, false, Option, Some, None, List, [], ◌∷◌, option_to_list, if◌then◌else◌}
 use Rattle.turns.specs.System.{Whole}
+use Rattle.slots.specs.declared.bank.TheConstants.{BANK_SIZE, SLOT_COUNT}
 use Rattle.slots.specs.declared.job.Job.{Job}
 use Rattle.slots.specs.declared.job.Job.TheVariants.{Take, TakeBoth, Give}
 
--- the slots that are taken, of 8
+-- the slots that are taken
 abbrev pub Busy : Type 0
 Busy = ℕ → Bool
 
@@ -21,7 +22,7 @@ with_slots busy [] = busy
 with_slots busy (slot ∷ slots) = with_slots (with_slot busy slot) slots
 
 -- the lowest free slot among `count` of them from this one on
-abbrev pub lowest_free : Busy → ℕ → ℕ → Option ℕ
+unfoldable pub lowest_free : Busy → ℕ → ℕ → Option ℕ
 lowest_free busy slot zero = None
 lowest_free busy slot (suc count) =
     if busy slot then lowest_free busy (suc slot) count else Some slot
@@ -36,8 +37,10 @@ both_of None upper = []
 abbrev pub took : Busy → List ℕ → Whole Busy (List ℕ)
 took busy slots = record { state = with_slots busy slots; reply = slots }
 
--- what a job does, done whole: slots 0 to 3 are the lower bank, slots 4 to 7 the upper one
+-- what a job does, done whole: slots 0 to 31 are the lower bank, slots 32 to 63 the upper one
 abbrev pub whole : Busy → Job → Whole Busy (List ℕ)
-whole busy Take = took busy (option_to_list (lowest_free busy 0 8))
-whole busy TakeBoth = took busy (both_of (lowest_free busy 0 4) (lowest_free busy 4 4))
+whole busy Take = took busy (option_to_list (lowest_free busy 0 SLOT_COUNT))
+whole busy TakeBoth =
+    took busy
+    (both_of (lowest_free busy 0 BANK_SIZE) (lowest_free busy BANK_SIZE BANK_SIZE))
 whole busy (Give slot) = record { state = without_slot busy slot; reply = [] }

@@ -6,6 +6,7 @@ use Rattle.turns.specs.System.{System, SystemOver, system_of}
 use Rattle.turns.specs.declared.operation.Operation.{Operation}
 use Rattle.turns.specs.declared.operation.Operation.TheVariants.{Or, And}
 use Rattle.slots.specs.Slots.{Busy, none_busy, lowest_free, whole}
+use Rattle.slots.specs.declared.bank.TheConstants.{BANK_SIZE, SLOT_COUNT}
 use Rattle.slots.specs.declared.decision.Decision.{Decision}
 use Rattle.slots.specs.declared.decision.Decision.TheVariants.{Takes, Gives}
 use Rattle.slots.specs.declared.effect.Effect.{Effect}
@@ -16,8 +17,8 @@ use Rattle.slots.specs.declared.job.Job.TheVariants.{Take, TakeBoth, Give}
 -- the words: 0 and 1 have a bit for each slot of the two banks, 2 and 3 are the banks' locks, 4 is
 -- the turn word
 pub record Shows (words : List ℕ) (busy : Busy) : Type 0 where
-  pub bits : (slot : ℕ) → slot < 8
-      → busy slot ≡ (bit_at (slice_index words (slot / 4)) (slot % 4) == 1)
+  pub bits : (slot : ℕ) → slot < SLOT_COUNT
+      → busy slot ≡ (bit_at (slice_index words (slot / BANK_SIZE)) (slot % BANK_SIZE) == 1)
 
 -- a bank's lock protects the bank's word
 abbrev pub Protects : ℕ → ℕ → Type 0
@@ -25,8 +26,8 @@ Protects bank word = (word ≡ bank) × (word < 2)
 
 -- the operation that marks a slot in its bank's word, or clears it there
 abbrev pub operation_of : Effect → Operation
-operation_of (Mark slot) = Or (2 ^ (slot % 4))
-operation_of (Clear slot) = And (2 ^ 64 - 1 - 2 ^ (slot % 4))
+operation_of (Mark slot) = Or (2 ^ (slot % BANK_SIZE))
+operation_of (Clear slot) = And (2 ^ 64 - 1 - 2 ^ (slot % BANK_SIZE))
 
 abbrev pub slot_of : Effect → ℕ
 slot_of (Mark slot) = slot
@@ -34,7 +35,7 @@ slot_of (Clear slot) = slot
 
 -- a slot that is marked is free
 abbrev pub Due : Effect → ℕ → Type 0
-Due (Mark slot) word = bit_at word (slot % 4) ≡ 0
+Due (Mark slot) word = bit_at word (slot % BANK_SIZE) ≡ 0
 Due (Clear slot) word = ⊤
 
 -- what a job comes to: its reply, and its effects in their order
@@ -48,7 +49,8 @@ effects_of (Gives slot) = Clear slot ∷ []
 
 -- the lowest free slot of a bank, by the bank's word
 abbrev pub free_in : ℕ → ℕ → Option ℕ
-free_in bank word = lowest_free (λ slot. bit_at word (slot % 4) == 1) (4 * bank) 4
+free_in bank word =
+    lowest_free (λ slot. bit_at word (slot % BANK_SIZE) == 1) (BANK_SIZE * bank) BANK_SIZE
 
 -- a slot that was found is taken, or else the script goes on
 abbrev pub taken_or : Option ℕ → Script ℕ Decision → Script ℕ Decision
@@ -75,17 +77,17 @@ script Take =
     taken_or (free_in 0 lower)
     (SeizeThen 1 (TestThen 1 (λ upper. taken_or (free_in 1 upper) (Ends (Takes [])))))))
 script TakeBoth = SeizeThen 0 (TestThen 0 (λ lower. and_upper (free_in 0 lower)))
-script (Give slot) = SeizeThen (slot / 4) (Ends (Gives slot))
+script (Give slot) = SeizeThen (slot / BANK_SIZE) (Ends (Gives slot))
 
 abbrev pub first_lock : Job → ℕ
 first_lock Take = 0
 first_lock TakeBoth = 0
-first_lock (Give slot) = slot / 4
+first_lock (Give slot) = slot / BANK_SIZE
 
 abbrev pub IsJob : Job → Type 0
 IsJob Take = ⊤
 IsJob TakeBoth = ⊤
-IsJob (Give slot) = slot < 8
+IsJob (Give slot) = slot < SLOT_COUNT
 
 -- the slots as a system, over the types of its locks, jobs, replies and effects
 abbrev pub slots_over : SystemOver ℕ Job (List ℕ) Effect
@@ -102,7 +104,7 @@ slots_over = record {
   script = script;
   reply_of = reply_of;
   effects_of = effects_of;
-  effect_word = λ effect. slot_of effect / 4;
+  effect_word = λ effect. slot_of effect / BANK_SIZE;
   operation_of = operation_of;
   Due = Due;
   size = 5;

@@ -1,6 +1,7 @@
 ghost use Rattle.std.specs.Prelude.{◌≡◌};
 ghost use Rattle.slots.specs.System.{operation_of};
 
+use crate::bank::BANK_SIZE;
 use turns::Operation;
 
 /// A change of a bank's word.
@@ -18,8 +19,8 @@ impl Effect {
         ensures { result ≡ operation_of self.now }
     {
         match self {
-            Effect::Mark(slot) => Operation::Or(1 << (slot % 4)),
-            Effect::Clear(slot) => Operation::And(!(1 << (slot % 4))),
+            Effect::Mark(slot) => Operation::Or(1 << (slot % BANK_SIZE)),
+            Effect::Clear(slot) => Operation::And(!(1 << (slot % BANK_SIZE))),
         }
     }
 }

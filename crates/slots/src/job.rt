@@ -5,6 +5,6 @@ pub enum Job {
     Take,
     /// Takes the lowest free slot of each bank at once, or none.
     TakeBoth,
-    /// Gives this slot back, one of 0 to 7.
+    /// Gives this slot back, one of 0 to 63.
     Give(u32),
 }

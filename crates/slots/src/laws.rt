@@ -16,6 +16,7 @@ ghost use Rattle.slots.specs.Taken.{IsGivenBack, Took};
 ghost use Rattle.slots.specs.WorkedRun.{replies, worked};
 ghost use Rattle.slots.specs.declared.job.Job.{Job};
 
+use crate::bank::{BANK_SIZE, SLOT_COUNT};
 use crate::effect::Effect;
 use turns::laws::{self, Family};
 
@@ -51,9 +52,9 @@ pub fn slots_are_taken_once()
 /// Where no bank's lock is held, the words tell which slots are taken after the turns so far.
 pub fn unheld_words_show_the_slots()
     ensures { (w : World slots) (slot : ℕ) → Lawful slots w →
-        ((bank : ℕ) → bank < 2 → holder_at slots w.words bank ≡ 0) → slot < 8 →
-        after slots none_busy w.order slot ≡ (bit_at (slice_index w.words (slot / 4))
-        (slot % 4) == 1) }
+        ((bank : ℕ) → bank < 2 → holder_at slots w.words bank ≡ 0) → slot < SLOT_COUNT →
+        after slots none_busy w.order slot ≡ (bit_at (slice_index w.words (slot / BANK_SIZE))
+        (slot % BANK_SIZE) == 1) }
 {
     laws::jobs_act_at_their_turns::<Slots>();
 }
@@ -62,7 +63,7 @@ pub fn unheld_words_show_the_slots()
 pub fn slots_are_marked_free()
     ensures { (w : World slots) (k number : ℕ) (a : AttemptOf slots) (slot : ℕ) → Lawful slots w →
         get_elem? w.actors k ≡ some (Does number a) → act a ≡ Make (Effect.Mark slot) →
-        bit_at (slice_index w.words (slot / 4)) (slot % 4) ≡ 0 }
+        bit_at (slice_index w.words (slot / BANK_SIZE)) (slot % BANK_SIZE) ≡ 0 }
 {
     laws::words_are_their_holders::<Slots>();
 }
@@ -88,9 +89,10 @@ pub fn jobs_left_alone_end()
     laws::actors_left_alone_end::<Slots>();
 }
 
-/// A run of two actors by hand: the words are the busy bits 11 and 1, two free locks, and two
-/// turns; slot 0 went to the one actor, slots 1 and 4 to the other.
+/// A run of two actors, worked out by hand: slot 0 goes to actor 0, so slot 1 is the lowest of its
+/// bank that is left for actor 1, and slot 32 the lowest of the other bank. Bits 0 and 1 of word 0
+/// and bit 0 of word 1 make the words 3 and 1; both locks are free, and two turns were taken.
 pub fn two_actors_take_slots()
     ensures words { worked.words ≡ 3 ∷ 1 ∷ 0 ∷ 0 ∷ 2 ∷ [] }
-    ensures replies { replies worked.order ≡ (0 ∷ []) ∷ (1 ∷ 4 ∷ []) ∷ [] }
+    ensures replies { replies worked.order ≡ (0 ∷ []) ∷ (1 ∷ 32 ∷ []) ∷ [] }
 {}

@@ -346,10 +346,22 @@ fn plans_of_live_calls_and_audits(rt: HostRuntime) -> Result<(), Fail> {
     check_audit(&rt, alloc, plan.as_str(), b"PATHS,1\nCLOSED,4\n", wrong)
 }
 
+/// Runs that write nothing, with the status and the line of each.
+fn ends_are_told(
+    rt: &impl Abort,
+    alloc: Global,
+    table: &[(Ended<'_>, u8, &str)],
+) -> Result<(), Fail> {
+    for (ended, status, line) in table {
+        check_ended(rt, alloc, ended, b"", ("", *status, *line))?;
+    }
+    Ok(())
+}
+
+/// Markers are judged before the plan's file is opened.
 #[test]
-fn markers_files_and_lengths(rt: HostRuntime) -> Result<(), Fail> {
-    let telling = Ending::Failed(EngineFault::Device);
-    for (ended, status, line) in [
+fn markers(rt: HostRuntime) -> Result<(), Fail> {
+    let table = [
         (
             replay(&rt, Some("nofile.toml"), "DCY"),
             2,
@@ -365,21 +377,18 @@ fn markers_files_and_lengths(rt: HostRuntime) -> Result<(), Fail> {
             2,
             "crossbar5: --dial 30 --completing 31: 1 to 48 markers in all are wanted, at least one of each",
         ),
-        (
-            replay(&rt, Some("nofile.toml"), "XX"),
-            6,
-            "crossbar5: nofile.toml: cannot be read",
-        ),
-        (
-            live(&rt, &rt, Some("nofile.toml"), 1, 1),
-            6,
-            "crossbar5: nofile.toml: cannot be read",
-        ),
-        (
-            perform(&rt, Some("nofile.toml"), Task::Audit),
-            6,
-            "crossbar5: nofile.toml: cannot be read",
-        ),
+    ];
+    ends_are_told(&rt, rt.alloc(), &table)
+}
+
+#[test]
+fn files(rt: HostRuntime) -> Result<(), Fail> {
+    let missing = "crossbar5: nofile.toml: cannot be read";
+    let endless = "crossbar5: endless.toml: is too long";
+    let table = [
+        (replay(&rt, Some("nofile.toml"), "XX"), 6, missing),
+        (live(&rt, &rt, Some("nofile.toml"), 1, 1), 6, missing),
+        (perform(&rt, Some("nofile.toml"), Task::Audit), 6, missing),
         // What is no file can be opened, but not read.
         (
             perform(&rt, Some("/"), Task::Audit),
@@ -389,38 +398,31 @@ fn markers_files_and_lengths(rt: HostRuntime) -> Result<(), Fail> {
         (
             Ended::of_plan_file(EngineFault::Long, Some("endless.toml")),
             4,
-            "crossbar5: endless.toml: is too long",
+            endless,
         ),
         (
             Ended::of_plan_file(EngineFault::Memory, Some("town.toml")),
             5,
             "none",
         ),
-        (
-            Ended::of_run(EngineFault::Device, 0),
-            6,
-            "crossbar5: standard output: cannot be written",
-        ),
-        (
-            Ended::of_run(EngineFault::Device, 1),
-            6,
-            "crossbar5: standard input: cannot be read",
-        ),
-        (
-            Ended::of_run(EngineFault::Long, 0),
-            4,
-            "crossbar5: standard input: is too long",
-        ),
+    ];
+    ends_are_told(&rt, rt.alloc(), &table)
+}
+
+#[test]
+fn streams(rt: HostRuntime) -> Result<(), Fail> {
+    let output = "crossbar5: standard output: cannot be written";
+    let input = "crossbar5: standard input: cannot be read";
+    let long = "crossbar5: standard input: is too long";
+    let telling = Ending::Failed(EngineFault::Device);
+    let table = [
+        (Ended::of_run(EngineFault::Device, 0), 6, output),
+        (Ended::of_run(EngineFault::Device, 1), 6, input),
+        (Ended::of_run(EngineFault::Long, 0), 4, long),
         (Ended::of_run(EngineFault::Memory, 0), 5, "none"),
-        (
-            Ended::of_telling(telling),
-            6,
-            "crossbar5: standard output: cannot be written",
-        ),
+        (Ended::of_telling(telling), 6, output),
         (Ended::of_telling(Ending::Refused), 2, "none"),
         (Ended::plainly(Ending::NotText), 2, "none"),
-    ] {
-        check_ended(&rt, rt.alloc(), &ended, b"", ("", status, line))?;
-    }
-    Ok(())
+    ];
+    ends_are_told(&rt, rt.alloc(), &table)
 }

@@ -1,0 +1,597 @@
+//! The same steps in ordinary Rust, with nothing proved: calls out of the example office, each dialled,
+//! completed and released, by the same atomic operations on the same 453 words. It is what `docs/SPEED.md`
+//! compares with, and no part of the simulator.
+//!
+//!     rustc --edition 2021 -O -o /tmp/plain_steps examples/plain_steps.rs
+//!     /tmp/plain_steps lone CALLS            one marker, one call after another
+//!     /tmp/plain_steps live CALLS MARKERS    so many threads that dial and as many that complete calls,
+//!                                            with three calls under way at once at most
+//!
+//! A job is one function that makes its steps as it comes to them; it can't be stopped between two of them,
+//! as the simulator's can.
+
+use std::collections::VecDeque;
+use std::sync::atomic::{AtomicU64, Ordering::SeqCst};
+use std::sync::{Condvar, Mutex};
+use std::time::Instant;
+use std::{env, thread};
+
+#[derive(Clone, Copy, PartialEq)]
+enum Conn {
+    Llf(usize),
+    Tlf(usize),
+    Group(usize),
+}
+
+impl Conn {
+    fn word(self) -> usize {
+        match self {
+            Conn::Llf(l) => 416 + l,
+            Conn::Tlf(t) => 426 + t,
+            Conn::Group(g) => 436 + g,
+        }
+    }
+}
+
+#[derive(Clone, Copy)]
+struct Line {
+    frame: usize,
+    switch: usize,
+    x: u64,
+}
+
+#[derive(Clone, Copy, PartialEq)]
+struct Place {
+    frame: usize,
+    switch: usize,
+    appearance: u64,
+}
+
+#[derive(Clone, Copy)]
+struct Path {
+    line: Line,
+    channel: usize,
+    place: Place,
+}
+
+#[derive(Clone, Copy)]
+struct Call {
+    line: Line,
+}
+
+#[allow(dead_code)]
+enum End {
+    DialTone(Path),
+    Connected(Path),
+    Released(Path),
+    LineBusy,
+    Busy,
+    NoPath,
+    NoCall,
+}
+
+#[allow(dead_code)]
+struct Record {
+    turn: u64,
+    marker: u64,
+    job_no: u32,
+    end: End,
+}
+
+fn place(number: usize) -> Place {
+    Place {
+        frame: number / 100,
+        switch: number / 10 % 10,
+        appearance: (number % 10) as u64,
+    }
+}
+
+struct Plan {
+    groups: [Vec<Place>; 4],
+}
+
+fn example() -> Plan {
+    let group = |numbers: &[usize]| numbers.iter().map(|n| place(*n)).collect();
+    Plan {
+        groups: [
+            group(&[417, 418, 509]),
+            group(&[]),
+            group(&[800]),
+            group(&[801, 902]),
+        ],
+    }
+}
+
+fn line_switch(line: Line) -> usize {
+    20 * line.frame + line.switch
+}
+fn line_junctor(frame: usize, channel: usize) -> usize {
+    20 * frame + 10 + channel
+}
+fn trunk_junctor(frame: usize, channel: usize) -> usize {
+    200 + 20 * frame + 10 + channel
+}
+fn trunk_switch(place: Place) -> usize {
+    200 + 20 * place.frame + place.switch
+}
+
+fn find(word: u64, width: usize, value: u64) -> Option<usize> {
+    let mask = (1 << width) - 1;
+    (0..10).find(|field| word >> (width * field) & mask == value)
+}
+
+struct PutOff;
+
+/// A marker's attempt: what it holds, on these words.
+struct Attempt<'a> {
+    words: &'a [AtomicU64],
+    marker: u64,
+    held: Vec<Conn>,
+    read: Vec<(usize, u64)>,
+    steps: u64,
+}
+
+impl Attempt<'_> {
+    fn judge(&self, word: u64) -> bool {
+        word & 63 == 0 && word >> 8 & ((1 << self.marker) - 1) == 0
+    }
+
+    fn put_off(&mut self, conn: Conn) -> PutOff {
+        self.words[conn.word()].fetch_and(!(1 << (8 + self.marker)), SeqCst);
+        self.steps += 1;
+        self.free_all();
+        self.read.clear();
+        PutOff
+    }
+
+    fn free_all(&mut self) {
+        for conn in self.held.drain(..) {
+            self.words[conn.word()].fetch_and(!63, SeqCst);
+            self.steps += 1;
+        }
+    }
+
+    fn seize(&mut self, conn: Conn) -> Result<(), PutOff> {
+        if self.held.contains(&conn) {
+            return Ok(());
+        }
+        let bit = 1 << (8 + self.marker);
+        let word = &self.words[conn.word()];
+        let mut expected = word.fetch_or(bit, SeqCst) | bit;
+        self.steps += 1;
+        loop {
+            if !self.judge(expected) {
+                return Err(self.put_off(conn));
+            }
+            self.steps += 1;
+            match word.compare_exchange(
+                expected,
+                expected & !bit | (self.marker + 1),
+                SeqCst,
+                SeqCst,
+            ) {
+                Ok(_) => {
+                    self.held.push(conn);
+                    return Ok(());
+                }
+                Err(found) => expected = found,
+            }
+        }
+    }
+
+    fn test(&mut self, word: usize) -> u64 {
+        if let Some((_, value)) = self.read.iter().find(|(read, _)| *read == word) {
+            return *value;
+        }
+        self.steps += 1;
+        let value = self.words[word].load(SeqCst);
+        self.read.push((word, value));
+        value
+    }
+
+    fn turn(&mut self) -> u64 {
+        self.steps += 1;
+        self.words[452].fetch_add(1, SeqCst)
+    }
+
+    fn or(&mut self, word: usize, bits: u64) {
+        self.steps += 1;
+        self.words[word].fetch_or(bits, SeqCst);
+    }
+
+    fn and(&mut self, word: usize, mask: u64) {
+        self.steps += 1;
+        self.words[word].fetch_and(mask, SeqCst);
+    }
+
+    fn close(&mut self, path: &Path) {
+        let Path {
+            line,
+            channel,
+            place,
+        } = *path;
+        self.or(line_switch(line), (1 + line.x) << (6 * channel));
+        self.or(
+            line_junctor(line.frame, channel),
+            (1 + line.switch as u64) << (4 * place.frame),
+        );
+        self.or(
+            trunk_junctor(place.frame, channel),
+            (1 + place.switch as u64) << (4 * line.frame),
+        );
+        self.or(trunk_switch(place), (1 + place.appearance) << (4 * channel));
+    }
+
+    fn open(&mut self, path: &Path) {
+        let Path {
+            line,
+            channel,
+            place,
+        } = *path;
+        self.and(line_switch(line), !(63 << (6 * channel)));
+        self.and(
+            line_junctor(line.frame, channel),
+            !(15 << (4 * place.frame)),
+        );
+        self.and(
+            trunk_junctor(place.frame, channel),
+            !(15 << (4 * line.frame)),
+        );
+        self.and(trunk_switch(place), !(15 << (4 * channel)));
+    }
+
+    fn trace(&mut self, line: Line) -> Result<Option<Path>, PutOff> {
+        self.seize(Conn::Llf(line.frame))?;
+        let word = self.test(line_switch(line));
+        let Some(channel) = find(word, 6, 1 + line.x) else {
+            return Ok(None);
+        };
+        let word = self.test(line_junctor(line.frame, channel));
+        let Some(frame) = find(word, 4, 1 + line.switch as u64) else {
+            return Ok(None);
+        };
+        self.seize(Conn::Tlf(frame))?;
+        let switch =
+            (self.test(trunk_junctor(frame, channel)) >> (4 * line.frame) & 15) as usize - 1;
+        let number = 200 + 20 * frame + switch;
+        let appearance = (self.test(number) >> (4 * channel) & 15) - 1;
+        Ok(Some(Path {
+            line,
+            channel,
+            place: Place {
+                frame,
+                switch,
+                appearance,
+            },
+        }))
+    }
+
+    /// The first idle member of a group.
+    fn idle(&mut self, plan: &Plan, group: usize) -> Result<Option<usize>, PutOff> {
+        self.seize(Conn::Group(group))?;
+        let word = self.test(400 + group);
+        Ok((0..plan.groups[group].len()).find(|index| word >> index & 1 == 0))
+    }
+
+    /// A channel to a place, with the crosspoints of a path as if it were open.
+    fn channel(
+        &mut self,
+        line: Line,
+        place: Place,
+        without: Option<&Path>,
+    ) -> Result<Option<usize>, PutOff> {
+        self.seize(Conn::Tlf(place.frame))?;
+        let trunk = self.test(trunk_switch(place));
+        let mut junctors = [0; 10];
+        for (channel, word) in junctors.iter_mut().enumerate() {
+            *word = self.test(line_junctor(line.frame, channel));
+        }
+        let mut own = self.test(line_switch(line));
+        let mut trunk = trunk;
+        if let Some(path) = without {
+            own &= !(63 << (6 * path.channel));
+            junctors[path.channel] &= !(15 << (4 * path.place.frame));
+            if trunk_switch(path.place) == trunk_switch(place) {
+                trunk &= !(15 << (4 * path.channel));
+            }
+        }
+        Ok((0..10).find(|n| {
+            own >> (6 * n) & 63 == 0
+                && junctors[*n] >> (4 * place.frame) & 15 == 0
+                && trunk >> (4 * n) & 15 == 0
+        }))
+    }
+
+    fn dial(&mut self, plan: &Plan, line: Line) -> Result<(u64, End), PutOff> {
+        self.seize(Conn::Llf(line.frame))?;
+        let word = self.test(line_switch(line));
+        if find(word, 6, 1 + line.x).is_some() {
+            return Ok((self.turn(), End::LineBusy));
+        }
+        let Some(index) = self.idle(plan, 0)? else {
+            return Ok((self.turn(), End::Busy));
+        };
+        let place = plan.groups[0][index];
+        let Some(channel) = self.channel(line, place, None)? else {
+            return Ok((self.turn(), End::NoPath));
+        };
+        let path = Path {
+            line,
+            channel,
+            place,
+        };
+        let turn = self.turn();
+        self.close(&path);
+        self.or(400, 1 << index);
+        Ok((turn, End::DialTone(path)))
+    }
+
+    fn complete(&mut self, plan: &Plan, line: Line) -> Result<(u64, End), PutOff> {
+        let Some(own) = self.trace(line)? else {
+            return Ok((self.turn(), End::NoCall));
+        };
+        let Some(register) = plan.groups[0].iter().position(|p| *p == own.place) else {
+            return Ok((self.turn(), End::NoCall));
+        };
+        self.seize(Conn::Group(0))?;
+        let mut found = None;
+        for group in [2, 3] {
+            if let Some(index) = self.idle(plan, group)? {
+                found = Some((group, index));
+                break;
+            }
+        }
+        let mut made = None;
+        if let Some((group, index)) = found {
+            let place = plan.groups[group][index];
+            if let Some(channel) = self.channel(line, place, Some(&own))? {
+                made = Some((
+                    group,
+                    index,
+                    Path {
+                        line,
+                        channel,
+                        place,
+                    },
+                ));
+            }
+        }
+        let turn = self.turn();
+        self.open(&own);
+        self.and(400, !(1 << register));
+        let Some((group, index, path)) = made else {
+            return Ok((turn, End::Busy));
+        };
+        self.close(&path);
+        self.or(400 + group, 1 << index);
+        Ok((turn, End::Connected(path)))
+    }
+
+    fn release(&mut self, plan: &Plan, line: Line) -> Result<(u64, End), PutOff> {
+        let Some(own) = self.trace(line)? else {
+            return Ok((self.turn(), End::NoCall));
+        };
+        let at = (0..4).find_map(|g| {
+            plan.groups[g]
+                .iter()
+                .position(|p| *p == own.place)
+                .map(|i| (g, i))
+        });
+        let Some((group, index)) = at else {
+            return Ok((self.turn(), End::NoCall));
+        };
+        self.seize(Conn::Group(group))?;
+        let turn = self.turn();
+        self.open(&own);
+        self.and(400 + group, !(1 << index));
+        Ok((turn, End::Released(own)))
+    }
+
+    fn do_job(&mut self, plan: &Plan, kind: u8, line: Line, job_no: u32) -> Record {
+        loop {
+            let tried = match kind {
+                0 => self.dial(plan, line),
+                1 => self.complete(plan, line),
+                _ => self.release(plan, line),
+            };
+            match tried {
+                Ok((turn, end)) => {
+                    self.free_all();
+                    self.read.clear();
+                    return Record {
+                        turn,
+                        marker: self.marker,
+                        job_no,
+                        end,
+                    };
+                }
+                Err(PutOff) => thread::yield_now(),
+            }
+        }
+    }
+}
+
+fn attempt(words: &[AtomicU64], marker: u64) -> Attempt<'_> {
+    Attempt {
+        words,
+        marker,
+        held: Vec::with_capacity(19),
+        read: Vec::with_capacity(42),
+        steps: 0,
+    }
+}
+
+struct Queue<T> {
+    items: Mutex<VecDeque<T>>,
+    came: Condvar,
+}
+
+impl<T> Queue<T> {
+    fn new() -> Self {
+        Queue {
+            items: Mutex::new(VecDeque::new()),
+            came: Condvar::new(),
+        }
+    }
+    fn put(&self, item: T) {
+        self.items.lock().unwrap().push_back(item);
+        self.came.notify_one();
+    }
+    fn try_take(&self) -> Option<T> {
+        self.items.lock().unwrap().pop_front()
+    }
+    fn take(&self) -> T {
+        let mut items = self.items.lock().unwrap();
+        loop {
+            if let Some(item) = items.pop_front() {
+                return item;
+            }
+            items = self.came.wait(items).unwrap();
+        }
+    }
+}
+
+struct Pace {
+    under_way: AtomicU64,
+    most: u64,
+}
+
+impl Pace {
+    fn begin(&self) {
+        for _ in 0..1_000_000 {
+            if self.under_way.fetch_add(1, SeqCst) < self.most {
+                return;
+            }
+            self.end();
+            thread::yield_now();
+        }
+    }
+    fn end(&self) {
+        self.under_way.fetch_sub(1, SeqCst);
+    }
+}
+
+fn call_at(n: usize) -> Call {
+    Call {
+        line: Line {
+            frame: n % 10,
+            switch: n / 10 % 10,
+            x: (n / 100 % 3) as u64,
+        },
+    }
+}
+
+enum Task {
+    Complete(u32, Call),
+    Stop,
+}
+
+fn live(calls: usize, count: u64, most: u64) {
+    let plan = example();
+    let words: Vec<AtomicU64> = (0..453).map(|_| AtomicU64::new(0)).collect();
+    let first: Queue<(u32, Call)> = Queue::new();
+    let second: Queue<Task> = Queue::new();
+    for n in 0..calls {
+        first.put((n as u32, call_at(n)));
+    }
+    let pace = Pace {
+        under_way: AtomicU64::new(0),
+        most,
+    };
+    let start = Instant::now();
+    let (jobs, steps) = thread::scope(|scope| {
+        let (plan, words, first, second, pace) = (&plan, &words[..], &first, &second, &pace);
+        let completing: Vec<_> = (0..count)
+            .map(|k| {
+                scope.spawn(move || {
+                    let mut own = attempt(words, count + k);
+                    let mut records = Vec::new();
+                    loop {
+                        let Task::Complete(n, call) = second.take() else {
+                            return (records, own.steps);
+                        };
+                        let record = own.do_job(plan, 1, call.line, 3 * n + 1);
+                        pace.end();
+                        let connected = matches!(record.end, End::Connected(_));
+                        records.push(record);
+                        if connected {
+                            records.push(own.do_job(plan, 2, call.line, 3 * n + 2));
+                        }
+                    }
+                })
+            })
+            .collect();
+        let dialling: Vec<_> = (0..count)
+            .map(|k| {
+                scope.spawn(move || {
+                    let mut own = attempt(words, k);
+                    let mut records = Vec::new();
+                    while let Some((n, call)) = first.try_take() {
+                        pace.begin();
+                        let record = own.do_job(plan, 0, call.line, 3 * n);
+                        if matches!(record.end, End::DialTone(_)) {
+                            second.put(Task::Complete(n, call));
+                        }
+                        records.push(record);
+                    }
+                    (records, own.steps)
+                })
+            })
+            .collect();
+        let mut all = (0, 0);
+        for thread in dialling {
+            let (records, steps) = thread.join().unwrap();
+            all = (all.0 + records.len(), all.1 + steps);
+        }
+        for _ in 0..count {
+            second.put(Task::Stop);
+        }
+        for thread in completing {
+            let (records, steps) = thread.join().unwrap();
+            all = (all.0 + records.len(), all.1 + steps);
+        }
+        all
+    });
+    let time = start.elapsed().as_nanos() as u64;
+    println!(
+        "{count} and {count}, {most} calls at once: {} ns a job of {jobs}, {} steps a job",
+        time / jobs as u64,
+        steps as f64 / jobs as f64
+    );
+    assert_eq!(words[452].load(SeqCst), jobs as u64);
+}
+
+fn lone(calls: usize) {
+    let plan = example();
+    let words: Vec<AtomicU64> = (0..453).map(|_| AtomicU64::new(0)).collect();
+    let line = Line {
+        frame: 3,
+        switch: 0,
+        x: 21,
+    };
+    let start = Instant::now();
+    let mut own = attempt(&words, 0);
+    let mut records = Vec::new();
+    for n in 0..calls as u32 {
+        for kind in 0..3 {
+            records.push(own.do_job(&plan, kind, line, 3 * n + u32::from(kind)));
+        }
+    }
+    let time = start.elapsed().as_nanos() as u64;
+    println!(
+        "lone: {} steps, {} ns a step, {} ns a job",
+        own.steps,
+        time / own.steps,
+        time / records.len() as u64
+    );
+}
+
+fn main() {
+    let words: Vec<String> = env::args().collect();
+    let number = |at: usize, or: usize| words.get(at).and_then(|w| w.parse().ok()).unwrap_or(or);
+    match words.get(1).map(String::as_str) {
+        Some("lone") => lone(number(2, 10_000)),
+        Some("live") => live(number(2, 10_000), number(3, 1) as u64, number(4, 3) as u64),
+        _ => println!("usage: plain lone CALLS | live CALLS MARKERS UNDER_WAY"),
+    }
+}
