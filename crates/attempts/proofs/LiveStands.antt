@@ -1,6 +1,5 @@
 -- attempts that make steps by their walks stand where their jobs bring them
 use Rattle.std.proofs.Common.{◌≡◌, ℕ, zero, suc, ◌+◌, ◌<◌, ◌^◌, List, refl, sym, ◌∙◌, ap, subst, true}
-use Rattle.std.specs.Prelude.{⊤}
 use Rattle.turns.specs.Attempt.{Act, Ask, AttemptOf, Free, IsAnswerTo, Leave, Look, Make, Rest, StandsIn, Take, Turn, act, come_to, goes_on, seen_of}
 use Rattle.turns.specs.Script.{AsksAtMost, walk}
 use Rattle.turns.specs.Sharing.{IsUnused}
@@ -12,7 +11,7 @@ use Rattle.turns.specs.declared.phase.Phase.{Phase}
 use Rattle.turns.specs.declared.phase.Phase.TheVariants.{Requests, Seizes, Tests, Turns, Withdraws, GivesBack, Operates}
 use Rattle.attempts.specs.Standing.{HasPlace}
 use Rattle.attempts.proofs.Places.{FitsValue, place_change}
-use Rattle.attempts.specs.Live.{Course, Comes, IsMade, LeadsTo, Moment, gone_on_by, live, stepped, told}
+use Rattle.attempts.specs.Live.{Course, Comes, IsMade, LeadsTo, Moment, gone_on_by, live, stepped, told, WantsNext}
 use Rattle.attempts.proofs.LiveSteps.{hold, live_steps}
 
 module _ (O : System) (is : IsSystem O) (R H : ℕ) (asks : (job : O.Job) → O.IsJob job → AsksAtMost R H (O.script job)) where
@@ -42,16 +41,6 @@ module _ (O : System) (is : IsSystem O) (R H : ℕ) (asks : (job : O.Job) → O.
   leads_place k zero m last leads placed = subst (λ (x : Moment O). HasPlace O R H x.attempt) leads placed
   leads_place k (suc count) m last leads placed =
       leads_place k count (stepped O k m) last leads.1.1 (place_change O is R H asks m.attempt (told O k m) (answer_fits (act m.attempt) (told O k m) leads.1.0) placed)
-
-  -- it is at its script, where it wants something of which nothing is done yet
-  abbrev pub WantsNext : Phase Lock ℕ → Type 0
-  WantsNext (Requests lock) = ⊤
-  WantsNext (Tests word) = ⊤
-  WantsNext (Seizes lock expected) = ⊥
-  WantsNext Turns = ⊥
-  WantsNext (Withdraws lock) = ⊥
-  WantsNext GivesBack = ⊥
-  WantsNext (Operates turn) = ⊥
 
   -- it stands where its walk comes to
   stands_at : (a : AttemptOf O) (phase : Phase Lock ℕ) → a.phase ≡ phase → WantsNext phase → StandsIn O a phase → goes_on O a (come_to O a) ≡ a

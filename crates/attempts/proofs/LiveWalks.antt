@@ -7,6 +7,7 @@ use Rattle.turns.specs.Seen.{Seen}
 use Rattle.turns.specs.declared.reading.Reading.{Reading}
 use Rattle.turns.specs.declared.wanted.Wanted.{Wanted}
 use Rattle.turns.proofs.Room.{Grows, held_before, held_last, read_before}
+use Rattle.attempts.specs.Points.{Extends}
 use Rattle.attempts.specs.Live.{Course, Comes, with_reading, with_lock, read_at_once, may_seize, live_test, live_seize, live}
 
 -- a word that was not read, once it is
@@ -169,6 +170,10 @@ module _ {Lock : Type 0} (same : Lock → Lock → Bool) (self : (lock : Lock) �
         at false later e = absurd cc
         at true later e = later e
 
+module _ {Lock : Type 0} (same : Lock → Lock → Bool) (lock_word : Lock → ℕ) (reads seizes : ℕ) where
+  abbrev by_it : {A : Type 0} → Script Lock A → Course Lock → List ℕ → Comes Lock A
+  by_it = live same lock_word reads seizes (λ word value. value)
+
   none_read : (left room word : ℕ) → read_at_once left room [] word ≡ None
   none_read zero room word = refl
   none_read (suc left) zero word = refl
@@ -181,20 +186,30 @@ module _ {Lock : Type 0} (same : Lock → Lock → Bool) (self : (lock : Lock) �
   none_seized (suc (suc left)) (suc room) word = refl
 
   -- with no words at hand it is a walk by what was come by
-  pub live_none : {A : Type 0} (script : Script Lock A) (course : Course Lock) → plain script course [] ≡ record { found = walk same course.seen script; course = course; words = [] }
+  pub walk_none : {A : Type 0} (script : Script Lock A) (course : Course Lock) → by_it script course [] ≡ record { found = walk same course.seen script; course = course; words = [] }
   unfolding live live_test live_seize walk left left_of_test left_of_seizing first_wanted
-  live_none (Ends found) course = refl
-  live_none {A} (TestThen word script) course =
-      ap (λ (now : Option ℕ). live_test same lock_word reads seizes (λ word value. value) (λ value. plain (script value)) word course [] (value_read course.seen.readings word) now) (none_read course.left (reads - length course.seen.readings) word)
-      ∙ at (value_read course.seen.readings word) (λ value. live_none (script value) course) where
-        at : (read : Option ℕ) → ((value : ℕ) → plain (script value) course [] ≡ record { found = walk same course.seen (script value); course = course; words = [] })
-            → live_test same lock_word reads seizes (λ word value. value) (λ value. plain (script value)) word course [] read None ≡ record { found = first_wanted (left_of_test script (λ value. left same course.seen (script value)) word read); course = course; words = [] }
+  walk_none (Ends found) course = refl
+  walk_none {A} (TestThen word script) course =
+      ap (λ (now : Option ℕ). live_test same lock_word reads seizes (λ word value. value) (λ value. by_it (script value)) word course [] (value_read course.seen.readings word) now) (none_read course.left (reads - length course.seen.readings) word)
+      ∙ at (value_read course.seen.readings word) (λ value. walk_none (script value) course) where
+        at : (read : Option ℕ) → ((value : ℕ) → by_it (script value) course [] ≡ record { found = walk same course.seen (script value); course = course; words = [] })
+            → live_test same lock_word reads seizes (λ word value. value) (λ value. by_it (script value)) word course [] read None ≡ record { found = first_wanted (left_of_test script (λ value. left same course.seen (script value)) word read); course = course; words = [] }
         at None later = refl
         at (Some value) later = later value
-  live_none {A} (SeizeThen lock script) course =
-      ap (λ (now : Bool). live_seize same lock_word reads seizes (λ word value. value) (plain script) lock course [] (is_held same course.seen.held lock) now) (none_seized course.left (seizes - length course.seen.held) (lock_word lock))
-      ∙ at (is_held same course.seen.held lock) (live_none script course) where
-        at : (held : Bool) → plain script course [] ≡ record { found = walk same course.seen script; course = course; words = [] }
-            → live_seize same lock_word reads seizes (λ word value. value) (plain script) lock course [] held false ≡ record { found = first_wanted (left_of_seizing script (left same course.seen script) lock held); course = course; words = [] }
+  walk_none {A} (SeizeThen lock script) course =
+      ap (λ (now : Bool). live_seize same lock_word reads seizes (λ word value. value) (by_it script) lock course [] (is_held same course.seen.held lock) now) (none_seized course.left (seizes - length course.seen.held) (lock_word lock))
+      ∙ at (is_held same course.seen.held lock) (walk_none script course) where
+        at : (held : Bool) → by_it script course [] ≡ record { found = walk same course.seen script; course = course; words = [] }
+            → live_seize same lock_word reads seizes (λ word value. value) (by_it script) lock course [] held false ≡ record { found = first_wanted (left_of_seizing script (left same course.seen script) lock held); course = course; words = [] }
         at false later = refl
         at true later = later
+
+module _ {Lock : Type 0} (same : Lock → Lock → Bool) (self : (lock : Lock) → same lock lock ≡ true) (lock_word : Lock → ℕ) (reads seizes : ℕ) where
+  pub live_none : {A : Type 0} (script : Script Lock A) (course : Course Lock) → live same lock_word reads seizes (λ word value. value) script course [] ≡ record { found = walk same course.seen script; course = course; words = [] }
+  live_none script course = walk_none same lock_word reads seizes script course
+
+  -- what was come by still is, for a point that stays so with more
+  pub live_extends : {A : Type 0} (script : Script Lock A) (course : Course Lock) (words : List ℕ) → Extends same course.seen (live same lock_word reads seizes (λ word value. value) script course words).course.seen
+  live_extends script course words =
+      let grows = live_grows same self lock_word reads seizes script course words in
+      record { held = λ lock held. grows.held lock held; readings = λ word value read. grows.readings word value read }

@@ -5,3 +5,4 @@ pub mod Taken
 pub mod Steps
 pub mod Counting
 pub mod Live
+pub mod Running

@@ -6,6 +6,8 @@ use Rattle.turns.specs.Seen.{Seen}
 use Rattle.turns.specs.System.{System}
 use Rattle.turns.specs.World.{becomes, place}
 use Rattle.turns.specs.declared.answer.Answer.{Answer}
+use Rattle.turns.specs.declared.phase.Phase.{Phase}
+use Rattle.turns.specs.declared.phase.Phase.TheVariants.{Requests, Seizes, Tests, Turns, Withdraws, GivesBack, Operates}
 use Rattle.turns.specs.declared.wanted.Wanted.{Wanted}
 use Rattle.turns.specs.declared.wanted.Wanted.TheVariants.{Seize, Test}
 
@@ -55,6 +57,16 @@ may_seize zero room word = false
 may_seize (suc zero) room word = false
 may_seize (suc (suc left)) zero word = false
 may_seize (suc (suc left)) (suc room) word = is_free word
+
+-- an attempt at its script wants something of which nothing is done yet
+abbrev pub WantsNext : {Lock : Type 0} → Phase Lock ℕ → Type 0
+WantsNext (Requests lock) = ⊤
+WantsNext (Tests word) = ⊤
+WantsNext (Seizes lock expected) = ⊥
+WantsNext Turns = ⊥
+WantsNext (Withdraws lock) = ⊥
+WantsNext GivesBack = ⊥
+WantsNext (Operates turn) = ⊥
 
 module _ {Lock : Type 0} (same : Lock → Lock → Bool) (lock_word : Lock → ℕ) (reads seizes : ℕ) (change : ℕ → ℕ → ℕ) where
   -- on from a test: by what was read in its word, or by what is read now

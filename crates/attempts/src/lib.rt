@@ -3,6 +3,7 @@
 
 pub use attempt::{Attempt, AttemptOf};
 pub use jobs::Attempts;
+pub use running::run;
 pub use scripts::{OnWords, Scripts};
 pub use seen::Seen;
 pub use showing::{is_done, next, outcome};
@@ -14,6 +15,7 @@ mod attempt;
 mod jobs;
 pub mod laws;
 mod readings;
+mod running;
 mod scripts;
 mod seen;
 mod showing;

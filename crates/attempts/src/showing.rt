@@ -17,7 +17,7 @@ fn next_free<S: Scripts<READINGS, HELD>, const READINGS: usize, const HELD: usiz
 ) -> Step<S::Lock, S::Effect>
     ensures { act_of result ≡ free_act program.now.held }
 {
-    match program.held.first() {
+    match program.seen.held().first() {
         Some(lock) => Step::Free(*lock),
         None => Step::Rest,
     }
