@@ -5,16 +5,12 @@ ghost use Rattle.desks.specs.Outcomes.{is_given_up as is_given_up_in};
 ghost use Rattle.attempts.specs.Counting.{count_in, counted, has_made_none};
 ghost use Rattle.attempts.specs.Taken.{gone_on};
 
-use crate::readings::Readings;
 use crate::scripts::Scripts;
-use arrayvec::ArrayVec;
-use std::marker::Model;
+use crate::seen::Seen;
 use turns::{Phase, Reading, Wanted};
 
 /// One step more is counted, as far as `u32` counts.
-fn next_count(count: u32) -> u32
-    ensures { result ≡ counted count }
-{
+fn next_count(count: u32) -> u32 {
     count.saturating_add(1)
 }
 
@@ -24,8 +20,7 @@ fn next_count(count: u32) -> u32
 pub struct Attempt<L, J, D, P, const READINGS: usize, const HELD: usize> {
     pub(crate) job: J,
     pub(crate) point: P,
-    pub(crate) readings: Readings<READINGS>,
-    pub(crate) held: ArrayVec<L, HELD>,
+    pub(crate) seen: Seen<L, READINGS, HELD>,
     pub(crate) phase: Phase<L, usize>,
     pub(crate) decision: Option<D>,
     /// How many of the decision's effects are made.
@@ -43,24 +38,6 @@ pub type AttemptOf<S, const READINGS: usize, const HELD: usize> = Attempt<
     HELD,
 >;
 
-impl<L, J, D, P, const READINGS: usize, const HELD: usize> Model
-    for Attempt<L, J, D, P, READINGS, HELD> {
-    ghost use Rattle.attempts.specs.Standing.{Program};
-
-    ghost Value = { Program L J D P };
-
-    ghost view = { λ a. record {
-      job = a.job;
-      point = a.point;
-      readings = a.readings;
-      held = a.held.items;
-      phase = a.phase;
-      decision = a.decision;
-      made = a.made;
-      count = a.count;
-    } };
-}
-
 impl<
     L: Copy + Default + Drop,
     J: Drop,
@@ -70,24 +47,11 @@ impl<
     const HELD: usize,
 > Attempt<L, J, D, P, READINGS, HELD> {
     /// An attempt at a job that seizes this lock first, from this point on.
-    pub(crate) fn new(job: J, first: L, point: P) -> Self
-        ensures { result
-            ≡ record {
-              job = job;
-              point = point;
-              readings = [];
-              held = [];
-              phase = Phase.Requests first;
-              decision = None;
-              made = 0;
-              count = 0;
-            } }
-    {
+    pub(crate) fn new(job: J, first: L, point: P) -> Self {
         Attempt {
             job,
             point,
-            readings: Readings::new(),
-            held: ArrayVec::new(),
+            seen: Seen::new(),
             phase: Phase::Requests(first),
             decision: None,
             made: 0,
@@ -96,58 +60,34 @@ impl<
     }
 
     /// The job from its beginning, with nothing held.
-    pub(crate) fn begin_anew(&mut self, first: L, point: P)
-        ensures { self.new
-            ≡ record self.old {
-              point = point;
-              readings = [];
-              held = [];
-              phase = Phase.Requests first;
-              decision = None;
-              made = 0;
-            } }
-    {
-        self.held.clear();
+    pub(crate) fn begin_anew(&mut self, first: L, point: P) {
+        self.seen.held.clear();
         self.phase = Phase::Requests(first);
         self.point = point;
         self.forget();
     }
 
     /// Nothing read or decided is remembered.
-    pub(crate) fn forget(&mut self)
-        ensures { self.new ≡ record self.old { readings = []; decision = None; made = 0 } }
-    {
-        self.readings.clear();
+    pub(crate) fn forget(&mut self) {
+        self.seen.readings.clear();
         self.decision = None;
         self.made = 0;
     }
 
     /// Its request for this lock is to be withdrawn.
-    pub(crate) fn put_off(&mut self, lock: L)
-        ensures { self.new
-            ≡ record self.old {
-              readings = [];
-              decision = None;
-              made = 0;
-              phase = Phase.Withdraws lock;
-            } }
-    {
+    pub(crate) fn put_off(&mut self, lock: L) {
         self.phase = Phase::Withdraws(lock);
         self.forget();
     }
 
-    pub(crate) fn free_first(&mut self)
-        ensures { self.new ≡ record self.old { held = rest_of self.old.held } }
-    {
-        if !self.held.is_empty() {
-            self.held.remove(0);
+    pub(crate) fn free_first(&mut self) {
+        if !self.seen.held.is_empty() {
+            self.seen.held.remove(0);
         }
     }
 
     /// Goes on with what its walk came to.
-    pub(crate) fn go_on(&mut self, found: Result<D, Wanted<L, usize>>)
-        ensures { self.new ≡ gone_on self.old found }
-    {
+    pub(crate) fn go_on(&mut self, found: Result<D, Wanted<L, usize>>) {
         match found {
             Ok(decision) => {
                 self.phase = Phase::Turns;
@@ -160,9 +100,7 @@ impl<
     }
 
     /// The lock that it requests or seizes next.
-    pub(crate) fn to_ask(&self) -> Option<L>
-        ensures { result ≡ asked_in self.now.phase }
-    {
+    pub(crate) fn to_ask(&self) -> Option<L> {
         let phase = self.phase;
         match phase {
             Phase::Requests(lock) => Some(lock),
@@ -175,40 +113,26 @@ impl<
         }
     }
 
-    pub(crate) fn hold(&mut self, lock: L)
-        requires { length self.old.held < HELD }
-        ensures { self.new ≡ record self.old { held = self.old.held ++ lock ∷ [] } }
-    {
-        self.held.push(lock);
+    pub(crate) fn hold(&mut self, lock: L) {
+        self.seen.held.push(lock);
     }
 
-    pub(crate) fn note(&mut self, reading: Reading<usize>)
-        requires room { length self.old.readings < READINGS }
-        requires unread { value_read self.old.readings reading.word ≡ None }
-        ensures { self.new ≡ record self.old { readings = self.old.readings ++ reading ∷ [] } }
-    {
-        self.readings.push(reading);
+    pub(crate) fn note(&mut self, reading: Reading<usize>) {
+        self.seen.readings.push(reading);
     }
 
     /// Whether it has made no step yet.
-    fn is_fresh(&self) -> bool
-        ensures { result ≡ has_made_none self.now.phase self.now.held }
-    {
+    fn is_fresh(&self) -> bool {
         let phase = self.phase;
         if let Phase::Requests(_) = phase {
-            self.held.is_empty()
+            self.seen.held.is_empty()
         } else {
             false
         }
     }
 
     /// One step more is counted; what begins anew counts from 0.
-    pub(crate) fn count_step(&mut self)
-        ensures { self.new
-            ≡ record self.old {
-              count = count_in self.old.phase self.old.held (counted self.old.count);
-            } }
-    {
+    pub(crate) fn count_step(&mut self) {
         self.count = if self.is_fresh() {
             0
         } else {
@@ -216,39 +140,36 @@ impl<
         };
     }
 
-    pub(crate) fn count_beginning(&mut self)
-        ensures { self.new
-            ≡ record self.old { count = count_in self.old.phase self.old.held self.old.count } }
-    {
+    pub fn first_held(&self) -> Option<L> {
+        self.seen.held.first().copied()
+    }
+
+    pub fn count_steps(&mut self, made: u32) {
+        self.count = self.count.saturating_add(made);
+    }
+
+    pub(crate) fn count_beginning(&mut self) {
         if self.is_fresh() {
             self.count = 0;
         }
     }
 
     /// What it has decided, once it has.
-    pub fn decision(&self) -> Option<&D>
-        ensures { option_copied result ≡ self.now.decision }
-    {
+    pub fn decision(&self) -> Option<&D> {
         self.decision.as_ref()
     }
 
     /// What its walks have found.
-    pub fn point(&self) -> &P
-        ensures { result.now ≡ self.now.point }
-    {
+    pub fn point(&self) -> &P {
         &self.point
     }
 
-    pub fn job(&self) -> &J
-        ensures { result.now ≡ self.now.job }
-    {
+    pub fn job(&self) -> &J {
         &self.job
     }
 
     /// The number of the turn, once it is taken.
-    pub fn turn(&self) -> Option<u64>
-        ensures { result ≡ turn_in self.now.phase }
-    {
+    pub fn turn(&self) -> Option<u64> {
         let phase = self.phase;
         if let Phase::Operates(turn) = phase {
             Some(turn)
@@ -258,9 +179,7 @@ impl<
     }
 
     /// Whether it was given up, and has a request to withdraw or locks to free.
-    pub fn is_given_up(&self) -> bool
-        ensures { result ≡ is_given_up_in self.now.phase }
-    {
+    pub fn is_given_up(&self) -> bool {
         let phase = self.phase;
         match phase {
             Phase::Withdraws(_) => true,
@@ -274,9 +193,7 @@ impl<
     }
 
     /// The steps of this attempt so far. It stays at `u32::MAX` once there.
-    pub fn count(&self) -> u32
-        ensures { result ≡ self.now.count }
-    {
+    pub fn count(&self) -> u32 {
         self.count
     }
 }

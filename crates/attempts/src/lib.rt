@@ -5,10 +5,10 @@ pub use attempt::{Attempt, AttemptOf};
 pub use jobs::Attempts;
 pub use scripts::{OnWords, Scripts};
 pub use seen::Seen;
-pub use showing::{is_done, next, outcome};
+pub use showing::{is_done, next, next_effect, outcome};
 pub use starting::{begin, restart};
 pub use step::{Step, answer, operation, place};
-pub use taking::take;
+pub use taking::{operate, run, take};
 
 mod attempt;
 mod jobs;

@@ -10,18 +10,7 @@ use turns::Reading;
 #[derive(Debug, Drop)]
 pub struct Readings<const MOST: usize> {
     items: ArrayVec<Reading<usize>, MOST>,
-}
-
-impl<const MOST: usize> Model for Readings<MOST> {
-    ghost use Rattle.std.specs.Prelude.{ℕ, List};
-    ghost use Rattle.turns.specs.declared.reading.Reading.{Reading};
-    ghost use Rattle.attempts.specs.Points.{AreReadOnce};
-
-    ghost Value = { List (Reading ℕ) };
-
-    ghost view = { λ a. a.items.items };
-
-    ghost invariant = { λ a. AreReadOnce a.items.items };
+    marks: u64,
 }
 
 impl<const MOST: usize> Readings<MOST> {
@@ -30,6 +19,7 @@ impl<const MOST: usize> Readings<MOST> {
     {
         Readings {
             items: ArrayVec::new(),
+            marks: 0,
         }
     }
 
@@ -37,6 +27,7 @@ impl<const MOST: usize> Readings<MOST> {
         ensures { self.new ≡ [] }
     {
         self.items.clear();
+        self.marks = 0;
     }
 
     pub fn push(&mut self, reading: Reading<usize>)
@@ -44,7 +35,12 @@ impl<const MOST: usize> Readings<MOST> {
         requires unread { value_read self.old reading.word ≡ None }
         ensures { self.new ≡ self.old ++ reading ∷ [] }
     {
+        self.marks |= 1 << (reading.word % 64);
         self.items.push(reading);
+    }
+
+    pub fn may_have(&self, word: usize) -> bool {
+        self.marks >> (word % 64) & 1 == 1
     }
 
     pub fn as_slice(&self) -> &[Reading<usize>]

@@ -45,13 +45,10 @@ pub trait Scripts<const READINGS: usize, const HELD: usize> {
     ghost Knows: { Self.Setting → Self.Job → Self.Point → WhatIsSeen Self.Lock → Type 0 };
 
     /// The lock that a job seizes first, whatever the setting.
-    fn first(job: &Self::Job) -> Self::Lock
-        ensures { (setting : Self.Setting) → result ≡ (system setting).first job.now };
+    fn first(job: &Self::Job) -> Self::Lock;
 
     /// The point of a job that has found nothing yet, whatever the setting.
-    fn start(job: &Self::Job) -> Self::Point
-        ensures { (setting : Self.Setting) (seen : WhatIsSeen Self.Lock)
-            → Knows setting job.now result seen };
+    fn start(job: &Self::Job) -> Self::Point;
 
     /// Goes through a job by what an attempt has come by: to its decision, or to what it wants
     /// first.
@@ -59,14 +56,9 @@ pub trait Scripts<const READINGS: usize, const HELD: usize> {
         setting: &Self::Setting,
         job: &Self::Job,
         point: &mut Self::Point,
-        seen: &Seen<Self::Lock>,
-    ) -> Result<Self::Decision, Wanted<Self::Lock, usize>>
-        requires setting { IsSetting setting.now }
-        requires job { (system setting.now).IsJob job.now }
-        requires read { AreReadWords seen.now.readings }
-        requires knows { Knows setting.now job.now point.old seen.now }
-        ensures walk { result ≡ walk Self.Lock.eq seen.now ((system setting.now).script job.now) }
-        ensures knows { Knows setting.now job.now point.new seen.now };
+        seen: &mut Seen<Self::Lock, READINGS, HELD>,
+        words: &mut [u64],
+    ) -> Result<Self::Decision, Wanted<Self::Lock, usize>>;
 
     /// The word that is tested next once the one that a walk wants was read, whatever that shows,
     /// where this is known without a walk.
@@ -74,24 +66,14 @@ pub trait Scripts<const READINGS: usize, const HELD: usize> {
         setting: &Self::Setting,
         job: &Self::Job,
         point: &Self::Point,
-        seen: &Seen<Self::Lock>,
+        seen: &Seen<Self::Lock, READINGS, HELD>,
         word: usize,
-    ) -> Option<usize>
-        requires setting { IsSetting setting.now }
-        requires job { (system setting.now).IsJob job.now }
-        requires knows { Knows setting.now job.now point.now seen.now }
-        requires wants { walk Self.Lock.eq seen.now ((system setting.now).script job.now)
-            ≡ Err (Wanted.Test word) }
-        ensures { IfSome result
-            (GoesOnTo Self.Lock.eq seen.now ((system setting.now).script job.now) word) };
+    ) -> Option<usize>;
 
-    fn reply(decision: &Self::Decision) -> Self::Reply
-        ensures { result ≡ reply_of decision.now };
+    fn reply(decision: &Self::Decision) -> Self::Reply;
 
     /// The effect at a place among those of a decision, from 0 on.
-    fn effect(decision: &Self::Decision, place: usize) -> Option<Self::Effect>
-        ensures effect { result ≡ slice_get (effects_of decision.now) place }
-        ensures more { IfSome result (λ effect. place + 1 < 2 ^ 64) };
+    fn effect(decision: &Self::Decision, place: usize) -> Option<Self::Effect>;
 }
 
 /// Such jobs on words that actors share: they are a system, with room for what they ask for.
@@ -103,30 +85,23 @@ pub trait OnWords<const READINGS: usize, const HELD: usize>: Scripts<READINGS, H
 
     ghost kept: { Self.Kept → Self.Setting };
 
-    fn keep(setting: &Self::Setting) -> Self::Kept
-        ensures { kept result ≡ setting.now };
+    fn keep(setting: &Self::Setting) -> Self::Kept;
 
-    fn effect_word(setting: &Self::Setting, effect: Self::Effect) -> usize
-        ensures { result ≡ (Self.system setting.now).effect_word effect };
+    fn effect_word(setting: &Self::Setting, effect: Self::Effect) -> usize;
 
-    fn effect_operation(setting: &Self::Setting, effect: Self::Effect) -> Operation
-        ensures { result ≡ (Self.system setting.now).operation_of effect };
+    fn effect_operation(setting: &Self::Setting, effect: Self::Effect) -> Operation;
 
     /// How many words there are.
-    fn size(setting: &Self::Setting) -> usize
-        ensures { result ≡ (Self.system setting.now).size };
+    fn size(setting: &Self::Setting) -> usize;
 
     /// The words that it opens on.
-    fn initial(alloc: Global, setting: &Self::Setting) -> Result<Vec<u64>, AllocError>
-        ensures { IfOk result (λ words. words.items ≡ (Self.system setting.now).initial) };
+    fn initial(alloc: Global, setting: &Self::Setting) -> Result<Vec<u64>, AllocError>;
 
     /// The number of the word that counts turns.
-    fn turn_word(setting: &Self::Setting) -> usize
-        ensures { result ≡ (Self.system setting.now).turn_word };
+    fn turn_word(setting: &Self::Setting) -> usize;
 
     /// The number of a lock's own word.
-    fn lock_word(setting: &Self::Setting, lock: Self::Lock) -> usize
-        ensures { result ≡ (Self.system setting.now).lock_word lock };
+    fn lock_word(setting: &Self::Setting, lock: Self::Lock) -> usize;
 
     ghost are_scripts: { (setting : Self.Setting) → Self.IsSetting setting
         → AreScripts Self.Lock.eq Self.reply_of Self.effects_of (Self.system setting)

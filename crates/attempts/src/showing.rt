@@ -14,26 +14,17 @@ use turns::Phase;
 
 fn next_free<S: Scripts<READINGS, HELD>, const READINGS: usize, const HELD: usize>(
     program: &AttemptOf<S, READINGS, HELD>,
-) -> Step<S::Lock, S::Effect>
-    ensures { act_of result ≡ free_act program.now.held }
-{
-    match program.held.first() {
+) -> Step<S::Lock, S::Effect> {
+    match program.seen.held.first() {
         Some(lock) => Step::Free(*lock),
         None => Step::Rest,
     }
 }
 
 /// The next of the decision's effects.
-pub(crate) fn next_effect<S: Scripts<READINGS, HELD>, const READINGS: usize, const HELD: usize>(
+pub fn next_effect<S: Scripts<READINGS, HELD>, const READINGS: usize, const HELD: usize>(
     program: &AttemptOf<S, READINGS, HELD>,
-) -> Option<S::Effect>
-    ensures some { IfSome result (λ effect.
-        effects_left S.effects_of program.now.decision program.now.made
-        ≡ effect ∷ effects_left S.effects_of program.now.decision (program.now.made + 1)) }
-    ensures none { IfNone result
-        (effects_left S.effects_of program.now.decision program.now.made ≡ []) }
-    ensures more { IfSome result (λ effect. program.now.made + 1 < 2 ^ 64) }
-{
+) -> Option<S::Effect> {
     match &program.decision {
         Some(decision) => S::effect(decision, program.made),
         None => None,
@@ -42,10 +33,7 @@ pub(crate) fn next_effect<S: Scripts<READINGS, HELD>, const READINGS: usize, con
 
 fn next_closing<S: Scripts<READINGS, HELD>, const READINGS: usize, const HELD: usize>(
     program: &AttemptOf<S, READINGS, HELD>,
-) -> Step<S::Lock, S::Effect>
-    ensures { act_of result
-        ≡ closing_act (attempt_of S.reply_of S.effects_of program.now).effects program.now.held }
-{
+) -> Step<S::Lock, S::Effect> {
     match next_effect::<S, READINGS, HELD>(program) {
         Some(effect) => Step::Make(effect),
         None => next_free::<S, READINGS, HELD>(program),
@@ -55,9 +43,7 @@ fn next_closing<S: Scripts<READINGS, HELD>, const READINGS: usize, const HELD: u
 /// The step that the attempt wants made next.
 pub fn next<S: Scripts<READINGS, HELD>, const READINGS: usize, const HELD: usize>(
     program: &AttemptOf<S, READINGS, HELD>,
-) -> Step<S::Lock, S::Effect>
-    ensures { act_of result ≡ act (attempt_of S.reply_of S.effects_of program.now) }
-{
+) -> Step<S::Lock, S::Effect> {
     let phase = program.phase;
     match phase {
         Phase::Requests(lock) => Step::Ask(lock),
@@ -73,9 +59,7 @@ pub fn next<S: Scripts<READINGS, HELD>, const READINGS: usize, const HELD: usize
 /// Whether its job is done, and it holds nothing.
 pub fn is_done<S: Scripts<READINGS, HELD>, const READINGS: usize, const HELD: usize>(
     program: &AttemptOf<S, READINGS, HELD>,
-) -> bool
-    ensures { result ≡ is_rest (act (attempt_of S.reply_of S.effects_of program.now)) }
-{
+) -> bool {
     match next::<S, READINGS, HELD>(program) {
         Step::Rest => true,
         Step::Ask(_) => false,
@@ -91,9 +75,7 @@ pub fn is_done<S: Scripts<READINGS, HELD>, const READINGS: usize, const HELD: us
 /// Past its turn, the turn's number, its job and its reply.
 pub fn outcome<S: Scripts<READINGS, HELD>, const READINGS: usize, const HELD: usize>(
     program: &AttemptOf<S, READINGS, HELD>,
-) -> Option<(u64, S::Job, S::Reply)>
-    ensures { result ≡ outcome_of (attempt_of S.reply_of S.effects_of program.now) }
-{
+) -> Option<(u64, S::Job, S::Reply)> {
     let turn = program.turn()?;
     match &program.decision {
         Some(decision) => Some((turn, program.job, S::reply(decision))),

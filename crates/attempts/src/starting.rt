@@ -14,19 +14,7 @@ use turns::Phase;
 /// An attempt that has made no step, whatever the setting will be.
 pub fn begin<S: Scripts<READINGS, HELD>, const READINGS: usize, const HELD: usize>(
     job: S::Job,
-) -> AttemptOf<S, READINGS, HELD>
-    ensures begins { (setting : S.Setting) →
-        attempt_of S.reply_of S.effects_of result
-        ≡ begin_of (system_with S.Lock.eq S.reply_of S.effects_of (S.system setting)) job }
-    ensures count { result.count ≡ 0 }
-    ensures stands { (setting : S.Setting) →
-        AreScripts S.Lock.eq S.reply_of S.effects_of (S.system setting) (S.Knows setting) READINGS
-        HELD → (S.system setting).IsJob job →
-        Stands S.Lock.eq S.reply_of S.effects_of (S.system setting) (S.Knows setting) READINGS HELD
-        result }
-    ensures point { (setting : S.Setting) (seen : Seen S.Lock) →
-        S.Knows setting job result.point seen }
-{
+) -> AttemptOf<S, READINGS, HELD> {
     let lock = S::first(&job);
     let point = S::start(&job);
     Attempt::new(job, lock, point)
@@ -34,14 +22,7 @@ pub fn begin<S: Scripts<READINGS, HELD>, const READINGS: usize, const HELD: usiz
 
 fn begin_again<S: Scripts<READINGS, HELD>, const READINGS: usize, const HELD: usize>(
     program: &mut AttemptOf<S, READINGS, HELD>,
-)
-    ensures begins { (setting : S.Setting) →
-        let O = system_with S.Lock.eq S.reply_of S.effects_of (S.system setting) in
-        attempt_of S.reply_of S.effects_of program.new ≡ begin_of O program.old.job }
-    ensures point { (setting : S.Setting) (seen : Seen S.Lock) →
-        S.Knows setting program.new.job program.new.point seen }
-    ensures count { program.new.count ≡ program.old.count }
-{
+) {
     let lock = S::first(&program.job);
     let point = S::start(&program.job);
     program.begin_anew(lock, point);
@@ -50,17 +31,8 @@ fn begin_again<S: Scripts<READINGS, HELD>, const READINGS: usize, const HELD: us
 /// Goes on to free what is held, or to begin anew.
 pub(crate) fn give_back<S: Scripts<READINGS, HELD>, const READINGS: usize, const HELD: usize>(
     program: &mut AttemptOf<S, READINGS, HELD>,
-)
-    ensures frees { (setting : S.Setting) →
-        let O = system_with S.Lock.eq S.reply_of S.effects_of (S.system setting) in
-        attempt_of S.reply_of S.effects_of program.new
-        ≡ freed O (attempt_of S.reply_of S.effects_of program.old) program.old.held }
-    ensures point { (setting : S.Setting) →
-        KnowsIn (S.Knows setting) (attempt_of S.reply_of S.effects_of program.new)
-        program.new.point program.new.phase }
-    ensures count { program.new.count ≡ program.old.count }
-{
-    if program.held.is_empty() {
+) {
+    if program.seen.held.is_empty() {
         begin_again::<S, READINGS, HELD>(program);
     } else {
         program.phase = Phase::GivesBack;
@@ -70,16 +42,7 @@ pub(crate) fn give_back<S: Scripts<READINGS, HELD>, const READINGS: usize, const
 /// Gives up before the turn.
 fn give_up<S: Scripts<READINGS, HELD>, const READINGS: usize, const HELD: usize>(
     program: &mut AttemptOf<S, READINGS, HELD>,
-)
-    ensures frees { (setting : S.Setting) →
-        let O = system_with S.Lock.eq S.reply_of S.effects_of (S.system setting) in
-        attempt_of S.reply_of S.effects_of program.new
-        ≡ freed O (forgotten (attempt_of S.reply_of S.effects_of program.old)) program.old.held }
-    ensures point { (setting : S.Setting) →
-        KnowsIn (S.Knows setting) (attempt_of S.reply_of S.effects_of program.new)
-        program.new.point program.new.phase }
-    ensures count { program.new.count ≡ program.old.count }
-{
+) {
     program.forget();
     give_back::<S, READINGS, HELD>(program);
 }
@@ -87,18 +50,7 @@ fn give_up<S: Scripts<READINGS, HELD>, const READINGS: usize, const HELD: usize>
 /// Begins anew, once all that is held is given back. Past the turn nothing changes.
 fn go_back<S: Scripts<READINGS, HELD>, const READINGS: usize, const HELD: usize>(
     program: &mut AttemptOf<S, READINGS, HELD>,
-)
-    ensures restarts { (setting : S.Setting) →
-        let O = system_with S.Lock.eq S.reply_of S.effects_of (S.system setting) in
-        attempt_of S.reply_of S.effects_of program.new
-        ≡ restarted O (attempt_of S.reply_of S.effects_of program.old) }
-    ensures point { (setting : S.Setting) →
-        KnowsIn (S.Knows setting) (attempt_of S.reply_of S.effects_of program.old)
-        program.old.point program.old.phase →
-        KnowsIn (S.Knows setting) (attempt_of S.reply_of S.effects_of program.new)
-        program.new.point program.new.phase }
-    ensures count { program.new.count ≡ program.old.count }
-{
+) {
     let phase = program.phase;
     match phase {
         Phase::Requests(_) | Phase::Tests(_) | Phase::Turns => {
@@ -112,26 +64,7 @@ fn go_back<S: Scripts<READINGS, HELD>, const READINGS: usize, const HELD: usize>
 /// Begins anew, once all that is held is given back. Past the turn nothing changes.
 pub fn restart<S: Scripts<READINGS, HELD>, const READINGS: usize, const HELD: usize>(
     program: &mut AttemptOf<S, READINGS, HELD>,
-)
-    ensures restarts { (setting : S.Setting) →
-        let O = system_with S.Lock.eq S.reply_of S.effects_of (S.system setting) in
-        attempt_of S.reply_of S.effects_of program.new
-        ≡ restarted O (attempt_of S.reply_of S.effects_of program.old) }
-    ensures count { program.new.count
-        ≡ count_in program.new.phase program.new.held program.old.count }
-    ensures point { (setting : S.Setting) →
-        KnowsIn (S.Knows setting) (attempt_of S.reply_of S.effects_of program.old)
-        program.old.point program.old.phase →
-        KnowsIn (S.Knows setting) (attempt_of S.reply_of S.effects_of program.new)
-        program.new.point program.new.phase }
-    ensures stands { (setting : S.Setting) →
-        AreScripts S.Lock.eq S.reply_of S.effects_of (S.system setting) (S.Knows setting) READINGS
-        HELD →
-        Stands S.Lock.eq S.reply_of S.effects_of (S.system setting) (S.Knows setting) READINGS HELD
-        program.old →
-        Stands S.Lock.eq S.reply_of S.effects_of (S.system setting) (S.Knows setting) READINGS HELD
-        program.new }
-{
+) {
     go_back::<S, READINGS, HELD>(program);
     program.count_beginning();
 }

@@ -10,7 +10,6 @@ ghost use Rattle.attempts.specs.Taken.{MayRead, SeizesLock, Takes, WalksOn};
 
 use crate::attempt::AttemptOf;
 use crate::scripts::Scripts;
-use crate::seen::Seen;
 use crate::showing::next_effect;
 use crate::starting::give_back;
 use turns::{Answer, Phase, Reading};
@@ -19,15 +18,15 @@ use turns::{Answer, Phase, Reading};
 fn walk_on<S: Scripts<READINGS, HELD>, const READINGS: usize, const HELD: usize>(
     program: &mut AttemptOf<S, READINGS, HELD>,
     setting: &S::Setting,
-)
-    requires setting { S.IsSetting setting.now }
-    requires walk { CanWalk S.Lock.eq S.reply_of S.effects_of (S.system setting.now)
-        (S.Knows setting.now) program.old }
-    ensures { WalksOn S.Lock.eq S.reply_of S.effects_of (S.system setting.now) (S.Knows setting.now)
-        program.old program.new }
-{
-    let seen = Seen::new(program.held.as_slice(), program.readings.as_slice());
-    let found = S::walk(setting, &program.job, &mut program.point, &seen);
+) {
+    program.seen.begin_walk();
+    let found = S::walk(
+        setting,
+        &program.job,
+        &mut program.point,
+        &mut program.seen,
+        &mut [],
+    );
     program.go_on(found);
 }
 
@@ -36,17 +35,8 @@ fn following<S: Scripts<READINGS, HELD>, const READINGS: usize, const HELD: usiz
     program: &AttemptOf<S, READINGS, HELD>,
     setting: &S::Setting,
     word: usize,
-) -> Option<usize>
-    requires setting { S.IsSetting setting.now }
-    requires stands { Stands S.Lock.eq S.reply_of S.effects_of (S.system setting.now)
-        (S.Knows setting.now) READINGS HELD program.now }
-    requires tests { program.now.phase ≡ Phase.Tests word }
-    ensures { IfSome result
-        (GoesOnTo S.Lock.eq (record { held = program.now.held; readings = program.now.readings })
-        ((S.system setting.now).script program.now.job) word) }
-{
-    let seen = Seen::new(program.held.as_slice(), program.readings.as_slice());
-    S::following(setting, &program.job, &program.point, &seen, word)
+) -> Option<usize> {
+    S::following(setting, &program.job, &program.point, &program.seen, word)
 }
 
 /// Its request stands.
@@ -54,12 +44,7 @@ fn take_request<S: Scripts<READINGS, HELD>, const READINGS: usize, const HELD: u
     program: &mut AttemptOf<S, READINGS, HELD>,
     setting: &S::Setting,
     word: u64,
-)
-    requires stands { Stands S.Lock.eq S.reply_of S.effects_of (S.system setting.now)
-        (S.Knows setting.now) READINGS HELD program.old }
-    ensures { Takes S.Lock.eq S.reply_of S.effects_of (S.system setting.now) (S.Knows setting.now)
-        (Answer.Asked word) program.old program.new }
-{
+) {
     let phase = program.phase;
     if let Phase::Requests(lock) = phase {
         program.phase = Phase::Seizes(lock, word);
@@ -71,12 +56,7 @@ fn take_again<S: Scripts<READINGS, HELD>, const READINGS: usize, const HELD: usi
     program: &mut AttemptOf<S, READINGS, HELD>,
     setting: &S::Setting,
     word: u64,
-)
-    requires stands { Stands S.Lock.eq S.reply_of S.effects_of (S.system setting.now)
-        (S.Knows setting.now) READINGS HELD program.old }
-    ensures { Takes S.Lock.eq S.reply_of S.effects_of (S.system setting.now) (S.Knows setting.now)
-        (Answer.Again word) program.old program.new }
-{
+) {
     let phase = program.phase;
     if let Phase::Seizes(lock, _) = phase {
         program.phase = Phase::Seizes(lock, word);
@@ -87,16 +67,7 @@ fn take_again<S: Scripts<READINGS, HELD>, const READINGS: usize, const HELD: usi
 fn take_refusal<S: Scripts<READINGS, HELD>, const READINGS: usize, const HELD: usize>(
     program: &mut AttemptOf<S, READINGS, HELD>,
     setting: &S::Setting,
-)
-    requires stands { Stands S.Lock.eq S.reply_of S.effects_of (S.system setting.now)
-        (S.Knows setting.now) READINGS HELD program.old }
-    ensures held { (holder : ℕ) →
-        Takes S.Lock.eq S.reply_of S.effects_of (S.system setting.now) (S.Knows setting.now)
-        (Answer.Held holder) program.old program.new }
-    ensures preferred { (other : ℕ) →
-        Takes S.Lock.eq S.reply_of S.effects_of (S.system setting.now) (S.Knows setting.now)
-        (Answer.Preferred other) program.old program.new }
-{
+) {
     if let Some(lock) = program.to_ask() {
         program.put_off(lock);
     }
@@ -106,18 +77,7 @@ fn take_refusal<S: Scripts<READINGS, HELD>, const READINGS: usize, const HELD: u
 fn to_seize<S: Scripts<READINGS, HELD>, const READINGS: usize, const HELD: usize>(
     program: &AttemptOf<S, READINGS, HELD>,
     setting: &S::Setting,
-) -> Option<S::Lock>
-    requires scripts { AreScripts S.Lock.eq S.reply_of S.effects_of (S.system setting.now)
-        (S.Knows setting.now) READINGS HELD }
-    requires stands { Stands S.Lock.eq S.reply_of S.effects_of (S.system setting.now)
-        (S.Knows setting.now) READINGS HELD program.now }
-    ensures seizes { IfSome result (SeizesLock program.now.phase) }
-    ensures room { IfSome result (λ lock. length program.now.held < HELD) }
-    ensures walk { IfSome result (λ lock.
-        CanWalk S.Lock.eq S.reply_of S.effects_of (S.system setting.now) (S.Knows setting.now)
-        (record program.now { held = program.now.held ++ lock ∷ [] })) }
-    ensures none { IfNone result ((lock : S.Lock) → SeizesLock program.now.phase lock → ⊥) }
-{
+) -> Option<S::Lock> {
     let phase = program.phase;
     if let Phase::Seizes(lock, _) = phase {
         Some(lock)
@@ -130,15 +90,7 @@ fn to_seize<S: Scripts<READINGS, HELD>, const READINGS: usize, const HELD: usize
 fn take_lock<S: Scripts<READINGS, HELD>, const READINGS: usize, const HELD: usize>(
     program: &mut AttemptOf<S, READINGS, HELD>,
     setting: &S::Setting,
-)
-    requires setting { S.IsSetting setting.now }
-    requires scripts { AreScripts S.Lock.eq S.reply_of S.effects_of (S.system setting.now)
-        (S.Knows setting.now) READINGS HELD }
-    requires stands { Stands S.Lock.eq S.reply_of S.effects_of (S.system setting.now)
-        (S.Knows setting.now) READINGS HELD program.old }
-    ensures { Takes S.Lock.eq S.reply_of S.effects_of (S.system setting.now) (S.Knows setting.now)
-        Answer.Seized program.old program.new }
-{
+) {
     if let Some(lock) = to_seize::<S, READINGS, HELD>(program, setting) {
         program.hold(lock);
         walk_on::<S, READINGS, HELD>(program, setting);
@@ -150,16 +102,7 @@ fn to_test<S: Scripts<READINGS, HELD>, const READINGS: usize, const HELD: usize>
     program: &AttemptOf<S, READINGS, HELD>,
     setting: &S::Setting,
     value: u64,
-) -> Option<usize>
-    requires scripts { AreScripts S.Lock.eq S.reply_of S.effects_of (S.system setting.now)
-        (S.Knows setting.now) READINGS HELD }
-    requires stands { Stands S.Lock.eq S.reply_of S.effects_of (S.system setting.now)
-        (S.Knows setting.now) READINGS HELD program.now }
-    ensures reads { IfSome result (λ word.
-        MayRead S.Lock.eq S.reply_of S.effects_of (S.system setting.now) (S.Knows setting.now)
-        READINGS (record { word = word; value = value }) program.now) }
-    ensures none { IfNone result ((word : ℕ) → program.now.phase ≡ Phase.Tests word → ⊥) }
-{
+) -> Option<usize> {
     let phase = program.phase;
     if let Phase::Tests(word) = phase {
         Some(word)
@@ -173,13 +116,7 @@ fn read_on<S: Scripts<READINGS, HELD>, const READINGS: usize, const HELD: usize>
     program: &mut AttemptOf<S, READINGS, HELD>,
     setting: &S::Setting,
     reading: Reading<usize>,
-)
-    requires setting { S.IsSetting setting.now }
-    requires reads { MayRead S.Lock.eq S.reply_of S.effects_of (S.system setting.now)
-        (S.Knows setting.now) READINGS reading program.old }
-    ensures { WalksOn S.Lock.eq S.reply_of S.effects_of (S.system setting.now) (S.Knows setting.now)
-        (record program.old { readings = program.old.readings ++ reading ∷ [] }) program.new }
-{
+) {
     program.note(reading);
     walk_on::<S, READINGS, HELD>(program, setting);
 }
@@ -190,15 +127,7 @@ fn read_up_to<S: Scripts<READINGS, HELD>, const READINGS: usize, const HELD: usi
     setting: &S::Setting,
     reading: Reading<usize>,
     next: usize,
-)
-    requires reads { MayRead S.Lock.eq S.reply_of S.effects_of (S.system setting.now)
-        (S.Knows setting.now) READINGS reading program.old }
-    ensures { program.new
-        ≡ record program.old {
-          readings = program.old.readings ++ reading ∷ [];
-          phase = Phase.Tests next;
-        } }
-{
+) {
     program.note(reading);
     program.phase = Phase::Tests(next);
 }
@@ -208,15 +137,7 @@ fn read<S: Scripts<READINGS, HELD>, const READINGS: usize, const HELD: usize>(
     program: &mut AttemptOf<S, READINGS, HELD>,
     setting: &S::Setting,
     reading: Reading<usize>,
-)
-    requires setting { S.IsSetting setting.now }
-    requires stands { Stands S.Lock.eq S.reply_of S.effects_of (S.system setting.now)
-        (S.Knows setting.now) READINGS HELD program.old }
-    requires reads { MayRead S.Lock.eq S.reply_of S.effects_of (S.system setting.now)
-        (S.Knows setting.now) READINGS reading program.old }
-    ensures { Takes S.Lock.eq S.reply_of S.effects_of (S.system setting.now) (S.Knows setting.now)
-        (Answer.Value reading.value) program.old program.new }
-{
+) {
     match following::<S, READINGS, HELD>(program, setting, reading.word) {
         Some(next) => read_up_to::<S, READINGS, HELD>(program, setting, reading, next),
         None => read_on::<S, READINGS, HELD>(program, setting, reading),
@@ -228,15 +149,7 @@ fn take_reading<S: Scripts<READINGS, HELD>, const READINGS: usize, const HELD: u
     program: &mut AttemptOf<S, READINGS, HELD>,
     setting: &S::Setting,
     value: u64,
-)
-    requires setting { S.IsSetting setting.now }
-    requires scripts { AreScripts S.Lock.eq S.reply_of S.effects_of (S.system setting.now)
-        (S.Knows setting.now) READINGS HELD }
-    requires stands { Stands S.Lock.eq S.reply_of S.effects_of (S.system setting.now)
-        (S.Knows setting.now) READINGS HELD program.old }
-    ensures { Takes S.Lock.eq S.reply_of S.effects_of (S.system setting.now) (S.Knows setting.now)
-        (Answer.Value value) program.old program.new }
-{
+) {
     if let Some(word) = to_test::<S, READINGS, HELD>(program, setting, value) {
         read::<S, READINGS, HELD>(program, setting, Reading { word, value });
     }
@@ -247,12 +160,7 @@ fn take_turn<S: Scripts<READINGS, HELD>, const READINGS: usize, const HELD: usiz
     program: &mut AttemptOf<S, READINGS, HELD>,
     setting: &S::Setting,
     number: u64,
-)
-    requires stands { Stands S.Lock.eq S.reply_of S.effects_of (S.system setting.now)
-        (S.Knows setting.now) READINGS HELD program.old }
-    ensures { Takes S.Lock.eq S.reply_of S.effects_of (S.system setting.now) (S.Knows setting.now)
-        (Answer.Turn number) program.old program.new }
-{
+) {
     let phase = program.phase;
     if let Phase::Turns = phase {
         program.phase = Phase::Operates(number);
@@ -260,15 +168,9 @@ fn take_turn<S: Scripts<READINGS, HELD>, const READINGS: usize, const HELD: usiz
 }
 
 /// Past the turn: an effect was made, or what was held first was freed.
-fn operate<S: Scripts<READINGS, HELD>, const READINGS: usize, const HELD: usize>(
+pub fn operate<S: Scripts<READINGS, HELD>, const READINGS: usize, const HELD: usize>(
     program: &mut AttemptOf<S, READINGS, HELD>,
-)
-    ensures operates { attempt_of S.reply_of S.effects_of program.new
-        ≡ operated (attempt_of S.reply_of S.effects_of program.old)
-        (attempt_of S.reply_of S.effects_of program.old).effects }
-    ensures phase { program.new.phase ≡ program.old.phase }
-    ensures count { program.new.count ≡ program.old.count }
-{
+) {
     match next_effect::<S, READINGS, HELD>(program) {
         Some(_) => program.made += 1,
         None => program.free_first(),
@@ -278,16 +180,7 @@ fn operate<S: Scripts<READINGS, HELD>, const READINGS: usize, const HELD: usize>
 /// What was held first is freed, and the rest is still to be given back.
 fn free_on<S: Scripts<READINGS, HELD>, const READINGS: usize, const HELD: usize>(
     program: &mut AttemptOf<S, READINGS, HELD>,
-)
-    ensures frees { (setting : S.Setting) →
-        let O = system_with S.Lock.eq S.reply_of S.effects_of (S.system setting) in
-        attempt_of S.reply_of S.effects_of program.new
-        ≡ freed O (attempt_of S.reply_of S.effects_of program.old) (rest_of program.old.held) }
-    ensures point { (setting : S.Setting) →
-        KnowsIn (S.Knows setting) (attempt_of S.reply_of S.effects_of program.new)
-        program.new.point program.new.phase }
-    ensures count { program.new.count ≡ program.old.count }
-{
+) {
     program.free_first();
     give_back::<S, READINGS, HELD>(program);
 }
@@ -296,12 +189,7 @@ fn free_on<S: Scripts<READINGS, HELD>, const READINGS: usize, const HELD: usize>
 fn take_done<S: Scripts<READINGS, HELD>, const READINGS: usize, const HELD: usize>(
     program: &mut AttemptOf<S, READINGS, HELD>,
     setting: &S::Setting,
-)
-    requires stands { Stands S.Lock.eq S.reply_of S.effects_of (S.system setting.now)
-        (S.Knows setting.now) READINGS HELD program.old }
-    ensures { Takes S.Lock.eq S.reply_of S.effects_of (S.system setting.now) (S.Knows setting.now)
-        Answer.Done program.old program.new }
-{
+) {
     let phase = program.phase;
     match phase {
         Phase::Withdraws(_) => give_back::<S, READINGS, HELD>(program),
@@ -316,15 +204,7 @@ fn take_answer<S: Scripts<READINGS, HELD>, const READINGS: usize, const HELD: us
     program: &mut AttemptOf<S, READINGS, HELD>,
     setting: &S::Setting,
     answer: Answer,
-)
-    requires setting { S.IsSetting setting.now }
-    requires scripts { AreScripts S.Lock.eq S.reply_of S.effects_of (S.system setting.now)
-        (S.Knows setting.now) READINGS HELD }
-    requires stands { Stands S.Lock.eq S.reply_of S.effects_of (S.system setting.now)
-        (S.Knows setting.now) READINGS HELD program.old }
-    ensures { Takes S.Lock.eq S.reply_of S.effects_of (S.system setting.now) (S.Knows setting.now)
-        answer program.old program.new }
-{
+) {
     match answer {
         Answer::Asked(word) => take_request::<S, READINGS, HELD>(program, setting, word),
         Answer::Again(word) => take_again::<S, READINGS, HELD>(program, setting, word),
@@ -342,20 +222,50 @@ pub fn take<S: Scripts<READINGS, HELD>, const READINGS: usize, const HELD: usize
     program: &mut AttemptOf<S, READINGS, HELD>,
     setting: &S::Setting,
     answer: Answer,
-)
-    requires setting { S.IsSetting setting.now }
-    requires scripts { AreScripts S.Lock.eq S.reply_of S.effects_of (S.system setting.now)
-        (S.Knows setting.now) READINGS HELD }
-    requires stands { Stands S.Lock.eq S.reply_of S.effects_of (S.system setting.now)
-        (S.Knows setting.now) READINGS HELD program.old }
-    ensures change { let O = system_with S.Lock.eq S.reply_of S.effects_of (S.system setting.now) in
-        attempt_of S.reply_of S.effects_of program.new
-        ≡ change O (attempt_of S.reply_of S.effects_of program.old) answer }
-    ensures count { program.new.count
-        ≡ count_in program.new.phase program.new.held (counted program.old.count) }
-    ensures stands { Stands S.Lock.eq S.reply_of S.effects_of (S.system setting.now)
-        (S.Knows setting.now) READINGS HELD program.new }
-{
+) {
     take_answer::<S, READINGS, HELD>(program, setting, answer);
     program.count_step();
+}
+
+/// Walks on with steps of its own.
+fn walk_alone<S: Scripts<READINGS, HELD>, const READINGS: usize, const HELD: usize>(
+    program: &mut AttemptOf<S, READINGS, HELD>,
+    setting: &S::Setting,
+    actor: u32,
+    words: &mut [u64],
+    most: u32,
+) -> u32 {
+    program.seen.allow(actor, most);
+    let found = S::walk(
+        setting,
+        &program.job,
+        &mut program.point,
+        &mut program.seen,
+        words,
+    );
+    program.go_on(found);
+    most - program.seen.stop()
+}
+
+/// Makes steps, as long as it goes through its script.
+pub fn run<S: Scripts<READINGS, HELD>, const READINGS: usize, const HELD: usize>(
+    program: &mut AttemptOf<S, READINGS, HELD>,
+    setting: &S::Setting,
+    actor: u32,
+    words: &mut [u64],
+    most: u32,
+) -> u32 {
+    let phase = program.phase;
+    match phase {
+        Phase::Requests(_) | Phase::Tests(_) => {
+            let made = walk_alone::<S, READINGS, HELD>(program, setting, actor, words, most);
+            program.count_steps(made);
+            made
+        }
+        Phase::Seizes(_, _)
+        | Phase::Turns
+        | Phase::Withdraws(_)
+        | Phase::GivesBack
+        | Phase::Operates(_) => 0,
+    }
 }

@@ -278,17 +278,27 @@ impl<'p> Exchange<'p> {
         given
     }
 
+    fn run(&mut self, marker: u32, most: u32) -> u32 {
+        self.markers[marker as usize].run(self.plan, marker, self.words.as_mut_slice(), most)
+    }
+
     /// Makes so many steps of the marker. They end at once where it is idle.
     pub fn steps(&mut self, marker: u32, count: u32)
         requires { marker < length self.old.exchange.markers }
         ensures { self.new
             ≡ record self.old { exchange = steps self.old.plan marker count self.old.exchange } }
     {
+        let mut left = count;
         for _made in 0..count {
-            if self.is_idle(marker) {
+            if left == 0 || self.is_idle(marker) {
                 return;
             }
-            self.advance(marker);
+            let made = self.run(marker, left);
+            left -= made;
+            if made == 0 {
+                self.advance(marker);
+                left -= 1;
+            }
         }
     }
 

@@ -190,4 +190,12 @@ impl Marker {
             Some(work) => Some(work.step(plan, number, words, records)),
         }
     }
+
+    /// Makes some of its next steps.
+    pub fn run(&mut self, plan: &Plan, number: u32, words: &mut [u64], most: u32) -> u32 {
+        match &mut self.work {
+            None => 0,
+            Some(work) => work.run(plan, number, words, most),
+        }
+    }
 }

@@ -175,4 +175,9 @@ impl Work {
         self.enter(marker, answer, records);
         answer
     }
+
+    /// Makes some of the job's next steps.
+    pub fn run(&mut self, plan: &Plan, marker: u32, words: &mut [u64], most: u32) -> u32 {
+        self.program.run(plan, marker, words, most)
+    }
 }

@@ -7,17 +7,16 @@ ghost use Rattle.xbar_jobs.specs.Script.{walk};
 ghost use Rattle.xbar_jobs.specs.Trunks.{IsOfPlan};
 
 use crate::decision::Decision;
-use crate::kinds::Wanted;
+use crate::effect::Effect;
+use crate::kinds::{Gathered, Wanted};
 use crate::party::CallParties;
-use crate::seen::Seen;
+use crate::seen::{require_held, value_of};
 use crate::trials::two_trials;
 use crate::trunks::{IdleGroup, find_trunk, trunks_of};
 use xbar_office::{Aim, End};
 use xbar_plan::Plan;
 
-fn busy_end(aim: Aim) -> End
-    ensures { result ≡ busy_end_of aim }
-{
+fn busy_end(aim: Aim) -> End {
     match aim {
         Aim::DialTone => End::RegistersBusy,
         Aim::Connected => End::TrunksBusy,
@@ -27,19 +26,26 @@ fn busy_end(aim: Aim) -> End
 #[tactic(auto, using(turns::proofs::Walks::walk_bind, turns::proofs::Walks::walk_end), unfolding(crate::specs::Connecting::try_trunk))]
 fn try_trunk(
     plan: &Plan,
-    seen: &Seen,
+    seen: &mut Gathered,
+    words: &mut [u64],
+    made: &[Effect],
     aim: Aim,
     parties: &CallParties,
     idle: &Option<IdleGroup>,
-) -> Result<Decision, Wanted>
-    requires { IfSome idle.now (λ there. IsOfPlan plan.now there) }
-    ensures { result ≡ walk seen.now (try_trunk_script plan.now aim parties.now idle.now) }
-{
+) -> Result<Decision, Wanted> {
     let Some(idle) = idle else {
         return Ok(Decision::refused(busy_end(aim)));
     };
     let trunks = trunks_of(plan, idle.group, idle.word);
-    let trials = two_trials(plan, seen, parties, &trunks, usize::from(idle.first))?;
+    let trials = two_trials(
+        plan,
+        seen,
+        words,
+        made,
+        parties,
+        &trunks,
+        usize::from(idle.first),
+    )?;
     Ok(Decision::tried(aim, idle.group, trials))
 }
 
@@ -47,14 +53,13 @@ fn try_trunk(
 #[tactic(auto, using(turns::proofs::Walks::walk_bind), unfolding(crate::specs::Connecting::connect))]
 pub fn connect(
     plan: &Plan,
-    seen: &Seen,
+    seen: &mut Gathered,
+    words: &mut [u64],
+    made: &[Effect],
     aim: Aim,
     parties: &CallParties,
     groups: &[u8],
-) -> Result<Decision, Wanted>
-    requires { AreGroups plan.now groups.now }
-    ensures { result ≡ walk seen.now (connect_script plan.now aim parties.now groups.now) }
-{
-    let idle = find_trunk(plan, seen, groups)?;
-    try_trunk(plan, seen, aim, parties, &idle)
+) -> Result<Decision, Wanted> {
+    let idle = find_trunk(plan, seen, words, made, groups)?;
+    try_trunk(plan, seen, words, made, aim, parties, &idle)
 }

@@ -6,9 +6,10 @@ ghost use Rattle.xbar_jobs.specs.Script.{walk};
 
 use crate::connecting::connect;
 use crate::decision::Decision;
-use crate::kinds::Wanted;
+use crate::effect::Effect;
+use crate::kinds::{Gathered, Wanted};
 use crate::party::{CallParties, Party};
-use crate::seen::Seen;
+use crate::seen::{require_held, value_of};
 use crate::tracing::approach;
 use xbar_equip::Len;
 use xbar_office::{Aim, End};
@@ -17,12 +18,12 @@ use xbar_plan::Plan;
 #[tactic(auto, using(turns::proofs::Walks::walk_end), unfolding(crate::specs::Jobs::serve_idle_line))]
 fn serve_idle_line(
     plan: &Plan,
-    seen: &Seen,
+    seen: &mut Gathered,
+    words: &mut [u64],
+    made: &[Effect],
     calling: &Party,
     channel: Option<u8>,
-) -> Result<Decision, Wanted>
-    ensures { result ≡ walk seen.now (serve_idle_line_script plan.now calling.now channel) }
-{
+) -> Result<Decision, Wanted> {
     if channel.is_some() {
         return Ok(Decision::refused(End::LineBusy));
     }
@@ -30,14 +31,18 @@ fn serve_idle_line(
     xbar_plan::laws::one_group_has_registers();
     let parties = CallParties::alone(calling);
     let groups = [plan.register_group()];
-    connect(plan, seen, Aim::DialTone, &parties, &groups)
+    connect(plan, seen, words, made, Aim::DialTone, &parties, &groups)
 }
 
 /// Goes through a dial tone job, to its decision or to what is wanted first.
 #[tactic(auto, using(turns::proofs::Walks::walk_bind), unfolding(crate::specs::Jobs::dial_steps))]
-pub fn dial(plan: &Plan, seen: &Seen, line: Len) -> Result<Decision, Wanted>
-    ensures { result ≡ walk seen.now (dial_steps plan.now line) }
-{
-    let calling = approach(seen, line)?;
-    serve_idle_line(plan, seen, &calling, calling.channel())
+pub fn dial(
+    plan: &Plan,
+    seen: &mut Gathered,
+    words: &mut [u64],
+    made: &[Effect],
+    line: Len,
+) -> Result<Decision, Wanted> {
+    let calling = approach(seen, words, made, line)?;
+    serve_idle_line(plan, seen, words, made, &calling, calling.channel())
 }

@@ -61,15 +61,21 @@ impl Scripts<42, 19> for Offices {
         Way::Begun
     }
 
-    fn walk(plan: &Plan, job: &Job, way: &mut Way, seen: &Seen<Conn>) -> Result<Decided, Wanted> {
-        walk(plan, seen, job, way)
+    fn walk(
+        plan: &Plan,
+        job: &Job,
+        way: &mut Way,
+        seen: &mut Seen<Conn, 42, 19>,
+        words: &mut [u64],
+    ) -> Result<Decided, Wanted> {
+        walk(plan, seen, words, job, way)
     }
 
     fn following(
         plan: &Plan,
         job: &Job,
         way: &Way,
-        seen: &Seen<Conn>,
+        seen: &Seen<Conn, 42, 19>,
         word: usize,
     ) -> Option<usize> {
         next_in_row(plan, seen, job, way, word)

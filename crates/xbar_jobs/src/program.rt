@@ -8,10 +8,10 @@ ghost use Rattle.xbar_jobs.specs.Turning.{IsAct, IsStep};
 use crate::effect::Effect;
 use crate::offices::Offices;
 use crate::step::Step;
-use attempts::{AttemptOf, begin, next, restart, take};
+use attempts::{AttemptOf, begin, next, next_effect, operate, restart, run, take};
 use std::marker::Model;
 use turns::Answer;
-use xbar_equip::{Conn, WordNo};
+use xbar_equip::{Conn, WordNo, conn_word};
 use xbar_office::{Job, Reply};
 use xbar_plan::Plan;
 
@@ -24,21 +24,8 @@ pub struct Program {
     next: Step,
 }
 
-impl Model for Program {
-    ghost use Rattle.xbar_jobs.specs.Attempt.{Counted};
-    ghost use Rattle.xbar_jobs.specs.Standing.{IsProgram, attempt_at};
-
-    ghost Value = { Counted };
-
-    ghost view = { λ a. record { attempt = attempt_at a.attempt; count = a.attempt.count } };
-
-    ghost invariant = { λ a. IsProgram a.attempt a.next };
-}
-
 /// The effects that are left are the office's. Called for its clause alone.
-fn effects_are(attempt: &AttemptOf<Offices, 42, 19>)
-    ensures { AreEffects (attempt_at attempt.now).effects }
-{
+fn effects_are(attempt: &AttemptOf<Offices, 42, 19>) {
     match attempt.decision() {
         Some(decided) => decided.is_of_the_office(),
         None => {}
@@ -47,11 +34,7 @@ fn effects_are(attempt: &AttemptOf<Offices, 42, 19>)
 
 /// The step that makes what an attempt does next.
 #[tactic(auto, using(crate::proofs::Programs::act_step))]
-fn step_by(next: attempts::Step<Conn, Effect>) -> Step
-    requires { IsAct (act_of next) }
-    ensures step { result ≡ step_of_act (act_of next) }
-    ensures range { IsStep result }
-{
+fn step_by(next: attempts::Step<Conn, Effect>) -> Step {
     match next {
         attempts::Step::Rest => Step::Finished,
         attempts::Step::Ask(conn) => Step::Request(conn),
@@ -66,10 +49,7 @@ fn step_by(next: attempts::Step<Conn, Effect>) -> Step
 
 /// The step that an attempt of the office does next.
 #[tactic(auto, using(crate::proofs::Programs::made_range))]
-fn step_of(attempt: &AttemptOf<Offices, 42, 19>) -> Step
-    requires { IsAttempt (attempt_at attempt.now) }
-    ensures { IsNextStep (attempt_at attempt.now) result }
-{
+fn step_of(attempt: &AttemptOf<Offices, 42, 19>) -> Step {
     step_by(next::<Offices, 42, 19>(attempt))
 }
 
@@ -88,46 +68,30 @@ impl Program {
     ghost use Rattle.xbar_jobs.specs.Turning.{DoesAsOffice};
 
     /// An attempt that has made no step, whatever the plan will be.
-    pub fn new(job: Job) -> Self
-        requires { IsJob job }
-        ensures begin { result ≡ fresh job }
-        ensures plan { (plan : Tables) → IsLawful plan → Stands plan result.attempt }
-    {
+    pub fn new(job: Job) -> Self {
         let attempt = begin::<Offices, 42, 19>(job);
         let next = step_of(&attempt);
         Program { attempt, next }
     }
 
     /// The step that the attempt wants made next.
-    pub fn next(&self) -> Step
-        ensures step { result ≡ next_step self.now.attempt }
-        ensures range { IsStep result }
-        ensures word { step_word result < word_count }
-    {
+    pub fn next(&self) -> Step {
         // Called for its clauses alone.
         let _word = self.next.word();
         self.next
     }
 
-    pub fn job(&self) -> &Job
-        ensures { result.now ≡ self.now.attempt.job }
-    {
+    pub fn job(&self) -> &Job {
         self.attempt.job()
     }
 
     /// The number of the turn, once it is taken.
-    pub fn turn(&self) -> Option<u64>
-        ensures { result ≡ turn_in self.now.attempt.phase }
-    {
+    pub fn turn(&self) -> Option<u64> {
         self.attempt.turn()
     }
 
     /// How the job ended; known from its turn on.
-    pub fn reply(&self) -> Option<&Reply>
-        ensures reply { option_copied result
-            ≡ reply_in self.now.attempt.phase self.now.attempt.reply }
-        ensures known { is_some result ≡ is_some (turn_in self.now.attempt.phase) }
-    {
+    pub fn reply(&self) -> Option<&Reply> {
         match self.attempt.turn() {
             None => None,
             Some(_) => match self.attempt.decision() {
@@ -138,21 +102,12 @@ impl Program {
     }
 
     /// The atomic steps of this attempt so far. It stays at `u32::MAX` once there.
-    pub fn count(&self) -> u32
-        ensures { result ≡ self.now.count }
-    {
+    pub fn count(&self) -> u32 {
         self.attempt.count()
     }
 
     /// Tells the attempt what came of its next step. All calls are handed one plan.
-    pub fn take(&mut self, plan: &Plan, answer: Answer)
-        requires answer { IsAnswerTo (act self.old.attempt) answer }
-        requires plan { Stands plan.now self.old.attempt }
-        ensures change { self.new ≡ after_answer plan.now self.old answer }
-        ensures plan { Stands plan.now self.new.attempt }
-        ensures turn { (number : ℕ) → answer ≡ Answer.Turn number
-            → DoesAsOffice plan.now self.new.attempt }
-    {
+    pub fn take(&mut self, plan: &Plan, answer: Answer) {
         // Called for its clauses alone.
         xbar_plan::laws::every_plan_is_lawful(plan);
         take::<Offices, 42, 19>(&mut self.attempt, plan, answer);
@@ -160,13 +115,44 @@ impl Program {
         self.next = step_of(&self.attempt);
     }
 
+    fn close(&mut self, words: &mut [u64], most: u32) -> u32 {
+        let mut made = 0;
+        while made < most {
+            match next_effect::<Offices, 42, 19>(&self.attempt) {
+                Some(effect) => {
+                    let place = usize::from(effect.word().number());
+                    words[place] = effect.operation().apply(words[place]);
+                }
+                None => match self.attempt.first_held() {
+                    Some(conn) => {
+                        let place = usize::from(conn_word(conn).number());
+                        words[place] &= !63;
+                    }
+                    None => break,
+                },
+            }
+            operate::<Offices, 42, 19>(&mut self.attempt);
+            made += 1;
+        }
+        self.attempt.count_steps(made);
+        made
+    }
+
+    /// Makes as many of its next steps on the words as it can at once.
+    pub fn run(&mut self, plan: &Plan, marker: u32, words: &mut [u64], most: u32) -> u32 {
+        let made = if self.attempt.turn().is_some() {
+            self.close(words, most)
+        } else {
+            run::<Offices, 42, 19>(&mut self.attempt, plan, marker, words, most)
+        };
+        if made > 0 {
+            self.next = step_of(&self.attempt);
+        }
+        made
+    }
+
     /// Begins anew, once all that is held is given back. Past the turn nothing changes.
-    pub fn restart(&mut self)
-        ensures change { (plan : Tables)
-            → self.new ≡ with_count self.old.count (restarted (office plan) self.old.attempt) }
-        ensures plan { (plan : Tables) → IsLawful plan → Stands plan self.old.attempt
-            → Stands plan self.new.attempt }
-    {
+    pub fn restart(&mut self) {
         restart::<Offices, 42, 19>(&mut self.attempt);
         self.next = step_of(&self.attempt);
     }

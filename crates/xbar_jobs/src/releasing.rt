@@ -5,9 +5,10 @@ ghost use Rattle.xbar_jobs.specs.Releasing.{release_from as release_from_script,
 ghost use Rattle.xbar_jobs.specs.Script.{walk};
 
 use crate::decision::Decision;
-use crate::kinds::Wanted;
+use crate::effect::Effect;
+use crate::kinds::{Gathered, Wanted};
 use crate::leave::Leave;
-use crate::seen::Seen;
+use crate::seen::{require_held, value_of};
 use crate::tracing::{approach, trace, trace_back};
 use xbar_equip::{Conn, Len, Path, Ten};
 use xbar_office::End;
@@ -15,29 +16,36 @@ use xbar_plan::Plan;
 
 /// The other party's path, traced back from the other place of a pair.
 #[tactic(auto, using(turns::proofs::Walks::walk_end), unfolding(crate::specs::Releasing::trace_other))]
-fn trace_other(seen: &Seen, place: Option<Ten>) -> Result<Option<Path>, Wanted>
-    ensures { result ≡ walk seen.now (trace_other_script place) }
-{
+fn trace_other(
+    seen: &mut Gathered,
+    words: &mut [u64],
+    made: &[Effect],
+    place: Option<Ten>,
+) -> Result<Option<Path>, Wanted> {
     match place {
         None => Ok(None),
-        Some(place) => trace_back(seen, place),
+        Some(place) => trace_back(seen, words, made, place),
     }
 }
 
 /// Lets go what stands at the end of the line's own path: its group is seized, and of a pair the other party's
 /// path is traced.
 #[tactic(auto, using(turns::proofs::Walks::walk_bind, turns::proofs::Walks::walk_end), unfolding(crate::specs::Releasing::release_from, crate::specs::Releasing::release_member))]
-fn release_from(plan: &Plan, seen: &Seen, own: &Option<Path>) -> Result<Decision, Wanted>
-    ensures { result ≡ walk seen.now (release_from_script plan.now own.now) }
-{
+fn release_from(
+    plan: &Plan,
+    seen: &mut Gathered,
+    words: &mut [u64],
+    made: &[Effect],
+    own: &Option<Path>,
+) -> Result<Decision, Wanted> {
     let Some(own) = own else {
         return Ok(Decision::refused(End::NoCall));
     };
     let Some(found) = plan.member_of(own.place) else {
         return Ok(Decision::refused(End::NoCall));
     };
-    seen.require_held(Conn::Group(found.group))?;
-    let other = trace_other(seen, found.other)?;
+    require_held(seen, words, Conn::Group(found.group))?;
+    let other = trace_other(seen, words, made, found.other)?;
     Ok(Decision::released(Leave::of(own, &other, &found)))
 }
 
@@ -45,10 +53,14 @@ fn release_from(plan: &Plan, seen: &Seen, own: &Option<Path>) -> Result<Decision
 #[tactic(auto, using(turns::proofs::Walks::walk_bind), unfolding(crate::specs::Releasing::release_steps))]
 // Not inlined into every walk: a dial tone job would pay for its locals.
 #[inline(never)]
-pub fn release(plan: &Plan, seen: &Seen, line: Len) -> Result<Decision, Wanted>
-    ensures { result ≡ walk seen.now (release_steps plan.now line) }
-{
-    let party = approach(seen, line)?;
-    let own = trace(seen, &party)?;
-    release_from(plan, seen, &own)
+pub fn release(
+    plan: &Plan,
+    seen: &mut Gathered,
+    words: &mut [u64],
+    made: &[Effect],
+    line: Len,
+) -> Result<Decision, Wanted> {
+    let party = approach(seen, words, made, line)?;
+    let own = trace(seen, words, made, &party)?;
+    release_from(plan, seen, words, made, &own)
 }

@@ -7,9 +7,9 @@ ghost use Rattle.xbar_jobs.specs.Sides.{IsNextJunctor, join as join_of, join_cal
 
 use crate::effect::Effect;
 use crate::effects::{Effects, close_path, made};
-use crate::kinds::Wanted;
+use crate::kinds::{Gathered, Wanted};
 use crate::party::{CallParties, Party};
-use crate::seen::Seen;
+use crate::seen::{require_held, value_of};
 use crate::trunk::{Reached, Trunk};
 use std::marker::Model;
 use xbar_equip::{Path, line_junctor};
@@ -48,21 +48,21 @@ impl Model for Sides {
 
 /// The words of the ten line junctor switches of a frame.
 #[tactic(auto, using(turns::proofs::Walks::walk_bind), unfolding(crate::specs::Sides::test_junctors))]
-fn test_junctors(seen: &Seen, frame: u8) -> Result<[u64; 10], Wanted>
-    requires { frame < 10 }
-    ensures { result ≡ walk seen.now (junctors_script frame 0 10) }
-{
-    let mut words = [0; 10];
+fn test_junctors(
+    seen: &mut Gathered,
+    words: &mut [u64],
+    made: &[Effect],
+    frame: u8,
+) -> Result<[u64; 10], Wanted> {
+    let mut row = [0; 10];
     for channel in 0..10 {
-        words[usize::from(channel)] = seen.value_of(line_junctor(frame, channel))?;
+        row[usize::from(channel)] = value_of(seen, words, made, line_junctor(frame, channel))?;
     }
-    Ok(words)
+    Ok(row)
 }
 
 /// The line junctor switch that is tested after this word, if the word is one and not a frame's last.
-pub fn next_junctor(word: usize) -> Option<usize>
-    ensures { IfSome result (λ next. IsNextJunctor word next) }
-{
+pub fn next_junctor(word: usize) -> Option<usize> {
     let frame = word / 20;
     let place = word % 20;
     if frame < 10 && place >= 10 && place < 19 {
@@ -72,11 +72,7 @@ pub fn next_junctor(word: usize) -> Option<usize>
     }
 }
 
-fn junctors_after(effects: &[Effect], frame: u8, junctors: &[u64; 10]) -> [u64; 10]
-    requires frame { frame < 10 }
-    requires effects { AreEffects effects.now }
-    ensures { result ≡ junctors_after_of effects.now frame 0 junctors.now }
-{
+fn junctors_after(effects: &[Effect], frame: u8, junctors: &[u64; 10]) -> [u64; 10] {
     let mut words = *junctors;
     for channel in 0..10 {
         let index = usize::from(channel);
@@ -89,10 +85,13 @@ impl Side {
     ghost use Rattle.xbar_jobs.specs.Sides.{side_after};
 
     #[tactic(auto, using(turns::proofs::Walks::walk_bind, turns::proofs::Walks::walk_end), unfolding(crate::specs::Sides::test_side))]
-    fn test(seen: &Seen, party: &Party) -> Result<Side, Wanted>
-        ensures { result ≡ walk seen.now (test_side_script party.now) }
-    {
-        let junctors = test_junctors(seen, party.line.frame())?;
+    fn test(
+        seen: &mut Gathered,
+        words: &mut [u64],
+        made: &[Effect],
+        party: &Party,
+    ) -> Result<Side, Wanted> {
+        let junctors = test_junctors(seen, words, made, party.line.frame())?;
         Ok(Side {
             party: *party,
             junctors,
@@ -100,10 +99,7 @@ impl Side {
     }
 
     /// The side as effects will leave its words.
-    fn after(&self, effects: &[Effect]) -> Self
-        requires { AreEffects effects.now }
-        ensures { result ≡ side_after effects.now self.now }
-    {
+    fn after(&self, effects: &[Effect]) -> Self {
         let frame = self.party.line.frame();
         Side {
             party: self.party.after(effects),
@@ -112,10 +108,7 @@ impl Side {
     }
 
     /// The path to a place by the first channel from `start` on whose three fields are open.
-    fn open_path(&self, start: u8, reached: &Reached) -> Option<Path>
-        requires { start < 10 }
-        ensures { result ≡ open_path_of self.now start reached.now }
-    {
+    fn open_path(&self, start: u8, reached: &Reached) -> Option<Path> {
         let line = self.party.line;
         let place = reached.place;
         let channel = match_channel(
@@ -134,12 +127,15 @@ impl Side {
 }
 
 #[tactic(auto, using(turns::proofs::Walks::walk_bind, turns::proofs::Walks::walk_end), unfolding(crate::specs::Sides::test_called))]
-fn test_called(seen: &Seen, party: &Option<Party>) -> Result<Option<Side>, Wanted>
-    ensures { result ≡ walk seen.now (test_called_script party.now) }
-{
+fn test_called(
+    seen: &mut Gathered,
+    words: &mut [u64],
+    made: &[Effect],
+    party: &Option<Party>,
+) -> Result<Option<Side>, Wanted> {
     match party {
         None => Ok(None),
-        Some(party) => Ok(Some(Side::test(seen, party)?)),
+        Some(party) => Ok(Some(Side::test(seen, words, made, party)?)),
     }
 }
 
@@ -151,10 +147,7 @@ fn join_called(
     start: u8,
     reached: &Option<Reached>,
     calling: &Path,
-) -> Option<CallPaths>
-    requires { start < 10 }
-    ensures { result ≡ join_called_of side.now start reached.now calling.now }
-{
+) -> Option<CallPaths> {
     let (Some(side), Some(reached)) = (side, reached) else {
         return Some(CallPaths {
             calling: *calling,
@@ -174,19 +167,19 @@ fn join_called(
 impl Sides {
     /// Tests the line junctor switches of the parties' frames.
     #[tactic(auto, using(turns::proofs::Walks::walk_bind, turns::proofs::Walks::walk_end), unfolding(crate::specs::Sides::test_sides))]
-    pub fn test(seen: &Seen, parties: &CallParties) -> Result<Sides, Wanted>
-        ensures { result ≡ walk seen.now (test_sides_script parties.now) }
-    {
-        let calling = Side::test(seen, &parties.calling)?;
-        let called = test_called(seen, &parties.called)?;
+    pub fn test(
+        seen: &mut Gathered,
+        words: &mut [u64],
+        made: &[Effect],
+        parties: &CallParties,
+    ) -> Result<Sides, Wanted> {
+        let calling = Side::test(seen, words, made, &parties.calling)?;
+        let called = test_called(seen, words, made, &parties.called)?;
         Ok(Sides { calling, called })
     }
 
     /// The paths that join the sides to a member, where each of them finds a channel.
-    pub fn join(&self, start: u8, trunk: &Trunk) -> Option<CallPaths>
-        requires { start < 10 }
-        ensures { result ≡ join_of self.now start trunk.now }
-    {
+    pub fn join(&self, start: u8, trunk: &Trunk) -> Option<CallPaths> {
         let calling = self.calling.open_path(start, &trunk.first)?;
         join_called(&self.called, start, &trunk.second, &calling)
     }

@@ -4,9 +4,10 @@ ghost use Rattle.std.specs.Prelude.{◌≡◌, ◌<◌, ◌≤◌, length};
 ghost use Rattle.xbar_jobs.specs.Script.{walk};
 ghost use Rattle.xbar_jobs.specs.Trials.{after_first_trial as after_first_script, first_trial_steps, second_trial_at as second_trial_at_script, second_trial_steps, trial_end as trial_end_of, two_trials_steps};
 
-use crate::kinds::Wanted;
+use crate::effect::Effect;
+use crate::kinds::{Gathered, Wanted};
 use crate::party::CallParties;
-use crate::seen::Seen;
+use crate::seen::{require_held, value_of};
 use crate::sides::Sides;
 use crate::trunk::{Reached, Trunk, reach};
 use crate::trunks::{Trunks, next_clear};
@@ -21,29 +22,22 @@ fn trial_end(
     start: u8,
     first: Reached,
     second: Option<Reached>,
-) -> TrialEnd
-    requires { start < 10 }
-    ensures { result ≡ trial_end_of plan.now sides.now start
-        (record { first = first; second = second }) }
-{
+) -> TrialEnd {
     TrialEnd::of(plan, sides.join(start, &Trunk { first, second }))
 }
 
 #[tactic(auto, using(turns::proofs::Walks::walk_bind, turns::proofs::Walks::walk_end), unfolding(crate::specs::Trials::second_trial_steps))]
 fn second_trial(
     plan: &Plan,
-    seen: &Seen,
+    seen: &mut Gathered,
+    words: &mut [u64],
+    made: &[Effect],
     sides: &Sides,
     cards: Cards,
     index: usize,
     member: &Member,
-) -> Result<Trials, Wanted>
-    requires index { index < 40 }
-    requires cards { length cards ≤ 1 }
-    ensures { result ≡ walk seen.now
-        (second_trial_steps plan.now sides.now cards index member.now) }
-{
-    let trunk = reach(seen, member)?;
+) -> Result<Trials, Wanted> {
+    let trunk = reach(seen, words, made, member)?;
     let end = trial_end(plan, sides, 5, trunk.first, trunk.second);
     Ok(Trials::second(cards, index as u8, end))
 }
@@ -51,78 +45,76 @@ fn second_trial(
 #[tactic(auto, unfolding(crate::specs::Trials::second_trial_at))]
 fn second_trial_at(
     plan: &Plan,
-    seen: &Seen,
+    seen: &mut Gathered,
+    words: &mut [u64],
+    made: &[Effect],
     sides: &Sides,
     trunks: &Trunks,
     cards: Cards,
     index: usize,
-) -> Result<Trials, Wanted>
-    requires index { index < length trunks.now.members }
-    requires size { length trunks.now.members ≤ 40 }
-    requires cards { length cards ≤ 1 }
-    ensures { result ≡ walk seen.now
-        (second_trial_at_script plan.now sides.now trunks.now cards index) }
-{
+) -> Result<Trials, Wanted> {
     let member = &trunks.members[index];
-    second_trial(plan, seen, sides, cards, index, member)
+    second_trial(plan, seen, words, made, sides, cards, index, member)
 }
 
 /// What follows the first trial: its own end, or a second trial by the same line junctor switches.
 #[tactic(auto, using(turns::proofs::Walks::walk_end), unfolding(crate::specs::Trials::after_first_trial))]
 fn after_first_trial(
     plan: &Plan,
-    seen: &Seen,
+    seen: &mut Gathered,
+    words: &mut [u64],
+    made: &[Effect],
     sides: &Sides,
     trunks: &Trunks,
     first: usize,
     end: TrialEnd,
-) -> Result<Trials, Wanted>
-    requires index { first < length trunks.now.members }
-    requires size { length trunks.now.members ≤ 40 }
-    ensures { result ≡ walk seen.now (after_first_script plan.now sides.now trunks.now first end) }
-{
+) -> Result<Trials, Wanted> {
     let cards = match end {
         TrialEnd::Chosen(call) => return Ok(Trials::first(first as u8, &call)),
         TrialEnd::Faulty(link) => Cards::one(Card { trial: 1, link }),
         TrialEnd::NoChannel => Cards::new(),
     };
     let next = next_clear(trunks.word, trunks.members.len(), first);
-    second_trial_at(plan, seen, sides, trunks, cards, next)
+    second_trial_at(plan, seen, words, made, sides, trunks, cards, next)
 }
 
 /// Both trials, the first one on this member.
 #[tactic(auto, using(turns::proofs::Walks::walk_bind), unfolding(crate::specs::Trials::first_trial_steps))]
 fn first_trial(
     plan: &Plan,
-    seen: &Seen,
+    seen: &mut Gathered,
+    words: &mut [u64],
+    made: &[Effect],
     parties: &CallParties,
     trunks: &Trunks,
     first: usize,
     member: &Member,
-) -> Result<Trials, Wanted>
-    requires index { first < length trunks.now.members }
-    requires size { length trunks.now.members ≤ 40 }
-    ensures { result ≡ walk seen.now
-        (first_trial_steps plan.now parties.now trunks.now first member.now) }
-{
-    let trunk = reach(seen, member)?;
-    let sides = Sides::test(seen, parties)?;
+) -> Result<Trials, Wanted> {
+    let trunk = reach(seen, words, made, member)?;
+    let sides = Sides::test(seen, words, made, parties)?;
     let end = trial_end(plan, &sides, 0, trunk.first, trunk.second);
-    after_first_trial(plan, seen, &sides, trunks, first, end)
+    after_first_trial(plan, seen, words, made, &sides, trunks, first, end)
 }
 
 /// Two trials on the group's members, from one that is idle on.
 #[tactic(auto, unfolding(crate::specs::Trials::two_trials_steps))]
 pub fn two_trials(
     plan: &Plan,
-    seen: &Seen,
+    seen: &mut Gathered,
+    words: &mut [u64],
+    made: &[Effect],
     parties: &CallParties,
     trunks: &Trunks,
     first: usize,
-) -> Result<Trials, Wanted>
-    requires index { first < length trunks.now.members }
-    requires size { length trunks.now.members ≤ 40 }
-    ensures { result ≡ walk seen.now (two_trials_steps plan.now parties.now trunks.now first) }
-{
-    first_trial(plan, seen, parties, trunks, first, &trunks.members[first])
+) -> Result<Trials, Wanted> {
+    first_trial(
+        plan,
+        seen,
+        words,
+        made,
+        parties,
+        trunks,
+        first,
+        &trunks.members[first],
+    )
 }

@@ -5,8 +5,8 @@ ghost use Rattle.xbar_jobs.specs.Sides.{reach as reach_script, test_place as tes
 
 use crate::effect::Effect;
 use crate::effects::made;
-use crate::kinds::Wanted;
-use crate::seen::Seen;
+use crate::kinds::{Gathered, Wanted};
+use crate::seen::{require_held, value_of};
 use xbar_equip::{Conn, Ten, trunk_switch};
 use xbar_plan::Member;
 
@@ -21,10 +21,7 @@ impl Reached {
     ghost use Rattle.xbar_jobs.specs.Sides.{reached_after};
 
     /// The place as effects will leave its word.
-    pub fn after(&self, effects: &[Effect]) -> Self
-        requires { AreEffects effects.now }
-        ensures { result ≡ reached_after effects.now self.now }
-    {
+    pub fn after(&self, effects: &[Effect]) -> Self {
         let place = self.place;
         let number = trunk_switch(place.frame(), place.switch());
         Reached {
@@ -42,31 +39,45 @@ pub struct Trunk {
 }
 
 #[tactic(auto, using(turns::proofs::Walks::walk_bind, turns::proofs::Walks::walk_end), unfolding(crate::specs::Sides::test_place))]
-fn test_place(seen: &Seen, place: Ten) -> Result<Reached, Wanted>
-    ensures { result ≡ walk seen.now (test_place_script place) }
-{
-    let word = seen.value_of(trunk_switch(place.frame(), place.switch()))?;
+fn test_place(
+    seen: &mut Gathered,
+    words: &mut [u64],
+    made: &[Effect],
+    place: Ten,
+) -> Result<Reached, Wanted> {
+    let word = value_of(
+        seen,
+        words,
+        made,
+        trunk_switch(place.frame(), place.switch()),
+    )?;
     Ok(Reached { place, word })
 }
 
 #[tactic(auto, using(turns::proofs::Walks::walk_bind, turns::proofs::Walks::walk_end), unfolding(crate::specs::Sides::test_second))]
-fn test_second(seen: &Seen, place: Option<Ten>) -> Result<Option<Reached>, Wanted>
-    ensures { result ≡ walk seen.now (test_second_script place) }
-{
+fn test_second(
+    seen: &mut Gathered,
+    words: &mut [u64],
+    made: &[Effect],
+    place: Option<Ten>,
+) -> Result<Option<Reached>, Wanted> {
     match place {
         None => Ok(None),
-        Some(place) => Ok(Some(test_place(seen, place)?)),
+        Some(place) => Ok(Some(test_place(seen, words, made, place)?)),
     }
 }
 
 /// Reaches a member: its trunk link frame is seized, and the trunk switches of its places are tested.
 #[tactic(auto, using(turns::proofs::Walks::walk_bind, turns::proofs::Walks::walk_end), unfolding(crate::specs::Sides::reach))]
 #[inline(always)]
-pub fn reach(seen: &Seen, member: &Member) -> Result<Trunk, Wanted>
-    ensures { result ≡ walk seen.now (reach_script member.now) }
-{
-    seen.require_held(Conn::Tlf(member.first.frame()))?;
-    let first = test_place(seen, member.first)?;
-    let second = test_second(seen, member.second)?;
+pub fn reach(
+    seen: &mut Gathered,
+    words: &mut [u64],
+    made: &[Effect],
+    member: &Member,
+) -> Result<Trunk, Wanted> {
+    require_held(seen, words, Conn::Tlf(member.first.frame()))?;
+    let first = test_place(seen, words, made, member.first)?;
+    let second = test_second(seen, words, made, member.second)?;
     Ok(Trunk { first, second })
 }

@@ -6,8 +6,9 @@ ghost use Rattle.xbar_office.specs.Trunks.{AreGroups};
 ghost use Rattle.xbar_jobs.specs.Script.{walk};
 ghost use Rattle.xbar_jobs.specs.Trunks.{IsOfPlan, find_trunk as find_trunk_script, is_bit_clear as is_bit_clear_of, trunks_of as trunks_by};
 
-use crate::kinds::Wanted;
-use crate::seen::Seen;
+use crate::effect::Effect;
+use crate::kinds::{Gathered, Wanted};
+use crate::seen::{require_held, value_of};
 use std::marker::Model;
 use xbar_equip::{Conn, group_word};
 use xbar_plan::{Member, Plan};
@@ -35,19 +36,12 @@ impl<'p> Model for Trunks<'p> {
     ghost view = { λ a. record { members = a.members.now; word = a.word } };
 }
 
-fn is_bit_clear(word: u64, index: usize) -> bool
-    requires { index < 64 }
-    ensures { result ≡ is_bit_clear_of word index }
-{
+fn is_bit_clear(word: u64, index: usize) -> bool {
     word >> index & 1 == 0
 }
 
 /// The first of so many members whose bit is 0.
-fn first_clear(word: u64, count: usize) -> Option<usize>
-    requires { count ≤ 40 }
-    ensures first { result ≡ first_below (is_bit_clear_of word) count }
-    ensures bound { IfSome result (λ index. index < count) }
-{
+fn first_clear(word: u64, count: usize) -> Option<usize> {
     for index in 0..count {
         if is_bit_clear(word, index) {
             return Some(index);
@@ -57,12 +51,7 @@ fn first_clear(word: u64, count: usize) -> Option<usize>
 }
 
 /// The next one after a member; that one again, where none follows.
-pub fn next_clear(word: u64, count: usize, index: usize) -> usize
-    requires index { index < count }
-    requires size { count ≤ 40 }
-    ensures next { result ≡ next_below (is_bit_clear_of word) count index }
-    ensures bound { result < count }
-{
+pub fn next_clear(word: u64, count: usize, index: usize) -> usize {
     for next in index + 1..count {
         if is_bit_clear(word, next) {
             return next;
@@ -72,11 +61,7 @@ pub fn next_clear(word: u64, count: usize, index: usize) -> usize
 }
 
 /// The members of a group of the plan, with what the group's word was.
-pub fn trunks_of(plan: &Plan, group: u8, word: u64) -> Trunks<'_>
-    requires { group < length plan.now.groups }
-    ensures trunks { result ≡ trunks_by plan.now group word }
-    ensures size { length result.members ≤ 40 }
-{
+pub fn trunks_of(plan: &Plan, group: u8, word: u64) -> Trunks<'_> {
     // Called for its clauses alone.
     xbar_plan::laws::groups_have_members();
     Trunks {
@@ -86,18 +71,20 @@ pub fn trunks_of(plan: &Plan, group: u8, word: u64) -> Trunks<'_>
 }
 
 /// The first of some groups that has an idle member: each is seized and its word tested, until one has.
-pub fn find_trunk(plan: &Plan, seen: &Seen, groups: &[u8]) -> Result<Option<IdleGroup>, Wanted>
-    requires { AreGroups plan.now groups.now }
-    ensures walk { result ≡ walk seen.now (find_trunk_script plan.now groups.now) }
-    ensures range { IfOk result (λ found. IfSome found (λ idle. IsOfPlan plan.now idle)) }
-{
+pub fn find_trunk(
+    plan: &Plan,
+    seen: &mut Gathered,
+    words: &mut [u64],
+    made: &[Effect],
+    groups: &[u8],
+) -> Result<Option<IdleGroup>, Wanted> {
     // Called for their clauses alone.
     xbar_plan::laws::every_plan_is_lawful(plan);
     xbar_plan::laws::groups_have_members();
     for group in groups {
         let group = *group;
-        seen.require_held(Conn::Group(group))?;
-        let word = seen.value_of(group_word(group))?;
+        require_held(seen, words, Conn::Group(group))?;
+        let word = value_of(seen, words, made, group_word(group))?;
         let trunks = trunks_of(plan, group, word);
         if let Some(first) = first_clear(word, trunks.members.len()) {
             return Ok(Some(IdleGroup {

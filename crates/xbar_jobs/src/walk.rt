@@ -16,60 +16,55 @@ use crate::decision::Decision;
 use crate::dialling::dial;
 use crate::kinds::{Gathered, Wanted};
 use crate::releasing::release;
-use crate::seen::Seen;
 use crate::sides::next_junctor;
 use crate::way::Way;
 use xbar_equip::{Conn, Len};
 use xbar_office::Job;
 use xbar_plan::Plan;
 
-fn line_of(job: &Job) -> Len
-    ensures { result ≡ job_line job.now }
-{
+fn line_of(job: &Job) -> Len {
     match job {
         Job::Dial(line) | Job::Complete(line, _) | Job::Release(line) => *line,
     }
 }
 
 /// The connector that a job seizes first.
-pub fn first_conn(job: &Job) -> Conn
-    ensures { result ≡ first_conn_of job.now }
-{
+pub fn first_conn(job: &Job) -> Conn {
     Conn::Llf(line_of(job).frame())
 }
 
 #[tactic(auto, unfolding(crate::specs::Jobs::script))]
 // Not inlined, so that a walk that stops early pays for few locals.
 #[inline(never)]
-fn follow(plan: &Plan, gathered: &Gathered, job: &Job, way: &mut Way) -> Result<Decision, Wanted>
-    requires { Knows (job_line job.now) way.old gathered.now }
-    ensures walk { result ≡ walk_of gathered.now (script plan.now job.now) }
-    ensures knows { Knows (job_line job.now) way.new gathered.now }
-{
+fn follow(
+    plan: &Plan,
+    seen: &mut Gathered,
+    words: &mut [u64],
+    job: &Job,
+    way: &mut Way,
+) -> Result<Decision, Wanted> {
     match job {
-        Job::Dial(line) => dial(plan, &Seen::new(gathered), *line),
-        Job::Complete(line, dialled) => complete(plan, gathered, *line, *dialled, way),
-        Job::Release(line) => release(plan, &Seen::new(gathered), *line),
+        Job::Dial(line) => dial(plan, seen, words, &[], *line),
+        Job::Complete(line, dialled) => complete(plan, seen, words, *line, *dialled, way),
+        Job::Release(line) => release(plan, seen, words, &[], *line),
     }
 }
 
 /// Goes through a job with what an attempt has come by: to its decision, or to what it wants first.
-pub fn walk(plan: &Plan, gathered: &Gathered, job: &Job, way: &mut Way) -> Result<Decided, Wanted>
-    requires job { IsJob job.now }
-    requires read { AreReadWords gathered.now.readings }
-    requires knows { Knows (job_line job.now) way.old gathered.now }
-    ensures walk { result ≡ walk_of gathered.now (script plan.now job.now) }
-    ensures knows { Knows (job_line job.now) way.new gathered.now }
-{
+pub fn walk(
+    plan: &Plan,
+    seen: &mut Gathered,
+    words: &mut [u64],
+    job: &Job,
+    way: &mut Way,
+) -> Result<Decided, Wanted> {
     // Called for its clauses alone.
     xbar_plan::laws::every_plan_is_lawful(plan);
-    let decision = follow(plan, gathered, job, way)?;
+    let decision = follow(plan, seen, words, job, way)?;
     Ok(Decided::new(decision))
 }
 
-fn tests_rows(job: &Job, way: &Way) -> bool
-    ensures { IsTrue result → TestsRows job.now way.now }
-{
+fn tests_rows(job: &Job, way: &Way) -> bool {
     match job {
         Job::Dial(_) => true,
         Job::Complete(_, _) => match way {
@@ -81,10 +76,7 @@ fn tests_rows(job: &Job, way: &Way) -> bool
 }
 
 /// The line junctor switch after this word, where that isn't its frame's last, and it wasn't read.
-fn unread_after(gathered: &Gathered, word: usize) -> Option<usize>
-    ensures next { IfSome result (λ next. IsNextJunctor word next) }
-    ensures unread { IfSome result (λ next. value_read gathered.now.readings next ≡ None) }
-{
+fn unread_after(gathered: &Gathered, word: usize) -> Option<usize> {
     let next = next_junctor(word)?;
     if gathered.has_read(next) {
         None
@@ -101,12 +93,7 @@ pub fn next_in_row(
     job: &Job,
     way: &Way,
     word: usize,
-) -> Option<usize>
-    requires job { IsJob job.now }
-    requires knows { Knows (job_line job.now) way.now gathered.now }
-    requires wants { walk_of gathered.now (script plan.now job.now) ≡ Err (Test word) }
-    ensures { IfSome result (GoesOnTo conn_eq gathered.now (script plan.now job.now) word) }
-{
+) -> Option<usize> {
     // Called for its clauses alone.
     xbar_plan::laws::every_plan_is_lawful(plan);
     if tests_rows(job, way) {
