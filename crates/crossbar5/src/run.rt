@@ -95,8 +95,8 @@ fn run(
     requires range { All IsRow traffic.now.rows.items }
     requires mode { All (λ row. mode_of row ≡ Mode.Replay) traffic.now.rows.items }
     ensures written { IfOk result (λ written.
-        IsWrittenOf
-        (outcome plan.now kinds.now traffic.now.rows.items traffic.now.fault) written.text.items written.status) }
+        IsWrittenOf (outcome plan.now kinds.now traffic.now.rows.items traffic.now.fault)
+        written.text.items written.status) }
     ensures history { IfOk result (λ written.
         LeavesOneHistory plan.now
         (outcome plan.now kinds.now traffic.now.rows.items traffic.now.fault)) }

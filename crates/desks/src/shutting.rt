@@ -46,10 +46,12 @@ fn gather<F: Jobs>(
     mut desks: Vec<Desk<F>>,
 ) -> Option<Seat<(), Knows<F>>>
     requires room { (shared.now.key.setting.value ≡ setting.now) × (0 < shared.now.table_id.words) }
-    requires desks { AreIdle (system_of (F.system setting.now)) shared.now.table_id setting.now desks.items }
+    requires desks { AreIdle (system_of (F.system setting.now)) shared.now.table_id setting.now
+        desks.items }
     ensures table { IfSome result (λ seat. (seat.table_id ≡ shared.now.table_id) × (seat.me.1 ≡ [])) }
     ensures rest { IfSome result (λ seat. AllRest (system_of (F.system setting.now)) seat.me.0) }
-    ensures told { IfSome result (λ seat. (i : ℕ) → IfSome (slice_get desks.items i) (λ d. Tells (system_of (F.system setting.now)) seat.me.0 i d.seen)) }
+    ensures told { IfSome result (λ seat. (i : ℕ) → IfSome (slice_get desks.items i)
+        (λ d. Tells (system_of (F.system setting.now)) seat.me.0 i d.seen)) }
     ensures none { IfNone result (vec_len desks ≡ 0) }
 {
     let Some(last) = desks.pop() else {

@@ -44,7 +44,12 @@ impl Model for Link {
       channel = a.channel;
     }) };
 
-    ghost inverse = { λ link. record { kind = link.kind; frame = link.frame; at = link.at; channel = link.channel } };
+    ghost inverse = { λ link. record {
+      kind = link.kind;
+      frame = link.frame;
+      at = link.at;
+      channel = link.channel;
+    } };
 }
 
 impl Link {

@@ -32,7 +32,11 @@ impl Model for Ten {
       appearance = a.appearance;
     }) };
 
-    ghost inverse = { λ place. record { frame = place.frame; switch = place.switch; appearance = place.appearance } };
+    ghost inverse = { λ place. record {
+      frame = place.frame;
+      switch = place.switch;
+      appearance = place.appearance;
+    } };
 }
 
 impl Ten {

@@ -42,16 +42,24 @@ pub fn a_path_has_crosspoints_of_the_office()
 pub fn open_fields_are_idle_links()
     ensures line_link { (words : List ℕ) (paths : List Path) (path : Path) →
         ShowsPaths words paths → AreInRange paths → IsPath path
-        → is_idle (has_link (line_link path)) paths ≡ (held_at words (word_number (LineSwitch path.line.frame path.line.switch)) path.channel == 0) }
+        → is_idle (has_link (line_link path)) paths
+        ≡ (held_at words (word_number (LineSwitch path.line.frame path.line.switch)) path.channel
+        == 0) }
     ensures junctor { (words : List ℕ) (paths : List Path) (path : Path) → ShowsPaths words paths →
         AreInRange paths → IsPath path
-        → is_idle (has_link (junctor path)) paths ≡ (held_at words (word_number (LineJunctor path.line.frame path.channel)) path.place.frame == 0) }
+        → is_idle (has_link (junctor path)) paths
+        ≡ (held_at words (word_number (LineJunctor path.line.frame path.channel)) path.place.frame
+        == 0) }
     ensures junctor_back { (words : List ℕ) (paths : List Path) (path : Path) →
         ShowsPaths words paths → AreInRange paths → IsPath path
-        → is_idle (has_link (junctor path)) paths ≡ (held_at words (word_number (TrunkJunctor path.place.frame path.channel)) path.line.frame == 0) }
+        → is_idle (has_link (junctor path)) paths
+        ≡ (held_at words (word_number (TrunkJunctor path.place.frame path.channel)) path.line.frame
+        == 0) }
     ensures trunk_link { (words : List ℕ) (paths : List Path) (path : Path) →
         ShowsPaths words paths → AreInRange paths → IsPath path
-        → is_idle (has_link (trunk_link path)) paths ≡ (held_at words (word_number (TrunkSwitch path.place.frame path.place.switch)) path.channel == 0) }
+        → is_idle (has_link (trunk_link path)) paths
+        ≡ (held_at words (word_number (TrunkSwitch path.place.frame path.place.switch))
+        path.channel == 0) }
 {}
 
 /// The words that a channel test reads show the links that it looks at.
@@ -59,7 +67,9 @@ pub fn a_channel_test_reads_the_links()
     ensures { (words junctors : List ℕ) (paths : List Path) (line : Line) (place : TrunkPlace) →
         ShowsPaths words paths → AreInRange paths → IsLine line → IsTrunkPlace place
         → ((n : ℕ) → n < 10 → slice_index junctors n ≡ word_of words (LineJunctor line.frame n))
-        → ShowsLinks (match_words (word_of words (LineSwitch line.frame line.switch)) junctors (word_of words (TrunkSwitch place.frame place.switch))) paths line place }
+        → ShowsLinks
+        (match_words (word_of words (LineSwitch line.frame line.switch)) junctors
+        (word_of words (TrunkSwitch place.frame place.switch))) paths line place }
 {}
 
 /// Closing a crosspoint changes its field alone, and so does opening it.
@@ -104,10 +114,12 @@ pub fn opening_a_path_removes_it()
 pub fn each_word_shows_the_change()
     ensures closing { (paths : List Path) (path : Path) (n word : ℕ) → AreInRange paths →
         IsPath path → has_idle_links paths path ≡ true
-        → WordShows (IsClosedIn paths) n word → WordShows (IsClosedIn (with_path paths path)) n (close_path_in n word path) }
+        → WordShows (IsClosedIn paths) n word
+        → WordShows (IsClosedIn (with_path paths path)) n (close_path_in n word path) }
     ensures opening { (paths : List Path) (path : Path) (n word : ℕ) → AreInRange paths →
         AreApart paths → IsSet paths → IsIn path paths
-        → WordShows (IsClosedIn paths) n word → WordShows (IsClosedIn (without_path paths path)) n (open_path_in n word path) }
+        → WordShows (IsClosedIn paths) n word
+        → WordShows (IsClosedIn (without_path paths path)) n (open_path_in n word path) }
 {}
 
 /// On words that show a set, the line switches have one closed field for each path, and all switches have
