@@ -1,6 +1,8 @@
 //! Live traffic from one device to another.
 
-use crossbar5::{Counted, EngineFault, Sink, Source, Status, open_gates, run_live};
+use crossbar5::{
+    Counted, EngineFault, Sink, Source, Status, Task, answer_task, open_gates, run_live,
+};
 use std::alloc::Global;
 use std::sync::Wait;
 use std::thread::Threads;
@@ -22,6 +24,11 @@ pub struct Staff {
 pub const ONE_EACH: Staff = Staff {
     dialling: 1,
     completing: 1,
+};
+
+pub const TWO_EACH: Staff = Staff {
+    dialling: 2,
+    completing: 2,
 };
 
 /// Does the calls that the source gives.
@@ -62,4 +69,12 @@ pub fn done<T: Threads + Wait + Sync>(
     let mut sink = Counted::new(Vec::new(alloc));
     let status = run(rt, alloc, plan, staff, &mut source, &mut sink)?;
     Ok((sink.into_inner(), status))
+}
+
+/// What an audit finds in the text of a run.
+pub fn judged(alloc: Global, plan: &str, text: &[u8]) -> Result<Status, EngineFault> {
+    let mut source = Counted::new(text);
+    let mut sink = Counted::new(Vec::new(alloc));
+    let answer = answer_task(alloc, Task::Audit, plan.as_bytes(), &mut source, &mut sink)?;
+    Ok(answer.status)
 }

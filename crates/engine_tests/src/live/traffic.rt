@@ -1,6 +1,6 @@
 //! Live traffic, and what comes of it.
 
-use crate::live::running::{EXAMPLE, ONE_EACH, Staff, done};
+use crate::live::running::{EXAMPLE, ONE_EACH, Staff, TWO_EACH, done, judged};
 use crossbar5::{EngineFault, Status};
 use std::alloc::Global;
 use std::process::Abort;
@@ -94,19 +94,27 @@ fn markers_are_refused_before_the_plan(rt: HostRuntime) {
 fn calls_that_compete_leave_three_paths(rt: HostRuntime) -> Result<(), Fail> {
     let three = "C,1,3041,5551234,K\nC,2,1000,5551234,K\nC,3,2000,5551234,K\n";
     let four = "C,1,3041,5551234,K\nC,2,1000,5551234,K\nC,3,2000,5551234,K\nC,4,3052,5551234,K\n";
-    let staff = Staff {
-        dialling: 2,
-        completing: 2,
-    };
     for (traffic, fewest, most) in [(three, 8, 8), (four, 9, 10)] {
         for _time in 0..20 {
-            let (written, status) = done(&rt, rt.alloc(), EXAMPLE, staff, traffic)?;
+            let (written, status) = done(&rt, rt.alloc(), EXAMPLE, TWO_EACH, traffic)?;
             let text = str::from_utf8(&written).unwrap_or("this is no text");
             assert_eq!(rt; status, Status::Fine);
             assert!(rt; text.ends_with("\nPATHS,3\nCLOSED,12\n"));
             let lines = text.lines().count();
             assert!(rt; fewest <= lines && lines <= most);
         }
+    }
+    Ok(())
+}
+
+/// The rows of examples/live_calls.csv: whoever comes first, the records are one legal history.
+#[test]
+fn the_calls_of_the_example_are_one_legal_history(rt: HostRuntime) -> Result<(), Fail> {
+    let calls = "C,1,3041,5551234,R\nC,2,1000,5551234,R\nC,3,2000,5551234,K\nC,4,3052,2340004,K\n";
+    for staff in [ONE_EACH, TWO_EACH] {
+        let (written, status) = done(&rt, rt.alloc(), EXAMPLE, staff, calls)?;
+        assert_eq!(rt; status, Status::Fine);
+        assert_eq!(rt; judged(rt.alloc(), EXAMPLE, &written)?, Status::Fine);
     }
     Ok(())
 }
