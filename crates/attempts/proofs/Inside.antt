@@ -5,8 +5,8 @@ use Rattle.turns.specs.Attempt.{Act, Free, Rest, asked_in, free_act, turn_in}
 use Rattle.desks.specs.Outcomes.{is_given_up}
 use Rattle.turns.specs.declared.phase.Phase.{Phase}
 use Rattle.turns.specs.declared.phase.Phase.TheVariants.{Requests, Seizes, Tests, Turns, Withdraws, GivesBack, Operates}
-use Rattle.turns.specs.declared.reading.Reading.{Reading}
 use Rattle.attempts.specs.Counting.{has_made_none}
+use Rattle.attempts.specs.Live.{Course}
 use Rattle.attempts.specs.Standing.{Program, effects_left}
 
 -- what is told by its phase
@@ -22,24 +22,21 @@ same_phase p now inside = ap (λ (x : Program _ _ _ _). x.phase) inside
 pub same_count : {Lock Job Decision Point : Type 0} (p now : Program Lock Job Decision Point) → p ≡ now → p.count ≡ now.count
 same_count p now inside = ap (λ (x : Program _ _ _ _). x.count) inside
 
--- with other readings, or holding others
-pub with_readings : {Lock Job Decision Point : Type 0} (p : Program Lock Job Decision Point) (now : Program Lock Job Decision Point) (readings : List (Reading ℕ)) (of : List (Reading ℕ) → List (Reading ℕ)) → p ≡ now → readings ≡ of p.readings → record p { readings = readings } ≡ record now { readings = of now.readings }
-with_readings p now readings of inside are = ap (λ (rs : List (Reading ℕ)). record p { readings = rs }) are ∙ ap (λ (x : Program _ _ _ _). record x { readings = of x.readings }) inside
+-- with more, or less, that it has come by
+pub with_seen : {Lock Job Decision Point : Type 0} (p now : Program Lock Job Decision Point) (course made : Course Lock) (of : Program Lock Job Decision Point → Program Lock Job Decision Point) → p ≡ now → course ≡ made → record p { readings = made.seen.readings; held = made.seen.held } ≡ of p → record p { readings = course.seen.readings; held = course.seen.held } ≡ of now
+with_seen p now course made of inside is so = ap (λ (x : Course _). record p { readings = x.seen.readings; held = x.seen.held }) is ∙ so ∙ ap of inside
 
-pub with_held : {Lock Job Decision Point : Type 0} (p now : Program Lock Job Decision Point) (held : List Lock) (of : List Lock → List Lock) → p ≡ now → held ≡ of p.held → record p { held = held } ≡ record now { held = of now.held }
-with_held p now held of inside is = ap (λ (h : List _). record p { held = h }) is ∙ ap (λ (x : Program _ _ _ _). record x { held = of x.held }) inside
-
-pub forgets : {Lock Job Decision Point : Type 0} (p now : Program Lock Job Decision Point) (readings : List (Reading ℕ)) → p ≡ now → readings ≡ [] → record p { readings = readings; decision = None; made = 0 } ≡ record now { readings = []; decision = None; made = 0 }
-forgets p now readings inside none = ap (λ (rs : List (Reading ℕ)). record p { readings = rs; decision = None; made = 0 }) none ∙ ap (λ (x : Program _ _ _ _). record x { readings = []; decision = None; made = 0 }) inside
+pub forgets : {Lock Job Decision Point : Type 0} (p now : Program Lock Job Decision Point) (course : Course Lock) (left hold : ℕ) → p ≡ now → course ≡ record { seen = record { held = p.held; readings = [] }; left = left; hold = hold } → record p { readings = course.seen.readings; held = course.seen.held; decision = None; made = 0 } ≡ record now { readings = []; decision = None; made = 0 }
+forgets p now course left hold inside is = ap (λ (x : Course _). record p { readings = x.seen.readings; held = x.seen.held; decision = None; made = 0 }) is ∙ ap (λ (x : Program _ _ _ _). record x { readings = []; decision = None; made = 0 }) inside
 
 pub begins_anew : {Lock Job Decision Point : Type 0} (p now new : Program Lock Job Decision Point) (held : List Lock) (first : Lock) (point : Point) → p ≡ now → held ≡ [] → new ≡ record p { point = point; readings = []; held = held; phase = Requests first; decision = None; made = 0 } → new ≡ record now { point = point; readings = []; held = []; phase = Requests first; decision = None; made = 0 }
 begins_anew p now new held first point inside none made = made ∙ ap (λ (h : List _). record p { point = point; readings = []; held = h; phase = Requests first; decision = None; made = 0 }) none ∙ ap (λ (x : Program _ _ _ _). record x { point = point; readings = []; held = []; phase = Requests first; decision = None; made = 0 }) inside
 
 -- with nothing read and nothing held
-pub is_new : {Lock Job Decision Point : Type 0} (job : Job) (point : Point) (first : Lock) (readings : List (Reading ℕ)) (held : List Lock) → readings ≡ [] → held ≡ [] → ◌≡◌ {A = Program Lock Job Decision Point} (record { job = job; point = point; readings = readings; held = held; phase = Requests first; decision = None; made = 0; count = 0 }) (record { job = job; point = point; readings = []; held = []; phase = Requests first; decision = None; made = 0; count = 0 })
-is_new {Lock} {Job} {Decision} {Point} job point first readings held none empty =
-    let made : List (Reading ℕ) → List Lock → Program Lock Job Decision Point = λ rs h. record { job = job; point = point; readings = rs; held = h; phase = Requests first; decision = None; made = 0; count = 0 } in
-    ap (λ (rs : List (Reading ℕ)). made rs held) none ∙ ap (made []) empty
+pub is_new : {Lock Job Decision Point : Type 0} (job : Job) (point : Point) (first : Lock) (course : Course Lock) → course ≡ record { seen = record { held = []; readings = [] }; left = 0; hold = 0 } → ◌≡◌ {A = Program Lock Job Decision Point} (record { job = job; point = point; readings = course.seen.readings; held = course.seen.held; phase = Requests first; decision = None; made = 0; count = 0 }) (record { job = job; point = point; readings = []; held = []; phase = Requests first; decision = None; made = 0; count = 0 })
+is_new {Lock} {Job} {Decision} {Point} job point first course is = ap made is where
+  made : Course Lock → Program Lock Job Decision Point
+  made x = record { job = job; point = point; readings = x.seen.readings; held = x.seen.held; phase = Requests first; decision = None; made = 0; count = 0 }
 
 -- a phase that is no other's has no turn, and is no beginning
 pub no_turn : {Lock : Type 0} (phase : Phase Lock ℕ) → ((turn : ℕ) → phase ≡ Operates turn → ⊥) → None ≡ turn_in phase

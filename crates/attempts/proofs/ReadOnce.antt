@@ -23,7 +23,8 @@ wants_unread {Lock} {A} same seen word (SeizeThen lock script) wants = at (is_he
   at false later e = absurd cc
   at true later e = later e
 
-read_new : (readings : List (Reading ℕ)) (last : Reading ℕ) → value_read readings last.word ≡ None → value_read (readings ++ last ∷ []) last.word ≡ Some last.value
+-- a word that was not read, once it is
+pub read_new : (readings : List (Reading ℕ)) (last : Reading ℕ) → value_read readings last.word ≡ None → value_read (readings ++ last ∷ []) last.word ≡ Some last.value
 unfolding value_read
 read_new [] last unread = ap (λ b. option_map (λ (r : Reading ℕ). r.value) (if b then Some last else None)) (eq-eqb last.word last.word refl)
 read_new (reading ∷ readings) last unread = at (reading.word == last.word) (read_new readings last) unread where

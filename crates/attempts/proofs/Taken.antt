@@ -9,16 +9,17 @@ use Rattle.turns.specs.declared.answer.Answer.{Answer}
 use Rattle.turns.specs.declared.answer.Answer.TheVariants.{Asked, Seized, Held, Preferred, Again, Value, Turn, Done}
 use Rattle.turns.specs.declared.phase.Phase.{Phase}
 use Rattle.turns.specs.declared.phase.Phase.TheVariants.{Requests, Seizes, Tests, Turns, Withdraws, GivesBack, Operates}
-use Rattle.turns.specs.declared.reading.Reading.{Reading}
 use Rattle.turns.specs.declared.wanted.Wanted.{Wanted}
 use Rattle.turns.specs.declared.wanted.Wanted.TheVariants.{Seize, Test}
 use Rattle.attempts.specs.Counting.{count_in}
+use Rattle.attempts.specs.Live.{Comes, Course, live}
 use Rattle.attempts.specs.Points.{GoesOnTo}
 use Rattle.attempts.specs.Standing.{CanWalk, KnowsIn, Program, attempt_of, effects_left}
 use Rattle.attempts.specs.SystemWith.{SystemWith, system_with}
 use Rattle.attempts.specs.Taken.{FitsValue, Takes, WalksOn, gone_on}
 use Rattle.attempts.proofs.Giving.{held_off, held_stays, preferred_off, preferred_stays}
 use Rattle.attempts.proofs.Inside.{phase_now}
+use Rattle.attempts.proofs.LiveWalks.{walk_none}
 
 -- a phase before its turn is taken and what it holds is given back
 abbrev IsEarly : {Lock : Type 0} → Phase Lock ℕ → Type 0
@@ -187,46 +188,56 @@ module _ {Lock Job Reply Effect Decision Point : Type 0} (same : Lock → Lock �
   pub operates_point : (p : Doing) (turn : ℕ) → p.phase ≡ Operates turn → PointHere p
   operates_point p turn is = subst (λ (at : Phase Lock ℕ). KnowsIn Knows (outside p) p.point at) (sym is) tt
 
-  went : (p : Doing) (q : Point) (found : Result Decision (Wanted Lock ℕ)) → outside (gone_on (record p { point = q }) found) ≡ goes_on O (outside p) found
+  pub went : (p : Doing) (q : Point) (found : Result Decision (Wanted Lock ℕ)) → outside (gone_on (record p { point = q }) found) ≡ goes_on O (outside p) found
   went p q (Ok decision) = refl
   went p q (Err (Seize lock)) = refl
   went p q (Err (Test word)) = refl
 
-  went_point : (p : Doing) (q : Point) (found : Result Decision (Wanted Lock ℕ)) → Knows p.job q (seen_of (outside p)) → PointHere (gone_on (record p { point = q }) found)
+  pub went_point : (p : Doing) (q : Point) (found : Result Decision (Wanted Lock ℕ)) → Knows p.job q (seen_of (outside p)) → PointHere (gone_on (record p { point = q }) found)
   went_point p q (Ok decision) knows = tt
   went_point p q (Err (Seize lock)) knows = knows
   went_point p q (Err (Test word)) knows = knows
 
-  went_count : (p : Doing) (q : Point) (found : Result Decision (Wanted Lock ℕ)) → (gone_on (record p { point = q }) found).count ≡ p.count
+  pub went_count : (p : Doing) (q : Point) (found : Result Decision (Wanted Lock ℕ)) → (gone_on (record p { point = q }) found).count ≡ p.count
   went_count p q (Ok decision) = refl
   went_count p q (Err wanted) = refl
 
-  -- what it has come by is lent to the walk
-  module _ (mid p : Doing) (seen : Seen Lock) (held : List Lock) (readings : List (Reading ℕ)) (inside : p ≡ mid) (seen_is : seen ≡ record { held = held; readings = readings }) (held_is : held ≡ p.held) (readings_are : readings ≡ p.readings) where
-    seen_here : seen ≡ seen_of (outside p)
-    seen_here = cc
-
+  -- its walk goes on by what it has come by
+  module _ (mid p : Doing) (course : Course Lock) (inside : p ≡ mid) (course_is : course.seen ≡ seen_of (outside p)) where
     -- what the walk wants
     pub record Able : Type 0 where
       pub job : S.IsJob p.job
-      pub read : AreReadWords seen.readings
-      pub knows : Knows p.job p.point seen
+      pub read : AreReadWords course.seen.readings
+      pub knows : Knows p.job p.point course.seen
 
     pub able : CanWalk same reply_of effects_of S Knows mid → Able
     able can =
         let here : CanWalk same reply_of effects_of S Knows p = subst (λ (x : Doing). CanWalk same reply_of effects_of S Knows x) (sym inside) can in
         record {
           job = here.job;
-          read = subst (λ (s : Seen Lock). AreReadWords s.readings) (sym seen_here) here.read;
-          knows = subst (Knows p.job p.point) (sym seen_here) here.knows;
+          read = subst (λ (s : Seen Lock). AreReadWords s.readings) (sym course_is) here.read;
+          knows = subst (Knows p.job p.point) (sym course_is) here.knows;
         }
 
-    pub walked : (new : Doing) (q : Point) (found : Result Decision (Wanted Lock ℕ)) → found ≡ walk same seen (S.script p.job) → Knows p.job q seen → new ≡ gone_on (record p { point = q }) found → Walks mid new
-    walked new q found walks knows made = subst (λ (x : Doing). Walks x new) inside (record {
-      change = ap outside made ∙ went p q found ∙ ap (goes_on O (outside p)) (walks ∙ ap (λ (s : Seen Lock). walk same s (S.script p.job)) seen_here);
-      point = subst PointHere (sym made) (went_point p q found (subst (Knows p.job q) seen_here knows));
-      count = ap (λ (x : Doing). x.count) made ∙ went_count p q found;
-    })
+    -- with no words at hand it comes by nothing more
+    module _ (reads seizes : ℕ) (found : Result Decision (Wanted Lock ℕ)) (more : Course Lock) (words after : List ℕ) (none : words ≡ []) (walks : record { found = found; course = more; words = after } ≡ live same S.lock_word reads seizes (λ word value. value) (S.script p.job) course words) where
+      comes : ◌≡◌ {A = Comes Lock Decision} (record { found = found; course = more; words = after }) (record { found = walk same course.seen (S.script p.job); course = course; words = [] })
+      comes = walks ∙ ap (live same S.lock_word reads seizes (λ word value. value) (S.script p.job) course) none ∙ walk_none same S.lock_word reads seizes (S.script p.job) course
+
+      more_is : more.seen ≡ seen_of (outside p)
+      more_is = ap (λ (x : Comes Lock Decision). x.course.seen) comes ∙ course_is
+
+      found_is : found ≡ walk same (seen_of (outside p)) (S.script p.job)
+      found_is = ap (λ (x : Comes Lock Decision). x.found) comes ∙ ap (λ (s : Seen Lock). walk same s (S.script p.job)) course_is
+
+      pub walked : (new : Doing) (q : Point) → Knows p.job q more.seen → new ≡ gone_on (record p { point = q; readings = more.seen.readings; held = more.seen.held }) found → Walks mid new
+      walked new q knows made = subst (λ (x : Doing). Walks x new) inside (record {
+        change = ap outside here ∙ went p q found ∙ ap (goes_on O (outside p)) found_is;
+        point = subst PointHere (sym here) (went_point p q found (subst (Knows p.job q) more_is knows));
+        count = ap (λ (x : Doing). x.count) here ∙ went_count p q found;
+      }) where
+        here : new ≡ gone_on (record p { point = q }) found
+        here = made ∙ ap (λ (s : Seen Lock). gone_on (record p { point = q; readings = s.readings; held = s.held }) found) more_is
 
   -- by what it goes on from
   pub walks_from : (mid made new : Doing) → mid ≡ made → Walks mid new → Walks made new

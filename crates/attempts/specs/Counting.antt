@@ -1,4 +1,4 @@
-use Rattle.std.specs.Prelude.{ℕ, ◌+◌, ◌-◌, ◌^◌, ◌==◌, Bool, false, List, [], ◌∷◌, length, if◌then◌else◌}
+use Rattle.std.specs.Prelude.{ℕ, ◌+◌, ◌-◌, ◌^◌, ◌==◌, Bool, false, List, [], ◌∷◌, length, if◌then◌else◌, min}
 use Rattle.turns.specs.Attempt.{Attempt, begin, change}
 use Rattle.turns.specs.System.{System}
 use Rattle.turns.specs.declared.answer.Answer.{Answer}
@@ -8,6 +8,10 @@ use Rattle.turns.specs.declared.phase.Phase.TheVariants.{Requests, Seizes, Tests
 -- one step more is counted, as far as 32 bits count
 abbrev pub counted : ℕ → ℕ
 counted count = if count == 2 ^ 32 - 1 then count else count + 1
+
+-- so many steps more are counted, as far as 32 bits count
+abbrev pub counted_by : ℕ → ℕ → ℕ
+counted_by made count = min (count + made) (2 ^ 32 - 1)
 
 -- what is to request a lock while it holds none has made no step
 abbrev pub has_made_none : {Lock : Type 0} → Phase Lock ℕ → List Lock → Bool

@@ -4,3 +4,6 @@ pub mod Standing
 pub mod Taken
 pub mod Steps
 pub mod Counting
+pub mod Live
+pub mod Marks
+pub mod Running

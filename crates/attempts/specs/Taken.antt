@@ -1,13 +1,14 @@
 use Rattle.std.specs.Prelude.{◌≡◌, ◌<◌, ◌^◌, ◌∷◌, ◌++◌, [], ℕ, Bool, List, length, None, Some, Result, Ok, Err, ⊤}
 use Rattle.turns.specs.Attempt as turns
-use Rattle.turns.specs.Script.{value_read}
-use Rattle.turns.specs.Seen.{Seen}
+use Rattle.turns.specs.Script.{value_read, walk}
+use Rattle.turns.specs.Seen.{AreReadWords, Seen}
 use Rattle.turns.specs.declared.answer.Answer.{Answer}
 use Rattle.turns.specs.declared.answer.Answer.TheVariants.{Asked, Seized, Held, Preferred, Again, Value, Turn, Done}
 use Rattle.turns.specs.declared.phase.Phase.{Phase}
 use Rattle.turns.specs.declared.phase.Phase.TheVariants.{Seizes, Tests, Turns}
 use Rattle.turns.specs.declared.reading.Reading.{Reading}
 use Rattle.turns.specs.declared.wanted.Wanted.{Wanted}
+use Rattle.turns.specs.declared.wanted.Wanted.TheVariants.{Test}
 use Rattle.attempts.specs.Standing.{CanWalk, KnowsIn, Program, attempt_of, wanted_phase}
 use Rattle.attempts.specs.SystemWith.{SystemWith, system_with}
 
@@ -51,3 +52,17 @@ pub record Takes {Lock Job Reply Effect Decision Point : Type 0} (same : Lock �
   pub change : attempt_of reply_of effects_of new ≡ turns.change (system_with same reply_of effects_of S) (attempt_of reply_of effects_of old) answer
   pub point : KnowsIn Knows (attempt_of reply_of effects_of new) new.point new.phase
   pub count : new.count ≡ old.count
+
+-- a walk may go through this job, by what its point says and what it has come by
+pub record MayWalk {Lock Job Reply Effect Decision Point : Type 0} (Setting : Type 0) (S : SystemWith Lock Job Reply Effect Decision) (Knows : Job → Point → Seen Lock → Type 0) (job : Job) (point : Point) (seen : Seen Lock) : Type 0 where
+  pub setting : Setting
+  pub right : S.IsJob job
+  pub read : AreReadWords seen.readings
+  pub knows : Knows job point seen
+
+-- what follows the word that its walk wants next may be asked for
+pub record MayAskNext {Lock Job Reply Effect Decision Point : Type 0} (Setting : Type 0) (same : Lock → Lock → Bool) (S : SystemWith Lock Job Reply Effect Decision) (Knows : Job → Point → Seen Lock → Type 0) (job : Job) (point : Point) (seen : Seen Lock) (word : ℕ) : Type 0 where
+  pub setting : Setting
+  pub right : S.IsJob job
+  pub knows : Knows job point seen
+  pub wants : walk same seen (S.script job) ≡ Err (Test word)

@@ -2,12 +2,11 @@ ghost use Rattle.std.specs.Prelude.{◌≡◌, ◌<◌, ◌^◌, ◌++◌, ◌�
 ghost use Rattle.turns.specs.Attempt.{asked_in, rest_of, turn_in};
 ghost use Rattle.turns.specs.Script.{value_read};
 ghost use Rattle.desks.specs.Outcomes.{is_given_up as is_given_up_in};
-ghost use Rattle.attempts.specs.Counting.{count_in, counted, has_made_none};
+ghost use Rattle.attempts.specs.Counting.{count_in, counted, counted_by, has_made_none};
 ghost use Rattle.attempts.specs.Taken.{gone_on};
 
-use crate::readings::Readings;
 use crate::scripts::Scripts;
-use arrayvec::ArrayVec;
+use crate::seen::Seen;
 use std::marker::Model;
 use turns::{Phase, Reading, Wanted};
 
@@ -22,10 +21,9 @@ fn next_count(count: u32) -> u32
 /// of the setting.
 #[derive(Debug, Drop)]
 pub struct Attempt<L, J, D, P, const READINGS: usize, const HELD: usize> {
+    pub(crate) seen: Seen<L, READINGS, HELD>,
     pub(crate) job: J,
     pub(crate) point: P,
-    pub(crate) readings: Readings<READINGS>,
-    pub(crate) held: ArrayVec<L, HELD>,
     pub(crate) phase: Phase<L, usize>,
     pub(crate) decision: Option<D>,
     /// How many of the decision's effects are made.
@@ -52,8 +50,8 @@ impl<L, J, D, P, const READINGS: usize, const HELD: usize> Model
     ghost view = { λ a. record {
       job = a.job;
       point = a.point;
-      readings = a.readings;
-      held = a.held.items;
+      readings = a.seen.seen.readings;
+      held = a.seen.seen.held;
       phase = a.phase;
       decision = a.decision;
       made = a.made;
@@ -84,10 +82,9 @@ impl<
             } }
     {
         Attempt {
+            seen: Seen::new(),
             job,
             point,
-            readings: Readings::new(),
-            held: ArrayVec::new(),
             phase: Phase::Requests(first),
             decision: None,
             made: 0,
@@ -107,7 +104,7 @@ impl<
               made = 0;
             } }
     {
-        self.held.clear();
+        self.seen.free_all();
         self.phase = Phase::Requests(first);
         self.point = point;
         self.forget();
@@ -117,7 +114,7 @@ impl<
     pub(crate) fn forget(&mut self)
         ensures { self.new ≡ record self.old { readings = []; decision = None; made = 0 } }
     {
-        self.readings.clear();
+        self.seen.forget();
         self.decision = None;
         self.made = 0;
     }
@@ -139,9 +136,7 @@ impl<
     pub(crate) fn free_first(&mut self)
         ensures { self.new ≡ record self.old { held = rest_of self.old.held } }
     {
-        if !self.held.is_empty() {
-            self.held.remove(0);
-        }
+        self.seen.free_first();
     }
 
     /// Goes on with what its walk came to.
@@ -179,7 +174,7 @@ impl<
         requires { length self.old.held < HELD }
         ensures { self.new ≡ record self.old { held = self.old.held ++ lock ∷ [] } }
     {
-        self.held.push(lock);
+        self.seen.hold(lock);
     }
 
     pub(crate) fn note(&mut self, reading: Reading<usize>)
@@ -187,7 +182,7 @@ impl<
         requires unread { value_read self.old.readings reading.word ≡ None }
         ensures { self.new ≡ record self.old { readings = self.old.readings ++ reading ∷ [] } }
     {
-        self.readings.push(reading);
+        self.seen.note(reading);
     }
 
     /// Whether it has made no step yet.
@@ -196,7 +191,7 @@ impl<
     {
         let phase = self.phase;
         if let Phase::Requests(_) = phase {
-            self.held.is_empty()
+            self.seen.holds_none()
         } else {
             false
         }
@@ -214,6 +209,13 @@ impl<
         } else {
             next_count(self.count)
         };
+    }
+
+    /// So many steps more are counted.
+    pub(crate) fn count_steps(&mut self, made: u32)
+        ensures { self.new ≡ record self.old { count = counted_by made self.old.count } }
+    {
+        self.count = self.count.saturating_add(made);
     }
 
     pub(crate) fn count_beginning(&mut self)
@@ -243,6 +245,13 @@ impl<
         ensures { result.now ≡ self.now.job }
     {
         &self.job
+    }
+
+    /// The locks that it holds, from the first one on.
+    pub fn held(&self) -> &[L]
+        ensures { result.now ≡ self.now.held }
+    {
+        self.seen.held()
     }
 
     /// The number of the turn, once it is taken.

@@ -2,18 +2,22 @@
 #![tactic(auto)]
 
 pub use attempt::{Attempt, AttemptOf};
+pub use closing::take_close;
 pub use jobs::Attempts;
+pub use running::run;
 pub use scripts::{OnWords, Scripts};
 pub use seen::Seen;
-pub use showing::{is_done, next, outcome};
+pub use showing::{is_done, next, next_effect, outcome};
 pub use starting::{begin, restart};
 pub use step::{Step, answer, operation, place};
 pub use taking::take;
 
 mod attempt;
+mod closing;
 mod jobs;
 pub mod laws;
 mod readings;
+mod running;
 mod scripts;
 mod seen;
 mod showing;

@@ -1,5 +1,7 @@
-ghost use Rattle.std.specs.Prelude.{◌≡◌, ◌<◌, [], ◌∷◌, ◌++◌, None, length};
+ghost use Rattle.std.specs.Prelude.{◌≡◌, ◌-◌, ◌%◌, ◌^◌, ◌<◌, [], ◌∷◌, ◌++◌, None, length};
 ghost use Rattle.turns.specs.Script.{value_read};
+ghost use Rattle.turns.specs.Seen.{AreReadWords};
+ghost use Rattle.attempts.specs.Marks.{has_mark as has_mark_of};
 ghost use Rattle.attempts.specs.Points.{AreReadOnce};
 
 use arrayvec::ArrayVec;
@@ -10,46 +12,98 @@ use turns::Reading;
 #[derive(Debug, Drop)]
 pub struct Readings<const MOST: usize> {
     items: ArrayVec<Reading<usize>, MOST>,
+    /// A mark for each word that was read, which it shares with every 64th word. Most words that
+    /// weren't read have none, so they needn't be looked for.
+    marks: u64,
 }
 
 impl<const MOST: usize> Model for Readings<MOST> {
     ghost use Rattle.std.specs.Prelude.{ℕ, List};
+    ghost use Rattle.turns.specs.Seen.{AreReadWords};
     ghost use Rattle.turns.specs.declared.reading.Reading.{Reading};
+    ghost use Rattle.attempts.specs.Marks.{AreMarked};
     ghost use Rattle.attempts.specs.Points.{AreReadOnce};
 
     ghost Value = { List (Reading ℕ) };
 
     ghost view = { λ a. a.items.items };
 
-    ghost invariant = { λ a. AreReadOnce a.items.items };
+    ghost invariant = { λ a. AreReadOnce a.items.items × AreReadWords a.items.items
+        × AreMarked a.items.items a.marks };
+}
+
+fn mark_of(word: usize) -> u64
+    ensures { result ≡ 2 ^ (word % 64) }
+{
+    1 << (word % 64)
+}
+
+fn has_mark(marks: u64, word: usize) -> bool
+    ensures { result ≡ has_mark_of marks word }
+{
+    (marks >> (word % 64)) % 2 == 1
+}
+
+#[tactic(auto, unfolding(turns::specs::Script::value_read))]
+fn find_in(readings: &[Reading<usize>], word: usize) -> Option<u64>
+    ensures { result ≡ value_read readings.now word }
+{
+    readings
+        .iter()
+        .find(|reading| reading.word == word)
+        .map(|reading| reading.value)
 }
 
 impl<const MOST: usize> Readings<MOST> {
+    #[tactic(auto, using(crate::proofs::Marked::marked_none))]
     pub fn new() -> Self
         ensures { result ≡ [] }
     {
         Readings {
             items: ArrayVec::new(),
+            marks: 0,
         }
     }
 
+    #[tactic(auto, using(crate::proofs::Marked::marked_none))]
     pub fn clear(&mut self)
         ensures { self.new ≡ [] }
     {
         self.items.clear();
+        self.marks = 0;
     }
 
-    pub fn push(&mut self, reading: Reading<usize>)
+    pub fn push(&mut self, word: usize, value: u64)
         requires room { length self.old < MOST }
-        requires unread { value_read self.old reading.word ≡ None }
-        ensures { self.new ≡ self.old ++ reading ∷ [] }
+        requires unread { value_read self.old word ≡ None }
+        ensures { self.new ≡ self.old ++ record { word = word; value = value } ∷ [] }
     {
-        self.items.push(reading);
+        self.items.push(Reading { word, value });
+        self.marks |= mark_of(word);
+    }
+
+    /// What was read in the word, if it was read.
+    pub fn find(&self, word: usize) -> Option<u64>
+        ensures { result ≡ value_read self.now word }
+    {
+        if has_mark(self.marks, word) {
+            find_in(self.items.as_slice(), word)
+        } else {
+            None
+        }
+    }
+
+    /// So many words may still be read.
+    pub fn room(&self) -> usize
+        ensures { result ≡ MOST - length self.now }
+    {
+        self.items.remaining_capacity()
     }
 
     pub fn as_slice(&self) -> &[Reading<usize>]
         ensures value { result.now ≡ self.now }
         ensures once { AreReadOnce self.now }
+        ensures words { AreReadWords self.now }
     {
         self.items.as_slice()
     }

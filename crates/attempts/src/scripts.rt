@@ -10,9 +10,12 @@ use turns::{Operation, Wanted};
 /// A script is written as a walk: straight code that asks `Seen` for each lock and each word, and
 /// leaves by `?` where it lacks one. An attempt walks again with each thing that it comes by. What
 /// a walk has made of what was read it may keep in its point, and the next one has it from there.
+/// Where nobody else makes steps in between, a walk is handed the words, and comes by what it lacks
+/// by steps of its own.
 pub trait Scripts<const READINGS: usize, const HELD: usize> {
     ghost use Rattle.turns.specs.Script.{walk};
     ghost use Rattle.turns.specs.Seen.{AreReadWords, Seen as WhatIsSeen};
+    ghost use Rattle.attempts.specs.Live.{live};
     ghost use Rattle.attempts.specs.Points.{GoesOnTo};
     ghost use Rattle.attempts.specs.SystemWith.{SystemWith};
 
@@ -53,20 +56,23 @@ pub trait Scripts<const READINGS: usize, const HELD: usize> {
         ensures { (setting : Self.Setting) (seen : WhatIsSeen Self.Lock)
             → Knows setting job.now result seen };
 
-    /// Goes through a job by what an attempt has come by: to its decision, or to what it wants
-    /// first.
+    /// Goes through a job by what an attempt has come by, and by what it comes by itself of these
+    /// words: to the job's decision, or to what it wants next.
     fn walk(
         setting: &Self::Setting,
         job: &Self::Job,
         point: &mut Self::Point,
-        seen: &Seen<Self::Lock>,
+        seen: &mut Seen<Self::Lock, READINGS, HELD>,
+        words: &mut [u64],
     ) -> Result<Self::Decision, Wanted<Self::Lock, usize>>
         requires setting { IsSetting setting.now }
         requires job { (system setting.now).IsJob job.now }
-        requires read { AreReadWords seen.now.readings }
-        requires knows { Knows setting.now job.now point.old seen.now }
-        ensures walk { result ≡ walk Self.Lock.eq seen.now ((system setting.now).script job.now) }
-        ensures knows { Knows setting.now job.now point.new seen.now };
+        requires read { AreReadWords seen.old.seen.readings }
+        requires knows { Knows setting.now job.now point.old seen.old.seen }
+        ensures walk { record { found = result; course = seen.new; words = words.new }
+            ≡ live Self.Lock.eq (system setting.now).lock_word READINGS HELD (λ _ value. value)
+            ((system setting.now).script job.now) seen.old words.old }
+        ensures knows { Knows setting.now job.now point.new seen.new.seen };
 
     /// The word that is tested next once the one that a walk wants was read, whatever that shows,
     /// where this is known without a walk.
@@ -74,16 +80,16 @@ pub trait Scripts<const READINGS: usize, const HELD: usize> {
         setting: &Self::Setting,
         job: &Self::Job,
         point: &Self::Point,
-        seen: &Seen<Self::Lock>,
+        seen: &Seen<Self::Lock, READINGS, HELD>,
         word: usize,
     ) -> Option<usize>
         requires setting { IsSetting setting.now }
         requires job { (system setting.now).IsJob job.now }
-        requires knows { Knows setting.now job.now point.now seen.now }
-        requires wants { walk Self.Lock.eq seen.now ((system setting.now).script job.now)
+        requires knows { Knows setting.now job.now point.now seen.now.seen }
+        requires wants { walk Self.Lock.eq seen.now.seen ((system setting.now).script job.now)
             ≡ Err (Wanted.Test word) }
         ensures { IfSome result
-            (GoesOnTo Self.Lock.eq seen.now ((system setting.now).script job.now) word) };
+            (GoesOnTo Self.Lock.eq seen.now.seen ((system setting.now).script job.now) word) };
 
     fn reply(decision: &Self::Decision) -> Self::Reply
         ensures { result ≡ reply_of decision.now };

@@ -17,14 +17,14 @@ fn next_free<S: Scripts<READINGS, HELD>, const READINGS: usize, const HELD: usiz
 ) -> Step<S::Lock, S::Effect>
     ensures { act_of result ≡ free_act program.now.held }
 {
-    match program.held.first() {
+    match program.seen.held().first() {
         Some(lock) => Step::Free(*lock),
         None => Step::Rest,
     }
 }
 
-/// The next of the decision's effects.
-pub(crate) fn next_effect<S: Scripts<READINGS, HELD>, const READINGS: usize, const HELD: usize>(
+/// The next of the decision's effects, past the turn.
+pub fn next_effect<S: Scripts<READINGS, HELD>, const READINGS: usize, const HELD: usize>(
     program: &AttemptOf<S, READINGS, HELD>,
 ) -> Option<S::Effect>
     ensures some { IfSome result (λ effect.

@@ -60,7 +60,7 @@ pub(crate) fn give_back<S: Scripts<READINGS, HELD>, const READINGS: usize, const
         program.new.point program.new.phase }
     ensures count { program.new.count ≡ program.old.count }
 {
-    if program.held.is_empty() {
+    if program.seen.holds_none() {
         begin_again::<S, READINGS, HELD>(program);
     } else {
         program.phase = Phase::GivesBack;

@@ -3,17 +3,36 @@
 ghost use Rattle.std.specs.Prelude.{◌≡◌, ◌<◌, ◌++◌, ◌∷◌, [], ℕ, IfNone, IfSome, length};
 ghost use Rattle.turns.specs.Attempt.{change, freed, operated, rest_of};
 ghost use Rattle.attempts.specs.Counting.{count_in, counted};
+ghost use Rattle.attempts.specs.Live.{live};
 ghost use Rattle.attempts.specs.Points.{GoesOnTo};
 ghost use Rattle.attempts.specs.Standing.{AreScripts, CanWalk, KnowsIn, Stands, attempt_of};
 ghost use Rattle.attempts.specs.SystemWith.{system_with};
-ghost use Rattle.attempts.specs.Taken.{MayRead, SeizesLock, Takes, WalksOn};
+ghost use Rattle.attempts.specs.Taken.{MayAskNext, MayRead, MayWalk, SeizesLock, Takes, WalksOn};
 
 use crate::attempt::AttemptOf;
 use crate::scripts::Scripts;
 use crate::seen::Seen;
 use crate::showing::next_effect;
 use crate::starting::give_back;
-use turns::{Answer, Phase, Reading};
+use turns::{Answer, Phase, Reading, Wanted};
+
+/// Goes through a job by what an attempt has come by, and by what it comes by itself of these words.
+pub(crate) fn walk_by<S: Scripts<READINGS, HELD>, const READINGS: usize, const HELD: usize>(
+    setting: &S::Setting,
+    job: &S::Job,
+    point: &mut S::Point,
+    seen: &mut Seen<S::Lock, READINGS, HELD>,
+    words: &mut [u64],
+) -> Result<S::Decision, Wanted<S::Lock, usize>>
+    requires { MayWalk (S.IsSetting setting.now) (S.system setting.now) (S.Knows setting.now)
+        job.now point.old seen.old.seen }
+    ensures walk { record { found = result; course = seen.new; words = words.new }
+        ≡ live S.Lock.eq (S.system setting.now).lock_word READINGS HELD (λ _ value. value)
+        ((S.system setting.now).script job.now) seen.old words.old }
+    ensures knows { S.Knows setting.now job.now point.new seen.new.seen }
+{
+    S::walk(setting, job, point, seen, words)
+}
 
 /// Goes on through the job from where it stands, as far as it goes.
 fn walk_on<S: Scripts<READINGS, HELD>, const READINGS: usize, const HELD: usize>(
@@ -26,9 +45,30 @@ fn walk_on<S: Scripts<READINGS, HELD>, const READINGS: usize, const HELD: usize>
     ensures { WalksOn S.Lock.eq S.reply_of S.effects_of (S.system setting.now) (S.Knows setting.now)
         program.old program.new }
 {
-    let seen = Seen::new(program.held.as_slice(), program.readings.as_slice());
-    let found = S::walk(setting, &program.job, &mut program.point, &seen);
+    let found = walk_by::<S, READINGS, HELD>(
+        setting,
+        &program.job,
+        &mut program.point,
+        &mut program.seen,
+        &mut [],
+    );
     program.go_on(found);
+}
+
+/// The word that a job tests next once the one that its walk wants was read.
+fn following_by<S: Scripts<READINGS, HELD>, const READINGS: usize, const HELD: usize>(
+    setting: &S::Setting,
+    job: &S::Job,
+    point: &S::Point,
+    seen: &Seen<S::Lock, READINGS, HELD>,
+    word: usize,
+) -> Option<usize>
+    requires { MayAskNext (S.IsSetting setting.now) S.Lock.eq (S.system setting.now)
+        (S.Knows setting.now) job.now point.now seen.now.seen word }
+    ensures { IfSome result
+        (GoesOnTo S.Lock.eq seen.now.seen ((S.system setting.now).script job.now) word) }
+{
+    S::following(setting, job, point, seen, word)
 }
 
 /// The word that it tests next once it has read this one, where that needs no walk.
@@ -45,8 +85,7 @@ fn following<S: Scripts<READINGS, HELD>, const READINGS: usize, const HELD: usiz
         (GoesOnTo S.Lock.eq (record { held = program.now.held; readings = program.now.readings })
         ((S.system setting.now).script program.now.job) word) }
 {
-    let seen = Seen::new(program.held.as_slice(), program.readings.as_slice());
-    S::following(setting, &program.job, &program.point, &seen, word)
+    following_by::<S, READINGS, HELD>(setting, &program.job, &program.point, &program.seen, word)
 }
 
 /// Its request stands.
@@ -260,7 +299,7 @@ fn take_turn<S: Scripts<READINGS, HELD>, const READINGS: usize, const HELD: usiz
 }
 
 /// Past the turn: an effect was made, or what was held first was freed.
-fn operate<S: Scripts<READINGS, HELD>, const READINGS: usize, const HELD: usize>(
+pub(crate) fn operate<S: Scripts<READINGS, HELD>, const READINGS: usize, const HELD: usize>(
     program: &mut AttemptOf<S, READINGS, HELD>,
 )
     ensures operates { attempt_of S.reply_of S.effects_of program.new

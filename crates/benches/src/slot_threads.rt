@@ -15,6 +15,12 @@ use std::sync::Wait;
 use std::thread::Threads;
 use std::time::Instant;
 
+/// How many jobs all threads have done.
+fn all_of(done: &[u64]) -> u64 {
+    done.iter()
+        .fold(0, |all: u64, jobs| all.saturating_add(*jobs))
+}
+
 fn measure_desks<R: Eprint + Clock + Threads + Sync>(
     rt: &R,
     alloc: Global,

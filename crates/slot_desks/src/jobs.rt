@@ -85,16 +85,17 @@ impl Scripts<2, 2> for SlotScripts {
         _setting: &(),
         job: &Job,
         point: &mut Lower,
-        seen: &Seen<u32>,
+        seen: &mut Seen<u32, 2, 2>,
+        words: &mut [u64],
     ) -> Result<Decision, Wanted<u32, usize>> {
-        walk_job(*job, point, seen)
+        walk_job(*job, point, seen, words)
     }
 
     fn following(
         _setting: &(),
         _job: &Job,
         _point: &Lower,
-        _seen: &Seen<u32>,
+        _seen: &Seen<u32, 2, 2>,
         _word: usize,
     ) -> Option<usize> {
         None

@@ -2,6 +2,7 @@ pub mod Markers
 pub mod Jobs
 pub mod Keeping
 pub mod StepCases
+pub mod LedSteps
 pub mod Worlds
 pub mod Kept
 pub mod Stepping

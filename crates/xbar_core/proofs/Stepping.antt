@@ -15,7 +15,7 @@ use Rattle.xbar_jobs.specs.OnWords.{words_after}
 use Rattle.xbar_jobs.specs.declared.step.Step.{Step}
 use Rattle.xbar_core.specs.AtWork.{next_step_at, told_of}
 use Rattle.xbar_core.specs.Exchange.{Exchange, Marker, Work as TheWork, at_marker, is_idle, on_job}
-use Rattle.xbar_core.specs.Moves.{IsAnswered, event_at_step, event_by, event_of, added_record, after_step}
+use Rattle.xbar_core.specs.Moves.{IsAnswered, event_at_step, event_by, event_of, added_record, after_step, steps}
 use Rattle.xbar_core.specs.declared.event.Event.{Event}
 use Rattle.xbar_core.specs.declared.event.Event.TheVariants as event
 use Rattle.xbar_core.specs.declared.kind.Kind.{Kind}
@@ -33,6 +33,13 @@ pub step_whole : (plan : Tables) (e : Exchange) (k len : ℕ) (words new : List 
 step_whole plan e k len words new markers records same whole keeps is =
     ap (λ (all : List ℕ). record { words = all; markers = markers; records = records }) (written e.words new len whole (keeps ∙ ap (length {A = ℕ}) same))
     ∙ is ∙ ap (λ (all : List ℕ). after_step plan k (record e { words = all })) same
+
+-- so many steps on all of the words
+pub steps_whole : (plan : Tables) (e : Exchange) (k count len : ℕ) (words new : List ℕ) (markers : List Marker) → words ≡ e.words → len ≡ length e.words → length new ≡ length words
+    → record { words = new; markers = markers; records = e.records } ≡ steps plan k count (record e { words = words }) → record { words = take len (new ++ drop (length new) e.words); markers = markers; records = e.records } ≡ steps plan k count e
+steps_whole plan e k count len words new markers same whole keeps is =
+    ap (λ (all : List ℕ). record { words = all; markers = markers; records = e.records }) (written e.words new len whole (keeps ∙ ap (length {A = ℕ}) same))
+    ∙ is ∙ ap (λ (all : List ℕ). steps plan k count (record e { words = all })) same
 
 -- the marker that is read at a place
 pub marker_read : (markers : List Marker) (k : ℕ) (read : Marker) → k < length markers → read ≡ get_or markers k read → slice_get markers k ≡ Some read

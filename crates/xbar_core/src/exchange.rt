@@ -278,17 +278,50 @@ impl<'p> Exchange<'p> {
         given
     }
 
+    /// Makes the marker's next steps up to its turn, or past it, as many as it comes to by itself and
+    /// no more than this, and gives their number.
+    fn run(&mut self, marker: u32, most: u32) -> u32
+        requires { marker < length self.old.exchange.markers }
+        ensures steps { self.new
+            ≡ record self.old { exchange = steps self.old.plan marker result self.old.exchange } }
+        ensures most { result ≤ most }
+    {
+        // Called for its clauses alone.
+        xbar_plan::laws::every_plan_is_lawful(self.plan);
+        let words = self.words.as_mut_slice();
+        self.markers[marker as usize].run(self.plan, marker, words, most)
+    }
+
+    /// Makes some of the marker's next steps, one at least and no more than this, and gives their
+    /// number.
+    fn some_steps(&mut self, marker: u32, most: u32) -> u32
+        requires marker { marker < length self.old.exchange.markers }
+        requires most { 0 < most }
+        ensures steps { self.new
+            ≡ record self.old { exchange = steps self.old.plan marker result self.old.exchange } }
+        ensures some { 0 < result }
+        ensures most { result ≤ most }
+    {
+        let made = self.run(marker, most);
+        if made > 0 {
+            return made;
+        }
+        self.advance(marker);
+        1
+    }
+
     /// Makes so many steps of the marker. They end at once where it is idle.
     pub fn steps(&mut self, marker: u32, count: u32)
         requires { marker < length self.old.exchange.markers }
         ensures { self.new
             ≡ record self.old { exchange = steps self.old.plan marker count self.old.exchange } }
     {
-        for _made in 0..count {
+        let mut left = count;
+        while left > 0 {
             if self.is_idle(marker) {
                 return;
             }
-            self.advance(marker);
+            left -= self.some_steps(marker, left);
         }
     }
 

@@ -3,12 +3,13 @@ ghost use Rattle.turns.specs.Attempt.{begin_with};
 ghost use Rattle.turns.specs.World.{Idle, Does};
 ghost use Rattle.xbar_equip.specs.Word.{word_count};
 ghost use Rattle.xbar_office.specs.Legal.{IsJob};
+ghost use Rattle.xbar_office.specs.declared.reply.Record.{Record as TheRecord};
 ghost use Rattle.xbar_plan.specs.Tables.{Tables};
 ghost use Rattle.xbar_jobs.specs.Attempt.{Attempt, next_step};
 ghost use Rattle.xbar_jobs.specs.Jobs.{first_conn};
 ghost use Rattle.xbar_core.specs.AtWork.{gives_up_at, is_turned, next_step_at};
 ghost use Rattle.xbar_core.specs.Exchange.{Marker as TheMarker, Work as TheWork, is_idle as is_idle_at};
-ghost use Rattle.xbar_core.specs.Moves.{IsAnswered, event_by, event_of, given_by, refusal_of, after_step, work_anew};
+ghost use Rattle.xbar_core.specs.Moves.{IsAnswered, event_by, event_of, given_by, refusal_of, after_step, steps, work_anew};
 ghost use Rattle.xbar_core.specs.Standing.{StandsAt, waits};
 
 use crate::assign_fault::AssignFault;
@@ -188,6 +189,29 @@ impl Marker {
             None => None,
             Some(work) if work.is_done() => None,
             Some(work) => Some(work.step(plan, number, words, records)),
+        }
+    }
+
+    /// Makes its next steps by itself, as the marker of this number: as many as its job comes to, and
+    /// no more than this. Gives their number.
+    pub fn run(&mut self, plan: &Plan, number: u32, words: &mut [u64], most: u32) -> u32
+        requires plan { StandsAt plan.now self.old.work }
+        requires number { number < 48 }
+        requires words { length words.old ≡ word_count }
+        ensures steps { (markers : List TheMarker) (records : List TheRecord) →
+            slice_get markers number ≡ Some self.old →
+            record {
+              words = words.new;
+              markers = slice_set markers number self.new;
+              records = records;
+            }
+            ≡ steps plan.now number result
+            (record { words = words.old; markers = markers; records = records }) }
+        ensures most { result ≤ most }
+    {
+        match &mut self.work {
+            None => 0,
+            Some(work) => work.run(plan, number, words, most),
         }
     }
 }

@@ -2,6 +2,7 @@ ghost use Rattle.std.specs.Prelude.{◌≡◌, ◌+◌, ◌<◌, ◌≤◌, ◌+
 ghost use Rattle.turns.specs.Attempt.{act, change, restarted, turn_in};
 ghost use Rattle.turns.specs.Runs.{is_rest};
 ghost use Rattle.turns.specs.declared.phase.Phase.{Phase};
+ghost use Rattle.attempts.specs.Live.{LeadsTo};
 ghost use Rattle.xbar_equip.specs.Word.{word_count};
 ghost use Rattle.xbar_office.specs.Legal.{IsJob};
 ghost use Rattle.xbar_plan.specs.Tables.{Tables};
@@ -14,6 +15,7 @@ ghost use Rattle.xbar_core.specs.Moves.{event_of, own_record, added_record};
 ghost use Rattle.xbar_core.specs.Standing.{waits_in};
 
 use crate::event::Event;
+use xbar_equip::conn_word;
 use xbar_jobs::{Answer, Program, Step};
 use xbar_office::{Job, Record};
 use xbar_plan::Plan;
@@ -174,5 +176,36 @@ impl Work {
         self.program.take(plan, answer);
         self.enter(marker, answer, records);
         answer
+    }
+
+    /// Whether its next step is one that it makes by itself: past its turn each is, and before it
+    /// those of its script, unless another marker holds or requests the connector.
+    fn goes_on(&self, words: &[u64]) -> bool {
+        match self.program.next() {
+            Step::Request(conn) => { words.get(usize::from(conn_word(conn).number())) == Some(&0) }
+            Step::Test(_) | Step::Close(_, _) | Step::Open(_, _) => true,
+            Step::Free(_) => self.is_past_turn(),
+            Step::Seize(_, _) | Step::Withdraw(_) | Step::Turn | Step::Finished => false,
+        }
+    }
+
+    /// Makes the job's next steps on the words by itself, as many as its program comes to and no more
+    /// than this, and gives their number. None of them is its turn.
+    #[tactic(auto, using(attempts::proofs::LiveRuns::made_none))]
+    pub fn run(&mut self, plan: &Plan, marker: u32, words: &mut [u64], most: u32) -> u32
+        requires plan { Stands plan.now self.old.program.attempt }
+        requires marker { marker < 48 }
+        requires words { length words.old ≡ word_count }
+        ensures job { self.new.job_no ≡ self.old.job_no }
+        ensures steps { LeadsTo (office plan.now) marker result
+            (record { attempt = self.old.program.attempt; words = words.old })
+            (record { attempt = self.new.program.attempt; words = words.new }) }
+        ensures most { result ≤ most }
+    {
+        if self.goes_on(words) {
+            self.program.run(plan, marker, words, most)
+        } else {
+            0
+        }
     }
 }

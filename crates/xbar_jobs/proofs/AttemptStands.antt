@@ -1,8 +1,9 @@
 -- whatever comes of its steps, an attempt stands where its job brings it, and has room
-use Rattle.std.proofs.Common.{arith}
+use Rattle.std.proofs.Common.{ℕ, zero, suc, arith, subst}
 use Rattle.turns.specs.Attempt.{Act, IsAnswerTo, Look, act, begin_with, change, restarted}
 use Rattle.turns.specs.declared.answer.Answer.{Answer}
 use Rattle.turns.specs.declared.answer.Answer.TheVariants.{Asked, Seized, Held, Preferred, Again, Value, Turn, Done}
+use Rattle.attempts.specs.Live.{LeadsTo, Moment, stepped, told}
 use Rattle.attempts.specs.Taken.{FitsValue}
 use Rattle.attempts.proofs.Places.{place_begin, place_change, place_restarted}
 use Rattle.xbar_plan.specs.Tables.{Tables}
@@ -49,3 +50,10 @@ stands_again plan a laws in_range stands = record {
   few = few_restarted plan a stands.few;
   holds = holds_restarted plan a laws stands.holds;
 }
+
+-- so does one that made steps by its walk
+pub stands_led : (plan : Tables) → IsLawful plan → (marker count : ℕ) (m last : Moment (office plan)) → LeadsTo (office plan) marker count m last → Stands plan m.attempt → Stands plan last.attempt
+unfolding LeadsTo
+stands_led plan laws marker zero m last leads stands = subst (λ (x : Moment (office plan)). Stands plan x.attempt) leads stands
+stands_led plan laws marker (suc count) m last leads stands =
+    stands_led plan laws marker count (stepped (office plan) marker m) last leads.1.1 (stands_after plan m.attempt (told (office plan) marker m) laws stands.place.job leads.1.0 stands)

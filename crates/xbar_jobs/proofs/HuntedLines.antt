@@ -3,52 +3,62 @@ use Rattle.std.proofs.Common.{◌≡◌, ℕ, ◌+◌, ◌<◌, ◌≤◌, Bool,
 use Rattle.std.specs.Prelude.{Option, Some, None, Ok, Err, is_some}
 use Rattle.std.proofs.lemmas.List.{at_drop_all, at_drop_more}
 use Rattle.turns.specs.Script.{◌>>=◌}
-use Rattle.turns.proofs.Walks.{walk_end, walk_goes_on, walk_stops}
+use Rattle.attempts.proofs.LiveWalks.{live_end}
 use Rattle.xbar_equip.specs.Conn.{conn_eq}
 use Rattle.xbar_equip.specs.Len.{Line, line_eq}
+use Rattle.xbar_jobs.specs.Closing.{value_after}
 use Rattle.xbar_jobs.specs.Completing.{hunt, unless_busy, unless_calling}
-use Rattle.xbar_jobs.specs.Script.{Script, Seen, Wanted, walk}
+use Rattle.xbar_jobs.specs.Script.{Course, Script, Wanted, conn_word, live}
 use Rattle.xbar_jobs.specs.Tracing.{approach, channel_of}
+use Rattle.xbar_jobs.specs.declared.effect.Effect.{Effect}
 use Rattle.xbar_jobs.specs.declared.party.Party.{Party}
+use Rattle.xbar_jobs.proofs.Lives.{comes, goes_on, stops}
 
-module _ (seen : Seen) (calling : Line) (lines : List Line) (at : ℕ) (line : Line) (is : line ≡ slice_index_or lines at line) (below : at < length lines) where
+module _ (made : List Effect) (calling : Line) (lines : List Line) (at : ℕ) (line : Line) (is : line ≡ slice_index_or lines at line) (below : at < length lines) (course : Course) (words : List ℕ) where
   abbrev rest : Script (Option Party)
   rest = hunt calling (drop (at + 1) lines)
 
-  turn : walk seen (hunt calling (drop at lines)) ≡ walk seen (unless_calling line rest (line_eq line calling))
+  turn : live made (hunt calling (drop at lines)) course words ≡ live made (unless_calling line rest (line_eq line calling)) course words
   unfolding hunt
-  turn = at_drop_more (λ (left : List Line). walk seen (hunt calling left)) lines at line below ∙ ap (λ (l : Line). walk seen (unless_calling l rest (line_eq l calling))) (sym is)
+  turn = at_drop_more (λ (left : List Line). live made (hunt calling left) course words) lines at line below ∙ ap (λ (l : Line). live made (unless_calling l rest (line_eq l calling)) course words) (sym is)
+
+  -- the calling line is passed over
+  pub calling_passed : line_eq line calling ≡ true → live made (hunt calling (drop at lines)) course words ≡ live made rest course words
+  unfolding unless_calling
+  calling_passed same = turn ∙ ap (λ (b : Bool). live made (unless_calling line rest b) course words) same
 
   module _ (other : line_eq line calling ≡ false) where
-    approached : walk seen (hunt calling (drop at lines)) ≡ walk seen (approach line >>= λ party. unless_busy party rest (channel_of party))
+    approached : live made (hunt calling (drop at lines)) course words ≡ live made (approach line >>= λ party. unless_busy party rest (channel_of party)) course words
     unfolding unless_calling
-    approached = turn ∙ ap (λ (b : Bool). walk seen (unless_calling line rest b)) other
+    approached = turn ∙ ap (λ (b : Bool). live made (unless_calling line rest b) course words) other
 
     -- a line that isn't the calling one is approached
-    pub hunt_stops : (wanted : Wanted) → walk seen (approach line) ≡ Err wanted → walk seen (hunt calling (drop at lines)) ≡ Err wanted
-    hunt_stops wanted stops = approached ∙ walk_stops conn_eq seen (approach line) _ wanted stops
+    pub hunt_stops : (wanted : Wanted) (more : Course) (after : List ℕ) → live made (approach line) course words ≡ comes (Err wanted) more after → live made (hunt calling (drop at lines)) course words ≡ comes (Err wanted) more after
+    hunt_stops wanted more after is = approached ∙ stops made (approach line) _ course more words after wanted is
 
-    module _ (party : Party) (come : walk seen (approach line) ≡ Ok party) where
-      came : walk seen (hunt calling (drop at lines)) ≡ walk seen (unless_busy party rest (channel_of party))
-      came = approached ∙ walk_goes_on conn_eq seen (approach line) _ party come
+    module _ (party : Party) (more : Course) (after : List ℕ) (come : live made (approach line) course words ≡ comes (Ok party) more after) where
+      came : live made (hunt calling (drop at lines)) course words ≡ live made (unless_busy party rest (channel_of party)) more after
+      came = approached ∙ goes_on made (approach line) _ course more words after party come
 
       -- it is the one that is called where it has no path
-      pub idle_found : is_some (channel_of party) ≡ false → walk seen (hunt calling (drop at lines)) ≡ Ok (Some party)
+      pub idle_found : is_some (channel_of party) ≡ false → live made (hunt calling (drop at lines)) course words ≡ comes (Ok (Some party)) more after
       unfolding unless_busy
       idle_found none = came ∙ found (channel_of party) none where
-        found : (o : Option ℕ) → is_some o ≡ false → walk seen (unless_busy party rest o) ≡ Ok (Some party)
-        found None e = walk_end conn_eq seen (Some party)
+        found : (o : Option ℕ) → is_some o ≡ false → live made (unless_busy party rest o) more after ≡ comes (Ok (Some party)) more after
+        found None e = live_end conn_eq conn_word 42 19 (value_after made) (Some party) more after
         found (Some channel) e = absurd cc
 
       -- and passed over where it has one
-      pub busy_passed : is_some (channel_of party) ≡ true → walk seen (hunt calling (drop at lines)) ≡ walk seen rest
+      pub busy_passed : is_some (channel_of party) ≡ true → live made (hunt calling (drop at lines)) course words ≡ live made rest more after
       unfolding unless_busy
       busy_passed has = came ∙ passed (channel_of party) has where
-        passed : (o : Option ℕ) → is_some o ≡ true → walk seen (unless_busy party rest o) ≡ walk seen rest
+        passed : (o : Option ℕ) → is_some o ≡ true → live made (unless_busy party rest o) more after ≡ live made rest more after
         passed None e = absurd cc
         passed (Some channel) e = refl
 
 -- after the last line there is none
-pub none_hunted : (seen : Seen) (calling : Line) (lines : List Line) (at : ℕ) → length lines ≤ at → walk seen (hunt calling (drop at lines)) ≡ Ok None
+pub none_hunted : (made : List Effect) (calling : Line) (lines : List Line) (at : ℕ) (course : Course) (words : List ℕ) → length lines ≤ at → live made (hunt calling (drop at lines)) course words ≡ comes (Ok None) course words
 unfolding hunt
-none_hunted seen calling lines at past = at_drop_all (λ (left : List Line). walk seen (hunt calling left)) lines at past ∙ walk_end conn_eq seen None
+none_hunted made calling lines at course words past =
+    at_drop_all (λ (left : List Line). live made (hunt calling left) course words) lines at past
+    ∙ live_end conn_eq conn_word 42 19 (value_after made) None course words

@@ -1,70 +1,103 @@
 use Rattle.std.proofs.Common.{◌≡◌, ℕ, suc, ◌+◌, ◌-◌, ◌<◌, List, [], ◌∷◌, ◌++◌, length, take, set, length-set, append-nil, refl, sym, ◌∙◌, ap, subst, append_assoc, arith}
 use Rattle.std.proofs.lemmas.List.{take_all, take_more_set}
 use Rattle.std.specs.Prelude.{Result, Ok, Err}
+use Rattle.turns.specs.Script.{Ends}
+use Rattle.attempts.proofs.LiveWalks.{live_bind, live_end}
 use Rattle.xbar_equip.specs.Conn.{conn_eq}
 use Rattle.xbar_equip.specs.Word.{LineJunctor}
-use Rattle.xbar_jobs.specs.Script.{Seen}
-use Rattle.xbar_jobs.specs.Script.{test, walk}
+use Rattle.xbar_jobs.specs.Closing.{value_after}
+use Rattle.xbar_jobs.specs.Script.{Comes, Course, Wanted, conn_word, live, test}
 use Rattle.xbar_jobs.specs.Sides.{test_junctors}
-use Rattle.xbar_jobs.specs.Script.{Wanted}
-use Rattle.turns.proofs.Walks.{then_walk, walk_bind, walk_end}
+use Rattle.xbar_jobs.specs.declared.effect.Effect.{Effect}
+use Rattle.xbar_jobs.proofs.Lives.{comes, goes_on, stops, then_live}
 
 -- the words read before, and then those found
-abbrev pub behind : List ℕ → List ℕ → Result (List ℕ) Wanted
-behind before rest = Ok (before ++ rest)
+abbrev pub behind : List ℕ → List ℕ → Course → List ℕ → Comes (List ℕ)
+behind before rest course words = comes (Ok (before ++ rest)) course words
 
-pub then_none : (found : Result (List ℕ) Wanted) → then_walk found (behind []) ≡ found
-then_none (Ok words) = refl
-then_none (Err wanted) = refl
+-- the word read, and then those found
+abbrev ahead : ℕ → List ℕ → Course → List ℕ → Comes (List ℕ)
+ahead word rest course words = comes (Ok (word ∷ rest)) course words
 
-one_more : (before : List ℕ) (word : ℕ) (found : Result (List ℕ) Wanted) → then_walk (then_walk found (λ words. Ok (word ∷ words))) (behind before) ≡ then_walk found (behind (before ++ word ∷ []))
-one_more before word (Ok words) = rw (append_assoc before (word ∷ []) words) refl
-one_more before word (Err wanted) = refl
+module _ (made : List Effect) where
+  none_before : (found : Result (List ℕ) Wanted) (course : Course) (words : List ℕ) → then_live made (comes found course words) (behind []) ≡ comes found course words
+  none_before (Ok row) course words = refl
+  none_before (Err wanted) course words = refl
 
-module _ (seen : Seen) (frame channel count : ℕ) where
-  first_word : walk seen (test_junctors frame channel (suc count)) ≡ then_walk (walk seen (test (LineJunctor frame channel))) (λ word. then_walk (walk seen (test_junctors frame (channel + 1) count)) (λ words. Ok (word ∷ words)))
+  pub then_none : (come : Comes (List ℕ)) → then_live made come (behind []) ≡ come
+  then_none come = none_before come.found come.course come.words
+
+  one_ahead : (before : List ℕ) (word : ℕ) (found : Result (List ℕ) Wanted) (course : Course) (words : List ℕ) → then_live made (then_live made (comes found course words) (ahead word)) (behind before) ≡ then_live made (comes found course words) (behind (before ++ word ∷ []))
+  one_ahead before word (Ok row) course words = rw (append_assoc before (word ∷ []) row) refl
+  one_ahead before word (Err wanted) course words = refl
+
+  one_more : (before : List ℕ) (word : ℕ) (come : Comes (List ℕ)) → then_live made (then_live made come (ahead word)) (behind before) ≡ then_live made come (behind (before ++ word ∷ []))
+  one_more before word come = one_ahead before word come.found come.course come.words
+
+  module _ (frame channel count : ℕ) (course more : Course) (words after : List ℕ) where
+    -- a word that was read is put behind those before it
+    pub next_word : (before : List ℕ) (word : ℕ) → live made (test (LineJunctor frame channel)) course words ≡ comes (Ok word) more after → then_live made (live made (test_junctors frame channel (suc count)) course words) (behind before) ≡ then_live made (live made (test_junctors frame (channel + 1) count) more after) (behind (before ++ word ∷ []))
+    unfolding test_junctors
+    next_word before word is =
+        ap (λ (come : Comes (List ℕ)). then_live made come (behind before)) (goes_on made (test (LineJunctor frame channel)) _ course more words after word is ∙ live_bind conn_eq conn_word 42 19 (value_after made) (test_junctors frame (channel + 1) count) _ more after ∙ ends (live made (test_junctors frame (channel + 1) count) more after))
+        ∙ one_more before word (live made (test_junctors frame (channel + 1) count) more after) where
+          ends_at : (found : Result (List ℕ) Wanted) (course : Course) (words : List ℕ) → then_live made (comes found course words) (λ row. live made (Ends (word ∷ row))) ≡ then_live made (comes found course words) (ahead word)
+          ends_at (Ok row) course words = live_end conn_eq conn_word 42 19 (value_after made) (word ∷ row) course words
+          ends_at (Err wanted) course words = refl
+
+          ends : (come : Comes (List ℕ)) → then_live made come (λ row. live made (Ends (word ∷ row))) ≡ then_live made come (ahead word)
+          ends come = ends_at come.found come.course come.words
+
+    -- a word that was not read is wanted
+    pub wanted_word : (before : List ℕ) (wanted : Wanted) → live made (test (LineJunctor frame channel)) course words ≡ comes (Err wanted) more after → then_live made (live made (test_junctors frame channel (suc count)) course words) (behind before) ≡ comes (Err wanted) more after
+    unfolding test_junctors
+    wanted_word before wanted is = ap (λ (come : Comes (List ℕ)). then_live made come (behind before)) (stops made (test (LineJunctor frame channel)) _ course more words after wanted is)
+
+  -- after the last word there is none
+  pub no_more_words : (frame channel : ℕ) (course : Course) (words : List ℕ) (before : List ℕ) → then_live made (live made (test_junctors frame channel 0) course words) (behind before) ≡ comes (Ok (before ++ [])) course words
   unfolding test_junctors
-  first_word = simp (walk_bind, walk_end)
-
-  -- a word that was read is put behind those before it
-  pub next_word : (before : List ℕ) (word : ℕ) → walk seen (test (LineJunctor frame channel)) ≡ Ok word → then_walk (walk seen (test_junctors frame channel (suc count))) (behind before) ≡ then_walk (walk seen (test_junctors frame (channel + 1) count)) (behind (before ++ word ∷ []))
-  next_word before word e = rw (first_word, e) (one_more before word (walk seen (test_junctors frame (channel + 1) count)))
-
-  -- a word that was not read is wanted
-  pub wanted_word : (before : List ℕ) (wanted : Wanted) → walk seen (test (LineJunctor frame channel)) ≡ Err wanted → then_walk (walk seen (test_junctors frame channel (suc count))) (behind before) ≡ Err wanted
-  wanted_word before wanted e = rw (first_word, e) refl
-
--- after the last word there is none
-pub no_more_words : (seen : Seen) (frame channel : ℕ) (before : List ℕ) → then_walk (walk seen (test_junctors frame channel 0)) (behind before) ≡ Ok (before ++ [])
-unfolding test_junctors
-no_more_words seen frame channel before = rw (walk_end conn_eq {A = List ℕ} seen []) refl
+  no_more_words frame channel course words before = ap (λ (come : Comes (List ℕ)). then_live made come (behind before)) (live_end conn_eq conn_word 42 19 (value_after made) {A = List ℕ} [] course words)
 
 -- as far as a loop has come: the words below a channel were read, and the others are found behind them
-pub record HasRead (seen : Seen) (frame channel : ℕ) (words : List ℕ) : Type 0 where
-  pub size : length words ≡ 10
-  pub so_far : walk seen (test_junctors frame 0 10) ≡ then_walk (walk seen (test_junctors frame channel (10 - channel))) (behind (take channel words))
+pub record HasRead (made : List Effect) (frame : ℕ) (from : Course) (first : List ℕ) (channel : ℕ) (row : List ℕ) (course : Course) (words : List ℕ) : Type 0 where
+  pub size : length row ≡ 10
+  pub so_far : live made (test_junctors frame 0 10) from first ≡ then_live made (live made (test_junctors frame channel (10 - channel)) course words) (behind (take channel row))
 
-here_read : (seen : Seen) (frame channel : ℕ) (words : List ℕ) (word : ℕ) → HasRead seen frame channel words → channel < 10 → walk seen (test (LineJunctor frame channel)) ≡ Ok word → HasRead seen frame (channel + 1) (set words channel word)
-here_read seen frame channel words word have below read =
-    let count : 10 - channel ≡ suc (10 - (channel + 1)) = omega arith in
-    let within : channel < length words = omega (arith, have.size) in
-    record {
-      size = length-set words channel word ∙ have.size;
-      so_far =
-          have.so_far
-          ∙ ap (λ (n : ℕ). then_walk (walk seen (test_junctors frame channel n)) (behind (take channel words))) count
-          ∙ next_word seen frame channel (10 - (channel + 1)) (take channel words) word read
-          ∙ ap (λ (before : List ℕ). then_walk (walk seen (test_junctors frame (channel + 1) (10 - (channel + 1)))) (behind before)) (sym (take_more_set words channel word within));
-    }
+module _ (made : List Effect) (frame : ℕ) (from : Course) (first : List ℕ) (channel : ℕ) (row : List ℕ) (course more : Course) (words after : List ℕ) where
+  here_read : (word : ℕ) → HasRead made frame from first channel row course words → channel < 10 → live made (test (LineJunctor frame channel)) course words ≡ comes (Ok word) more after → HasRead made frame from first (channel + 1) (set row channel word) more after
+  here_read word have below read =
+      let count : 10 - channel ≡ suc (10 - (channel + 1)) = omega arith in
+      let within : channel < length row = omega (arith, have.size) in
+      record {
+        size = length-set row channel word ∙ have.size;
+        so_far =
+            have.so_far
+            ∙ ap (λ (n : ℕ). then_live made (live made (test_junctors frame channel n) course words) (behind (take channel row))) count
+            ∙ next_word made frame channel (10 - (channel + 1)) course more words after (take channel row) word read
+            ∙ ap (λ (before : List ℕ). then_live made (live made (test_junctors frame (channel + 1) (10 - (channel + 1))) more after) (behind before)) (sym (take_more_set row channel word within));
+      }
 
--- with one word more
-pub one_more_read : (seen : Seen) (frame channel : ℕ) (words : List ℕ) (at word : ℕ) → at ≡ channel → HasRead seen frame channel words → channel < 10 → walk seen (test (LineJunctor frame channel)) ≡ Ok word → HasRead seen frame (channel + 1) (set words at word)
-one_more_read seen frame channel words at word same have below read =
-    subst (λ (k : ℕ). HasRead seen frame (channel + 1) (set words k word)) (sym same) (here_read seen frame channel words word have below read)
+  -- with one word more
+  pub one_more_read : (at word : ℕ) → at ≡ channel → HasRead made frame from first channel row course words → channel < 10 → live made (test (LineJunctor frame channel)) course words ≡ comes (Ok word) more after → HasRead made frame from first (channel + 1) (set row at word) more after
+  one_more_read at word same have below read =
+      subst (λ (k : ℕ). HasRead made frame from first (channel + 1) (set row k word) more after) (sym same) (here_read word have below read)
+
+  -- up to a word that is wanted
+  pub wanted_there : (wanted : Wanted) → HasRead made frame from first channel row course words → channel < 10 → live made (test (LineJunctor frame channel)) course words ≡ comes (Err wanted) more after → live made (test_junctors frame 0 10) from first ≡ comes (Err wanted) more after
+  wanted_there wanted have below stops =
+      let count : 10 - channel ≡ suc (10 - (channel + 1)) = omega arith in
+      have.so_far
+      ∙ ap (λ (n : ℕ). then_live made (live made (test_junctors frame channel n) course words) (behind (take channel row))) count
+      ∙ wanted_word made frame channel (10 - (channel + 1)) course more words after (take channel row) wanted stops
 
 -- with all words
-pub all_read : (seen : Seen) (frame channel : ℕ) (words : List ℕ) → HasRead seen frame channel words → channel ≡ 10 → Ok words ≡ walk seen (test_junctors frame 0 10)
-all_read seen frame channel words have at_end =
+pub all_read : (made : List Effect) (frame : ℕ) (from : Course) (first : List ℕ) (channel : ℕ) (row : List ℕ) (course : Course) (words : List ℕ) → HasRead made frame from first channel row course words → channel ≡ 10 → comes (Ok row) course words ≡ live made (test_junctors frame 0 10) from first
+all_read made frame from first channel row course words have at_end =
     let none : 10 - channel ≡ 0 = omega arith in
-    let whole : take channel words ++ [] ≡ words = append-nil (take channel words) ∙ take_all channel words (omega (arith, have.size)) in
-    sym (have.so_far ∙ ap (λ (n : ℕ). then_walk (walk seen (test_junctors frame channel n)) (behind (take channel words))) none ∙ no_more_words seen frame channel (take channel words) ∙ ap Ok whole)
+    let whole : take channel row ++ [] ≡ row = append-nil (take channel row) ∙ take_all channel row (omega (arith, have.size)) in
+    sym (
+    have.so_far
+    ∙ ap (λ (n : ℕ). then_live made (live made (test_junctors frame channel n) course words) (behind (take channel row))) none
+    ∙ no_more_words made frame channel course words (take channel row)
+    ∙ ap (λ (all : List ℕ). comes (Ok all) course words) whole
+    )

@@ -1,6 +1,7 @@
 pub mod Items
 pub mod MadeWords
 pub mod EffectRanges
+pub mod Lives
 pub mod SeenTests
 pub mod JunctorTests
 pub mod JunctorsMade
@@ -42,6 +43,7 @@ pub mod ClearedBits
 pub mod FreedMembers
 pub mod OpenedPaths
 pub mod LeaveEffects
+pub mod LeavingLives
 pub mod ReleaseDecides
 pub mod CallDecides
 pub mod CompleteDecides
@@ -53,6 +55,8 @@ pub mod JobTurns
 pub mod AttemptStands
 pub mod Counts
 pub mod StepActs
+pub mod PastTurn
 pub mod JunctorRows
 pub mod CompletingRows
+pub mod TracedLives
 pub mod Programs

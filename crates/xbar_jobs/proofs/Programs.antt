@@ -8,6 +8,7 @@ use Rattle.turns.specs.declared.answer.Answer.TheVariants.{Turn as Turned}
 use Rattle.turns.specs.declared.phase.Phase.TheVariants.{Requests, Seizes, Tests, Turns, Withdraws, GivesBack, Operates}
 use Rattle.turns.proofs.Keeping.{WalkFits}
 use Rattle.turns.proofs.Standing.{come_fits, wanted_lock}
+use Rattle.attempts.specs.Live.{LeadsTo}
 use Rattle.attempts.specs.Standing as standing
 use Rattle.attempts.specs.Standing.{AreScripts, KnowsIn, effects_left}
 use Rattle.attempts.specs.SystemWith.{system_with, with}
@@ -33,7 +34,7 @@ use Rattle.xbar_jobs.specs.declared.decision.Decision.{Decision}
 use Rattle.xbar_jobs.specs.declared.effect.Effect.{Effect}
 use Rattle.xbar_jobs.specs.declared.effect.Effect.TheVariants.{Close, Open, SetBit, ClearBit}
 use Rattle.xbar_jobs.specs.declared.way.Way.{Way}
-use Rattle.xbar_jobs.proofs.AttemptStands.{stands_after}
+use Rattle.xbar_jobs.proofs.AttemptStands.{stands_after, stands_led}
 use Rattle.xbar_jobs.proofs.CompletingRows.{known_on}
 use Rattle.xbar_jobs.proofs.JobBounds.{jobs_bounded}
 use Rattle.xbar_jobs.proofs.JobTurns.{turn_does}
@@ -172,6 +173,9 @@ changed_here plan a new answer made = subst (λ (same : Conn → Conn → Bool).
 pub restarted_here : (plan : Tables) (a new : Attempt) → new ≡ restarted (system_with ghosts.eq reply_of effects_of (with (office_over plan))) a → new ≡ restarted (office plan) a
 restarted_here plan a new made = subst (λ (same : Conn → Conn → Bool). new ≡ restarted (system_with same reply_of effects_of (with (office_over plan))) a) told_apart made
 
+pub led_here : (plan : Tables) (marker count : ℕ) (a new : Attempt) (words after : List ℕ) → LeadsTo (system_with ghosts.eq reply_of effects_of (with (office_over plan))) marker count (record { attempt = a; words = words }) (record { attempt = new; words = after }) → LeadsTo (office plan) marker count (record { attempt = a; words = words }) (record { attempt = new; words = after })
+led_here plan marker count a new words after leads = subst (λ (same : Conn → Conn → Bool). LeadsTo (system_with same reply_of effects_of (with (office_over plan))) marker count (record { attempt = a; words = words }) (record { attempt = new; words = after })) told_apart leads
+
 -- what a program that has just begun knows
 pub knows_begun : (p : Doing) (job : Job) → attempt_at p ≡ begin_with (first_conn job) job → ((seen : Seen) → Knows (job_line job) p.point seen) → KnowsIn KnowsHere (attempt_at p) p.point p.phase
 knows_begun p job made always =
@@ -206,4 +210,17 @@ told plan laws p new answer a same job fits stands made =
       change = changed;
       stands = subst (Stands plan) (sym changed) (stands_after plan (attempt_at p) answer laws job fits_here stands_now);
       turn = λ number is. subst (DoesAsOffice plan) (sym changed) (turn_does plan (attempt_at p) answer number laws job fits_here stands_now.place.comes is);
+    }
+
+-- what becomes of a program that made steps by its walk
+pub record Ran (plan : Tables) (marker made : ℕ) (p new : Doing) (words after : List ℕ) : Type 0 where
+  pub steps : LeadsTo (office plan) marker made (record { attempt = attempt_at p; words = words }) (record { attempt = attempt_at new; words = after })
+  pub stands : Stands plan (attempt_at new)
+
+pub ran : (plan : Tables) → IsLawful plan → (marker made : ℕ) (p new : Doing) (words after : List ℕ) (a : Attempt) → attempt_at p ≡ a → Stands plan a → LeadsTo (system_with ghosts.eq reply_of effects_of (with (office_over plan))) marker made (record { attempt = attempt_at p; words = words }) (record { attempt = attempt_at new; words = after }) → Ran plan marker made p new words after
+ran plan laws marker made p new words after a same stands leads =
+    let steps = led_here plan marker made (attempt_at p) (attempt_at new) words after leads in
+    record {
+      steps = steps;
+      stands = stands_led plan laws marker made (record { attempt = attempt_at p; words = words }) (record { attempt = attempt_at new; words = after }) steps (subst (Stands plan) (sym same) stands);
     }

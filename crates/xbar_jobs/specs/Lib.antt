@@ -28,3 +28,4 @@ pub mod Counting
 pub mod Turning
 pub mod Opening
 pub mod OnWords
+pub mod Running

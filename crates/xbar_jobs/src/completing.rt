@@ -1,20 +1,22 @@
 //! A completing job, as far as an attempt has come with it.
 
-ghost use Rattle.std.specs.Prelude.{◌≡◌, ◌<◌, IfSome};
+ghost use Rattle.std.specs.Prelude.{◌≡◌, ◌<◌, IfSome, []};
 ghost use Rattle.xbar_office.specs.Trunks.{AreGroups};
 ghost use Rattle.xbar_plan.specs.Tables.{lines_of, route_of};
 ghost use Rattle.xbar_jobs.specs.Completing.{call as call_script, call_line as call_line_script, call_number as call_number_script, call_without as call_without_script, complete_from as complete_from_script, complete_steps, hunt as hunt_script, register_at as register_at_of};
-ghost use Rattle.xbar_jobs.specs.Script.{walk};
+ghost use Rattle.xbar_jobs.specs.Keeping.{AreEffects};
+ghost use Rattle.xbar_jobs.specs.Script.{live};
 ghost use Rattle.xbar_jobs.specs.Tracing.{Knows};
 ghost use Rattle.xbar_equip.specs.Dialled.{code_of};
 
 use crate::connecting::connect;
 use crate::decision::Decision;
+use crate::effect::Effect;
 use crate::effects::Effects;
-use crate::kinds::{Gathered, Wanted};
+use crate::kinds::{Seen, Wanted};
 use crate::leave::Leave;
 use crate::party::{CallParties, Party};
-use crate::seen::Seen;
+use crate::seen::require_held;
 use crate::tracing::{approach, trace};
 use crate::way::Way;
 use xbar_equip::{Conn, Dialled, DirNo, Len, Path};
@@ -23,15 +25,23 @@ use xbar_plan::{MemberPlace, Plan};
 
 /// The first of a number's lines that isn't the calling one and is in no path: each is approached in turn,
 /// until one is.
-#[tactic(auto, using(turns::proofs::Walks::walk_bind, turns::proofs::Walks::walk_end), unfolding(crate::specs::Completing::hunt, crate::specs::Completing::unless_calling, crate::specs::Completing::unless_busy))]
-fn hunt(seen: &Seen, calling: Len, lines: &[Len]) -> Result<Option<Party>, Wanted>
-    ensures { result ≡ walk seen.now (hunt_script calling lines.now) }
+#[tactic(auto, using(attempts::proofs::LiveWalks::live_bind, attempts::proofs::LiveWalks::live_end), unfolding(crate::specs::Completing::hunt, crate::specs::Completing::unless_calling, crate::specs::Completing::unless_busy))]
+fn hunt(
+    seen: &mut Seen,
+    words: &mut [u64],
+    made: &[Effect],
+    calling: Len,
+    lines: &[Len],
+) -> Result<Option<Party>, Wanted>
+    requires made { AreEffects made.now }
+    ensures { record { found = result; course = seen.new; words = words.new }
+        ≡ live made.now (hunt_script calling lines.now) seen.old words.old }
 {
     for line in lines {
         if *line == calling {
             continue;
         }
-        let party = approach(seen, *line)?;
+        let party = approach(seen, words, made, *line)?;
         if party.channel().is_none() {
             return Ok(Some(party));
         }
@@ -40,16 +50,21 @@ fn hunt(seen: &Seen, calling: Len, lines: &[Len]) -> Result<Option<Party>, Wante
 }
 
 /// A call to a line of the office, where its number has an idle one.
-#[tactic(auto, using(turns::proofs::Walks::walk_end), unfolding(crate::specs::Completing::call_line))]
+#[tactic(auto, using(attempts::proofs::LiveWalks::live_end), unfolding(crate::specs::Completing::call_line))]
 fn call_line(
     plan: &Plan,
-    seen: &Seen,
+    seen: &mut Seen,
+    words: &mut [u64],
+    made: &[Effect],
     calling: &Party,
     groups: &[u8],
     called: &Option<Party>,
 ) -> Result<Decision, Wanted>
-    requires { AreGroups plan.now groups.now }
-    ensures { result ≡ walk seen.now (call_line_script plan.now calling.now groups.now called.now) }
+    requires made { AreEffects made.now }
+    requires groups { AreGroups plan.now groups.now }
+    ensures { record { found = result; course = seen.new; words = words.new }
+        ≡ live made.now (call_line_script plan.now calling.now groups.now called.now)
+        seen.old words.old }
 {
     let Some(called) = called else {
         return Ok(Decision::refused(End::CalledBusy));
@@ -58,34 +73,49 @@ fn call_line(
         calling: *calling,
         called: Some(*called),
     };
-    connect(plan, seen, Aim::Connected, &parties, groups)
+    connect(plan, seen, words, made, Aim::Connected, &parties, groups)
 }
 
 /// A call to a number of the office, by the lines that it has.
-#[tactic(auto, using(turns::proofs::Walks::walk_bind, turns::proofs::Walks::walk_end), unfolding(crate::specs::Completing::call_number))]
+#[tactic(auto, using(attempts::proofs::LiveWalks::live_bind, attempts::proofs::LiveWalks::live_end), unfolding(crate::specs::Completing::call_number))]
 fn call_number(
     plan: &Plan,
-    seen: &Seen,
+    seen: &mut Seen,
+    words: &mut [u64],
+    made: &[Effect],
     calling: &Party,
     groups: &[u8],
     number: DirNo,
 ) -> Result<Decision, Wanted>
-    requires { AreGroups plan.now groups.now }
-    ensures { result ≡ walk seen.now
-        (call_number_script plan.now calling.now groups.now (lines_of plan.now number)) }
+    requires made { AreEffects made.now }
+    requires groups { AreGroups plan.now groups.now }
+    ensures { record { found = result; course = seen.new; words = words.new }
+        ≡ live made.now
+        (call_number_script plan.now calling.now groups.now (lines_of plan.now number))
+        seen.old words.old }
 {
     let Some(lines) = plan.stations(number) else {
         return Ok(Decision::refused(End::VacantNumber));
     };
-    let called = hunt(seen, calling.line, lines)?;
-    call_line(plan, seen, calling, groups, &called)
+    let called = hunt(seen, words, made, calling.line, lines)?;
+    call_line(plan, seen, words, made, calling, groups, &called)
 }
 
 /// A call by the groups that the dialled code leads to: inside the office its number counts too.
-#[tactic(auto, using(turns::proofs::Walks::walk_end), unfolding(crate::specs::Completing::call, crate::specs::Completing::call_by))]
-fn call(plan: &Plan, seen: &Seen, calling: &Party, dialled: Dialled) -> Result<Decision, Wanted>
-    ensures { result ≡ walk seen.now
-        (call_script plan.now calling.now dialled (route_of plan.now (code_of dialled))) }
+#[tactic(auto, using(attempts::proofs::LiveWalks::live_end), unfolding(crate::specs::Completing::call, crate::specs::Completing::call_by))]
+fn call(
+    plan: &Plan,
+    seen: &mut Seen,
+    words: &mut [u64],
+    made: &[Effect],
+    calling: &Party,
+    dialled: Dialled,
+) -> Result<Decision, Wanted>
+    requires made { AreEffects made.now }
+    ensures { record { found = result; course = seen.new; words = words.new }
+        ≡ live made.now
+        (call_script plan.now calling.now dialled (route_of plan.now (code_of dialled)))
+        seen.old words.old }
 {
     // Called for its clauses alone.
     xbar_plan::laws::codes_lead_to_trunks();
@@ -93,33 +123,34 @@ fn call(plan: &Plan, seen: &Seen, calling: &Party, dialled: Dialled) -> Result<D
         return Ok(Decision::refused(End::VacantCode));
     };
     if leads_inside(plan, groups) {
-        call_number(plan, seen, calling, groups, dialled.number())
+        call_number(plan, seen, words, made, calling, groups, dialled.number())
     } else {
         let alone = CallParties::alone(calling);
-        connect(plan, seen, Aim::Connected, &alone, groups)
+        connect(plan, seen, words, made, Aim::Connected, &alone, groups)
     }
 }
 
 /// A call whose register is let go: the register's group is seized, and the call is decided on the words as
 /// they will be once that is done.
-#[tactic(auto, using(turns::proofs::Walks::walk_bind, turns::proofs::Walks::walk_end, turns::proofs::ReadWith::walk_read_with), unfolding(crate::specs::Completing::call_without))]
+#[tactic(auto, using(attempts::proofs::LiveWalks::live_bind, attempts::proofs::LiveWalks::live_end), unfolding(crate::specs::Completing::call_without))]
 fn call_without(
     plan: &Plan,
-    gathered: &Gathered,
+    seen: &mut Seen,
+    words: &mut [u64],
     calling: &Party,
     dialled: Dialled,
     leave: Leave,
 ) -> Result<Decision, Wanted>
     requires group { leave.group < 16 }
     requires index { leave.index < 40 }
-    ensures { result ≡ walk gathered.now (call_without_script plan.now calling.now dialled leave) }
+    ensures { record { found = result; course = seen.new; words = words.new }
+        ≡ live [] (call_without_script plan.now calling.now dialled leave) seen.old words.old }
 {
-    Seen::new(gathered).require_held(Conn::Group(leave.group))?;
+    require_held(seen, words, Conn::Group(leave.group))?;
     let mut effects = Effects::new();
     leave.add_effects(&mut effects);
     let effects = effects.as_slice();
-    let later = Seen::as_if_made(gathered, effects);
-    let decision = call(plan, &later, &calling.after(effects), dialled)?;
+    let decision = call(plan, seen, words, effects, &calling.after(effects), dialled)?;
     Ok(decision.leaving(leave))
 }
 
@@ -139,16 +170,17 @@ fn register_at(plan: &Plan, own: &Path) -> Option<MemberPlace>
 }
 
 /// Goes on from the calling line's own path, where that ends at a register.
-#[tactic(auto, using(turns::proofs::Walks::walk_end), unfolding(crate::specs::Completing::complete_from, crate::specs::Completing::call_from))]
+#[tactic(auto, using(attempts::proofs::LiveWalks::live_end), unfolding(crate::specs::Completing::complete_from, crate::specs::Completing::call_from))]
 fn complete_from(
     plan: &Plan,
-    gathered: &Gathered,
+    seen: &mut Seen,
+    words: &mut [u64],
     calling: &Party,
     dialled: Dialled,
     own: &Option<Path>,
 ) -> Result<Decision, Wanted>
-    ensures { result ≡ walk gathered.now
-        (complete_from_script plan.now calling.now dialled own.now) }
+    ensures { record { found = result; course = seen.new; words = words.new }
+        ≡ live [] (complete_from_script plan.now calling.now dialled own.now) seen.old words.old }
 {
     let Some(own) = own else {
         return Ok(Decision::refused(End::NoRegister));
@@ -157,30 +189,31 @@ fn complete_from(
         return Ok(Decision::refused(End::NoRegister));
     };
     let leave = Leave::of(own, &None, &found);
-    call_without(plan, gathered, calling, dialled, leave)
+    call_without(plan, seen, words, calling, dialled, leave)
 }
 
 /// Goes through a completing job, from where the walks before have come to.
-#[tactic(auto, using(turns::proofs::Walks::walk_bind), unfolding(crate::specs::Completing::complete_steps))]
+#[tactic(auto, using(attempts::proofs::LiveWalks::live_bind), unfolding(crate::specs::Completing::complete_steps))]
 // Not inlined into every walk: a dial tone job would pay for its locals.
 #[inline(never)]
 pub fn complete(
     plan: &Plan,
-    gathered: &Gathered,
+    seen: &mut Seen,
+    words: &mut [u64],
     line: Len,
     dialled: Dialled,
     way: &mut Way,
 ) -> Result<Decision, Wanted>
-    requires { Knows line way.old gathered.now }
-    ensures walk { result ≡ walk gathered.now (complete_steps plan.now line dialled) }
-    ensures knows { Knows line way.new gathered.now }
+    requires { Knows line way.old seen.old.seen }
+    ensures walk { record { found = result; course = seen.new; words = words.new }
+        ≡ live [] (complete_steps plan.now line dialled) seen.old words.old }
+    ensures knows { Knows line way.new seen.new.seen }
 {
     if let Way::Traced { calling, own } = *way {
-        return complete_from(plan, gathered, &calling, dialled, &own);
+        return complete_from(plan, seen, words, &calling, dialled, &own);
     }
-    let seen = Seen::new(gathered);
-    let calling = approach(&seen, line)?;
-    let own = trace(&seen, &calling)?;
+    let calling = approach(seen, words, &[], line)?;
+    let own = trace(seen, words, &calling)?;
     *way = Way::Traced { calling, own };
-    complete_from(plan, gathered, &calling, dialled, &own)
+    complete_from(plan, seen, words, &calling, dialled, &own)
 }

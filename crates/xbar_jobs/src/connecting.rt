@@ -3,13 +3,14 @@
 ghost use Rattle.std.specs.Prelude.{◌≡◌, IfSome};
 ghost use Rattle.xbar_office.specs.Trunks.{AreGroups};
 ghost use Rattle.xbar_jobs.specs.Connecting.{busy_end as busy_end_of, connect as connect_script, try_trunk as try_trunk_script};
-ghost use Rattle.xbar_jobs.specs.Script.{walk};
+ghost use Rattle.xbar_jobs.specs.Keeping.{AreEffects};
+ghost use Rattle.xbar_jobs.specs.Script.{live};
 ghost use Rattle.xbar_jobs.specs.Trunks.{IsOfPlan};
 
 use crate::decision::Decision;
-use crate::kinds::Wanted;
+use crate::effect::Effect;
+use crate::kinds::{Seen, Wanted};
 use crate::party::CallParties;
-use crate::seen::Seen;
 use crate::trials::two_trials;
 use crate::trunks::{IdleGroup, find_trunk, trunks_of};
 use xbar_office::{Aim, End};
@@ -24,37 +25,53 @@ fn busy_end(aim: Aim) -> End
     }
 }
 
-#[tactic(auto, using(turns::proofs::Walks::walk_bind, turns::proofs::Walks::walk_end), unfolding(crate::specs::Connecting::try_trunk))]
+#[tactic(auto, using(attempts::proofs::LiveWalks::live_bind, attempts::proofs::LiveWalks::live_end), unfolding(crate::specs::Connecting::try_trunk))]
 fn try_trunk(
     plan: &Plan,
-    seen: &Seen,
+    seen: &mut Seen,
+    words: &mut [u64],
+    made: &[Effect],
     aim: Aim,
     parties: &CallParties,
     idle: &Option<IdleGroup>,
 ) -> Result<Decision, Wanted>
-    requires { IfSome idle.now (λ there. IsOfPlan plan.now there) }
-    ensures { result ≡ walk seen.now (try_trunk_script plan.now aim parties.now idle.now) }
+    requires made { AreEffects made.now }
+    requires idle { IfSome idle.now (λ there. IsOfPlan plan.now there) }
+    ensures { record { found = result; course = seen.new; words = words.new }
+        ≡ live made.now (try_trunk_script plan.now aim parties.now idle.now) seen.old words.old }
 {
     let Some(idle) = idle else {
         return Ok(Decision::refused(busy_end(aim)));
     };
     let trunks = trunks_of(plan, idle.group, idle.word);
-    let trials = two_trials(plan, seen, parties, &trunks, usize::from(idle.first))?;
+    let trials = two_trials(
+        plan,
+        seen,
+        words,
+        made,
+        parties,
+        &trunks,
+        usize::from(idle.first),
+    )?;
     Ok(Decision::tried(aim, idle.group, trials))
 }
 
 /// Joins the parties by a member of the first of these groups that has an idle one.
-#[tactic(auto, using(turns::proofs::Walks::walk_bind), unfolding(crate::specs::Connecting::connect))]
+#[tactic(auto, using(attempts::proofs::LiveWalks::live_bind), unfolding(crate::specs::Connecting::connect))]
 pub fn connect(
     plan: &Plan,
-    seen: &Seen,
+    seen: &mut Seen,
+    words: &mut [u64],
+    made: &[Effect],
     aim: Aim,
     parties: &CallParties,
     groups: &[u8],
 ) -> Result<Decision, Wanted>
-    requires { AreGroups plan.now groups.now }
-    ensures { result ≡ walk seen.now (connect_script plan.now aim parties.now groups.now) }
+    requires made { AreEffects made.now }
+    requires groups { AreGroups plan.now groups.now }
+    ensures { record { found = result; course = seen.new; words = words.new }
+        ≡ live made.now (connect_script plan.now aim parties.now groups.now) seen.old words.old }
 {
-    let idle = find_trunk(plan, seen, groups)?;
-    try_trunk(plan, seen, aim, parties, &idle)
+    let idle = find_trunk(plan, seen, words, made, groups)?;
+    try_trunk(plan, seen, words, made, aim, parties, &idle)
 }

@@ -1,27 +1,28 @@
 //! A dial tone job, as far as an attempt has come with it.
 
-ghost use Rattle.std.specs.Prelude.{◌≡◌};
+ghost use Rattle.std.specs.Prelude.{◌≡◌, []};
 ghost use Rattle.xbar_jobs.specs.Jobs.{dial_steps, serve_idle_line as serve_idle_line_script};
-ghost use Rattle.xbar_jobs.specs.Script.{walk};
+ghost use Rattle.xbar_jobs.specs.Script.{live};
 
 use crate::connecting::connect;
 use crate::decision::Decision;
-use crate::kinds::Wanted;
+use crate::kinds::{Seen, Wanted};
 use crate::party::{CallParties, Party};
-use crate::seen::Seen;
 use crate::tracing::approach;
 use xbar_equip::Len;
 use xbar_office::{Aim, End};
 use xbar_plan::Plan;
 
-#[tactic(auto, using(turns::proofs::Walks::walk_end), unfolding(crate::specs::Jobs::serve_idle_line))]
+#[tactic(auto, using(attempts::proofs::LiveWalks::live_end), unfolding(crate::specs::Jobs::serve_idle_line))]
 fn serve_idle_line(
     plan: &Plan,
-    seen: &Seen,
+    seen: &mut Seen,
+    words: &mut [u64],
     calling: &Party,
     channel: Option<u8>,
 ) -> Result<Decision, Wanted>
-    ensures { result ≡ walk seen.now (serve_idle_line_script plan.now calling.now channel) }
+    ensures { record { found = result; course = seen.new; words = words.new }
+        ≡ live [] (serve_idle_line_script plan.now calling.now channel) seen.old words.old }
 {
     if channel.is_some() {
         return Ok(Decision::refused(End::LineBusy));
@@ -30,14 +31,15 @@ fn serve_idle_line(
     xbar_plan::laws::one_group_has_registers();
     let parties = CallParties::alone(calling);
     let groups = [plan.register_group()];
-    connect(plan, seen, Aim::DialTone, &parties, &groups)
+    connect(plan, seen, words, &[], Aim::DialTone, &parties, &groups)
 }
 
 /// Goes through a dial tone job, to its decision or to what is wanted first.
-#[tactic(auto, using(turns::proofs::Walks::walk_bind), unfolding(crate::specs::Jobs::dial_steps))]
-pub fn dial(plan: &Plan, seen: &Seen, line: Len) -> Result<Decision, Wanted>
-    ensures { result ≡ walk seen.now (dial_steps plan.now line) }
+#[tactic(auto, using(attempts::proofs::LiveWalks::live_bind), unfolding(crate::specs::Jobs::dial_steps))]
+pub fn dial(plan: &Plan, seen: &mut Seen, words: &mut [u64], line: Len) -> Result<Decision, Wanted>
+    ensures { record { found = result; course = seen.new; words = words.new }
+        ≡ live [] (dial_steps plan.now line) seen.old words.old }
 {
-    let calling = approach(seen, line)?;
-    serve_idle_line(plan, seen, &calling, calling.channel())
+    let calling = approach(seen, words, &[], line)?;
+    serve_idle_line(plan, seen, words, &calling, calling.channel())
 }

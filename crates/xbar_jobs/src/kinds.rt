@@ -5,4 +5,4 @@ use xbar_equip::Conn;
 pub type Wanted = turns::Wanted<Conn, usize>;
 
 /// What an attempt has come by: the connectors that it holds, and what it has read.
-pub type Gathered<'a> = attempts::Seen<'a, Conn>;
+pub type Seen = attempts::Seen<Conn, 42, 19>;

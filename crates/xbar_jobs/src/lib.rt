@@ -8,6 +8,7 @@ pub use program::Program;
 pub use step::Step;
 pub use turns::{Answer, Judgement, Operation};
 
+mod closing;
 mod completing;
 mod connecting;
 mod decided;

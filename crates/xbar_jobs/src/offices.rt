@@ -1,9 +1,9 @@
 use crate::decided::Decided;
 use crate::effect::Effect;
-use crate::kinds::Wanted;
+use crate::kinds::{Seen, Wanted};
 use crate::walk::{first_conn, next_in_row, walk};
 use crate::way::Way;
-use attempts::{Scripts, Seen};
+use attempts::Scripts;
 use turns::laws::Family;
 use xbar_equip::Conn;
 use xbar_office::{Job, Reply};
@@ -61,17 +61,17 @@ impl Scripts<42, 19> for Offices {
         Way::Begun
     }
 
-    fn walk(plan: &Plan, job: &Job, way: &mut Way, seen: &Seen<Conn>) -> Result<Decided, Wanted> {
-        walk(plan, seen, job, way)
-    }
-
-    fn following(
+    fn walk(
         plan: &Plan,
         job: &Job,
-        way: &Way,
-        seen: &Seen<Conn>,
-        word: usize,
-    ) -> Option<usize> {
+        way: &mut Way,
+        seen: &mut Seen,
+        words: &mut [u64],
+    ) -> Result<Decided, Wanted> {
+        walk(plan, seen, words, job, way)
+    }
+
+    fn following(plan: &Plan, job: &Job, way: &Way, seen: &Seen, word: usize) -> Option<usize> {
         next_in_row(plan, seen, job, way, word)
     }
 

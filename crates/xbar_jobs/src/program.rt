@@ -1,14 +1,15 @@
-ghost use Rattle.std.specs.Prelude.{◌≡◌, ◌<◌, option_copied, is_some};
+ghost use Rattle.std.specs.Prelude.{◌≡◌, ◌<◌, ◌≤◌, is_some, length, option_copied, true};
 ghost use Rattle.attempts.specs.Steps.{act_of};
 ghost use Rattle.xbar_jobs.specs.Attempt.{next_step, step_of as step_of_act};
 ghost use Rattle.xbar_jobs.specs.Keeping.{AreEffects};
 ghost use Rattle.xbar_jobs.specs.Standing.{IsAttempt, IsNextStep, attempt_at};
 ghost use Rattle.xbar_jobs.specs.Turning.{IsAct, IsStep};
 
+use crate::closing::close;
 use crate::effect::Effect;
 use crate::offices::Offices;
 use crate::step::Step;
-use attempts::{AttemptOf, begin, next, restart, take};
+use attempts::{AttemptOf, begin, next, restart, run, take};
 use std::marker::Model;
 use turns::Answer;
 use xbar_equip::{Conn, WordNo};
@@ -76,6 +77,8 @@ fn step_of(attempt: &AttemptOf<Offices, 42, 19>) -> Step
 impl Program {
     ghost use Rattle.std.specs.Prelude.{ℕ};
     ghost use Rattle.turns.specs.Attempt.{act, change, reply_in, restarted, turn_in, IsAnswerTo};
+    ghost use Rattle.attempts.specs.Counting.{counted_by};
+    ghost use Rattle.attempts.specs.Live.{LeadsTo};
     ghost use Rattle.xbar_equip.specs.Word.{word_count};
     ghost use Rattle.xbar_office.specs.Legal.{IsJob};
     ghost use Rattle.xbar_plan.specs.Lawful.{IsLawful};
@@ -84,6 +87,7 @@ impl Program {
     ghost use Rattle.xbar_jobs.specs.Counting.{after_answer};
     ghost use Rattle.xbar_jobs.specs.Office.{office};
     ghost use Rattle.xbar_jobs.specs.OnWords.{step_word};
+    ghost use Rattle.xbar_jobs.specs.Running.{RunsOn};
     ghost use Rattle.xbar_jobs.specs.Standing.{Stands};
     ghost use Rattle.xbar_jobs.specs.Turning.{DoesAsOffice};
 
@@ -158,6 +162,54 @@ impl Program {
         take::<Offices, 42, 19>(&mut self.attempt, plan, answer);
         effects_are(&self.attempt);
         self.next = step_of(&self.attempt);
+    }
+
+    /// Goes on through its script.
+    fn walk_on(&mut self, plan: &Plan, marker: u32, words: &mut [u64], most: u32) -> u32
+        requires marker { marker < 48 }
+        requires plan { Stands plan.now self.old.attempt }
+        ensures { RunsOn plan.now marker most result self.old words.old self.new words.new }
+    {
+        // Called for its clauses alone.
+        xbar_plan::laws::every_plan_is_lawful(plan);
+        let made = run::<Offices, 42, 19>(&mut self.attempt, plan, marker, words, most);
+        effects_are(&self.attempt);
+        self.next = step_of(&self.attempt);
+        made
+    }
+
+    /// Past its turn makes its effects, and then frees what it holds.
+    fn close(&mut self, plan: &Plan, marker: u32, words: &mut [u64], most: u32) -> u32
+        requires marker { marker < 48 }
+        requires plan { Stands plan.now self.old.attempt }
+        requires turned { is_some (turn_in self.old.attempt.phase) ≡ true }
+        requires words { length words.old ≡ word_count }
+        ensures { RunsOn plan.now marker most result self.old words.old self.new words.new }
+    {
+        let made = close(&mut self.attempt, plan, marker, words, most);
+        self.next = step_of(&self.attempt);
+        made
+    }
+
+    /// Makes its next steps on the words by itself, as this marker, where nobody else makes any in
+    /// between: as many as it comes to through its script, or past its turn all that are left, but no
+    /// more than this. Gives their number; none of them is its turn. All calls are handed one plan.
+    pub fn run(&mut self, plan: &Plan, marker: u32, words: &mut [u64], most: u32) -> u32
+        requires marker { marker < 48 }
+        requires plan { Stands plan.now self.old.attempt }
+        requires words { length words.old ≡ word_count }
+        ensures steps { LeadsTo (office plan.now) marker result
+            (record { attempt = self.old.attempt; words = words.old })
+            (record { attempt = self.new.attempt; words = words.new }) }
+        ensures most { result ≤ most }
+        ensures count { self.new.count ≡ counted_by result self.old.count }
+        ensures plan { Stands plan.now self.new.attempt }
+    {
+        if self.turn().is_some() {
+            self.close(plan, marker, words, most)
+        } else {
+            self.walk_on(plan, marker, words, most)
+        }
     }
 
     /// Begins anew, once all that is held is given back. Past the turn nothing changes.

@@ -2,14 +2,14 @@
 
 ghost use Rattle.std.specs.Prelude.{◌≡◌, ◌<◌, IfSome, option_map};
 ghost use Rattle.xbar_jobs.specs.Keeping.{AreEffects};
-ghost use Rattle.xbar_jobs.specs.Script.{walk};
+ghost use Rattle.xbar_jobs.specs.Script.{live};
 ghost use Rattle.xbar_jobs.specs.Sides.{IsNextJunctor, join as join_of, join_called as join_called_of, junctors_after as junctors_after_of, open_path as open_path_of, test_called as test_called_script, test_junctors as junctors_script, test_side as test_side_script, test_sides as test_sides_script};
 
 use crate::effect::Effect;
-use crate::effects::{Effects, close_path, made};
-use crate::kinds::Wanted;
+use crate::effects::{Effects, close_path, made as made_by};
+use crate::kinds::{Seen, Wanted};
 use crate::party::{CallParties, Party};
-use crate::seen::Seen;
+use crate::seen::value_of;
 use crate::trunk::{Reached, Trunk};
 use std::marker::Model;
 use xbar_equip::{Path, line_junctor};
@@ -47,16 +47,23 @@ impl Model for Sides {
 }
 
 /// The words of the ten line junctor switches of a frame.
-#[tactic(auto, using(turns::proofs::Walks::walk_bind), unfolding(crate::specs::Sides::test_junctors))]
-fn test_junctors(seen: &Seen, frame: u8) -> Result<[u64; 10], Wanted>
-    requires { frame < 10 }
-    ensures { result ≡ walk seen.now (junctors_script frame 0 10) }
+#[tactic(auto, using(attempts::proofs::LiveWalks::live_bind), unfolding(crate::specs::Sides::test_junctors))]
+fn test_junctors(
+    seen: &mut Seen,
+    words: &[u64],
+    made: &[Effect],
+    frame: u8,
+) -> Result<[u64; 10], Wanted>
+    requires made { AreEffects made.now }
+    requires frame { frame < 10 }
+    ensures { record { found = result; course = seen.new; words = words.now }
+        ≡ live made.now (junctors_script frame 0 10) seen.old words.now }
 {
-    let mut words = [0; 10];
+    let mut row = [0; 10];
     for channel in 0..10 {
-        words[usize::from(channel)] = seen.value_of(line_junctor(frame, channel))?;
+        row[usize::from(channel)] = value_of(seen, words, made, line_junctor(frame, channel))?;
     }
-    Ok(words)
+    Ok(row)
 }
 
 /// The line junctor switch that is tested after this word, if the word is one and not a frame's last.
@@ -80,7 +87,7 @@ fn junctors_after(effects: &[Effect], frame: u8, junctors: &[u64; 10]) -> [u64; 
     let mut words = *junctors;
     for channel in 0..10 {
         let index = usize::from(channel);
-        words[index] = made(effects, line_junctor(frame, channel), words[index]);
+        words[index] = made_by(effects, line_junctor(frame, channel), words[index]);
     }
     words
 }
@@ -88,11 +95,13 @@ fn junctors_after(effects: &[Effect], frame: u8, junctors: &[u64; 10]) -> [u64; 
 impl Side {
     ghost use Rattle.xbar_jobs.specs.Sides.{side_after};
 
-    #[tactic(auto, using(turns::proofs::Walks::walk_bind, turns::proofs::Walks::walk_end), unfolding(crate::specs::Sides::test_side))]
-    fn test(seen: &Seen, party: &Party) -> Result<Side, Wanted>
-        ensures { result ≡ walk seen.now (test_side_script party.now) }
+    #[tactic(auto, using(attempts::proofs::LiveWalks::live_bind, attempts::proofs::LiveWalks::live_end), unfolding(crate::specs::Sides::test_side))]
+    fn test(seen: &mut Seen, words: &[u64], made: &[Effect], party: &Party) -> Result<Side, Wanted>
+        requires made { AreEffects made.now }
+        ensures { record { found = result; course = seen.new; words = words.now }
+            ≡ live made.now (test_side_script party.now) seen.old words.now }
     {
-        let junctors = test_junctors(seen, party.line.frame())?;
+        let junctors = test_junctors(seen, words, made, party.line.frame())?;
         Ok(Side {
             party: *party,
             junctors,
@@ -133,13 +142,20 @@ impl Side {
     }
 }
 
-#[tactic(auto, using(turns::proofs::Walks::walk_bind, turns::proofs::Walks::walk_end), unfolding(crate::specs::Sides::test_called))]
-fn test_called(seen: &Seen, party: &Option<Party>) -> Result<Option<Side>, Wanted>
-    ensures { result ≡ walk seen.now (test_called_script party.now) }
+#[tactic(auto, using(attempts::proofs::LiveWalks::live_bind, attempts::proofs::LiveWalks::live_end), unfolding(crate::specs::Sides::test_called))]
+fn test_called(
+    seen: &mut Seen,
+    words: &[u64],
+    made: &[Effect],
+    party: &Option<Party>,
+) -> Result<Option<Side>, Wanted>
+    requires made { AreEffects made.now }
+    ensures { record { found = result; course = seen.new; words = words.now }
+        ≡ live made.now (test_called_script party.now) seen.old words.now }
 {
     match party {
         None => Ok(None),
-        Some(party) => Ok(Some(Side::test(seen, party)?)),
+        Some(party) => Ok(Some(Side::test(seen, words, made, party)?)),
     }
 }
 
@@ -173,12 +189,19 @@ fn join_called(
 
 impl Sides {
     /// Tests the line junctor switches of the parties' frames.
-    #[tactic(auto, using(turns::proofs::Walks::walk_bind, turns::proofs::Walks::walk_end), unfolding(crate::specs::Sides::test_sides))]
-    pub fn test(seen: &Seen, parties: &CallParties) -> Result<Sides, Wanted>
-        ensures { result ≡ walk seen.now (test_sides_script parties.now) }
+    #[tactic(auto, using(attempts::proofs::LiveWalks::live_bind, attempts::proofs::LiveWalks::live_end), unfolding(crate::specs::Sides::test_sides))]
+    pub fn test(
+        seen: &mut Seen,
+        words: &[u64],
+        made: &[Effect],
+        parties: &CallParties,
+    ) -> Result<Sides, Wanted>
+        requires made { AreEffects made.now }
+        ensures { record { found = result; course = seen.new; words = words.now }
+            ≡ live made.now (test_sides_script parties.now) seen.old words.now }
     {
-        let calling = Side::test(seen, &parties.calling)?;
-        let called = test_called(seen, &parties.called)?;
+        let calling = Side::test(seen, words, made, &parties.calling)?;
+        let called = test_called(seen, words, made, &parties.called)?;
         Ok(Sides { calling, called })
     }
 

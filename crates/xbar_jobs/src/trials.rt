@@ -1,12 +1,13 @@
 //! Two trials on a trunk group, as far as an attempt has come with them.
 
 ghost use Rattle.std.specs.Prelude.{◌≡◌, ◌<◌, ◌≤◌, length};
-ghost use Rattle.xbar_jobs.specs.Script.{walk};
+ghost use Rattle.xbar_jobs.specs.Keeping.{AreEffects};
+ghost use Rattle.xbar_jobs.specs.Script.{live};
 ghost use Rattle.xbar_jobs.specs.Trials.{after_first_trial as after_first_script, first_trial_steps, second_trial_at as second_trial_at_script, second_trial_steps, trial_end as trial_end_of, two_trials_steps};
 
-use crate::kinds::Wanted;
+use crate::effect::Effect;
+use crate::kinds::{Seen, Wanted};
 use crate::party::CallParties;
-use crate::seen::Seen;
 use crate::sides::Sides;
 use crate::trunk::{Reached, Trunk, reach};
 use crate::trunks::{Trunks, next_clear};
@@ -29,21 +30,25 @@ fn trial_end(
     TrialEnd::of(plan, sides.join(start, &Trunk { first, second }))
 }
 
-#[tactic(auto, using(turns::proofs::Walks::walk_bind, turns::proofs::Walks::walk_end), unfolding(crate::specs::Trials::second_trial_steps))]
+#[tactic(auto, using(attempts::proofs::LiveWalks::live_bind, attempts::proofs::LiveWalks::live_end), unfolding(crate::specs::Trials::second_trial_steps))]
 fn second_trial(
     plan: &Plan,
-    seen: &Seen,
+    seen: &mut Seen,
+    words: &mut [u64],
+    made: &[Effect],
     sides: &Sides,
     cards: Cards,
     index: usize,
     member: &Member,
 ) -> Result<Trials, Wanted>
+    requires made { AreEffects made.now }
     requires index { index < 40 }
     requires cards { length cards ≤ 1 }
-    ensures { result ≡ walk seen.now
-        (second_trial_steps plan.now sides.now cards index member.now) }
+    ensures { record { found = result; course = seen.new; words = words.new }
+        ≡ live made.now (second_trial_steps plan.now sides.now cards index member.now)
+        seen.old words.old }
 {
-    let trunk = reach(seen, member)?;
+    let trunk = reach(seen, words, made, member)?;
     let end = trial_end(plan, sides, 5, trunk.first, trunk.second);
     Ok(Trials::second(cards, index as u8, end))
 }
@@ -51,35 +56,44 @@ fn second_trial(
 #[tactic(auto, unfolding(crate::specs::Trials::second_trial_at))]
 fn second_trial_at(
     plan: &Plan,
-    seen: &Seen,
+    seen: &mut Seen,
+    words: &mut [u64],
+    made: &[Effect],
     sides: &Sides,
     trunks: &Trunks,
     cards: Cards,
     index: usize,
 ) -> Result<Trials, Wanted>
+    requires made { AreEffects made.now }
     requires index { index < length trunks.now.members }
     requires size { length trunks.now.members ≤ 40 }
     requires cards { length cards ≤ 1 }
-    ensures { result ≡ walk seen.now
-        (second_trial_at_script plan.now sides.now trunks.now cards index) }
+    ensures { record { found = result; course = seen.new; words = words.new }
+        ≡ live made.now (second_trial_at_script plan.now sides.now trunks.now cards index)
+        seen.old words.old }
 {
     let member = &trunks.members[index];
-    second_trial(plan, seen, sides, cards, index, member)
+    second_trial(plan, seen, words, made, sides, cards, index, member)
 }
 
 /// What follows the first trial: its own end, or a second trial by the same line junctor switches.
-#[tactic(auto, using(turns::proofs::Walks::walk_end), unfolding(crate::specs::Trials::after_first_trial))]
+#[tactic(auto, using(attempts::proofs::LiveWalks::live_end), unfolding(crate::specs::Trials::after_first_trial))]
 fn after_first_trial(
     plan: &Plan,
-    seen: &Seen,
+    seen: &mut Seen,
+    words: &mut [u64],
+    made: &[Effect],
     sides: &Sides,
     trunks: &Trunks,
     first: usize,
     end: TrialEnd,
 ) -> Result<Trials, Wanted>
+    requires made { AreEffects made.now }
     requires index { first < length trunks.now.members }
     requires size { length trunks.now.members ≤ 40 }
-    ensures { result ≡ walk seen.now (after_first_script plan.now sides.now trunks.now first end) }
+    ensures { record { found = result; course = seen.new; words = words.new }
+        ≡ live made.now (after_first_script plan.now sides.now trunks.now first end)
+        seen.old words.old }
 {
     let cards = match end {
         TrialEnd::Chosen(call) => return Ok(Trials::first(first as u8, &call)),
@@ -87,42 +101,60 @@ fn after_first_trial(
         TrialEnd::NoChannel => Cards::new(),
     };
     let next = next_clear(trunks.word, trunks.members.len(), first);
-    second_trial_at(plan, seen, sides, trunks, cards, next)
+    second_trial_at(plan, seen, words, made, sides, trunks, cards, next)
 }
 
 /// Both trials, the first one on this member.
-#[tactic(auto, using(turns::proofs::Walks::walk_bind), unfolding(crate::specs::Trials::first_trial_steps))]
+#[tactic(auto, using(attempts::proofs::LiveWalks::live_bind), unfolding(crate::specs::Trials::first_trial_steps))]
 fn first_trial(
     plan: &Plan,
-    seen: &Seen,
+    seen: &mut Seen,
+    words: &mut [u64],
+    made: &[Effect],
     parties: &CallParties,
     trunks: &Trunks,
     first: usize,
     member: &Member,
 ) -> Result<Trials, Wanted>
+    requires made { AreEffects made.now }
     requires index { first < length trunks.now.members }
     requires size { length trunks.now.members ≤ 40 }
-    ensures { result ≡ walk seen.now
-        (first_trial_steps plan.now parties.now trunks.now first member.now) }
+    ensures { record { found = result; course = seen.new; words = words.new }
+        ≡ live made.now (first_trial_steps plan.now parties.now trunks.now first member.now)
+        seen.old words.old }
 {
-    let trunk = reach(seen, member)?;
-    let sides = Sides::test(seen, parties)?;
+    let trunk = reach(seen, words, made, member)?;
+    let sides = Sides::test(seen, words, made, parties)?;
     let end = trial_end(plan, &sides, 0, trunk.first, trunk.second);
-    after_first_trial(plan, seen, &sides, trunks, first, end)
+    after_first_trial(plan, seen, words, made, &sides, trunks, first, end)
 }
 
 /// Two trials on the group's members, from one that is idle on.
 #[tactic(auto, unfolding(crate::specs::Trials::two_trials_steps))]
 pub fn two_trials(
     plan: &Plan,
-    seen: &Seen,
+    seen: &mut Seen,
+    words: &mut [u64],
+    made: &[Effect],
     parties: &CallParties,
     trunks: &Trunks,
     first: usize,
 ) -> Result<Trials, Wanted>
+    requires made { AreEffects made.now }
     requires index { first < length trunks.now.members }
     requires size { length trunks.now.members ≤ 40 }
-    ensures { result ≡ walk seen.now (two_trials_steps plan.now parties.now trunks.now first) }
+    ensures { record { found = result; course = seen.new; words = words.new }
+        ≡ live made.now (two_trials_steps plan.now parties.now trunks.now first)
+        seen.old words.old }
 {
-    first_trial(plan, seen, parties, trunks, first, &trunks.members[first])
+    first_trial(
+        plan,
+        seen,
+        words,
+        made,
+        parties,
+        trunks,
+        first,
+        &trunks.members[first],
+    )
 }

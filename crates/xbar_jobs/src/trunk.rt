@@ -1,12 +1,12 @@
 ghost use Rattle.std.specs.Prelude.{◌≡◌};
 ghost use Rattle.xbar_jobs.specs.Keeping.{AreEffects};
-ghost use Rattle.xbar_jobs.specs.Script.{walk};
+ghost use Rattle.xbar_jobs.specs.Script.{live};
 ghost use Rattle.xbar_jobs.specs.Sides.{reach as reach_script, test_place as test_place_script, test_second as test_second_script};
 
 use crate::effect::Effect;
-use crate::effects::made;
-use crate::kinds::Wanted;
-use crate::seen::Seen;
+use crate::effects::made as made_by;
+use crate::kinds::{Seen, Wanted};
+use crate::seen::{require_held, value_of};
 use xbar_equip::{Conn, Ten, trunk_switch};
 use xbar_plan::Member;
 
@@ -29,7 +29,7 @@ impl Reached {
         let number = trunk_switch(place.frame(), place.switch());
         Reached {
             place,
-            word: made(effects, number, self.word),
+            word: made_by(effects, number, self.word),
         }
     }
 }
@@ -41,32 +41,58 @@ pub struct Trunk {
     pub second: Option<Reached>,
 }
 
-#[tactic(auto, using(turns::proofs::Walks::walk_bind, turns::proofs::Walks::walk_end), unfolding(crate::specs::Sides::test_place))]
-fn test_place(seen: &Seen, place: Ten) -> Result<Reached, Wanted>
-    ensures { result ≡ walk seen.now (test_place_script place) }
+#[tactic(auto, using(attempts::proofs::LiveWalks::live_bind, attempts::proofs::LiveWalks::live_end), unfolding(crate::specs::Sides::test_place))]
+fn test_place(
+    seen: &mut Seen,
+    words: &[u64],
+    made: &[Effect],
+    place: Ten,
+) -> Result<Reached, Wanted>
+    requires made { AreEffects made.now }
+    ensures { record { found = result; course = seen.new; words = words.now }
+        ≡ live made.now (test_place_script place) seen.old words.now }
 {
-    let word = seen.value_of(trunk_switch(place.frame(), place.switch()))?;
+    let word = value_of(
+        seen,
+        words,
+        made,
+        trunk_switch(place.frame(), place.switch()),
+    )?;
     Ok(Reached { place, word })
 }
 
-#[tactic(auto, using(turns::proofs::Walks::walk_bind, turns::proofs::Walks::walk_end), unfolding(crate::specs::Sides::test_second))]
-fn test_second(seen: &Seen, place: Option<Ten>) -> Result<Option<Reached>, Wanted>
-    ensures { result ≡ walk seen.now (test_second_script place) }
+#[tactic(auto, using(attempts::proofs::LiveWalks::live_bind, attempts::proofs::LiveWalks::live_end), unfolding(crate::specs::Sides::test_second))]
+fn test_second(
+    seen: &mut Seen,
+    words: &[u64],
+    made: &[Effect],
+    place: Option<Ten>,
+) -> Result<Option<Reached>, Wanted>
+    requires made { AreEffects made.now }
+    ensures { record { found = result; course = seen.new; words = words.now }
+        ≡ live made.now (test_second_script place) seen.old words.now }
 {
     match place {
         None => Ok(None),
-        Some(place) => Ok(Some(test_place(seen, place)?)),
+        Some(place) => Ok(Some(test_place(seen, words, made, place)?)),
     }
 }
 
 /// Reaches a member: its trunk link frame is seized, and the trunk switches of its places are tested.
-#[tactic(auto, using(turns::proofs::Walks::walk_bind, turns::proofs::Walks::walk_end), unfolding(crate::specs::Sides::reach))]
+#[tactic(auto, using(attempts::proofs::LiveWalks::live_bind, attempts::proofs::LiveWalks::live_end), unfolding(crate::specs::Sides::reach))]
 #[inline(always)]
-pub fn reach(seen: &Seen, member: &Member) -> Result<Trunk, Wanted>
-    ensures { result ≡ walk seen.now (reach_script member.now) }
+pub fn reach(
+    seen: &mut Seen,
+    words: &mut [u64],
+    made: &[Effect],
+    member: &Member,
+) -> Result<Trunk, Wanted>
+    requires made { AreEffects made.now }
+    ensures { record { found = result; course = seen.new; words = words.new }
+        ≡ live made.now (reach_script member.now) seen.old words.old }
 {
-    seen.require_held(Conn::Tlf(member.first.frame()))?;
-    let first = test_place(seen, member.first)?;
-    let second = test_second(seen, member.second)?;
+    require_held(seen, words, Conn::Tlf(member.first.frame()))?;
+    let first = test_place(seen, words, made, member.first)?;
+    let second = test_second(seen, words, made, member.second)?;
     Ok(Trunk { first, second })
 }

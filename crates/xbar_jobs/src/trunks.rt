@@ -3,11 +3,13 @@
 ghost use Rattle.std.specs.Prelude.{◌≡◌, ◌<◌, ◌≤◌, IfOk, IfSome, length};
 ghost use Rattle.xbar_equip.specs.First.{first_below, next_below};
 ghost use Rattle.xbar_office.specs.Trunks.{AreGroups};
-ghost use Rattle.xbar_jobs.specs.Script.{walk};
+ghost use Rattle.xbar_jobs.specs.Keeping.{AreEffects};
+ghost use Rattle.xbar_jobs.specs.Script.{live};
 ghost use Rattle.xbar_jobs.specs.Trunks.{IsOfPlan, find_trunk as find_trunk_script, is_bit_clear as is_bit_clear_of, trunks_of as trunks_by};
 
-use crate::kinds::Wanted;
-use crate::seen::Seen;
+use crate::effect::Effect;
+use crate::kinds::{Seen, Wanted};
+use crate::seen::{require_held, value_of};
 use std::marker::Model;
 use xbar_equip::{Conn, group_word};
 use xbar_plan::{Member, Plan};
@@ -86,9 +88,17 @@ pub fn trunks_of(plan: &Plan, group: u8, word: u64) -> Trunks<'_>
 }
 
 /// The first of some groups that has an idle member: each is seized and its word tested, until one has.
-pub fn find_trunk(plan: &Plan, seen: &Seen, groups: &[u8]) -> Result<Option<IdleGroup>, Wanted>
-    requires { AreGroups plan.now groups.now }
-    ensures walk { result ≡ walk seen.now (find_trunk_script plan.now groups.now) }
+pub fn find_trunk(
+    plan: &Plan,
+    seen: &mut Seen,
+    words: &mut [u64],
+    made: &[Effect],
+    groups: &[u8],
+) -> Result<Option<IdleGroup>, Wanted>
+    requires made { AreEffects made.now }
+    requires groups { AreGroups plan.now groups.now }
+    ensures walk { record { found = result; course = seen.new; words = words.new }
+        ≡ live made.now (find_trunk_script plan.now groups.now) seen.old words.old }
     ensures range { IfOk result (λ found. IfSome found (λ idle. IsOfPlan plan.now idle)) }
 {
     // Called for their clauses alone.
@@ -96,8 +106,8 @@ pub fn find_trunk(plan: &Plan, seen: &Seen, groups: &[u8]) -> Result<Option<Idle
     xbar_plan::laws::groups_have_members();
     for group in groups {
         let group = *group;
-        seen.require_held(Conn::Group(group))?;
-        let word = seen.value_of(group_word(group))?;
+        require_held(seen, words, Conn::Group(group))?;
+        let word = value_of(seen, words, made, group_word(group))?;
         let trunks = trunks_of(plan, group, word);
         if let Some(first) = first_clear(word, trunks.members.len()) {
             return Ok(Some(IdleGroup {

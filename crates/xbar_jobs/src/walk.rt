@@ -1,12 +1,11 @@
-ghost use Rattle.std.specs.Prelude.{◌≡◌, Err, IfSome, IsTrue, None};
+ghost use Rattle.std.specs.Prelude.{◌≡◌, Err, IfSome, IsTrue, None, []};
 ghost use Rattle.turns.specs.Script.{value_read};
-ghost use Rattle.turns.specs.Seen.{AreReadWords};
 ghost use Rattle.turns.specs.declared.wanted.Wanted.TheVariants.{Test};
 ghost use Rattle.attempts.specs.Points.{GoesOnTo};
 ghost use Rattle.xbar_equip.specs.Conn.{conn_eq};
 ghost use Rattle.xbar_office.specs.Legal.{IsJob};
 ghost use Rattle.xbar_jobs.specs.Jobs.{TestsRows, script, first_conn as first_conn_of, job_line};
-ghost use Rattle.xbar_jobs.specs.Script.{walk as walk_of};
+ghost use Rattle.xbar_jobs.specs.Script.{live, walk as walk_of};
 ghost use Rattle.xbar_jobs.specs.Sides.{IsNextJunctor};
 ghost use Rattle.xbar_jobs.specs.Tracing.{Knows};
 
@@ -14,9 +13,8 @@ use crate::completing::complete;
 use crate::decided::Decided;
 use crate::decision::Decision;
 use crate::dialling::dial;
-use crate::kinds::{Gathered, Wanted};
+use crate::kinds::{Seen, Wanted};
 use crate::releasing::release;
-use crate::seen::Seen;
 use crate::sides::next_junctor;
 use crate::way::Way;
 use xbar_equip::{Conn, Len};
@@ -41,29 +39,43 @@ pub fn first_conn(job: &Job) -> Conn
 #[tactic(auto, unfolding(crate::specs::Jobs::script))]
 // Not inlined, so that a walk that stops early pays for few locals.
 #[inline(never)]
-fn follow(plan: &Plan, gathered: &Gathered, job: &Job, way: &mut Way) -> Result<Decision, Wanted>
-    requires { Knows (job_line job.now) way.old gathered.now }
-    ensures walk { result ≡ walk_of gathered.now (script plan.now job.now) }
-    ensures knows { Knows (job_line job.now) way.new gathered.now }
+fn follow(
+    plan: &Plan,
+    seen: &mut Seen,
+    words: &mut [u64],
+    job: &Job,
+    way: &mut Way,
+) -> Result<Decision, Wanted>
+    requires { Knows (job_line job.now) way.old seen.old.seen }
+    ensures walk { record { found = result; course = seen.new; words = words.new }
+        ≡ live [] (script plan.now job.now) seen.old words.old }
+    ensures knows { Knows (job_line job.now) way.new seen.new.seen }
 {
     match job {
-        Job::Dial(line) => dial(plan, &Seen::new(gathered), *line),
-        Job::Complete(line, dialled) => complete(plan, gathered, *line, *dialled, way),
-        Job::Release(line) => release(plan, &Seen::new(gathered), *line),
+        Job::Dial(line) => dial(plan, seen, words, *line),
+        Job::Complete(line, dialled) => complete(plan, seen, words, *line, *dialled, way),
+        Job::Release(line) => release(plan, seen, words, *line),
     }
 }
 
 /// Goes through a job with what an attempt has come by: to its decision, or to what it wants first.
-pub fn walk(plan: &Plan, gathered: &Gathered, job: &Job, way: &mut Way) -> Result<Decided, Wanted>
+pub fn walk(
+    plan: &Plan,
+    seen: &mut Seen,
+    words: &mut [u64],
+    job: &Job,
+    way: &mut Way,
+) -> Result<Decided, Wanted>
     requires job { IsJob job.now }
-    requires read { AreReadWords gathered.now.readings }
-    requires knows { Knows (job_line job.now) way.old gathered.now }
-    ensures walk { result ≡ walk_of gathered.now (script plan.now job.now) }
-    ensures knows { Knows (job_line job.now) way.new gathered.now }
+    requires knows { Knows (job_line job.now) way.old seen.old.seen }
+    ensures walk { record { found = result; course = seen.new; words = words.new }
+        ≡ live [] (script plan.now job.now) seen.old words.old }
+    ensures knows { Knows (job_line job.now) way.new seen.new.seen }
 {
-    // Called for its clauses alone.
+    let decision = follow(plan, seen, words, job, way)?;
+    // Called for their clauses alone.
     xbar_plan::laws::every_plan_is_lawful(plan);
-    let decision = follow(plan, gathered, job, way)?;
+    seen.fits_words();
     Ok(Decided::new(decision))
 }
 
@@ -81,12 +93,12 @@ fn tests_rows(job: &Job, way: &Way) -> bool
 }
 
 /// The line junctor switch after this word, where that isn't its frame's last, and it wasn't read.
-fn unread_after(gathered: &Gathered, word: usize) -> Option<usize>
+fn unread_after(seen: &Seen, word: usize) -> Option<usize>
     ensures next { IfSome result (λ next. IsNextJunctor word next) }
-    ensures unread { IfSome result (λ next. value_read gathered.now.readings next ≡ None) }
+    ensures unread { IfSome result (λ next. value_read seen.now.seen.readings next ≡ None) }
 {
     let next = next_junctor(word)?;
-    if gathered.has_read(next) {
+    if seen.has_read(next) {
         None
     } else {
         Some(next)
@@ -95,22 +107,16 @@ fn unread_after(gathered: &Gathered, word: usize) -> Option<usize>
 
 /// The word that a job tests next once it has read the one that it wants, if that needs no walk: the
 /// ten line junctor switches of a frame are tested in order, whatever they show and whatever the plan is.
-pub fn next_in_row(
-    plan: &Plan,
-    gathered: &Gathered,
-    job: &Job,
-    way: &Way,
-    word: usize,
-) -> Option<usize>
+pub fn next_in_row(plan: &Plan, seen: &Seen, job: &Job, way: &Way, word: usize) -> Option<usize>
     requires job { IsJob job.now }
-    requires knows { Knows (job_line job.now) way.now gathered.now }
-    requires wants { walk_of gathered.now (script plan.now job.now) ≡ Err (Test word) }
-    ensures { IfSome result (GoesOnTo conn_eq gathered.now (script plan.now job.now) word) }
+    requires knows { Knows (job_line job.now) way.now seen.now.seen }
+    requires wants { walk_of seen.now.seen (script plan.now job.now) ≡ Err (Test word) }
+    ensures { IfSome result (GoesOnTo conn_eq seen.now.seen (script plan.now job.now) word) }
 {
     // Called for its clauses alone.
     xbar_plan::laws::every_plan_is_lawful(plan);
     if tests_rows(job, way) {
-        unread_after(gathered, word)
+        unread_after(seen, word)
     } else {
         None
     }

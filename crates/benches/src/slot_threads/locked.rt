@@ -1,5 +1,6 @@
 //! The same allocator as plain data behind a lock, under which each job is done whole.
 
+use super::all_of;
 use super::hand::Hand;
 use slots::bank::{BANK_SIZE, lowest_free};
 use slots::{Effect, Job, UpToTwo};
@@ -85,8 +86,5 @@ pub fn work_all<R: Threads + Wait + Sync>(
         count as usize,
         &|_| -> u64 { work(rt, &banks, jobs) },
     )?;
-    Ok(
-        done.iter()
-            .fold(0, |all: u64, jobs| all.saturating_add(*jobs)),
-    )
+    Ok(all_of(&done))
 }

@@ -1,6 +1,7 @@
 ghost use Rattle.std.specs.Prelude.{◌≤◌};
 ghost use Rattle.desks.specs.Views.{IsDeskOf};
 
+use super::all_of;
 use super::hand::Hand;
 use desks::Room;
 use slot_desks::SlotJobs;
@@ -41,8 +42,5 @@ pub fn work_all<R: Threads + Sync>(
             requires { IsDeskOf desk room tt }
         { work(&room, desk, jobs) },
     )?;
-    Ok(
-        done.iter()
-            .fold(0, |all: u64, jobs| all.saturating_add(*jobs)),
-    )
+    Ok(all_of(&done))
 }

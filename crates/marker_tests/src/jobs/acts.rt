@@ -103,6 +103,55 @@ fn check_turned(rt: &impl Abort, name: &str, program: &Program, turn: Option<u64
     check_equal(rt, name, &program.reply().is_some(), &turn.is_some());
 }
 
+/// A job, its end, and how many steps it takes, where they are known.
+struct Done {
+    text: &'static str,
+    end: &'static str,
+    count: Option<u32>,
+}
+
+/// The job on the words by as many steps in a row as a program comes to.
+fn run_to_end(rt: &impl Abort, plan: &Plan, marker: u32, words: &mut [u64], text: &str) -> Program
+    requires marker { marker < 48 }
+    requires words { length words.old ≡ word_count }
+{
+    let mut program = begin_so(rt, plan, text);
+    for _made in 0..128 {
+        program.run(plan, marker, words, 128);
+        step(&mut program, plan, marker, words);
+    }
+    program
+}
+
+/// Does the job by single steps, and on a copy of the words by runs of them, which come to the same.
+fn does(
+    rt: &impl Abort,
+    alloc: Global,
+    plan: &Plan,
+    name: &str,
+    program: &mut Program,
+    marker: u32,
+    words: &mut [u64],
+    done: &Done,
+)
+    requires marker { marker < 48 }
+    requires words { length words.old ≡ word_count }
+    ensures plan { Stands plan.now program.new.attempt }
+    ensures words { length words.new ≡ word_count }
+{
+    let mut own = [0; WORD_COUNT];
+    own.copy_from_slice(words);
+    let twin = run_to_end(rt, plan, marker, &mut own, done.text);
+    check_end(rt, alloc, name, &twin, done.end);
+    *program = begin_so(rt, plan, done.text);
+    steps(program, plan, marker, words, 128);
+    check_end(rt, alloc, name, program, done.end);
+    let count = done.count.unwrap_or(program.count());
+    check_equal(rt, done.text, &program.count(), &count);
+    check_equal(rt, done.text, &twin.count(), &count);
+    check_equal(rt, name, &own.as_slice(), &&*words);
+}
+
 fn act_on(
     rt: &impl Abort,
     alloc: Global,
@@ -132,15 +181,12 @@ fn act_on(
         Act::Count(count) => check_equal(rt, name, &program.count(), count),
         Act::Turned(turn) => check_turned(rt, name, program, *turn),
         Act::Does(text, end, count) => {
-            *program = begin_so(rt, plan, text);
-            steps(program, plan, marker, words, 128);
-            check_end(rt, alloc, name, program, end);
-            check_equal(
-                rt,
+            let done = Done {
                 text,
-                &program.count(),
-                &count.unwrap_or(program.count()),
-            );
+                end,
+                count: *count,
+            };
+            does(rt, alloc, plan, name, program, marker, words, &done);
         }
         Act::Words(wanted) => check_words(rt, alloc, name, words, wanted),
     }

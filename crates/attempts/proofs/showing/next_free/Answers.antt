@@ -1,14 +1,11 @@
-use Rattle.std.proofs.Common.{arith, ap, ◌∙◌}
+use Rattle.std.proofs.Common.{ap, ◌∙◌}
 use Rattle.turns.specs.Attempt.{free_act}
 use Rattle.attempts.specs.Standing.{Program}
 use Rattle.attempts.proofs.Inside.{frees_first, frees_none}
 use Rattle.attempts.proofs.showing.next_free.Goals as goal
 
 pub returns-in-Some : goal.returns-in-Some
-returns-in-Some g c = frees_first c.deref.result.now c.in-Some.lock.now c.in-Some.ensures.value ∙ ap free_act (c.deref.ensures.0 ∙ ap (λ (p : Program _ _ _ _). p.held) c.program.view_is)
+returns-in-Some g c = frees_first c.held.result.now c.in-Some.lock.now c.in-Some.ensures.value ∙ ap free_act (c.held.ensures ∙ ap (λ (p : Program _ _ _ _). p.held) c.program.view_is)
 
 pub returns-in-None : goal.returns-in-None
-returns-in-None g c = frees_none c.deref.result.now c.in-None.ensures.value ∙ ap free_act (c.deref.ensures.0 ∙ ap (λ (p : Program _ _ _ _). p.held) c.program.view_is)
-
-pub deref-requires : goal.deref-requires
-deref-requires g c = grind arith
+returns-in-None g c = frees_none c.held.result.now c.in-None.ensures.value ∙ ap free_act (c.held.ensures ∙ ap (λ (p : Program _ _ _ _). p.held) c.program.view_is)

@@ -1,4 +1,5 @@
-use Rattle.std.proofs.Common.{arith}
+use Rattle.std.proofs.Common.{ap}
+use Rattle.attempts.specs.Live.{Course}
 use Rattle.attempts.proofs.Inside.{begins_anew}
 use Rattle.attempts.proofs.attempt.Attempt.begin_anew.Goals as goal
 
@@ -6,7 +7,4 @@ pub forget-requires : goal.forget-requires
 forget-requires g c = search
 
 pub returns : goal.returns
-returns g c = begins_anew _ c.args.self.now c.forget.new.self c.clear.new.self.items c.args.first c.args.point c.self.view_is c.clear.ensures c.forget.ensures
-
-pub clear-requires : goal.clear-requires
-clear-requires g c = grind arith
+returns g c = begins_anew _ c.args.self.now c.forget.new.self c.free_all.new.self.seen.held c.args.first c.args.point c.self.view_is (ap (λ (course : Course _). course.seen.held) c.free_all.ensures) c.forget.ensures

@@ -1,9 +1,7 @@
-use Rattle.std.proofs.Common.{arith, [], ◌∷◌, ◌++◌}
-use Rattle.attempts.proofs.Inside.{has_room, with_held}
+use Rattle.std.proofs.Common.{[], ◌∷◌, ◌++◌, refl}
+use Rattle.attempts.specs.Standing.{Program}
+use Rattle.attempts.proofs.Inside.{with_seen}
 use Rattle.attempts.proofs.attempt.Attempt.hold.Goals as goal
 
 pub returns : goal.returns
-returns g c = with_held _ c.args.self.now c.push.new.self.items (λ held. held ++ c.args.lock ∷ []) c.self.view_is c.push.ensures.items
-
-pub push-requires : goal.push-requires
-push-requires g c = (grind arith, has_room _ c.args.self.now _ c.self.view_is c.requires)
+returns g c = with_seen _ c.args.self.now _ _ (λ (p : Program _ _ _ _). record p { held = p.held ++ c.args.lock ∷ [] }) c.self.view_is c.hold.ensures refl

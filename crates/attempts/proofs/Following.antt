@@ -1,0 +1,42 @@
+-- what is told of the word that is tested next, as the code has it
+use Rattle.std.proofs.Common.{◌≡◌, ℕ, Bool, List, sym, ◌∙◌, ap, subst}
+use Rattle.std.specs.Prelude.{Err, IfSome, Option}
+use Rattle.turns.specs.Attempt.{AttemptOf, StandsIn, seen_of}
+use Rattle.turns.specs.Script.{walk}
+use Rattle.turns.specs.Seen.{Seen}
+use Rattle.turns.specs.System.{System}
+use Rattle.turns.specs.declared.phase.Phase.{Phase}
+use Rattle.turns.specs.declared.phase.Phase.TheVariants.{Tests}
+use Rattle.turns.specs.declared.wanted.Wanted.TheVariants.{Test}
+use Rattle.attempts.specs.Points.{GoesOnTo}
+use Rattle.attempts.specs.Standing.{KnowsIn, Program, Stands, attempt_of}
+use Rattle.attempts.specs.SystemWith.{SystemWith, system_with}
+
+module _ {Lock Job Reply Effect Decision Point : Type 0} (same : Lock → Lock → Bool) (reply_of : Decision → Reply) (effects_of : Decision → List Effect) (S : SystemWith Lock Job Reply Effect Decision) (Knows : Job → Point → Seen Lock → Type 0) (reads seizes : ℕ) where
+  abbrev Doing : Type 0
+  Doing = Program Lock Job Decision Point
+
+  abbrev O : System
+  O = system_with same reply_of effects_of S
+
+  abbrev outside : Doing → AttemptOf O
+  outside p = attempt_of reply_of effects_of p
+
+  module _ (p now : Doing) (inside : p ≡ now) (stands : Stands same reply_of effects_of S Knows reads seizes now) (word : ℕ) (tests : now.phase ≡ Tests word) where
+    here : Stands same reply_of effects_of S Knows reads seizes p
+    here = subst (λ (x : Doing). Stands same reply_of effects_of S Knows reads seizes x) (sym inside) stands
+
+    tests_here : p.phase ≡ Tests word
+    tests_here = ap (λ (x : Doing). x.phase) inside ∙ tests
+
+    pub job_here : S.IsJob p.job
+    job_here = here.place.job
+
+    pub knows_here : Knows p.job p.point (seen_of (outside p))
+    knows_here = subst (λ (phase : Phase Lock ℕ). KnowsIn Knows (outside p) p.point phase) tests_here here.point
+
+    pub wants_here : walk same (seen_of (outside p)) (S.script p.job) ≡ Err (Test word)
+    wants_here = subst (λ (phase : Phase Lock ℕ). StandsIn O (outside p) phase) tests_here here.place.comes
+
+  pub goes_on_there : (p now : Doing) (inside : p ≡ now) (word : ℕ) (next : Option ℕ) → IfSome next (GoesOnTo same (seen_of (outside p)) (S.script p.job) word) → IfSome next (GoesOnTo same (record { held = now.held; readings = now.readings }) (S.script now.job) word)
+  goes_on_there p now inside word next goes = subst (λ (x : Doing). IfSome next (GoesOnTo same (record { held = x.held; readings = x.readings }) (S.script x.job) word)) inside goes

@@ -1,0 +1,120 @@
+-- the steps that an attempt makes by its walk, as the code has it
+use Rattle.std.proofs.Common.{◌≡◌, ℕ, ◌-◌, ◌<◌, ◌≤◌, ◌^◌, ◌⊎◌, inl, inr, Bool, List, refl, sym, ◌∙◌, ap, subst, arith}
+use Rattle.std.specs.Prelude.{Result}
+use Rattle.turns.specs.Attempt.{AttemptOf, seen_of}
+use Rattle.turns.specs.Seen.{AreReadWords, Seen}
+use Rattle.turns.specs.System.{AreWords, System}
+use Rattle.turns.specs.declared.phase.Phase.{Phase}
+use Rattle.turns.specs.declared.phase.Phase.TheVariants.{Requests, Seizes, Tests, Turns, Withdraws, GivesBack, Operates}
+use Rattle.turns.specs.declared.wanted.Wanted.{Wanted}
+use Rattle.turns.proofs.Preferring.{zero_unused}
+use Rattle.attempts.specs.Live.{Comes, Course, LeadsTo, Moment, WantsNext, gone_on_by, live}
+use Rattle.attempts.specs.Running as running
+use Rattle.attempts.specs.Standing.{AreScripts, KnowsIn, Program, Stands, attempt_of}
+use Rattle.attempts.specs.SystemWith.{SystemWith, system_with}
+use Rattle.attempts.specs.Taken.{gone_on}
+use Rattle.attempts.proofs.LiveStands.{Runs, comes_of, held_word, leads_place, run_on, runs}
+use Rattle.attempts.proofs.Taken.{went, went_count, went_point}
+
+-- what its point says is so where it wants something
+knows_next : {Lock Job Reply Effect Decision Point : Type 0} (reply_of : Decision → Reply) (effects_of : Decision → List Effect) (Knows : Job → Point → Seen Lock → Type 0) (p : Program Lock Job Decision Point) (phase : Phase Lock ℕ) → WantsNext phase → KnowsIn Knows (attempt_of reply_of effects_of p) p.point phase → Knows p.job p.point (seen_of (attempt_of reply_of effects_of p))
+knows_next reply_of effects_of Knows p (Requests lock) wants knows = knows
+knows_next reply_of effects_of Knows p (Tests word) wants knows = knows
+knows_next reply_of effects_of Knows p (Seizes lock expected) wants knows = absurd wants
+knows_next reply_of effects_of Knows p Turns wants knows = absurd wants
+knows_next reply_of effects_of Knows p (Withdraws lock) wants knows = absurd wants
+knows_next reply_of effects_of Knows p GivesBack wants knows = absurd wants
+knows_next reply_of effects_of Knows p (Operates turn) wants knows = absurd wants
+
+module _ {Lock Job Reply Effect Decision Point : Type 0} (same : Lock → Lock → Bool) (reply_of : Decision → Reply) (effects_of : Decision → List Effect) (S : SystemWith Lock Job Reply Effect Decision) (Knows : Job → Point → Seen Lock → Type 0) (reads seizes : ℕ) (are : AreScripts same reply_of effects_of S Knows reads seizes) (k : ℕ) (few : k < 48) where
+  abbrev O : System
+  O = system_with same reply_of effects_of S
+
+  abbrev Doing : Type 0
+  Doing = Program Lock Job Decision Point
+
+  abbrev outside : Doing → AttemptOf O
+  outside p = attempt_of reply_of effects_of p
+
+  -- what it puts into the word of a lock
+  abbrev pub own_word : ℕ
+  own_word = held_word O are.is_system reads seizes are.asks k few zero_unused
+
+  module _ (old p : Doing) (inside : p ≡ old) (stands : Stands same reply_of effects_of S Knows reads seizes old) (wants : WantsNext old.phase) (course : Course Lock) (most : ℕ) (course_is : course ≡ record { seen = seen_of (outside p); left = most; hold = own_word }) where
+    stands_here : Stands same reply_of effects_of S Knows reads seizes p
+    stands_here = subst (λ (x : Doing). Stands same reply_of effects_of S Knows reads seizes x) (sym inside) stands
+
+    wants_here : WantsNext p.phase
+    wants_here = subst (λ (x : Doing). WantsNext x.phase) (sym inside) wants
+
+    seen_is : course.seen ≡ seen_of (outside p)
+    seen_is = ap (λ (x : Course Lock). x.seen) course_is
+
+    -- what the walk wants
+    pub job_right : S.IsJob p.job
+    job_right = stands_here.place.job
+
+    pub read_words : AreReadWords course.seen.readings
+    read_words = subst (λ (s : Seen Lock). AreReadWords s.readings) (sym seen_is) stands_here.place.read
+
+    pub knows_it : Knows p.job p.point course.seen
+    knows_it = subst (Knows p.job p.point) (sym seen_is) (knows_next reply_of effects_of Knows p p.phase wants_here stands_here.point)
+
+    module _ (words after : List ℕ) (are_words : AreWords words) (below : own_word < 2 ^ 64) (found : Result Decision (Wanted Lock ℕ)) (more : Course Lock) (walks : record { found = found; course = more; words = after } ≡ live same S.lock_word reads seizes (λ word value. value) (S.script p.job) course words) where
+      abbrev comes : Comes Lock Decision
+      comes = comes_of O are.is_system reads seizes are.asks k few zero_unused (outside p) most words
+
+      comes_is : record { found = found; course = more; words = after } ≡ comes
+      comes_is = walks ∙ ap (λ (x : Course Lock). live same S.lock_word reads seizes (λ word value. value) (S.script p.job) x words) course_is
+
+      so : Runs O are.is_system reads seizes are.asks k few zero_unused (outside p) most words
+      so = runs O are.is_system reads seizes are.asks k few zero_unused (outside p) most words wants_here stands_here.place.comes are_words below
+
+      left_is : more.left ≡ comes.course.left
+      left_is = ap (λ (x : Comes Lock Decision). x.course.left) comes_is
+
+      -- no more steps are left than there were
+      pub left_fits : (left : ℕ) → left ≡ more.left → left ≤ most
+      left_fits left same_left = omega (arith, same_left, left_is, so.spent)
+
+      module _ (new : Doing) (q : Point) (knows : Knows p.job q more.seen) (made : new ≡ gone_on (record p { point = q; readings = more.seen.readings; held = more.seen.held }) found) where
+        abbrev then_seen : Doing
+        then_seen = record p { readings = more.seen.readings; held = more.seen.held }
+
+        new_is : running.moment same reply_of effects_of S Knows new after ≡ run_on O are.is_system reads seizes are.asks k few zero_unused (outside p) most words
+        new_is = ap (λ (a : AttemptOf O). record { attempt = a; words = after }) (ap outside made ∙ went same reply_of effects_of S Knows then_seen q found)
+            ∙ ap (λ (x : Comes Lock Decision). record { attempt = gone_on_by O (outside p) x.course x.found; words = x.words }) comes_is
+
+        made_by : (left : ℕ) → left ≡ more.left → so.made ≡ most - left
+        made_by left same_left = omega (arith, same_left, left_is, so.spent)
+
+        leads : LeadsTo O k so.made (running.moment same reply_of effects_of S Knows p words) (running.moment same reply_of effects_of S Knows new after)
+        leads = subst (λ (m : Moment O). LeadsTo O k so.made (running.moment same reply_of effects_of S Knows p words) m) (sym new_is) so.steps
+
+        stands_new : Stands same reply_of effects_of S Knows reads seizes new
+        stands_new = record {
+          place = leads_place O are.is_system reads seizes are.asks k so.made (running.moment same reply_of effects_of S Knows p words) (running.moment same reply_of effects_of S Knows new after) leads stands_here.place;
+          point = subst (λ (x : Doing). KnowsIn Knows (outside x) x.point x.phase) (sym made) (went_point same reply_of effects_of S Knows then_seen q found knows);
+        }
+
+        pub runs_on : (left : ℕ) → left ≡ more.left → running.Runs same reply_of effects_of S Knows reads seizes k most (most - left) old words new after
+        runs_on left same_left = record {
+          fits = omega arith;
+          steps = subst (λ (x : Doing). LeadsTo O k (most - left) (running.moment same reply_of effects_of S Knows x words) (running.moment same reply_of effects_of S Knows new after)) inside (subst (λ (n : ℕ). LeadsTo O k n (running.moment same reply_of effects_of S Knows p words) (running.moment same reply_of effects_of S Knows new after)) (made_by left same_left) leads);
+          stands = stands_new;
+          count = ap (λ (x : Doing). x.count) made ∙ went_count same reply_of effects_of S Knows then_seen q found ∙ ap (λ (x : Doing). x.count) inside;
+        }
+
+-- where it makes no step, nothing changes
+pub made_none : (O : System) (k : ℕ) (m : Moment O) → LeadsTo O k 0 m m
+unfolding LeadsTo
+made_none O k m = refl
+
+pub wants_lock_or_word : {Lock Job Decision Point : Type 0} (p now : Program Lock Job Decision Point) → p ≡ now → ((lock : Lock) × (p.phase ≡ Requests lock)) ⊎ ((word : ℕ) × (p.phase ≡ Tests word)) → WantsNext now.phase
+wants_lock_or_word p now inside (inl (lock, e)) = subst (λ (x : Program _ _ _ _). WantsNext x.phase) inside (subst (λ (phase : Phase _ ℕ). WantsNext phase) (sym e) tt)
+wants_lock_or_word p now inside (inr (word, e)) = subst (λ (x : Program _ _ _ _). WantsNext x.phase) inside (subst (λ (phase : Phase _ ℕ). WantsNext phase) (sym e) tt)
+
+-- whatever is counted
+module _ {Lock Job Reply Effect Decision Point : Type 0} (same : Lock → Lock → Bool) (reply_of : Decision → Reply) (effects_of : Decision → List Effect) (S : SystemWith Lock Job Reply Effect Decision) (Knows : Job → Point → Seen Lock → Type 0) where
+  pub leads_counted : (k made : ℕ) (old mid new : Program Lock Job Decision Point) (words after : List ℕ) {count : ℕ} → new ≡ record mid { count = count } → LeadsTo (system_with same reply_of effects_of S) k made (running.moment same reply_of effects_of S Knows old words) (running.moment same reply_of effects_of S Knows mid after) → LeadsTo (system_with same reply_of effects_of S) k made (running.moment same reply_of effects_of S Knows old words) (running.moment same reply_of effects_of S Knows new after)
+  leads_counted k made old mid new words after counts leads = subst (λ (x : Program Lock Job Decision Point). LeadsTo (system_with same reply_of effects_of S) k made (running.moment same reply_of effects_of S Knows old words) (running.moment same reply_of effects_of S Knows x after)) (sym counts) leads

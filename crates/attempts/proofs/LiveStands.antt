@@ -1,0 +1,85 @@
+-- attempts that make steps by their walks stand where their jobs bring them
+use Rattle.std.proofs.Common.{◌≡◌, ℕ, zero, suc, ◌+◌, ◌<◌, ◌^◌, List, refl, sym, ◌∙◌, ap, subst, true}
+use Rattle.turns.specs.Attempt.{Act, Ask, AttemptOf, Free, IsAnswerTo, Leave, Look, Make, Rest, StandsIn, Take, Turn, act, come_to, goes_on, seen_of}
+use Rattle.turns.specs.Script.{AsksAtMost, walk}
+use Rattle.turns.specs.Sharing.{IsUnused}
+use Rattle.turns.specs.System.{AreWords, IsSystem, System}
+use Rattle.turns.specs.declared.answer.Answer.{Answer}
+use Rattle.turns.specs.declared.answer.Answer.TheVariants.{Asked, Seized, Held, Preferred, Again, Value, Done}
+use Rattle.turns.specs.declared.answer.Answer.TheVariants as answer
+use Rattle.turns.specs.declared.phase.Phase.{Phase}
+use Rattle.turns.specs.declared.phase.Phase.TheVariants.{Requests, Seizes, Tests, Turns, Withdraws, GivesBack, Operates}
+use Rattle.attempts.specs.Standing.{HasPlace}
+use Rattle.attempts.proofs.Places.{FitsValue, place_change}
+use Rattle.attempts.specs.Live.{Course, Comes, IsMade, LeadsTo, Moment, gone_on_by, live, stepped, told, WantsNext}
+use Rattle.attempts.proofs.LiveSteps.{hold, live_steps}
+
+module _ (O : System) (is : IsSystem O) (R H : ℕ) (asks : (job : O.Job) → O.IsJob job → AsksAtMost R H (O.script job)) where
+  open O use {Lock, Decision}
+
+  -- a value that is told of a test fits a word
+  answer_fits : (step : Act Lock O.Effect) (told : Answer) → IsAnswerTo step told → FitsValue told
+  answer_fits step (Asked word) is = tt
+  answer_fits step Seized is = tt
+  answer_fits step (Held holder) is = tt
+  answer_fits step (Preferred other) is = tt
+  answer_fits step (Again word) is = tt
+  answer_fits step (answer.Turn number) is = tt
+  answer_fits step Done is = tt
+  answer_fits (Look word) (Value value) is = is
+  answer_fits Rest (Value value) is = absurd is
+  answer_fits (Ask lock) (Value value) is = absurd is
+  answer_fits (Take lock expected) (Value value) is = absurd is
+  answer_fits (Leave lock) (Value value) is = absurd is
+  answer_fits (Free lock) (Value value) is = absurd is
+  answer_fits Turn (Value value) is = absurd is
+  answer_fits (Make effect) (Value value) is = absurd is
+
+  -- after such steps an attempt stands, with room for what it will come by
+  pub leads_place : (k count : ℕ) (m last : Moment O) → LeadsTo O k count m last → HasPlace O R H m.attempt → HasPlace O R H last.attempt
+  unfolding LeadsTo
+  leads_place k zero m last leads placed = subst (λ (x : Moment O). HasPlace O R H x.attempt) leads placed
+  leads_place k (suc count) m last leads placed =
+      leads_place k count (stepped O k m) last leads.1.1 (place_change O is R H asks m.attempt (told O k m) (answer_fits (act m.attempt) (told O k m) leads.1.0) placed)
+
+  -- it stands where its walk comes to
+  stands_at : (a : AttemptOf O) (phase : Phase Lock ℕ) → a.phase ≡ phase → WantsNext phase → StandsIn O a phase → goes_on O a (come_to O a) ≡ a
+  stands_at a (Requests lock) e wants stands = ap (goes_on O a) stands ∙ ap (λ (p : Phase Lock ℕ). record a { phase = p }) (sym e)
+  stands_at a (Tests word) e wants stands = ap (goes_on O a) stands ∙ ap (λ (p : Phase Lock ℕ). record a { phase = p }) (sym e)
+  stands_at a (Seizes lock expected) e wants stands = absurd wants
+  stands_at a Turns e wants stands = absurd wants
+  stands_at a (Withdraws lock) e wants stands = absurd wants
+  stands_at a GivesBack e wants stands = absurd wants
+  stands_at a (Operates turn) e wants stands = absurd wants
+
+  pub self : (lock : Lock) → O.same lock lock ≡ true
+  self lock = (is.same lock lock).1 refl
+
+  module _ (k : ℕ) (few : k < O.sharing.most) (unused : IsUnused O.sharing 0) where
+    abbrev pub held_word : ℕ
+    held_word = hold O self R H k few is.sharing unused
+
+    abbrev pub course_of : AttemptOf O → ℕ → Course Lock
+    course_of a left = record { seen = seen_of a; left = left; hold = held_word }
+
+    abbrev pub comes_of : AttemptOf O → ℕ → List ℕ → Comes Lock Decision
+    comes_of a left words = live O.same O.lock_word R H (λ word value. value) (O.script a.job) (course_of a left) words
+
+    -- where an attempt comes to that makes as many steps as its walk can
+    abbrev pub run_on : AttemptOf O → ℕ → List ℕ → Moment O
+    run_on a left words = let comes : Comes Lock Decision = comes_of a left words in record { attempt = gone_on_by O a comes.course comes.found; words = comes.words }
+
+    -- so many single steps of it
+    pub record Runs (a : AttemptOf O) (left : ℕ) (words : List ℕ) : Type 0 where
+      pub made : ℕ
+      pub spent : left ≡ made + (comes_of a left words).course.left
+      pub steps : LeadsTo O k made (record { attempt = a; words = words }) (run_on a left words)
+
+    pub runs : (a : AttemptOf O) (left : ℕ) (words : List ℕ) → WantsNext a.phase → StandsIn O a a.phase → AreWords words → held_word < 2 ^ 64 → Runs a left words
+    runs a left words wants stands are below = record {
+      made = made_so.made;
+      spent = made_so.left;
+      steps = subst (λ (x : AttemptOf O). LeadsTo O k made_so.made (record { attempt = x; words = words }) (run_on a left words)) (stands_at a a.phase refl wants stands) made_so.steps;
+    } where
+      made_so : IsMade O k a (course_of a left) words (walk O.same (seen_of a) (O.script a.job)) (comes_of a left words)
+      made_so = live_steps O self R H k few is.sharing unused a (O.script a.job) (course_of a left) words are below refl (λ more grows. refl)

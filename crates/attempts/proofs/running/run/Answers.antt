@@ -1,0 +1,21 @@
+use Rattle.std.proofs.Common.{ap, ◌∙◌}
+use Rattle.attempts.specs.Counting.{counted_by}
+use Rattle.attempts.specs.Standing.{Program}
+use Rattle.attempts.proofs.LiveRuns.{leads_counted}
+use Rattle.attempts.proofs.Onward.{stands_counted}
+use Rattle.attempts.proofs.running.run.Goals as goal
+
+pub count_steps-requires : goal.count_steps-requires
+count_steps-requires g c = search
+
+pub returns-clause-steps : goal.returns-clause-steps
+returns-clause-steps g c = leads_counted g.S.Lock.PartialEq.eq g.S.Scripts.reply_of g.S.Scripts.effects_of (g.S.Scripts.system c.args.setting.now) (g.S.Scripts.Knows c.args.setting.now) c.args.actor c.make_steps-made.result c.args.program.now c.make_steps-made.new.program c.count_steps.new.self _ _ c.count_steps.ensures c.make_steps-made.ensures.steps
+
+pub returns-clause-most : goal.returns-clause-most
+returns-clause-most g c = c.make_steps-made.ensures.fits
+
+pub returns-clause-count : goal.returns-clause-count
+returns-clause-count g c = ap (λ (p : Program _ _ _ _). p.count) c.count_steps.ensures ∙ ap (counted_by c.make_steps-made.result) c.make_steps-made.ensures.count
+
+pub returns-clause-stands : goal.returns-clause-stands
+returns-clause-stands g c = stands_counted g.S.Lock.PartialEq.eq g.S.Scripts.reply_of g.S.Scripts.effects_of (g.S.Scripts.system c.args.setting.now) (g.S.Scripts.Knows c.args.setting.now) g.row.READINGS g.row.HELD c.requires.scripts c.make_steps-made.new.program c.count_steps.new.self _ c.make_steps-made.ensures.stands c.count_steps.ensures

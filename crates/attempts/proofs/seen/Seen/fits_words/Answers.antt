@@ -1,0 +1,7 @@
+use Rattle.std.proofs.Common.{subst}
+use Rattle.turns.specs.Seen.{AreReadWords}
+use Rattle.attempts.specs.Live.{Course}
+use Rattle.attempts.proofs.seen.Seen.fits_words.Goals as goal
+
+pub returns : goal.returns
+returns g c = subst (λ (course : Course _). AreReadWords course.seen.readings) c.self.view_is c.as_slice-readings.ensures.words

@@ -1,0 +1,111 @@
+//! The steps that an attempt makes by its walk, where nobody else makes any in between.
+
+ghost use Rattle.std.specs.Prelude.{◌≡◌, ◌<◌, ◌≤◌};
+ghost use Rattle.turns.specs.System.{AreWords};
+ghost use Rattle.attempts.specs.Counting.{counted_by};
+ghost use Rattle.attempts.specs.Live.{LeadsTo};
+ghost use Rattle.attempts.specs.Running.{MayRun, Runs};
+ghost use Rattle.attempts.specs.Standing.{AreScripts, Stands, attempt_of};
+ghost use Rattle.attempts.specs.SystemWith.{system_with};
+
+use crate::attempt::AttemptOf;
+use crate::scripts::Scripts;
+use crate::taking::walk_by;
+use turns::Phase;
+use turns::lock_word::{asked_by, taken_by};
+
+/// Words fit 64 bits. Called for its clause alone.
+fn are_words(_words: &[u64])
+    ensures { AreWords _words.now }
+{}
+
+/// Goes on through the job, by as many steps of its own as its walk makes, and gives their number.
+fn walk_alone<S: Scripts<READINGS, HELD>, const READINGS: usize, const HELD: usize>(
+    program: &mut AttemptOf<S, READINGS, HELD>,
+    setting: &S::Setting,
+    actor: u32,
+    words: &mut [u64],
+    most: u32,
+) -> u32
+    requires { MayRun S.Lock.eq S.reply_of S.effects_of (S.system setting.now)
+        (S.Knows setting.now) (S.IsSetting setting.now) READINGS HELD actor program.old }
+    ensures { Runs S.Lock.eq S.reply_of S.effects_of (S.system setting.now) (S.Knows setting.now)
+        READINGS HELD actor most result program.old words.old program.new words.new }
+{
+    // Called for its clause alone.
+    are_words(words);
+    program
+        .seen
+        .allow(most, taken_by(actor, asked_by(actor, 0)));
+    let found = walk_by::<S, READINGS, HELD>(
+        setting,
+        &program.job,
+        &mut program.point,
+        &mut program.seen,
+        words,
+    );
+    let left = program.seen.left();
+    program.go_on(found);
+    most - left
+}
+
+/// Makes steps where it wants a lock or a word next, and none elsewhere.
+fn make_steps<S: Scripts<READINGS, HELD>, const READINGS: usize, const HELD: usize>(
+    program: &mut AttemptOf<S, READINGS, HELD>,
+    setting: &S::Setting,
+    actor: u32,
+    words: &mut [u64],
+    most: u32,
+) -> u32
+    requires setting { S.IsSetting setting.now }
+    requires scripts { AreScripts S.Lock.eq S.reply_of S.effects_of (S.system setting.now)
+        (S.Knows setting.now) READINGS HELD }
+    requires stands { Stands S.Lock.eq S.reply_of S.effects_of (S.system setting.now)
+        (S.Knows setting.now) READINGS HELD program.old }
+    requires actor { actor < 48 }
+    ensures { Runs S.Lock.eq S.reply_of S.effects_of (S.system setting.now) (S.Knows setting.now)
+        READINGS HELD actor most result program.old words.old program.new words.new }
+{
+    let phase = program.phase;
+    match phase {
+        Phase::Requests(_) | Phase::Tests(_) => {
+            walk_alone::<S, READINGS, HELD>(program, setting, actor, words, most)
+        }
+        Phase::Seizes(_, _)
+        | Phase::Turns
+        | Phase::Withdraws(_)
+        | Phase::GivesBack
+        | Phase::Operates(_) => 0,
+    }
+}
+
+/// Makes its next steps on the words, as this actor: as many as its walk makes by itself, but no
+/// more than it may. It stops where another actor is in its way, where it comes to its turn, and
+/// where it has room for no more; past its turn, and where it gives up, it makes none. Gives the
+/// number of the steps that it made.
+pub fn run<S: Scripts<READINGS, HELD>, const READINGS: usize, const HELD: usize>(
+    program: &mut AttemptOf<S, READINGS, HELD>,
+    setting: &S::Setting,
+    actor: u32,
+    words: &mut [u64],
+    most: u32,
+) -> u32
+    requires setting { S.IsSetting setting.now }
+    requires scripts { AreScripts S.Lock.eq S.reply_of S.effects_of (S.system setting.now)
+        (S.Knows setting.now) READINGS HELD }
+    requires stands { Stands S.Lock.eq S.reply_of S.effects_of (S.system setting.now)
+        (S.Knows setting.now) READINGS HELD program.old }
+    requires actor { actor < 48 }
+    ensures steps { let O = system_with S.Lock.eq S.reply_of S.effects_of (S.system setting.now) in
+        LeadsTo O actor result
+        (record { attempt = attempt_of S.reply_of S.effects_of program.old; words = words.old })
+        (record { attempt = attempt_of S.reply_of S.effects_of program.new; words = words.new }) }
+    ensures most { result ≤ most }
+    ensures count { program.new.count ≡ counted_by result program.old.count }
+    ensures stands { Stands S.Lock.eq S.reply_of S.effects_of (S.system setting.now)
+        (S.Knows setting.now) READINGS HELD program.new }
+{
+    let made = make_steps::<S, READINGS, HELD>(program, setting, actor, words, most);
+    program.count_steps(made);
+    made
+}
