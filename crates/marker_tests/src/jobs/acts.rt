@@ -104,6 +104,7 @@ fn check_turned(rt: &impl Abort, name: &str, program: &Program, turn: Option<u64
 }
 
 /// A job, its end, and how many steps it takes, where they are known.
+#[derive(Drop)]
 struct Done {
     text: &'static str,
     end: &'static str,
