@@ -1,6 +1,6 @@
 #!/usr/bin/env bash
 # Makes the traffic that docs/SPEED.md speaks of, has the built program replay it or do its calls, and prints
-# for each the least and the most milliseconds of nine whole processes: speed.sh [PROGRAM]
+# for each the least and the median milliseconds of 31 whole processes: speed.sh [PROGRAM]
 set -euo pipefail
 
 root=$(cd "$(dirname "$(readlink -f "${BASH_SOURCE[0]}")")/.." && pwd)
@@ -32,17 +32,17 @@ jobs 48 >"$folder/calls48.csv"
 seq 0 9999 | awk '{ print "C," $1 "," $1 % 10 int($1 / 10) % 10 int($1 / 100) % 6 int($1 / 600) % 5 ",5551234,R" }' \
     >"$folder/live.csv"
 
-# Measures nine runs of the program with a file and words.
+# Measures 31 runs of the program with a file and words.
 measure() {
     local file=$1 start end k
     shift
-    for k in 1 2 3 4 5 6 7 8 9; do
+    for ((k = 0; k < 31; k++)); do
         start=$(date +%s%N)
         "$program" "$@" <"$folder/$file" >"$folder/out" || true
         end=$(date +%s%N)
-        echo $(((end - start) / 100000)) "$k"
-    done | awk -v what="$file, $*" '{ if (!least || $1 < least) least = $1; if ($1 > most) most = $1 }
-        END { printf "%5.1f to %5.1f ms  %s\n", least / 10, most / 10, what }'
+        echo $(((end - start) / 100000))
+    done | sort -n | awk -v what="$file, $*" '{ time[NR] = $1 }
+        END { printf "%5.1f, %5.1f ms  %s\n", time[1] / 10, time[16] / 10, what }'
 }
 
 grep -m 1 "model name" /proc/cpuinfo || true
