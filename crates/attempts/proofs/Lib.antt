@@ -15,6 +15,7 @@ pub mod SeenSteps
 pub mod LiveWalks
 pub mod LiveSteps
 pub mod LiveStands
+pub mod LiveEnds
 pub mod LiveRuns
 pub mod LeadsOn
 pub mod Marked

@@ -1,19 +1,23 @@
 -- the steps that an attempt makes by its walk, as the code has it
-use Rattle.std.proofs.Common.{◌≡◌, ℕ, ◌-◌, ◌<◌, ◌≤◌, ◌^◌, ◌⊎◌, inl, inr, Bool, List, refl, sym, ◌∙◌, ap, subst, arith}
-use Rattle.std.specs.Prelude.{Result}
+use Rattle.std.proofs.Common.{◌≡◌, ℕ, ◌-◌, ◌<◌, ◌≤◌, ◌^◌, ◌⊎◌, inl, inr, Bool, List, length, refl, sym, ◌∙◌, ap, subst, arith}
+use Rattle.std.specs.Prelude.{Result, Ok, Err}
 use Rattle.turns.specs.Attempt.{AttemptOf, seen_of}
 use Rattle.turns.specs.Seen.{AreReadWords, Seen}
 use Rattle.turns.specs.System.{AreWords, System}
 use Rattle.turns.specs.declared.phase.Phase.{Phase}
 use Rattle.turns.specs.declared.phase.Phase.TheVariants.{Requests, Seizes, Tests, Turns, Withdraws, GivesBack, Operates}
 use Rattle.turns.specs.declared.wanted.Wanted.{Wanted}
+use Rattle.turns.specs.declared.wanted.Wanted.TheVariants.{Seize, Test}
 use Rattle.turns.proofs.Preferring.{zero_unused}
 use Rattle.attempts.specs.Live.{Comes, Course, LeadsTo, Moment, WantsNext, gone_on_by, live}
 use Rattle.attempts.specs.Running as running
+use Rattle.attempts.specs.Running.{GoesFarEnough, GoesNoFurther}
 use Rattle.attempts.specs.Standing.{AreScripts, KnowsIn, Program, Stands, attempt_of}
 use Rattle.attempts.specs.SystemWith.{SystemWith, system_with}
 use Rattle.attempts.specs.Taken.{gone_on}
+use Rattle.attempts.proofs.LiveEnds.{Stuck, live_stuck, no_further, no_reading}
 use Rattle.attempts.proofs.LiveStands.{Runs, comes_of, held_word, leads_place, run_on, runs}
+use Rattle.attempts.proofs.Places.{fits_request, fits_test}
 use Rattle.attempts.proofs.Taken.{went, went_count, went_point}
 
 -- what its point says is so where it wants something
@@ -25,6 +29,16 @@ knows_next reply_of effects_of Knows p Turns wants knows = absurd wants
 knows_next reply_of effects_of Knows p (Withdraws lock) wants knows = absurd wants
 knows_next reply_of effects_of Knows p GivesBack wants knows = absurd wants
 knows_next reply_of effects_of Knows p (Operates turn) wants knows = absurd wants
+
+-- where something was wanted to begin with, it goes as far as it can
+goes_far : {Lock : Type 0} (lock_word : Lock → ℕ) (words : List ℕ) (most made : ℕ) (old new : Phase Lock ℕ) → WantsNext old → GoesNoFurther lock_word words (most - made) new → GoesFarEnough lock_word words most made old new
+goes_far lock_word words most made (Requests lock) new wants ends = ends
+goes_far lock_word words most made (Tests word) new wants ends = ends
+goes_far lock_word words most made (Seizes lock expected) new wants ends = absurd wants
+goes_far lock_word words most made Turns new wants ends = absurd wants
+goes_far lock_word words most made (Withdraws lock) new wants ends = absurd wants
+goes_far lock_word words most made GivesBack new wants ends = absurd wants
+goes_far lock_word words most made (Operates turn) new wants ends = absurd wants
 
 module _ {Lock Job Reply Effect Decision Point : Type 0} (same : Lock → Lock → Bool) (reply_of : Decision → Reply) (effects_of : Decision → List Effect) (S : SystemWith Lock Job Reply Effect Decision) (Knows : Job → Point → Seen Lock → Type 0) (reads seizes : ℕ) (are : AreScripts same reply_of effects_of S Knows reads seizes) (k : ℕ) (few : k < 48) where
   abbrev O : System
@@ -97,11 +111,35 @@ module _ {Lock Job Reply Effect Decision Point : Type 0} (same : Lock → Lock �
           point = subst (λ (x : Doing). KnowsIn Knows (outside x) x.point x.phase) (sym made) (went_point same reply_of effects_of S Knows then_seen q found knows);
         }
 
+        phase_is : (f : Result Decision (Wanted Lock ℕ)) → found ≡ f → new.phase ≡ (gone_on (record then_seen { point = q }) f).phase
+        phase_is f e = ap (λ (x : Doing). x.phase) made ∙ ap (λ (r : Result Decision (Wanted Lock ℕ)). (gone_on (record then_seen { point = q }) r).phase) e
+
+        seen_new : (f : Result Decision (Wanted Lock ℕ)) → found ≡ f → seen_of (outside new) ≡ seen_of (outside (gone_on (record then_seen { point = q }) f))
+        seen_new f e = ap (λ (x : Doing). seen_of (outside x)) made ∙ ap (λ (r : Result Decision (Wanted Lock ℕ)). seen_of (outside (gone_on (record then_seen { point = q }) r))) e
+
+        stuck : Stuck same S.lock_word reads seizes (record { found = found; course = more; words = after })
+        stuck = subst (Stuck same S.lock_word reads seizes) (sym walks) (live_stuck same S.lock_word reads seizes (S.script p.job) course words)
+
+        ends : (f : Result Decision (Wanted Lock ℕ)) → found ≡ f → GoesNoFurther S.lock_word after more.left new.phase
+        ends (Ok decision) e = subst (GoesNoFurther S.lock_word after more.left) (sym (phase_is (Ok decision) e)) tt
+        ends (Err (Seize lock)) e =
+            let at : new.phase ≡ Requests lock = phase_is (Err (Seize lock)) e in
+            let room : length more.seen.held < seizes = subst (λ (s : Seen Lock). length s.held < seizes) (seen_new (Err (Seize lock)) e) (fits_request O are.is_system reads seizes are.asks (outside new) lock at stands_new.place) in
+            subst (GoesNoFurther S.lock_word after more.left) (sym at) (no_further same S.lock_word reads seizes (record { found = found; course = more; words = after }) lock e room stuck)
+        ends (Err (Test word)) e =
+            let at : new.phase ≡ Tests word = phase_is (Err (Test word)) e in
+            let room : length more.seen.readings < reads = subst (λ (s : Seen Lock). length s.readings < reads) (seen_new (Err (Test word)) e) (fits_test O are.is_system reads seizes are.asks (outside new) word at stands_new.place) in
+            subst (GoesNoFurther S.lock_word after more.left) (sym at) (no_reading same S.lock_word reads seizes (record { found = found; course = more; words = after }) word e room stuck)
+
+        left_again : (left : ℕ) → left ≡ more.left → most - (most - left) ≡ more.left
+        left_again left same_left = omega (arith, same_left, left_is, so.spent)
+
         pub runs_on : (left : ℕ) → left ≡ more.left → running.Runs same reply_of effects_of S Knows reads seizes k most (most - left) old words new after
         runs_on left same_left = record {
           fits = omega arith;
           steps = subst (λ (x : Doing). LeadsTo O k (most - left) (running.moment same reply_of effects_of S Knows x words) (running.moment same reply_of effects_of S Knows new after)) inside (subst (λ (n : ℕ). LeadsTo O k n (running.moment same reply_of effects_of S Knows p words) (running.moment same reply_of effects_of S Knows new after)) (made_by left same_left) leads);
           stands = stands_new;
+          far = goes_far S.lock_word after most (most - left) old.phase new.phase wants (subst (λ (n : ℕ). GoesNoFurther S.lock_word after n new.phase) (sym (left_again left same_left)) (ends found refl));
           count = ap (λ (x : Doing). x.count) made ∙ went_count same reply_of effects_of S Knows then_seen q found ∙ ap (λ (x : Doing). x.count) inside;
         }
 
@@ -109,6 +147,15 @@ module _ {Lock Job Reply Effect Decision Point : Type 0} (same : Lock → Lock �
 pub made_none : (O : System) (k : ℕ) (m : Moment O) → LeadsTo O k 0 m m
 unfolding LeadsTo
 made_none O k m = refl
+
+pub goes_nowhere : {Lock Job Decision Point : Type 0} (lock_word : Lock → ℕ) (words : List ℕ) (most : ℕ) (p now : Program Lock Job Decision Point) → p ≡ now → ((lock : Lock) × (expected : ℕ) × (p.phase ≡ Seizes lock expected)) ⊎ ((p.phase ≡ Turns) ⊎ (((lock : Lock) × (p.phase ≡ Withdraws lock)) ⊎ ((p.phase ≡ GivesBack) ⊎ ((turn : ℕ) × (p.phase ≡ Operates turn))))) → GoesFarEnough lock_word words most 0 now.phase now.phase
+goes_nowhere {Lock} {Job} {Decision} {Point} lock_word words most p now inside is = subst (λ (x : Program Lock Job Decision Point). GoesFarEnough lock_word words most 0 x.phase x.phase) inside (at p.phase is) where
+  at : (phase : Phase Lock ℕ) → ((lock : Lock) × (expected : ℕ) × (phase ≡ Seizes lock expected)) ⊎ ((phase ≡ Turns) ⊎ (((lock : Lock) × (phase ≡ Withdraws lock)) ⊎ ((phase ≡ GivesBack) ⊎ ((turn : ℕ) × (phase ≡ Operates turn))))) → GoesFarEnough lock_word words most 0 phase phase
+  at phase (inl (lock, expected, e)) = subst (λ (x : Phase Lock ℕ). GoesFarEnough lock_word words most 0 x x) (sym e) refl
+  at phase (inr (inl e)) = subst (λ (x : Phase Lock ℕ). GoesFarEnough lock_word words most 0 x x) (sym e) refl
+  at phase (inr (inr (inl (lock, e)))) = subst (λ (x : Phase Lock ℕ). GoesFarEnough lock_word words most 0 x x) (sym e) refl
+  at phase (inr (inr (inr (inl e)))) = subst (λ (x : Phase Lock ℕ). GoesFarEnough lock_word words most 0 x x) (sym e) refl
+  at phase (inr (inr (inr (inr (turn, e))))) = subst (λ (x : Phase Lock ℕ). GoesFarEnough lock_word words most 0 x x) (sym e) refl
 
 pub wants_lock_or_word : {Lock Job Decision Point : Type 0} (p now : Program Lock Job Decision Point) → p ≡ now → ((lock : Lock) × (p.phase ≡ Requests lock)) ⊎ ((word : ℕ) × (p.phase ≡ Tests word)) → WantsNext now.phase
 wants_lock_or_word p now inside (inl (lock, e)) = subst (λ (x : Program _ _ _ _). WantsNext x.phase) inside (subst (λ (phase : Phase _ ℕ). WantsNext phase) (sym e) tt)

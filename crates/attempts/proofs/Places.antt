@@ -300,6 +300,10 @@ module _ (O : System) (is : IsSystem O) (most_readings most_held : ℕ) (asks : 
   fits_seize a lock expected e p =
       (room_seized a lock p.read (subst (λ (phase : Phase Lock ℕ). StandsIn O a phase) e p.comes) (subst (λ (phase : Phase Lock ℕ). RoomIn a phase) e p.room)).fits
 
+  pub fits_request : (a : AttemptOf O) (lock : Lock) → a.phase ≡ Requests lock → Placed a → length a.held < most_held
+  fits_request a lock e p =
+      (room_seized a lock p.read (subst (λ (phase : Phase Lock ℕ). StandsIn O a phase) e p.comes) (subst (λ (phase : Phase Lock ℕ). RoomIn a phase) e p.room)).fits
+
   pub fits_test : (a : AttemptOf O) (word : ℕ) → a.phase ≡ Tests word → Placed a → length a.readings < most_readings
   fits_test a word e p =
       (room_read a (record { word = word; value = 0 }) p.read (omega arith) (subst (λ (phase : Phase Lock ℕ). StandsIn O a phase) e p.comes) (subst (λ (phase : Phase Lock ℕ). RoomIn a phase) e p.room)).fits

@@ -1,9 +1,32 @@
 -- attempts that make steps by their walks
-use Rattle.std.specs.Prelude.{◌≡◌, ◌<◌, ◌≤◌, ℕ, Bool, List}
+use Rattle.std.specs.Prelude.{◌≡◌, ◌<◌, ◌≤◌, ◌-◌, ◌⊎◌, ℕ, Bool, false, None, List, slice_get, ⊤}
 use Rattle.turns.specs.Seen.{Seen}
-use Rattle.attempts.specs.Live.{LeadsTo, Moment, WantsNext}
+use Rattle.turns.specs.declared.phase.Phase.{Phase}
+use Rattle.turns.specs.declared.phase.Phase.TheVariants.{Requests, Seizes, Tests, Turns, Withdraws, GivesBack, Operates}
+use Rattle.attempts.specs.Live.{LeadsTo, Moment, WantsNext, is_free}
 use Rattle.attempts.specs.Standing.{AreScripts, Program, Stands, attempt_of}
 use Rattle.attempts.specs.SystemWith.{SystemWith, system_with}
+
+module _ {Lock : Type 0} (lock_word : Lock → ℕ) (words : List ℕ) where
+  -- with so many steps left an attempt can make none more by itself: it has come to its turn, or its lock isn't free or wants two steps, or its word isn't there or wants one
+  abbrev pub GoesNoFurther : ℕ → Phase Lock ℕ → Type 0
+  GoesNoFurther left (Requests lock) = (left < 2) ⊎ (is_free (slice_get words (lock_word lock)) ≡ false)
+  GoesNoFurther left (Tests word) = (left ≡ 0) ⊎ (slice_get words word ≡ None)
+  GoesNoFurther left Turns = ⊤
+  GoesNoFurther left (Seizes lock expected) = ⊥
+  GoesNoFurther left (Withdraws lock) = ⊥
+  GoesNoFurther left GivesBack = ⊥
+  GoesNoFurther left (Operates turn) = ⊥
+
+  -- where it wants a lock or a word next it goes on as far as it can, and elsewhere it makes no step
+  abbrev pub GoesFarEnough : ℕ → ℕ → Phase Lock ℕ → Phase Lock ℕ → Type 0
+  GoesFarEnough most made (Requests lock) new = GoesNoFurther (most - made) new
+  GoesFarEnough most made (Tests word) new = GoesNoFurther (most - made) new
+  GoesFarEnough most made (Seizes lock expected) new = made ≡ 0
+  GoesFarEnough most made Turns new = made ≡ 0
+  GoesFarEnough most made (Withdraws lock) new = made ≡ 0
+  GoesFarEnough most made GivesBack new = made ≡ 0
+  GoesFarEnough most made (Operates turn) new = made ≡ 0
 
 module _ {Lock Job Reply Effect Decision Point : Type 0} (same : Lock → Lock → Bool) (reply_of : Decision → Reply) (effects_of : Decision → List Effect) (S : SystemWith Lock Job Reply Effect Decision) (Knows : Job → Point → Seen Lock → Type 0) where
   -- an attempt, and the words that it is made on
@@ -15,6 +38,7 @@ module _ {Lock Job Reply Effect Decision Point : Type 0} (same : Lock → Lock �
     pub fits : made ≤ most
     pub steps : LeadsTo (system_with same reply_of effects_of S) k made (moment old words) (moment new after)
     pub stands : Stands same reply_of effects_of S Knows reads seizes new
+    pub far : GoesFarEnough S.lock_word after most made old.phase new.phase
     pub count : new.count ≡ old.count
 
   -- an attempt that wants a lock or a word next may make steps by its walk, as actor k

@@ -4,7 +4,7 @@ ghost use Rattle.std.specs.Prelude.{◌≡◌, ◌<◌, ◌≤◌};
 ghost use Rattle.turns.specs.System.{AreWords};
 ghost use Rattle.attempts.specs.Counting.{counted_by};
 ghost use Rattle.attempts.specs.Live.{LeadsTo};
-ghost use Rattle.attempts.specs.Running.{MayRun, Runs};
+ghost use Rattle.attempts.specs.Running.{GoesFarEnough, MayRun, Runs};
 ghost use Rattle.attempts.specs.Standing.{AreScripts, Stands, attempt_of};
 ghost use Rattle.attempts.specs.SystemWith.{system_with};
 
@@ -101,6 +101,8 @@ pub fn run<S: Scripts<READINGS, HELD>, const READINGS: usize, const HELD: usize>
         (record { attempt = attempt_of S.reply_of S.effects_of program.old; words = words.old })
         (record { attempt = attempt_of S.reply_of S.effects_of program.new; words = words.new }) }
     ensures most { result ≤ most }
+    ensures far { GoesFarEnough (S.system setting.now).lock_word words.new most result
+        program.old.phase program.new.phase }
     ensures count { program.new.count ≡ counted_by result program.old.count }
     ensures stands { Stands S.Lock.eq S.reply_of S.effects_of (S.system setting.now)
         (S.Knows setting.now) READINGS HELD program.new }

@@ -23,18 +23,15 @@ pub too_is : (lower : ℕ) → and_upper (Some lower) ≡ too_steps lower
 unfolding too_steps slot_steps ◌>>=◌
 too_is lower = refl
 
-same_bank : (bank : ℕ) → nat_eq bank bank ≡ true
-same_bank bank = eq-eqb bank bank refl
-
 -- what is known of the lower bank takes no step
 pub known_lower : (free : Option ℕ) (course : Course ℕ) (words : List ℕ) → walk nat_eq course.seen (slot_steps 0) ≡ Ok free → record { found = Ok free; course = course; words = words } ≡ live_slots (slot_steps 0) course words
-known_lower free course words known = sym (live_known nat_eq same_bank bank_word 2 2 (slot_steps 0) free course words known)
+known_lower free course words known = sym (live_known nat_eq (λ bank. eq-eqb bank bank refl) bank_word 2 2 (slot_steps 0) free course words known)
 
 -- and what was found there is known
 pub found_lower : (free : Option ℕ) (result : Result (Option ℕ) (Wanted ℕ ℕ)) (course more : Course ℕ) (words after : List ℕ) → result ≡ Ok free → record { found = result; course = more; words = after } ≡ live_slots (slot_steps 0) course words → walk nat_eq more.seen (slot_steps 0) ≡ Ok free
 found_lower free result course more words after was comes =
     ap (λ (x : Comes ℕ (Option ℕ)). walk nat_eq x.course.seen (slot_steps 0)) comes
-    ∙ live_walks nat_eq same_bank bank_word 2 2 (slot_steps 0) course words
+    ∙ live_walks nat_eq (λ bank. eq-eqb bank bank refl) bank_word 2 2 (slot_steps 0) course words
     ∙ sym (ap (λ (x : Comes ℕ (Option ℕ)). x.found) comes) ∙ was
 
 -- whatever a walk comes by then
@@ -42,4 +39,4 @@ pub knows_still : {A : Type 0} (lower : Option (Option ℕ)) (script : Script �
 knows_still None script found course more words after comes known = tt
 knows_still {A} (Some free) script found course more words after comes known =
     ap (λ (x : Comes ℕ A). walk nat_eq x.course.seen (slot_steps 0)) comes
-    ∙ gone_through nat_eq course.seen (live_slots script course words).course.seen (slot_steps 0) free (live_extends nat_eq same_bank bank_word 2 2 script course words) known
+    ∙ gone_through nat_eq course.seen (live_slots script course words).course.seen (slot_steps 0) free (live_extends nat_eq (λ bank. eq-eqb bank bank refl) bank_word 2 2 script course words) known

@@ -1,10 +1,11 @@
 -- steps that a program makes on the words by itself
-use Rattle.std.specs.Prelude.{◌≡◌, ◌≤◌, ℕ, Bool, true, false, List, is_some, length}
+use Rattle.std.specs.Prelude.{◌≡◌, ◌≤◌, ◌⊎◌, ℕ, Bool, true, false, List, Option, Some, None, is_some, length}
 use Rattle.turns.specs.Attempt.{act, operated, turn_in}
 use Rattle.turns.specs.Runs.{is_rest}
 use Rattle.turns.specs.declared.operation.Operation.{Operation}
 use Rattle.attempts.specs.Counting.{counted_by}
 use Rattle.attempts.specs.Live.{LeadsTo}
+use Rattle.attempts.specs.Running.{GoesFarEnough}
 use Rattle.xbar_equip.specs.Word.{word_count}
 use Rattle.xbar_plan.specs.Tables.{Tables}
 use Rattle.xbar_jobs.specs.Attempt.{Attempt, Counted, next_step}
@@ -18,6 +19,11 @@ pub record RunsOn (plan : Tables) (marker most made : ℕ) (old : Counted) (word
   pub steps : LeadsTo (office plan) marker made (record { attempt = old.attempt; words = words }) (record { attempt = new.attempt; words = after })
   pub count : new.count ≡ counted_by made old.count
   pub stands : Stands plan new.attempt
+
+-- with its turn taken it makes all that is left, or as many steps as it may; before, it goes as far as its walk can
+abbrev pub GoesFar : Tables → ℕ → ℕ → List ℕ → Attempt → Attempt → Option ℕ → Type 0
+GoesFar plan most made words old new (Some turn) = (made ≡ most) ⊎ (is_rest (act new) ≡ true)
+GoesFar plan most made words old new None = GoesFarEnough (office plan).lock_word words most made old.phase new.phase
 
 -- an attempt's next step is on this word, by this operation, whoever makes it
 pub record Closes (a : Attempt) (made : ℕ × Operation) : Type 0 where
@@ -36,7 +42,7 @@ pub record Closed (old : Doing) (words : List ℕ) (new : Doing) (after : List �
 -- or there was none left, and nothing has changed
 abbrev pub HasClosed : Doing → List ℕ → Bool → Doing → List ℕ → Type 0
 HasClosed old words true new after = Closed old words new after
-HasClosed old words false new after = (new ≡ old) × (after ≡ words)
+HasClosed old words false new after = (new ≡ old) × ((after ≡ words) × (is_rest (act (attempt_at old)) ≡ true))
 
 -- so many steps past its turn lead an attempt on
 pub record RunsOut (plan : Tables) (marker most made : ℕ) (old : Doing) (words : List ℕ) (new : Doing) (after : List ℕ) : Type 0 where

@@ -1,6 +1,6 @@
 //! What is left of a job past its turn: its effects, and then frees.
 
-ghost use Rattle.std.specs.Prelude.{◌≡◌, ◌<◌, MatchOption, true, is_some, length, slice_index, slice_set};
+ghost use Rattle.std.specs.Prelude.{◌≡◌, ◌<◌, ◌⊎◌, MatchOption, true, is_some, length, slice_index, slice_set};
 ghost use Rattle.turns.specs.Attempt.{act, turn_in};
 ghost use Rattle.turns.specs.Operations.{applied};
 ghost use Rattle.turns.specs.Runs.{is_rest};
@@ -62,7 +62,9 @@ pub fn close(attempt: &mut Attempt, _plan: &Plan, _marker: u32, words: &mut [u64
     requires attempt { IsAttempt (attempt_at attempt.old) }
     requires turned { is_some (turn_in attempt.old.phase) ≡ true }
     requires words { length words.old ≡ word_count }
-    ensures { RunsOut _plan.now _marker most result attempt.old words.old attempt.new words.new }
+    ensures runs { RunsOut _plan.now _marker most result attempt.old words.old attempt.new
+        words.new }
+    ensures far { (result ≡ most) ⊎ (is_rest (act (attempt_at attempt.new)) ≡ true) }
 {
     // Called for their clauses alone.
     xbar_plan::laws::every_plan_is_lawful(_plan);

@@ -1,4 +1,4 @@
-ghost use Rattle.std.specs.Prelude.{◌≡◌, ◌<◌, ◌≤◌, is_some, length, option_copied, true};
+ghost use Rattle.std.specs.Prelude.{◌≡◌, ◌<◌, ◌≤◌, ◌⊎◌, is_some, length, option_copied, true};
 ghost use Rattle.attempts.specs.Steps.{act_of};
 ghost use Rattle.xbar_jobs.specs.Attempt.{next_step, step_of as step_of_act};
 ghost use Rattle.xbar_jobs.specs.Keeping.{AreEffects};
@@ -77,8 +77,10 @@ fn step_of(attempt: &AttemptOf<Offices, 42, 19>) -> Step
 impl Program {
     ghost use Rattle.std.specs.Prelude.{ℕ};
     ghost use Rattle.turns.specs.Attempt.{act, change, reply_in, restarted, turn_in, IsAnswerTo};
+    ghost use Rattle.turns.specs.Runs.{is_rest};
     ghost use Rattle.attempts.specs.Counting.{counted_by};
     ghost use Rattle.attempts.specs.Live.{LeadsTo};
+    ghost use Rattle.attempts.specs.Running.{GoesFarEnough};
     ghost use Rattle.xbar_equip.specs.Word.{word_count};
     ghost use Rattle.xbar_office.specs.Legal.{IsJob};
     ghost use Rattle.xbar_plan.specs.Lawful.{IsLawful};
@@ -87,7 +89,7 @@ impl Program {
     ghost use Rattle.xbar_jobs.specs.Counting.{after_answer};
     ghost use Rattle.xbar_jobs.specs.Office.{office};
     ghost use Rattle.xbar_jobs.specs.OnWords.{step_word};
-    ghost use Rattle.xbar_jobs.specs.Running.{RunsOn};
+    ghost use Rattle.xbar_jobs.specs.Running.{GoesFar, RunsOn};
     ghost use Rattle.xbar_jobs.specs.Standing.{Stands};
     ghost use Rattle.xbar_jobs.specs.Turning.{DoesAsOffice};
 
@@ -168,7 +170,9 @@ impl Program {
     fn walk_on(&mut self, plan: &Plan, marker: u32, words: &mut [u64], most: u32) -> u32
         requires marker { marker < 48 }
         requires plan { Stands plan.now self.old.attempt }
-        ensures { RunsOn plan.now marker most result self.old words.old self.new words.new }
+        ensures runs { RunsOn plan.now marker most result self.old words.old self.new words.new }
+        ensures far { GoesFarEnough (office plan.now).lock_word words.new most result
+            self.old.attempt.phase self.new.attempt.phase }
     {
         // Called for its clauses alone.
         xbar_plan::laws::every_plan_is_lawful(plan);
@@ -184,7 +188,8 @@ impl Program {
         requires plan { Stands plan.now self.old.attempt }
         requires turned { is_some (turn_in self.old.attempt.phase) ≡ true }
         requires words { length words.old ≡ word_count }
-        ensures { RunsOn plan.now marker most result self.old words.old self.new words.new }
+        ensures runs { RunsOn plan.now marker most result self.old words.old self.new words.new }
+        ensures far { (result ≡ most) ⊎ (is_rest (act self.new.attempt) ≡ true) }
     {
         let made = close(&mut self.attempt, plan, marker, words, most);
         self.next = step_of(&self.attempt);
@@ -202,6 +207,8 @@ impl Program {
             (record { attempt = self.old.attempt; words = words.old })
             (record { attempt = self.new.attempt; words = words.new }) }
         ensures most { result ≤ most }
+        ensures far { GoesFar plan.now most result words.new self.old.attempt self.new.attempt
+            (turn_in self.old.attempt.phase) }
         ensures count { self.new.count ≡ counted_by result self.old.count }
         ensures plan { Stands plan.now self.new.attempt }
     {

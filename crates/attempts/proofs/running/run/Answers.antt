@@ -1,5 +1,6 @@
-use Rattle.std.proofs.Common.{ap, ◌∙◌}
+use Rattle.std.proofs.Common.{ap, subst, sym, ◌∙◌}
 use Rattle.attempts.specs.Counting.{counted_by}
+use Rattle.attempts.specs.Running.{GoesFarEnough}
 use Rattle.attempts.specs.Standing.{Program}
 use Rattle.attempts.proofs.LiveRuns.{leads_counted}
 use Rattle.attempts.proofs.Onward.{stands_counted}
@@ -13,6 +14,9 @@ returns-clause-steps g c = leads_counted g.S.Lock.PartialEq.eq g.S.Scripts.reply
 
 pub returns-clause-most : goal.returns-clause-most
 returns-clause-most g c = c.make_steps-made.ensures.fits
+
+pub returns-clause-far : goal.returns-clause-far
+returns-clause-far g c = subst (λ (p : Program _ _ _ _). GoesFarEnough (g.S.Scripts.system c.args.setting.now).lock_word c.make_steps-made.new.words c.args.most c.make_steps-made.result c.args.program.now.phase p.phase) (sym c.count_steps.ensures) c.make_steps-made.ensures.far
 
 pub returns-clause-count : goal.returns-clause-count
 returns-clause-count g c = ap (λ (p : Program _ _ _ _). p.count) c.count_steps.ensures ∙ ap (counted_by c.make_steps-made.result) c.make_steps-made.ensures.count

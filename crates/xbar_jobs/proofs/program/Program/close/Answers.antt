@@ -18,15 +18,18 @@ close-made-requires-clause-plan c = subst (Stands c.args.plan.now) (ap the_attem
 
 pub invariant_of-self : goal.invariant_of-self
 invariant_of-self c = record {
-  attempt = c.close-made.ensures.attempt;
+  attempt = c.close-made.ensures.runs.attempt;
   next_is = c.step_of-self-inside.ensures;
-  knows = knows_past (λ (job : Job). Knows (job_line job)) (attempt_at c.close-made.new.attempt) c.close-made.new.attempt.point c.close-made.new.attempt.phase c.close-made.ensures.turned;
+  knows = knows_past (λ (job : Job). Knows (job_line job)) (attempt_at c.close-made.new.attempt) c.close-made.new.attempt.point c.close-made.new.attempt.phase c.close-made.ensures.runs.turned;
 }
 
 pub returns : goal.returns
 returns c = record {
-  fits = c.close-made.ensures.fits;
-  steps = subst (λ (p : Counted). LeadsTo (office c.args.plan.now) c.args.marker c.close-made.result (record { attempt = p.attempt; words = c.args.words.now }) (record { attempt = attempt_at c.close-made.new.attempt; words = c.close-made.new.words })) c.self.view_is c.close-made.ensures.steps;
-  count = c.close-made.ensures.count ∙ ap (λ (p : Counted). counted_by c.close-made.result p.count) c.self.view_is;
-  stands = c.close-made.ensures.stands;
+  runs = record {
+    fits = c.close-made.ensures.runs.fits;
+    steps = subst (λ (p : Counted). LeadsTo (office c.args.plan.now) c.args.marker c.close-made.result (record { attempt = p.attempt; words = c.args.words.now }) (record { attempt = attempt_at c.close-made.new.attempt; words = c.close-made.new.words })) c.self.view_is c.close-made.ensures.runs.steps;
+    count = c.close-made.ensures.runs.count ∙ ap (λ (p : Counted). counted_by c.close-made.result p.count) c.self.view_is;
+    stands = c.close-made.ensures.runs.stands;
+  };
+  far = c.close-made.ensures.far;
 }

@@ -1,6 +1,7 @@
 use Rattle.std.proofs.Common.{arith, ap, subst, sym, ◌∙◌}
 use Rattle.attempts.specs.Counting.{counted_by}
 use Rattle.attempts.specs.Live.{LeadsTo}
+use Rattle.attempts.specs.Running.{GoesFarEnough}
 use Rattle.xbar_jobs.specs.Attempt.{Attempt, Counted}
 use Rattle.xbar_jobs.specs.Office.{office}
 use Rattle.xbar_jobs.specs.Standing.{Stands, attempt_at}
@@ -34,8 +35,11 @@ pub returns : goal.returns
 returns c =
     let it = ran c.args.plan.now c.every_plan_is_lawful.ensures c.args.marker c.run-made.result c.self.inside.attempt c.run-made.new.program c.args.words.now c.run-made.new.words _ (ap the_attempt c.self.view_is) c.requires.plan c.run-made.ensures.steps in
     record {
-      fits = c.run-made.ensures.most;
-      steps = subst (λ (p : Counted). LeadsTo (office c.args.plan.now) c.args.marker c.run-made.result (record { attempt = p.attempt; words = c.args.words.now }) (record { attempt = attempt_at c.run-made.new.program; words = c.run-made.new.words })) c.self.view_is it.steps;
-      count = c.run-made.ensures.count ∙ ap (λ (p : Counted). counted_by c.run-made.result p.count) c.self.view_is;
-      stands = it.stands;
+      runs = record {
+        fits = c.run-made.ensures.most;
+        steps = subst (λ (p : Counted). LeadsTo (office c.args.plan.now) c.args.marker c.run-made.result (record { attempt = p.attempt; words = c.args.words.now }) (record { attempt = attempt_at c.run-made.new.program; words = c.run-made.new.words })) c.self.view_is it.steps;
+        count = c.run-made.ensures.count ∙ ap (λ (p : Counted). counted_by c.run-made.result p.count) c.self.view_is;
+        stands = it.stands;
+      };
+      far = subst (λ (p : Counted). GoesFarEnough (office c.args.plan.now).lock_word c.run-made.new.words c.args.most c.run-made.result p.attempt.phase c.run-made.new.program.phase) c.self.view_is c.run-made.ensures.far;
     }
