@@ -6,11 +6,16 @@
 //!     /tmp/plain_steps lone CALLS            one marker, one call after another
 //!     /tmp/plain_steps live CALLS MARKERS    so many threads that dial and as many that complete calls,
 //!                                            with three calls under way at once at most
+//!     /tmp/plain_steps replay < ROWS         what `crossbar5 replay` writes for jobs that are done whole, one
+//!                                            after another, on words that no threads share
 //!
 //! A job is one function that makes its steps as it comes to them; it can't be stopped between two of them,
 //! as the simulator's can.
 
+use std::cell::Cell;
 use std::collections::VecDeque;
+use std::fmt;
+use std::io::{self, Read, Write};
 use std::sync::atomic::{AtomicU64, Ordering::SeqCst};
 use std::sync::{Condvar, Mutex};
 use std::time::Instant;
@@ -47,6 +52,12 @@ struct Place {
     appearance: u64,
 }
 
+impl fmt::Display for Line {
+    fn fmt(&self, f: &mut fmt::Formatter) -> fmt::Result {
+        write!(f, "{}{}{:02}", self.frame, self.switch, self.x)
+    }
+}
+
 #[derive(Clone, Copy)]
 struct Path {
     line: Line,
@@ -54,12 +65,26 @@ struct Path {
     place: Place,
 }
 
+impl fmt::Display for Path {
+    fn fmt(&self, f: &mut fmt::Formatter) -> fmt::Result {
+        let Place {
+            frame,
+            switch,
+            appearance,
+        } = self.place;
+        write!(
+            f,
+            "{}-{}-{frame}{switch}{appearance}",
+            self.line, self.channel
+        )
+    }
+}
+
 #[derive(Clone, Copy)]
 struct Call {
     line: Line,
 }
 
-#[allow(dead_code)]
 enum End {
     DialTone(Path),
     Connected(Path),
@@ -70,7 +95,6 @@ enum End {
     NoCall,
 }
 
-#[allow(dead_code)]
 struct Record {
     turn: u64,
     marker: u64,
@@ -120,24 +144,74 @@ fn find(word: u64, width: usize, value: u64) -> Option<usize> {
     (0..10).find(|field| word >> (width * field) & mask == value)
 }
 
+/// A word by itself, or one that threads share.
+trait Word {
+    fn load(&self) -> u64;
+    fn or(&self, bits: u64) -> u64;
+    fn and(&self, mask: u64);
+    fn add_one(&self) -> u64;
+    fn exchange(&self, expected: u64, new: u64) -> Result<u64, u64>;
+}
+
+impl Word for AtomicU64 {
+    fn load(&self) -> u64 {
+        self.load(SeqCst)
+    }
+    fn or(&self, bits: u64) -> u64 {
+        self.fetch_or(bits, SeqCst)
+    }
+    fn and(&self, mask: u64) {
+        self.fetch_and(mask, SeqCst);
+    }
+    fn add_one(&self) -> u64 {
+        self.fetch_add(1, SeqCst)
+    }
+    fn exchange(&self, expected: u64, new: u64) -> Result<u64, u64> {
+        self.compare_exchange(expected, new, SeqCst, SeqCst)
+    }
+}
+
+impl Word for Cell<u64> {
+    fn load(&self) -> u64 {
+        self.get()
+    }
+    fn or(&self, bits: u64) -> u64 {
+        self.replace(self.get() | bits)
+    }
+    fn and(&self, mask: u64) {
+        self.set(self.get() & mask);
+    }
+    fn add_one(&self) -> u64 {
+        self.replace(self.get() + 1)
+    }
+    fn exchange(&self, expected: u64, new: u64) -> Result<u64, u64> {
+        let found = self.get();
+        if found != expected {
+            return Err(found);
+        }
+        self.set(new);
+        Ok(found)
+    }
+}
+
 struct PutOff;
 
 /// A marker's attempt: what it holds, on these words.
-struct Attempt<'a> {
-    words: &'a [AtomicU64],
+struct Attempt<'a, W> {
+    words: &'a [W],
     marker: u64,
     held: Vec<Conn>,
     read: Vec<(usize, u64)>,
     steps: u64,
 }
 
-impl Attempt<'_> {
+impl<W: Word> Attempt<'_, W> {
     fn judge(&self, word: u64) -> bool {
         word & 63 == 0 && word >> 8 & ((1 << self.marker) - 1) == 0
     }
 
     fn put_off(&mut self, conn: Conn) -> PutOff {
-        self.words[conn.word()].fetch_and(!(1 << (8 + self.marker)), SeqCst);
+        self.words[conn.word()].and(!(1 << (8 + self.marker)));
         self.steps += 1;
         self.free_all();
         self.read.clear();
@@ -146,7 +220,7 @@ impl Attempt<'_> {
 
     fn free_all(&mut self) {
         for conn in self.held.drain(..) {
-            self.words[conn.word()].fetch_and(!63, SeqCst);
+            self.words[conn.word()].and(!63);
             self.steps += 1;
         }
     }
@@ -157,19 +231,14 @@ impl Attempt<'_> {
         }
         let bit = 1 << (8 + self.marker);
         let word = &self.words[conn.word()];
-        let mut expected = word.fetch_or(bit, SeqCst) | bit;
+        let mut expected = word.or(bit) | bit;
         self.steps += 1;
         loop {
             if !self.judge(expected) {
                 return Err(self.put_off(conn));
             }
             self.steps += 1;
-            match word.compare_exchange(
-                expected,
-                expected & !bit | (self.marker + 1),
-                SeqCst,
-                SeqCst,
-            ) {
+            match word.exchange(expected, expected & !bit | (self.marker + 1)) {
                 Ok(_) => {
                     self.held.push(conn);
                     return Ok(());
@@ -184,24 +253,24 @@ impl Attempt<'_> {
             return *value;
         }
         self.steps += 1;
-        let value = self.words[word].load(SeqCst);
+        let value = self.words[word].load();
         self.read.push((word, value));
         value
     }
 
     fn turn(&mut self) -> u64 {
         self.steps += 1;
-        self.words[452].fetch_add(1, SeqCst)
+        self.words[452].add_one()
     }
 
     fn or(&mut self, word: usize, bits: u64) {
         self.steps += 1;
-        self.words[word].fetch_or(bits, SeqCst);
+        self.words[word].or(bits);
     }
 
     fn and(&mut self, word: usize, mask: u64) {
         self.steps += 1;
-        self.words[word].fetch_and(mask, SeqCst);
+        self.words[word].and(mask);
     }
 
     fn close(&mut self, path: &Path) {
@@ -411,7 +480,7 @@ impl Attempt<'_> {
     }
 }
 
-fn attempt(words: &[AtomicU64], marker: u64) -> Attempt<'_> {
+fn attempt<W: Word>(words: &[W], marker: u64) -> Attempt<'_, W> {
     Attempt {
         words,
         marker,
@@ -586,12 +655,107 @@ fn lone(calls: usize) {
     );
 }
 
+/// A job as a row has it.
+#[derive(Clone, Copy)]
+struct Asked<'a> {
+    job_no: u32,
+    kind: u8,
+    line: Line,
+    digits: &'a str,
+}
+
+fn line_of(text: &str) -> Option<Line> {
+    let number: usize = text.parse().ok()?;
+    (text.len() == 4).then_some(Line {
+        frame: number / 1000,
+        switch: number / 100 % 10,
+        x: (number % 100) as u64,
+    })
+}
+
+fn job_of<'a>(number: &str, kind: &str, operand: &'a str) -> Option<Asked<'a>> {
+    let (line, digits) = operand.split_once(' ').unwrap_or((operand, "-"));
+    Some(Asked {
+        job_no: number.parse().ok()?,
+        kind: "DCR".find(kind)? as u8,
+        line: line_of(line)?,
+        digits,
+    })
+}
+
+fn write_record(out: &mut Vec<u8>, job: &Asked, record: &Record) -> io::Result<()> {
+    let kind = ["D", "C", "R"][usize::from(job.kind)];
+    let Record {
+        turn,
+        marker,
+        job_no,
+        end,
+    } = record;
+    write!(
+        out,
+        "{turn},{job_no},{marker},{kind},{},{},",
+        job.line, job.digits
+    )?;
+    match end {
+        End::DialTone(path) => writeln!(out, "DIALTONE,1,{path},-"),
+        End::Connected(path) => writeln!(out, "CONNECTED,1,{path},-"),
+        End::Released(path) => writeln!(out, "RELEASED,-,{path},-"),
+        End::LineBusy => writeln!(out, "LINEBUSY,-,-,-"),
+        End::Busy if job.kind == 0 => writeln!(out, "NOREGISTER,-,-,-"),
+        End::Busy => writeln!(out, "TRUNKSBUSY,-,-,-"),
+        End::NoPath => writeln!(out, "NOPATH,-,-,-"),
+        End::NoCall => writeln!(out, "NOCALL,-,-,-"),
+    }
+}
+
+/// Rows that assign jobs to 48 markers, and have them done whole.
+fn replay(rows: &str) -> Option<Vec<u8>> {
+    let plan = example();
+    let words: Vec<Cell<u64>> = (0..453).map(|_| Cell::new(0)).collect();
+    let mut markers: Vec<_> = (0..48).map(|k| (attempt(&words, k), None)).collect();
+    let mut out = Vec::new();
+    let mut paths = 0;
+    for row in rows.lines() {
+        let mut fields = row.split(',');
+        let verb = fields.next()?;
+        let marker: usize = fields.next()?.parse().ok()?;
+        let (own, job) = markers.get_mut(marker)?;
+        match verb {
+            "J" => *job = Some(job_of(fields.next()?, fields.next()?, fields.next()?)?),
+            "S" => {
+                let _count: u32 = fields.next()?.parse().ok()?;
+                let Some(asked) = job.take() else { continue };
+                let record = own.do_job(&plan, asked.kind, asked.line, asked.job_no);
+                match record.end {
+                    End::DialTone(_) => paths += 1,
+                    End::Released(_) => paths -= 1,
+                    _ => {}
+                }
+                write_record(&mut out, &asked, &record).ok()?;
+            }
+            _ => return None,
+        }
+    }
+    writeln!(out, "PATHS,{paths}\nCLOSED,{}", 4 * paths).ok()?;
+    Some(out)
+}
+
+fn replay_all() -> io::Result<()> {
+    let mut rows = String::new();
+    io::stdin().read_to_string(&mut rows)?;
+    match replay(&rows) {
+        Some(out) => io::stdout().write_all(&out),
+        None => Err(io::ErrorKind::InvalidData.into()),
+    }
+}
+
 fn main() {
     let words: Vec<String> = env::args().collect();
     let number = |at: usize, or: usize| words.get(at).and_then(|w| w.parse().ok()).unwrap_or(or);
     match words.get(1).map(String::as_str) {
         Some("lone") => lone(number(2, 10_000)),
         Some("live") => live(number(2, 10_000), number(3, 1) as u64, number(4, 3) as u64),
+        Some("replay") => replay_all().unwrap(),
         _ => println!("usage: plain lone CALLS | live CALLS MARKERS UNDER_WAY"),
     }
 }

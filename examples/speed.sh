@@ -1,10 +1,12 @@
 #!/usr/bin/env bash
 # Makes the traffic that docs/SPEED.md speaks of, has the built program replay it or do its calls, and prints
-# for each the least and the median milliseconds of 31 whole processes: speed.sh [PROGRAM]
+# for each the least and the median milliseconds of 31 whole processes: speed.sh [PROGRAM [PLAIN]]
+# PLAIN is examples/plain_steps.rs, built as it says: the same jobs in ordinary Rust.
 set -euo pipefail
 
 root=$(cd "$(dirname "$(readlink -f "${BASH_SOURCE[0]}")")/.." && pwd)
 program=${1:-$root/crates/crossbar5_program/out/crossbar5_program}
+plain=${2:-}
 [[ -x $program ]] || { echo "speed.sh: $program isn't built; bin/crossbar5 --version builds it" >&2; exit 1; }
 folder=$(mktemp -d)
 trap 'rm -r "$folder"' EXIT
@@ -20,6 +22,41 @@ jobs() {
     }'
 }
 
+# A plan with as much as a plan may have: 16 groups of 40 members, 3,000 numbers, 64 codes, 100 faults.
+full_plan() {
+    printf 'version = 2\ngroups = [\n'
+    for ((g = 0; g < 16; g++)); do
+        if ((g == 0)); then printf '  "G0 register'; elif ((g < 4)); then printf '  "G%d intra' "$g"; else printf '  "G%d outgoing' "$g"; fi
+        for ((k = 0; k < 40; k++)); do
+            if ((g == 0)); then printf ' %03d' "$k"
+            elif ((g < 4)); then printf ' %03d-%03d' $((80 * g - 40 + 2 * k)) $((80 * g - 39 + 2 * k))
+            else printf ' %03d' $((120 + 40 * g + k)); fi
+        done
+        echo '",'
+    done
+    printf ']\nnumbers = [\n'
+    seq 0 2999 | awk '{ printf "  \"%04d %d%d%d%d\",\n", $1, $1 % 10, int($1 / 10) % 10, int($1 / 100) % 6, $1 / 600 }'
+    printf ']\ncodes = [\n'
+    for ((c = 0; c < 8; c++)); do printf '  "%03d G1 G2 G3",\n' "$c"; done
+    for ((c = 8; c < 64; c++)); do
+        printf '  "%03d G%d G%d G%d G%d",\n' "$c" $((4 + c % 12)) $((4 + (c + 1) % 12)) $((4 + (c + 2) % 12)) $((4 + (c + 3) % 12))
+    done
+    printf ']\nfaults = ['
+    for ((k = 0; k < 100; k++)); do printf '"JU%d%d%d", ' $((k % 10)) $((k / 10)) $((k * 3 % 10)); done
+    echo ']'
+}
+
+# Calls under it, every other one inside the office, by 48 markers in turn.
+full_jobs() {
+    seq 0 9998 | awk '{
+        call = int($1 / 3); m = call % 48; k = $1 % 3
+        line = call % 10 "" int(call / 10) % 10 "" int(call / 100) % 6 "" int(call / 600) % 5
+        digits = call % 2 ? sprintf("%03d%04d", 8 + call % 56, call) : sprintf("%03d%04d", call % 8, (call * 7 + 1) % 3000)
+        print "J," m "," $1 "," (k == 0 ? "D," line : k == 1 ? "C," line " " digits : "R," line)
+        print "S," m ",128,,"
+    }'
+}
+
 seq 1 9999 | awk '{ print "J,0," $1 ",D,3041"; print "S,0,96,," }' >"$folder/dials.csv"
 seq 1 9999 | awk '{ print "J,0," $1 "," ($1 % 2 ? "D" : "R") ",3041"; print "S,0,96,," }' >"$folder/tones.csv"
 for ((row = 0; row < 100000; row++)); do echo S,0,9999,,; done >"$folder/idle.csv"
@@ -27,30 +64,40 @@ for ((row = 0; row < 100000; row++)); do echo S,0,9999,,; done >"$folder/idle.cs
     printf 'J,0,1,D,3041\nS,0,4,,\nJ,1,2,D,3052\n'
     for ((row = 0; row < 200; row++)); do echo S,1,9999,,; done
 } >"$folder/wait.csv"
+{
+    printf 'J,1,2,D,3052\nS,1,128,,\nJ,0,1,D,4000\nS,0,6,,\nJ,1,3,C,3052 0000001\n'
+    for ((row = 0; row < 200; row++)); do echo S,1,9999,,; done
+} >"$folder/wait_further.csv"
+full_plan >"$folder/full.toml"
+full_jobs >"$folder/full.csv"
 jobs 2 >"$folder/calls.csv"
 jobs 48 >"$folder/calls48.csv"
 seq 0 9999 | awk '{ print "C," $1 "," $1 % 10 int($1 / 10) % 10 int($1 / 100) % 6 int($1 / 600) % 5 ",5551234,R" }' \
     >"$folder/live.csv"
 
-# Measures 31 runs of the program with a file and words.
+# Measures 31 runs of a program with a file and words, and says so in these.
 measure() {
-    local file=$1 start end k
-    shift
+    local what=$1 of=$2 file=$3 start end k
+    shift 3
     for ((k = 0; k < 31; k++)); do
         start=$(date +%s%N)
-        "$program" "$@" <"$folder/$file" >"$folder/out" || true
+        "$of" "$@" <"$folder/$file" >"$folder/out" || true
         end=$(date +%s%N)
         echo $(((end - start) / 100000))
-    done | sort -n | awk -v what="$file, $*" '{ time[NR] = $1 }
+    done | sort -n | awk -v what="$file$what" '{ time[NR] = $1 }
         END { printf "%5.1f, %5.1f ms  %s\n", time[1] / 10, time[16] / 10, what }'
 }
 
+full=(--plan "$folder/full.toml")
+all=(--markers "$(printf 'X%.0s' {1..48})")
 grep -m 1 "model name" /proc/cpuinfo || true
-measure dials.csv replay
-measure tones.csv replay
-measure idle.csv replay
-measure wait.csv replay
-measure calls.csv replay
-measure calls48.csv replay --markers "$(printf 'X%.0s' {1..48})"
-measure live.csv live
-measure live.csv live --dial 2 --completing 2
+for file in dials.csv tones.csv idle.csv calls.csv wait.csv; do measure "" "$program" $file replay; done
+measure ", 48 markers" "$program" calls48.csv replay "${all[@]}"
+measure ", 48 markers, the full plan" "$program" full.csv replay "${all[@]}" "${full[@]}"
+measure ", the full plan" "$program" wait.csv replay "${full[@]}"
+measure ", the full plan" "$program" wait_further.csv replay "${full[@]}"
+measure "" "$program" live.csv live
+measure ", two markers of each kind" "$program" live.csv live --dial 2 --completing 2
+if [[ -n $plain ]]; then
+    for file in dials tones idle calls calls48; do measure ", ordinary Rust" "$plain" $file.csv replay; done
+fi
