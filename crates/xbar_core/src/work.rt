@@ -10,7 +10,7 @@ ghost use Rattle.xbar_jobs.specs.Attempt.{Attempt, counted, fresh, next_step, wi
 ghost use Rattle.xbar_jobs.specs.Office.{office};
 ghost use Rattle.xbar_jobs.specs.OnWords.{words_after};
 ghost use Rattle.xbar_jobs.specs.Standing.{Stands};
-ghost use Rattle.xbar_core.specs.AtWork.{gives_up, told_of};
+ghost use Rattle.xbar_core.specs.AtWork.{gives_up as gives_up_of, told_of};
 ghost use Rattle.xbar_core.specs.Moves.{event_of, own_record, added_record};
 ghost use Rattle.xbar_core.specs.Standing.{waits_in};
 
@@ -25,6 +25,22 @@ use xbar_plan::Plan;
 pub struct Work {
     job_no: u32,
     program: Program,
+}
+
+/// Whether a step withdraws a request, or frees a connector.
+pub fn gives_up(step: Step) -> bool
+    ensures { result ≡ gives_up_of step }
+{
+    match step {
+        Step::Withdraw(_) | Step::Free(_) => true,
+        Step::Request(_)
+        | Step::Seize(_, _)
+        | Step::Test(_)
+        | Step::Turn
+        | Step::Close(_, _)
+        | Step::Open(_, _)
+        | Step::Finished => false,
+    }
 }
 
 impl Work {
@@ -62,18 +78,9 @@ impl Work {
 
     /// Whether its next step withdraws a request, or frees a connector.
     pub fn is_giving_up(&self) -> bool
-        ensures { result ≡ gives_up (next_step self.now.program.attempt) }
+        ensures { result ≡ gives_up_of (next_step self.now.program.attempt) }
     {
-        match self.program.next() {
-            Step::Withdraw(_) | Step::Free(_) => true,
-            Step::Request(_)
-            | Step::Seize(_, _)
-            | Step::Test(_)
-            | Step::Turn
-            | Step::Close(_, _)
-            | Step::Open(_, _)
-            | Step::Finished => false,
-        }
+        gives_up(self.program.next())
     }
 
     /// Begins the job anew, once all that it holds is given back. Past the turn nothing changes.

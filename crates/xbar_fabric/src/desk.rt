@@ -3,6 +3,7 @@ ghost use Rattle.turns.specs.Attempt.{begin_with};
 ghost use Rattle.turns.specs.World.{Does};
 ghost use Rattle.xbar_office.specs.Legal.{IsJob};
 ghost use Rattle.xbar_jobs.specs.Jobs.{first_conn};
+ghost use Rattle.xbar_core.specs.AtWork.{gives_up_at};
 ghost use Rattle.xbar_core.specs.Exchange.{is_idle as is_idle_work};
 ghost use Rattle.xbar_core.specs.Moves.{given_by, refusal_of};
 ghost use Rattle.xbar_fabric.specs.Histories.{IsHistory};
@@ -10,7 +11,7 @@ ghost use Rattle.xbar_fabric.specs.Views.{marker_of};
 
 use crate::office::Office;
 use std::marker::Model;
-use xbar_core::{AssignFault, Given, Kind};
+use xbar_core::{AssignFault, Given, Kind, gives_up};
 use xbar_office::Job;
 
 /// A marker, which a thread owns. It holds no borrow, and has a fixed size.
@@ -59,6 +60,16 @@ impl Desk {
         ensures { result ≡ is_idle_work self.now.work }
     {
         self.desk.is_idle()
+    }
+
+    /// Whether its marker's next step withdraws a request, or frees a connector.
+    pub fn is_giving_up(&self) -> bool
+        ensures { result ≡ gives_up_at self.now.work }
+    {
+        match self.desk.doing() {
+            Some((_, program)) => gives_up(program.next()),
+            None => false,
+        }
     }
 
     /// What comes of asking its marker to give back.

@@ -26,17 +26,20 @@ pub struct Worker<D: Drop, G: Drop> {
     pub steps: u64,
 }
 
-/// Makes the desk's next step, and gives the record of a job that it ends. A desk that is refused or
-/// put off lets other threads run.
+/// Makes the desk's next step, and gives the record of a job that it ends. A desk that was put off
+/// lets other threads run once it has given back all that it held: nobody waits for it then.
 pub fn make_step(fabric: &Fabric, desk: &mut Desk) -> Option<Record>
     requires { IsDeskOf desk.old fabric.now }
     ensures { HasStepped desk.old desk.new result }
 {
+    let was_giving_up = desk.is_giving_up();
     match desk.advance(fabric) {
         Progress::Finished(record) => Some(record),
-        Progress::Idle | Progress::Moved => None,
-        Progress::Refused { .. } | Progress::Preferred(_) => {
-            thread::yield_now();
+        Progress::Refused { .. } | Progress::Preferred(_) => None,
+        Progress::Idle | Progress::Moved => {
+            if was_giving_up && !desk.is_giving_up() {
+                thread::yield_now();
+            }
             None
         }
     }
