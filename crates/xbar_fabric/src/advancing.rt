@@ -33,18 +33,20 @@ fn moved(step: Step, answer: Answer) -> Event
     }
 }
 
-/// A job's record, as the office has it.
-fn record_of(told: Told<Job, Reply>) -> Record
+/// A job has ended; its record is as the office has it. Not inlined, so that a step that ends none
+/// carries no record.
+#[inline(never)]
+fn finished(told: Told<Job, Reply>) -> Event
     requires { told.number < 2 ^ 32 }
-    ensures { result ≡ entered (told_record told) }
+    ensures { result ≡ Event.Finished (entered (told_record told)) }
 {
-    Record {
+    Event::Finished(Record {
         turn: told.turn,
         marker: told.actor,
         job_no: told.number as u32,
         job: told.job,
         reply: told.reply,
-    }
+    })
 }
 
 impl Desk {
@@ -64,7 +66,7 @@ impl Desk {
         match self.desk.advance(&fabric.room, fabric.plan) {
             desks::Progress::Idle => Event::Idle,
             desks::Progress::Moved(answer) => moved(step, answer),
-            desks::Progress::Finished(told) => Event::Finished(record_of(told)),
+            desks::Progress::Finished(told) => finished(told),
         }
     }
 

@@ -32,7 +32,7 @@ returns-clause-advanced c =
           moves plan desk.table kind desk.number desk.actor after.actor desk.seen after.seen w.in-Moved.answer step c.match-advance.result is told.1
       | in-Finished w ↦
           let told = subst (desks.HasAdvanced (office plan) desk.number desk.actor after.actor desk.seen after.seen) w.in-Finished.is advanced in
-          subst (HasAdvanced (desk_at desk.table plan kind desk.number desk.actor desk.seen) (desk_at desk.table plan kind desk.number after.actor after.seen)) (sym (w.result-is ∙ ap event.Finished w.record_of.ensures))
+          subst (HasAdvanced (desk_at desk.table plan kind desk.number desk.actor desk.seen) (desk_at desk.table plan kind desk.number after.actor after.seen)) (sym (w.result-is ∙ w.finished.ensures))
           (finishes_job plan desk.table kind desk.number desk.actor after.actor desk.seen after.seen told.0 told.1 (desks.told_record w.in-Finished.told) c.every_plan_is_lawful.ensures told.2 told.3)
     ] in
     let setting : c.self.inside.desk.setting ≡ c.fabric.inside.plan.now = ap (λ d. d.plan) c.self.view_is ∙ c.requires.plan_is ∙ sym (ap (λ f. f.plan) c.fabric.view_is) in
