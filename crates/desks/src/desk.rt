@@ -100,6 +100,7 @@ impl<F: Jobs> Desk<F> {
     }
 
     /// Makes the next step of its job, one atomic operation, and tells what came of it.
+    #[inline(always)]
     pub fn advance(&mut self, room: &Room<F>, setting: &F::Setting) -> Progress<F::Job, F::Reply>
         requires { IsDeskOf self.old room.now setting.now }
         ensures same { self.new

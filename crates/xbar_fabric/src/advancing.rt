@@ -52,6 +52,7 @@ fn finished(told: Told<Job, Reply>) -> Event
 impl Desk {
     /// Makes its marker's next step, one atomic operation on the shared words, and tells what came
     /// of it. An idle marker makes none. It always succeeds, and takes no memory.
+    #[inline(always)]
     pub fn advance(&mut self, fabric: &Fabric) -> Event
         requires { IsDeskOf self.old fabric.now }
         ensures same { self.new ≡ record (self.old) { work = self.new.work; seen = self.new.seen } }

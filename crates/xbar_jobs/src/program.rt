@@ -48,6 +48,7 @@ fn effects_are(attempt: &AttemptOf<Offices, 42, 19>)
 
 /// The step that makes what an attempt does next.
 #[tactic(auto, using(crate::proofs::Programs::act_step))]
+#[inline(always)]
 fn step_by(next: attempts::Step<Conn, Effect>) -> Step
     requires { IsAct (act_of next) }
     ensures step { result ≡ step_of_act (act_of next) }
@@ -67,6 +68,7 @@ fn step_by(next: attempts::Step<Conn, Effect>) -> Step
 
 /// The step that an attempt of the office does next.
 #[tactic(auto, using(crate::proofs::Programs::made_range))]
+#[inline(always)]
 fn step_of(attempt: &AttemptOf<Offices, 42, 19>) -> Step
     requires { IsAttempt (attempt_at attempt.now) }
     ensures { IsNextStep (attempt_at attempt.now) result }
