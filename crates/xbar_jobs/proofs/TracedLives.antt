@@ -7,6 +7,7 @@ use Rattle.xbar_equip.specs.Len.{Line}
 use Rattle.xbar_equip.specs.declared.path.Path.{Path}
 use Rattle.xbar_plan.specs.Tables.{Tables}
 use Rattle.xbar_jobs.specs.Completing.{complete_from, complete_steps}
+use Rattle.xbar_jobs.specs.Releasing.{release_from, release_steps}
 use Rattle.xbar_jobs.specs.Script.{Course, live}
 use Rattle.xbar_jobs.specs.Tracing.{HasTraced, approach, trace}
 use Rattle.xbar_jobs.specs.declared.party.Party.{Party}
@@ -16,6 +17,13 @@ use Rattle.xbar_jobs.proofs.Lives.{comes, found_now, goes_on, grown, known}
 pub from_there : (plan : Tables) (line : Line) (dialled : ℕ) (calling : Party) (own : Option Path) (course : Course) (words : List ℕ) → HasTraced line calling own course.seen → live [] (complete_steps plan line dialled) course words ≡ live [] (complete_from plan calling dialled own) course words
 unfolding complete_steps
 from_there plan line dialled calling own course words has =
+    goes_on [] (approach line) _ course course words words calling (known (approach line) course words calling has.approached)
+    ∙ goes_on [] (trace calling) _ course course words words own (known (trace calling) course words own has.traced)
+
+-- nor in a release
+pub released_there : (plan : Tables) (line : Line) (calling : Party) (own : Option Path) (course : Course) (words : List ℕ) → HasTraced line calling own course.seen → live [] (release_steps plan line) course words ≡ live [] (release_from plan own) course words
+unfolding release_steps
+released_there plan line calling own course words has =
     goes_on [] (approach line) _ course course words words calling (known (approach line) course words calling has.approached)
     ∙ goes_on [] (trace calling) _ course course words words own (known (trace calling) course words own has.traced)
 

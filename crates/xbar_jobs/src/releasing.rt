@@ -3,12 +3,14 @@
 ghost use Rattle.std.specs.Prelude.{◌≡◌, []};
 ghost use Rattle.xbar_jobs.specs.Releasing.{release_from as release_from_script, release_steps, trace_other as trace_other_script};
 ghost use Rattle.xbar_jobs.specs.Script.{live};
+ghost use Rattle.xbar_jobs.specs.Tracing.{Knows};
 
 use crate::decision::Decision;
 use crate::kinds::{Seen, Wanted};
 use crate::leave::Leave;
 use crate::seen::require_held;
 use crate::tracing::{approach, trace, trace_back};
+use crate::way::Way;
 use xbar_equip::{Conn, Len, Path, Ten};
 use xbar_office::End;
 use xbar_plan::Plan;
@@ -54,7 +56,7 @@ fn release_from(
     Ok(Decision::released(Leave::of(own, &other, &found)))
 }
 
-/// Goes through a release, to its decision or to what is wanted first.
+/// Goes through a release, from where the walks before have come to.
 #[tactic(auto, using(attempts::proofs::LiveWalks::live_bind), unfolding(crate::specs::Releasing::release_steps))]
 // Not inlined into every walk: a dial tone job would pay for its locals.
 #[inline(never)]
@@ -63,11 +65,18 @@ pub fn release(
     seen: &mut Seen,
     words: &mut [u64],
     line: Len,
+    way: &mut Way,
 ) -> Result<Decision, Wanted>
-    ensures { record { found = result; course = seen.new; words = words.new }
+    requires { Knows line way.old seen.old.seen }
+    ensures walk { record { found = result; course = seen.new; words = words.new }
         ≡ live [] (release_steps plan.now line) seen.old words.old }
+    ensures knows { Knows line way.new seen.new.seen }
 {
-    let party = approach(seen, words, &[], line)?;
-    let own = trace(seen, words, &party)?;
+    if let Way::Traced { own, .. } = *way {
+        return release_from(plan, seen, words, &own);
+    }
+    let calling = approach(seen, words, &[], line)?;
+    let own = trace(seen, words, &calling)?;
+    *way = Way::Traced { calling, own };
     release_from(plan, seen, words, &own)
 }

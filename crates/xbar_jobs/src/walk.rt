@@ -54,7 +54,7 @@ fn follow(
     match job {
         Job::Dial(line) => dial(plan, seen, words, *line),
         Job::Complete(line, dialled) => complete(plan, seen, words, *line, *dialled, way),
-        Job::Release(line) => release(plan, seen, words, *line),
+        Job::Release(line) => release(plan, seen, words, *line, way),
     }
 }
 
