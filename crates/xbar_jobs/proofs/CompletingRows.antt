@@ -32,7 +32,7 @@ use Rattle.xbar_jobs.specs.declared.decision.Decision.{Decision}
 use Rattle.xbar_jobs.specs.declared.leave.Leave.{Leave}
 use Rattle.xbar_jobs.specs.declared.party.Party.{Party}
 use Rattle.xbar_jobs.specs.declared.way.Way.{Way}
-use Rattle.xbar_jobs.specs.declared.way.Way.TheVariants.{Begun, Traced}
+use Rattle.xbar_jobs.specs.declared.way.Way.TheVariants.{Begun, Approached, Traced}
 use Rattle.xbar_jobs.proofs.JunctorRows.{BeginsWith, KeepsRows, connect_rows, dial_rows, row_goes_on, rows_bind}
 
 begins_read_with : {A : Type 0} (number : ℕ) (change : ℕ → ℕ → ℕ) (script : Script A) → BeginsWith number script → BeginsWith number (read_with change script)
@@ -84,6 +84,7 @@ still_traced line calling own seen more extends has = record {
 
 pub known_on : (line : Line) (way : Way) (seen more : Seen) → Extends conn_eq seen more → Knows line way seen → Knows line way more
 known_on line Begun seen more extends knows = tt
+known_on line (Approached calling) seen more extends knows = gone_through conn_eq seen more (approach line) calling extends knows
 known_on line (Traced calling own) seen more extends knows = still_traced line calling own seen more extends knows
 
 -- what is left of a completing job, once its own path was traced
@@ -150,6 +151,7 @@ goes_in_row : (plan : Tables) (laws : IsLawful plan) (seen : Seen) (job : Job) (
 unfolding script
 goes_in_row plan laws seen (Dial line) way word next range rows knows is unread wants = row_goes_on seen word next _ (dial_rows plan line range) is unread wants
 goes_in_row plan laws seen (Complete line dialled) Begun word next range rows knows is unread wants = absurd rows
+goes_in_row plan laws seen (Complete line dialled) (Approached calling) word next range rows knows is unread wants = absurd rows
 goes_in_row plan laws seen (Complete line dialled) (Traced calling own) word next range rows knows is unread wants = traced_goes_on plan laws seen line dialled word next calling own is unread knows wants
 goes_in_row plan laws seen (Release line) way word next range rows knows is unread wants = absurd rows
 

@@ -17,7 +17,7 @@ use Rattle.xbar_jobs.specs.Tracing.{approach, channel_of}
 use Rattle.xbar_jobs.specs.declared.decision.Decision.{Decision}
 use Rattle.xbar_jobs.specs.declared.party.Party.{Party}
 use Rattle.xbar_jobs.specs.declared.way.Way.{Way}
-use Rattle.xbar_jobs.specs.declared.way.Way.TheVariants.{Begun, Traced}
+use Rattle.xbar_jobs.specs.declared.way.Way.TheVariants.{Begun, Approached, Traced}
 
 -- a line that has a path is busy; another gets a register
 unfoldable pub serve_idle_line : Tables → Party → Option ℕ → Script Decision
@@ -50,5 +50,6 @@ script plan (Release line) = release_steps plan line
 abbrev pub TestsRows : Job → Way → Type 0
 TestsRows (Dial line) way = ⊤
 TestsRows (Complete line dialled) Begun = ⊥
+TestsRows (Complete line dialled) (Approached calling) = ⊥
 TestsRows (Complete line dialled) (Traced calling own) = ⊤
 TestsRows (Release line) way = ⊥

@@ -11,7 +11,7 @@ use Rattle.turns.specs.Script.{Ends, ◌>>=◌, ◌>>◌, seize}
 use Rattle.xbar_jobs.specs.Script.{Script, Seen, test, walk}
 use Rattle.xbar_jobs.specs.declared.party.Party.{Party}
 use Rattle.xbar_jobs.specs.declared.way.Way.{Way}
-use Rattle.xbar_jobs.specs.declared.way.Way.TheVariants.{Begun, Traced}
+use Rattle.xbar_jobs.specs.declared.way.Way.TheVariants.{Begun, Approached, Traced}
 
 -- approach a line: seize its frame and test its line switch
 unfoldable pub approach : Line → Script Party
@@ -58,6 +58,7 @@ pub record HasTraced (line : Line) (calling : Party) (own : Option Path) (seen :
 -- what walks know by how far those before them have come
 abbrev pub Knows : Line → Way → Seen → Type 0
 Knows line Begun seen = ⊤
+Knows line (Approached calling) seen = walk seen (approach line) ≡ Ok calling
 Knows line (Traced calling own) seen = HasTraced line calling own seen
 
 -- a trunk place's path, once channel, line link frame and line switch are known

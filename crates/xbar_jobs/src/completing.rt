@@ -17,7 +17,7 @@ use crate::kinds::{Seen, Wanted};
 use crate::leave::Leave;
 use crate::party::{CallParties, Party};
 use crate::seen::require_held;
-use crate::tracing::{approach, trace};
+use crate::tracing::approach;
 use crate::way::Way;
 use xbar_equip::{Conn, Dialled, DirNo, Len, Path};
 use xbar_office::{Aim, End, leads_inside};
@@ -209,11 +209,7 @@ pub fn complete(
         ≡ live [] (complete_steps plan.now line dialled) seen.old words.old }
     ensures knows { Knows line way.new seen.new.seen }
 {
-    if let Way::Traced { calling, own } = *way {
-        return complete_from(plan, seen, words, &calling, dialled, &own);
-    }
-    let calling = approach(seen, words, &[], line)?;
-    let own = trace(seen, words, &calling)?;
-    *way = Way::Traced { calling, own };
+    let calling = way.approach(seen, words, line)?;
+    let own = way.trace(seen, words, line, &calling)?;
     complete_from(plan, seen, words, &calling, dialled, &own)
 }

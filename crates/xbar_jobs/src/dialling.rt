@@ -3,12 +3,13 @@
 ghost use Rattle.std.specs.Prelude.{◌≡◌, []};
 ghost use Rattle.xbar_jobs.specs.Jobs.{dial_steps, serve_idle_line as serve_idle_line_script};
 ghost use Rattle.xbar_jobs.specs.Script.{live};
+ghost use Rattle.xbar_jobs.specs.Tracing.{Knows};
 
 use crate::connecting::connect;
 use crate::decision::Decision;
 use crate::kinds::{Seen, Wanted};
 use crate::party::{CallParties, Party};
-use crate::tracing::approach;
+use crate::way::Way;
 use xbar_equip::Len;
 use xbar_office::{Aim, End};
 use xbar_plan::Plan;
@@ -34,12 +35,20 @@ fn serve_idle_line(
     connect(plan, seen, words, &[], Aim::DialTone, &parties, &groups)
 }
 
-/// Goes through a dial tone job, to its decision or to what is wanted first.
+/// Goes through a dial tone job, from where the walks before have come to.
 #[tactic(auto, using(attempts::proofs::LiveWalks::live_bind), unfolding(crate::specs::Jobs::dial_steps))]
-pub fn dial(plan: &Plan, seen: &mut Seen, words: &mut [u64], line: Len) -> Result<Decision, Wanted>
-    ensures { record { found = result; course = seen.new; words = words.new }
+pub fn dial(
+    plan: &Plan,
+    seen: &mut Seen,
+    words: &mut [u64],
+    line: Len,
+    way: &mut Way,
+) -> Result<Decision, Wanted>
+    requires { Knows line way.old seen.old.seen }
+    ensures walk { record { found = result; course = seen.new; words = words.new }
         ≡ live [] (dial_steps plan.now line) seen.old words.old }
+    ensures knows { Knows line way.new seen.new.seen }
 {
-    let calling = approach(seen, words, &[], line)?;
+    let calling = way.approach(seen, words, line)?;
     serve_idle_line(plan, seen, words, &calling, calling.channel())
 }

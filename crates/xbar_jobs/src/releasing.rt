@@ -9,7 +9,7 @@ use crate::decision::Decision;
 use crate::kinds::{Seen, Wanted};
 use crate::leave::Leave;
 use crate::seen::require_held;
-use crate::tracing::{approach, trace, trace_back};
+use crate::tracing::trace_back;
 use crate::way::Way;
 use xbar_equip::{Conn, Len, Path, Ten};
 use xbar_office::End;
@@ -72,11 +72,7 @@ pub fn release(
         ≡ live [] (release_steps plan.now line) seen.old words.old }
     ensures knows { Knows line way.new seen.new.seen }
 {
-    if let Way::Traced { own, .. } = *way {
-        return release_from(plan, seen, words, &own);
-    }
-    let calling = approach(seen, words, &[], line)?;
-    let own = trace(seen, words, &calling)?;
-    *way = Way::Traced { calling, own };
+    let calling = way.approach(seen, words, line)?;
+    let own = way.trace(seen, words, line, &calling)?;
     release_from(plan, seen, words, &own)
 }

@@ -52,7 +52,7 @@ fn follow(
     ensures knows { Knows (job_line job.now) way.new seen.new.seen }
 {
     match job {
-        Job::Dial(line) => dial(plan, seen, words, *line),
+        Job::Dial(line) => dial(plan, seen, words, *line, way),
         Job::Complete(line, dialled) => complete(plan, seen, words, *line, *dialled, way),
         Job::Release(line) => release(plan, seen, words, *line, way),
     }
@@ -85,7 +85,7 @@ fn tests_rows(job: &Job, way: &Way) -> bool
     match job {
         Job::Dial(_) => true,
         Job::Complete(_, _) => match way {
-            Way::Begun => false,
+            Way::Begun | Way::Approached { .. } => false,
             Way::Traced { .. } => true,
         },
         Job::Release(_) => false,

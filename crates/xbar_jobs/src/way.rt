@@ -1,11 +1,84 @@
+//! How far a job's walks have come.
+
+ghost use Rattle.std.specs.Prelude.{◌≡◌, Ok, []};
+ghost use Rattle.xbar_jobs.specs.Script.{live, walk};
+ghost use Rattle.xbar_jobs.specs.Tracing.{Knows, approach as approach_script, trace as trace_script};
+
+use crate::kinds::{Seen, Wanted};
 use crate::party::Party;
-use xbar_equip::Path;
+use crate::tracing::{approach, trace};
+use xbar_equip::{Len, Path};
 
 /// How far a job's walks have come: the next one goes on from there.
 #[derive(Clone, Copy, Debug, PartialEq, Eq)]
 pub enum Way {
     /// From the job's beginning.
     Begun,
-    /// The calling line's switch was read, and its own path traced, if it has one.
+    /// The calling line's switch was read.
+    Approached { calling: Party },
+    /// Its own path was traced too, if it has one.
     Traced { calling: Party, own: Option<Path> },
+}
+
+impl Way {
+    fn approached(calling: &Party) -> Self
+        ensures { result ≡ Way.Approached calling.now }
+    {
+        Way::Approached { calling: *calling }
+    }
+
+    fn traced(calling: &Party, own: &Option<Path>) -> Self
+        ensures { result ≡ Way.Traced calling.now own.now }
+    {
+        Way::Traced {
+            calling: *calling,
+            own: *own,
+        }
+    }
+
+    /// Approaches the calling line, unless walks before have.
+    pub fn approach(
+        &mut self,
+        seen: &mut Seen,
+        words: &mut [u64],
+        line: Len,
+    ) -> Result<Party, Wanted>
+        requires { Knows line self.old seen.old.seen }
+        ensures walk { record { found = result; course = seen.new; words = words.new }
+            ≡ live [] (approach_script line) seen.old words.old }
+        ensures found { walk seen.new.seen (approach_script line) ≡ result }
+        ensures knows { Knows line self.new seen.new.seen }
+    {
+        if let Way::Approached { calling } = *self {
+            return Ok(calling);
+        }
+        if let Way::Traced { calling, .. } = *self {
+            return Ok(calling);
+        }
+        let calling = approach(seen, words, &[], line)?;
+        *self = Way::approached(&calling);
+        Ok(calling)
+    }
+
+    /// Traces the calling line's own path, unless walks before have.
+    pub fn trace(
+        &mut self,
+        seen: &mut Seen,
+        words: &mut [u64],
+        line: Len,
+        calling: &Party,
+    ) -> Result<Option<Path>, Wanted>
+        requires knows { Knows line self.old seen.old.seen }
+        requires approached { walk seen.old.seen (approach_script line) ≡ Ok calling.now }
+        ensures walk { record { found = result; course = seen.new; words = words.new }
+            ≡ live [] (trace_script calling.now) seen.old words.old }
+        ensures knows { Knows line self.new seen.new.seen }
+    {
+        if let Way::Traced { own, .. } = *self {
+            return Ok(own);
+        }
+        let own = trace(seen, words, calling)?;
+        *self = Way::traced(calling, &own);
+        Ok(own)
+    }
 }

@@ -1,0 +1,32 @@
+use Rattle.std.proofs.Common.{◌≡◌, rules, Ok, Err, ap, subst, sym, ◌∙◌}
+use Rattle.std.specs.Prelude.{Option, Result}
+use Rattle.xbar_equip.specs.declared.path.Path.{Path}
+use Rattle.xbar_jobs.specs.Script.{Wanted}
+use Rattle.xbar_jobs.specs.Tracing.{Knows, trace}
+use Rattle.xbar_jobs.specs.declared.way.Way.{Way}
+use Rattle.xbar_jobs.proofs.CompletingRows.{known_on}
+use Rattle.xbar_jobs.proofs.Lives.{comes, grown}
+use Rattle.xbar_jobs.proofs.TracedLives.{traced_now, traced_there}
+use Rattle.xbar_jobs.proofs.way.Way.trace.Goals as goal
+
+pub returns-in-Traced-clause-walk : goal.returns-in-Traced-clause-walk
+returns-in-Traced-clause-walk c =
+    let has = subst (λ (way : Way). Knows c.args.line way c.args.seen.now.seen) c.in-Traced.is c.requires.knows in
+    traced_there c.args.line c.in-Traced.calling c.args.calling.now c.in-Traced.own c.args.seen.now c.args.words.now has c.requires.approached
+
+pub returns-in_err-own : goal.returns-in_err-own
+returns-in_err-own c =
+    let wanted : c.from_residual.result ≡ Err c.in_err-own.field-0.0 = search rules in
+    let walked = ap (λ (r : Result (Option Path) Wanted). comes r c.trace.new.seen c.trace.new.words) (wanted ∙ sym c.in_err-own.was) ∙ c.trace.ensures in
+    record {
+      walk = walked;
+      knows = known_on c.args.line c.args.self.now c.args.seen.now.seen c.trace.new.seen.seen (grown (trace c.args.calling.now) c.args.seen.now c.trace.new.seen c.args.words.now c.trace.new.words c.from_residual.result walked) c.requires.knows;
+    }
+
+pub returns : goal.returns
+returns c =
+    let walked = ap (λ (r : Result (Option Path) Wanted). comes r c.trace.new.seen c.trace.new.words) (sym c.in_ok-own.was) ∙ c.trace.ensures in
+    record {
+      walk = walked;
+      knows = subst (λ (way : Way). Knows c.args.line way c.trace.new.seen.seen) (sym c.traced.ensures) (traced_now c.args.line c.args.calling.now c.in_ok-own.own c.args.seen.now c.trace.new.seen c.args.words.now c.trace.new.words c.requires.approached walked);
+    }
