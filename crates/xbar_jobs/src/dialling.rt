@@ -37,6 +37,8 @@ fn serve_idle_line(
 
 /// Goes through a dial tone job, from where the walks before have come to.
 #[tactic(auto, using(attempts::proofs::LiveWalks::live_bind), unfolding(crate::specs::Jobs::dial_steps))]
+// Not inlined into every walk, as the other jobs.
+#[inline(never)]
 pub fn dial(
     plan: &Plan,
     seen: &mut Seen,
