@@ -3,8 +3,8 @@ use Rattle.std.specs.Prelude.{◌≡◌, ◌<◌, ◌≤◌, ◌-◌, ◌⊎◌,
 use Rattle.turns.specs.Seen.{Seen}
 use Rattle.turns.specs.declared.phase.Phase.{Phase}
 use Rattle.turns.specs.declared.phase.Phase.TheVariants.{Requests, Seizes, Tests, Turns, Withdraws, GivesBack, Operates}
-use Rattle.attempts.specs.Live.{LeadsTo, Moment, WantsNext, is_free}
-use Rattle.attempts.specs.Standing.{AreScripts, Program, Stands, attempt_of}
+use Rattle.attempts.specs.Live.{LeadsTo, Moment, is_free}
+use Rattle.attempts.specs.Standing.{Program, Stands, attempt_of}
 use Rattle.attempts.specs.SystemWith.{SystemWith, system_with}
 
 module _ {Lock : Type 0} (lock_word : Lock → ℕ) (words : List ℕ) where
@@ -40,11 +40,3 @@ module _ {Lock Job Reply Effect Decision Point : Type 0} (same : Lock → Lock �
     pub stands : Stands same reply_of effects_of S Knows reads seizes new
     pub far : GoesFarEnough S.lock_word after most made old.phase new.phase
     pub count : new.count ≡ old.count
-
-  -- an attempt that wants a lock or a word next may make steps by its walk, as actor k
-  pub record MayRun (Setting : Type 0) (reads seizes k : ℕ) (p : Program Lock Job Decision Point) : Type 0 where
-    pub setting : Setting
-    pub scripts : AreScripts same reply_of effects_of S Knows reads seizes
-    pub stands : Stands same reply_of effects_of S Knows reads seizes p
-    pub wants : WantsNext p.phase
-    pub actor : k < 48

@@ -1,8 +1,10 @@
-ghost use Rattle.std.specs.Prelude.{◌≡◌, ◌<◌, ◌^◌, ◌++◌, ◌∷◌, [], None, Some, length, option_copied};
+ghost use Rattle.std.specs.Prelude.{◌≡◌, ◌<◌, ◌^◌, ◌++◌, ◌∷◌, [], ℕ, IfNone, IfSome, List, None, Some, length, option_copied};
 ghost use Rattle.turns.specs.Attempt.{asked_in, rest_of, turn_in};
 ghost use Rattle.turns.specs.Script.{value_read};
 ghost use Rattle.desks.specs.Outcomes.{is_given_up as is_given_up_in};
 ghost use Rattle.attempts.specs.Counting.{count_in, counted, counted_by, has_made_none};
+ghost use Rattle.attempts.specs.Live.{WantsNext};
+ghost use Rattle.attempts.specs.Running.{GoesFarEnough};
 ghost use Rattle.attempts.specs.Taken.{gone_on};
 
 use crate::scripts::Scripts;
@@ -163,6 +165,24 @@ impl<
             Phase::Requests(lock) => Some(lock),
             Phase::Seizes(lock, _) => Some(lock),
             Phase::Tests(_)
+            | Phase::Turns
+            | Phase::Withdraws(_)
+            | Phase::GivesBack
+            | Phase::Operates(_) => None,
+        }
+    }
+
+    /// What it wants next, where nothing of that is done yet.
+    pub(crate) fn wants(&self) -> Option<Wanted<L, usize>>
+        ensures some { IfSome result (λ wanted. WantsNext self.now.phase) }
+        ensures none { IfNone result ((lock_word : L → ℕ) (words : List ℕ) (most : ℕ) →
+            GoesFarEnough lock_word words most 0 self.now.phase self.now.phase) }
+    {
+        let phase = self.phase;
+        match phase {
+            Phase::Requests(lock) => Some(Wanted::Seize(lock)),
+            Phase::Tests(word) => Some(Wanted::Test(word)),
+            Phase::Seizes(_, _)
             | Phase::Turns
             | Phase::Withdraws(_)
             | Phase::GivesBack

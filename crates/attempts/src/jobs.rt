@@ -1,3 +1,5 @@
+ghost use Rattle.attempts.specs.Standing.{AreScripts};
+
 use crate::attempt::AttemptOf;
 use crate::scripts::OnWords;
 use crate::showing::{is_done, next, outcome};
@@ -8,6 +10,15 @@ use desks::Jobs;
 use std::alloc::{AllocError, Global};
 use std::marker::PhantomData;
 use turns::{Answer, Operation};
+
+/// They are scripts. Called for its clause alone.
+fn are_scripts<S: OnWords<READINGS, HELD>, const READINGS: usize, const HELD: usize>(
+    setting: &S::Setting,
+)
+    requires { S.IsSetting setting.now }
+    ensures { AreScripts S.Lock.eq S.reply_of S.effects_of (S.system setting.now)
+        (S.Knows setting.now) READINGS HELD }
+{}
 
 /// The jobs of `S` as desks do them, by attempts.
 pub struct Attempts<S, const READINGS: usize, const HELD: usize> {
@@ -97,6 +108,7 @@ impl<S: OnWords<READINGS, HELD>, const READINGS: usize, const HELD: usize> Jobs
     ) -> Answer {
         let step = next::<S, READINGS, HELD>(program);
         let told = answer::<S, READINGS, HELD>(setting, actor, step, found);
+        are_scripts::<S, READINGS, HELD>(setting);
         take::<S, READINGS, HELD>(program, setting, told);
         told
     }

@@ -3,15 +3,14 @@
 ghost use Rattle.std.specs.Prelude.{◌≡◌, ◌<◌, ◌≤◌};
 ghost use Rattle.turns.specs.System.{AreWords};
 ghost use Rattle.attempts.specs.Counting.{counted_by};
-ghost use Rattle.attempts.specs.Live.{LeadsTo};
-ghost use Rattle.attempts.specs.Running.{GoesFarEnough, MayRun, Runs};
+ghost use Rattle.attempts.specs.Live.{LeadsTo, WantsNext};
+ghost use Rattle.attempts.specs.Running.{GoesFarEnough, Runs};
 ghost use Rattle.attempts.specs.Standing.{AreScripts, Stands, attempt_of};
 ghost use Rattle.attempts.specs.SystemWith.{system_with};
 
 use crate::attempt::AttemptOf;
 use crate::scripts::Scripts;
 use crate::taking::walk_by;
-use turns::Phase;
 use turns::lock_word::{asked_by, taken_by};
 
 /// Words fit 64 bits. Called for its clause alone.
@@ -27,8 +26,13 @@ fn walk_alone<S: Scripts<READINGS, HELD>, const READINGS: usize, const HELD: usi
     words: &mut [u64],
     most: u32,
 ) -> u32
-    requires { MayRun S.Lock.eq S.reply_of S.effects_of (S.system setting.now)
-        (S.Knows setting.now) (S.IsSetting setting.now) READINGS HELD actor program.old }
+    requires setting { S.IsSetting setting.now }
+    requires scripts { AreScripts S.Lock.eq S.reply_of S.effects_of (S.system setting.now)
+        (S.Knows setting.now) READINGS HELD }
+    requires stands { Stands S.Lock.eq S.reply_of S.effects_of (S.system setting.now)
+        (S.Knows setting.now) READINGS HELD program.old }
+    requires wants { WantsNext program.old.phase }
+    requires actor { actor < 48 }
     ensures { Runs S.Lock.eq S.reply_of S.effects_of (S.system setting.now) (S.Knows setting.now)
         READINGS HELD actor most result program.old words.old program.new words.new }
 {
@@ -66,23 +70,16 @@ fn make_steps<S: Scripts<READINGS, HELD>, const READINGS: usize, const HELD: usi
     ensures { Runs S.Lock.eq S.reply_of S.effects_of (S.system setting.now) (S.Knows setting.now)
         READINGS HELD actor most result program.old words.old program.new words.new }
 {
-    let phase = program.phase;
-    match phase {
-        Phase::Requests(_) | Phase::Tests(_) => {
-            walk_alone::<S, READINGS, HELD>(program, setting, actor, words, most)
-        }
-        Phase::Seizes(_, _)
-        | Phase::Turns
-        | Phase::Withdraws(_)
-        | Phase::GivesBack
-        | Phase::Operates(_) => 0,
+    match program.wants() {
+        Some(_) => walk_alone::<S, READINGS, HELD>(program, setting, actor, words, most),
+        None => 0,
     }
 }
 
 /// Makes its next steps on the words, as this actor: as many as its walk makes by itself, but no
 /// more than it may. It stops where another actor is in its way, where it comes to its turn, and
-/// where it has room for no more; past its turn, and where it gives up, it makes none. Gives the
-/// number of the steps that it made.
+/// where the steps that it may still make don't do for what it wants next; past its turn, and where
+/// it gives up, it makes none. Gives the number of the steps that it made.
 pub fn run<S: Scripts<READINGS, HELD>, const READINGS: usize, const HELD: usize>(
     program: &mut AttemptOf<S, READINGS, HELD>,
     setting: &S::Setting,

@@ -3,9 +3,6 @@ use Rattle.attempts.specs.Standing.{Program}
 use Rattle.attempts.proofs.Taken.{frees_lock, makes_effect}
 use Rattle.attempts.proofs.taking.operate.Goals as goal
 
-pub free_first-requires : goal.free_first-requires
-free_first-requires g c = search
-
 pub returns-in-Some-clause-operates : goal.returns-in-Some-clause-operates
 returns-in-Some-clause-operates g c = makes_effect g.S.Scripts.reply_of g.S.Scripts.effects_of _ c.args.program.now c.in-Some.field-0 c.program.view_is c.in-Some.ensures.some
 
@@ -23,6 +20,3 @@ returns-in-None-clause-phase g c = ap (λ (p : Program _ _ _ _). p.phase) c.free
 
 pub returns-in-None-clause-count : goal.returns-in-None-clause-count
 returns-in-None-clause-count g c = ap (λ (p : Program _ _ _ _). p.count) c.free_first.ensures
-
-pub next_effect-requires : goal.next_effect-requires
-next_effect-requires g c = search
