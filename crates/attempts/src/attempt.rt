@@ -1,4 +1,4 @@
-ghost use Rattle.std.specs.Prelude.{◌≡◌, ◌<◌, ◌^◌, ◌++◌, ◌∷◌, [], ℕ, IfNone, IfSome, List, None, Some, length, option_copied};
+ghost use Rattle.std.specs.Prelude.{◌≡◌, ◌<◌, ◌^◌, ◌++◌, ◌∷◌, [], ℕ, Err, IfNone, IfSome, List, None, Ok, Some, length, option_copied};
 ghost use Rattle.turns.specs.Attempt.{asked_in, rest_of, turn_in};
 ghost use Rattle.turns.specs.Script.{value_read};
 ghost use Rattle.desks.specs.Outcomes.{is_given_up as is_given_up_in};
@@ -141,18 +141,32 @@ impl<
         self.seen.free_first();
     }
 
+    /// It has decided: its turn is next.
+    pub(crate) fn decide(&mut self, decision: D)
+        ensures { self.new ≡ gone_on self.old (Ok decision) }
+    {
+        self.phase = Phase::Turns;
+        self.decision = Some(decision);
+        self.made = 0;
+    }
+
+    /// What its walk wants is next.
+    pub(crate) fn want(&mut self, wanted: Wanted<L, usize>)
+        ensures { self.new ≡ gone_on self.old (Err wanted) }
+    {
+        self.phase = match wanted {
+            Wanted::Seize(lock) => Phase::Requests(lock),
+            Wanted::Test(word) => Phase::Tests(word),
+        };
+    }
+
     /// Goes on with what its walk came to.
     pub(crate) fn go_on(&mut self, found: Result<D, Wanted<L, usize>>)
         ensures { self.new ≡ gone_on self.old found }
     {
         match found {
-            Ok(decision) => {
-                self.phase = Phase::Turns;
-                self.decision = Some(decision);
-                self.made = 0;
-            }
-            Err(Wanted::Seize(lock)) => self.phase = Phase::Requests(lock),
-            Err(Wanted::Test(word)) => self.phase = Phase::Tests(word),
+            Ok(decision) => self.decide(decision),
+            Err(wanted) => self.want(wanted),
         }
     }
 

@@ -45,14 +45,17 @@ fn walk_on<S: Scripts<READINGS, HELD>, const READINGS: usize, const HELD: usize>
     ensures { WalksOn S.Lock.eq S.reply_of S.effects_of (S.system setting.now) (S.Knows setting.now)
         program.old program.new }
 {
-    let found = walk_by::<S, READINGS, HELD>(
+    // Matched here, so that a walk that stops early hands on what it wants alone.
+    match walk_by::<S, READINGS, HELD>(
         setting,
         &program.job,
         &mut program.point,
         &mut program.seen,
         &mut [],
-    );
-    program.go_on(found);
+    ) {
+        Ok(decision) => program.decide(decision),
+        Err(wanted) => program.want(wanted),
+    }
 }
 
 /// The word that a job tests next once the one that its walk wants was read.
