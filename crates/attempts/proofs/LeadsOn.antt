@@ -1,5 +1,5 @@
 -- steps that lead on from where others led to
-use Rattle.std.proofs.Common.{◌≡◌, ℕ, zero, suc, refl, sym, subst}
+use Rattle.std.proofs.Common.{ℕ, zero, suc, refl, sym, subst}
 use Rattle.turns.specs.Attempt.{IsAnswerTo, act}
 use Rattle.turns.specs.System.{System}
 use Rattle.attempts.specs.Live.{IsNoTurn, LeadsTo, Moment, stepped, told}

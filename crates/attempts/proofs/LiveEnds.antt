@@ -2,7 +2,6 @@
 use Rattle.std.proofs.Common.{◌≡◌, ℕ, zero, suc, ◌-◌, ◌<◌, ◌⊎◌, inl, inr, Bool, true, false, List, length, refl, subst, slice_set, arith}
 use Rattle.std.specs.Prelude.{Option, Some, None, Result, Ok, Err, slice_get, ⊤}
 use Rattle.turns.specs.Script.{Script, Ends, TestThen, SeizeThen, is_held, value_read}
-use Rattle.turns.specs.declared.phase.Phase.{Phase}
 use Rattle.turns.specs.declared.phase.Phase.TheVariants.{Requests, Tests}
 use Rattle.turns.specs.declared.wanted.Wanted.{Wanted}
 use Rattle.turns.specs.declared.wanted.Wanted.TheVariants.{Seize, Test}

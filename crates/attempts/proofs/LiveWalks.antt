@@ -1,10 +1,8 @@
 -- walks that go on by steps of their own come to what a walk by all that they have come by comes to
-use Rattle.std.proofs.Common.{◌≡◌, ℕ, zero, suc, Bool, true, false, List, [], ◌∷◌, ◌++◌, ◌-◌, length, refl, ◌∙◌, ap, slice_set}
-use Rattle.std.specs.Prelude.{Option, Some, None, ◌==◌, Result, Ok, Err, find, option_map, slice_get, if◌then◌else◌}
-use Rattle.std.proofs.lemmas.Bool.{eq-eqb}
+use Rattle.std.proofs.Common.{◌≡◌, ℕ, zero, suc, Bool, true, false, List, [], ◌-◌, length, refl, ◌∙◌, ap, slice_set}
+use Rattle.std.specs.Prelude.{Option, Some, None, Result, Ok, Err, slice_get}
 use Rattle.turns.specs.Script.{Script, Ends, TestThen, SeizeThen, ◌>>=◌, test, read_with, is_held, value_read, left, left_of_test, left_of_seizing, first_wanted, walk}
 use Rattle.turns.specs.Seen.{Seen}
-use Rattle.turns.specs.declared.reading.Reading.{Reading}
 use Rattle.turns.specs.declared.wanted.Wanted.{Wanted}
 use Rattle.turns.proofs.Room.{Grows, held_before, held_last, read_before}
 use Rattle.attempts.specs.Points.{Extends}

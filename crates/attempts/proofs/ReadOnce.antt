@@ -1,7 +1,11 @@
 -- no word is read twice, since a walk wants no word that was read
-use Rattle.std.proofs.Common.{◌≡◌, ℕ, zero, suc, ◌<◌, Bool, true, false, List, [], ◌∷◌, ◌++◌, length, inl, inr, refl, sym, ◌∙◌, ap, subst, arith}
-use Rattle.std.specs.Prelude.{Option, Some, None, ◌==◌, Err, find, get_or, option_map, if◌then◌else◌}
+use Rattle.std.proofs.Common.{◌≡◌, ℕ, zero, suc, ◌<◌, Bool, true, false, cond, List, [], ◌∷◌, ◌++◌, length, inl, inr, nat_lt, refl, sym, ◌∙◌, ap, subst, arith}
+use Rattle.std.specs.Prelude.{Option, Some, None, ◌==◌, Err, find, get_or, option_and_then, option_map, slice_get, if◌then◌else◌}
+use Rattle.std.specs.List.{position, position_or_len}
 use Rattle.std.proofs.lemmas.Bool.{eq-eqb}
+use Rattle.std.proofs.lemmas.Bool.Decides.{nat_tests}
+use Rattle.std.proofs.lemmas.List.Folds.{find_at}
+use Rattle.std.proofs.lemmas.Option.{slice_get_past}
 use Rattle.turns.specs.Among.{IsIn}
 use Rattle.turns.specs.Script.{Script, Ends, TestThen, SeizeThen, first_wanted, is_held, left, left_of_test, left_of_seizing, value_read, walk}
 use Rattle.turns.specs.Seen.{Seen}
@@ -59,3 +63,16 @@ item_within (first ∷ items) (suc at) other below = inr (item_within items at o
 pub read_at_place : (readings : List (Reading ℕ)) (at word : ℕ) (other : Reading ℕ) → AreReadOnce readings → at < length readings → (get_or readings at other).word ≡ word → Some (get_or readings at other).value ≡ value_read readings word
 read_at_place readings at word other once below here =
     sym (once (get_or readings at other) (item_within readings at other below)) ∙ ap (value_read readings) here
+
+-- what was read in a word stands where its first reading does
+pub read_there : (readings : List (Reading ℕ)) (word : ℕ) → value_read readings word ≡ option_and_then (λ place. option_map (λ (r : Reading ℕ). r.value) (slice_get readings place)) (position (λ (r : Reading ℕ). r.word == word) readings)
+unfolding value_read
+read_there readings word =
+    ap (option_map (λ (r : Reading ℕ). r.value)) (find_at (λ (r : Reading ℕ). r.word == word) readings)
+    ∙ at (nat_lt n (length readings)) refl where
+      n : ℕ
+      n = position_or_len (λ (r : Reading ℕ). r.word == word) readings
+
+      at : (b : Bool) → nat_lt n (length readings) ≡ b → option_map (λ (r : Reading ℕ). r.value) (slice_get readings n) ≡ option_and_then (λ place. option_map (λ (r : Reading ℕ). r.value) (slice_get readings place)) (cond b (Some n) None)
+      at true is = refl
+      at false is = ap (option_map (λ (r : Reading ℕ). r.value)) (slice_get_past readings n (grind (arith, nat_tests)))

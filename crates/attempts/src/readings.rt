@@ -1,4 +1,5 @@
-ghost use Rattle.std.specs.Prelude.{◌≡◌, ◌-◌, ◌%◌, ◌^◌, ◌<◌, [], ◌∷◌, ◌++◌, None, length};
+ghost use Rattle.std.specs.Prelude.{◌≡◌, ◌==◌, ◌-◌, ◌%◌, ◌^◌, ◌<◌, [], ◌∷◌, ◌++◌, IfSome, None, length, option_and_then, option_map, slice_get};
+ghost use Rattle.std.specs.List.{position};
 ghost use Rattle.turns.specs.Script.{value_read};
 ghost use Rattle.turns.specs.Seen.{AreReadWords};
 ghost use Rattle.attempts.specs.Marks.{has_mark as has_mark_of};
@@ -44,14 +45,18 @@ fn has_mark(marks: u64, word: usize) -> bool
     (marks >> (word % 64)) % 2 == 1
 }
 
-#[tactic(auto, unfolding(turns::specs::Script::value_read))]
-fn find_in(readings: &[Reading<usize>], word: usize) -> Option<u64>
-    ensures { result ≡ value_read readings.now word }
+/// Where the first reading of the word stands.
+fn place_in(readings: &[Reading<usize>], word: usize) -> Option<usize>
+    ensures place { result ≡ position (λ reading. reading.word == word) readings.now }
+    ensures bound { IfSome result (λ place. place < length readings.now) }
 {
-    readings
-        .iter()
-        .find(|reading| reading.word == word)
-        .map(|reading| reading.value)
+    readings.iter().position(|reading| reading.word == word)
+}
+
+fn value_at(readings: &[Reading<usize>], place: usize) -> Option<u64>
+    ensures { result ≡ option_map (λ reading. reading.value) (slice_get readings.now place) }
+{
+    readings.get(place).map(|reading| reading.value)
 }
 
 impl<const MOST: usize> Readings<MOST> {
@@ -82,15 +87,36 @@ impl<const MOST: usize> Readings<MOST> {
         self.marks |= mark_of(word);
     }
 
+    /// Where the word's reading stands, if it was read.
+    fn place_of(&self, word: usize) -> Option<usize>
+        ensures place { value_read self.now word
+            ≡ option_and_then (λ place.
+            option_map (λ reading. reading.value) (slice_get self.now place)) result }
+        ensures bound { IfSome result (λ place. place < length self.now) }
+    {
+        if has_mark(self.marks, word) {
+            place_in(self.items.as_slice(), word)
+        } else {
+            None
+        }
+    }
+
     /// What was read in the word, if it was read.
     pub fn find(&self, word: usize) -> Option<u64>
         ensures { result ≡ value_read self.now word }
     {
-        if has_mark(self.marks, word) {
-            find_in(self.items.as_slice(), word)
-        } else {
-            None
-        }
+        let found = self.place_of(word)?;
+        value_at(self.items.as_slice(), found)
+    }
+
+    /// The same, and from there on the place that follows it.
+    pub fn find_on(&self, word: usize, place: &mut usize) -> Option<u64>
+        ensures { result ≡ value_read self.now word }
+    {
+        let items = self.items.as_slice();
+        let found = self.place_of(word)?;
+        *place = found + 1;
+        value_at(items, found)
     }
 
     /// So many words may still be read.
