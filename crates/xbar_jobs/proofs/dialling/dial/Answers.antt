@@ -1,5 +1,3 @@
-use Rattle.std.proofs.Common.{◌≡◌, ap, sym, ◌∙◌}
-use Rattle.std.specs.Prelude.{Ok}
 use Rattle.xbar_jobs.specs.Jobs.{serve_idle_line}
 use Rattle.xbar_jobs.proofs.CompletingRows.{known_on}
 use Rattle.xbar_jobs.proofs.Lives.{grown}

@@ -1,4 +1,4 @@
-use Rattle.std.proofs.Common.{◌≡◌, rules, Ok, Err, ap, subst, sym, ◌∙◌}
+use Rattle.std.proofs.Common.{◌≡◌, rules, Err, ap, subst, sym, ◌∙◌}
 use Rattle.std.specs.Prelude.{Option, Result}
 use Rattle.xbar_equip.specs.declared.path.Path.{Path}
 use Rattle.xbar_jobs.specs.Script.{Wanted}
