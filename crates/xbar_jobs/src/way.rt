@@ -21,13 +21,13 @@ pub enum Way {
 }
 
 impl Way {
-    fn approached(calling: &Party) -> Self
+    fn from_line(calling: &Party) -> Self
         ensures { result ≡ Way.Approached calling.now }
     {
         Way::Approached { calling: *calling }
     }
 
-    fn traced(calling: &Party, own: &Option<Path>) -> Self
+    fn from_path(calling: &Party, own: &Option<Path>) -> Self
         ensures { result ≡ Way.Traced calling.now own.now }
     {
         Way::Traced {
@@ -56,7 +56,7 @@ impl Way {
             return Ok(calling);
         }
         let calling = approach(seen, words, &[], line)?;
-        *self = Way::approached(&calling);
+        *self = Way::from_line(&calling);
         Ok(calling)
     }
 
@@ -78,7 +78,7 @@ impl Way {
             return Ok(own);
         }
         let own = trace(seen, words, calling)?;
-        *self = Way::traced(calling, &own);
+        *self = Way::from_path(calling, &own);
         Ok(own)
     }
 }

@@ -39,5 +39,5 @@ returns c =
     record {
       walk = walked;
       found = found;
-      knows = subst (λ (way : Way). Knows c.args.line way c.approach.new.seen.seen) (sym c.approached.ensures) found;
+      knows = subst (λ (way : Way). Knows c.args.line way c.approach.new.seen.seen) (sym c.from_line.ensures) found;
     }

@@ -28,5 +28,5 @@ returns c =
     let walked = ap (λ (r : Result (Option Path) Wanted). comes r c.trace.new.seen c.trace.new.words) (sym c.in_ok-own.was) ∙ c.trace.ensures in
     record {
       walk = walked;
-      knows = subst (λ (way : Way). Knows c.args.line way c.trace.new.seen.seen) (sym c.traced.ensures) (traced_now c.args.line c.args.calling.now c.in_ok-own.own c.args.seen.now c.trace.new.seen c.args.words.now c.trace.new.words c.requires.approached walked);
+      knows = subst (λ (way : Way). Knows c.args.line way c.trace.new.seen.seen) (sym c.from_path.ensures) (traced_now c.args.line c.args.calling.now c.in_ok-own.own c.args.seen.now c.trace.new.seen c.args.words.now c.trace.new.words c.requires.approached walked);
     }
