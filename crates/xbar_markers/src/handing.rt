@@ -6,12 +6,12 @@ ghost use Rattle.xbar_office.specs.Legal.{IsJob};
 ghost use Rattle.xbar_core.specs.Moves.{refusal_of};
 ghost use Rattle.xbar_fabric.specs.Views.{DeskView, IsDeskOf, marker_of};
 ghost use Rattle.xbar_markers.specs.Handing.{HasGiven, IsAtHand, IsBegun, IsHanded};
-ghost use Rattle.xbar_markers.specs.Work.{HasDone, IsDoing};
+ghost use Rattle.xbar_markers.specs.Work.{HasDone, HasStepped, IsDoing};
 
-use crate::worker::make_step;
+use crate::worker::yield_once_given_back;
 use std::sync::Wait;
 use std::thread::{Threads, join};
-use xbar_fabric::{AssignFault, Desk, Fabric, Given};
+use xbar_fabric::{AssignFault, Desk, Fabric, Given, Progress};
 use xbar_office::{Job, Record};
 
 /// What the second worker does with a job that the first has not ended.
@@ -39,6 +39,19 @@ pub struct HandFault {
 }
 
 /// Makes the desk's next step, and gives the record of a job that it ends.
+fn make_step(fabric: &Fabric, desk: &mut Desk) -> Option<Record>
+    requires { IsDeskOf desk.old fabric.now }
+    ensures { HasStepped desk.old desk.new result }
+{
+    let was_giving_up = desk.is_giving_up();
+    if let Progress::Finished(record) = desk.advance(fabric) {
+        return Some(record);
+    }
+    yield_once_given_back(desk, was_giving_up);
+    None
+}
+
+/// The same, for what the desk has done since it began its job.
 fn step_on(fabric: &Fabric, desk: &mut Desk) -> Option<Record>
     requires { IsDeskOf desk.old fabric.now }
     ensures desk { IsDeskOf desk.new fabric.now }

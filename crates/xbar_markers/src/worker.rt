@@ -1,21 +1,16 @@
 //! A marker at work: it does whole jobs, one after another.
 
-ghost use Rattle.std.specs.Prelude.{◌≡◌, ◌↔◌, IfNone, IfSome, true, false, Some, None};
+ghost use Rattle.std.specs.Prelude.{◌≡◌, true};
 ghost use Rattle.xbar_office.specs.Legal.{IsJob};
-ghost use Rattle.xbar_core.specs.Exchange.{is_idle};
 ghost use Rattle.xbar_core.specs.Kinds.{takes};
-ghost use Rattle.xbar_core.specs.declared.kind.Kind.TheVariants.{Completing, Dial};
 ghost use Rattle.xbar_fabric.specs.Views.{IsDeskOf};
-ghost use Rattle.xbar_markers.specs.Calls.{HasCallNo, HasDialTone, IsDialled, IsServed};
-ghost use Rattle.xbar_markers.specs.Work.{HasDone, HasStepped, IsReady};
+ghost use Rattle.xbar_markers.specs.Work.{HasDone, IsReady};
 
-use crate::call::Call;
-use crate::call_records::CallRecords;
 use crate::gate::Gate;
 use std::sync::Wait;
 use std::thread;
 use xbar_fabric::{Desk, Fabric, Progress};
-use xbar_office::{End, Job, Record};
+use xbar_office::{Job, Record};
 
 /// A desk, the gate that its steps pass, and how many it has made. That it may go to another thread
 /// is derived where the desk may.
@@ -26,34 +21,21 @@ pub struct Worker<D: Drop, G: Drop> {
     pub steps: u64,
 }
 
-/// Makes the desk's next step, and gives the record of a job that it ends. A desk that was put off
-/// lets other threads run once it has given back all that it held: nobody waits for it then.
-pub fn make_step(fabric: &Fabric, desk: &mut Desk) -> Option<Record>
-    requires { IsDeskOf desk.old fabric.now }
-    ensures { HasStepped desk.old desk.new result }
-{
-    let was_giving_up = desk.is_giving_up();
-    match desk.advance(fabric) {
-        Progress::Finished(record) => Some(record),
-        Progress::Refused { .. } | Progress::Preferred(_) => None,
-        Progress::Idle | Progress::Moved => {
-            if was_giving_up && !desk.is_giving_up() {
-                thread::yield_now();
-            }
-            None
-        }
+/// Lets other threads run, where a desk that was giving up has now given back all that it held: nobody
+/// waits for it then.
+pub fn yield_once_given_back(desk: &Desk, was_giving_up: bool) {
+    if was_giving_up && !desk.is_giving_up() {
+        thread::yield_now();
     }
 }
 
 impl<G: Gate + Drop> Worker<Desk, G> {
-    /// Makes the desk's next step, and gives the record of a job that it ends.
-    fn step(&mut self, fabric: &Fabric) -> Option<Record>
-        requires { IsDeskOf self.old.desk fabric.now }
-        ensures { HasStepped self.old.desk self.new.desk result }
+    /// Tells its gate of its next step, and counts it.
+    fn pass(&mut self)
+        ensures { self.new.desk ≡ self.old.desk }
     {
         self.gate.pass(self.desk.marker(), self.steps);
         self.steps = self.steps.saturating_add(1);
-        make_step(fabric, &mut self.desk)
     }
 
     /// Does a job, from its assignment to its end.
@@ -70,9 +52,20 @@ impl<G: Gate + Drop> Worker<Desk, G> {
             unreachable!()
         };
         for _ in rt.forever() {
-            if let Some(record) = self.step(fabric) {
-                self.gate.finished(self.desk.marker(), job_no);
-                return record;
+            self.pass();
+            let was_giving_up = self.desk.is_giving_up();
+            // Matched here, since a record that may come would be moved with each step that hands one on.
+            match self.desk.advance(fabric) {
+                Progress::Finished(record) => {
+                    self.gate.finished(self.desk.marker(), job_no);
+                    return record;
+                }
+                Progress::Idle
+                | Progress::Moved
+                | Progress::Refused { .. }
+                | Progress::Preferred(_) => {
+                    yield_once_given_back(&self.desk, was_giving_up);
+                }
             }
         }
         unreachable!()
