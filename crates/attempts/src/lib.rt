@@ -1,6 +1,7 @@
 //! An actor's attempt at a job, at run time, for any jobs of `turns` that are given by a walk.
 #![tactic(auto)]
 
+pub use ahead::{Ahead, AheadOf, Further};
 pub use attempt::{Attempt, AttemptOf};
 pub use closing::take_close;
 pub use jobs::Attempts;
@@ -12,6 +13,7 @@ pub use starting::{begin, restart};
 pub use step::{Step, answer, operation, place};
 pub use taking::take;
 
+mod ahead;
 mod attempt;
 mod closing;
 mod jobs;

@@ -35,7 +35,7 @@ pub(crate) fn walk_by<S: Scripts<READINGS, HELD>, const READINGS: usize, const H
 }
 
 /// Goes on through the job from where it stands, as far as it goes.
-fn walk_on<S: Scripts<READINGS, HELD>, const READINGS: usize, const HELD: usize>(
+pub(crate) fn walk_on<S: Scripts<READINGS, HELD>, const READINGS: usize, const HELD: usize>(
     program: &mut AttemptOf<S, READINGS, HELD>,
     setting: &S::Setting,
 )
@@ -227,7 +227,7 @@ fn read_on<S: Scripts<READINGS, HELD>, const READINGS: usize, const HELD: usize>
 }
 
 /// Goes on to this word with this read too.
-fn read_up_to<S: Scripts<READINGS, HELD>, const READINGS: usize, const HELD: usize>(
+pub(crate) fn read_up_to<S: Scripts<READINGS, HELD>, const READINGS: usize, const HELD: usize>(
     program: &mut AttemptOf<S, READINGS, HELD>,
     setting: &S::Setting,
     reading: Reading<usize>,

@@ -1,0 +1,196 @@
+-- readings that are as they were foreseen
+use Rattle.std.proofs.Common.{◌≡◌, ℕ, zero, suc, ◌+◌, Bool, List, [], ◌∷◌, ◌++◌, append-nil, append_assoc, refl, sym, ◌∙◌, ap, subst, arith}
+use Rattle.std.specs.Prelude.{Option, Some, None, Result, Err, drop, slice_get}
+use Rattle.std.proofs.lemmas.Option.{same_Some}
+use Rattle.turns.specs.Attempt.{AttemptOf, goes_on}
+use Rattle.turns.specs.Script.{walk}
+use Rattle.turns.specs.Seen.{Seen}
+use Rattle.turns.specs.System.{System}
+use Rattle.turns.specs.declared.answer.Answer.TheVariants.{Value}
+use Rattle.turns.specs.declared.phase.Phase.TheVariants.{Tests}
+use Rattle.turns.specs.declared.reading.Reading.{Reading}
+use Rattle.turns.specs.declared.wanted.Wanted.{Wanted}
+use Rattle.turns.specs.declared.wanted.Wanted.TheVariants.{Test}
+use Rattle.attempts.specs.Foresight.{Foresees, Foresight, Further, IsForeseen, SeesTo}
+use Rattle.attempts.specs.Standing.{CanWalk, KnowsIn, Program, attempt_of}
+use Rattle.attempts.specs.SystemWith.{SystemWith, system_with}
+use Rattle.attempts.specs.Taken.{FitsValue, Takes, WalksOn, gone_on}
+use Rattle.attempts.proofs.Taken.{took, went, went_count, went_point}
+
+-- what follows the first of those that are left
+drop_next : {A : Type 0} (made : ℕ) (items : List A) (first : A) (rest : List A) → drop made items ≡ first ∷ rest → drop (suc made) items ≡ rest
+drop_next zero [] first rest is = absurd cc
+drop_next zero (item ∷ items) first rest is = ap (drop 1) is
+drop_next (suc made) [] first rest is = absurd cc
+drop_next (suc made) (item ∷ items) first rest is = drop_next made items first rest is
+
+-- with one more of them made
+pub one_more : {Lock Decision Point : Type 0} (made : ℕ) (items : List (Reading ℕ)) (further : Option (Further Lock Decision Point)) (now : Foresight Lock Decision Point) → record { left = drop made items; further = further } ≡ now
+    → (first : Reading ℕ) (rest : List (Reading ℕ)) → now.left ≡ first ∷ rest → ◌≡◌ {A = Foresight Lock Decision Point} (record { left = drop (made + 1) items; further = further }) (record { left = rest; further = now.further })
+one_more {Lock} {Decision} {Point} made items further now inside first rest is =
+    let more : made + 1 ≡ suc made = omega arith in
+    ap (λ (l : List (Reading ℕ)). record { left = l; further = further }) (ap (λ (n : ℕ). drop n items) more ∙ drop_next made items first rest (ap (λ (a : Foresight Lock Decision Point). a.left) inside ∙ is))
+    ∙ ap (λ (a : Foresight Lock Decision Point). record { left = rest; further = a.further }) inside
+
+module _ {Lock Job Reply Effect Decision Point : Type 0} (same : Lock → Lock → Bool) (reply_of : Decision → Reply) (effects_of : Decision → List Effect) (S : SystemWith Lock Job Reply Effect Decision) (Knows : Job → Point → Seen Lock → Type 0) where
+  abbrev O : System
+  O = system_with same reply_of effects_of S
+
+  abbrev Doing : Type 0
+  Doing = Program Lock Job Decision Point
+
+  abbrev outside : Doing → AttemptOf O
+  outside p = attempt_of reply_of effects_of p
+
+  abbrev PointHere : Doing → Type 0
+  PointHere p = KnowsIn Knows (outside p) p.point p.phase
+
+  abbrev Took : Reading ℕ → Doing → Doing → Type 0
+  Took reading old new = Takes same reply_of effects_of S Knows (Value reading.value) old new
+
+  abbrev Sees : Doing → Reading ℕ → List (Reading ℕ) → Further Lock Decision Point → Type 0
+  Sees p first rest further = SeesTo {Reply = Reply} {Effect = Effect} same S Knows p first rest further
+
+  module _ (now : Doing) (first : Reading ℕ) (fits : FitsValue (Value first.value)) (further : Further Lock Decision Point) where
+    -- with it read too
+    abbrev mid : Doing
+    mid = record now { readings = now.readings ++ first ∷ [] }
+
+    pub record GoesOn (next : Reading ℕ) (rest : List (Reading ℕ)) (new : Doing) : Type 0 where
+      pub takes : Took first now new
+      pub sees : Sees new next rest further
+
+    -- it goes on to the next word that is foreseen
+    pub goes_up_to : (next : Reading ℕ) (rest : List (Reading ℕ)) (new : Doing) → Sees now first (next ∷ rest) further → CanWalk same reply_of effects_of S Knows mid → new ≡ record mid { phase = Tests next.word } → GoesOn next rest new
+    unfolding Foresees
+    goes_up_to next rest new sees can made = record {
+      takes = took same reply_of effects_of S Knows now new (Tests first.word) (Value first.value) sees.tests fits
+          (ap outside made ∙ ap (goes_on O (outside mid)) (sym sees.foresees.1.0))
+          (subst PointHere (sym made) can.knows)
+          (ap (λ (p : Doing). p.count) made);
+      sees = here;
+    } where
+      here : Sees new next rest further
+      here = subst (λ (p : Doing). Sees p next rest further) (sym made) (record {
+        tests = refl;
+        foresees = sees.foresees.1;
+        knows = subst (λ (l : List (Reading ℕ)). Knows now.job further.point (record { held = now.held; readings = l })) (sym (append_assoc now.readings (first ∷ []) (next ∷ rest))) sees.knows;
+      })
+
+    -- it comes to where its walk does
+    pub arrives : (new : Doing) → Sees now first [] further → new ≡ gone_on (record mid { point = further.point }) further.found → Took first now new
+    unfolding Foresees
+    arrives new sees made = took same reply_of effects_of S Knows now new (Tests first.word) (Value first.value) sees.tests fits
+        (ap outside made ∙ went same reply_of effects_of S Knows mid further.point further.found ∙ ap (goes_on O (outside mid)) (sym sees.foresees.1))
+        (subst PointHere (sym made) (went_point same reply_of effects_of S Knows mid further.point further.found sees.knows))
+        (ap (λ (p : Doing). p.count) made ∙ went_count same reply_of effects_of S Knows mid further.point further.found)
+
+  abbrev AreAhead : Doing → Foresight Lock Decision Point → Type 0
+  AreAhead p ahead = IsForeseen {Reply = Reply} {Effect = Effect} same S Knows p ahead.left ahead.further
+
+  -- an attempt and what it foresees, once a reading is as it was foreseen
+  pub record Confirmed (now : Doing) (first : Reading ℕ) (new : Doing) (after : Foresight Lock Decision Point) : Type 0 where
+    pub takes : Took first now new
+    pub ahead : AreAhead new after
+
+  -- there is a next one
+  pub confirmed_next : (now : Doing) (first : Reading ℕ) (fits : FitsValue (Value first.value)) (before after : Foresight Lock Decision Point) (rest : List (Reading ℕ)) (next : Reading ℕ) (new : Doing)
+      → before.left ≡ first ∷ rest → AreAhead now before → after ≡ record before { left = rest } → Some next ≡ slice_get after.left 0
+      → CanWalk same reply_of effects_of S Knows (record now { readings = now.readings ++ first ∷ [] }) → new ≡ record now { readings = now.readings ++ first ∷ []; phase = Tests next.word } → Confirmed now first new after
+  confirmed_next now first fits before after rest next new is foreseen then_is there can made =
+      at before.further rest (subst (λ (l : List (Reading ℕ)). IsForeseen {Reply = Reply} {Effect = Effect} same S Knows now l before.further) is foreseen) (there ∙ ap (λ (a : Foresight Lock Decision Point). slice_get a.left 0) then_is) then_is where
+        at : (further : Option (Further Lock Decision Point)) (l : List (Reading ℕ)) → IsForeseen {Reply = Reply} {Effect = Effect} same S Knows now (first ∷ l) further → Some next ≡ slice_get l 0 → after ≡ record { left = l; further = further } → Confirmed now first new after
+        at None l seen got so = absurd seen
+        at (Some further) [] seen got so = absurd cc
+        at (Some further) (other ∷ l) seen got so =
+            let one : other ≡ next = same_Some other next (sym got) in
+            let on = goes_up_to now first fits further other l new seen can (made ∙ ap (λ (r : Reading ℕ). record now { readings = now.readings ++ first ∷ []; phase = Tests r.word }) (sym one)) in
+            record { takes = on.takes; ahead = subst (AreAhead new) (sym so) on.sees }
+
+  -- it was the last one
+  pub confirmed_last : (now : Doing) (first : Reading ℕ) (fits : FitsValue (Value first.value)) (before between after : Foresight Lock Decision Point) (rest : List (Reading ℕ)) (further : Further Lock Decision Point) (new : Doing)
+      → before.left ≡ first ∷ rest → AreAhead now before → between ≡ record before { left = rest } → None ≡ slice_get between.left 0 → Some further ≡ between.further → after.left ≡ between.left
+      → new ≡ gone_on (record now { readings = now.readings ++ first ∷ []; point = further.point }) further.found → Confirmed now first new after
+  confirmed_last now first fits before between after rest further new is foreseen then_is gone has same_left made =
+      at before.further rest (subst (λ (l : List (Reading ℕ)). IsForeseen {Reply = Reply} {Effect = Effect} same S Knows now l before.further) is foreseen) (gone ∙ ap (λ (a : Foresight Lock Decision Point). slice_get a.left 0) then_is) (has ∙ ap (λ (a : Foresight Lock Decision Point). a.further) then_is) (same_left ∙ ap (λ (a : Foresight Lock Decision Point). a.left) then_is) where
+        at : (found : Option (Further Lock Decision Point)) (l : List (Reading ℕ)) → IsForeseen {Reply = Reply} {Effect = Effect} same S Knows now (first ∷ l) found → None ≡ slice_get l 0 → Some further ≡ found → after.left ≡ l → Confirmed now first new after
+        at None l seen got some none = absurd seen
+        at (Some other) (r ∷ l) seen got some none = absurd cc
+        at (Some other) [] seen got some none =
+            let one : other ≡ further = same_Some other further (sym some) in
+            record {
+              takes = arrives now first fits further new (subst (λ (f : Further Lock Decision Point). Sees now first [] f) one seen) made;
+              ahead = subst (λ (l : List (Reading ℕ)). IsForeseen {Reply = Reply} {Effect = Effect} same S Knows new l after.further) (sym none) tt;
+            }
+
+  -- where nothing is left to be foreseen there was no first one
+  pub not_none : {C : Type 0} (now : Doing) (first : Reading ℕ) (before between : Foresight Lock Decision Point) (rest : List (Reading ℕ)) → before.left ≡ first ∷ rest → AreAhead now before → between ≡ record before { left = rest } → None ≡ between.further → C
+  not_none {C} now first before between rest is foreseen then_is gone =
+      at before.further (subst (λ (l : List (Reading ℕ)). IsForeseen {Reply = Reply} {Effect = Effect} same S Knows now l before.further) is foreseen) (gone ∙ ap (λ (a : Foresight Lock Decision Point). a.further) then_is) where
+        at : (found : Option (Further Lock Decision Point)) → IsForeseen {Reply = Reply} {Effect = Effect} same S Knows now (first ∷ rest) found → None ≡ found → C
+        at None seen e = absurd seen
+        at (Some further) seen e = absurd cc
+
+  abbrev Walks : Doing → Doing → Type 0
+  Walks old new = WalksOn same reply_of effects_of S Knows old new
+
+  -- where a walk leads an attempt that sees ahead
+  pub record Ahead (old new : Doing) (after : Foresight Lock Decision Point) : Type 0 where
+    pub walks : Walks old new
+    pub ahead : AreAhead new after
+
+  abbrev own : Doing → Seen Lock
+  own p = record { held = p.held; readings = p.readings }
+
+  -- it sees a word that it tests first
+  pub sees_ahead : (old mid new : Doing) (seen after : Foresight Lock Decision Point) (first : Reading ℕ) (found : Result Decision (Wanted Lock ℕ)) (far point : Point)
+      → mid ≡ record old { point = far } → new ≡ record mid { point = point; phase = Tests first.word } → Some first ≡ slice_get seen.left 0 → after ≡ record seen { further = Some (record { found = found; point = far }) }
+      → Foresees same (S.script old.job) (own old) seen.left found → Knows old.job far (record { held = old.held; readings = old.readings ++ seen.left }) → Knows mid.job point (own old) → Ahead old new after
+  unfolding Foresees
+  sees_ahead old mid new seen after first found far point mid_is new_is there after_is foresees knows_far knows = at seen.left there foresees knows_far after_is where
+    made : new ≡ record old { point = point; phase = Tests first.word }
+    made = new_is ∙ ap (λ (p : Doing). record p { point = point; phase = Tests first.word }) mid_is
+
+    at : (l : List (Reading ℕ)) → Some first ≡ slice_get l 0 → Foresees same (S.script old.job) (own old) l found → Knows old.job far (record { held = old.held; readings = old.readings ++ l }) → after ≡ record { left = l; further = Some (record { found = found; point = far }) } → Ahead old new after
+    at [] got sees far_is so = absurd cc
+    at (other ∷ l) got sees far_is so =
+        let one : other ≡ first = same_Some other first (sym got) in
+        let wants : walk same (own old) (S.script old.job) ≡ Err (Test first.word) = sees.0 ∙ ap (λ (r : Reading ℕ). Err (Test r.word)) one in
+        record {
+          walks = subst (Walks old) (sym made) (record { change = ap (goes_on O (outside old)) (sym wants); point = subst (λ (p : Doing). Knows p.job point (own old)) mid_is knows; count = refl });
+          ahead = subst (AreAhead new) (sym so) (subst (λ (p : Doing). Sees p other l (record { found = found; point = far })) (sym made) (record { tests = ap (λ (r : Reading ℕ). Tests r.word) (sym one); foresees = sees; knows = far_is }));
+        }
+
+  -- it reads nothing on its way
+  pub sees_none : (old mid new : Doing) (seen : Foresight Lock Decision Point) (found : Result Decision (Wanted Lock ℕ)) (far : Point)
+      → mid ≡ record old { point = far } → new ≡ gone_on mid found → None ≡ slice_get seen.left 0
+      → Foresees same (S.script old.job) (own old) seen.left found → Knows old.job far (record { held = old.held; readings = old.readings ++ seen.left }) → Ahead old new seen
+  unfolding Foresees
+  sees_none old mid new seen found far mid_is new_is none foresees knows_far = at seen.left refl none foresees knows_far where
+    made : new ≡ gone_on (record old { point = far }) found
+    made = new_is ∙ ap (λ (p : Doing). gone_on p found) mid_is
+
+    at : (l : List (Reading ℕ)) → seen.left ≡ l → None ≡ slice_get l 0 → Foresees same (S.script old.job) (own old) l found → Knows old.job far (record { held = old.held; readings = old.readings ++ l }) → Ahead old new seen
+    at (other ∷ l) is got sees far_is = absurd cc
+    at [] is got sees far_is = record {
+      walks = subst (Walks old) (sym made) (record {
+        change = went same reply_of effects_of S Knows old far found ∙ ap (goes_on O (outside old)) (sym sees);
+        point = went_point same reply_of effects_of S Knows old far found (subst (λ (l : List (Reading ℕ)). Knows old.job far (record { held = old.held; readings = l })) (append-nil old.readings) far_is);
+        count = went_count same reply_of effects_of S Knows old far found;
+      });
+      ahead = subst (λ (l : List (Reading ℕ)). IsForeseen {Reply = Reply} {Effect = Effect} same S Knows new l seen.further) (sym is) tt;
+    }
+
+  -- it took a lock on its way, so it goes on by what it has come by
+  pub walks_anew : (old mid begun new : Doing) (after : Foresight Lock Decision Point) (far point : Point) → mid ≡ record old { point = far } → begun ≡ record mid { point = point } → Walks begun new → after.left ≡ [] → Ahead old new after
+  walks_anew old was begun new after far point mid_is begun_is by none =
+      let here : begun ≡ record old { point = point } = begun_is ∙ ap (λ (p : Doing). record p { point = point }) mid_is in
+      let on : Walks (record old { point = point }) new = subst (λ (p : Doing). Walks p new) here by in
+      record {
+        walks = record { change = on.change; point = on.point; count = on.count };
+        ahead = subst (λ (l : List (Reading ℕ)). IsForeseen {Reply = Reply} {Effect = Effect} same S Knows new l after.further) (sym none) tt;
+      }
+
+  pub can_begin : (old mid begun : Doing) (far point : Point) → mid ≡ record old { point = far } → begun ≡ record mid { point = point } → CanWalk same reply_of effects_of S Knows old → Knows mid.job point (own old) → CanWalk same reply_of effects_of S Knows begun
+  can_begin old was begun far point mid_is begun_is can knows =
+      subst (λ (p : Doing). CanWalk same reply_of effects_of S Knows p) (sym (begun_is ∙ ap (λ (p : Doing). record p { point = point }) mid_is)) (record { job = can.job; read = can.read; knows = subst (λ (p : Doing). Knows p.job point (own old)) mid_is knows })
