@@ -1,6 +1,7 @@
 -- readings that are as they were foreseen
 use Rattle.std.proofs.Common.{◌≡◌, ℕ, zero, suc, ◌+◌, Bool, List, [], ◌∷◌, ◌++◌, append-nil, append_assoc, refl, sym, ◌∙◌, ap, subst, arith}
-use Rattle.std.specs.Prelude.{Option, Some, None, Result, Err, drop, slice_get}
+use Rattle.std.specs.Prelude.{◌==◌, true, Option, Some, None, Result, Err, drop, slice_get}
+use Rattle.std.proofs.lemmas.Bool.{eqb-true}
 use Rattle.std.proofs.lemmas.Option.{same_Some}
 use Rattle.turns.specs.Attempt.{AttemptOf, goes_on}
 use Rattle.turns.specs.Script.{walk}
@@ -31,6 +32,12 @@ one_more {Lock} {Decision} {Point} made items further now inside first rest is =
     let more : made + 1 ≡ suc made = omega arith in
     ap (λ (l : List (Reading ℕ)). record { left = l; further = further }) (ap (λ (n : ℕ). drop n items) more ∙ drop_next made items first rest (ap (λ (a : Foresight Lock Decision Point). a.left) inside ∙ is))
     ∙ ap (λ (a : Foresight Lock Decision Point). record { left = rest; further = a.further }) inside
+
+-- the next one that is foreseen is this reading
+pub next_is : (l : List (Reading ℕ)) (next reading : Reading ℕ) → Some next ≡ slice_get l 0 → next.word ≡ reading.word → (next.value == reading.value) ≡ true → (rest : List (Reading ℕ)) × (l ≡ reading ∷ rest)
+next_is [] next reading got word value = absurd cc
+next_is (other ∷ l) next reading got word value =
+    (l, ap (λ (r : Reading ℕ). r ∷ l) (same_Some other next (sym got) ∙ ap (λ (w : ℕ). record { word = w; value = next.value }) word ∙ ap (λ (v : ℕ). record { word = reading.word; value = v }) (eqb-true next.value reading.value value)))
 
 module _ {Lock Job Reply Effect Decision Point : Type 0} (same : Lock → Lock → Bool) (reply_of : Decision → Reply) (effects_of : Decision → List Effect) (S : SystemWith Lock Job Reply Effect Decision) (Knows : Job → Point → Seen Lock → Type 0) where
   abbrev O : System
@@ -194,3 +201,11 @@ module _ {Lock Job Reply Effect Decision Point : Type 0} (same : Lock → Lock �
   pub can_begin : (old mid begun : Doing) (far point : Point) → mid ≡ record old { point = far } → begun ≡ record mid { point = point } → CanWalk same reply_of effects_of S Knows old → Knows mid.job point (own old) → CanWalk same reply_of effects_of S Knows begun
   can_begin old was begun far point mid_is begun_is can knows =
       subst (λ (p : Doing). CanWalk same reply_of effects_of S Knows p) (sym (begun_is ∙ ap (λ (p : Doing). record p { point = point }) mid_is)) (record { job = can.job; read = can.read; knows = subst (λ (p : Doing). Knows p.job point (own old)) mid_is knows })
+
+  -- what is foreseen is so whatever its count
+  pub foreseen_counted : (p new : Doing) (count : ℕ) (ahead : Foresight Lock Decision Point) → new ≡ record p { count = count } → AreAhead p ahead → AreAhead new ahead
+  foreseen_counted p new count ahead is foreseen = subst (λ (q : Doing). AreAhead q ahead) (sym is) (at ahead.left ahead.further foreseen) where
+    at : (l : List (Reading ℕ)) (further : Option (Further Lock Decision Point)) → IsForeseen {Reply = Reply} {Effect = Effect} same S Knows p l further → IsForeseen {Reply = Reply} {Effect = Effect} same S Knows (record p { count = count }) l further
+    at [] further seen = tt
+    at (first ∷ rest) None seen = absurd seen
+    at (first ∷ rest) (Some further) seen = record { tests = seen.tests; foresees = seen.foresees; knows = seen.knows }

@@ -1,17 +1,20 @@
 //! What an attempt's walk finds further on by words that are only guessed: readings that are still to
 //! be made. Where a word then has what was foreseen of it, the attempt goes on without a walk.
 
-ghost use Rattle.std.specs.Prelude.{◌≡◌, ◌<◌, ◌∷◌, ◌++◌, [], ℕ, None, Some, List, length, option_map, slice_get, true};
+ghost use Rattle.std.specs.Prelude.{◌≡◌, ◌<◌, ◌∷◌, ◌++◌, [], ℕ, IfNone, IfSome, None, Some, List, length, option_map, slice_get, true};
+ghost use Rattle.turns.specs.Attempt.{change};
 ghost use Rattle.turns.specs.Script.{value_read};
 ghost use Rattle.turns.specs.Seen.{Seen as SeenView};
 ghost use Rattle.turns.specs.declared.reading.Reading.{Reading as ReadingView};
+ghost use Rattle.attempts.specs.Counting.{count_in, counted};
 ghost use Rattle.attempts.specs.Foresight.{Foresees, IsForeseen};
-ghost use Rattle.attempts.specs.Standing.{AreScripts, CanWalk};
+ghost use Rattle.attempts.specs.Standing.{AreScripts, CanWalk, Stands, attempt_of};
+ghost use Rattle.attempts.specs.SystemWith.{system_with};
 ghost use Rattle.attempts.specs.Taken.{MayRead, Takes, WalksOn, gone_on};
 
 use crate::attempt::AttemptOf;
 use crate::scripts::Scripts;
-use crate::taking::{read_up_to, walk_by, walk_on};
+use crate::taking::{read, read_up_to, take_answer, to_seize, to_test, walk_by, walk_on};
 use arrayvec::ArrayVec;
 use std::marker::Model;
 use std::mem;
@@ -279,4 +282,199 @@ pub(crate) fn walk_ahead<S: Scripts<READINGS, HELD>, const READINGS: usize, cons
     } else {
         program.go_on(found);
     }
+}
+
+/// Whether this is the next reading that is foreseen.
+fn is_foreseen<L: Drop, D: Drop, P: Drop, const READINGS: usize>(
+    ahead: &Ahead<L, D, P, READINGS>,
+    reading: &Reading<usize>,
+) -> bool
+    ensures { result ≡ true → (rest : List (ReadingView ℕ)) × (ahead.now.left ≡ reading.now ∷ rest) }
+{
+    match ahead.next() {
+        Some(next) => next.word == reading.word && next.value == reading.value,
+        None => false,
+    }
+}
+
+/// Holds the lock too, and may go on through its job.
+fn hold_lock<S: Scripts<READINGS, HELD>, const READINGS: usize, const HELD: usize>(
+    program: &mut AttemptOf<S, READINGS, HELD>,
+    setting: &S::Setting,
+    lock: S::Lock,
+)
+    requires room { length program.old.held < HELD }
+    requires walk { CanWalk S.Lock.eq S.reply_of S.effects_of (S.system setting.now)
+        (S.Knows setting.now) (record program.old { held = program.old.held ++ lock ∷ [] }) }
+    ensures held { program.new ≡ record program.old { held = program.old.held ++ lock ∷ [] } }
+    ensures walk { CanWalk S.Lock.eq S.reply_of S.effects_of (S.system setting.now)
+        (S.Knows setting.now) program.new }
+{
+    let _ = setting;
+    program.hold(lock);
+}
+
+/// The lock is its own: it goes on through its job, and sees ahead.
+fn take_lock_ahead<S: Scripts<READINGS, HELD>, const READINGS: usize, const HELD: usize>(
+    program: &mut AttemptOf<S, READINGS, HELD>,
+    setting: &S::Setting,
+    words: &mut [u64],
+    ahead: &mut AheadOf<S, READINGS, HELD>,
+)
+    requires setting { S.IsSetting setting.now }
+    requires scripts { AreScripts S.Lock.eq S.reply_of S.effects_of (S.system setting.now)
+        (S.Knows setting.now) READINGS HELD }
+    requires stands { Stands S.Lock.eq S.reply_of S.effects_of (S.system setting.now)
+        (S.Knows setting.now) READINGS HELD program.old }
+    requires foreseen { IsForeseen S.Lock.eq (S.system setting.now) (S.Knows setting.now)
+        program.old ahead.old.left ahead.old.further }
+    ensures takes { Takes S.Lock.eq S.reply_of S.effects_of (S.system setting.now)
+        (S.Knows setting.now) Answer.Seized program.old program.new }
+    ensures foreseen { IsForeseen S.Lock.eq (S.system setting.now) (S.Knows setting.now)
+        program.new ahead.new.left ahead.new.further }
+{
+    if let Some(lock) = to_seize::<S, READINGS, HELD>(program, setting) {
+        hold_lock::<S, READINGS, HELD>(program, setting, lock);
+        walk_ahead::<S, READINGS, HELD>(program, setting, words, ahead);
+    }
+}
+
+/// Goes on with a reading: without a walk where it is as it was foreseen.
+fn read_on_ahead<S: Scripts<READINGS, HELD>, const READINGS: usize, const HELD: usize>(
+    program: &mut AttemptOf<S, READINGS, HELD>,
+    setting: &S::Setting,
+    reading: Reading<usize>,
+    ahead: &mut AheadOf<S, READINGS, HELD>,
+)
+    requires setting { S.IsSetting setting.now }
+    requires stands { Stands S.Lock.eq S.reply_of S.effects_of (S.system setting.now)
+        (S.Knows setting.now) READINGS HELD program.old }
+    requires reads { MayRead S.Lock.eq S.reply_of S.effects_of (S.system setting.now)
+        (S.Knows setting.now) READINGS reading program.old }
+    requires foreseen { IsForeseen S.Lock.eq (S.system setting.now) (S.Knows setting.now)
+        program.old ahead.old.left ahead.old.further }
+    ensures takes { Takes S.Lock.eq S.reply_of S.effects_of (S.system setting.now)
+        (S.Knows setting.now) (Answer.Value reading.value) program.old program.new }
+    ensures foreseen { IsForeseen S.Lock.eq (S.system setting.now) (S.Knows setting.now)
+        program.new ahead.new.left ahead.new.further }
+{
+    if is_foreseen(ahead, &reading) {
+        read_foreseen::<S, READINGS, HELD>(program, setting, reading, ahead);
+    } else {
+        ahead.clear();
+        read::<S, READINGS, HELD>(program, setting, reading);
+    }
+}
+
+/// The reading that it makes, of a word that has this value.
+fn to_read<S: Scripts<READINGS, HELD>, const READINGS: usize, const HELD: usize>(
+    program: &AttemptOf<S, READINGS, HELD>,
+    setting: &S::Setting,
+    value: u64,
+) -> Option<Reading<usize>>
+    requires scripts { AreScripts S.Lock.eq S.reply_of S.effects_of (S.system setting.now)
+        (S.Knows setting.now) READINGS HELD }
+    requires stands { Stands S.Lock.eq S.reply_of S.effects_of (S.system setting.now)
+        (S.Knows setting.now) READINGS HELD program.now }
+    ensures reads { IfSome result (λ reading.
+        MayRead S.Lock.eq S.reply_of S.effects_of (S.system setting.now) (S.Knows setting.now)
+        READINGS reading program.now) }
+    ensures value { IfSome result (λ reading. reading.value ≡ value) }
+    ensures none { IfNone result ((word : ℕ) → program.now.phase ≡ Phase.Tests word → ⊥) }
+{
+    match to_test::<S, READINGS, HELD>(program, setting, value) {
+        Some(word) => Some(Reading { word, value }),
+        None => None,
+    }
+}
+
+/// The word that it tested has this value: it goes on through its job.
+fn take_reading_ahead<S: Scripts<READINGS, HELD>, const READINGS: usize, const HELD: usize>(
+    program: &mut AttemptOf<S, READINGS, HELD>,
+    setting: &S::Setting,
+    value: u64,
+    ahead: &mut AheadOf<S, READINGS, HELD>,
+)
+    requires setting { S.IsSetting setting.now }
+    requires scripts { AreScripts S.Lock.eq S.reply_of S.effects_of (S.system setting.now)
+        (S.Knows setting.now) READINGS HELD }
+    requires stands { Stands S.Lock.eq S.reply_of S.effects_of (S.system setting.now)
+        (S.Knows setting.now) READINGS HELD program.old }
+    requires foreseen { IsForeseen S.Lock.eq (S.system setting.now) (S.Knows setting.now)
+        program.old ahead.old.left ahead.old.further }
+    ensures takes { Takes S.Lock.eq S.reply_of S.effects_of (S.system setting.now)
+        (S.Knows setting.now) (Answer.Value value) program.old program.new }
+    ensures foreseen { IsForeseen S.Lock.eq (S.system setting.now) (S.Knows setting.now)
+        program.new ahead.new.left ahead.new.further }
+{
+    if let Some(reading) = to_read::<S, READINGS, HELD>(program, setting, value) {
+        read_on_ahead::<S, READINGS, HELD>(program, setting, reading, ahead);
+    }
+}
+
+/// Changes, but for its count. Only a lock or a reading leaves something foreseen.
+fn take_answer_ahead<S: Scripts<READINGS, HELD>, const READINGS: usize, const HELD: usize>(
+    program: &mut AttemptOf<S, READINGS, HELD>,
+    setting: &S::Setting,
+    answer: Answer,
+    words: &mut [u64],
+    ahead: &mut AheadOf<S, READINGS, HELD>,
+)
+    requires setting { S.IsSetting setting.now }
+    requires scripts { AreScripts S.Lock.eq S.reply_of S.effects_of (S.system setting.now)
+        (S.Knows setting.now) READINGS HELD }
+    requires stands { Stands S.Lock.eq S.reply_of S.effects_of (S.system setting.now)
+        (S.Knows setting.now) READINGS HELD program.old }
+    requires foreseen { IsForeseen S.Lock.eq (S.system setting.now) (S.Knows setting.now)
+        program.old ahead.old.left ahead.old.further }
+    ensures takes { Takes S.Lock.eq S.reply_of S.effects_of (S.system setting.now)
+        (S.Knows setting.now) answer program.old program.new }
+    ensures foreseen { IsForeseen S.Lock.eq (S.system setting.now) (S.Knows setting.now)
+        program.new ahead.new.left ahead.new.further }
+{
+    match answer {
+        Answer::Seized => take_lock_ahead::<S, READINGS, HELD>(program, setting, words, ahead),
+        Answer::Value(value) => {
+            take_reading_ahead::<S, READINGS, HELD>(program, setting, value, ahead);
+        }
+        Answer::Asked(_)
+        | Answer::Again(_)
+        | Answer::Held(_)
+        | Answer::Preferred(_)
+        | Answer::Turn(_)
+        | Answer::Done => {
+            ahead.clear();
+            take_answer::<S, READINGS, HELD>(program, setting, answer);
+        }
+    }
+}
+
+/// Changes as the answer to its next step wants it, as `take` does. Once it has a lock it sees ahead by
+/// these words, which need not be so: where a word then has what was foreseen of it, no walk is needed.
+pub fn take_ahead<S: Scripts<READINGS, HELD>, const READINGS: usize, const HELD: usize>(
+    program: &mut AttemptOf<S, READINGS, HELD>,
+    setting: &S::Setting,
+    answer: Answer,
+    words: &mut [u64],
+    ahead: &mut AheadOf<S, READINGS, HELD>,
+)
+    requires setting { S.IsSetting setting.now }
+    requires scripts { AreScripts S.Lock.eq S.reply_of S.effects_of (S.system setting.now)
+        (S.Knows setting.now) READINGS HELD }
+    requires stands { Stands S.Lock.eq S.reply_of S.effects_of (S.system setting.now)
+        (S.Knows setting.now) READINGS HELD program.old }
+    requires foreseen { IsForeseen S.Lock.eq (S.system setting.now) (S.Knows setting.now)
+        program.old ahead.old.left ahead.old.further }
+    ensures change { let O = system_with S.Lock.eq S.reply_of S.effects_of (S.system setting.now) in
+        attempt_of S.reply_of S.effects_of program.new
+        ≡ change O (attempt_of S.reply_of S.effects_of program.old) answer }
+    ensures count { program.new.count
+        ≡ count_in program.new.phase program.new.held (counted program.old.count) }
+    ensures stands { Stands S.Lock.eq S.reply_of S.effects_of (S.system setting.now)
+        (S.Knows setting.now) READINGS HELD program.new }
+    ensures foreseen { IsForeseen S.Lock.eq (S.system setting.now) (S.Knows setting.now)
+        program.new ahead.new.left ahead.new.further }
+{
+    take_answer_ahead::<S, READINGS, HELD>(program, setting, answer, words, ahead);
+    program.count_step();
 }

@@ -1,7 +1,7 @@
 //! An actor's attempt at a job, at run time, for any jobs of `turns` that are given by a walk.
 #![tactic(auto)]
 
-pub use ahead::{Ahead, AheadOf, Further};
+pub use ahead::{Ahead, AheadOf, Further, take_ahead};
 pub use attempt::{Attempt, AttemptOf};
 pub use closing::take_close;
 pub use jobs::Attempts;

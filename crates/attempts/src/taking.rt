@@ -145,7 +145,7 @@ fn take_refusal<S: Scripts<READINGS, HELD>, const READINGS: usize, const HELD: u
 }
 
 /// The lock that it seizes.
-fn to_seize<S: Scripts<READINGS, HELD>, const READINGS: usize, const HELD: usize>(
+pub(crate) fn to_seize<S: Scripts<READINGS, HELD>, const READINGS: usize, const HELD: usize>(
     program: &AttemptOf<S, READINGS, HELD>,
     setting: &S::Setting,
 ) -> Option<S::Lock>
@@ -188,7 +188,7 @@ fn take_lock<S: Scripts<READINGS, HELD>, const READINGS: usize, const HELD: usiz
 }
 
 /// The word that it tests, which may have this value.
-fn to_test<S: Scripts<READINGS, HELD>, const READINGS: usize, const HELD: usize>(
+pub(crate) fn to_test<S: Scripts<READINGS, HELD>, const READINGS: usize, const HELD: usize>(
     program: &AttemptOf<S, READINGS, HELD>,
     setting: &S::Setting,
     value: u64,
@@ -246,7 +246,7 @@ pub(crate) fn read_up_to<S: Scripts<READINGS, HELD>, const READINGS: usize, cons
 }
 
 /// Goes on with this read too, without a walk where none is needed.
-fn read<S: Scripts<READINGS, HELD>, const READINGS: usize, const HELD: usize>(
+pub(crate) fn read<S: Scripts<READINGS, HELD>, const READINGS: usize, const HELD: usize>(
     program: &mut AttemptOf<S, READINGS, HELD>,
     setting: &S::Setting,
     reading: Reading<usize>,
@@ -354,7 +354,7 @@ fn take_done<S: Scripts<READINGS, HELD>, const READINGS: usize, const HELD: usiz
 }
 
 /// Changes, but for its count.
-fn take_answer<S: Scripts<READINGS, HELD>, const READINGS: usize, const HELD: usize>(
+pub(crate) fn take_answer<S: Scripts<READINGS, HELD>, const READINGS: usize, const HELD: usize>(
     program: &mut AttemptOf<S, READINGS, HELD>,
     setting: &S::Setting,
     answer: Answer,
