@@ -13,6 +13,10 @@ pub mod Taken
 pub mod Counts
 pub mod SeenSteps
 pub mod LiveWalks
+pub mod LookingAhead
+pub mod Foreseen
+pub mod TakenBack
+pub mod SeenAhead
 pub mod LiveSteps
 pub mod LiveStands
 pub mod LiveEnds

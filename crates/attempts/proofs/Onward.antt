@@ -1,6 +1,6 @@
 -- with what was seized or read there is room, and what the point says is so
 use Rattle.std.proofs.Common.{◌≡◌, ℕ, ◌<◌, ◌^◌, Bool, true, List, [], ◌∷◌, ◌++◌, length, refl, sym, ◌∙◌, ap, subst}
-use Rattle.std.specs.Prelude.{None, Err}
+use Rattle.std.specs.Prelude.{Option, None, Some, IfSome, Err}
 use Rattle.turns.specs.Attempt.{Act, StandsIn, act, change, restarted}
 use Rattle.turns.specs.Script.{value_read, walk}
 use Rattle.turns.specs.Seen.{Seen}
@@ -13,6 +13,7 @@ use Rattle.turns.specs.declared.reading.Reading.{Reading}
 use Rattle.turns.specs.declared.wanted.Wanted.TheVariants.{Test}
 use Rattle.turns.proofs.Room.{held_before, read_before}
 use Rattle.turns.proofs.Words.{read_more}
+use Rattle.desks.specs.declared.jobs.WordStep.{WordStep}
 use Rattle.attempts.specs.Points.{Extends}
 use Rattle.attempts.specs.Standing.{AreScripts, Program, CanWalk, HasPlace, KnowsIn, Stands, attempt_of}
 use Rattle.attempts.specs.SystemWith.{SystemWith, system_with}
@@ -101,3 +102,8 @@ module _ {Lock Job Reply Effect Decision Point : Type 0} (same : Lock → Lock �
   -- its next step is made on one of the words
   pub step_there : (p : Doing) (step : Act Lock Effect) (n : ℕ) → StandsHere p → n ≡ place O step → step ≡ act (attempt_of reply_of effects_of p) → n < S.size
   step_there p step n stands at next = subst (λ (m : ℕ). m < S.size) (sym (at ∙ ap (place O) next)) (place_there O are.is_system R H are.asks (attempt_of reply_of effects_of p) stands.place)
+
+  -- if it has one
+  pub steps_there : (p : Doing) (step : Option WordStep) → StandsHere p → IfSome step (λ made. made.place ≡ place O (act (attempt_of reply_of effects_of p))) → IfSome step (λ made. made.place < S.size)
+  steps_there p None stands at = tt
+  steps_there p (Some made) stands at = step_there p (act (attempt_of reply_of effects_of p)) made.place stands at refl

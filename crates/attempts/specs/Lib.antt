@@ -4,6 +4,7 @@ pub mod Standing
 pub mod Taken
 pub mod Steps
 pub mod Counting
+pub mod Foresight
 pub mod Live
 pub mod Marks
 pub mod Running

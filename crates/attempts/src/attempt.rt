@@ -171,7 +171,7 @@ impl<
     }
 
     /// The lock that it requests or seizes next.
-    pub(crate) fn to_ask(&self) -> Option<L>
+    pub fn to_ask(&self) -> Option<L>
         ensures { result ≡ asked_in self.now.phase }
     {
         let phase = self.phase;

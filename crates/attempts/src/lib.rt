@@ -3,17 +3,20 @@
 
 pub use attempt::{Attempt, AttemptOf};
 pub use closing::take_close;
+pub use foresight::{Foresight, ForesightOf};
 pub use jobs::Attempts;
 pub use running::run;
 pub use scripts::{OnWords, Scripts};
 pub use seen::Seen;
 pub use showing::{is_done, next, next_effect, outcome};
 pub use starting::{begin, restart};
-pub use step::{Step, answer, operation, place};
+pub use step::Step;
 pub use taking::take;
 
 mod attempt;
 mod closing;
+mod foreseeing;
+mod foresight;
 mod jobs;
 pub mod laws;
 mod readings;
@@ -24,3 +27,4 @@ mod showing;
 mod starting;
 mod step;
 mod taking;
+mod taking_ahead;

@@ -1,4 +1,4 @@
-ghost use Rattle.std.specs.Prelude.{◌≡◌, ◌==◌, ◌-◌, ◌%◌, ◌^◌, ◌<◌, [], ◌∷◌, ◌++◌, IfSome, None, length, option_and_then, option_map, slice_get};
+ghost use Rattle.std.specs.Prelude.{◌≡◌, ◌==◌, ◌-◌, ◌%◌, ◌^◌, ◌<◌, [], ◌∷◌, ◌++◌, IfSome, None, drop, length, option_and_then, option_map, slice_get, take};
 ghost use Rattle.std.specs.List.{position};
 ghost use Rattle.turns.specs.Script.{value_read};
 ghost use Rattle.turns.specs.Seen.{AreReadWords};
@@ -59,6 +59,17 @@ fn value_at(readings: &[Reading<usize>], place: usize) -> Option<u64>
     readings.get(place).map(|reading| reading.value)
 }
 
+/// The readings from a place on.
+fn read_from(readings: &[Reading<usize>], place: usize) -> &[Reading<usize>]
+    ensures { result.now ≡ drop place readings.now }
+{
+    if place < readings.len() {
+        &readings[place..]
+    } else {
+        &[]
+    }
+}
+
 impl<const MOST: usize> Readings<MOST> {
     #[tactic(auto, using(crate::proofs::Marked::marked_none))]
     pub fn new() -> Self
@@ -117,6 +128,18 @@ impl<const MOST: usize> Readings<MOST> {
         let found = self.place_of(word)?;
         *place = found + 1;
         value_at(items, found)
+    }
+
+    /// Takes back all but the first so many, and hands them out.
+    pub fn take_back(&mut self, kept: usize, into: &mut ArrayVec<Reading<usize>, MOST>)
+        ensures kept { self.new ≡ take kept self.old }
+        ensures into { into.new.items ≡ drop kept self.old }
+    {
+        into.clear();
+        let Ok(()) = into.try_extend_from_slice(read_from(self.items.as_slice(), kept)) else {
+            unreachable!()
+        };
+        self.items.truncate(kept);
     }
 
     /// So many words may still be read.

@@ -1,7 +1,8 @@
-ghost use Rattle.std.specs.Prelude.{◌≡◌, ◌<◌, ◌+◌, ◌^◌, Err, List, IfOk, IfSome, slice_get};
+ghost use Rattle.std.specs.Prelude.{◌≡◌, ◌<◌, ◌≤◌, ◌+◌, ◌^◌, Err, List, IfOk, IfSome, slice_get};
 
 use crate::seen::Seen;
 use std::alloc::{AllocError, Global};
+use std::ops::Range;
 use turns::{Operation, Wanted};
 
 /// Jobs by their scripts, of which none tests more than `READINGS` words or seizes more than `HELD`
@@ -133,6 +134,12 @@ pub trait OnWords<const READINGS: usize, const HELD: usize>: Scripts<READINGS, H
     /// The number of a lock's own word.
     fn lock_word(setting: &Self::Setting, lock: Self::Lock) -> usize
         ensures { result ≡ (Self.system setting.now).lock_word lock };
+
+    /// The words that stand under a lock, where they stand one after another. An actor that has seized
+    /// it glimpses at them, so that one walk finds what it will want of them all. Where none are told
+    /// it walks with each reading, and words that others may change as well cost time alone.
+    fn words_under(setting: &Self::Setting, lock: Self::Lock) -> Range<usize>
+        ensures { result.end ≤ (Self.system setting.now).size };
 
     ghost are_scripts: { (setting : Self.Setting) → Self.IsSetting setting
         → AreScripts Self.Lock.eq Self.reply_of Self.effects_of (Self.system setting)

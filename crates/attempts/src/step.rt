@@ -1,14 +1,18 @@
 //! An attempt's next step: its word, the operation that makes it there, and what it is told.
 
-ghost use Rattle.std.specs.Prelude.{◌≡◌, ◌<◌};
-ghost use Rattle.turns.specs.Attempt.{answer_to, unless_put_off};
+ghost use Rattle.std.specs.Prelude.{◌≡◌, ◌==◌, ◌<◌, if◌then◌else◌};
+ghost use Rattle.turns.specs.Attempt.{act, answer_to, unless_put_off};
+ghost use Rattle.turns.specs.Sharing.{with_request};
+ghost use Rattle.turns.specs.Sharings.{preferring};
+ghost use Rattle.attempts.specs.Standing.{attempt_of};
 ghost use Rattle.turns.specs.World.{operation as operation_of, place as place_of};
 ghost use Rattle.attempts.specs.Steps.{act_of};
 ghost use Rattle.attempts.specs.SystemWith.{system_with};
 
+use crate::attempt::AttemptOf;
 use crate::scripts::{OnWords, Scripts};
 use turns::lock_word::{asked_by, request_bit, taken_by};
-use turns::{Answer, Judgement, Operation};
+use turns::{Answer, Judgement, Operation, Phase};
 
 /// The next step of an attempt.
 #[derive(Clone, Copy, Debug, PartialEq, Eq)]
@@ -37,7 +41,7 @@ fn tell(answer: Answer, judgement: Judgement) -> Answer
 }
 
 /// The number of the word that a step is made on.
-pub fn place<S: OnWords<READINGS, HELD>, const READINGS: usize, const HELD: usize>(
+pub(crate) fn place<S: OnWords<READINGS, HELD>, const READINGS: usize, const HELD: usize>(
     setting: &S::Setting,
     step: Step<S::Lock, S::Effect>,
 ) -> usize
@@ -57,7 +61,7 @@ pub fn place<S: OnWords<READINGS, HELD>, const READINGS: usize, const HELD: usiz
 }
 
 /// The operation by which an actor makes a step on its word.
-pub fn operation<S: OnWords<READINGS, HELD>, const READINGS: usize, const HELD: usize>(
+pub(crate) fn operation<S: OnWords<READINGS, HELD>, const READINGS: usize, const HELD: usize>(
     setting: &S::Setting,
     actor: u32,
     step: Step<S::Lock, S::Effect>,
@@ -81,34 +85,51 @@ pub fn operation<S: OnWords<READINGS, HELD>, const READINGS: usize, const HELD: 
     }
 }
 
-/// What an actor is told of its step that found this number.
-pub fn answer<S: Scripts<READINGS, HELD>, const READINGS: usize, const HELD: usize>(
-    setting: &S::Setting,
+/// What an actor is told of its request, which found this number.
+fn asked(actor: u32, found: u64) -> Answer
+    requires { actor < 48 }
+    ensures { result ≡ unless_put_off (Answer.Asked (with_request preferring actor found))
+        (preferring.judged actor (with_request preferring actor found)) }
+{
+    let word = asked_by(actor, found);
+    tell(Answer::Asked(word), Judgement::of(actor, word))
+}
+
+/// What an actor is told of its seizing of a lock whose word was to be this one, which found this number.
+fn taken(actor: u32, expected: u64, found: u64) -> Answer
+    requires { actor < 48 }
+    ensures { result
+        ≡ (if found == expected then Answer.Seized
+        else unless_put_off (Answer.Again found) (preferring.judged actor found)) }
+{
+    if found == expected {
+        Answer::Seized
+    } else {
+        tell(Answer::Again(found), Judgement::of(actor, found))
+    }
+}
+
+/// What an actor is told of its attempt's next step, which found this number. That goes by the phase
+/// alone.
+#[inline(always)]
+pub(crate) fn told<S: Scripts<READINGS, HELD>, const READINGS: usize, const HELD: usize>(
+    _setting: &S::Setting,
     actor: u32,
-    step: Step<S::Lock, S::Effect>,
+    program: &AttemptOf<S, READINGS, HELD>,
     found: u64,
 ) -> Answer
     requires { actor < 48 }
-    ensures { let O = system_with S.Lock.eq S.reply_of S.effects_of (S.system setting.now) in
-        result ≡ answer_to O actor (act_of step) found }
+    ensures { let O = system_with S.Lock.eq S.reply_of S.effects_of (S.system _setting.now) in
+        result ≡ answer_to O actor (act (attempt_of S.reply_of S.effects_of program.now)) found }
 {
-    match step {
-        Step::Ask(_) => {
-            let word = asked_by(actor, found);
-            tell(Answer::Asked(word), Judgement::of(actor, word))
-        }
-        Step::Take(_, expected) => {
-            if found == expected {
-                Answer::Seized
-            } else {
-                tell(Answer::Again(found), Judgement::of(actor, found))
-            }
-        }
-        Step::Look(_) => Answer::Value(found),
-        Step::Turn => Answer::Turn(found),
-        Step::Leave(_) => Answer::Done,
-        Step::Free(_) => Answer::Done,
-        Step::Make(_) => Answer::Done,
-        Step::Rest => Answer::Done,
+    let phase = program.phase;
+    match phase {
+        Phase::Requests(_) => asked(actor, found),
+        Phase::Seizes(_, expected) => taken(actor, expected, found),
+        Phase::Tests(_) => Answer::Value(found),
+        Phase::Turns => Answer::Turn(found),
+        Phase::Withdraws(_) => Answer::Done,
+        Phase::GivesBack => Answer::Done,
+        Phase::Operates(_) => Answer::Done,
     }
 }

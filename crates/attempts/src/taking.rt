@@ -34,8 +34,10 @@ pub(crate) fn walk_by<S: Scripts<READINGS, HELD>, const READINGS: usize, const H
     S::walk(setting, job, point, seen, words)
 }
 
-/// Goes on through the job from where it stands, as far as it goes.
-fn walk_on<S: Scripts<READINGS, HELD>, const READINGS: usize, const HELD: usize>(
+/// Goes on through the job from where it stands, as far as it goes. Not inlined, so that a step that
+/// needs no walk pays for no walk's locals.
+#[inline(never)]
+pub(crate) fn walk_on<S: Scripts<READINGS, HELD>, const READINGS: usize, const HELD: usize>(
     program: &mut AttemptOf<S, READINGS, HELD>,
     setting: &S::Setting,
 )
@@ -145,7 +147,7 @@ fn take_refusal<S: Scripts<READINGS, HELD>, const READINGS: usize, const HELD: u
 }
 
 /// The lock that it seizes.
-fn to_seize<S: Scripts<READINGS, HELD>, const READINGS: usize, const HELD: usize>(
+pub(crate) fn to_seize<S: Scripts<READINGS, HELD>, const READINGS: usize, const HELD: usize>(
     program: &AttemptOf<S, READINGS, HELD>,
     setting: &S::Setting,
 ) -> Option<S::Lock>
@@ -188,7 +190,7 @@ fn take_lock<S: Scripts<READINGS, HELD>, const READINGS: usize, const HELD: usiz
 }
 
 /// The word that it tests, which may have this value.
-fn to_test<S: Scripts<READINGS, HELD>, const READINGS: usize, const HELD: usize>(
+pub(crate) fn to_test<S: Scripts<READINGS, HELD>, const READINGS: usize, const HELD: usize>(
     program: &AttemptOf<S, READINGS, HELD>,
     setting: &S::Setting,
     value: u64,
@@ -227,7 +229,7 @@ fn read_on<S: Scripts<READINGS, HELD>, const READINGS: usize, const HELD: usize>
 }
 
 /// Goes on to this word with this read too.
-fn read_up_to<S: Scripts<READINGS, HELD>, const READINGS: usize, const HELD: usize>(
+pub(crate) fn read_up_to<S: Scripts<READINGS, HELD>, const READINGS: usize, const HELD: usize>(
     program: &mut AttemptOf<S, READINGS, HELD>,
     setting: &S::Setting,
     reading: Reading<usize>,
@@ -246,7 +248,7 @@ fn read_up_to<S: Scripts<READINGS, HELD>, const READINGS: usize, const HELD: usi
 }
 
 /// Goes on with this read too, without a walk where none is needed.
-fn read<S: Scripts<READINGS, HELD>, const READINGS: usize, const HELD: usize>(
+pub(crate) fn read<S: Scripts<READINGS, HELD>, const READINGS: usize, const HELD: usize>(
     program: &mut AttemptOf<S, READINGS, HELD>,
     setting: &S::Setting,
     reading: Reading<usize>,
@@ -354,7 +356,8 @@ fn take_done<S: Scripts<READINGS, HELD>, const READINGS: usize, const HELD: usiz
 }
 
 /// Changes, but for its count.
-fn take_answer<S: Scripts<READINGS, HELD>, const READINGS: usize, const HELD: usize>(
+#[inline(always)]
+pub(crate) fn take_answer<S: Scripts<READINGS, HELD>, const READINGS: usize, const HELD: usize>(
     program: &mut AttemptOf<S, READINGS, HELD>,
     setting: &S::Setting,
     answer: Answer,

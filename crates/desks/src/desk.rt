@@ -22,7 +22,9 @@ pub struct Desk<F: Jobs> {
     pub(crate) setting: F::Kept,
     pub(crate) seat: Seat<(), Knows<F>>,
     pub(crate) number: u32,
-    pub(crate) doing: Option<(u64, F::Program)>,
+    pub(crate) doing: Option<(u64, F::Program, F::Foresight)>,
+    /// Each word as the desk glimpsed it last.
+    pub(crate) glimpses: Vec<u64>,
 }
 
 impl<F: Jobs> Model for Desk<F> {
@@ -47,7 +49,8 @@ impl<F: Jobs> Model for Desk<F> {
     ghost invariant = { λ d. F.IsSetting (F.kept d.setting)
         × IsSeated (system_of (F.system (F.kept d.setting))) d.number d.seat.me
         (actor_of F.attempt d.doing)
-        × IfSome d.doing (λ doing. F.Stands (F.kept d.setting) doing.1) };
+        × IfSome d.doing (λ doing. F.Stands (F.kept d.setting) doing.1
+        × F.Foresees (F.kept d.setting) doing.1 doing.2) };
 }
 
 impl<F: Jobs> Desk<F> {
@@ -65,7 +68,7 @@ impl<F: Jobs> Desk<F> {
         ensures { result ≡ is_free (system_of (F.system self.now.setting)) self.now.actor }
     {
         match &self.doing {
-            Some((_, program)) => F::rests(program),
+            Some((_, program, _)) => F::rests(program),
             None => true,
         }
     }
@@ -76,7 +79,7 @@ impl<F: Jobs> Desk<F> {
             (λ doing. self.now.actor ≡ Does doing.0 (F.attempt doing.1.now)) }
     {
         match &self.doing {
-            Some((number, program)) => Some((*number, program)),
+            Some((number, program, _)) => Some((*number, program)),
             None => None,
         }
     }
@@ -95,7 +98,8 @@ impl<F: Jobs> Desk<F> {
         if !self.is_idle() {
             return false;
         }
-        self.doing = Some((number, F::begin(&self.setting, job)));
+        let (program, foresight) = F::begin(&self.setting, job);
+        self.doing = Some((number, program, foresight));
         true
     }
 
@@ -108,7 +112,7 @@ impl<F: Jobs> Desk<F> {
         ensures advanced { HasAdvanced (system_of (F.system setting.now)) self.old.number
             self.old.actor self.new.actor self.old.seen self.new.seen result }
     {
-        let Some((number, program)) = &mut self.doing else {
+        let Some((number, program, foresight)) = &mut self.doing else {
             return Progress::Idle;
         };
         if F::rests(program) {
@@ -122,6 +126,8 @@ impl<F: Jobs> Desk<F> {
             self.number,
             *number,
             program,
+            foresight,
+            self.glimpses.as_mut_slice(),
         );
         tell::<F>(setting, &self.seat, answer, self.number, *number, program)
     }
@@ -136,10 +142,10 @@ impl<F: Jobs> Desk<F> {
             self.old.actor self.new.actor self.old.seen self.new.seen }
     {
         laws::every_move_keeps_the_law::<Systems<F>>();
-        let Some((number, program)) = &mut self.doing else {
+        let Some((number, program, foresight)) = &mut self.doing else {
             return;
         };
-        F::restart(setting, program);
+        F::restart(setting, program, foresight);
         let shared = &room.table.shared;
         free_all::<F>(
             shared,
@@ -148,6 +154,8 @@ impl<F: Jobs> Desk<F> {
             self.number,
             *number,
             program,
+            foresight,
+            self.glimpses.as_mut_slice(),
         );
     }
 }

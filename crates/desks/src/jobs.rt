@@ -1,7 +1,15 @@
-ghost use Rattle.std.specs.Prelude.{◌≡◌, ◌≢◌, ◌<◌, IfOk};
+ghost use Rattle.std.specs.Prelude.{◌≡◌, ◌≢◌, ◌<◌, ◌≤◌, ℕ, IfNone, IfOk, IfSome, true};
 
 use std::alloc::{AllocError, Global};
+use std::ops::Range;
 use turns::{Answer, Operation};
+
+/// An atomic operation, and the number of the word that it is made on.
+#[derive(Clone, Copy, Debug, PartialEq, Eq)]
+pub struct WordStep {
+    pub place: usize,
+    pub operation: Operation,
+}
 
 /// Jobs that actors do on shared words, as `turns` has them, and the program that an actor does a
 /// job with.
@@ -30,8 +38,13 @@ pub trait Jobs {
     type Reply: Drop;
 
     type Effect;
+
     /// An actor's attempt at a job.
     type Program: Drop;
+
+    /// What a program makes beforehand of words that its desk has glimpsed. It is kept beside the
+    /// program, which is what it is whatever that may be.
+    type Foresight: Drop;
 
     ghost kept: { Self.Kept → Self.Setting };
 
@@ -44,15 +57,19 @@ pub trait Jobs {
     // What a program keeps under a setting.
     ghost Stands: { Self.Setting → Self.Program → Type 0 };
 
+    // What is foreseen of it is so.
+    ghost Foresees: { Self.Setting → Self.Program → Self.Foresight → Type 0 };
+
     fn keep(setting: &Self::Setting) -> Self::Kept
         ensures { kept result ≡ setting.now };
 
     /// A desk holds no borrow of the setting, only what it keeps of it.
-    fn begin(setting: &Self::Kept, job: Self::Job) -> Self::Program
+    fn begin(setting: &Self::Kept, job: Self::Job) -> (Self::Program, Self::Foresight)
         requires setting { IsSetting (kept setting.now) }
         requires job { (system (kept setting.now)).IsJob job }
-        ensures begins { attempt result ≡ begin (system_of (system (kept setting.now))) job }
-        ensures stands { Stands (kept setting.now) result };
+        ensures begins { attempt result.0 ≡ begin (system_of (system (kept setting.now))) job }
+        ensures stands { Stands (kept setting.now) result.0 }
+        ensures foresees { Foresees (kept setting.now) result.0 result.1 };
 
     /// How many words there are.
     fn size(setting: &Self::Setting) -> usize
@@ -78,36 +95,56 @@ pub trait Jobs {
     fn outcome(program: &Self::Program) -> Option<(u64, Self::Job, Self::Reply)>
         ensures { result ≡ outcome_of (attempt program.now) };
 
-    /// The number of the word that its next step is made on.
-    fn place(setting: &Self::Setting, program: &Self::Program) -> usize
-        requires { Stands setting.now program.now }
-        ensures place { result
-            ≡ place_of (system_of (system setting.now)) (act (attempt program.now)) }
-        ensures there { result < (system setting.now).size };
-
-    /// The operation that makes its next step.
-    fn operation(setting: &Self::Setting, actor: u32, program: &Self::Program) -> Operation
+    /// Its next step; none where its job is done, and it holds nothing.
+    fn next(setting: &Self::Setting, actor: u32, program: &Self::Program) -> Option<WordStep>
         requires actor { actor < (system setting.now).sharing.most }
-        ensures { result
-            ≡ operation_of (system_of (system setting.now)) actor (act (attempt program.now)) };
+        requires stands { Stands setting.now program.now }
+        ensures place { IfSome result (λ step. step.place
+            ≡ place_of (system_of (system setting.now)) (act (attempt program.now))) }
+        ensures there { IfSome result (λ step. step.place < (system setting.now).size) }
+        ensures operation { IfSome result (λ step. step.operation
+            ≡ operation_of (system_of (system setting.now)) actor (act (attempt program.now))) }
+        ensures none { IfNone result (act (attempt program.now) ≡ Rest) };
 
-    /// Tells it the number that its next step found.
-    fn take(setting: &Self::Setting, actor: u32, program: &mut Self::Program, found: u64) -> Answer
+    /// The words that nobody else changes for now, once its next step has found this number, as those
+    /// under a lock that it has seized: the desk glimpses at them. Words that may change as well cost
+    /// time alone.
+    fn in_sight(setting: &Self::Setting, program: &Self::Program, found: u64) -> Range<usize>
+        requires { Stands setting.now program.now }
+        ensures { result.end ≤ (system setting.now).size };
+
+    /// Tells it the number that its next step found. By the words as the desk glimpsed them it may
+    /// find out what it wants further on; what becomes of it comes of what its steps find alone.
+    fn take(
+        setting: &Self::Setting,
+        actor: u32,
+        program: &mut Self::Program,
+        foresight: &mut Self::Foresight,
+        found: u64,
+        glimpses: &mut [u64],
+    ) -> Answer
         requires actor { actor < (system setting.now).sharing.most }
         requires stands { Stands setting.now program.old }
+        requires foresees { Foresees setting.now program.old foresight.old }
         requires goes_on { act (attempt program.old) ≢ Rest }
         ensures next { attempt program.new
             ≡ next (system_of (system setting.now)) actor (attempt program.old) found }
         ensures answer { result
             ≡ answer_to (system_of (system setting.now)) actor (act (attempt program.old)) found }
-        ensures stands { Stands setting.now program.new };
+        ensures stands { Stands setting.now program.new }
+        ensures foresees { Foresees setting.now program.new foresight.new };
 
     /// Begins anew, once all that it holds is given back. Past the turn nothing changes.
-    fn restart(setting: &Self::Setting, program: &mut Self::Program)
+    fn restart(
+        setting: &Self::Setting,
+        program: &mut Self::Program,
+        foresight: &mut Self::Foresight,
+    )
         requires { Stands setting.now program.old }
         ensures restarts { attempt program.new
             ≡ restarted (system_of (system setting.now)) (attempt program.old) }
-        ensures stands { Stands setting.now program.new };
+        ensures stands { Stands setting.now program.new }
+        ensures foresees { Foresees setting.now program.new foresight.new };
 
     ghost is_system: { (setting : Self.Setting) → IsSetting setting
         → IsSystem (system_of (system setting)) };

@@ -2,7 +2,7 @@
 #![tactic(auto)]
 
 pub use desk::Desk;
-pub use jobs::Jobs;
+pub use jobs::{Jobs, WordStep};
 pub use meeting::meet;
 pub use progress::{Progress, Told};
 pub use room::Room;

@@ -1,4 +1,4 @@
-ghost use Rattle.std.specs.Prelude.{◌≡◌, ◌≤◌, ◌<◌, ℕ, [], None, IfOk, IfSome, slice_get, vec_capacity, vec_len};
+ghost use Rattle.std.specs.Prelude.{◌≡◌, ◌≤◌, ◌<◌, ℕ, [], None, IfOk, IfSome, OnOk, slice_get, vec_capacity, vec_len};
 ghost use Rattle.desks.specs.Parts.{idle_parts};
 ghost use Rattle.desks.specs.Views.{AreNew};
 ghost use Rattle.turns.specs.System.{system_of};
@@ -38,29 +38,33 @@ impl<F: Jobs> Model for Room<F> {
 
 /// Gives each of the actors that a seat knows a desk of its own.
 fn deal<F: Jobs>(
+    alloc: Global,
     shared: &Words<F>,
     setting: &F::Setting,
     mut seat: Seat<(), Knows<F>>,
     count: u32,
     desks: &mut Vec<Desk<F>>,
-)
+) -> Result<(), AllocError>
     requires setting { F.IsSetting setting.now }
     requires few { count ≤ (F.system setting.now).sharing.most }
     requires room { (shared.now.key.setting.value ≡ setting.now) × (0 < shared.now.table_id.words) }
     requires seat { (seat.table_id ≡ shared.now.table_id) × (seat.me ≡ (idle_parts 0 count, [])) }
     requires none { (desks.old.items ≡ []) × (count ≤ vec_capacity desks.old) }
-    ensures { AreNew desks.new.items
-        (record { table = shared.now.table_id; setting = setting.now; count = count }) }
+    ensures { OnOk result (AreNew desks.new.items
+        (record { table = shared.now.table_id; setting = setting.now; count = count })) }
 {
     for number in 0..count {
+        let glimpses = vec![in alloc; u64::MAX; F::size(setting)]?;
         let one = shared.split_seat::<Parted>(&mut seat);
         desks.push_reserved(Desk {
             setting: F::keep(setting),
             seat: one,
             number,
             doing: None,
+            glimpses,
         });
     }
+    Ok(())
 }
 
 impl<F: Jobs> Room<F> {
@@ -83,7 +87,7 @@ impl<F: Jobs> Room<F> {
             count,
         };
         let (table, seat) = Table::of_words(alloc, words.as_slice(), &key)?;
-        deal(&table.shared, setting, seat, count, &mut desks);
+        deal(alloc, &table.shared, setting, seat, count, &mut desks)?;
         Ok((Room { table }, desks))
     }
 }

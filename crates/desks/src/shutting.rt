@@ -35,6 +35,7 @@ fn seat_of<F: Jobs>(desk: Desk<F>) -> Seat<(), Knows<F>>
         seat,
         number: _,
         doing: _,
+        glimpses: _,
     } = desk;
     seat
 }

@@ -1,20 +1,21 @@
-ghost use Rattle.std.specs.Prelude.{◌≡◌, ◌≢◌, ◌<◌, ℕ};
+ghost use Rattle.std.specs.Prelude.{◌≡◌, ◌≢◌, ◌<◌, ◌≤◌, ℕ};
 ghost use Rattle.atomic_table.specs.Table.{Allows};
 ghost use Rattle.turns.specs.Attempt.{Rest, act};
 ghost use Rattle.turns.specs.World.{Does, becomes, place as place_of};
 ghost use Rattle.turns.specs.Law.{IsLegal};
-ghost use Rattle.desks.specs.Desks.{FreesAll, HasStepped, IsProgress, IsSeated, seen_in};
+ghost use Rattle.desks.specs.Desks.{FreesAll, HasStepped, IsProgress, IsSeated, IsTold, seen_in, told_record};
 ghost use Rattle.desks.specs.Kept.{HasEnded};
 ghost use Rattle.turns.specs.Operations.{applied};
 ghost use Rattle.desks.specs.Rule.{Rule};
 ghost use Rattle.turns.specs.System.{system_of};
 
 use crate::jobs::Jobs;
-use crate::progress::{Progress, Told as ToldRecord};
-use crate::rule::{Key, Rules, Systems, Telling, Told};
+use crate::progress::{Progress, Told};
+use crate::rule::{Key, Rules, Systems, Telling, Told as ToldBy};
 use crate::view::View;
 use atomic_table::{Seat, Shared};
 use std::marker::Brand;
+use std::ops::Range;
 use turns::{Answer, Operation, laws};
 
 pub type Knows<F> = View<
@@ -26,7 +27,8 @@ pub type Knows<F> = View<
 
 pub type Words<F> = Shared<(), Knows<F>, Key<<F as Jobs>::Setting>, Rules<F>>;
 
-fn operate<F: Jobs, T: Told<Knows<F>>>(
+#[inline(always)]
+fn operate<F: Jobs, T: ToldBy<Knows<F>>>(
     shared: &Words<F>,
     seat: &mut Seat<(), Knows<F>>,
     place: usize,
@@ -55,7 +57,8 @@ fn operate<F: Jobs, T: Told<Knows<F>>>(
 
 /// Makes the atomic operation of a program's next step, and gives the number found. The job's
 /// number is for the proof.
-fn make<F: Jobs, T: Told<Knows<F>>>(
+#[inline(always)]
+fn make<F: Jobs, T: ToldBy<Knows<F>>>(
     shared: &Words<F>,
     setting: &F::Setting,
     seat: &mut Seat<(), Knows<F>>,
@@ -68,6 +71,7 @@ fn make<F: Jobs, T: Told<Knows<F>>>(
     requires setting { shared.now.key.setting.value ≡ setting.now }
     requires actor { actor < (F.system setting.now).sharing.most }
     requires stands { F.Stands setting.now program.now }
+    requires goes_on { act (F.attempt program.now) ≢ Rest }
     requires allowed { (i : ℕ) (f : ℕ → ℕ)
         → i ≡ place_of (system_of (F.system setting.now)) (act (F.attempt program.now))
         → ((n : ℕ)
@@ -79,12 +83,23 @@ fn make<F: Jobs, T: Told<Knows<F>>>(
         × (seat.new.me.1 ≡ seat.old.me.1) }
     ensures told { T.then seat.old.me.0 result seat.new.me.0 }
 {
-    let place = F::place(setting, program);
-    let operation = F::operation(setting, actor, program);
-    operate::<F, T>(shared, seat, place, operation)
+    let Some(step) = F::next(setting, actor, program) else {
+        unreachable!()
+    };
+    operate::<F, T>(shared, seat, step.place, step.operation)
+}
+
+/// Looks at words, each by a load that is no step, and so tells nothing that could be relied on.
+fn glimpse<F: Jobs>(shared: &Words<F>, places: Range<usize>, glimpses: &mut [u64])
+    requires { places.end ≤ shared.now.table_id.words }
+{
+    for place in places.start..places.end.min(glimpses.len()) {
+        glimpses[place] = shared.peek(place);
+    }
 }
 
 /// A desk's next step.
+#[inline(always)]
 pub(crate) fn step<F: Jobs>(
     shared: &Words<F>,
     setting: &F::Setting,
@@ -92,17 +107,21 @@ pub(crate) fn step<F: Jobs>(
     actor: u32,
     number: u64,
     program: &mut F::Program,
+    foresight: &mut F::Foresight,
+    glimpses: &mut [u64],
 ) -> Answer
     requires table { seat.old.table_id ≡ shared.now.table_id }
     requires words { shared.now.table_id.words ≡ (F.system setting.now).size }
     requires key { shared.now.key.setting.value ≡ setting.now }
     requires setting { F.IsSetting setting.now }
     requires stands { F.Stands setting.now program.old }
+    requires foresees { F.Foresees setting.now program.old foresight.old }
     requires seated { IsSeated (system_of (F.system setting.now)) actor seat.old.me
         (Does number (F.attempt program.old)) }
     requires goes_on { act (F.attempt program.old) ≢ Rest }
     ensures same { seat.new.table_id ≡ seat.old.table_id }
     ensures stands { F.Stands setting.now program.new }
+    ensures foresees { F.Foresees setting.now program.new foresight.new }
     ensures stepped { HasStepped (system_of (F.system setting.now)) actor
         (Does number (F.attempt program.old)) (Does number (F.attempt program.new))
         (seen_in seat.old.me.0) (seen_in seat.new.me.0) result }
@@ -114,7 +133,8 @@ pub(crate) fn step<F: Jobs>(
 {
     laws::every_move_keeps_the_law::<Systems<F>>();
     let found = make::<F, Brand>(shared, setting, seat, actor, number, program);
-    F::take(setting, actor, program, found)
+    glimpse::<F>(shared, F::in_sight(setting, program, found), glimpses);
+    F::take(setting, actor, program, foresight, found, glimpses)
 }
 
 /// Steps on while what was held is given back: its request is withdrawn, and its locks are freed.
@@ -125,16 +145,20 @@ pub(crate) fn free_all<F: Jobs>(
     actor: u32,
     number: u64,
     program: &mut F::Program,
+    foresight: &mut F::Foresight,
+    glimpses: &mut [u64],
 )
     requires table { seat.old.table_id ≡ shared.now.table_id }
     requires words { shared.now.table_id.words ≡ (F.system setting.now).size }
     requires key { shared.now.key.setting.value ≡ setting.now }
     requires setting { F.IsSetting setting.now }
     requires stands { F.Stands setting.now program.old }
+    requires foresees { F.Foresees setting.now program.old foresight.old }
     requires seated { IsSeated (system_of (F.system setting.now)) actor seat.old.me
         (Does number (F.attempt program.old)) }
     ensures same { seat.new.table_id ≡ seat.old.table_id }
     ensures stands { F.Stands setting.now program.new }
+    ensures foresees { F.Foresees setting.now program.new foresight.new }
     ensures freed { FreesAll (system_of (F.system setting.now)) actor number
         (F.attempt program.old) (F.attempt program.new) (seen_in seat.old.me.0)
         (seen_in seat.new.me.0) }
@@ -142,38 +166,63 @@ pub(crate) fn free_all<F: Jobs>(
         (Does number (F.attempt program.new)) }
 {
     while F::is_given_up(program) {
-        step::<F>(shared, setting, seat, actor, number, program);
+        step::<F>(
+            shared, setting, seat, actor, number, program, foresight, glimpses,
+        );
+    }
+}
+
+/// The record of a job that has ended. Not inlined, so that a step that ends none carries no record.
+#[inline(never)]
+fn record_of<F: Jobs>(
+    _setting: &F::Setting,
+    seat: &Seat<(), Knows<F>>,
+    actor: u32,
+    number: u64,
+    program: &F::Program,
+) -> Told<F::Job, F::Reply>
+    requires legal { let O = system_of (F.system _setting.now) in
+        IsLegal O 0 O.opening (seen_in seat.now.me.0) }
+    requires rests { act (F.attempt program.now) ≡ Rest }
+    requires ended { act (F.attempt program.now) ≡ Rest
+        → HasEnded (system_of (F.system _setting.now)) (seen_in seat.now.me.0) actor number
+        (F.attempt program.now) }
+    ensures { IsTold (system_of (F.system _setting.now)) actor
+        (Does number (F.attempt program.now)) (seen_in seat.now.me.0) (told_record result) }
+{
+    let Some((turn, job, reply)) = F::outcome(program) else {
+        unreachable!()
+    };
+    Told {
+        turn,
+        actor,
+        number,
+        job,
+        reply,
     }
 }
 
 /// What a step has come to: where it was the last of its job, the job's record.
+#[inline(always)]
 pub(crate) fn tell<F: Jobs>(
-    _setting: &F::Setting,
+    setting: &F::Setting,
     seat: &Seat<(), Knows<F>>,
     answer: Answer,
     actor: u32,
     number: u64,
     program: &F::Program,
 ) -> Progress<F::Job, F::Reply>
-    requires legal { let O = system_of (F.system _setting.now) in
+    requires legal { let O = system_of (F.system setting.now) in
         IsLegal O 0 O.opening (seen_in seat.now.me.0) }
     requires ended { act (F.attempt program.now) ≡ Rest
-        → HasEnded (system_of (F.system _setting.now)) (seen_in seat.now.me.0) actor number
+        → HasEnded (system_of (F.system setting.now)) (seen_in seat.now.me.0) actor number
         (F.attempt program.now) }
-    ensures { IsProgress (system_of (F.system _setting.now)) actor
+    ensures { IsProgress (system_of (F.system setting.now)) actor
         (Does number (F.attempt program.now)) (seen_in seat.now.me.0) answer result }
 {
-    if !F::rests(program) {
-        return Progress::Moved(answer);
-    }
-    match F::outcome(program) {
-        Some((turn, job, reply)) => Progress::Finished(ToldRecord {
-            turn,
-            actor,
-            number,
-            job,
-            reply,
-        }),
-        None => unreachable!(),
+    if F::rests(program) {
+        Progress::Finished(record_of::<F>(setting, seat, actor, number, program))
+    } else {
+        Progress::Moved(answer)
     }
 }

@@ -3,15 +3,13 @@ use Rattle.std.specs.Prelude.{◌↔◌, ◌&&◌, ◌||◌, ◌==◌, not}
 use Rattle.std.specs.List.{list_any}
 use borrow.Author.Tests.{eqb-true, eq-eqb}
 use Rattle.xbar_equip.proofs.Logic.{both, both_hold, either, either_holds, not_either}
-use Rattle.xbar_equip.specs.Conn.{conn_eq}
+pub use Rattle.xbar_equip.specs.Equivalences.{conn_eq-exact, conn_eq-itself}
 use Rattle.xbar_equip.specs.Len.{Line, line_eq}
 use Rattle.xbar_equip.specs.Ten.{TrunkPlace, place_eq}
 use Rattle.xbar_equip.specs.Link.{Link, link_eq, kind_eq}
 use Rattle.xbar_equip.specs.Among.{IsIn}
 use Rattle.xbar_equip.specs.Path.{line_link, junctor, trunk_link}
 use Rattle.xbar_equip.specs.Paths.{has_link, is_idle}
-use Rattle.xbar_equip.specs.declared.conn.Conn.{Conn}
-use Rattle.xbar_equip.specs.declared.conn.Conn.TheVariants.{Llf, Tlf, Group}
 use Rattle.xbar_equip.specs.declared.link.LinkKind.{LinkKind}
 use Rattle.xbar_equip.specs.declared.link.LinkKind.TheVariants.{LineLink, Junctor, TrunkLink}
 use Rattle.xbar_equip.specs.declared.path.Path.{Path}
@@ -70,26 +68,6 @@ kind_eq-itself TrunkLink = refl
 
 pub kind_eq-exact : (a b : LinkKind) → (kind_eq a b ≡ true) ↔ (a ≡ b)
 kind_eq-exact a b = (kind_eq-one a b, λ same. ap (kind_eq a) (sym same) ∙ kind_eq-itself a)
-
--- the same of connectors
-conn_eq-one : (a b : Conn) → conn_eq a b ≡ true → a ≡ b
-conn_eq-one (Llf a) (Llf b) e = ap Llf (eqb-true a b e)
-conn_eq-one (Tlf a) (Tlf b) e = ap Tlf (eqb-true a b e)
-conn_eq-one (Group a) (Group b) e = ap Group (eqb-true a b e)
-conn_eq-one (Llf a) (Tlf b) e = cc
-conn_eq-one (Llf a) (Group b) e = cc
-conn_eq-one (Tlf a) (Llf b) e = cc
-conn_eq-one (Tlf a) (Group b) e = cc
-conn_eq-one (Group a) (Llf b) e = cc
-conn_eq-one (Group a) (Tlf b) e = cc
-
-pub conn_eq-itself : (conn : Conn) → conn_eq conn conn ≡ true
-conn_eq-itself (Llf frame) = number_eq-itself frame
-conn_eq-itself (Tlf frame) = number_eq-itself frame
-conn_eq-itself (Group group) = number_eq-itself group
-
-pub conn_eq-exact : (a b : Conn) → (conn_eq a b ≡ true) ↔ (a ≡ b)
-conn_eq-exact a b = (conn_eq-one a b, λ same. ap (conn_eq a) (sym same) ∙ conn_eq-itself a)
 
 -- the same of links
 pub link_eq-exact : (a b : Link) → (link_eq a b ≡ true) ↔ (a ≡ b)

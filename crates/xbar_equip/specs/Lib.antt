@@ -9,6 +9,7 @@ pub mod Dialled
 pub mod Link
 pub mod Path
 pub mod Conn
+pub mod Equivalences
 pub mod Word
 pub mod Crosspoint
 pub mod First

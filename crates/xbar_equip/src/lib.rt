@@ -12,8 +12,8 @@ pub use link::{Link, LinkKind};
 pub use path::Path;
 pub use ten::Ten;
 pub use word::{
-    WORD_COUNT, WordNo, conn_word, group_word, line_junctor, line_switch, protects, trunk_junctor,
-    trunk_switch, turn_word,
+    WORD_COUNT, WordNo, conn_number, conn_word, group_word, line_junctor, line_switch, protects,
+    trunk_junctor, trunk_switch, turn_word, words_under,
 };
 
 mod ascii;

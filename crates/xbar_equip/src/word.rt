@@ -1,9 +1,10 @@
-ghost use Rattle.std.specs.Prelude.{◌≡◌, ◌<◌, ◌+◌, ◌*◌, ℕ, IfSome};
+ghost use Rattle.std.specs.Prelude.{◌≡◌, ◌≤◌, ◌<◌, ◌+◌, ◌*◌, ℕ, IfSome, Some};
 ghost use Rattle.xbar_equip.specs.Conn.{IsConn};
 ghost use Rattle.xbar_equip.specs.Word.{Word, IsWord, word_count, word_number, protector, LineSwitch, LineJunctor, TrunkSwitch, TrunkJunctor, GroupWord, ConnWord, TurnWord};
 
 use crate::conn::Conn;
 use std::marker::Model;
+use std::ops::Range;
 
 /// How many shared words an office has: the list of all of them has this length, and word number `n` is its
 /// item `n`.
@@ -103,16 +104,23 @@ pub fn group_word(group: u8) -> WordNo
     WordNo::new(400 + u16::from(group))
 }
 
+/// 416 to 451, for the connectors that there are: the number of a connector's own word.
+pub fn conn_number(conn: Conn) -> u16
+    ensures { result ≡ word_number (ConnWord conn) }
+{
+    match conn {
+        Conn::Llf(frame) => 416 + u16::from(frame),
+        Conn::Tlf(frame) => 426 + u16::from(frame),
+        Conn::Group(group) => 436 + u16::from(group),
+    }
+}
+
 /// Words 416 to 451: who holds a connector and who asks for it.
 pub fn conn_word(conn: Conn) -> WordNo
     requires { IsConn conn }
     ensures { result ≡ word_number (ConnWord conn) }
 {
-    WordNo::new(match conn {
-        Conn::Llf(frame) => 416 + u16::from(frame),
-        Conn::Tlf(frame) => 426 + u16::from(frame),
-        Conn::Group(group) => 436 + u16::from(group),
-    })
+    WordNo::new(conn_number(conn))
 }
 
 /// Word 452, which counts turns.
@@ -135,5 +143,24 @@ pub fn protects(word: WordNo) -> Option<Conn>
         200..=399 => Some(Conn::Tlf(((number - 200) / 20) as u8)),
         400..=415 => Some(Conn::Group((number - 400) as u8)),
         _ => None,
+    }
+}
+
+/// The words that a connector protects, which stand one after another: twenty of a frame, one of a
+/// group. Of a connector that there isn't it may be none.
+pub fn words_under(conn: Conn) -> Range<usize>
+    ensures there { result.end ≤ word_count }
+    ensures all { (named : Word) → IsWord named → protector named ≡ Some conn →
+        (result.start ≤ word_number named) × (word_number named < result.end) }
+{
+    let (first, count) = match conn {
+        Conn::Llf(frame) => (20 * usize::from(frame), 20),
+        Conn::Tlf(frame) => (200 + 20 * usize::from(frame), 20),
+        Conn::Group(group) => (400 + usize::from(group), 1),
+    };
+    if first + count <= WORD_COUNT {
+        first..first + count
+    } else {
+        0..0
     }
 }

@@ -1,31 +1,64 @@
--- a desk may go to any thread: it has a seat, a program and a snapshot of its plan, which has no bytes
+-- a desk may go to any thread: it has a seat, an attempt with what that foresees, and a snapshot of its plan, which
+-- has no bytes
+use denote.Param as param
 use denote.Param.Send as send
+use denote.RattleType.{RattleType}
 use denote.Struct.Declared as declared
+use Rattle.attempts.proofs.attempt.Attempt.TheSendSync as attempt_sent
+use Rattle.attempts.proofs.foresight.Foresight.TheSendSync as foresight_sent
+use Rattle.attempts.specs.contracts.attempt.Attempt as attempt
+use Rattle.attempts.specs.contracts.foresight.Foresight as foresight
+use Rattle.attempts.specs.contracts.jobs.Attempts as attempts
+use Rattle.attempts.specs.contracts.jobs.AttemptsJobs.TheImpl as jobs
+use Rattle.atomic_table.below.core.specs.contracts.clone.Clone+copy.TheImpl as copies
 use Rattle.desks.proofs.desk.Desk.TheSendSync as below
+use Rattle.std.specs.contracts.snapshot.Snapshot as snapshot
 use Rattle.xbar_core.proofs.kind.Kind.TheSendSync as kind_sent
+use Rattle.xbar_equip.proofs.conn.Conn.TheSendSync as conn_sent
 use Rattle.xbar_equip.specs.contracts.conn.Conn as conn
+use Rattle.xbar_equip.specs.contracts.conn.ConnDefault.TheImpl as conn_default
+use Rattle.xbar_equip.specs.contracts.conn.ConnPartialEq.TheImpl as conn_equal
 use Rattle.xbar_fabric.specs.contracts.desk.Desk as desk
 use Rattle.xbar_fabric.specs.contracts.desk.Desk.TheInside as inside
-use Rattle.xbar_fabric.specs.contracts.office.Office as office
-use Rattle.xbar_fabric.specs.contracts.office.OfficeJobs.TheImpl as jobs
-use Rattle.xbar_jobs.specs.contracts.effect.Effect as effect
-use Rattle.xbar_jobs.specs.contracts.program.Program as program
-use Rattle.xbar_jobs.proofs.program.Program.TheSendSync as program_sent
+use Rattle.xbar_fabric.specs.contracts.office.SharedOffices as shared
+use Rattle.xbar_fabric.specs.contracts.office.SharedOfficesOnWords4219.TheImpl as on_words
+use Rattle.xbar_fabric.specs.contracts.office.SharedOfficesScripts4219.TheImpl as scripts
+use Rattle.xbar_jobs.proofs.decided.Decided.TheSendSync as decided_sent
+use Rattle.xbar_jobs.proofs.way.Way.TheSendSync as way_sent
+use Rattle.xbar_jobs.specs.contracts.decided.Decided as decided
+use Rattle.xbar_jobs.specs.contracts.office_effect.OfficeEffect as effect
+use Rattle.xbar_jobs.specs.contracts.way.Way as way
+use Rattle.xbar_office.proofs.job.Job.TheSendSync as job_sent
 use Rattle.xbar_office.specs.contracts.job.Job as job
 use Rattle.xbar_office.specs.contracts.reply.Reply as reply
 use Rattle.xbar_plan.specs.contracts.plan.Plan as plan
-use Rattle.std.specs.contracts.snapshot.Snapshot as snapshot
 
 snapshot_send : send.IsSend (snapshot.the_row plan.the_row)
 snapshot_send = record { owned = λ d vs. ((λ vss. (tt, ((λ uss. (tt, tt)), tt))), tt); leaving = λ k f vs. tt }
+
+abbrev attempt_row : RattleType
+attempt_row = attempt.the_row conn.the_row job.the_row decided.the_row way.the_row (param.number 42) (param.number 19)
+
+attempt_send : send.IsSend attempt_row
+attempt_send = attempt_sent.the_send conn.the_row job.the_row decided.the_row way.the_row (param.number 42) (param.number 19) conn_sent.the_send job_sent.the_send decided_sent.the_send way_sent.the_send
+
+abbrev foresight_row : RattleType
+foresight_row = foresight.the_row conn.the_row decided.the_row way.the_row (param.number 42)
+
+foresight_send : send.IsSend foresight_row
+foresight_send = foresight_sent.the_send conn.the_row decided.the_row way.the_row (param.number 42) conn_sent.the_send decided_sent.the_send way_sent.the_send
 
 pub desk_send : send.IsSend desk.the_row
 desk_send =
     send.view_send inside.the_row _ _ _ _
     (send.recorded_send inside.the_field.row _ _ inside.the_type.to_one
     (send.struct_send (declared.shape inside.the_type) (
-      below.the_send office.the_row plan.the_row (snapshot.the_row plan.the_row) conn.the_row
-          job.the_row reply.the_row effect.the_row program.the_row jobs.ghosts
-          snapshot_send program_sent.the_send,
+      below.the_send (attempts.the_row shared.the_row (param.number 42) (param.number 19)) plan.the_row (snapshot.the_row plan.the_row) conn.the_row
+          job.the_row reply.the_row effect.the_row attempt_row foresight_row
+          (jobs.ghosts shared.the_row (param.number 42) (param.number 19) (snapshot.the_row plan.the_row) plan.the_row conn.the_row job.the_row
+          reply.the_row effect.the_row decided.the_row way.the_row on_words.ghosts jobs.no_dict scripts.ghosts jobs.no_dict
+          (copies.ghosts conn.the_row) jobs.no_dict conn_default.ghosts jobs.no_dict conn_equal.ghosts jobs.no_dict
+          (copies.ghosts job.the_row) jobs.no_dict (copies.ghosts effect.the_row) jobs.no_dict jobs.no_dict jobs.no_dict jobs.no_dict jobs.no_dict)
+          snapshot_send attempt_send foresight_send,
       (kind_sent.the_field_send, tt),
     )))

@@ -1,11 +1,11 @@
 //! A desk's steps: one at a time, or so many as give back what its marker holds.
 
 ghost use Rattle.std.specs.Prelude.{◌≡◌, ◌≢◌, ◌<◌, ◌^◌, ℕ, false};
-ghost use Rattle.turns.specs.Attempt.{act};
+ghost use Rattle.turns.specs.Attempt.{act, asked_in};
 ghost use Rattle.turns.specs.Runs.{is_rest};
 ghost use Rattle.desks.specs.Desks.{told_record};
-ghost use Rattle.xbar_jobs.specs.Attempt.{Attempt, next_step};
-ghost use Rattle.xbar_core.specs.Moves.{event_of, given_by};
+ghost use Rattle.xbar_jobs.specs.Attempt.{Attempt};
+ghost use Rattle.xbar_core.specs.Moves.{event_of, given_by, refused_by};
 ghost use Rattle.xbar_fabric.specs.Advances.{HasAdvanced, HasGivenBack};
 ghost use Rattle.xbar_fabric.specs.Views.{IsDeskOf, entered};
 
@@ -13,16 +13,29 @@ use crate::desk::Desk;
 use crate::fabric::Fabric;
 use desks::Told;
 use xbar_core::{Event, Given};
-use xbar_jobs::{Answer, Step};
+use xbar_equip::Conn;
+use xbar_jobs::Answer;
 use xbar_office::{Job, Record, Reply};
 
-/// What came of a step that was answered so, after which something is left of the job.
-fn moved(step: Step, answer: Answer) -> Event
-    ensures { (k number : ℕ) (a after : Attempt) → step ≡ next_step a →
+/// What came of a step that asked for this connector, if it asked for one, and found it held by this
+/// marker.
+fn refused(asked: Option<Conn>, holder: u32) -> Event
+    ensures { result ≡ refused_by holder asked }
+{
+    match asked {
+        Some(conn) => Event::Refused { conn, holder },
+        None => Event::Moved,
+    }
+}
+
+/// What came of a step that asked for this connector, if it asked for one, and was answered so, after
+/// which something is left of the job.
+fn moved(asked: Option<Conn>, answer: Answer) -> Event
+    ensures { (k number : ℕ) (a after : Attempt) → asked ≡ asked_in a.phase →
         is_rest (act after) ≡ false → result ≡ event_of k number a after answer }
 {
     match answer {
-        Answer::Held(holder) => Event::of_refusal(step, holder),
+        Answer::Held(holder) => refused(asked, holder),
         Answer::Preferred(other) => Event::Preferred(other),
         Answer::Asked(_)
         | Answer::Seized
@@ -33,20 +46,20 @@ fn moved(step: Step, answer: Answer) -> Event
     }
 }
 
-/// A job has ended; its record is as the office has it. Not inlined, so that a step that ends none
+/// The record of a job that has ended, as the office has it. Not inlined, so that a step that ends none
 /// carries no record.
 #[inline(never)]
-fn finished(told: Told<Job, Reply>) -> Event
+fn record_of(told: Told<Job, Reply>) -> Record
     requires { told.number < 2 ^ 32 }
-    ensures { result ≡ Event.Finished (entered (told_record told)) }
+    ensures { result ≡ entered (told_record told) }
 {
-    Event::Finished(Record {
+    Record {
         turn: told.turn,
         marker: told.actor,
         job_no: told.number as u32,
         job: told.job,
         reply: told.reply,
-    })
+    }
 }
 
 impl Desk {
@@ -63,11 +76,11 @@ impl Desk {
         let Some((_, program)) = self.desk.doing() else {
             return Event::Idle;
         };
-        let step = program.next();
+        let asked = program.to_ask();
         match self.desk.advance(&fabric.room, fabric.plan) {
             desks::Progress::Idle => Event::Idle,
-            desks::Progress::Moved(answer) => moved(step, answer),
-            desks::Progress::Finished(told) => finished(told),
+            desks::Progress::Moved(answer) => moved(asked, answer),
+            desks::Progress::Finished(told) => Event::Finished(record_of(told)),
         }
     }
 

@@ -3,15 +3,15 @@ ghost use Rattle.turns.specs.Attempt.{begin_with};
 ghost use Rattle.turns.specs.World.{Does};
 ghost use Rattle.xbar_office.specs.Legal.{IsJob};
 ghost use Rattle.xbar_jobs.specs.Jobs.{first_conn};
-ghost use Rattle.xbar_core.specs.AtWork.{gives_up_at};
-ghost use Rattle.xbar_core.specs.Exchange.{is_idle as is_idle_work};
+ghost use Rattle.desks.specs.Outcomes.{is_given_up};
+ghost use Rattle.xbar_core.specs.Exchange.{is_idle as is_idle_work, on_job};
 ghost use Rattle.xbar_core.specs.Moves.{given_by, refusal_of};
 ghost use Rattle.xbar_fabric.specs.Histories.{IsHistory};
 ghost use Rattle.xbar_fabric.specs.Views.{marker_of};
 
 use crate::office::Office;
 use std::marker::Model;
-use xbar_core::{AssignFault, Given, Kind, gives_up};
+use xbar_core::{AssignFault, Given, Kind};
 use xbar_office::Job;
 
 /// A marker, which a thread owns. It holds no borrow, and has a fixed size.
@@ -62,12 +62,12 @@ impl Desk {
         self.desk.is_idle()
     }
 
-    /// Whether its marker's next step withdraws a request, or frees a connector.
+    /// Whether its marker was put off, and has a request to withdraw or connectors to free.
     pub fn is_giving_up(&self) -> bool
-        ensures { result ≡ gives_up_at self.now.work }
+        ensures { result ≡ on_job false (λ number a. is_given_up a.phase) self.now.work }
     {
         match self.desk.doing() {
-            Some((_, program)) => gives_up(program.next()),
+            Some((_, program)) => program.is_given_up(),
             None => false,
         }
     }

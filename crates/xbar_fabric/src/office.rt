@@ -1,23 +1,32 @@
-use desks::Jobs;
+use attempts::{Attempts, OnWords, Scripts, Seen};
 use std::alloc::{AllocError, Global};
+use std::ops::Range;
 use std::snapshot::Snapshot;
-use xbar_equip::{Conn, WORD_COUNT, turn_word};
-use xbar_jobs::{Answer, Effect, Operation, Program, Step};
+use turns::Wanted;
+use xbar_equip::{Conn, WORD_COUNT, conn_number, turn_word, words_under};
+use xbar_jobs::{OfficeEffect, Offices, Operation};
 use xbar_office::{Job, Reply};
 use xbar_plan::Plan;
 
-/// The office under a plan, as jobs that desks do.
-pub struct Office;
+/// The office's jobs by their scripts, which are those of `xbar_jobs`, on words that desks share.
+pub struct SharedOffices;
 
-impl Jobs for Office {
+/// The office under a plan, as jobs that desks do.
+pub type Office = Attempts<SharedOffices, 42, 19>;
+
+type Decision = <Offices as Scripts<42, 19>>::Decision;
+
+type Way = <Offices as Scripts<42, 19>>::Point;
+
+impl Scripts<42, 19> for SharedOffices {
+    ghost use Rattle.attempts.specs.SystemWith.{with};
     ghost use Rattle.xbar_plan.specs.Lawful.{IsLawful};
+    ghost use Rattle.xbar_jobs.specs.Closing.{effects as effects_by};
+    ghost use Rattle.xbar_jobs.specs.Jobs.{job_line};
     ghost use Rattle.xbar_jobs.specs.Office.{office_over};
-    ghost use Rattle.xbar_jobs.specs.Standing.{Stands};
-    ghost use Rattle.xbar_jobs.proofs.OfficeSystem.{office_is};
+    ghost use Rattle.xbar_jobs.specs.Tracing.{Knows};
 
     type Setting = Plan;
-
-    type Kept = Snapshot<Plan>;
 
     type Lock = Conn;
 
@@ -25,26 +34,76 @@ impl Jobs for Office {
 
     type Reply = Reply;
 
-    type Effect = Effect;
+    type Effect = OfficeEffect;
 
-    type Program = Program;
+    type Decision = Decision;
 
-    ghost kept = { λ snapshot. snapshot.value };
+    type Point = Way;
 
-    ghost system = { office_over };
+    ghost system = { λ plan. with (office_over plan) };
+
+    ghost reply_of = { λ decision. decision.reply };
+
+    ghost effects_of = { effects_by };
 
     ghost IsSetting = { IsLawful };
 
-    ghost attempt = { λ program. program.attempt };
+    ghost Knows = { λ _ job way seen. Knows (job_line job) way seen };
 
-    ghost Stands = { λ plan program. Stands plan program.attempt };
+    fn first(job: &Job) -> Conn {
+        Offices::first(job)
+    }
+
+    fn start(job: &Job) -> Way {
+        Offices::start(job)
+    }
+
+    fn walk(
+        plan: &Plan,
+        job: &Job,
+        way: &mut Way,
+        seen: &mut Seen<Conn, 42, 19>,
+        words: &mut [u64],
+    ) -> Result<Decision, Wanted<Conn, usize>> {
+        Offices::walk(plan, job, way, seen, words)
+    }
+
+    fn following(
+        plan: &Plan,
+        job: &Job,
+        way: &Way,
+        seen: &Seen<Conn, 42, 19>,
+        word: usize,
+    ) -> Option<usize> {
+        Offices::following(plan, job, way, seen, word)
+    }
+
+    fn reply(decision: &Decision) -> Reply {
+        Offices::reply(decision)
+    }
+
+    fn effect(decision: &Decision, place: usize) -> Option<OfficeEffect> {
+        Offices::effect(decision, place)
+    }
+}
+
+impl OnWords<42, 19> for SharedOffices {
+    ghost use Rattle.xbar_jobs.proofs.Programs.{scripts_are};
+
+    type Kept = Snapshot<Plan>;
+
+    ghost kept = { λ snapshot. snapshot.value };
 
     fn keep(plan: &Plan) -> Snapshot<Plan> {
         Snapshot::of(plan)
     }
 
-    fn begin(_plan: &Snapshot<Plan>, job: Job) -> Program {
-        Program::new(job)
+    fn effect_word(_plan: &Plan, effect: OfficeEffect) -> usize {
+        usize::from(effect.word().number())
+    }
+
+    fn effect_operation(_plan: &Plan, effect: OfficeEffect) -> Operation {
+        effect.operation()
     }
 
     fn size(_plan: &Plan) -> usize {
@@ -59,55 +118,13 @@ impl Jobs for Office {
         usize::from(turn_word().number())
     }
 
-    fn rests(program: &Program) -> bool {
-        program.next() == Step::Finished
+    fn lock_word(_plan: &Plan, conn: Conn) -> usize {
+        usize::from(conn_number(conn))
     }
 
-    fn is_given_up(program: &Program) -> bool {
-        match program.next() {
-            Step::Withdraw(_) => true,
-            Step::Free(_) | Step::Finished => program.turn().is_none(),
-            Step::Request(_)
-            | Step::Seize(_, _)
-            | Step::Test(_)
-            | Step::Turn
-            | Step::Close(_, _)
-            | Step::Open(_, _) => false,
-        }
+    fn words_under(_plan: &Plan, conn: Conn) -> Range<usize> {
+        words_under(conn)
     }
 
-    fn outcome(program: &Program) -> Option<(u64, Job, Reply)> {
-        let turn = program.turn()?;
-        let reply = program.reply()?;
-        Some((turn, *program.job(), reply.copy()))
-    }
-
-    fn place(_plan: &Plan, program: &Program) -> usize {
-        // Called for its clauses alone.
-        xbar_jobs::laws::steps_do_what_their_acts_do();
-        usize::from(program.next().word().number())
-    }
-
-    fn operation(_plan: &Plan, actor: u32, program: &Program) -> Operation {
-        // Called for its clauses alone.
-        xbar_jobs::laws::steps_do_what_their_acts_do();
-        program.next().operation(actor)
-    }
-
-    fn take(plan: &Plan, actor: u32, program: &mut Program, found: u64) -> Answer {
-        // Called for their clauses alone.
-        xbar_jobs::laws::steps_do_what_their_acts_do();
-        xbar_jobs::laws::the_office_is_a_system();
-        let answer = program.next().answer(actor, found);
-        program.take(plan, answer);
-        answer
-    }
-
-    fn restart(plan: &Plan, program: &mut Program) {
-        // Called for its clauses alone.
-        xbar_plan::laws::every_plan_is_lawful(plan);
-        program.restart();
-    }
-
-    ghost is_system = { office_is };
+    ghost are_scripts = { scripts_are };
 }

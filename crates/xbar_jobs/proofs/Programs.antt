@@ -1,5 +1,5 @@
 -- a program's attempt is one of the office, and stands as the law's does
-use Rattle.std.proofs.Common.{◌≡◌, ℕ, zero, suc, Bool, List, [], ◌∷◌, inl, inr, refl, sym, ◌∙◌, ap, subst, arith}
+use Rattle.std.proofs.Common.{◌≡◌, ℕ, zero, suc, List, [], ◌∷◌, inl, inr, refl, sym, ◌∙◌, ap, subst, arith}
 use Rattle.std.specs.Prelude.{Option, Some, None, IsSome, drop}
 use Rattle.turns.specs.Attempt.{IsAnswerTo, Rest, Ask, Take, Leave, Free, Look, Turn, Make, StandsIn, act, act_in, begin_with, change, closing_act, forgotten, free_act, freed, restarted, restarted_in}
 use Rattle.turns.specs.System.{DecidesUnder}
@@ -11,11 +11,10 @@ use Rattle.turns.proofs.Standing.{come_fits, wanted_lock}
 use Rattle.attempts.specs.Live.{LeadsTo}
 use Rattle.attempts.specs.Standing as standing
 use Rattle.attempts.specs.Standing.{AreScripts, KnowsIn, effects_left}
-use Rattle.attempts.specs.SystemWith.{system_with, with}
+use Rattle.attempts.specs.SystemWith.{with}
 use Rattle.attempts.proofs.Walking.{known_anywhere}
-use Rattle.xbar_equip.specs.Conn.{IsConn}
+use Rattle.xbar_equip.specs.Conn.{IsConn, conn_eq}
 use Rattle.xbar_equip.specs.declared.conn.Conn.{Conn}
-use Rattle.xbar_equip.specs.contracts.conn.ConnPartialEq.TheImpl.{ghosts}
 use Rattle.xbar_plan.specs.Lawful.{IsLawful}
 use Rattle.xbar_plan.specs.Tables.{Tables}
 use Rattle.xbar_office.specs.Legal.{IsJob}
@@ -39,7 +38,6 @@ use Rattle.xbar_jobs.proofs.CompletingRows.{known_on}
 use Rattle.xbar_jobs.proofs.JobBounds.{jobs_bounded}
 use Rattle.xbar_jobs.proofs.JobTurns.{turn_does}
 use Rattle.xbar_jobs.proofs.OfficeSystem.{office_is}
-use Rattle.xbar_jobs.proofs.SeenTests.{told_apart}
 
 -- the step that makes an act is on what there is too
 pub act_step : (a : Act) → IsAct a → IsStep (step_of a)
@@ -153,28 +151,19 @@ attempt_restarted_in plan a (Operates turn) at is = is
 pub attempt_restarted : (plan : Tables) (a new : Attempt) → IsAttempt a → new ≡ restarted (office plan) a → IsAttempt new
 attempt_restarted plan a new is made = subst IsAttempt (sym made) (attempt_restarted_in plan a a.phase refl is)
 
--- what the code says of locks that it tells apart, as the law says it
 abbrev KnowsHere : Job → Way → Seen → Type 0
 KnowsHere job way seen = Knows (job_line job) way seen
 
-pub scripts_are : (plan : Tables) → IsLawful plan → AreScripts ghosts.eq reply_of effects_of (with (office_over plan)) KnowsHere most_readings most_seizings
-scripts_are plan laws = subst (λ (same : Conn → Conn → Bool). AreScripts same reply_of effects_of (with (office_over plan)) KnowsHere most_readings most_seizings) (sym told_apart) (record {
+-- the jobs are scripts
+pub scripts_are : (plan : Tables) → IsLawful plan → AreScripts conn_eq reply_of effects_of (with (office_over plan)) KnowsHere most_readings most_seizings
+scripts_are plan laws = record {
   is_system = office_is plan laws;
   asks = (jobs_bounded plan laws).asks;
   knows_on = λ job way seen more extends knows. known_on (job_line job) way seen more extends knows;
-})
+}
 
-pub stands_here : (plan : Tables) (p : Doing) → Stands plan (attempt_at p) → KnowsIn KnowsHere (attempt_at p) p.point p.phase → standing.Stands ghosts.eq reply_of effects_of (with (office_over plan)) KnowsHere most_readings most_seizings p
-stands_here plan p stands knows = subst (λ (same : Conn → Conn → Bool). standing.Stands same reply_of effects_of (with (office_over plan)) KnowsHere most_readings most_seizings p) (sym told_apart) (record { place = stands.place; point = knows })
-
-pub changed_here : (plan : Tables) (a new : Attempt) (answer : Answer) → new ≡ change (system_with ghosts.eq reply_of effects_of (with (office_over plan))) a answer → new ≡ change (office plan) a answer
-changed_here plan a new answer made = subst (λ (same : Conn → Conn → Bool). new ≡ change (system_with same reply_of effects_of (with (office_over plan))) a answer) told_apart made
-
-pub restarted_here : (plan : Tables) (a new : Attempt) → new ≡ restarted (system_with ghosts.eq reply_of effects_of (with (office_over plan))) a → new ≡ restarted (office plan) a
-restarted_here plan a new made = subst (λ (same : Conn → Conn → Bool). new ≡ restarted (system_with same reply_of effects_of (with (office_over plan))) a) told_apart made
-
-pub led_here : (plan : Tables) (marker count : ℕ) (a new : Attempt) (words after : List ℕ) → LeadsTo (system_with ghosts.eq reply_of effects_of (with (office_over plan))) marker count (record { attempt = a; words = words }) (record { attempt = new; words = after }) → LeadsTo (office plan) marker count (record { attempt = a; words = words }) (record { attempt = new; words = after })
-led_here plan marker count a new words after leads = subst (λ (same : Conn → Conn → Bool). LeadsTo (system_with same reply_of effects_of (with (office_over plan))) marker count (record { attempt = a; words = words }) (record { attempt = new; words = after })) told_apart leads
+pub stands_here : (plan : Tables) (p : Doing) → Stands plan (attempt_at p) → KnowsIn KnowsHere (attempt_at p) p.point p.phase → standing.Stands conn_eq reply_of effects_of (with (office_over plan)) KnowsHere most_readings most_seizings p
+stands_here plan p stands knows = record { place = stands.place; point = knows }
 
 -- what a program that has just begun knows
 pub knows_begun : (p : Doing) (job : Job) → attempt_at p ≡ begin_with (first_conn job) job → ((seen : Seen) → Knows (job_line job) p.point seen) → KnowsIn KnowsHere (attempt_at p) p.point p.phase
@@ -201,15 +190,14 @@ pub record Told (plan : Tables) (p new : Doing) (answer : Answer) : Type 0 where
   pub stands : Stands plan (attempt_at new)
   pub turn : (number : ℕ) → answer ≡ Turned number → DoesAsOffice plan (attempt_at new)
 
-pub told : (plan : Tables) → IsLawful plan → (p new : Doing) (answer : Answer) (a : Attempt) → attempt_at p ≡ a → IsJob p.job → IsAnswerTo (act a) answer → Stands plan a → attempt_at new ≡ change (system_with ghosts.eq reply_of effects_of (with (office_over plan))) (attempt_at p) answer → Told plan p new answer
+pub told : (plan : Tables) → IsLawful plan → (p new : Doing) (answer : Answer) (a : Attempt) → attempt_at p ≡ a → IsJob p.job → IsAnswerTo (act a) answer → Stands plan a → attempt_at new ≡ change (office plan) (attempt_at p) answer → Told plan p new answer
 told plan laws p new answer a same job fits stands made =
-    let changed = changed_here plan (attempt_at p) (attempt_at new) answer made in
     let fits_here = subst (λ (b : Attempt). IsAnswerTo (act b) answer) (sym same) fits in
     let stands_now = subst (Stands plan) (sym same) stands in
     record {
-      change = changed;
-      stands = subst (Stands plan) (sym changed) (stands_after plan (attempt_at p) answer laws job fits_here stands_now);
-      turn = λ number is. subst (DoesAsOffice plan) (sym changed) (turn_does plan (attempt_at p) answer number laws job fits_here stands_now.place.comes is);
+      change = made;
+      stands = subst (Stands plan) (sym made) (stands_after plan (attempt_at p) answer laws job fits_here stands_now);
+      turn = λ number is. subst (DoesAsOffice plan) (sym made) (turn_does plan (attempt_at p) answer number laws job fits_here stands_now.place.comes is);
     }
 
 -- what becomes of a program that made steps by its walk
@@ -217,10 +205,9 @@ pub record Ran (plan : Tables) (marker made : ℕ) (p new : Doing) (words after 
   pub steps : LeadsTo (office plan) marker made (record { attempt = attempt_at p; words = words }) (record { attempt = attempt_at new; words = after })
   pub stands : Stands plan (attempt_at new)
 
-pub ran : (plan : Tables) → IsLawful plan → (marker made : ℕ) (p new : Doing) (words after : List ℕ) (a : Attempt) → attempt_at p ≡ a → Stands plan a → LeadsTo (system_with ghosts.eq reply_of effects_of (with (office_over plan))) marker made (record { attempt = attempt_at p; words = words }) (record { attempt = attempt_at new; words = after }) → Ran plan marker made p new words after
+pub ran : (plan : Tables) → IsLawful plan → (marker made : ℕ) (p new : Doing) (words after : List ℕ) (a : Attempt) → attempt_at p ≡ a → Stands plan a → LeadsTo (office plan) marker made (record { attempt = attempt_at p; words = words }) (record { attempt = attempt_at new; words = after }) → Ran plan marker made p new words after
 ran plan laws marker made p new words after a same stands leads =
-    let steps = led_here plan marker made (attempt_at p) (attempt_at new) words after leads in
     record {
-      steps = steps;
-      stands = stands_led plan laws marker made (record { attempt = attempt_at p; words = words }) (record { attempt = attempt_at new; words = after }) steps (subst (Stands plan) (sym same) stands);
+      steps = leads;
+      stands = stands_led plan laws marker made (record { attempt = attempt_at p; words = words }) (record { attempt = attempt_at new; words = after }) leads (subst (Stands plan) (sym same) stands);
     }

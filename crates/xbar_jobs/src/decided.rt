@@ -4,8 +4,8 @@ ghost use Rattle.xbar_jobs.specs.Keeping.{AreEffects};
 ghost use Rattle.xbar_jobs.specs.Standing.{most_effects};
 
 use crate::decision::Decision;
-use crate::effect::Effect;
 use crate::effects::Effects;
+use crate::office_effect::OfficeEffect;
 use std::marker::Model;
 use xbar_office::Reply;
 
@@ -47,13 +47,13 @@ impl Decided {
     }
 
     /// The effect at a place among its effects, from 0 on.
-    pub fn effect(&self, place: usize) -> Option<Effect>
+    pub fn effect(&self, place: usize) -> Option<OfficeEffect>
         ensures effect { result ≡ slice_get (effects_of self.now) place }
         ensures more { IfSome result (λ effect. place + 1 < 2 ^ 64) }
     {
         let effects = self.effects.as_slice();
         if place < effects.len() {
-            Some(effects[place])
+            Some(OfficeEffect::new(effects[place]))
         } else {
             None
         }

@@ -13,15 +13,15 @@ use xbar_switch::{close_bits, open_mask};
 /// What a job does to a word, past its turn.
 #[derive(Clone, Copy, Debug, PartialEq, Eq)]
 pub enum Effect {
-    Close(Crosspoint),
-    Open(Crosspoint),
     /// A member of a trunk group, by the group's number and its own, is busy from here on.
     SetBit { group: u8, index: u8 },
     /// It is idle from here on.
     ClearBit { group: u8, index: u8 },
+    Close(Crosspoint),
+    Open(Crosspoint),
 }
 
-/// What stands in the free places of a list of effects.
+/// What stands in the free places of a list of effects: all its bytes are 0, and so are the list's.
 impl Default for Effect {
     fn default() -> Self {
         Effect::SetBit { group: 0, index: 0 }

@@ -3,6 +3,7 @@
 #![tactic(auto)]
 
 pub use effect::Effect;
+pub use office_effect::OfficeEffect;
 pub use offices::Offices;
 pub use program::Program;
 pub use step::Step;
@@ -19,6 +20,7 @@ mod effects;
 mod kinds;
 pub mod laws;
 mod leave;
+mod office_effect;
 mod offices;
 mod party;
 mod program;

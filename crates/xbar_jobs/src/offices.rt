@@ -1,6 +1,6 @@
 use crate::decided::Decided;
-use crate::effect::Effect;
 use crate::kinds::{Seen, Wanted};
+use crate::office_effect::OfficeEffect;
 use crate::walk::{first_conn, next_in_row, walk};
 use crate::way::Way;
 use attempts::Scripts;
@@ -37,7 +37,7 @@ impl Scripts<42, 19> for Offices {
 
     type Reply = Reply;
 
-    type Effect = Effect;
+    type Effect = OfficeEffect;
 
     type Decision = Decided;
 
@@ -79,7 +79,7 @@ impl Scripts<42, 19> for Offices {
         decision.reply().copy()
     }
 
-    fn effect(decision: &Decided, place: usize) -> Option<Effect> {
+    fn effect(decision: &Decided, place: usize) -> Option<OfficeEffect> {
         decision.effect(place)
     }
 }

@@ -6,7 +6,7 @@ ghost use Rattle.xbar_jobs.specs.Standing.{IsAttempt, IsNextStep, attempt_at};
 ghost use Rattle.xbar_jobs.specs.Turning.{IsAct, IsStep};
 
 use crate::closing::close;
-use crate::effect::Effect;
+use crate::office_effect::OfficeEffect;
 use crate::offices::Offices;
 use crate::step::Step;
 use attempts::{AttemptOf, begin, next, restart, run, take};
@@ -49,7 +49,7 @@ fn effects_are(attempt: &AttemptOf<Offices, 42, 19>)
 /// The step that makes what an attempt does next.
 #[tactic(auto, using(crate::proofs::Programs::act_step))]
 #[inline(always)]
-fn step_by(next: attempts::Step<Conn, Effect>) -> Step
+fn step_by(next: attempts::Step<Conn, OfficeEffect>) -> Step
     requires { IsAct (act_of next) }
     ensures step { result ≡ step_of_act (act_of next) }
     ensures range { IsStep result }

@@ -21,12 +21,17 @@ pub struct Worker<D: Drop, G: Drop> {
     pub steps: u64,
 }
 
-/// Lets other threads run, where a desk that was giving up has now given back all that it held: nobody
-/// waits for it then.
-pub fn yield_once_given_back(desk: &Desk, was_giving_up: bool) {
-    if was_giving_up && !desk.is_giving_up() {
-        thread::yield_now();
+/// Lets other threads run, once a desk that was put off has given back all that it held: nobody waits
+/// for it then. Tells whether it has still to do so.
+pub fn yield_once_given_back(desk: &Desk, was_put_off: bool) -> bool {
+    if !was_put_off {
+        return false;
     }
+    if desk.is_giving_up() {
+        return true;
+    }
+    thread::yield_now();
+    false
 }
 
 impl<G: Gate + Drop> Worker<Desk, G> {
@@ -51,20 +56,18 @@ impl<G: Gate + Drop> Worker<Desk, G> {
         let Ok(()) = self.desk.assign(job_no, job) else {
             unreachable!()
         };
+        let mut is_put_off = false;
         for _ in rt.forever() {
             self.pass();
-            let was_giving_up = self.desk.is_giving_up();
             // Matched here, since a record that may come would be moved with each step that hands one on.
             match self.desk.advance(fabric) {
                 Progress::Finished(record) => {
                     self.gate.finished(self.desk.marker(), job_no);
                     return record;
                 }
-                Progress::Idle
-                | Progress::Moved
-                | Progress::Refused { .. }
-                | Progress::Preferred(_) => {
-                    yield_once_given_back(&self.desk, was_giving_up);
+                Progress::Refused { .. } | Progress::Preferred(_) => is_put_off = true,
+                Progress::Idle | Progress::Moved => {
+                    is_put_off = yield_once_given_back(&self.desk, is_put_off);
                 }
             }
         }

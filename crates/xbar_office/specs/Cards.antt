@@ -1,12 +1,12 @@
-use Rattle.std.specs.Prelude.{◌≡◌, ◌↔◌, ◌==◌, ◌&&◌, Bool, true, false, List}
+use Rattle.std.specs.Prelude.{◌≡◌, ◌↔◌, ◌==◌, ◌&&◌, Bool, true, List}
 use Rattle.std.specs.Cmp.{IsPartialEquivalence, IsEquivalence, partial_equiv_from_equiv}
 use Rattle.std.specs.Cmp.Lexicographic.{pointwise, lists_equiv, pointwise_decides}
-use Rattle.std.proofs.Common.{refl, sym, ◌∙◌, ap}
+use Rattle.std.proofs.Common.{ap}
 use borrow.Author.Tests.{eqb-true, eq-eqb}
-use mathlib.Core.Bool.{true≢false}
 use Rattle.xbar_equip.specs.Link.{link_eq}
 use Rattle.xbar_equip.proofs.Logic.{both, both_hold}
 use Rattle.xbar_equip.proofs.PathTests.{link_eq-exact}
+use Rattle.xbar_equip.specs.Equivalences.{exact-equivalence}
 use Rattle.xbar_office.specs.declared.reply.Card.{Card}
 
 -- whether two cards are one
@@ -29,18 +29,6 @@ card_eq-exact a b = (one, same) where
 
   same : a ≡ b → card_eq a b ≡ true
   same e = both_hold (a.trial == b.trial) (link_eq a.link b.link) (eq-eqb a.trial b.trial (ap (λ (c : Card). c.trial) e)) ((link_eq-exact a.link b.link).1 (ap (λ (c : Card). c.link) e))
-
--- a test that is exact is an equivalence
-exact-equivalence : {K : Type 0} (test : K → K → Bool) → ((x y : K) → (test x y ≡ true) ↔ (x ≡ y)) → IsEquivalence test
-exact-equivalence {K} test exact = record {
-  refl = λ x. (exact x x).1 refl;
-  symm = λ x y. of x y (test x y) (test y x) refl refl;
-  congr = λ x y z e. ap (λ (a : K). test a z) ((exact x y).0 e);
-} where
-  of : (x y : K) (b c : Bool) → test x y ≡ b → test y x ≡ c → test x y ≡ test y x
-  of x y true c e f = e ∙ sym ((exact y x).1 (sym ((exact x y).0 e)))
-  of x y false true e f = absurd (true≢false (sym ((exact x y).1 (sym ((exact y x).0 f))) ∙ e))
-  of x y false false e f = e ∙ sym f
 
 -- so the tests of cards and of lists of cards are equivalences
 pub cards-equivalence : IsEquivalence cards_eq

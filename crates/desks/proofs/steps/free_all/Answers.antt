@@ -17,6 +17,7 @@ loop-seat-preserved g c =
     record {
       table = c.step.ensures.same ∙ before.table;
       stands = c.step.ensures.stands;
+      foresees = c.step.ensures.foresees;
       seated = c.step.ensures.seated;
       made = made_more O c.args.actor c.args.number before.made.0 _ (g.F.Jobs.attempt c.args.program.now) (g.F.Jobs.attempt c.loop-seat.program) (g.F.Jobs.attempt c.step.new.program) (seen_in c.args.seat.now.me.0) (seen_in c.loop-seat.seat.me.0) (seen_in c.step.new.seat.me.0) _ before.made.1 before.made.2 c.step.ensures.stepped goes;
       back = λ end e. goes.back end (before.back end e);

@@ -14,6 +14,7 @@ invariant-loop-seat g l =
     record {
       table : l.seat.table_id ≡ l.fn.seat.table_id;
       stands : g.F.Jobs.Stands l.setting l.program;
+      foresees : g.F.Jobs.Foresees l.setting l.program l.foresight;
       seated : IsSeated O l.actor l.seat.me (Does l.number a);
       made : (count : ℕ) × (count + back_left a.phase a.held ≤ back_left first.phase first.held) × HasMade O l.actor count (Does l.number first) (Does l.number a) (seen_in l.fn.seat.me.0) (seen_in l.seat.me.0);
       back : (end : AttemptOf O) → ComesBackTo O end first.phase first → ComesBackTo O end a.phase a;

@@ -16,4 +16,4 @@ invariant_of-self g c =
     let free = subst (λ d. is_free (system_of (g.F.Jobs.system d.setting)) d.actor ≡ true) (sym c.self.view_is) (sym c.is_idle.ensures ∙ c.if-not-is_idle.false) in
     let job = subst (λ d. (g.F.Jobs.system d.setting).IsJob c.args.job) (sym c.self.view_is) c.requires.job in
     let seated = seated_on O desk.number desk.seat.me now _ c.self.invariant.1 (λ w law there. c.every_move_keeps_the_law.ensures.assigns setting w desk.number c.args.number now c.args.job (g.met.F.Jobs.is_system setting c.self.invariant.0) law there (idle_free O now free) job) (λ e. absurd cc) in
-    (c.self.invariant.0, subst (λ (a : AttemptOf O). IsSeated O desk.number desk.seat.me (Does c.args.number a)) (sym c.begin.ensures.begins) seated, c.begin.ensures.stands)
+    (c.self.invariant.0, subst (λ (a : AttemptOf O). IsSeated O desk.number desk.seat.me (Does c.args.number a)) (sym c.begin-program.ensures.begins) seated, (c.begin-program.ensures.stands, c.begin-program.ensures.foresees))

@@ -1,7 +1,7 @@
 use Rattle.std.proofs.Common.{◌≡◌, sym, ap, subst, ◌∙◌}
-use Rattle.turns.specs.Attempt.{change}
+use Rattle.turns.specs.Attempt.{asked_in, change}
 use Rattle.desks.specs.Desks as desks
-use Rattle.xbar_jobs.specs.Attempt.{next_step}
+use Rattle.xbar_jobs.specs.Attempt.{Attempt}
 use Rattle.xbar_jobs.specs.Office.{office}
 use Rattle.xbar_core.specs.declared.event.Event.TheVariants as event
 use Rattle.xbar_fabric.specs.Advances.{HasAdvanced}
@@ -28,11 +28,11 @@ returns-clause-advanced c =
           let step = told.0 in
           let same = does_same _ _ _ _ (sym c.in-Some.ensures ∙ step.before_is) in
           let busy = busy_now plan desk.table kind desk.number desk.actor after.actor desk.seen after.seen w.in-Moved.answer step told.1 in
-          let is = w.result-is ∙ w.moved.ensures desk.number step.number step.attempt (change (office plan) step.attempt w.in-Moved.answer) (c.next-step.ensures.step ∙ ap next_step same.1) busy in
+          let is = w.result-is ∙ w.moved.ensures desk.number step.number step.attempt (change (office plan) step.attempt w.in-Moved.answer) (c.to_ask-asked.ensures ∙ ap (λ (a : Attempt). asked_in a.phase) same.1) busy in
           moves plan desk.table kind desk.number desk.actor after.actor desk.seen after.seen w.in-Moved.answer step c.match-advance.result is told.1
       | in-Finished w ↦
           let told = subst (desks.HasAdvanced (office plan) desk.number desk.actor after.actor desk.seen after.seen) w.in-Finished.is advanced in
-          subst (HasAdvanced (desk_at desk.table plan kind desk.number desk.actor desk.seen) (desk_at desk.table plan kind desk.number after.actor after.seen)) (sym (w.result-is ∙ w.finished.ensures))
+          subst (HasAdvanced (desk_at desk.table plan kind desk.number desk.actor desk.seen) (desk_at desk.table plan kind desk.number after.actor after.seen)) (sym (w.result-is ∙ ap event.Finished w.record_of.ensures))
           (finishes_job plan desk.table kind desk.number desk.actor after.actor desk.seen after.seen told.0 told.1 (desks.told_record w.in-Finished.told) c.every_plan_is_lawful.ensures told.2 told.3)
     ] in
     let setting : c.self.inside.desk.setting ≡ c.fabric.inside.plan.now = ap (λ d. d.plan) c.self.view_is ∙ c.requires.plan_is ∙ sym (ap (λ f. f.plan) c.fabric.view_is) in
