@@ -1,5 +1,4 @@
 use xbar_equip::Conn;
-use xbar_jobs::Step;
 use xbar_office::Record;
 
 /// What came of a marker's step.
@@ -23,22 +22,16 @@ pub enum Event {
 
 impl Event {
     ghost use Rattle.std.specs.Prelude.{◌≡◌};
-    ghost use Rattle.xbar_core.specs.AtWork.{conn_asked};
     ghost use Rattle.xbar_core.specs.Moves.{refused_by};
 
-    /// What came of a step that found its connector held by this marker.
-    pub fn of_refusal(step: Step, holder: u32) -> Self
-        ensures { result ≡ refused_by holder (conn_asked step) }
+    /// What came of a step that asked for this connector, if it asked for one, and found it held by
+    /// this marker.
+    pub fn of_refusal(asked: Option<Conn>, holder: u32) -> Self
+        ensures { result ≡ refused_by holder asked }
     {
-        match step {
-            Step::Request(conn) | Step::Seize(conn, _) => Event::Refused { conn, holder },
-            Step::Withdraw(_)
-            | Step::Test(_)
-            | Step::Turn
-            | Step::Close(_, _)
-            | Step::Open(_, _)
-            | Step::Free(_)
-            | Step::Finished => Event::Moved,
+        match asked {
+            Some(conn) => Event::Refused { conn, holder },
+            None => Event::Moved,
         }
     }
 }

@@ -7,7 +7,6 @@ pub use exchange::{Exchange, MOST_MARKERS};
 pub use given::Given;
 pub use kind::Kind;
 pub use open_fault::OpenFault;
-pub use work::gives_up;
 
 mod assign_fault;
 mod event;

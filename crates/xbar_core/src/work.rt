@@ -10,12 +10,12 @@ ghost use Rattle.xbar_jobs.specs.Attempt.{Attempt, counted, fresh, next_step, wi
 ghost use Rattle.xbar_jobs.specs.Office.{office};
 ghost use Rattle.xbar_jobs.specs.OnWords.{words_after};
 ghost use Rattle.xbar_jobs.specs.Standing.{Stands};
-ghost use Rattle.xbar_core.specs.AtWork.{gives_up as gives_up_of, told_of};
+ghost use Rattle.xbar_core.specs.AtWork.{conn_asked, gives_up as gives_up_of, told_of};
 ghost use Rattle.xbar_core.specs.Moves.{event_of, own_record, added_record};
 ghost use Rattle.xbar_core.specs.Standing.{waits_in};
 
 use crate::event::Event;
-use xbar_equip::conn_word;
+use xbar_equip::{Conn, conn_word};
 use xbar_jobs::{Answer, Program, Step};
 use xbar_office::{Job, Record};
 use xbar_plan::Plan;
@@ -28,7 +28,7 @@ pub struct Work {
 }
 
 /// Whether a step withdraws a request, or frees a connector.
-pub fn gives_up(step: Step) -> bool
+fn gives_up(step: Step) -> bool
     ensures { result ≡ gives_up_of step }
 {
     match step {
@@ -40,6 +40,22 @@ pub fn gives_up(step: Step) -> bool
         | Step::Close(_, _)
         | Step::Open(_, _)
         | Step::Finished => false,
+    }
+}
+
+/// The connector that a step asks for.
+fn asked_by(step: Step) -> Option<Conn>
+    ensures { result ≡ conn_asked step }
+{
+    match step {
+        Step::Request(conn) | Step::Seize(conn, _) => Some(conn),
+        Step::Withdraw(_)
+        | Step::Test(_)
+        | Step::Turn
+        | Step::Close(_, _)
+        | Step::Open(_, _)
+        | Step::Free(_)
+        | Step::Finished => None,
     }
 }
 
@@ -133,7 +149,7 @@ impl Work {
             result ≡ event_of marker self.now.job_no a self.now.program.attempt answer }
     {
         match answer {
-            Answer::Held(holder) => Event::of_refusal(step, holder),
+            Answer::Held(holder) => Event::of_refusal(asked_by(step), holder),
             Answer::Preferred(other) => Event::Preferred(other),
             Answer::Done => {
                 if !self.is_done() {

@@ -1,4 +1,4 @@
-ghost use Rattle.std.specs.Prelude.{◌≡◌, ◌≤◌, ◌<◌, ◌+◌, ◌*◌, ℕ, IfSome, Some};
+ghost use Rattle.std.specs.Prelude.{◌≡◌, ◌≤◌, ◌<◌, ◌+◌, ◌*◌, ◌↔◌, ℕ, IfSome, Some};
 ghost use Rattle.xbar_equip.specs.Conn.{IsConn};
 ghost use Rattle.xbar_equip.specs.Word.{Word, IsWord, word_count, word_number, protector, LineSwitch, LineJunctor, TrunkSwitch, TrunkJunctor, GroupWord, ConnWord, TurnWord};
 
@@ -150,8 +150,8 @@ pub fn protects(word: WordNo) -> Option<Conn>
 /// group. Of a connector that there isn't it may be none.
 pub fn words_under(conn: Conn) -> Range<usize>
     ensures there { result.end ≤ word_count }
-    ensures all { (named : Word) → IsWord named → protector named ≡ Some conn →
-        (result.start ≤ word_number named) × (word_number named < result.end) }
+    ensures exact { (named : Word) → IsWord named → IsConn conn → (protector named ≡ Some conn)
+        ↔ ((result.start ≤ word_number named) × (word_number named < result.end)) }
 {
     let (first, count) = match conn {
         Conn::Llf(frame) => (20 * usize::from(frame), 20),

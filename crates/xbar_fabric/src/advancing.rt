@@ -5,7 +5,7 @@ ghost use Rattle.turns.specs.Attempt.{act, asked_in};
 ghost use Rattle.turns.specs.Runs.{is_rest};
 ghost use Rattle.desks.specs.Desks.{told_record};
 ghost use Rattle.xbar_jobs.specs.Attempt.{Attempt};
-ghost use Rattle.xbar_core.specs.Moves.{event_of, given_by, refused_by};
+ghost use Rattle.xbar_core.specs.Moves.{event_of, given_by};
 ghost use Rattle.xbar_fabric.specs.Advances.{HasAdvanced, HasGivenBack};
 ghost use Rattle.xbar_fabric.specs.Views.{IsDeskOf, entered};
 
@@ -17,17 +17,6 @@ use xbar_equip::Conn;
 use xbar_jobs::Answer;
 use xbar_office::{Job, Record, Reply};
 
-/// What came of a step that asked for this connector, if it asked for one, and found it held by this
-/// marker.
-fn refused(asked: Option<Conn>, holder: u32) -> Event
-    ensures { result ≡ refused_by holder asked }
-{
-    match asked {
-        Some(conn) => Event::Refused { conn, holder },
-        None => Event::Moved,
-    }
-}
-
 /// What came of a step that asked for this connector, if it asked for one, and was answered so, after
 /// which something is left of the job.
 fn moved(asked: Option<Conn>, answer: Answer) -> Event
@@ -35,7 +24,7 @@ fn moved(asked: Option<Conn>, answer: Answer) -> Event
         is_rest (act after) ≡ false → result ≡ event_of k number a after answer }
 {
     match answer {
-        Answer::Held(holder) => refused(asked, holder),
+        Answer::Held(holder) => Event::of_refusal(asked, holder),
         Answer::Preferred(other) => Event::Preferred(other),
         Answer::Asked(_)
         | Answer::Seized

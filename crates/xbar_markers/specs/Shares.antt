@@ -3,9 +3,10 @@ use Rattle.std.specs.Prelude.{◌≡◌, ◌⊎◌, ℕ, Some, List, [], ◌∷�
 use Rattle.fair_queue.specs.Items.{SameItems}
 use Rattle.fair_queue.specs.Tickets.{IsUsable, first_ticket}
 use Rattle.xbar_office.specs.declared.reply.Record.{Record}
-use Rattle.xbar_fabric.specs.Views.{DeskView}
+use Rattle.xbar_core.specs.declared.kind.Kind.{Kind}
+use Rattle.xbar_fabric.specs.Views.{DeskView, FabricView}
 use Rattle.xbar_markers.specs.Calls.{HasDialTone, IsServed, records_of}
-use Rattle.xbar_markers.specs.Work.{AreShort, HasWorked, HaveWorked}
+use Rattle.xbar_markers.specs.Work.{AreShort, HasWorked, HaveWorked, IsReady}
 use Rattle.xbar_markers.specs.declared.call.Call.{Call}
 use Rattle.xbar_markers.specs.declared.call_records.CallRecords.{CallRecords}
 use Rattle.xbar_markers.specs.declared.queues.Queues.{Queues}
@@ -64,6 +65,13 @@ pub record AreOpen (queues : Queues) : Type 0 where
 pub record MayUse (share : Share) (queues : Queues) : Type 0 where
   pub calls : IsUsable share.calls queues.calls_in
   pub tasks : IsUsable share.tasks queues.tasks_in
+
+-- an idle desk of this kind may use the queues with this share
+pub record MayServe (kind : Kind) (fabric : FabricView) (queues : Queues) (desk : DeskView) (share : Share) : Type 0 where
+  pub open : AreOpen queues
+  pub may : MayUse share queues
+  pub ready : IsReady desk fabric
+  pub kind_is : desk.kind ≡ kind
 
 -- a call whose line has dial tone went on through the second queue, or was kept
 pub record HasPassedOn (call : CallRecords) (share after : Share) : Type 0 where

@@ -5,7 +5,7 @@ ghost use Rattle.fair_queue.specs.Items.{SameItems};
 ghost use Rattle.fair_queue.specs.Tickets.{IsWhole};
 ghost use Rattle.xbar_core.specs.declared.kind.Kind.TheVariants.{Completing};
 ghost use Rattle.xbar_markers.specs.Calls.{HasDialTone, is_connected as is_connected_end};
-ghost use Rattle.xbar_markers.specs.Shares.{AreOpen, HasCompleted, HasServed, HasTickets, MayUse};
+ghost use Rattle.xbar_markers.specs.Shares.{HasCompleted, HasServed, HasTickets, MayServe};
 ghost use Rattle.xbar_markers.specs.Work.{IsReady};
 
 use crate::call_records::CallRecords;
@@ -60,10 +60,9 @@ impl<G: Gate + Drop> Worker<Desk, G> {
         share: &mut Share,
         wait: bool,
     ) -> Result<bool, AllocError>
-        requires open { AreOpen queues.now }
-        requires may { MayUse share.old queues.now }
-        requires ready { IsReady self.old.desk fabric.now }
-        requires kind { self.old.desk.kind ≡ Completing }
+        requires { MayServe Completing fabric.now queues.now self.old.desk share.old }
+        ensures nothing { result ≡ Ok false → wait ≡ false → IsWhole share.old.tasks →
+            SameItems share.new.tasks.put share.new.tasks.taken }
         ensures ready { IsReady self.new.desk fabric.now }
         ensures kind { self.new.desk.kind ≡ Completing }
         ensures tickets { HasTickets share.old share.new }
@@ -71,8 +70,6 @@ impl<G: Gate + Drop> Worker<Desk, G> {
         ensures calls { share.new.calls ≡ share.old.calls }
         ensures kept { share.new.kept.items ≡ share.old.kept.items }
         ensures served { OnOk result (HasServed self.old.desk share.old self.new.desk share.new) }
-        ensures nothing { result ≡ Ok false → wait ≡ false → IsWhole share.old.tasks →
-            SameItems share.new.tasks.put share.new.tasks.taken }
     {
         let task = if wait {
             queues.tasks_out.take(rt, &mut share.tasks)
@@ -98,18 +95,15 @@ impl<G: Gate + Drop> Worker<Desk, G> {
         share: &mut Share,
         wait: bool,
     ) -> Result<(), AllocError>
-        requires open { AreOpen queues.now }
-        requires may { MayUse share.old queues.now }
-        requires ready { IsReady self.old.desk fabric.now }
-        requires kind { self.old.desk.kind ≡ Completing }
+        requires { MayServe Completing fabric.now queues.now self.old.desk share.old }
+        ensures nothing { OnOk result (wait ≡ false → IsWhole share.old.tasks →
+            SameItems share.new.tasks.put share.new.tasks.taken) }
         ensures ready { IsReady self.new.desk fabric.now }
         ensures kind { self.new.desk.kind ≡ Completing }
         ensures tickets { HasTickets share.old share.new }
         ensures calls { share.new.calls ≡ share.old.calls }
         ensures kept { share.new.kept.items ≡ share.old.kept.items }
         ensures served { OnOk result (HasServed self.old.desk share.old self.new.desk share.new) }
-        ensures nothing { OnOk result (wait ≡ false → IsWhole share.old.tasks →
-            SameItems share.new.tasks.put share.new.tasks.taken) }
     {
         for _ in rt.forever() {
             if !self.complete_next(rt, fabric, queues, share, wait)? {

@@ -6,7 +6,7 @@ ghost use Rattle.fair_queue.specs.Tickets.{IsWhole};
 ghost use Rattle.xbar_office.specs.declared.job.Job.TheVariants as job;
 ghost use Rattle.xbar_core.specs.declared.kind.Kind.TheVariants.{Dial};
 ghost use Rattle.xbar_markers.specs.Calls.{HasCallNo, IsDialled};
-ghost use Rattle.xbar_markers.specs.Shares.{AreOpen, HasServed, HasTickets, MayUse};
+ghost use Rattle.xbar_markers.specs.Shares.{HasServed, HasTickets, MayServe};
 ghost use Rattle.xbar_markers.specs.Work.{HasDone, IsReady};
 
 use crate::call::Call;
@@ -50,16 +50,13 @@ impl<G: Gate + Drop> Worker<Desk, G> {
         queues: &Queues,
         share: &mut Share,
     ) -> Result<bool, AllocError>
-        requires open { AreOpen queues.now }
-        requires may { MayUse share.old queues.now }
-        requires ready { IsReady self.old.desk fabric.now }
-        requires kind { self.old.desk.kind ≡ Dial }
+        requires { MayServe Dial fabric.now queues.now self.old.desk share.old }
+        ensures none { result ≡ Ok false → IsWhole share.old.calls →
+            SameItems share.new.calls.put share.new.calls.taken }
         ensures ready { IsReady self.new.desk fabric.now }
         ensures kind { self.new.desk.kind ≡ Dial }
         ensures tickets { HasTickets share.old share.new }
         ensures served { OnOk result (HasServed self.old.desk share.old self.new.desk share.new) }
-        ensures none { result ≡ Ok false → IsWhole share.old.calls →
-            SameItems share.new.calls.put share.new.calls.taken }
     {
         let Some(call) = queues.calls_out.try_take(rt, &mut share.calls) else {
             return Ok(false);
@@ -81,16 +78,13 @@ impl<G: Gate + Drop> Worker<Desk, G> {
         queues: &Queues,
         share: &mut Share,
     ) -> Result<(), AllocError>
-        requires open { AreOpen queues.now }
-        requires may { MayUse share.old queues.now }
-        requires ready { IsReady self.old.desk fabric.now }
-        requires kind { self.old.desk.kind ≡ Dial }
+        requires { MayServe Dial fabric.now queues.now self.old.desk share.old }
+        ensures none { OnOk result (IsWhole share.old.calls →
+            SameItems share.new.calls.put share.new.calls.taken) }
         ensures ready { IsReady self.new.desk fabric.now }
         ensures kind { self.new.desk.kind ≡ Dial }
         ensures tickets { HasTickets share.old share.new }
         ensures served { OnOk result (HasServed self.old.desk share.old self.new.desk share.new) }
-        ensures none { OnOk result (IsWhole share.old.calls →
-            SameItems share.new.calls.put share.new.calls.taken) }
     {
         for _ in rt.forever() {
             if !self.dial_next(rt, fabric, queues, share)? {

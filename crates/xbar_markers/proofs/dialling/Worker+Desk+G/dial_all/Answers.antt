@@ -6,7 +6,7 @@ pub loop-init : goal.loop-init
 loop-init g c = record {
   may = c.requires.may;
   ready = c.requires.ready;
-  kind = c.requires.kind;
+  kind = c.requires.kind_is;
   tickets = tickets_same c.args.share.now;
   served = served_none c.args.self.now.desk c.args.share.now;
 }

@@ -17,7 +17,7 @@ returns-in_ok-pass_on-clause-served g c =
     dialled_passed c.args.self.now.desk c.dial-call.new.self.desk c.in-Some.call c.dial-call.result c.args.share.now record c.args.share.now { calls = c.try_take.new.ticket } c.pass_on.new.self
     record { calls = c.in-Some.ensures.taken; tasks = refl; kept = refl; ended = refl }
     c.in_ok-pass_on.ensures.passed c.dial-call.ensures.call tone
-    (done_worked c.dial-call.ensures.done (rw c.requires.kind refl))
+    (done_worked c.dial-call.ensures.done (rw c.requires.kind_is refl))
 
 pub returns-in_ok-put_behind-clause-served : goal.returns-in_ok-put_behind-clause-served
 returns-in_ok-put_behind-clause-served g c =
@@ -26,4 +26,4 @@ returns-in_ok-put_behind-clause-served g c =
     record { calls = refl; tasks = refl; kept = refl; ended = c.in_ok-put_behind.ensures }
     c.dial-call.ensures.call c.dial-call.ensures.dialled
     (not_tone c.dial-call.result.dial.reply.end c.in_default-end.not-DialTone)
-    (done_worked c.dial-call.ensures.done (rw c.requires.kind refl))
+    (done_worked c.dial-call.ensures.done (rw c.requires.kind_is refl))
