@@ -94,6 +94,25 @@ impl<
         }
     }
 
+    /// As `new`, in the place of an attempt at another job.
+    pub(crate) fn renew(&mut self, job: J, first: L, point: P)
+        ensures { self.new
+            ≡ record {
+              job = job;
+              point = point;
+              readings = [];
+              held = [];
+              phase = Phase.Requests first;
+              decision = None;
+              made = 0;
+              count = 0;
+            } }
+    {
+        self.job = job;
+        self.count = 0;
+        self.begin_anew(first, point);
+    }
+
     /// The job from its beginning, with nothing held.
     pub(crate) fn begin_anew(&mut self, first: L, point: P)
         ensures { self.new

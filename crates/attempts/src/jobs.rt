@@ -9,7 +9,7 @@ use crate::attempt::AttemptOf;
 use crate::foresight::{Foresight, ForesightOf};
 use crate::scripts::OnWords;
 use crate::showing::{is_done, next, outcome};
-use crate::starting::{begin, restart};
+use crate::starting::{begin, begin_next, restart};
 use crate::step::{Step, operation, place, told};
 use crate::taking_ahead::take_ahead;
 use desks::{Jobs, WordStep};
@@ -129,6 +129,16 @@ impl<S: OnWords<READINGS, HELD>, const READINGS: usize, const HELD: usize> Jobs
     ) -> (AttemptOf<S, READINGS, HELD>, ForesightOf<S, READINGS, HELD>) {
         let foresight = Foresight::new(S::start(&job));
         (begin::<S, READINGS, HELD>(job), foresight)
+    }
+
+    fn begin_next(
+        _setting: &S::Kept,
+        job: S::Job,
+        program: &mut AttemptOf<S, READINGS, HELD>,
+        foresight: &mut ForesightOf<S, READINGS, HELD>,
+    ) {
+        begin_next::<S, READINGS, HELD>(program, job);
+        foresight.clear();
     }
 
     fn size(setting: &S::Setting) -> usize {

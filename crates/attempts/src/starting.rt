@@ -32,6 +32,26 @@ pub fn begin<S: Scripts<READINGS, HELD>, const READINGS: usize, const HELD: usiz
     Attempt::new(job, lock, point)
 }
 
+/// The same, in the place of an attempt at another job.
+pub(crate) fn begin_next<S: Scripts<READINGS, HELD>, const READINGS: usize, const HELD: usize>(
+    program: &mut AttemptOf<S, READINGS, HELD>,
+    job: S::Job,
+)
+    ensures begins { (setting : S.Setting) →
+        attempt_of S.reply_of S.effects_of program.new
+        ≡ begin_of (system_with S.Lock.eq S.reply_of S.effects_of (S.system setting)) job }
+    ensures count { program.new.count ≡ 0 }
+    ensures stands { (setting : S.Setting) →
+        AreScripts S.Lock.eq S.reply_of S.effects_of (S.system setting) (S.Knows setting) READINGS
+        HELD → (S.system setting).IsJob job →
+        Stands S.Lock.eq S.reply_of S.effects_of (S.system setting) (S.Knows setting) READINGS HELD
+        program.new }
+{
+    let lock = S::first(&job);
+    let point = S::start(&job);
+    program.renew(job, lock, point);
+}
+
 fn begin_again<S: Scripts<READINGS, HELD>, const READINGS: usize, const HELD: usize>(
     program: &mut AttemptOf<S, READINGS, HELD>,
 )

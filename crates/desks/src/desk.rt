@@ -1,9 +1,10 @@
-ghost use Rattle.std.specs.Prelude.{◌≡◌, ℕ, MatchOption};
+ghost use Rattle.std.specs.Prelude.{◌≡◌, ℕ, IfSome, MatchOption};
+ghost use Rattle.turns.specs.Attempt.{begin as begin_of};
 ghost use Rattle.turns.specs.Law.{IsLegal};
 ghost use Rattle.turns.specs.Runs.{is_free};
 ghost use Rattle.turns.specs.System.{system_of};
 ghost use Rattle.turns.specs.World.{Idle, Does};
-ghost use Rattle.desks.specs.Desks.{HasAdvanced, HasGivenBack, assigned_if};
+ghost use Rattle.desks.specs.Desks.{HasAdvanced, HasGivenBack, actor_of, assigned_if};
 ghost use Rattle.desks.specs.Views.{IsDeskOf};
 
 use crate::jobs::Jobs;
@@ -53,6 +54,29 @@ impl<F: Jobs> Model for Desk<F> {
         × F.Foresees (F.kept d.setting) doing.1 doing.2) };
 }
 
+/// Begins a job. A program is large, so the next one takes the place of the last.
+fn begin<F: Jobs>(
+    setting: &F::Kept,
+    doing: &mut Option<(u64, F::Program, F::Foresight)>,
+    number: u64,
+    job: F::Job,
+)
+    requires setting { F.IsSetting (F.kept setting.now) }
+    requires job { (F.system (F.kept setting.now)).IsJob job }
+    ensures actor { actor_of F.attempt doing.new
+        ≡ Does number (begin_of (system_of (F.system (F.kept setting.now))) job) }
+    ensures stands { IfSome doing.new (λ doing. F.Stands (F.kept setting.now) doing.1
+        × F.Foresees (F.kept setting.now) doing.1 doing.2) }
+{
+    if let Some((its_number, program, foresight)) = doing {
+        *its_number = number;
+        F::begin_next(setting, job, program, foresight);
+    } else {
+        let (program, foresight) = F::begin(setting, job);
+        *doing = Some((number, program, foresight));
+    }
+}
+
 impl<F: Jobs> Desk<F> {
     /// Which of the room's actors it is, from 0 on.
     pub fn number(&self) -> u32
@@ -98,8 +122,7 @@ impl<F: Jobs> Desk<F> {
         if !self.is_idle() {
             return false;
         }
-        let (program, foresight) = F::begin(&self.setting, job);
-        self.doing = Some((number, program, foresight));
+        begin::<F>(&self.setting, &mut self.doing, number, job);
         true
     }
 

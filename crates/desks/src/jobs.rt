@@ -71,6 +71,19 @@ pub trait Jobs {
         ensures stands { Stands (kept setting.now) result.0 }
         ensures foresees { Foresees (kept setting.now) result.0 result.1 };
 
+    /// As `begin`, in the place of a program whose job has ended.
+    fn begin_next(
+        setting: &Self::Kept,
+        job: Self::Job,
+        program: &mut Self::Program,
+        foresight: &mut Self::Foresight,
+    )
+        requires setting { IsSetting (kept setting.now) }
+        requires job { (system (kept setting.now)).IsJob job }
+        ensures begins { attempt program.new ≡ begin (system_of (system (kept setting.now))) job }
+        ensures stands { Stands (kept setting.now) program.new }
+        ensures foresees { Foresees (kept setting.now) program.new foresight.new };
+
     /// How many words there are.
     fn size(setting: &Self::Setting) -> usize
         ensures { result ≡ (system setting.now).size };
