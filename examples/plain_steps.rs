@@ -555,8 +555,10 @@ enum Task {
     Stop,
 }
 
+/// Does calls, from the first queue's filling to their records in turn order.
 fn live(calls: usize, count: u64, most: u64) {
     let plan = example();
+    let start = Instant::now();
     let words: Vec<AtomicU64> = (0..453).map(|_| AtomicU64::new(0)).collect();
     let first: Queue<(u32, Call)> = Queue::new();
     let second: Queue<Task> = Queue::new();
@@ -567,8 +569,7 @@ fn live(calls: usize, count: u64, most: u64) {
         under_way: AtomicU64::new(0),
         most,
     };
-    let start = Instant::now();
-    let (jobs, steps) = thread::scope(|scope| {
+    let (mut records, steps) = thread::scope(|scope| {
         let (plan, words, first, second, pace) = (&plan, &words[..], &first, &second, &pace);
         let completing: Vec<_> = (0..count)
             .map(|k| {
@@ -607,20 +608,24 @@ fn live(calls: usize, count: u64, most: u64) {
                 })
             })
             .collect();
-        let mut all = (0, 0);
+        let mut all = (Vec::new(), 0);
         for thread in dialling {
-            let (records, steps) = thread.join().unwrap();
-            all = (all.0 + records.len(), all.1 + steps);
+            let (mut records, steps) = thread.join().unwrap();
+            all.0.append(&mut records);
+            all.1 += steps;
         }
         for _ in 0..count {
             second.put(Task::Stop);
         }
         for thread in completing {
-            let (records, steps) = thread.join().unwrap();
-            all = (all.0 + records.len(), all.1 + steps);
+            let (mut records, steps) = thread.join().unwrap();
+            all.0.append(&mut records);
+            all.1 += steps;
         }
         all
     });
+    records.sort_unstable_by_key(|record| record.turn);
+    let jobs = records.len();
     let time = start.elapsed().as_nanos() as u64;
     println!(
         "{count} and {count}, {most} calls at once: {} ns a job of {jobs}, {} steps a job",

@@ -68,7 +68,7 @@ pub record MayUse (share : Share) (queues : Queues) : Type 0 where
 
 -- an idle desk of this kind may use the queues with this share
 pub record MayServe (kind : Kind) (fabric : FabricView) (queues : Queues) (desk : DeskView) (share : Share) : Type 0 where
-  pub open : AreOpen queues
+  pub are_open : AreOpen queues
   pub may : MayUse share queues
   pub ready : IsReady desk fabric
   pub kind_is : desk.kind ≡ kind

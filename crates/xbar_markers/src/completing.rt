@@ -9,6 +9,7 @@ ghost use Rattle.xbar_markers.specs.Shares.{HasCompleted, HasServed, HasTickets,
 ghost use Rattle.xbar_markers.specs.Work.{IsReady};
 
 use crate::call_records::CallRecords;
+use crate::dialled_call::DialledCall;
 use crate::gate::Gate;
 use crate::lists::put_behind;
 use crate::queues::Queues;
@@ -28,13 +29,13 @@ fn is_connected(complete: &Record) -> bool
 
 impl<G: Gate + Drop> Worker<Desk, G> {
     /// Does what is left to do for a call whose line has dial tone.
-    fn complete<R: Wait>(&mut self, rt: &R, fabric: &Fabric, call: CallRecords) -> CallRecords
+    fn complete<R: Wait>(&mut self, rt: &R, fabric: &Fabric, call: DialledCall) -> CallRecords
         requires ready { IsReady self.old.desk fabric.now }
         requires kind { self.old.desk.kind ≡ Completing }
         requires tone { HasDialTone call }
         ensures { HasCompleted self.old.desk self.new.desk call result }
     {
-        let CallRecords { call, dial, .. } = call;
+        let DialledCall { call, dial } = call;
         let first = 3 * call.call_no;
         let complete = self.do_job(rt, fabric, first + 1, Job::Complete(call.line, call.digits));
         let release = if call.release && is_connected(&complete) {

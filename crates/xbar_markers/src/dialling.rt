@@ -10,7 +10,7 @@ ghost use Rattle.xbar_markers.specs.Shares.{HasServed, HasTickets, MayServe};
 ghost use Rattle.xbar_markers.specs.Work.{HasDone, IsReady};
 
 use crate::call::Call;
-use crate::call_records::CallRecords;
+use crate::dialled_call::DialledCall;
 use crate::gate::Gate;
 use crate::lists::put_behind;
 use crate::queues::Queues;
@@ -23,7 +23,7 @@ use xbar_office::{End, Job};
 
 impl<G: Gate + Drop> Worker<Desk, G> {
     /// Does a call's first job.
-    fn dial<R: Wait>(&mut self, rt: &R, fabric: &Fabric, call: Call) -> CallRecords
+    fn dial<R: Wait>(&mut self, rt: &R, fabric: &Fabric, call: Call) -> DialledCall
         requires ready { IsReady self.old.desk fabric.now }
         requires kind { self.old.desk.kind ≡ Dial }
         requires call_no { HasCallNo call }
@@ -33,12 +33,7 @@ impl<G: Gate + Drop> Worker<Desk, G> {
             result.dial }
     {
         let dial = self.do_job(rt, fabric, 3 * call.call_no, Job::Dial(call.line));
-        CallRecords {
-            call,
-            dial,
-            complete: None,
-            release: None,
-        }
+        DialledCall { call, dial }
     }
 
     /// Takes a call, does its first job, and passes it on if its line has dial tone. Tells whether
@@ -65,7 +60,7 @@ impl<G: Gate + Drop> Worker<Desk, G> {
         if let End::DialTone { .. } = call.dial.reply.end {
             share.pass_on(rt, queues, call)?;
         } else {
-            put_behind(&mut share.ended, call)?;
+            put_behind(&mut share.ended, call.into_records())?;
         }
         Ok(true)
     }

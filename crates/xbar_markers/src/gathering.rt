@@ -1,6 +1,6 @@
 //! What is left in workers' hands at the end of a run.
 
-ghost use Rattle.std.specs.Prelude.{◌≡◌, ◌++◌, IfOk, IsPermutation, OnOk, flat_map, length, map};
+ghost use Rattle.std.specs.Prelude.{◌≡◌, ◌++◌, IfOk, IsPermutation, OnOk, flat_map, map};
 ghost use Rattle.std.specs.List.Sorted.{IsNonDecreasingBy};
 ghost use Rattle.fair_queue.specs.Items.{SameItems};
 ghost use Rattle.xbar_markers.specs.Calls.{records_of};
@@ -36,19 +36,20 @@ fn put_records(records: &mut Vec<Record>, call: CallRecords) -> Result<(), Alloc
 fn all_records(alloc: Global, calls: Vec<CallRecords>) -> Result<Vec<Record>, AllocError>
     ensures { IfOk result (λ records. records.items ≡ flat_map records_of calls.items) }
 {
-    let mut records = Vec::new(alloc);
+    // A call has three jobs at most.
+    let mut records = Vec::with_capacity(alloc, calls.len().saturating_mul(3))?;
     for call in calls {
         put_records(&mut records, call)?;
     }
     Ok(records)
 }
 
-fn sort_by_turn(records: &mut [Record])
-    ensures permuted { IsPermutation records.old records.new }
-    ensures count { length records.new ≡ length records.old }
-    ensures order { IsNonDecreasingBy (λ r. r.turn) records.new }
+/// Puts records in the order of their turns: the turns are sorted, and the records follow.
+fn sort_by_turn(records: &mut Vec<Record>) -> Result<(), AllocError>
+    ensures permuted { IsPermutation records.old.items records.new.items }
+    ensures order { OnOk result (IsNonDecreasingBy (λ r. r.turn) records.new.items) }
 {
-    records.sort_unstable_by_key(|record| record.turn);
+    records.sort_by_cached_key(|record| record.turn)
 }
 
 /// The records of all calls, in the order of their turns.
@@ -58,7 +59,7 @@ pub fn in_turn_order(alloc: Global, calls: Vec<CallRecords>) -> Result<Vec<Recor
     ensures order { IfOk result (λ records. IsNonDecreasingBy (λ r. r.turn) records.items) }
 {
     let mut records = all_records(alloc, calls)?;
-    sort_by_turn(records.as_mut_slice());
+    sort_by_turn(&mut records)?;
     Ok(records)
 }
 

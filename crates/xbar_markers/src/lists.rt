@@ -8,3 +8,14 @@ pub fn put_behind<T: Drop>(list: &mut Vec<T>, item: T) -> Result<(), AllocError>
 {
     Ok(list.push(item)?)
 }
+
+/// Puts items behind others. Where there are no others nothing is moved.
+pub fn put_all_behind<T: Drop>(list: &mut Vec<T>, mut items: Vec<T>) -> Result<(), AllocError>
+    ensures { OnOk result (list.new.items ≡ list.old.items ++ items.items) }
+{
+    if list.is_empty() {
+        *list = items;
+        return Ok(());
+    }
+    list.append(&mut items)
+}

@@ -5,7 +5,8 @@ ghost use Rattle.xbar_markers.specs.Shares.{HasPassedOn, HasTickets, MayUse};
 
 use crate::call::Call;
 use crate::call_records::CallRecords;
-use crate::lists::put_behind;
+use crate::dialled_call::DialledCall;
+use crate::lists::{put_all_behind, put_behind};
 use crate::queues::Queues;
 use crate::task::Task;
 use fair_queue::Ticket;
@@ -18,7 +19,7 @@ pub struct Share {
     pub calls: Ticket<Call>,
     pub tasks: Ticket<Task>,
     /// Calls whose lines have dial tone, which the second queue handed back.
-    pub kept: Vec<CallRecords>,
+    pub kept: Vec<DialledCall>,
     /// Calls for which all is done.
     pub ended: Vec<CallRecords>,
 }
@@ -42,7 +43,7 @@ impl Share {
         &mut self,
         rt: &R,
         queues: &Queues,
-        call: CallRecords,
+        call: DialledCall,
     ) -> Result<(), AllocError>
         requires may { MayUse self.old queues.now }
         requires tone { HasDialTone call }
@@ -88,12 +89,12 @@ impl Share {
         let Share {
             calls,
             tasks,
-            mut kept,
-            mut ended,
+            kept,
+            ended,
         } = other;
         self.calls.join(&queues.calls_in, calls);
         self.tasks.join(&queues.tasks_in, tasks);
-        self.kept.append(&mut kept)?;
-        self.ended.append(&mut ended)
+        put_all_behind(&mut self.kept, kept)?;
+        put_all_behind(&mut self.ended, ended)
     }
 }

@@ -1,12 +1,12 @@
 use crate::call::Call;
-use crate::call_records::CallRecords;
+use crate::dialled_call::DialledCall;
 use fair_queue::Item;
 
 /// What goes to those who complete calls.
 #[derive(Drop)]
 pub enum Task {
     /// A call whose line has dial tone.
-    Complete(CallRecords),
+    Complete(DialledCall),
     /// There is no more to do.
     Stop,
 }

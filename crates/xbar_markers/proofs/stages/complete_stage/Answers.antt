@@ -8,21 +8,18 @@ use Rattle.xbar_markers.proofs.Stayed.{all_stayed}
 use Rattle.xbar_markers.proofs.stages.complete_stage.Goals as goal
 
 pub map_vec-requires-send-J : goal.map_vec-requires-send-J
-map_vec-requires-send-J g c κs within =
-    param_send _ _ (arg_send _ no _ (seat_send c.type_bounds.send-G))
+map_vec-requires-send-J g c κs within = param_send _ _ (arg_send _ no _ (seat_send c.type_bounds.send-G))
 
 pub map_vec-requires-send-X : goal.map_vec-requires-send-X
-map_vec-requires-send-X g c κs within =
-    param_send _ _ (arg_send _ no _ (seat_or_error_send c.type_bounds.send-G))
+map_vec-requires-send-X g c κs within = param_send _ _ (arg_send _ no _ (seat_or_error_send c.type_bounds.send-G))
 
 pub returns : goal.returns
 returns g c =
+    let stayed = all_stayed Completing c.args.fabric.now c.args.queues.now c.args.seats.items in
     let came = c.in_ok-after.ensures in
-    let seats = c.args.seats in
     let results = c.in_ok-after.after in
     IfOk-weaker c.all_ok.result _ _
     (λ after ok.
-    all_stayed Completing c.args.fabric.now c.args.queues.now seats.items after.items results.items
-    ok (omega (arith, came.len, seats.ok.0, results.ok.0))
+    stayed after.items results.items ok (omega (arith, came.len, c.args.seats.ok.0, results.ok.0))
     (λ i d lt. let one = (came.each i d lt).1 in (one.job, one.job_is, one.call.met)))
     c.all_ok.ensures
