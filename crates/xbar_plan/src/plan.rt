@@ -74,12 +74,7 @@ impl Plan {
           faults = faults.items;
         }) }
     {
-        let tables = TableSlices {
-            groups: &groups,
-            stations: &stations,
-            routes: &routes,
-            faults: &faults,
-        };
+        let tables = TableSlices::new(&groups, &stations, &routes, &faults);
         let directory = Directory::new(alloc, &tables)?;
         Ok(Plan {
             groups,
@@ -105,12 +100,7 @@ impl Plan {
           faults = faults.items;
         }) result }
     {
-        let tables = TableSlices {
-            groups: &groups,
-            stations: &stations,
-            routes: &routes,
-            faults: &faults,
-        };
+        let tables = TableSlices::new(&groups, &stations, &routes, &faults);
         match lawful::fault_in(alloc, &tables)? {
             None => Ok(Plan::new(alloc, groups, stations, routes, faults)?),
             Some(fault) => Err(fault),
@@ -141,12 +131,7 @@ impl Plan {
         ensures tables { tables_of result ≡ self.now }
         ensures lawful { IsLawful (tables_of result) }
     {
-        TableSlices {
-            groups: &self.groups,
-            stations: &self.stations,
-            routes: &self.routes,
-            faults: &self.faults,
-        }
+        TableSlices::new(&self.groups, &self.stations, &self.routes, &self.faults)
     }
 
     /// A TOML text of the plan in version 2 of its form, which reads back as the same plan.
