@@ -4,12 +4,14 @@
 ghost use Rattle.std.specs.Prelude.{◌≤◌, All};
 ghost use Rattle.xbar_markers.specs.Calls.{HasCallNo};
 
+mod load;
 mod locked;
 mod paced;
 mod pacing;
 mod traffic;
 
 use crate::timing::nanoseconds_each;
+use load::Load;
 use std::alloc::Global;
 use std::io;
 use std::rt::Clock;
@@ -19,20 +21,18 @@ use std::time::Instant;
 use xbar_markers::Call;
 use xbar_plan::Plan;
 
-/// Calls of which at most so many are under way at once, by so many markers of each kind.
 fn measure_markers<R: Eprint + Clock + Threads + Wait + Sync>(
     rt: &R,
     alloc: Global,
     plan: &Plan,
-    calls: &[Call],
-    count: usize,
-    most: usize,
+    load: &Load,
 ) -> io::Result<()>
-    requires call_nos { All HasCallNo calls.now }
-    requires count { count ≤ 24 }
+    requires call_nos { All HasCallNo load.now.calls.now }
+    requires count { load.now.count ≤ 24 }
 {
+    let Load { count, most, .. } = *load;
     let start = Instant::now(rt)?;
-    let jobs = paced::work(rt, alloc, plan, calls, count, most)?;
+    let jobs = paced::work(rt, alloc, plan, load)?;
     let job = nanoseconds_each(start.elapsed(rt)?, jobs as u64);
     eprintln!(rt; "{count} and {count} markers, {most} calls at once: {job} ns a job of {jobs}")
 }
@@ -65,8 +65,10 @@ pub fn measure<R: Eprint + Clock + Threads + Wait + Sync>(
     let calls = traffic::released(alloc, hundreds * 100)?;
     let calls = calls.as_slice();
     for count in [1_usize, 2, 4] {
-        measure_markers(rt, alloc, plan, calls, count, calls.len())?;
-        measure_markers(rt, alloc, plan, calls, count, pacing::REGISTERS)?;
+        for most in [calls.len(), pacing::REGISTERS] {
+            let load = Load { calls, count, most };
+            measure_markers(rt, alloc, plan, &load)?;
+        }
         measure_locked(rt, alloc, plan, calls, count)?;
     }
     Ok(())

@@ -3,11 +3,13 @@
 
 ghost use Rattle.std.specs.Prelude.{◌≤◌, length};
 
+mod crew;
 mod locked;
 mod office_work;
 mod plain;
 mod tally;
 
+use crew::Crew;
 use std::alloc::Global;
 use std::io;
 use std::rt::Clock;
@@ -39,35 +41,31 @@ fn print_paces(
 fn measure_office<R: Eprint + Clock + Threads + Sync>(
     rt: &R,
     alloc: Global,
-    plan: &Plan,
-    kinds: &[Kind],
-    times: u32,
+    crew: &Crew,
 ) -> io::Result<()>
-    requires { length kinds.now ≤ 4 }
+    requires { length crew.now.kinds.now ≤ 4 }
 {
+    let threads = crew.kinds.len() as u32;
     let start = Instant::now(rt)?;
-    let done = office_work::work_all(rt, alloc, plan, kinds, times)?;
-    let time = start.elapsed(rt)?;
-    print_paces(rt, "desks of the office", time, kinds.len() as u32, done)
+    let done = office_work::work_all(rt, alloc, crew)?;
+    print_paces(rt, "desks of the office", start.elapsed(rt)?, threads, done)
 }
 
 fn measure_locked<R: Eprint + Clock + Threads + Wait + Sync>(
     rt: &R,
     alloc: Global,
-    plan: &Plan,
-    kinds: &[Kind],
-    times: u32,
+    crew: &Crew,
 ) -> io::Result<()>
-    requires { length kinds.now ≤ 4 }
+    requires { length crew.now.kinds.now ≤ 4 }
 {
+    let threads = crew.kinds.len() as u32;
     let start = Instant::now(rt)?;
-    let done = locked::work_all(rt, alloc, plan, kinds, times)?;
-    let time = start.elapsed(rt)?;
+    let done = locked::work_all(rt, alloc, crew)?;
     print_paces(
         rt,
         "markers behind one lock",
-        time,
-        kinds.len() as u32,
+        start.elapsed(rt)?,
+        threads,
         done,
     )
 }
@@ -100,8 +98,9 @@ pub fn measure<R: Eprint + Clock + Threads + Wait + Sync>(
     let kinds = [Kind::Combined; 4];
     for count in [1_u32, 2, 4] {
         let kinds = &kinds[..count as usize];
-        measure_office(rt, alloc, plan, kinds, times)?;
-        measure_locked(rt, alloc, plan, kinds, times)?;
+        let crew = Crew { plan, kinds, times };
+        measure_office(rt, alloc, &crew)?;
+        measure_locked(rt, alloc, &crew)?;
         measure_plain(rt, alloc, count, times)?;
     }
     Ok(())

@@ -1,14 +1,12 @@
 -- Subcommands that are added to a program, one behind the other.
-use Rattle.std.proofs.Common.{◌≡◌, ◌∙◌, ap, refl, sym, true, false, List, [], ◌∷◌, ◌++◌, map, Result, Ok, Err}
-use Rattle.std.specs.Prelude.{All, IfOk, IsOkAnd}
-use Rattle.std.proofs.lemmas.List.{map-append, map_push}
-use Rattle.std.proofs.lemmas.List.Elements.{All-append, All-head, All-nil, All-push, All-same, All-tail}
+use Rattle.std.proofs.Common.{◌≡◌, ◌∙◌, ap, sym, true, false, List, [], ◌∷◌, map}
+use Rattle.std.specs.Prelude.{All}
+use Rattle.std.proofs.lemmas.List.Elements.{All-head, All-tail}
 use Rattle.clap.specs.Simple.{App, Shape, with_subcommand}
 use Rattle.clap.specs.Words.{AddsInTurn, AddsSubcommand, app_of}
 use Rattle.clap.specs.declared.builder.command.Command.{Command}
 use Rattle.clap.specs.declared.builder.command.Command.TheViews.{out-Command}
 use Rattle.crossbar5_command.specs.Program.{program, program_of, shape_for, subcommands}
-use Rattle.crossbar5_command.specs.Subcommand.{Subcommand}
 
 -- what a command alone is, without its subcommands
 abbrev pub shape_alone : Command → Shape
@@ -17,32 +15,6 @@ shape_alone one = (app_of one).top
 -- its arguments are its own
 abbrev pub IsLocal : Command → Type 0
 IsLocal one = (out-Command one).has_globals ≡ false
-
--- these commands are the subcommands
-pub record AreMade (made : List Subcommand) (all : List Command) : Type 0 where
-  pub shapes : map shape_alone all ≡ map shape_for made
-  pub local : All IsLocal all
-
-pub none_made : AreMade [] []
-none_made = record { shapes = refl; local = All-nil IsLocal }
-
-pub one_more : {E : Type 0} (made : Result Command E) (s : Subcommand) (known : List Subcommand) (before after : List Command)
-    → AreMade known before → IsOkAnd made (λ one. after ≡ before ++ one ∷ []) → IfOk made (λ one. shape_alone one ≡ shape_for s)
-    → IfOk made IsLocal → AreMade (known ++ s ∷ []) after
-one_more (Err e) s known before after are added shape local = absurd added
-one_more (Ok one) s known before after are added shape local = record {
-  shapes = ap (map shape_alone) added ∙ map_push shape_alone before one ∙ ap (λ l. l ++ shape_alone one ∷ []) are.shapes
-      ∙ ap (λ x. map shape_for known ++ x ∷ []) shape ∙ sym (map_push shape_for known s);
-  local = All-same IsLocal after (before ++ one ∷ []) added (All-push IsLocal before one are.local local);
-}
-
-pub both_made : (some others : List Subcommand) (before more after : List Command)
-    → AreMade some before → AreMade others more → after ≡ before ++ more → AreMade (some ++ others) after
-both_made some others before more after are also both = record {
-  shapes = ap (map shape_alone) both ∙ map-append shape_alone before more ∙ ap (λ l. l ++ map shape_alone more) are.shapes
-      ∙ ap (λ l. map shape_for some ++ l) also.shapes ∙ sym (map-append shape_for some others);
-  local = All-same IsLocal after (before ++ more) both (All-append IsLocal before more are.local also.local);
-}
 
 -- ---- a program with all of them
 

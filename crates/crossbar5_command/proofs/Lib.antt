@@ -8,3 +8,5 @@ pub mod SubcommandWords
 pub mod OtherWords
 pub mod MetSubcommand
 pub mod AddedSubcommands
+pub mod MadeOfRows
+pub mod AddedOptions

@@ -11,10 +11,9 @@ ghost use Rattle.crossbar5_command.specs.Subcommand.{AreValues, AskFor, GivenOpt
 ghost use Rattle.crossbar5_command.specs.Subcommand.{Subcommand, subcommand_named, value_of};
 ghost use Rattle.crossbar5_command.specs.declared.command_fault.CommandFault.TheVariants.{Memory};
 
-use crate::program::{
-    AUDIT, COMPLETING, DEFAULT_KINDS, DIAL, DRAW, LIVE, MARKERS, ONE, PAGE, PLAN, REPLAY, SHORT,
-    TEXT, WALK, program,
-};
+use crate::options::{COMPLETING, DEFAULT_KINDS, DIAL, MARKERS, ONE, PLAN, SHORT, TEXT};
+use crate::program::program;
+use crate::subcommands::{AUDIT, DRAW, LIVE, PAGE, REPLAY, WALK};
 use crate::{Ask, CommandFault};
 use clap::ArgMatches;
 use std::alloc::{AllocError, Global};

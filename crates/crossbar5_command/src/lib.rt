@@ -8,4 +8,6 @@ pub use command_line::command;
 mod ask;
 mod command_fault;
 mod command_line;
+mod options;
 mod program;
+mod subcommands;

@@ -7,6 +7,7 @@ pub mod Fault
 pub mod Lawful
 pub mod Numbered
 pub mod Directory
+pub mod TableSlices
 pub mod Texts
 pub mod Document
 pub mod Written

@@ -20,4 +20,5 @@ mod read;
 pub mod reading;
 mod route;
 mod station;
+mod table_slices;
 mod write;

@@ -6,6 +6,7 @@ use crate::fault::PlanFault;
 use crate::group::{Group, MemberPlace};
 use crate::route::Route;
 use crate::station::Station;
+use crate::table_slices::TableSlices;
 use crate::{example, lawful, read, write};
 use std::alloc::{AllocError, Global};
 use std::marker::Model;
@@ -46,6 +47,7 @@ impl Model for Plan {
 impl Plan {
     ghost use Rattle.std.specs.Prelude.{slice_get, Some, Ok};
     ghost use Rattle.xbar_plan.specs.Tables.{Tables, lines_of, route_of, register_group as register_group_of, is_faulty, member_place};
+    ghost use Rattle.xbar_plan.specs.TableSlices.{tables_of};
     ghost use Rattle.xbar_plan.specs.Lawful.{IsLawful, IsPlanOf};
     ghost use Rattle.xbar_plan.specs.Document.{IsReading, plan_of, version_in};
     ghost use Rattle.xbar_plan.specs.Example.{example as the_example};
@@ -72,7 +74,8 @@ impl Plan {
           faults = faults.items;
         }) }
     {
-        let directory = Directory::new(alloc, &groups, &stations, &routes, &faults)?;
+        let tables = TableSlices::new(&groups, &stations, &routes, &faults);
+        let directory = Directory::new(alloc, &tables)?;
         Ok(Plan {
             groups,
             stations,
@@ -97,7 +100,8 @@ impl Plan {
           faults = faults.items;
         }) result }
     {
-        match lawful::fault_in(alloc, &groups, &stations, &routes, &faults)? {
+        let tables = TableSlices::new(&groups, &stations, &routes, &faults);
+        match lawful::fault_in(alloc, &tables)? {
             None => Ok(Plan::new(alloc, groups, stations, routes, faults)?),
             Some(fault) => Err(fault),
         }
@@ -123,18 +127,19 @@ impl Plan {
         Ok(Plan::new(alloc, groups, stations, routes, Vec::new(alloc))?)
     }
 
+    fn slices(&self) -> TableSlices<'_>
+        ensures tables { tables_of result ≡ self.now }
+        ensures lawful { IsLawful (tables_of result) }
+    {
+        TableSlices::new(&self.groups, &self.stations, &self.routes, &self.faults)
+    }
+
     /// A TOML text of the plan in version 2 of its form, which reads back as the same plan.
     pub fn version_2(&self, alloc: Global) -> Result<Vec<u8>, AllocError>
         ensures version { IfOk result (λ text. version_in text.items ≡ Some Two) }
         ensures tables { IfOk result (λ text. plan_of text.items ≡ Ok self.now) }
     {
-        write::version_2(
-            alloc,
-            &self.groups,
-            &self.stations,
-            &self.routes,
-            &self.faults,
-        )
+        write::version_2(alloc, &self.slices())
     }
 
     /// 1 to 16.

@@ -2,6 +2,7 @@ pub mod ToldSteps
 pub mod Listed
 pub mod Settlings
 pub mod StepItems
+pub mod ChangedWords
 pub mod TestItems
 pub mod TellingRuns
 pub mod WordPlaces

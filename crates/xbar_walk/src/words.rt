@@ -73,7 +73,6 @@ fn add_marked(text: &mut String, state: &str, place: Place, bits: u64) -> Result
     Ok(())
 }
 
-#[tactic(auto, unfolding(crate::specs::Words::close_words))]
 fn add_close(text: &mut String, place: Place, bits: u64) -> Result<(), AllocError>
     ensures { OnOk result (string_bytes text.new ≡ string_bytes text.old ++
         close_words place bits) }
@@ -85,7 +84,6 @@ fn add_close(text: &mut String, place: Place, bits: u64) -> Result<(), AllocErro
     }
 }
 
-#[tactic(auto, unfolding(crate::specs::Words::open_words))]
 fn add_open(text: &mut String, place: Place, bits: u64) -> Result<(), AllocError>
     ensures { OnOk result (string_bytes text.new ≡ string_bytes text.old ++ open_words place bits) }
 {

@@ -1,12 +1,13 @@
 ghost use Rattle.std.specs.Prelude.{◌≡◌, ◌+◌, ◌≤◌, ◌<◌, All, IfOk, vec_len};
 ghost use Rattle.xbar_markers.specs.Calls.{HasCallNo};
 
+use super::load::Load;
 use super::pacing::Pace;
 use std::alloc::{AllocError, Global};
 use std::io;
 use std::sync::Wait;
 use std::thread::Threads;
-use xbar_markers::{Call, Gate, run_calls};
+use xbar_markers::{Gate, run_calls};
 use xbar_plan::Plan;
 
 /// Keeps who dials from running ahead of who completes calls.
@@ -50,22 +51,20 @@ fn gates(alloc: Global, pace: &Pace, count: usize) -> Result<Vec<PacedGate>, All
     Ok(gates)
 }
 
-/// So many who dial and as many who complete calls do these, of which at most so many are under way
-/// at once. Gives how many jobs were done.
+/// Markers have such a load, each on a thread of its own. Gives how many jobs were done.
 pub fn work<R: Threads + Wait + Sync>(
     rt: &R,
     alloc: Global,
     plan: &Plan,
-    calls: &[Call],
-    count: usize,
-    most: usize,
+    load: &Load,
 ) -> io::Result<usize>
-    requires call_nos { All HasCallNo calls.now }
-    requires count { count ≤ 24 }
+    requires call_nos { All HasCallNo load.now.calls.now }
+    requires count { load.now.count ≤ 24 }
 {
-    let pace = Pace::new(most);
+    let count = load.count;
+    let pace = Pace::new(load.most);
     let gates = gates(alloc, &pace, count)?;
-    match run_calls(rt, alloc, plan, calls, count, count, gates) {
+    match run_calls(rt, alloc, plan, load.calls, count, count, gates) {
         Ok(outcome) => Ok(outcome.records.len()),
         Err(_) => Ok(0),
     }

@@ -1,10 +1,10 @@
+use super::crew::Crew;
 use super::tally::{State, Tally};
 use std::alloc::Global;
 use std::sync::{Mutex, Wait};
 use std::thread::Threads;
 use std::{io, thread};
-use xbar_core::{Event, Exchange, Kind};
-use xbar_plan::Plan;
+use xbar_core::{Event, Exchange};
 
 /// The marker's next step, or its next job. Tells whether it gave back.
 fn go_on(office: &mut Exchange, marker: u32, state: &mut State) -> bool {
@@ -58,23 +58,17 @@ fn work<R: Wait>(rt: &R, office: &Mutex<Exchange>, marker: u32, times: u32) -> T
     state.tally
 }
 
-/// Markers of these kinds work on threads of their own in one office behind a lock, each going on
-/// so many times. Gives how much all have done.
-pub fn work_all<R: Threads + Wait + Sync>(
-    rt: &R,
-    alloc: Global,
-    plan: &Plan,
-    kinds: &[Kind],
-    times: u32,
-) -> io::Result<Tally> {
-    let Ok(office) = Exchange::open(alloc, plan, kinds) else {
+/// The markers work in one office behind a lock. Gives how much all have done.
+pub fn work_all<R: Threads + Wait + Sync>(rt: &R, alloc: Global, crew: &Crew) -> io::Result<Tally> {
+    let times = crew.times;
+    let Ok(office) = Exchange::open(alloc, crew.plan, crew.kinds) else {
         return Ok(Tally::default());
     };
     let office = Mutex::new(office);
     let tallies = thread::map_indices(
         rt,
         alloc,
-        kinds.len(),
+        crew.kinds.len(),
         &|marker: usize| -> Tally { work(rt, &office, marker as u32, times) },
     )?;
     let mut all = Tally::default();

@@ -1,11 +1,11 @@
 ghost use Rattle.xbar_fabric.specs.Views.{IsDeskOf};
 
+use super::crew::Crew;
 use super::tally::{State, Tally};
 use std::alloc::Global;
 use std::thread::Threads;
 use std::{io, thread};
-use xbar_fabric::{Desk, Fabric, Kind, Progress};
-use xbar_plan::Plan;
+use xbar_fabric::{Desk, Fabric, Progress};
 
 /// More steps than a job has left that is past its turn.
 const MOST_STEPS_LEFT: u32 = 128;
@@ -59,16 +59,10 @@ fn work(fabric: &Fabric, mut desk: Desk, times: u32) -> Tally
     state.tally
 }
 
-/// Desks of these kinds work on threads of their own, each going on so many times. Gives how much
-/// all have done.
-pub fn work_all<R: Threads + Sync>(
-    rt: &R,
-    alloc: Global,
-    plan: &Plan,
-    kinds: &[Kind],
-    times: u32,
-) -> io::Result<Tally> {
-    let Ok((fabric, desks)) = Fabric::open(alloc, plan, kinds) else {
+/// The desks of such markers work, each on its thread. Gives how much all have done.
+pub fn work_all<R: Threads + Sync>(rt: &R, alloc: Global, crew: &Crew) -> io::Result<Tally> {
+    let times = crew.times;
+    let Ok((fabric, desks)) = Fabric::open(alloc, crew.plan, crew.kinds) else {
         return Ok(Tally::default());
     };
     let tallies = thread::map_vec(

@@ -6,11 +6,11 @@ mod members;
 ghost use Rattle.std.specs.Prelude.{IfOk};
 ghost use Rattle.xbar_plan.specs.Lawful.{IsLawful};
 ghost use Rattle.xbar_plan.specs.Directory.{IsDirectoryOf};
+ghost use Rattle.xbar_plan.specs.TableSlices.{tables_of};
 
-use crate::group::{Group, MemberPlace};
+use crate::group::MemberPlace;
 use crate::numbers::{first_places, link_number, place_number, route_codes, station_numbers};
-use crate::route::Route;
-use crate::station::Station;
+use crate::table_slices::TableSlices;
 use std::alloc::{AllocError, Global};
 use std::marker::Model;
 use xbar_equip::{DirNo, Link, Ten};
@@ -43,33 +43,16 @@ impl Directory {
     ghost use Rattle.xbar_plan.specs.Numbered.{place_number as number_of_place, link_number as number_of_link};
 
     /// The directory of lawful tables.
-    pub fn new(
-        alloc: Global,
-        groups: &[Group],
-        stations: &[Station],
-        routes: &[Route],
-        faults: &[Link],
-    ) -> Result<Self, AllocError>
-        requires { IsLawful (record {
-          groups = groups.now;
-          stations = stations.now;
-          routes = routes.now;
-          faults = faults.now;
-        }) }
-        ensures { IfOk result (λ directory. IsDirectoryOf
-            (record {
-              groups = groups.now;
-              stations = stations.now;
-              routes = routes.now;
-              faults = faults.now;
-            }) directory) }
+    pub fn new(alloc: Global, tables: &TableSlices) -> Result<Self, AllocError>
+        requires { IsLawful (tables_of tables.now) }
+        ensures { IfOk result (IsDirectoryOf (tables_of tables.now)) }
     {
-        let numbers = station_numbers(alloc, stations)?;
-        let codes = route_codes(alloc, routes)?;
+        let numbers = station_numbers(alloc, tables.stations)?;
+        let codes = route_codes(alloc, tables.routes)?;
         let stations = first_places(alloc, 10000, &numbers)?;
         let routes = first_places(alloc, 1000, &codes)?;
-        let members = members::placed_members(alloc, groups)?;
-        let faults = faults::marked_links(alloc, faults)?;
+        let members = members::placed_members(alloc, tables.groups)?;
+        let faults = faults::marked_links(alloc, tables.faults)?;
         Ok(Directory {
             stations,
             routes,

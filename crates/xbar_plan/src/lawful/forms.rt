@@ -4,13 +4,14 @@ ghost use Rattle.std.specs.Prelude.{◌≡◌, IfOk, IsTrue, nat_lt};
 ghost use Rattle.std.specs.List.{list_all};
 ghost use Rattle.xbar_equip.specs.Len.{is_line};
 ghost use Rattle.xbar_plan.specs.Lawful.{is_between as lies_between, is_name_character as is_letter_or_digit, is_name as is_group_name, has_its_places as has_own_places, is_well_formed_group as is_formed_group, are_in_range as are_tables_in_range, are_well_formed as are_tables_well_formed};
+ghost use Rattle.xbar_plan.specs.TableSlices.{tables_of};
 
 use super::places::places_of;
 use crate::group::Group;
 use crate::route::Route;
 use crate::station::Station;
+use crate::table_slices::TableSlices;
 use std::alloc::{AllocError, Global};
-use xbar_equip::Link;
 
 pub fn is_between(least: usize, most: usize, n: usize) -> bool
     ensures { result ≡ lies_between least most n }
@@ -78,45 +79,21 @@ fn know_stations(stations: &[Station])
 }
 
 /// Places, numbers, lines and links are in range by their types, so that codes alone are looked at.
-fn are_in_range(
-    alloc: Global,
-    groups: &[Group],
-    stations: &[Station],
-    routes: &[Route],
-    faults: &[Link],
-) -> Result<bool, AllocError>
-    ensures { IfOk result (λ holds. holds ≡ are_tables_in_range
-        (record {
-          groups = groups.now;
-          stations = stations.now;
-          routes = routes.now;
-          faults = faults.now;
-        })) }
+fn are_in_range(alloc: Global, tables: &TableSlices) -> Result<bool, AllocError>
+    ensures { IfOk result (λ holds. holds ≡ are_tables_in_range (tables_of tables.now)) }
 {
-    let places = places_of(alloc, groups)?;
+    let places = places_of(alloc, tables.groups)?;
     // Called for its clauses alone.
     xbar_equip::laws::places_are_in_range(&places);
-    know_stations(stations);
+    know_stations(tables.stations);
     // Called for its clauses alone.
-    xbar_equip::laws::links_are_in_range(faults);
-    Ok(have_three_digits(routes))
+    xbar_equip::laws::links_are_in_range(tables.faults);
+    Ok(have_three_digits(tables.routes))
 }
 
-pub fn are_well_formed(
-    alloc: Global,
-    groups: &[Group],
-    stations: &[Station],
-    routes: &[Route],
-    faults: &[Link],
-) -> Result<bool, AllocError>
-    ensures { IfOk result (λ holds. holds ≡ are_tables_well_formed
-        (record {
-          groups = groups.now;
-          stations = stations.now;
-          routes = routes.now;
-          faults = faults.now;
-        })) }
+pub fn are_well_formed(alloc: Global, tables: &TableSlices) -> Result<bool, AllocError>
+    ensures { IfOk result (λ holds. holds ≡ are_tables_well_formed (tables_of tables.now)) }
 {
-    let in_range = are_in_range(alloc, groups, stations, routes, faults)?;
-    Ok(are_well_formed_groups(groups) && in_range)
+    let in_range = are_in_range(alloc, tables)?;
+    Ok(are_well_formed_groups(tables.groups) && in_range)
 }

@@ -3,12 +3,13 @@
 ghost use Rattle.std.specs.Prelude.{◌≡◌, length};
 ghost use Rattle.std.specs.List.{list_all};
 ghost use Rattle.xbar_plan.specs.Lawful.{is_between as lies_between, are_groups_within_limits as are_within_limits_of_groups, are_stations_within_limits as are_within_limits_of_stations, are_routes_within_limits as are_within_limits_of_routes, are_within_limits as are_tables_within_limits};
+ghost use Rattle.xbar_plan.specs.TableSlices.{tables_of};
 
 use super::forms::is_between;
 use crate::group::Group;
 use crate::route::Route;
 use crate::station::Station;
-use xbar_equip::Link;
+use crate::table_slices::TableSlices;
 
 fn have_members(groups: &[Group]) -> bool
     ensures { result ≡ list_all (λ group. lies_between 1 40 (length group.members)) groups.now }
@@ -52,22 +53,11 @@ fn are_routes_within_limits(routes: &[Route]) -> bool
     routes.len() <= 64 && have_groups(routes)
 }
 
-pub fn are_within_limits(
-    groups: &[Group],
-    stations: &[Station],
-    routes: &[Route],
-    faults: &[Link],
-) -> bool
-    ensures { result ≡ are_tables_within_limits
-        (record {
-          groups = groups.now;
-          stations = stations.now;
-          routes = routes.now;
-          faults = faults.now;
-        }) }
+pub fn are_within_limits(tables: &TableSlices) -> bool
+    ensures { result ≡ are_tables_within_limits (tables_of tables.now) }
 {
-    are_groups_within_limits(groups)
-        && are_stations_within_limits(stations)
-        && are_routes_within_limits(routes)
-        && faults.len() <= 100
+    are_groups_within_limits(tables.groups)
+        && are_stations_within_limits(tables.stations)
+        && are_routes_within_limits(tables.routes)
+        && tables.faults.len() <= 100
 }

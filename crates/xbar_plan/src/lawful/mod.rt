@@ -9,51 +9,37 @@ mod routes;
 
 ghost use Rattle.std.specs.Prelude.{◌≡◌, IfOk};
 ghost use Rattle.xbar_plan.specs.Lawful.{fault_in as fault_of_tables};
+ghost use Rattle.xbar_plan.specs.TableSlices.{tables_of};
 
 use crate::fault::PlanFault;
-use crate::group::Group;
-use crate::route::Route;
-use crate::station::Station;
+use crate::table_slices::TableSlices;
 pub use forms::{is_between, is_name};
 use std::alloc::{AllocError, Global};
-use xbar_equip::Link;
 
 /// The least fault that tables have, if they have one.
 #[tactic(auto, unfolding(crate::specs::Lawful::fault_in))]
-pub fn fault_in(
-    alloc: Global,
-    groups: &[Group],
-    stations: &[Station],
-    routes: &[Route],
-    faults: &[Link],
-) -> Result<Option<PlanFault>, AllocError>
-    ensures { IfOk result (λ fault. fault ≡ fault_of_tables
-        (record {
-          groups = groups.now;
-          stations = stations.now;
-          routes = routes.now;
-          faults = faults.now;
-        })) }
+pub fn fault_in(alloc: Global, tables: &TableSlices) -> Result<Option<PlanFault>, AllocError>
+    ensures { IfOk result (λ fault. fault ≡ fault_of_tables (tables_of tables.now)) }
 {
-    let fault = if !forms::are_well_formed(alloc, groups, stations, routes, faults)? {
+    let fault = if !forms::are_well_formed(alloc, tables)? {
         PlanFault::Malformed
-    } else if !limits::are_within_limits(groups, stations, routes, faults) {
+    } else if !limits::are_within_limits(tables) {
         PlanFault::Limit
-    } else if !groups::are_names_distinct(groups) {
+    } else if !groups::are_names_distinct(tables.groups) {
         PlanFault::GroupTwice
-    } else if !groups::has_one_register_group(groups) {
+    } else if !groups::has_one_register_group(tables.groups) {
         PlanFault::RegisterGroups
-    } else if !places::are_places_distinct(alloc, groups)? {
+    } else if !places::are_places_distinct(alloc, tables.groups)? {
         PlanFault::PlaceTwice
-    } else if !places::are_pairs_on_one_frame(groups) {
+    } else if !places::are_pairs_on_one_frame(tables.groups) {
         PlanFault::PairApart
-    } else if !distinct::are_stations_distinct(alloc, stations)? {
+    } else if !distinct::are_stations_distinct(alloc, tables.stations)? {
         PlanFault::NumberTwice
-    } else if !distinct::are_routes_distinct(alloc, routes)? {
+    } else if !distinct::are_routes_distinct(alloc, tables.routes)? {
         PlanFault::CodeTwice
-    } else if !routes::are_groups_known(groups.len(), routes) {
+    } else if !routes::are_groups_known(tables.groups.len(), tables.routes) {
         PlanFault::UnknownGroup
-    } else if !routes::do_routes_lead_to_trunks(groups, routes) {
+    } else if !routes::do_routes_lead_to_trunks(tables.groups, tables.routes) {
         PlanFault::MixedRoute
     } else {
         return Ok(None);

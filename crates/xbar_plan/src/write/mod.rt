@@ -10,10 +10,12 @@ ghost use Rattle.xbar_plan.specs.Document.{plan_of, version_in};
 ghost use Rattle.xbar_plan.specs.Lawful.{IsLawful};
 ghost use Rattle.xbar_plan.specs.Written.{array_of, group_text as text_of_group, station_text as text_of_station, route_text as text_of_route, document_in_version_2};
 ghost use Rattle.xbar_plan.specs.declared.read.version.Version.TheVariants.{Two};
+ghost use Rattle.xbar_plan.specs.TableSlices.{tables_of};
 
 use crate::group::Group;
 use crate::route::Route;
 use crate::station::Station;
+use crate::table_slices::TableSlices;
 use std::alloc::{AllocError, Global};
 use texts::{group_text, link_text, route_text, station_text};
 use toml::{Table, Value};
@@ -72,20 +74,9 @@ fn put_first(alloc: Global, document: &mut Table, key: &str, value: Value) -> Re
 }
 
 /// The keys are put in from the last to the first, so that each comes before the others.
-fn document_of(
-    alloc: Global,
-    groups: &[Group],
-    stations: &[Station],
-    routes: &[Route],
-    faults: &[Link],
-) -> Result<Table, AllocError>
+fn document_of(alloc: Global, tables: &TableSlices) -> Result<Table, AllocError>
     ensures { IfOk result (λ document. table_view document ≡
-        document_in_version_2 (record {
-          groups = groups.now;
-          stations = stations.now;
-          routes = routes.now;
-          faults = faults.now;
-        })) }
+        document_in_version_2 (tables_of tables.now)) }
 {
     let mut document = Table::new(alloc);
     put_first(alloc, &mut document, "version", Value::from(2_i64))?;
@@ -93,43 +84,36 @@ fn document_of(
         alloc,
         &mut document,
         "numbers",
-        numbers_value(alloc, stations)?,
+        numbers_value(alloc, tables.stations)?,
     )?;
-    put_first(alloc, &mut document, "groups", groups_value(alloc, groups)?)?;
-    put_first(alloc, &mut document, "faults", faults_value(alloc, faults)?)?;
+    put_first(
+        alloc,
+        &mut document,
+        "groups",
+        groups_value(alloc, tables.groups)?,
+    )?;
+    put_first(
+        alloc,
+        &mut document,
+        "faults",
+        faults_value(alloc, tables.faults)?,
+    )?;
     put_first(
         alloc,
         &mut document,
         "codes",
-        codes_value(alloc, groups, routes)?,
+        codes_value(alloc, tables.groups, tables.routes)?,
     )?;
     Ok(document)
 }
 
 /// A text of these tables in version 2.
-pub fn version_2(
-    alloc: Global,
-    groups: &[Group],
-    stations: &[Station],
-    routes: &[Route],
-    faults: &[Link],
-) -> Result<Vec<u8>, AllocError>
-    requires { IsLawful (record {
-      groups = groups.now;
-      stations = stations.now;
-      routes = routes.now;
-      faults = faults.now;
-    }) }
+pub fn version_2(alloc: Global, tables: &TableSlices) -> Result<Vec<u8>, AllocError>
+    requires { IsLawful (tables_of tables.now) }
     ensures version { IfOk result (λ text. version_in text.items ≡ Some Two) }
-    ensures tables { IfOk result (λ text. plan_of text.items ≡
-        Ok (record {
-          groups = groups.now;
-          stations = stations.now;
-          routes = routes.now;
-          faults = faults.now;
-        })) }
+    ensures tables { IfOk result (λ text. plan_of text.items ≡ Ok (tables_of tables.now)) }
 {
-    let document = document_of(alloc, groups, stations, routes, faults)?;
+    let document = document_of(alloc, tables)?;
     match toml::table_to_string_pretty(alloc, &document) {
         Ok(text) => Ok(text.into_bytes()),
         // There are no date-times in it, so only memory can be wanting.

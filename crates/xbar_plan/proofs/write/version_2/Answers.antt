@@ -4,7 +4,7 @@ use Rattle.std.specs.Str.{IsUtf8}
 use Rattle.toml.specs.Data.{Members, members_depth}
 use Rattle.toml.specs.Parse.{parse_document}
 use Rattle.toml.specs.View.{table_view}
-use Rattle.xbar_plan.specs.Tables.{Tables}
+use Rattle.xbar_plan.specs.TableSlices.{tables_of}
 use Rattle.xbar_plan.specs.Written.{document_in_version_2}
 use Rattle.xbar_plan.proofs.WrittenPlan.{bytes-back, version-back}
 use Rattle.xbar_plan.proofs.WrittenText.{bytes_are_text, document_is_shallow}
@@ -12,7 +12,7 @@ use Rattle.xbar_plan.proofs.write.version_2.Goals as goal
 
 pub returns-in-Ok : goal.returns-in-Ok
 returns-in-Ok c =
-    let plan : Tables = record { groups = c.args.groups.now; stations = c.args.stations.now; routes = c.args.routes.now; faults = c.args.faults.now } in
+    let plan = tables_of c.args.tables.now in
     let bytes : c.into_bytes.result.items ≡ string_bytes c.in-Ok.text = ap (λ (v : Vec ℕ Global). v.items) c.into_bytes.ensures.value in
     let shallow : members_depth (table_view c.in_ok-document.document) ≤ 80 = rw c.in_ok-document.ensures (document_is_shallow plan) in
     let parsed : parse_document c.into_bytes.result.items ≡ Some (document_in_version_2 plan) =

@@ -1,35 +1,9 @@
-use Rattle.std.proofs.Common.{◌≡◌, ◌++◌, ℕ, true, false, List, refl, sym, subst}
-use Rattle.std.specs.Prelude.{OnOk, codes, string_bytes}
-use Rattle.xbar_walk.specs.Groups.{is_group}
-use Rattle.xbar_walk.specs.Words.{close_words, marked_words, switched_words}
-use Rattle.xbar_walk.specs.declared.place.Place.{Place}
-use Rattle.xbar_walk.specs.declared.place.Place.TheVariants.{LineSwitch, LineJunctor, TrunkSwitch, TrunkJunctor, Group, Other}
+use Rattle.std.proofs.Common.{sym}
+use Rattle.xbar_walk.proofs.ChangedWords.{close_by_group}
 use Rattle.xbar_walk.proofs.words.add_close.Goals as goal
 
-group_is_marked : (place : Place) (bits : ℕ) → is_group place ≡ true → close_words place bits ≡ marked_words (codes " busy") place bits
-unfolding close_words
-group_is_marked (Group group) bits e = refl
-group_is_marked (LineSwitch frame switch) bits e = absurd cc
-group_is_marked (LineJunctor frame channel) bits e = absurd cc
-group_is_marked (TrunkSwitch frame switch) bits e = absurd cc
-group_is_marked (TrunkJunctor frame channel) bits e = absurd cc
-group_is_marked (Other word) bits e = absurd cc
-
-other_is_switched : (place : Place) (bits : ℕ) → is_group place ≡ false → close_words place bits ≡ switched_words (codes "closes ") (codes " are joined") place bits
-unfolding close_words
-other_is_switched (Group group) bits e = absurd cc
-other_is_switched (LineSwitch frame switch) bits e = refl
-other_is_switched (LineJunctor frame channel) bits e = refl
-other_is_switched (TrunkSwitch frame switch) bits e = refl
-other_is_switched (TrunkJunctor frame channel) bits e = refl
-other_is_switched (Other word) bits e = refl
-
 pub returns-then-is_group : goal.returns-then-is_group
-returns-then-is_group c =
-    subst (λ (words : List ℕ). OnOk c.add_marked.result (string_bytes c.add_marked.new.text ≡ string_bytes c.args.text.now ++ words))
-    (sym (group_is_marked c.args.place c.args.bits (sym c.if-is_group.ensures))) c.add_marked.ensures
+returns-then-is_group c = rw (close_by_group c.args.place c.args.bits, sym c.if-is_group.ensures) c.add_marked.ensures
 
 pub returns-else-is_group : goal.returns-else-is_group
-returns-else-is_group c =
-    subst (λ (words : List ℕ). OnOk c.add_switched.result (string_bytes c.add_switched.new.text ≡ string_bytes c.args.text.now ++ words))
-    (sym (other_is_switched c.args.place c.args.bits (sym c.if-is_group.ensures))) c.add_switched.ensures
+returns-else-is_group c = rw (close_by_group c.args.place c.args.bits, sym c.if-is_group.ensures) c.add_switched.ensures

@@ -1,0 +1,18 @@
+-- The subcommands and options of the code's table.
+use Rattle.std.specs.Prelude.{map}
+use Rattle.crossbar5_command.specs.Program.{as_text, completing, dial, in_short, markers, plan}
+use Rattle.crossbar5_command.specs.Subcommand.{NamedOption, Subcommand}
+use Rattle.crossbar5_command.specs.declared.options.CommandOption.{CommandOption}
+use Rattle.crossbar5_command.specs.declared.options.CommandOption.TheVariants as option
+use Rattle.crossbar5_command.specs.declared.subcommands.Subcommand.{Subcommand as Row}
+
+abbrev pub named_option : CommandOption → NamedOption
+named_option option.Plan = plan
+named_option option.Markers = markers
+named_option option.Dial = dial
+named_option option.Completing = completing
+named_option option.Short = in_short
+named_option option.Text = as_text
+
+abbrev pub named_subcommand : Row → Subcommand
+named_subcommand row = record { name = row.name.now; options = map named_option row.options.now }

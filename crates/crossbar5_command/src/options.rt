@@ -1,0 +1,146 @@
+//! The options of subcommands as clap sees them.
+
+ghost use Rattle.std.specs.Prelude.{◌≡◌, ◌∷◌, ◌++◌, [], All, IfOk, OnOk, false, map};
+ghost use Rattle.clap.specs.Words.{rule_of};
+ghost use Rattle.crossbar5_command.specs.Program.{marker_count, markers, plan, rule_for};
+ghost use Rattle.crossbar5_command.specs.Subcommand.{nothing};
+ghost use Rattle.crossbar5_command.specs.Table.{named_option};
+
+use clap::builder::ValueParser;
+use clap::{Arg, ArgAction};
+use std::alloc::{AllocError, Global};
+
+/// The id of the option for the plan, and its name.
+pub const PLAN: &str = "plan";
+
+/// The id of the option for the kinds of the markers, and its name.
+pub const MARKERS: &str = "markers";
+
+/// The ids of the options for how many markers dial, and how many complete calls, and their names.
+pub const DIAL: &str = "dial";
+
+pub const COMPLETING: &str = "completing";
+
+/// The id of the option for a walk in fewer lines, and its name.
+pub const SHORT: &str = "short";
+
+/// The id of the option for a text in place of a drawing, and its name.
+pub const TEXT: &str = "text";
+
+/// How many markers of a kind there are where no number is given, and at most.
+pub const ONE: &str = "1";
+
+const MOST_OF_A_KIND: u64 = 47;
+
+/// The kinds of the markers where none are given: two markers for all jobs.
+pub const DEFAULT_KINDS: &str = "XX";
+
+const ABOUT_PLAN: &str = "The file with the office's plan [default: the example plan]";
+
+const ABOUT_MARKERS: &str = "\
+The kind of each marker, marker 0 first, 1 to 48 letters:{n}\
+D for dial tone jobs{n}\
+C for completing jobs and releases{n}\
+X for all jobs";
+
+const ABOUT_DIAL: &str = "How many markers dial, 1 to 47";
+
+const ABOUT_COMPLETING: &str = "\
+How many markers complete calls and release them, 1 to 47,{n}\
+and with those that dial at most 48";
+
+const ABOUT_SHORT: &str = "Tests of a row of switches are told in one line";
+
+const ABOUT_TEXT: &str = "As text for a terminal of 80 columns";
+
+/// An option of a subcommand.
+#[derive(Clone, Copy)]
+pub enum CommandOption {
+    Plan,
+    Markers,
+    Dial,
+    Completing,
+    Short,
+    Text,
+}
+
+impl CommandOption {
+    fn arg<'a>(self, alloc: Global) -> Arg<'a>
+        ensures rule { rule_of result ≡ rule_for (named_option self) }
+        ensures local { result.global ≡ false }
+    {
+        match self {
+            CommandOption::Plan => plan_option(alloc),
+            CommandOption::Markers => markers_option(alloc),
+            CommandOption::Dial => count_option(alloc, DIAL, ABOUT_DIAL),
+            CommandOption::Completing => count_option(alloc, COMPLETING, ABOUT_COMPLETING),
+            CommandOption::Short => flag_option(alloc, SHORT, ABOUT_SHORT),
+            CommandOption::Text => flag_option(alloc, TEXT, ABOUT_TEXT),
+        }
+    }
+}
+
+/// The arguments of these options, in their order.
+pub fn args_of<'a>(alloc: Global, options: &[CommandOption]) -> Result<Vec<Arg<'a>>, AllocError>
+    ensures rules { IfOk result (λ args. map rule_of args.items ≡
+        map (λ option. rule_for (named_option option)) options.now) }
+    ensures local { IfOk result (λ args. All (λ arg. arg.global ≡ false) args.items) }
+{
+    let mut args = Vec::new(alloc);
+    for option in options {
+        put(&mut args, option.arg(alloc))?;
+    }
+    Ok(args)
+}
+
+/// Puts an item behind others, or lets it go where memory is refused.
+pub fn put<T: Drop>(all: &mut Vec<T>, item: T) -> Result<(), AllocError>
+    ensures { OnOk result (all.new.items ≡ all.old.items ++ item ∷ []) }
+{
+    Ok(all.push(item)?)
+}
+
+fn plan_option<'a>(alloc: Global) -> Arg<'a>
+    ensures rule { rule_of result ≡ rule_for plan }
+    ensures local { result.global ≡ false }
+{
+    Arg::new(alloc, PLAN)
+        .long(PLAN)
+        .value_name("FILE")
+        .help(ABOUT_PLAN)
+}
+
+fn markers_option<'a>(alloc: Global) -> Arg<'a>
+    ensures rule { rule_of result ≡ rule_for markers }
+    ensures local { result.global ≡ false }
+{
+    Arg::new(alloc, MARKERS)
+        .long(MARKERS)
+        .value_name("KINDS")
+        .default_value(DEFAULT_KINDS)
+        .help(ABOUT_MARKERS)
+}
+
+/// An option for how many markers of a kind there are.
+fn count_option<'a>(alloc: Global, name: &'a str, about: &'a str) -> Arg<'a>
+    ensures rule { rule_of result ≡ rule_for (marker_count name.now) }
+    ensures local { result.global ≡ false }
+{
+    Arg::new(alloc, name)
+        .long(name)
+        .value_name("N")
+        .value_parser(ValueParser::unsigned(1, MOST_OF_A_KIND))
+        .default_value(ONE)
+        .help(about)
+}
+
+/// An option that stands alone.
+fn flag_option<'a>(alloc: Global, name: &'a str, about: &'a str) -> Arg<'a>
+    ensures rule { rule_of result ≡ rule_for (record { name = name.now; argument = nothing }) }
+    ensures local { result.global ≡ false }
+{
+    Arg::new(alloc, name)
+        .long(name)
+        .action(ArgAction::SetTrue)
+        .help(about)
+}
