@@ -3,12 +3,12 @@
 ghost use Rattle.std.specs.Prelude.{◌+◌, ◌<◌, All};
 ghost use Rattle.xbar_markers.specs.Calls.{HasCallNo};
 
-use crate::checks::{check, check_equal};
 use crate::running::{BOTH, By, Staff, call_out, example, open_gates, run};
 use std::alloc::Global;
 use std::process::Abort;
 use std::sync::Wait;
 use std::thread::Threads;
+use test_checks::{check, check_eq};
 use xbar_equip::Len;
 use xbar_markers::{Call, Outcome, RunFault, run_calls};
 use xbar_match::{count_closed, count_paths};
@@ -152,17 +152,17 @@ fn is_untouched(words: &[u64]) -> bool {
 fn check_paths(rt: &impl Abort, name: &str, words: &[u64], paths: u16) {
     assert!(rt; words.len() == 453);
     let closed = (count_paths(words), count_closed(words));
-    check_equal(rt, name, &closed, &(paths, paths.saturating_mul(4)));
+    check_eq!(rt; closed, (paths, paths.saturating_mul(4)), name);
 }
 
 fn check_outcome(rt: &impl Abort, case: &Case, outcome: &Outcome) {
     let records = outcome.records.as_slice();
     let ends = Ends::of(records);
     let is_so = is_wanted(case, records.len(), &ends);
-    check(rt, format_args!("{}: {ends:?}", case.name), is_so);
+    check!(rt; is_so, "{}: {ends:?}", case.name);
     check_paths(rt, case.name, &outcome.words, case.paths);
     let is_untouched = is_untouched(&outcome.words);
-    check_equal(rt, case.name, &is_untouched, &(case.calls == 0));
+    check_eq!(rt; is_untouched, case.calls == 0, case.name);
 }
 
 fn compete<R: Threads + Wait + Sync + Abort>(
@@ -213,10 +213,10 @@ fn has_job(records: &[Record], turn: u64, job_no: u32, marker: u32) -> bool {
 }
 
 fn check_jobs(rt: &impl Abort, records: &[Record]) {
-    check_equal(rt, "three jobs", &records.len(), &JOBS.len());
+    check_eq!(rt; records.len(), JOBS.len(), "three jobs");
     for (turn, job_no, marker) in JOBS {
         let is_there = has_job(records, *turn, *job_no, *marker);
-        check(rt, format_args!("the job of turn {turn}"), is_there);
+        check!(rt; is_there, "the job of turn {turn}");
     }
 }
 
@@ -273,7 +273,7 @@ fn are_refused<R: Threads + Wait + Sync + Abort>(rt: &R, alloc: Global, plan: &P
     for (dialling, completing, wanted) in STAFFS {
         assert!(rt; *dialling < 50 && *completing < 50);
         let fault = refused(rt, alloc, plan, *dialling, *completing);
-        check_equal(rt, format_args!("{dialling} {completing}"), &fault, wanted);
+        check_eq!(rt; fault, *wanted, "{dialling} {completing}");
     }
 }
 

@@ -3,12 +3,12 @@
 ghost use Rattle.xbar_office.specs.Legal.{IsJob};
 ghost use Rattle.xbar_fabric.specs.Views.{AreDesksOf, IsDeskOf};
 
-use crate::checks::{check, check_equal};
 use crate::running::example;
 use std::alloc::Global;
 use std::process::Abort;
 use std::sync::Wait;
 use std::thread::Threads;
+use test_checks::{check, check_eq};
 use xbar_equip::Len;
 use xbar_fabric::{AssignFault, Desk, Fabric, Kind, shut};
 use xbar_markers::{Handed, Then, hand_over};
@@ -26,30 +26,12 @@ fn line() -> Len {
     Len::new(3, 0, 21)
 }
 
-/// Shared words with a desk of each of these kinds.
-fn open_desks<'p>(
-    rt: &impl Abort,
-    alloc: Global,
-    plan: &'p Plan,
-    kinds: &[Kind],
-) -> (Fabric<'p>, Vec<Desk>)
-    ensures { AreDesksOf result.1.items result.0 }
-{
-    let Ok(opened) = Fabric::open(alloc, plan, kinds) else {
-        panic!(rt; "an office is opened");
-    };
-    opened
-}
-
 fn last_desk(rt: &impl Abort, _fabric: &Fabric, desks: &mut Vec<Desk>) -> Desk
     requires { AreDesksOf desks.old.items _fabric.now }
     ensures rest { AreDesksOf desks.new.items _fabric.now }
     ensures desk { IsDeskOf result _fabric.now }
 {
-    let Some(desk) = desks.pop() else {
-        panic!(rt; "there is a desk");
-    };
-    desk
+    desks.pop().expect(rt, "there is a desk")
 }
 
 /// Whether the job ended with dial tone, or was given back, as the words show.
@@ -76,7 +58,8 @@ fn is_handed<R: Threads + Wait + Sync + Abort>(
     stop: u32,
     then: Then,
 ) -> bool {
-    let (fabric, mut desks) = open_desks(rt, alloc, plan, &[Kind::Combined]);
+    let opened = Fabric::open(alloc, plan, &[Kind::Combined]);
+    let (fabric, mut desks) = opened.expect(rt, "an office is opened");
     let desk = last_desk(rt, &fabric, &mut desks);
     let Ok((desk, handed)) = hand_over(rt, &fabric, desk, 1, Job::Dial(line()), stop, then) else {
         panic!(rt; "an idle desk takes the job");
@@ -91,7 +74,7 @@ fn are_handed<R: Threads + Wait + Sync + Abort>(rt: &R, alloc: Global, plan: &Pl
     for stop in 0..=END {
         for then in [Then::Finish, Then::GiveBack] {
             let is_so = is_handed(rt, alloc, plan, stop, then);
-            check(rt, format_args!("{stop} {then:?}"), is_so);
+            check!(rt; is_so, "{stop} {then:?}");
         }
     }
 }
@@ -117,24 +100,15 @@ fn refused<R: Threads + Wait + Sync>(
 
 /// A desk with the job to dial, and an idle one that takes no release.
 fn are_handed_back<R: Threads + Wait + Sync + Abort>(rt: &R, alloc: Global, plan: &Plan) {
-    let (fabric, mut desks) = open_desks(rt, alloc, plan, &[Kind::Combined, Kind::Dial]);
+    let opened = Fabric::open(alloc, plan, &[Kind::Combined, Kind::Dial]);
+    let (fabric, mut desks) = opened.expect(rt, "an office is opened");
     let dial = last_desk(rt, &fabric, &mut desks);
     let mut busy = last_desk(rt, &fabric, &mut desks);
     let _assigned = busy.assign(1, Job::Dial(line()));
     let not_idle = refused(rt, &fabric, busy, Job::Dial(line()));
-    check_equal(
-        rt,
-        "a busy desk",
-        &not_idle,
-        &Some((AssignFault::NotIdle, 0, false)),
-    );
+    check_eq!(rt; not_idle, Some((AssignFault::NotIdle, 0, false)), "a busy desk");
     let wrong_kind = refused(rt, &fabric, dial, Job::Release(line()));
-    check_equal(
-        rt,
-        "a release",
-        &wrong_kind,
-        &Some((AssignFault::WrongKind, 1, true)),
-    );
+    check_eq!(rt; wrong_kind, Some((AssignFault::WrongKind, 1, true)), "a release");
 }
 
 #[test]

@@ -3,12 +3,12 @@
 ghost use Rattle.std.specs.Prelude.{◌≡◌, ◌+◌, ◌≤◌, ◌<◌, All, IfOk, vec_len};
 ghost use Rattle.xbar_markers.specs.Calls.{HasCallNo};
 
-use crate::checks::{check, check_equal};
 use crate::running::{BOTH, By, Staff, example, open_gates, run};
 use std::alloc::{AllocError, Global};
 use std::process::Abort;
 use std::sync::Wait;
 use std::thread::Threads;
+use test_checks::{check, check_eq};
 use xbar_equip::{Dialled, Len};
 use xbar_markers::{Call, Outcome};
 use xbar_office::{End, Record, audit};
@@ -160,7 +160,7 @@ fn check_paths(rt: &impl Abort, alloc: Global, plan: &Plan, name: &str, outcome:
     let Ok(after) = audit(alloc, plan, outcome.records.as_slice()) else {
         panic!(rt; "the records are legal");
     };
-    check_equal(rt, name, &after.paths(), &outcome.office.paths());
+    check_eq!(rt; after.paths(), outcome.office.paths(), name);
 }
 
 fn do_calls<R: Threads + Wait + Sync + Abort>(
@@ -177,7 +177,7 @@ fn do_calls<R: Threads + Wait + Sync + Abort>(
     assert!(rt; staff.dialling < 25 && staff.completing < 25);
     let gates = open_gates(rt, alloc, staff.dialling + staff.completing);
     let outcome = run(rt, alloc, by, plan, calls, staff, gates);
-    check(rt, case.name, are_served(calls, &outcome.records));
+    check!(rt; are_served(calls, &outcome.records), case.name);
     check_paths(rt, alloc, plan, case.name, &outcome);
 }
 

@@ -3,13 +3,13 @@
 ghost use Rattle.std.specs.Prelude.{◌≡◌, ◌+◌, All, IfOk, length, vec_len};
 ghost use Rattle.xbar_markers.specs.Calls.{HasCallNo};
 
-use crate::checks::check_equal;
 use crate::gates::{Board, Meeting, MeetingGate, Point, Tally};
 use crate::running::{BOTH, By, Staff, call_out, example, run};
 use std::alloc::{AllocError, Global};
 use std::process::Abort;
 use std::sync::Wait;
 use std::thread::Threads;
+use test_checks::check_eq;
 use xbar_equip::Len;
 use xbar_markers::{Call, Outcome};
 use xbar_plan::Plan;
@@ -154,9 +154,9 @@ fn check_meetings<R: Threads + Wait + Sync + Abort>(
         missed: 0,
         miscounted: 0,
     };
-    check_equal(rt, case.name, &board.tally(), &met);
+    check_eq!(rt; board.tally(), met, case.name);
     let counts = (outcome.records.len(), outcome.office.paths().len());
-    check_equal(rt, case.name, &counts, &(4, 2));
+    check_eq!(rt; counts, (4, 2), case.name);
 }
 
 fn check_all<R: Threads + Wait + Sync + Abort>(rt: &R, alloc: Global, plan: &Plan) {

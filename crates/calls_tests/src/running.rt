@@ -101,25 +101,6 @@ fn run_by_caller<'p, G: Gate + Send + Drop, R: Threads + Wait + Sync + Abort>(
     }
 }
 
-/// Does the calls by markers of its own.
-fn run_by_itself<'p, G: Gate + Send + Drop, R: Threads + Wait + Sync + Abort>(
-    rt: &R,
-    alloc: Global,
-    plan: &'p Plan,
-    calls: &[Call],
-    staff: Staff,
-    gates: Vec<G>,
-) -> Outcome<'p>
-    requires call_nos { All HasCallNo calls.now }
-    requires gates { vec_len gates ≡ staff.dialling + staff.completing }
-{
-    let (dialling, completing) = (staff.dialling, staff.completing);
-    let Ok(outcome) = run_calls(rt, alloc, plan, calls, dialling, completing, gates) else {
-        panic!(rt; "the calls are done");
-    };
-    outcome
-}
-
 pub fn run<'p, G: Gate + Send + Drop, R: Threads + Wait + Sync + Abort>(
     rt: &R,
     alloc: Global,
@@ -133,7 +114,11 @@ pub fn run<'p, G: Gate + Send + Drop, R: Threads + Wait + Sync + Abort>(
     requires gates { vec_len gates ≡ staff.dialling + staff.completing }
 {
     match by {
-        By::RunCalls => run_by_itself(rt, alloc, plan, calls, staff, gates),
+        By::RunCalls => {
+            let (dialling, completing) = (staff.dialling, staff.completing);
+            let outcome = run_calls(rt, alloc, plan, calls, dialling, completing, gates);
+            outcome.expect(rt, "the calls are done")
+        }
         By::Caller => run_by_caller(rt, alloc, plan, calls, staff, gates),
     }
 }

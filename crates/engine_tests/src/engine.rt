@@ -1,7 +1,6 @@
 //! What the engine does where a device fails, where memory is refused, and with large traffic. What it
 //! writes otherwise is in the rows of `worked_rows`.
 
-use crate::checks::check_eq;
 use crossbar5::{
     Counted, EngineFault, Look, Sink, Source, Status, Task, Telling, answer_task, kinds_of,
     run_replay,
@@ -9,6 +8,7 @@ use crossbar5::{
 use std::alloc::{AllocError, Global};
 use std::process::Abort;
 use std::test::Fail;
+use test_checks::check_eq;
 use xbar_core::Kind;
 
 mod faults;
@@ -109,7 +109,7 @@ const CASES: &[Case] = &[
     Case {
         task: DRAW,
         plan: FAULTY,
-        input: "0,1,0,D,3052,-,DIALTONE,2,3052-5-418,-\nTROUBLE,0,1,1,JU340\n",
+        input: "0,7,1,D,3052,-,DIALTONE,2,3052-5-418,-\nTROUBLE,0,7,1,JU340\n",
         text: FAULTY_DRAWING,
     },
 ];
@@ -133,8 +133,8 @@ JU340: channel 0, from line link frame 3 to trunk link frame 4
 
    .---------------------------------------------.
   /  TROUBLE CARD: JU340 is faulty               |
- /   turn 0, job 1                               |
-|    marker 0, trial 1                           |
+ /   turn 0, job 7                               |
+|    marker 1, trial 1                           |
 |    . line link   # junctor   . trunk link      |
 |                       0 1 2 3 4 5 6 7 8 9      |
 |    line link frame    . . . # . . . . . .      |

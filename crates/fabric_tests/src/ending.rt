@@ -5,10 +5,10 @@ ghost use Rattle.xbar_fabric.specs.Meetings.{AreAllIdle};
 ghost use Rattle.xbar_fabric.specs.Views.{IsDeskOf};
 ghost use Rattle.fabric_tests.specs.Shifts.{AreInOrder};
 
-use crate::checks::{check, check_equal};
 use crate::driving::Shift;
 use std::alloc::Global;
 use std::process::Abort;
+use test_checks::{check, check_eq};
 use xbar_equip::Crosspoint;
 use xbar_fabric::{Desk, Fabric, shut_all};
 use xbar_match::{count_closed, count_paths, shape_at};
@@ -108,23 +108,9 @@ fn check_words(
         usize::from(count_closed(words)),
         words[TURNS],
     );
-    check_equal(
-        rt,
-        "paths, crosspoints and turns",
-        &counted,
-        &(paths, crosspoints.len(), turns as u64),
-    );
-    check(
-        rt,
-        "each crosspoint is closed",
-        are_closed(words, crosspoints),
-    );
-    check_equal(
-        rt,
-        "no connector is held",
-        &&words[CONNECTORS..TURNS],
-        &ALL_FREE,
-    );
+    check_eq!(rt; counted, (paths, crosspoints.len(), turns as u64), "paths, crosspoints and turns");
+    check!(rt; are_closed(words, crosspoints), "each crosspoint is closed");
+    check_eq!(rt; &words[CONNECTORS..TURNS], ALL_FREE, "no connector is held");
 }
 
 /// The audit's office after the records that desks were told, which it puts in the order of turns.

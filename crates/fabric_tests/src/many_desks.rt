@@ -3,13 +3,13 @@
 ghost use Rattle.std.specs.Prelude.{◌≡◌, ◌≤◌, ◌<◌, All, IfOk, vec_len};
 ghost use Rattle.xbar_fabric.specs.Views.{AreDesksOf, IsDeskOf};
 
-use crate::checks::{check, check_equal};
 use crate::driving::{AtWork, Shift, do_jobs};
 use crate::ending::check_end;
 use crate::opening::{example, open_desks};
 use std::alloc::{AllocError, Global};
 use std::process::Abort;
 use std::thread::{Threads, map_vec};
+use test_checks::{check, check_eq};
 use xbar_fabric::{Desk, Fabric, Kind};
 use xbar_office::{End, Record};
 use xbar_plan::Plan;
@@ -123,8 +123,8 @@ fn check_desks<R: Threads + Sync + Abort>(rt: &R, alloc: Global, plan: &Plan, ca
     let shifts = work_to_the_end(rt, alloc, &fabric, desks, case);
     let records = check_end(rt, alloc, plan, fabric, shifts);
     let wanted = (case.kinds.len() as u64).saturating_mul(u64::from(case.jobs));
-    check_equal(rt, case.name, &(records.len() as u64), &wanted);
-    check(rt, case.name, is_one_connected(&records));
+    check_eq!(rt; records.len() as u64, wanted, case.name);
+    check!(rt; is_one_connected(&records), case.name);
 }
 
 fn check_all<R: Threads + Sync + Abort>(rt: &R, alloc: Global, plan: &Plan) {

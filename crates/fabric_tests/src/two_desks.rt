@@ -3,13 +3,13 @@
 ghost use Rattle.std.specs.Prelude.{All, IfOk};
 ghost use Rattle.xbar_fabric.specs.Views.{AreDesksOf, IsDeskOf};
 
-use crate::checks::{check, check_equal};
 use crate::driving::{AtWork, MOST_STEPS_ALONE, Shift, run_on};
 use crate::ending::office_after;
 use crate::opening::{example, open_desks};
 use std::alloc::{AllocError, Global};
 use std::process::Abort;
 use std::thread::{Threads, map_vec};
+use test_checks::{check, check_eq};
 use xbar_equip::Len;
 use xbar_fabric::{Desk, Fabric, Given, Kind, meet, shut};
 use xbar_match::{count_closed, count_paths};
@@ -31,7 +31,7 @@ fn last_dialling(
     let Some(mut desk) = desks.pop() else {
         panic!(rt; "there are two desks");
     };
-    check_equal(rt, "a job", &desk.assign(1, Job::Dial(line)), &Ok(()));
+    check_eq!(rt; desk.assign(1, Job::Dial(line)), Ok(()), "a job");
     let log = Vec::new(alloc);
     AtWork { desk, log }
 }
@@ -161,12 +161,7 @@ fn check_dials(
         count_paths(words),
         count_closed(words),
     );
-    check_equal(
-        rt,
-        "records, paths, and closed crosspoints",
-        &counted,
-        &(2, 2, 2, 8),
-    );
+    check_eq!(rt; counted, (2, 2, 2, 8), "records, paths, and closed crosspoints");
 }
 
 /// Two threads make so many steps at most. Both lines have their registers in the end.
@@ -176,11 +171,7 @@ fn check_two_dials<R: Threads + Sync + Abort>(rt: &R, alloc: Global, plan: &Plan
     let mut one = last_at_work(rt, &fabric, &mut shifts);
     let mut zero = last_at_work(rt, &fabric, &mut shifts);
     let are_ended = settle(&fabric, &mut zero, &mut one);
-    check(
-        rt,
-        format_args!("both jobs end, after {most} steps at most"),
-        are_ended,
-    );
+    check!(rt; are_ended, "both jobs end, after {most} steps at most");
     let (words, mut records) = shut_both(rt, alloc, fabric, zero, one);
     check_dials(rt, alloc, plan, &words, &mut records);
 }

@@ -1,11 +1,13 @@
 //! The office as plain data: its records, and what its words show of them.
 
-use crate::checks::{check, check_equal};
-use crate::fixtures::{MANY_REGISTERS, check_shown, count_left, example, job, read_plan, some_job};
+use crate::fixtures::{
+    EXAMPLE, MANY_REGISTERS, check_shown, count_left, example, job, read_plan, some_job,
+};
 use crate::offices::plain::open_exchange;
-use crate::offices::{Driven, TWO, assign, go_on_for};
+use crate::offices::{Driven, TWO, assign, begin_both, go_on_for};
 use std::alloc::Global;
 use std::process::Abort;
+use test_checks::{check, check_eq};
 use xbar_core::{AssignFault, Event, Exchange, Kind, OpenFault};
 use xbar_office::Record;
 use xbar_plan::Plan;

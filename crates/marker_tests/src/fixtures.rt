@@ -1,8 +1,8 @@
 //! What the tests of jobs and of offices share: plans, jobs, and a look at words.
 
-use crate::checks::check_equal;
 use std::alloc::{AllocError, Global};
 use std::process::Abort;
+use test_checks::check_eq;
 use xbar_equip::{Dialled, Len};
 use xbar_match::{count_closed, count_paths};
 use xbar_office::{Job, Record, audit};
@@ -36,10 +36,7 @@ faults = []
 
 /// The example plan.
 pub fn example(rt: &impl Abort, alloc: Global) -> Plan {
-    let Ok(plan) = Plan::example(alloc) else {
-        panic!(rt; "there is memory for a plan");
-    };
-    plan
+    Plan::example(alloc).expect(rt, "there is memory for a plan")
 }
 
 /// The plan that a text holds.
@@ -52,12 +49,12 @@ pub fn read_plan(rt: &impl Abort, alloc: Global, text: &str) -> Plan {
 
 /// A job by its text, or none.
 fn job_of(text: &str) -> Option<Job> {
-    let mut parts = text.split(' ');
-    let kind = parts.next()?;
-    let line = Len::parse(parts.next()?.as_bytes()).ok()?;
+    let (kind, rest) = text.split_once(' ')?;
+    let (line, dialled) = rest.split_once(' ').unwrap_or((rest, ""));
+    let line = Len::parse(line.as_bytes()).ok()?;
     match kind {
         "D" => Some(Job::Dial(line)),
-        "C" => Some(Job::Complete(line, Dialled::parse(parts.next()?.as_bytes()).ok()?)),
+        "C" => Some(Job::Complete(line, Dialled::parse(dialled.as_bytes()).ok()?)),
         "R" => Some(Job::Release(line)),
         _ => None,
     }
@@ -143,18 +140,14 @@ fn closed_words(alloc: Global, words: &[u64]) -> Result<Vec<(usize, u64)>, Alloc
 
 /// Of all 453 words just these are not 0.
 pub fn check_words(rt: &impl Abort, alloc: Global, name: &str, words: &[u64], wanted: Words<'_>) {
-    check_equal(rt, name, &words.len(), &453);
-    let Ok(closed) = closed_words(alloc, words) else {
-        panic!(rt; "there is memory for a list");
-    };
-    check_equal(rt, name, &closed.as_slice(), &wanted);
+    check_eq!(rt; words.len(), 453, name);
+    let closed = closed_words(alloc, words).expect(rt, "there is memory for a list");
+    check_eq!(rt; closed.as_slice(), wanted, name);
 }
 
 /// How many paths the records leave, if they are one legal history.
 pub fn count_left(rt: &impl Abort, alloc: Global, plan: &Plan, log: &[Record]) -> usize {
-    let Ok(after) = audit(alloc, plan, log) else {
-        panic!(rt; "the records are legal");
-    };
+    let after = audit(alloc, plan, log).expect(rt, "the records are legal");
     after.paths().len()
 }
 
@@ -173,11 +166,6 @@ pub fn check_shown(rt: &impl Abort, name: &str, words: &[u64], paths: usize, tur
         usize::from(count_closed(words)),
         words[TURNS],
     );
-    check_equal(
-        rt,
-        name,
-        &counted,
-        &(paths, paths.saturating_mul(4), turns as u64),
-    );
-    check_equal(rt, name, &&words[CONNECTORS..TURNS], &ALL_FREE);
+    check_eq!(rt; counted, (paths, paths.saturating_mul(4), turns as u64), name);
+    check_eq!(rt; &words[CONNECTORS..TURNS], ALL_FREE, name);
 }

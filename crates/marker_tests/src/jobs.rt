@@ -4,13 +4,13 @@ ghost use Rattle.std.specs.Prelude.{◌≡◌, ◌<◌, length};
 ghost use Rattle.xbar_equip.specs.Word.{word_count};
 ghost use Rattle.xbar_jobs.specs.Standing.{Stands};
 
-use crate::checks::check_equal;
 use crate::fixtures::{
     EXAMPLE, MANY_REGISTERS, WITH_REGISTER, WITH_TRUNK, Words, check_words, example, job,
     read_plan, some_job,
 };
 use std::alloc::Global;
 use std::process::Abort;
+use test_checks::check_eq;
 use told::{ToldReply, ToldStep, check_text};
 use xbar_equip::{Conn, Path, WORD_COUNT, WordNo};
 use xbar_jobs::{Answer, Program, Step};

@@ -1,10 +1,10 @@
 //! Offices that are driven move by move, as plain data and as desks on shared words: both come to the same.
 
-use crate::checks::check_equal;
 use crate::fixtures::{WITH_REGISTER, WITH_TRUNK, Words, check_shown, check_words, example, job};
 use plain::open_exchange;
 use std::alloc::Global;
 use std::process::Abort;
+use test_checks::check_eq;
 use two_desks::open_desks;
 use xbar_core::{AssignFault, Event, Given, Kind, OpenFault};
 use xbar_equip::Conn;
@@ -59,12 +59,7 @@ pub trait Driven: Sized + Drop {
 
 /// A job by its text goes to the marker.
 pub fn assign<O: Driven>(rt: &impl Abort, office: &mut O, marker: u32, job_no: u32, text: &str) {
-    check_equal(
-        rt,
-        text,
-        &office.assign_to(marker, job_no, job(rt, text)),
-        &Ok(()),
-    );
+    check_eq!(rt; office.assign_to(marker, job_no, job(rt, text)), Ok(()), text);
 }
 
 /// So many steps of the marker, whatever comes of them.
@@ -72,6 +67,14 @@ pub fn go_on_for<O: Driven>(office: &mut O, marker: u32, count: u32) {
     for _made in 0..count {
         let _event = office.go_on(marker);
     }
+}
+
+/// Two lines go off hook, and markers 0 and 1 make so many steps for them.
+pub fn begin_both<O: Driven>(rt: &impl Abort, office: &mut O, first: u32, second: u32) {
+    assign(rt, office, 0, 1, "D 3041");
+    assign(rt, office, 1, 2, "D 1000");
+    go_on_for(office, 0, first);
+    go_on_for(office, 1, second);
 }
 
 /// The office is shut, and of its words just these are not 0.

@@ -1,10 +1,9 @@
 //! The equipment: texts of numbers, paths with their links and crosspoints, and words.
 
-use crate::checks::check_eq;
-use crate::fixtures::{far_path, near_path, path_of};
+use crate::fixtures::{check_all_printed, check_printed, far_path, near_path, path_of};
 use std::alloc::Global;
 use std::process::Abort;
-use std::test::Fail;
+use test_checks::check_eq;
 use xbar_equip::{
     Channel, Conn, Crosspoint, Dialled, DirNo, EquipFault, Len, Link, LinkKind, Path, Ten, WordNo,
     conn_word, group_word, laws, line_junctor, line_switch, protects, trunk_junctor, trunk_switch,
@@ -42,7 +41,7 @@ fn line_of(text: &str) -> Result<([u8; 5], [u8; 4]), EquipFault> {
 #[test]
 fn lines_are_read(rt: HostRuntime) {
     for (text, wanted) in LINES {
-        check_eq!(rt; line_of(text), *wanted, "{text}");
+        check_eq!(rt; line_of(text), *wanted, text);
     }
 }
 
@@ -62,7 +61,7 @@ fn place_of(text: &str) -> Result<([u8; 3], [u8; 3]), EquipFault> {
 #[test]
 fn trunk_places_are_read(rt: HostRuntime) {
     for (text, wanted) in PLACES {
-        check_eq!(rt; place_of(text), *wanted, "{text}");
+        check_eq!(rt; place_of(text), *wanted, text);
     }
 }
 
@@ -80,7 +79,7 @@ fn channel_of(text: &str) -> Result<(u8, [u8; 1]), EquipFault> {
 #[test]
 fn channels_are_read(rt: HostRuntime) {
     for (text, wanted) in CHANNELS {
-        check_eq!(rt; channel_of(text), *wanted, "{text}");
+        check_eq!(rt; channel_of(text), *wanted, text);
     }
 }
 
@@ -98,7 +97,7 @@ fn directory_number_of(text: &str) -> Result<(u16, [u8; 4]), EquipFault> {
 #[test]
 fn directory_numbers_are_read(rt: HostRuntime) {
     for (text, wanted) in DIRECTORY_NUMBERS {
-        check_eq!(rt; directory_number_of(text), *wanted, "{text}");
+        check_eq!(rt; directory_number_of(text), *wanted, text);
     }
 }
 
@@ -118,7 +117,7 @@ fn dialled_of(text: &str) -> Result<(u32, u16, u16, [u8; 7]), EquipFault> {
 #[test]
 fn dialled_digits_are_read(rt: HostRuntime) {
     for (text, wanted) in DIALLED {
-        check_eq!(rt; dialled_of(text), *wanted, "{text}");
+        check_eq!(rt; dialled_of(text), *wanted, text);
     }
 }
 
@@ -143,7 +142,7 @@ fn link_of(text: &str) -> Result<(LinkKind, [u8; 3], [u8; 5]), EquipFault> {
 #[test]
 fn links_are_read(rt: HostRuntime) {
     for (text, wanted) in LINKS {
-        check_eq!(rt; link_of(text), *wanted, "{text}");
+        check_eq!(rt; link_of(text), *wanted, text);
     }
 }
 
@@ -176,9 +175,9 @@ fn links(path: &Path) -> [[u8; 5]; 3] {
 #[test]
 fn paths_close_four_crosspoints_by_three_links(rt: HostRuntime) {
     let path = far_path();
-    check_eq!(rt; (crosspoints(&path), links(&path)), FAR_PARTS, "{path}");
+    check_eq!(rt; (crosspoints(&path), links(&path)), FAR_PARTS, path);
     let path = near_path();
-    check_eq!(rt; (crosspoints(&path), links(&path)), NEAR_PARTS, "{path}");
+    check_eq!(rt; (crosspoints(&path), links(&path)), NEAR_PARTS, path);
 }
 
 /// Paths, each by its line, its channel and its place, in the order of their texts.
@@ -199,21 +198,21 @@ const SHUFFLED: &[(&str, &str, &str)] = &[
     ("2954", "9", "999"),
 ];
 
-fn paths(alloc: Global, texts: &[(&str, &str, &str)]) -> Result<Vec<Path>, Fail> {
+fn paths(rt: &impl Abort, alloc: Global, texts: &[(&str, &str, &str)]) -> Vec<Path> {
     let mut paths = Vec::new(alloc);
     for (line, channel, place) in texts {
-        paths.push(path_of(line, channel, place)?)?;
+        let path = path_of(line, channel, place).expect(rt, "these are a path's texts");
+        paths.push(path).expect(rt, "there is memory for paths");
     }
-    Ok(paths)
+    paths
 }
 
 #[test]
-fn paths_stand_in_the_order_of_their_texts(rt: HostRuntime) -> Result<(), Fail> {
-    let mut sorted = paths(rt.alloc(), SHUFFLED)?;
+fn paths_stand_in_the_order_of_their_texts(rt: HostRuntime) {
+    let mut sorted = paths(&rt, rt.alloc(), SHUFFLED);
     sorted.sort_unstable();
-    let in_order = paths(rt.alloc(), IN_ORDER)?;
+    let in_order = paths(&rt, rt.alloc(), IN_ORDER);
     check_eq!(rt; sorted.as_slice(), in_order.as_slice());
-    Ok(())
 }
 
 /// The word has this number, and protects this.
@@ -239,20 +238,22 @@ fn other_words_stand_behind_them(rt: HostRuntime) {
 }
 
 #[test]
-fn numbers_are_printed(rt: HostRuntime) -> Result<(), Fail> {
-    let (number, dialled) = (DirNo::new(42), Dialled::new(420_007));
-    let text = format!(in rt.alloc(); "{number} {dialled}")?;
-    check_eq!(rt; text.as_str(), "0042 0420007");
-    Ok(())
+fn numbers_are_printed(rt: HostRuntime) {
+    check_printed(&rt, rt.alloc(), &DirNo::new(42), "0042");
+    check_printed(&rt, rt.alloc(), &Dialled::new(420_007), "0420007");
 }
 
 #[test]
-fn paths_are_printed(rt: HostRuntime) -> Result<(), Fail> {
+fn paths_are_printed(rt: HostRuntime) {
     let path = near_path();
-    let (junctor, line) = (path.junctor(), path.line);
-    let text = format!(in rt.alloc(); "{path} {junctor} [{line:>6}]")?;
-    check_eq!(rt; text.as_str(), "3041-0-417 JU340 [  3041]");
-    Ok(())
+    check_printed(&rt, rt.alloc(), &path, "3041-0-417");
+    check_printed(&rt, rt.alloc(), &path.junctor(), "JU340");
+    check_printed(
+        &rt,
+        rt.alloc(),
+        &format_args!("[{:>6}]", path.line),
+        "[  3041]",
+    );
 }
 
 const FAULTS: &[(EquipFault, &str)] = &[
@@ -262,11 +263,8 @@ const FAULTS: &[(EquipFault, &str)] = &[
 ];
 
 #[test]
-fn faults_are_told(rt: HostRuntime) -> Result<(), Fail> {
-    for (fault, text) in FAULTS {
-        check_eq!(rt; fault.to_string(rt.alloc())?.as_str(), *text);
-    }
-    Ok(())
+fn faults_are_told(rt: HostRuntime) {
+    check_all_printed(&rt, rt.alloc(), FAULTS);
 }
 
 #[test]

@@ -1,8 +1,9 @@
 //! Paths, lines and records that several tests name.
 
-use crate::checks::{check, check_eq};
+use std::alloc::Global;
+use std::fmt::Display;
 use std::process::Abort;
-use std::test::Fail;
+use test_checks::{check, check_eq};
 use xbar_equip::{Channel, DirNo, EquipFault, Len, Link, Path, Ten};
 use xbar_office::{End, Job, Record, Reply};
 use xbar_plan::Plan;
@@ -26,7 +27,7 @@ pub fn far_path() -> Path {
 }
 
 /// The path of these texts.
-pub fn path_of(line: &str, channel: &str, place: &str) -> Result<Path, Fail> {
+pub fn path_of(line: &str, channel: &str, place: &str) -> Result<Path, EquipFault> {
     Ok(Path {
         line: Len::parse(line.as_bytes())?,
         channel: Channel::parse(channel.as_bytes())?,
@@ -37,6 +38,31 @@ pub fn path_of(line: &str, channel: &str, place: &str) -> Result<Path, Fail> {
 pub fn text_of(path: Option<Path>) -> Option<[u8; 10]> {
     let path = path?;
     Some(path.text())
+}
+
+/// This prints so.
+pub fn check_printed<T: Display>(rt: &impl Abort, alloc: Global, told: &T, wanted: &str) {
+    let text = told
+        .to_string(alloc)
+        .expect(rt, "there is memory for a text");
+    check_eq!(rt; text.as_str(), wanted);
+}
+
+/// Each of these prints as the text beside it.
+pub fn check_all_printed<T: Display>(rt: &impl Abort, alloc: Global, rows: &[(T, &str)]) {
+    for (told, wanted) in rows {
+        check_printed(rt, alloc, told, wanted);
+    }
+}
+
+/// The example plan.
+pub fn example(rt: &impl Abort, alloc: Global) -> Plan {
+    Plan::example(alloc).expect(rt, "there is memory for a plan")
+}
+
+/// The plan that a text holds.
+pub fn read_plan(rt: &impl Abort, alloc: Global, text: &str) -> Plan {
+    Plan::read(alloc, text.as_bytes()).expect(rt, "this is a plan")
 }
 
 /// A number with the texts of its lines, if the plan has it.
@@ -83,7 +109,7 @@ pub fn check_lines(rt: &impl Abort, plan: &Plan, rows: &[NumberLines<'_>]) {
 /// Codes of the plan lead to these groups, or nowhere.
 pub fn check_routes(rt: &impl Abort, plan: &Plan, rows: &[(u16, Option<&[u8]>)]) {
     for (code, groups) in rows {
-        check!(rt; plan.route(*code) == *groups, "{code}");
+        check!(rt; plan.route(*code) == *groups, code);
     }
 }
 
@@ -94,7 +120,7 @@ fn is_faulty(plan: &Plan, link: &str) -> Result<bool, EquipFault> {
 /// Links are out of order in the plan, or are not.
 pub fn check_faulty(rt: &impl Abort, plan: &Plan, rows: &[(&str, bool)]) {
     for (link, wanted) in rows {
-        check_eq!(rt; is_faulty(plan, link), Ok(*wanted), "{link}");
+        check_eq!(rt; is_faulty(plan, link), Ok(*wanted), link);
     }
 }
 

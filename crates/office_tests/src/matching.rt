@@ -1,9 +1,9 @@
 //! What a marker works out from words: the channel test, traces and counts.
 
-use crate::checks::check_eq;
 use crate::fixtures::{far_path, text_of};
 use std::process::Abort;
 use std::test::Fail;
+use test_checks::check_eq;
 use xbar_equip::{Channel, Crosspoint, EquipFault, Len, Path, Ten, WORD_COUNT};
 use xbar_match::{
     count_closed, count_paths, effects_of, find_line, find_number, idle_links, idle_trunk_links,
@@ -92,7 +92,7 @@ fn check_channel(rt: &impl Abort, test: &ChannelTest) {
     let ChannelTest { frame, start, .. } = *test;
     assert!(rt; frame < 10 && start < 10);
     let found = match_channel(test.line, test.junctors, test.trunk, frame, start);
-    check_eq!(rt; number_of(found), test.wanted, "{}", test.name);
+    check_eq!(rt; number_of(found), test.wanted, test.name);
 }
 
 #[test]
@@ -110,10 +110,14 @@ const IDLE_TRUNK_LINKS: &[(u64, u16)] = &[(0, 1023), (4581228544, 543), (u64::MA
 #[test]
 fn tells_idle_links(rt: HostRuntime) {
     for (word, wanted) in IDLE_LINKS {
-        check_eq!(rt; idle_links(*word), *wanted, "line switch {word}");
+        check_eq!(rt; idle_links(*word), *wanted, word);
     }
+}
+
+#[test]
+fn tells_idle_trunk_links(rt: HostRuntime) {
     for (word, wanted) in IDLE_TRUNK_LINKS {
-        check_eq!(rt; idle_trunk_links(*word), *wanted, "trunk switch {word}");
+        check_eq!(rt; idle_trunk_links(*word), *wanted, word);
     }
 }
 
@@ -141,13 +145,19 @@ const FAR_EFFECTS: &[((u16, u8, u8), u64)] = &[
     ((389, 9, 10), 687194767360),
 ];
 
+/// The bits of a field that holds this value, which isn't 0.
+fn bits_at(rt: &impl Abort, number: u16, field: u8, value: u8) -> u64 {
+    assert!(rt; number < 400 && field < 10);
+    let shape = shape_at(number);
+    let place = value.saturating_sub(1);
+    assert!(rt; place < shape.places());
+    close_bits(shape, field, place)
+}
+
 fn check_effect(rt: &impl Abort, crosspoint: Crosspoint, wanted: (u16, u8, u8), word: u64) {
     let (number, field, value) = (crosspoint.word.number(), crosspoint.field, crosspoint.value);
     check_eq!(rt; (number, field, value), wanted);
-    assert!(rt; number < 400);
-    let shape = shape_at(number);
-    assert!(rt; field < 10 && value >= 1 && value <= shape.places());
-    check_eq!(rt; close_bits(shape, field, value - 1), word, "at {number}");
+    check_eq!(rt; bits_at(rt, number, field, value), word, number);
 }
 
 #[test]
@@ -260,7 +270,7 @@ fn traced(test: &Trace) -> Result<Option<Path>, EquipFault> {
 fn traces_a_path_both_ways(rt: HostRuntime) -> Result<(), Fail> {
     for test in TRACES {
         let path = traced(test)?;
-        check_eq!(rt; text_of(path), test.wanted, "{}", test.name);
+        check_eq!(rt; text_of(path), test.wanted, test.name);
     }
     Ok(())
 }

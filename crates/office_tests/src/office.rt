@@ -9,12 +9,11 @@ mod plans;
 mod rows;
 mod texts;
 
-use std::test::Fail;
-use xbar_equip::Len;
+use crate::fixtures::near_path;
 use xbar_office::{Job, laws};
 
 #[test]
-fn laws_can_be_called() -> Result<(), Fail> {
+fn laws_can_be_called() {
     laws::jobs_leave_lawful_sets();
     laws::no_part_is_in_two_paths();
     laws::legal_records_leave_a_lawful_set();
@@ -23,6 +22,5 @@ fn laws_can_be_called() -> Result<(), Fail> {
     laws::a_completing_job_gives_its_register_back();
     laws::a_call_never_gets_a_path_to_its_own_line();
     laws::a_release_leaves_all_other_paths();
-    laws::job_is_in_range(&Job::Dial(Len::parse(b"3041")?));
-    Ok(())
+    laws::job_is_in_range(&Job::Dial(near_path().line));
 }

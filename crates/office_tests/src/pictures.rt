@@ -1,9 +1,9 @@
 //! Pictures of single paths, worked out by hand.
 
-use crate::checks::check_eq;
 use crate::fixtures::path_of;
 use std::alloc::Global;
-use std::test::Fail;
+use std::process::Abort;
+use test_checks::check_eq;
 use xbar_picture::add_path_lines;
 
 /// A path by its line, its channel and its place, what it comes to, and its picture.
@@ -29,17 +29,17 @@ holds    22                       1         2                       8
 ",
     },
     Picture {
-        path: ("3041", "5", "418"),
-        member: "register REG 1",
+        path: ("1000", "7", "902"),
+        member: "trunk OUTB 1",
         lines: "\
-3041-5-418: line 3041 to register REG 1, channel 5
-         +-- line link frame 3 --+         +- trunk link frame 4 --+
-3041 ----X-------- LL305 --------X--JU345--X-------- TL415 --------X---- 418
+1000-7-902: line 1000 to trunk OUTB 1, channel 7
+         +-- line link frame 1 --+         +- trunk link frame 9 --+
+1000 ----X-------- LL107 --------X--JU197--X-------- TL907 --------X---- 902
          +-----------------------+         +-----------------------+
-switch  3,0                     3,5       4,5                     4,1
-word     60                      75       295                     281
-field     5                       4         3                       5
-holds    22                       1         2                       9
+switch  1,0                     1,7       9,7                     9,0
+word     20                      37       397                     380
+field     7                       9         1                       7
+holds     1                       1         1                       3
 ",
     },
     // Line switch 0,0 is word 0 and the last trunk junctor switch 399; place 29 is held as 30.
@@ -59,18 +59,17 @@ holds    30                       1        10                      10
     },
 ];
 
-fn drawn(alloc: Global, picture: &Picture) -> Result<String, Fail> {
+fn check_picture(rt: &impl Abort, alloc: Global, picture: &Picture) {
     let (line, channel, place) = picture.path;
-    let path = path_of(line, channel, place)?;
+    let path = path_of(line, channel, place).expect(rt, "these are a path's texts");
     let mut text = String::new(alloc);
-    add_path_lines(&mut text, &path, picture.member)?;
-    Ok(text)
+    add_path_lines(&mut text, &path, picture.member).expect(rt, "there is memory for a text");
+    check_eq!(rt; text.as_str(), picture.lines);
 }
 
 #[test]
-fn paths_are_drawn(rt: HostRuntime) -> Result<(), Fail> {
+fn paths_are_drawn(rt: HostRuntime) {
     for picture in PICTURES {
-        check_eq!(rt; drawn(rt.alloc(), picture)?.as_str(), picture.lines);
+        check_picture(&rt, rt.alloc(), picture);
     }
-    Ok(())
 }

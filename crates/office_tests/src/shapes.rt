@@ -1,11 +1,12 @@
 //! Shapes, texts and whole drawings, as SVG.
 
-use crate::checks::check_eq;
-use std::alloc::{AllocError, Global};
+use std::alloc::Global;
+use std::process::Abort;
 use std::test::Fail;
 use svg::{
     Point, Shape, add_circle, add_drawing, add_escaped, add_group, add_group_end, add_shape,
 };
+use test_checks::check_eq;
 
 const SHAPES: &[(Shape<'static>, &str)] = &[
     (
@@ -43,18 +44,17 @@ const SHAPES: &[(Shape<'static>, &str)] = &[
     ),
 ];
 
-fn drawn(alloc: Global, shape: &Shape<'_>) -> Result<String, AllocError> {
+fn check_shape(rt: &impl Abort, alloc: Global, shape: &Shape<'_>, wanted: &str) {
     let mut text = String::new(alloc);
-    add_shape(&mut text, shape)?;
-    Ok(text)
+    add_shape(&mut text, shape).expect(rt, "there is memory for a shape");
+    check_eq!(rt; text.as_str(), wanted);
 }
 
 #[test]
-fn shapes_are_elements(rt: HostRuntime) -> Result<(), Fail> {
+fn shapes_are_elements(rt: HostRuntime) {
     for (shape, wanted) in SHAPES {
-        check_eq!(rt; drawn(rt.alloc(), shape)?.as_str(), *wanted);
+        check_shape(&rt, rt.alloc(), shape, wanted);
     }
-    Ok(())
 }
 
 const ESCAPED: &[(&str, &str)] = &[
@@ -66,18 +66,17 @@ const ESCAPED: &[(&str, &str)] = &[
     ),
 ];
 
-fn escaped(alloc: Global, content: &str) -> Result<String, AllocError> {
+fn check_escaped(rt: &impl Abort, alloc: Global, content: &str, wanted: &str) {
     let mut text = String::new(alloc);
-    add_escaped(&mut text, content)?;
-    Ok(text)
+    add_escaped(&mut text, content).expect(rt, "there is memory for a text");
+    check_eq!(rt; text.as_str(), wanted);
 }
 
 #[test]
-fn texts_are_escaped(rt: HostRuntime) -> Result<(), Fail> {
+fn texts_are_escaped(rt: HostRuntime) {
     for (content, wanted) in ESCAPED {
-        check_eq!(rt; escaped(rt.alloc(), content)?.as_str(), *wanted);
+        check_escaped(&rt, rt.alloc(), content, wanted);
     }
-    Ok(())
 }
 
 const TWO_SHAPES: &[Shape<'static>] = &[

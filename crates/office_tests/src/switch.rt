@@ -1,8 +1,9 @@
 //! A switch as one word: select, hold and release.
 
-use crate::checks::check_eq;
+use crate::fixtures::check_all_printed;
 use std::process::Abort;
 use std::test::Fail;
+use test_checks::check_eq;
 use xbar_switch::{Shape, Switch, SwitchFault, close_bits, field, laws, open_mask};
 
 /// What is answered, and the word of the switch after it.
@@ -95,7 +96,7 @@ fn closes_and_opens(rt: &impl Abort, closed: &Closed) -> Result<(), SwitchFault>
     switch.drop_select();
     let after = (switch.word(), switch.closed(field));
     switch.release(field)?;
-    check_eq!(rt; (before, after, switch.word()), (None, (word, Some(place)), 0), "{word}");
+    check_eq!(rt; (before, after, switch.word()), (None, (word, Some(place)), 0), word);
     Ok(())
 }
 
@@ -114,7 +115,7 @@ fn check_bits(rt: &impl Abort, closed: &Closed) {
         close_bits(shape, v, h),
         open_mask(shape, v),
     );
-    check_eq!(rt; found, (h + 1, word, mask), "{word}");
+    check_eq!(rt; found, (h + 1, word, mask), word);
 }
 
 #[test]
@@ -173,11 +174,8 @@ const FAULTS: &[(SwitchFault, &str)] = &[
 ];
 
 #[test]
-fn prints_faults(rt: HostRuntime) -> Result<(), Fail> {
-    for (fault, text) in FAULTS {
-        check_eq!(rt; fault.to_string(rt.alloc())?.as_str(), *text);
-    }
-    Ok(())
+fn prints_faults(rt: HostRuntime) {
+    check_all_printed(&rt, rt.alloc(), FAULTS);
 }
 
 #[test]

@@ -1,49 +1,64 @@
 //! What words ask for. Each test passes whichever single allocation is refused.
 
-use crate::checks::{check, check_eq};
-use clap::error::ErrorKind;
 use crossbar5_command::{Ask, CommandFault, command};
 use std::alloc::{AllocError, Global};
 use std::process::Abort;
-use std::test::Fail;
+use test_checks::{check, check_eq};
 
 /// The subcommand, the plan's file, if one is asked for, and what else is asked for, in the order of
 /// the fields.
-fn text_of_ask(alloc: Global, ask: &Ask) -> Result<String, AllocError> {
+fn add_ask(text: &mut String, ask: &Ask) -> Result<(), AllocError> {
     match ask {
-        Ask::Replay { plan, kinds } => format!(in alloc; "replay {plan:?} {kinds}"),
-        Ask::Walk { plan, kinds, short } => format!(in alloc; "walk {plan:?} {kinds} {short}"),
+        Ask::Replay { plan, kinds } => write!(text, "replay {plan:?} {kinds}"),
+        Ask::Walk { plan, kinds, short } => write!(text, "walk {plan:?} {kinds} {short}"),
         Ask::Live {
             plan,
             dial,
             completing,
-        } => format!(in alloc; "live {plan:?} {dial} {completing}"),
-        Ask::Audit { plan } => format!(in alloc; "audit {plan:?}"),
-        Ask::Draw { plan, text } => format!(in alloc; "draw {plan:?} {text}"),
-        Ask::Page { plan } => format!(in alloc; "page {plan:?}"),
+        } => write!(text, "live {plan:?} {dial} {completing}"),
+        Ask::Audit { plan } => write!(text, "audit {plan:?}"),
+        Ask::Draw {
+            plan,
+            text: as_text,
+        } => write!(text, "draw {plan:?} {as_text}"),
+        Ask::Page { plan } => write!(text, "page {plan:?}"),
     }
 }
 
-/// What these words ask for.
-fn asked_by(alloc: Global, words: &[&str]) -> Result<String, CommandFault> {
-    let ask = command(alloc, words)?;
-    Ok(text_of_ask(alloc, &ask)?)
+/// The kind of the error, whether it is told on standard error and the status, and below them its text.
+fn add_error(text: &mut String, error: &clap::Error) -> Result<(), AllocError> {
+    let (kind, is_on_stderr, status) = (error.kind(), error.use_stderr(), error.exit_code());
+    write!(
+        text,
+        "{kind:?}, on standard error: {is_on_stderr}, status {status}\n{error}"
+    )
 }
 
-/// What the words of a line ask for, between single spaces. Without a line there are no words.
-fn asked_once(alloc: Global, line: Option<&str>) -> Result<String, CommandFault> {
-    let Some(line) = line else {
-        return asked_by(alloc, &[]);
+/// What comes of words, unless memory is refused.
+fn add_answer(text: &mut String, answer: &Result<Ask, CommandFault>) -> Result<(), AllocError> {
+    match answer {
+        Ok(ask) => add_ask(text, ask),
+        Err(CommandFault::Refused(error)) => add_error(text, error),
+        Err(CommandFault::Memory) => Err(AllocError),
+    }
+}
+
+/// What comes of the words of a line, between single spaces. Without a line there are no words.
+fn told_once(alloc: Global, line: Option<&str>) -> Result<String, AllocError> {
+    let words: Vec<&str> = match line {
+        Some(line) => line.split(' ').collect(alloc)?,
+        None => Vec::new(alloc),
     };
-    let words: Vec<&str> = line.split(' ').collect(alloc)?;
-    asked_by(alloc, words.as_slice())
+    let mut text = String::new(alloc);
+    add_answer(&mut text, &command(alloc, words.as_slice()))?;
+    Ok(text)
 }
 
-/// What is asked for. Where memory is refused it is asked once more.
-fn asked(alloc: Global, line: Option<&str>) -> Result<String, CommandFault> {
-    match asked_once(alloc, line) {
-        Err(CommandFault::Memory) => asked_once(alloc, line),
-        answer => answer,
+/// What comes of them. Where memory is refused they are given once more.
+fn told(rt: &impl Abort, alloc: Global, line: Option<&str>) -> String {
+    match told_once(alloc, line) {
+        Ok(text) => text,
+        Err(_) => told_once(alloc, line).expect(rt, "memory is refused once"),
     }
 }
 
@@ -144,158 +159,114 @@ const ASKED: &[(&str, &str)] = &[
     ),
 ];
 
-fn check_asked(rt: &impl Abort, alloc: Global, line: &str, wanted: &str) -> Result<(), Fail> {
-    let told = asked(alloc, Some(line))?;
-    check_eq!(rt; told.as_str(), wanted, "{line}");
-    Ok(())
+/// This comes of the words of the line.
+fn check_asked(rt: &impl Abort, alloc: Global, line: Option<&str>, wanted: &str) {
+    let told = told(rt, alloc, line);
+    check_eq!(rt; told.as_str(), wanted, "{line:?}");
 }
 
 #[test]
-fn words_ask_for_something(rt: HostRuntime) -> Result<(), Fail> {
+fn words_ask_for_something(rt: HostRuntime) {
     for (line, wanted) in ASKED {
-        check_asked(&rt, rt.alloc(), line, wanted)?;
+        check_asked(&rt, rt.alloc(), Some(line), wanted);
     }
-    Ok(())
 }
 
 #[test]
-fn no_words_ask_for_a_replay(rt: HostRuntime) -> Result<(), Fail> {
-    check_eq!(rt; asked(rt.alloc(), None)?.as_str(), "replay None XX");
-    Ok(())
-}
-
-/// The error of clap for the words of a line.
-fn refused(alloc: Global, line: &str) -> Result<clap::Error, Fail> {
-    match asked(alloc, Some(line)) {
-        Err(CommandFault::Refused(error)) => Ok(error),
-        Err(CommandFault::Memory) => Err(Fail::from("memory was refused twice")),
-        Ok(_) => Err(Fail::from("the words were taken")),
-    }
+fn no_words_ask_for_a_replay(rt: HostRuntime) {
+    check_asked(&rt, rt.alloc(), None, "replay None XX");
 }
 
 /// Lines of words that clap refuses, each with the kind of its error.
-const REFUSED: &[(&str, ErrorKind)] = &[
-    ("crossbar5 call", ErrorKind::InvalidSubcommand),
-    ("crossbar5 Replay", ErrorKind::InvalidSubcommand),
-    ("crossbar5 help call", ErrorKind::InvalidSubcommand),
-    ("crossbar5 ", ErrorKind::InvalidSubcommand),
-    ("crossbar5 -- replay", ErrorKind::UnknownArgument),
-    ("crossbar5 --plan a.toml", ErrorKind::UnknownArgument),
-    ("crossbar5 --markers XX", ErrorKind::UnknownArgument),
-    ("crossbar5 --plan a.toml replay", ErrorKind::UnknownArgument),
-    ("crossbar5 replay stray", ErrorKind::UnknownArgument),
-    ("crossbar5 replay replay", ErrorKind::UnknownArgument),
-    (
-        "crossbar5 replay --plan a stray",
-        ErrorKind::UnknownArgument,
-    ),
-    ("crossbar5 replay --plans a", ErrorKind::UnknownArgument),
-    ("crossbar5 replay --version", ErrorKind::UnknownArgument),
-    ("crossbar5 replay --plan -x", ErrorKind::UnknownArgument),
+const REFUSED: &[(&str, &str)] = &[
+    ("crossbar5 call", "InvalidSubcommand"),
+    ("crossbar5 Replay", "InvalidSubcommand"),
+    ("crossbar5 help call", "InvalidSubcommand"),
+    ("crossbar5 ", "InvalidSubcommand"),
+    ("crossbar5 -- replay", "UnknownArgument"),
+    ("crossbar5 --plan a.toml", "UnknownArgument"),
+    ("crossbar5 --markers XX", "UnknownArgument"),
+    ("crossbar5 --plan a.toml replay", "UnknownArgument"),
+    ("crossbar5 replay stray", "UnknownArgument"),
+    ("crossbar5 replay replay", "UnknownArgument"),
+    ("crossbar5 replay --plan a stray", "UnknownArgument"),
+    ("crossbar5 replay --plans a", "UnknownArgument"),
+    ("crossbar5 replay --version", "UnknownArgument"),
+    ("crossbar5 replay --plan -x", "UnknownArgument"),
     (
         "crossbar5 replay --plan a --markers D b c d e f g h",
-        ErrorKind::UnknownArgument,
+        "UnknownArgument",
     ),
     (
         "crossbar5 a b c d e f g h i j k l m n o p",
-        ErrorKind::InvalidSubcommand,
+        "InvalidSubcommand",
     ),
-    ("crossbar5 live stray", ErrorKind::UnknownArgument),
-    ("crossbar5 live --markers X", ErrorKind::UnknownArgument),
-    ("crossbar5 --dial 1", ErrorKind::UnknownArgument),
-    ("crossbar5 live --dial", ErrorKind::InvalidValue),
-    ("crossbar5 live --dial 0", ErrorKind::ValueValidation),
-    ("crossbar5 live --dial 48", ErrorKind::ValueValidation),
-    ("crossbar5 live --dial one", ErrorKind::ValueValidation),
-    (
-        "crossbar5 live --dial 4294967297",
-        ErrorKind::ValueValidation,
-    ),
-    ("crossbar5 live --completing 0", ErrorKind::ValueValidation),
-    ("crossbar5 live --completing 48", ErrorKind::ValueValidation),
-    (
-        "crossbar5 live --dial 1 --dial 2",
-        ErrorKind::ArgumentConflict,
-    ),
-    ("crossbar5 audit stray", ErrorKind::UnknownArgument),
-    ("crossbar5 audit --markers X", ErrorKind::UnknownArgument),
-    ("crossbar5 audit replay", ErrorKind::UnknownArgument),
-    ("crossbar5 audit --plan", ErrorKind::InvalidValue),
-    ("crossbar5 audit --text", ErrorKind::UnknownArgument),
-    ("crossbar5 --text", ErrorKind::UnknownArgument),
-    ("crossbar5 draw --text yes", ErrorKind::UnknownArgument),
-    ("crossbar5 draw --text --text", ErrorKind::ArgumentConflict),
-    ("crossbar5 page --text", ErrorKind::UnknownArgument),
-    ("crossbar5 walk stray", ErrorKind::UnknownArgument),
-    ("crossbar5 walk --text", ErrorKind::UnknownArgument),
-    ("crossbar5 replay --short", ErrorKind::UnknownArgument),
-    (
-        "crossbar5 walk --short --short",
-        ErrorKind::ArgumentConflict,
-    ),
-    ("crossbar5 walk --markers", ErrorKind::InvalidValue),
-    ("crossbar5 replay --plan", ErrorKind::InvalidValue),
-    ("crossbar5 replay --markers", ErrorKind::InvalidValue),
-    (
-        "crossbar5 replay --plan --markers X",
-        ErrorKind::InvalidValue,
-    ),
-    ("crossbar5 replay --plan --", ErrorKind::InvalidValue),
-    (
-        "crossbar5 replay --plan a --plan b",
-        ErrorKind::ArgumentConflict,
-    ),
+    ("crossbar5 live stray", "UnknownArgument"),
+    ("crossbar5 live --markers X", "UnknownArgument"),
+    ("crossbar5 --dial 1", "UnknownArgument"),
+    ("crossbar5 live --dial", "InvalidValue"),
+    ("crossbar5 live --dial 0", "ValueValidation"),
+    ("crossbar5 live --dial 48", "ValueValidation"),
+    ("crossbar5 live --dial one", "ValueValidation"),
+    ("crossbar5 live --dial 4294967297", "ValueValidation"),
+    ("crossbar5 live --completing 0", "ValueValidation"),
+    ("crossbar5 live --completing 48", "ValueValidation"),
+    ("crossbar5 live --dial 1 --dial 2", "ArgumentConflict"),
+    ("crossbar5 audit stray", "UnknownArgument"),
+    ("crossbar5 audit --markers X", "UnknownArgument"),
+    ("crossbar5 audit replay", "UnknownArgument"),
+    ("crossbar5 audit --plan", "InvalidValue"),
+    ("crossbar5 audit --text", "UnknownArgument"),
+    ("crossbar5 --text", "UnknownArgument"),
+    ("crossbar5 draw --text yes", "UnknownArgument"),
+    ("crossbar5 draw --text --text", "ArgumentConflict"),
+    ("crossbar5 page --text", "UnknownArgument"),
+    ("crossbar5 walk stray", "UnknownArgument"),
+    ("crossbar5 walk --text", "UnknownArgument"),
+    ("crossbar5 replay --short", "UnknownArgument"),
+    ("crossbar5 walk --short --short", "ArgumentConflict"),
+    ("crossbar5 walk --markers", "InvalidValue"),
+    ("crossbar5 replay --plan", "InvalidValue"),
+    ("crossbar5 replay --markers", "InvalidValue"),
+    ("crossbar5 replay --plan --markers X", "InvalidValue"),
+    ("crossbar5 replay --plan --", "InvalidValue"),
+    ("crossbar5 replay --plan a --plan b", "ArgumentConflict"),
     (
         "crossbar5 replay --markers D --markers=C",
-        ErrorKind::ArgumentConflict,
+        "ArgumentConflict",
     ),
 ];
 
-/// The words of this line are refused with this kind of error, to be told on standard error or not,
-/// and with this status.
-fn check_refused(
-    rt: &impl Abort,
-    alloc: Global,
-    line: &str,
-    wanted: (ErrorKind, bool, i32),
-) -> Result<(), Fail> {
-    let error = refused(alloc, line)?;
-    let found = (error.kind(), error.use_stderr(), error.exit_code());
-    check_eq!(rt; found, wanted, "{line}");
-    Ok(())
+/// The first line that is told of these words is the kind of their error, and this behind it.
+fn check_refused(rt: &impl Abort, alloc: Global, line: &str, kind: &str, rest: &str) {
+    let told = told(rt, alloc, Some(line));
+    let first = told.as_str().lines().next().unwrap_or("");
+    check_eq!(rt; first.strip_suffix(rest), Some(kind), "{line}");
 }
 
-const FOR_STANDARD_OUTPUT: &[(&str, ErrorKind)] = &[
-    ("crossbar5 --help", ErrorKind::DisplayHelp),
-    ("crossbar5 -h", ErrorKind::DisplayHelp),
-    ("crossbar5 help", ErrorKind::DisplayHelp),
-    ("crossbar5 help replay", ErrorKind::DisplayHelp),
-    ("crossbar5 help live", ErrorKind::DisplayHelp),
-    ("crossbar5 --help call", ErrorKind::DisplayHelp),
-    ("crossbar5 --help a b c d e f g h", ErrorKind::DisplayHelp),
-    ("crossbar5 replay --help", ErrorKind::DisplayHelp),
-    ("crossbar5 replay --plan a -h", ErrorKind::DisplayHelp),
-    ("crossbar5 --version", ErrorKind::DisplayVersion),
-    ("crossbar5 -V", ErrorKind::DisplayVersion),
+const FOR_STANDARD_OUTPUT: &[(&str, &str)] = &[
+    ("crossbar5 --help", "DisplayHelp"),
+    ("crossbar5 -h", "DisplayHelp"),
+    ("crossbar5 help", "DisplayHelp"),
+    ("crossbar5 help replay", "DisplayHelp"),
+    ("crossbar5 help live", "DisplayHelp"),
+    ("crossbar5 --help call", "DisplayHelp"),
+    ("crossbar5 --help a b c d e f g h", "DisplayHelp"),
+    ("crossbar5 replay --help", "DisplayHelp"),
+    ("crossbar5 replay --plan a -h", "DisplayHelp"),
+    ("crossbar5 --version", "DisplayVersion"),
+    ("crossbar5 -V", "DisplayVersion"),
 ];
 
 #[test]
-fn other_words_are_refused(rt: HostRuntime) -> Result<(), Fail> {
+fn other_words_are_refused(rt: HostRuntime) {
     for (line, kind) in REFUSED {
-        check_refused(&rt, rt.alloc(), line, (*kind, true, 2))?;
+        let rest = ", on standard error: true, status 2";
+        check_refused(&rt, rt.alloc(), line, kind, rest);
     }
     for (line, kind) in FOR_STANDARD_OUTPUT {
-        check_refused(&rt, rt.alloc(), line, (*kind, false, 0))?;
-    }
-    Ok(())
-}
-
-/// The text that is printed of an error, made once more where memory is refused.
-fn text_of(alloc: Global, line: &str) -> Result<String, Fail> {
-    let error = refused(alloc, line)?;
-    match format!(in alloc; "{error}") {
-        Ok(text) => Ok(text),
-        Err(_) => Ok(format!(in alloc; "{error}")?),
+        let rest = ", on standard error: false, status 0";
+        check_refused(&rt, rt.alloc(), line, kind, rest);
     }
 }
 
@@ -361,10 +332,9 @@ const USAGE_OF_LIVE: &str = "
 
 const USAGE_OF_DRAW: &str = "\n       crossbar5 draw [--plan <FILE>] [--text]\n";
 
-fn check_told(rt: &impl Abort, alloc: Global, line: &str, part: &str) -> Result<(), Fail> {
-    let text = text_of(alloc, line)?;
-    check!(rt; text.as_str().contains(part), "{line}: {part}");
-    Ok(())
+fn check_told(rt: &impl Abort, alloc: Global, line: &str, part: &str) {
+    let told = told(rt, alloc, Some(line));
+    check!(rt; told.as_str().contains(part), "{line}: {part}");
 }
 
 /// What each help says of how to start, and of the statuses.
@@ -396,27 +366,20 @@ const HELPS: &[&str] = &[
     "crossbar5 page --help",
 ];
 
-fn check_starts(rt: &impl Abort, line: &str, text: &str) {
+fn check_starts(rt: &impl Abort, line: &str, told: &str) {
     for part in STARTS {
-        check!(rt; text.contains(*part), "{line}: {part}");
+        check!(rt; told.contains(*part), "{line}: {part}");
     }
-}
-
-fn check_help(rt: &impl Abort, alloc: Global, line: &str) -> Result<(), Fail> {
-    let text = text_of(alloc, line)?;
-    check_starts(rt, line, &text);
-    Ok(())
 }
 
 #[test]
-fn options_and_how_to_start_are_told(rt: HostRuntime) -> Result<(), Fail> {
+fn options_and_how_to_start_are_told(rt: HostRuntime) {
     for (line, part) in TOLD {
-        check_told(&rt, rt.alloc(), line, part)?;
+        check_told(&rt, rt.alloc(), line, part);
     }
     for line in HELPS {
-        check_help(&rt, rt.alloc(), line)?;
+        check_starts(&rt, line, &told(&rt, rt.alloc(), Some(line)));
     }
-    Ok(())
 }
 
 /// Help as a word, and as an option.
@@ -430,27 +393,22 @@ const SAME_HELP: &[(&str, &str)] = &[
     ("crossbar5 help page", "crossbar5 page --help"),
 ];
 
-/// Two lines of words are told the same.
-fn check_same(rt: &impl Abort, alloc: Global, one: &str, other: &str) -> Result<(), Fail> {
-    let (told, wanted) = (text_of(alloc, one)?, text_of(alloc, other)?);
-    check_eq!(rt; told.as_str(), wanted.as_str(), "{one}");
-    Ok(())
-}
-
 #[test]
-fn help_as_a_word_is_help_as_an_option(rt: HostRuntime) -> Result<(), Fail> {
+fn help_as_a_word_is_help_as_an_option(rt: HostRuntime) {
     for (word, option) in SAME_HELP {
-        check_same(&rt, rt.alloc(), word, option)?;
+        let wanted = told(&rt, rt.alloc(), Some(option));
+        check_asked(&rt, rt.alloc(), Some(word), &wanted);
     }
-    Ok(())
 }
 
+const VERSION: &str = "DisplayVersion, on standard error: false, status 0\ncrossbar5 0.1.0\n";
+
+const UNRECOGNIZED: &str = "InvalidSubcommand, on standard error: true, status 2
+error: unrecognized subcommand 'call'
+";
+
 #[test]
-fn versions_and_refused_words_are_told(rt: HostRuntime) -> Result<(), Fail> {
-    let version = text_of(rt.alloc(), "elsewhere/other --version")?;
-    check_eq!(rt; version.as_str(), "crossbar5 0.1.0\n");
-    let refused = text_of(rt.alloc(), "crossbar5 call")?;
-    let head = "error: unrecognized subcommand 'call'\n";
-    check!(rt; refused.as_str().starts_with(head), "{refused}");
-    Ok(())
+fn versions_and_refused_words_are_told(rt: HostRuntime) {
+    check_asked(&rt, rt.alloc(), Some("elsewhere/other --version"), VERSION);
+    check_told(&rt, rt.alloc(), "crossbar5 call", UNRECOGNIZED);
 }

@@ -1,8 +1,8 @@
 //! Reading all and writing all through counts, and the readers and writers that tests put in place of
 //! a device.
 
-use crate::checks::check_eq;
 use std::process::Abort;
+use test_checks::check_eq;
 use test_devices::{Call, Recorder};
 
 mod calls;

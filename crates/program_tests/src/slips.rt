@@ -3,7 +3,6 @@
 use std::alloc::{AllocError, Global};
 use std::fmt::Display;
 use std::process::Abort;
-use std::test::Fail;
 use xbar_slips::{kinds_slip, plan_slip, traffic_slip};
 
 mod kinds;
@@ -15,9 +14,10 @@ mod traffic;
 const NO_SLIP: &str = "no slip";
 
 /// The sentence of a slip, if there's one.
-fn told<S: Display + Drop>(alloc: Global, slip: Option<S>) -> Result<String, AllocError> {
-    match slip {
+fn told<S: Display + Drop>(rt: &impl Abort, alloc: Global, slip: Option<S>) -> String {
+    let text = match slip {
         Some(slip) => slip.to_string(alloc),
         None => String::from_str(alloc, NO_SLIP),
-    }
+    };
+    text.expect(rt, "there is memory for a sentence")
 }

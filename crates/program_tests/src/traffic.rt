@@ -1,9 +1,8 @@
 //! Texts of traffic, with their rows and their faults as the formats have them.
 
-use crate::checks::check_eq;
 use std::alloc::{AllocError, Global};
 use std::process::Abort;
-use std::test::Fail;
+use test_checks::check_eq;
 use xbar_office::Job;
 use xbar_traffic::{MarkerFault, Mode, Row, RowFault, Traffic, TrafficFault};
 
@@ -54,59 +53,43 @@ fn text_of_rows(alloc: Global, rows: &[Row]) -> Result<String, AllocError> {
 /// and whether it is released.
 type Rows = (&'static [u8], &'static str);
 
+fn read(rt: &impl Abort, alloc: Global, mode: Mode, text: &[u8]) -> Traffic {
+    Traffic::read(alloc, mode, text).expect(rt, "there is memory for the traffic")
+}
+
 /// The traffic has just these rows, and no fault.
-fn check_rows(
-    rt: &impl Abort,
-    alloc: Global,
-    mode: Mode,
-    text: &[u8],
-    wanted: &str,
-) -> Result<(), Fail> {
-    let traffic = Traffic::read(alloc, mode, text)?;
-    let rows = text_of_rows(alloc, &traffic.rows)?;
+fn check_rows(rt: &impl Abort, alloc: Global, mode: Mode, text: &[u8], wanted: &str) {
+    let traffic = read(rt, alloc, mode, text);
+    let rows = text_of_rows(alloc, &traffic.rows).expect(rt, "there is memory for a text");
     check_eq!(rt; (rows.as_str(), traffic.fault), (wanted, None), "of {text:?}");
-    Ok(())
 }
 
 /// A text, and how many rows it has before the fault of this line, or in all where that is `none`.
 type Told = (&'static [u8], usize, &'static str);
 
 /// The line of the fault that traffic has, or `none`.
-fn fault_line(alloc: Global, traffic: &Traffic) -> Result<String, Fail> {
-    match traffic.refusal() {
-        Some(refusal) => Ok(refusal.text(alloc)?),
-        None => Ok(String::from_str(alloc, "none")?),
-    }
+fn fault_line(rt: &impl Abort, alloc: Global, traffic: &Traffic) -> String {
+    let line = match traffic.refusal() {
+        Some(refusal) => refusal.text(alloc),
+        None => String::from_str(alloc, "none"),
+    };
+    line.expect(rt, "there is memory for a text")
 }
 
-fn check_told(
-    rt: &impl Abort,
-    alloc: Global,
-    mode: Mode,
-    text: &[u8],
-    rows: usize,
-    wanted: &str,
-) -> Result<(), Fail> {
-    let traffic = Traffic::read(alloc, mode, text)?;
-    let line = fault_line(alloc, &traffic)?;
+fn check_told(rt: &impl Abort, alloc: Global, mode: Mode, text: &[u8], rows: usize, wanted: &str) {
+    let traffic = read(rt, alloc, mode, text);
+    let line = fault_line(rt, alloc, &traffic);
     let found = (traffic.rows.len(), line.as_str());
     check_eq!(rt; found, (rows, wanted), "of {text:?}");
-    Ok(())
 }
 
 /// Texts each of which is refused for its first row, by this line.
 type Refused = (&'static str, &'static [&'static [u8]]);
 
-fn check_refused(
-    rt: &impl Abort,
-    alloc: Global,
-    mode: Mode,
-    refused: &[Refused],
-) -> Result<(), Fail> {
+fn check_refused(rt: &impl Abort, alloc: Global, mode: Mode, refused: &[Refused]) {
     for (line, texts) in refused {
         for text in *texts {
-            check_told(rt, alloc, mode, text, 0, line)?;
+            check_told(rt, alloc, mode, text, 0, line);
         }
     }
-    Ok(())
 }

@@ -51,7 +51,10 @@ fn text_of(walk: Walk) -> Result<String, Fail> {
     Ok(walk.story.finish()?)
 }
 
-const FIRST_CALL: &str = "      marker 0  is given job 1: dial tone for line 3041
+// Dial 3041 and Complete 3041 5551234, by one marker, on the empty example office. In short each of
+// its two rows of tests is one line.
+
+const UP_TO_THE_FIRST_ROW: &str = "      marker 0  is given job 1: dial tone for line 3041
    1  marker 0  requests line link frame 3
    2  marker 0  seizes line link frame 3
    3  marker 0  tests line switch 3,0: nothing closed
@@ -61,7 +64,9 @@ const FIRST_CALL: &str = "      marker 0  is given job 1: dial tone for line 304
    7  marker 0  requests trunk link frame 4
    8  marker 0  seizes trunk link frame 4
    9  marker 0  tests trunk switch 4,1: nothing closed
-  10  marker 0  tests line junctor switch 3,0: nothing closed
+";
+
+const FIRST_ROW: &str = "  10  marker 0  tests line junctor switch 3,0: nothing closed
   11  marker 0  tests line junctor switch 3,1: nothing closed
   12  marker 0  tests line junctor switch 3,2: nothing closed
   13  marker 0  tests line junctor switch 3,3: nothing closed
@@ -71,7 +76,14 @@ const FIRST_CALL: &str = "      marker 0  is given job 1: dial tone for line 304
   17  marker 0  tests line junctor switch 3,7: nothing closed
   18  marker 0  tests line junctor switch 3,8: nothing closed
   19  marker 0  tests line junctor switch 3,9: nothing closed
-  20  marker 0  takes turn 0: job 1 ends DIALTONE at trial 1 by 3041-0-417
+";
+
+const FIRST_ROW_IN_SHORT: &str =
+    "  10  marker 0  tests line junctor switches 3,0 to 3,9 (steps 10 to 19): nothing closed
+";
+
+const UP_TO_THE_SECOND_ROW: &str =
+    "  20  marker 0  takes turn 0: job 1 ends DIALTONE at trial 1 by 3041-0-417
   21  marker 0  closes line switch 3,0: line 3041 and LL300 are joined
   22  marker 0  closes line junctor switch 3,0: LL300 and JU340 are joined
   23  marker 0  closes trunk junctor switch 4,0: JU340 and TL410 are joined
@@ -97,7 +109,9 @@ const FIRST_CALL: &str = "      marker 0  is given job 1: dial tone for line 304
   42  marker 0  requests trunk link frame 8
   43  marker 0  seizes trunk link frame 8
   44  marker 0  tests trunk switch 8,0: nothing closed
-  45  marker 0  tests line junctor switch 3,1: nothing closed
+";
+
+const SECOND_ROW: &str = "  45  marker 0  tests line junctor switch 3,1: nothing closed
   46  marker 0  tests line junctor switch 3,2: nothing closed
   47  marker 0  tests line junctor switch 3,3: nothing closed
   48  marker 0  tests line junctor switch 3,4: nothing closed
@@ -106,7 +120,14 @@ const FIRST_CALL: &str = "      marker 0  is given job 1: dial tone for line 304
   51  marker 0  tests line junctor switch 3,7: nothing closed
   52  marker 0  tests line junctor switch 3,8: nothing closed
   53  marker 0  tests line junctor switch 3,9: nothing closed
-  54  marker 0  takes turn 1: job 2 ends CONNECTED at trial 1 by 3041-0-800
+";
+
+const SECOND_ROW_IN_SHORT: &str =
+    "  45  marker 0  tests line junctor switches 3,1 to 3,9 (steps 45 to 53): nothing closed
+";
+
+const AFTER_THE_ROWS: &str =
+    "  54  marker 0  takes turn 1: job 2 ends CONNECTED at trial 1 by 3041-0-800
   55  marker 0  opens line switch 3,0: line 3041 and LL300 are parted
   56  marker 0  opens line junctor switch 3,0: LL300 and JU340 are parted
   57  marker 0  opens trunk junctor switch 4,0: JU340 and TL410 are parted
@@ -124,8 +145,13 @@ const FIRST_CALL: &str = "      marker 0  is given job 1: dial tone for line 304
   69  marker 0  frees trunk link frame 8, and has done job 2
 ";
 
-/// Dial 3041 and Complete 3041 5551234, by one marker, on the empty example office.
-fn check_call(rt: &impl Abort, alloc: Global, telling: Telling, wanted: &str) -> Result<(), Fail> {
+/// The call is told in these parts.
+fn check_call(
+    rt: &impl Abort,
+    alloc: Global,
+    telling: Telling,
+    parts: &[&str],
+) -> Result<(), Fail> {
     let plan = Plan::example(alloc)?;
     let mut walk = walk_of(alloc, &plan, telling)?;
     let line = Len::new(3, 0, 21);
@@ -134,75 +160,41 @@ fn check_call(rt: &impl Abort, alloc: Global, telling: Telling, wanted: &str) ->
     let dialled = Dialled::new(5_551_234);
     assign(&mut walk, 0, 2, Job::Complete(line, dialled))?;
     steps(rt, &mut walk, 0, 41)?;
-    assert_eq!(rt; text_of(walk)?.as_str(), wanted);
+    assert_eq!(rt; text_of(walk)?, parts.concat(alloc)?);
     Ok(())
 }
 
 #[test]
 fn one_marker_makes_a_call(rt: HostRuntime) -> Result<(), Fail> {
-    check_call(&rt, rt.alloc(), Telling::Each, FIRST_CALL)
+    check_call(
+        &rt,
+        rt.alloc(),
+        Telling::Each,
+        &[
+            UP_TO_THE_FIRST_ROW,
+            FIRST_ROW,
+            UP_TO_THE_SECOND_ROW,
+            SECOND_ROW,
+            AFTER_THE_ROWS,
+        ],
+    )
 }
-
-const FIRST_CALL_SHORT: &str = "      marker 0  is given job 1: dial tone for line 3041
-   1  marker 0  requests line link frame 3
-   2  marker 0  seizes line link frame 3
-   3  marker 0  tests line switch 3,0: nothing closed
-   4  marker 0  requests group 0
-   5  marker 0  seizes group 0
-   6  marker 0  tests group 0: all members idle
-   7  marker 0  requests trunk link frame 4
-   8  marker 0  seizes trunk link frame 4
-   9  marker 0  tests trunk switch 4,1: nothing closed
-  10  marker 0  tests line junctor switches 3,0 to 3,9 (steps 10 to 19): nothing closed
-  20  marker 0  takes turn 0: job 1 ends DIALTONE at trial 1 by 3041-0-417
-  21  marker 0  closes line switch 3,0: line 3041 and LL300 are joined
-  22  marker 0  closes line junctor switch 3,0: LL300 and JU340 are joined
-  23  marker 0  closes trunk junctor switch 4,0: JU340 and TL410 are joined
-  24  marker 0  closes trunk switch 4,1: TL410 and place 417 are joined
-  25  marker 0  marks member 0 of group 0 busy
-  26  marker 0  frees line link frame 3
-  27  marker 0  frees group 0
-  28  marker 0  frees trunk link frame 4, and has done job 1
-      marker 0  is given job 2: call of line 3041 to 5551234
-  29  marker 0  requests line link frame 3
-  30  marker 0  seizes line link frame 3
-  31  marker 0  tests line switch 3,0: closed: line 3041 and LL300
-  32  marker 0  tests line junctor switch 3,0: closed: LL300 and JU340
-  33  marker 0  requests trunk link frame 4
-  34  marker 0  seizes trunk link frame 4
-  35  marker 0  tests trunk junctor switch 4,0: closed: JU340 and TL410
-  36  marker 0  tests trunk switch 4,1: closed: TL410 and place 417
-  37  marker 0  requests group 0
-  38  marker 0  seizes group 0
-  39  marker 0  requests group 2
-  40  marker 0  seizes group 2
-  41  marker 0  tests group 2: all members idle
-  42  marker 0  requests trunk link frame 8
-  43  marker 0  seizes trunk link frame 8
-  44  marker 0  tests trunk switch 8,0: nothing closed
-  45  marker 0  tests line junctor switches 3,1 to 3,9 (steps 45 to 53): nothing closed
-  54  marker 0  takes turn 1: job 2 ends CONNECTED at trial 1 by 3041-0-800
-  55  marker 0  opens line switch 3,0: line 3041 and LL300 are parted
-  56  marker 0  opens line junctor switch 3,0: LL300 and JU340 are parted
-  57  marker 0  opens trunk junctor switch 4,0: JU340 and TL410 are parted
-  58  marker 0  opens trunk switch 4,1: TL410 and place 417 are parted
-  59  marker 0  marks member 0 of group 0 idle
-  60  marker 0  closes line switch 3,0: line 3041 and LL300 are joined
-  61  marker 0  closes line junctor switch 3,0: LL300 and JU380 are joined
-  62  marker 0  closes trunk junctor switch 8,0: JU380 and TL800 are joined
-  63  marker 0  closes trunk switch 8,0: TL800 and place 800 are joined
-  64  marker 0  marks member 0 of group 2 busy
-  65  marker 0  frees line link frame 3
-  66  marker 0  frees trunk link frame 4
-  67  marker 0  frees group 0
-  68  marker 0  frees group 2
-  69  marker 0  frees trunk link frame 8, and has done job 2
-";
 
 /// The same call, with its rows of tests each in one line.
 #[test]
 fn a_call_is_told_in_short(rt: HostRuntime) -> Result<(), Fail> {
-    check_call(&rt, rt.alloc(), Telling::Short, FIRST_CALL_SHORT)
+    check_call(
+        &rt,
+        rt.alloc(),
+        Telling::Short,
+        &[
+            UP_TO_THE_FIRST_ROW,
+            FIRST_ROW_IN_SHORT,
+            UP_TO_THE_SECOND_ROW,
+            SECOND_ROW_IN_SHORT,
+            AFTER_THE_ROWS,
+        ],
+    )
 }
 
 const TWO_MEET: &str = "      marker 0  is given job 9: dial tone for line 3041

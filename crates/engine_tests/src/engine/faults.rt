@@ -1,7 +1,7 @@
 //! Reads and writes that fail, and input without end.
 
 use super::*;
-use crate::checks::check;
+use test_checks::check;
 use test_devices::{Call, Endless, FailAt, Recorder};
 
 /// One read gives bytes, and the next finds the end.

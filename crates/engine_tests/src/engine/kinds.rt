@@ -1,7 +1,7 @@
 //! The kinds of the markers, as a text and by their number.
 
 use super::*;
-use crate::checks::check;
+use test_checks::check;
 
 const REFUSED: &[&str] = &["", "d", "XY", "X X", "X\n", "\u{e9}"];
 

@@ -1,7 +1,7 @@
 //! A replay that is large.
 
 use super::*;
-use crate::checks::check;
+use test_checks::check;
 
 const CALLS: u32 = 120;
 

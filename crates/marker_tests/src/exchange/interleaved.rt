@@ -23,7 +23,7 @@ struct Jobs<'j> {
 }
 
 /// The marker takes the next of the jobs, if it is idle.
-fn take_job(rt: &impl Abort, office: &mut Exchange, marker: u32, jobs: &mut Jobs) {
+fn take_job<O: Driven>(rt: &impl Abort, office: &mut O, marker: u32, jobs: &mut Jobs) {
     if office.has_no_job(marker) {
         if let Some(text) = jobs.texts.get(jobs.begun as usize) {
             jobs.begun = jobs.begun.saturating_add(1);
@@ -33,7 +33,7 @@ fn take_job(rt: &impl Abort, office: &mut Exchange, marker: u32, jobs: &mut Jobs
 }
 
 /// Whichever marker is idle takes the next job.
-fn share_jobs(rt: &impl Abort, office: &mut Exchange, rhythm: &Rhythm, jobs: &mut Jobs) {
+fn share_jobs<O: Driven>(rt: &impl Abort, office: &mut O, rhythm: &Rhythm, jobs: &mut Jobs) {
     for _round in 0..600 {
         for (marker, count) in rhythm {
             if *count > 0 {
@@ -44,44 +44,40 @@ fn share_jobs(rt: &impl Abort, office: &mut Exchange, rhythm: &Rhythm, jobs: &mu
     }
 }
 
+/// Marker 0 does what is left of the jobs.
+fn do_the_rest<O: Driven>(rt: &impl Abort, office: &mut O, jobs: &mut Jobs) {
+    for text in jobs.texts {
+        take_job(rt, office, 0, jobs);
+        go_on_for(office, 0, 128);
+        check!(rt; office.has_no_job(0), text);
+    }
+}
+
 /// In step with one another two markers may keep each other from a connector for ever, as each changes its
 /// word just before the other would seize it; so what is left in the end is done by one alone.
 fn work_off(rt: &impl Abort, office: &mut Exchange, rhythm: &Rhythm, texts: &[&str]) {
     let mut jobs = Jobs { texts, begun: 0 };
     share_jobs(rt, office, rhythm, &mut jobs);
     office.settle();
-    for text in texts {
-        take_job(rt, office, 0, &mut jobs);
-        go_on_for(office, 0, 128);
-        check(rt, text, office.has_no_job(0));
-    }
+    do_the_rest(rt, office, &mut jobs);
+}
+
+fn check_done(rt: &impl Abort, list: &List, rhythm: &Rhythm, done: usize) {
+    check_eq!(rt; done, list.jobs.len(), "{} by {rhythm:?}", list.name);
 }
 
 /// Two markers work the jobs off, and leave one history.
-fn check_worked_off(
-    rt: &impl Abort,
-    alloc: Global,
-    plan: &Plan,
-    list: &List,
-    rhythm: &Rhythm,
-    office: &mut Exchange,
-) {
-    work_off(rt, office, rhythm, list.jobs);
-    let done = office.records().len();
-    check_equal(
-        rt,
-        format_args!("{} by {rhythm:?}", list.name),
-        &done,
-        &list.jobs.len(),
-    );
-    check_history(rt, alloc, plan, list.name, office);
+fn check_worked_off(rt: &impl Abort, alloc: Global, plan: &Plan, list: &List, rhythm: &Rhythm) {
+    let mut office = open_exchange(rt, alloc, plan, TWO);
+    work_off(rt, &mut office, rhythm, list.jobs);
+    check_done(rt, list, rhythm, office.records().len());
+    check_history(rt, alloc, plan, list.name, &office);
 }
 
 fn work_off_all(rt: &impl Abort, alloc: Global, plan: &Plan) {
     for list in LISTS {
         for rhythm in RHYTHMS {
-            let office = &mut open_exchange(rt, alloc, plan, TWO);
-            check_worked_off(rt, alloc, plan, list, rhythm, office);
+            check_worked_off(rt, alloc, plan, list, rhythm);
         }
     }
 }

@@ -33,6 +33,12 @@ fn make_a_move(numbers: &mut Pcg32, office: &mut Exchange) {
     }
 }
 
+fn make_moves(numbers: &mut Pcg32, office: &mut Exchange) {
+    for _made in 0..1000 {
+        make_a_move(numbers, office);
+    }
+}
+
 /// An office of so many markers, each of some kind.
 fn some_office<'p>(
     rt: &impl Abort,
@@ -41,11 +47,13 @@ fn some_office<'p>(
     markers: usize,
     numbers: &mut Pcg32,
 ) -> Exchange<'p> {
-    let mut kinds = [Kind::Combined; 48];
-    for kind in kinds.iter_mut().take(markers) {
-        *kind = some_kind(numbers);
+    let mut kinds = Vec::new(alloc);
+    for _marker in 0..markers {
+        kinds
+            .push(some_kind(numbers))
+            .expect(rt, "there is memory for kinds");
     }
-    open_exchange(rt, alloc, plan, kinds.get(..markers).unwrap_or(&[]))
+    open_exchange(rt, alloc, plan, &kinds)
 }
 
 /// Rounds of moves. After each the records are legal, with the jobs as they are; and once the office
@@ -58,29 +66,32 @@ fn go_at_random(
     office: &mut Exchange,
 ) {
     for _round in 0..8 {
-        for _made in 0..1000 {
-            make_a_move(numbers, office);
-        }
+        make_moves(numbers, office);
         let _left = count_left(rt, alloc, plan, office.records());
         office.settle();
         check_history(rt, alloc, plan, "moves at random", office);
     }
-    check(rt, "many records", office.records().len() > 100);
+    check!(rt; office.records().len() > 100, "many records");
 }
 
 /// Numbers of markers, each with the seed of its moves.
 const RUNS: &[(usize, u64)] = &[(2, 1), (5, 2), (12, 3), (48, 4)];
 
+fn run(rt: &impl Abort, alloc: Global, plan: &Plan, markers: usize, seed: u64) {
+    let mut numbers = Pcg32::new(seed, 5);
+    let mut office = some_office(rt, alloc, plan, markers, &mut numbers);
+    go_at_random(rt, alloc, plan, &mut numbers, &mut office);
+}
+
 fn run_all(rt: &impl Abort, alloc: Global, plan: &Plan) {
     for (markers, seed) in RUNS {
-        let mut numbers = Pcg32::new(*seed, 5);
-        let mut office = some_office(rt, alloc, plan, *markers, &mut numbers);
-        go_at_random(rt, alloc, plan, &mut numbers, &mut office);
+        run(rt, alloc, plan, *markers, *seed);
     }
 }
 
 #[test]
 fn any_moves_are_one_history(rt: HostRuntime) {
-    run_all(&rt, rt.alloc(), &example(&rt, rt.alloc()));
-    run_all(&rt, rt.alloc(), &read_plan(&rt, rt.alloc(), MANY_REGISTERS));
+    for text in [EXAMPLE, MANY_REGISTERS] {
+        run_all(&rt, rt.alloc(), &read_plan(&rt, rt.alloc(), text));
+    }
 }

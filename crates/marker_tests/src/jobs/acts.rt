@@ -52,7 +52,7 @@ fn begin_so(rt: &impl Abort, plan: &Plan, text: &str) -> Program
 {
     let job = job(rt, text);
     let program = begin(plan, job);
-    check_equal(rt, text, program.job(), &job);
+    check_eq!(rt; *program.job(), job, text);
     program
 }
 
@@ -84,7 +84,7 @@ fn makes(
     let mut has_turned = program.turn().is_some();
     for next in wanted.split(", ") {
         check_text(rt, alloc, name, &ToldStep(program.next()), next);
-        check_equal(rt, next, &program.reply().is_some(), &has_turned);
+        check_eq!(rt; program.reply().is_some(), has_turned, next);
         step(program, plan, marker, words);
         has_turned = has_turned || next == "turn";
     }
@@ -99,8 +99,8 @@ fn check_end(rt: &impl Abort, alloc: Global, name: &str, program: &Program, want
 }
 
 fn check_turned(rt: &impl Abort, name: &str, program: &Program, turn: Option<u64>) {
-    check_equal(rt, name, &program.turn(), &turn);
-    check_equal(rt, name, &program.reply().is_some(), &turn.is_some());
+    check_eq!(rt; program.turn(), turn, name);
+    check_eq!(rt; program.reply().is_some(), turn.is_some(), name);
 }
 
 /// A job, its end, and how many steps it takes, where they are known.
@@ -148,9 +148,9 @@ fn does(
     steps(program, plan, marker, words, 128);
     check_end(rt, alloc, name, program, done.end);
     let count = done.count.unwrap_or(program.count());
-    check_equal(rt, done.text, &program.count(), &count);
-    check_equal(rt, done.text, &twin.count(), &count);
-    check_equal(rt, name, &own.as_slice(), &&*words);
+    check_eq!(rt; program.count(), count, done.text);
+    check_eq!(rt; twin.count(), count, done.text);
+    check_eq!(rt; own.as_slice(), &*words, name);
 }
 
 fn act_on(
@@ -174,12 +174,12 @@ fn act_on(
         Act::Steps(count) => steps(program, plan, marker, words, *count),
         Act::Makes(wanted) => makes(rt, alloc, plan, name, program, marker, words, wanted),
         Act::Answered(answer, left) => {
-            check_equal(rt, name, &step(program, plan, marker, words), answer);
+            check_eq!(rt; step(program, plan, marker, words), *answer, name);
             check_words(rt, alloc, name, words, left);
         }
         Act::Restart => restart(plan, program),
         Act::Next(wanted) => check_text(rt, alloc, name, &ToldStep(program.next()), wanted),
-        Act::Count(count) => check_equal(rt, name, &program.count(), count),
+        Act::Count(count) => check_eq!(rt; program.count(), *count, name),
         Act::Turned(turn) => check_turned(rt, name, program, *turn),
         Act::Does(text, end, count) => {
             let done = Done {

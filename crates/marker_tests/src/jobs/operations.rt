@@ -17,7 +17,7 @@ const OPERATIONS: [(Step, u64, u64); 7] = [
 
 fn leaves(rt: &impl Abort, step: Step, found: u64, wanted: u64) {
     let left = step.operation(47).apply(found);
-    check_equal(rt, format_args!("{step:?} on {found}"), &left, &wanted);
+    check_eq!(rt; left, wanted, "{step:?} on {found}");
 }
 
 #[test]

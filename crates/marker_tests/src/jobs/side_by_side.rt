@@ -49,7 +49,7 @@ fn check_shown(rt: &impl Abort, alloc: Global, plan: &Plan, office: &Office, wor
             wanted[400 + usize::from(found.group % 16)] |= 1 << (found.index % 64);
         }
     }
-    check_equal(rt, "words", &words.get(..416), &wanted.get(..416));
+    check_eq!(rt; words.get(..416), wanted.get(..416), "words");
 }
 
 /// A job by steps leaves the words as the office shows them, and its reply is the office's.
@@ -69,13 +69,8 @@ fn go_side_by_side(
     let Ok(reply) = office.whole(job) else {
         panic!(rt; "there is memory for a job");
     };
-    check_equal(
-        rt,
-        format_args!("{job:?}"),
-        &program.next(),
-        &Step::Finished,
-    );
-    check_equal(rt, format_args!("{job:?}"), &program.reply(), &Some(&reply));
+    check_eq!(rt; program.next(), Step::Finished, "{job:?}");
+    check_eq!(rt; program.reply(), Some(&reply), "{job:?}");
     check_shown(rt, alloc, plan, office, words);
 }
 

@@ -108,8 +108,8 @@ impl Display for ToldReply<'_> {
 
 /// This is told so.
 pub fn check_text<T: Display>(rt: &impl Abort, alloc: Global, name: &str, told: &T, wanted: &str) {
-    let Ok(text) = told.to_string(alloc) else {
-        panic!(rt; "there is memory for a text");
-    };
-    check_equal(rt, name, &text.as_str(), &wanted);
+    let text = told
+        .to_string(alloc)
+        .expect(rt, "there is memory for a text");
+    check_eq!(rt; text.as_str(), wanted, name);
 }

@@ -67,15 +67,15 @@ const CASES_OF_TWO: &[Case] = &[Case {
 /// A marker that takes no job of this kind has none, and any other that there is has one.
 fn is_assigned<O: Driven>(rt: &impl Abort, mut office: O, case: &Case) {
     for (marker, kind) in (0..).zip(case.kinds) {
-        check_equal(rt, case.name, &office.kind_of(marker), &Some(*kind));
+        check_eq!(rt; office.kind_of(marker), Some(*kind), case.name);
     }
     for (marker, text, wanted) in case.jobs {
         let assigned = office.assign_to(*marker, 1, job(rt, text));
-        check_equal(rt, case.name, &assigned, wanted);
+        check_eq!(rt; assigned, *wanted, case.name);
         let is_idle = *wanted == Err(AssignFault::WrongKind);
-        check_equal(rt, case.name, &office.has_no_job(*marker), &is_idle);
+        check_eq!(rt; office.has_no_job(*marker), is_idle, case.name);
         if is_idle {
-            check_equal(rt, case.name, &office.ask_back(*marker), &Given::Idle);
+            check_eq!(rt; office.ask_back(*marker), Given::Idle, case.name);
         }
     }
 }
@@ -120,12 +120,7 @@ fn are_opened(rt: &impl Abort, alloc: Global, plan: &Plan) {
             exchange_fault(alloc, plan, kinds),
             fabric_fault(alloc, plan, kinds),
         );
-        check_equal(
-            rt,
-            format_args!("{count} markers"),
-            &faults,
-            &(*wanted, *wanted),
-        );
+        check_eq!(rt; faults, (*wanted, *wanted), "{count} markers");
     }
 }
 

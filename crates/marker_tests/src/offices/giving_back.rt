@@ -89,17 +89,12 @@ fn gives_back<O: Driven>(rt: &impl Abort, alloc: Global, mut office: O, case: &C
     go_on_for(&mut office, 0, count);
     let (given, left) = case.wanted_after(count);
     let found = office.ask_back(0);
-    check_equal(
-        rt,
-        format_args!("{} after {count} steps", case.name),
-        &found,
-        &given,
-    );
+    check_eq!(rt; found, given, "{} after {count} steps", case.name);
     if given == Given::PastTurn {
         go_on_for(&mut office, 0, case.end.saturating_sub(count));
-        check_equal(rt, case.name, &office.ask_back(0), &Given::Idle);
+        check_eq!(rt; office.ask_back(0), Given::Idle, case.name);
     } else {
-        check_equal(rt, case.name, &office.ask_back(0), &given);
+        check_eq!(rt; office.ask_back(0), given, case.name);
     }
     check_left(rt, alloc, case.name, &office.shut(rt, alloc), left);
 }

@@ -7,10 +7,7 @@ pub fn open_exchange<'p>(
     plan: &'p Plan,
     kinds: &[Kind],
 ) -> Exchange<'p> {
-    let Ok(office) = Exchange::open(alloc, plan, kinds) else {
-        panic!(rt; "an office is opened");
-    };
-    office
+    Exchange::open(alloc, plan, kinds).expect(rt, "an office is opened")
 }
 
 /// An office does nothing for a marker that it doesn't have.
@@ -44,9 +41,8 @@ impl Driven for Exchange<'_> {
     }
 
     fn shut(self, rt: &impl Abort, alloc: Global) -> Vec<u64> {
-        let Ok(words) = self.words().to_vec(alloc) else {
-            panic!(rt; "there is memory for the words");
-        };
-        words
+        self.words()
+            .to_vec(alloc)
+            .expect(rt, "there is memory for the words")
     }
 }

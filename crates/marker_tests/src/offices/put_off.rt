@@ -50,11 +50,9 @@ fn first_put_off<O: Driven>(rt: &impl Abort, office: &mut O) -> Option<Told> {
 }
 
 fn is_put_off<O: Driven>(rt: &impl Abort, mut office: O, count: u32, wanted: &Option<Told>) {
-    assign(rt, &mut office, 0, 1, "D 3041");
-    assign(rt, &mut office, 1, 2, "D 1000");
-    go_on_for(&mut office, 0, count);
+    begin_both(rt, &mut office, count, 0);
     let found = first_put_off(rt, &mut office);
-    check_equal(rt, format_args!("after {count} steps"), &found, wanted);
+    check_eq!(rt; found, *wanted, "after {count} steps");
 }
 
 fn are_put_off(rt: &impl Abort, alloc: Global, plan: &Plan) {

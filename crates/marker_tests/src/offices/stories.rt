@@ -121,7 +121,7 @@ const STORIES: &[Story] = &[
 
 fn move_so<O: Driven>(rt: &impl Abort, office: &mut O, name: &str, marker: u32, count: u32) {
     for _made in 0..count {
-        check_equal(rt, name, &told_of(&office.go_on(marker)), &Told::Moved);
+        check_eq!(rt; told_of(&office.go_on(marker)), Told::Moved, name);
     }
 }
 
@@ -130,14 +130,9 @@ fn make<O: Driven>(rt: &impl Abort, office: &mut O, name: &str, next: &Move) {
         Move::Begin(marker, job_no, text) => assign(rt, office, *marker, *job_no, text),
         Move::GoOn(marker, count) => go_on_for(office, *marker, *count),
         Move::Moved(marker, count) => move_so(rt, office, name, *marker, *count),
-        Move::Step(marker, wanted) => check_equal(
-            rt,
-            name,
-            &told_of(&office.go_on(*marker)),
-            wanted,
-        ),
-        Move::GiveBack(marker, given) => check_equal(rt, name, &office.ask_back(*marker), given),
-        Move::HasNoJob(marker, is_so) => check_equal(rt, name, &office.has_no_job(*marker), is_so),
+        Move::Step(marker, wanted) => check_eq!(rt; told_of(&office.go_on(*marker)), *wanted, name),
+        Move::GiveBack(marker, given) => check_eq!(rt; office.ask_back(*marker), *given, name),
+        Move::HasNoJob(marker, is_so) => check_eq!(rt; office.has_no_job(*marker), *is_so, name),
         Move::Meet => office.meet(),
     }
 }

@@ -23,47 +23,25 @@ impl<'p> Model for TwoDesks<'p> {
     ghost invariant = { λ o. IsDeskOf o.last_but_one o.fabric × IsDeskOf o.last o.fabric };
 }
 
-/// Shared words with a desk of each of these kinds.
-pub fn open_fabric<'p>(
-    rt: &impl Abort,
-    alloc: Global,
-    plan: &'p Plan,
-    kinds: &[Kind],
-) -> (Fabric<'p>, Vec<Desk>)
-    ensures { AreDesksOf result.1.items result.0 }
-{
-    let Ok(opened) = Fabric::open(alloc, plan, kinds) else {
-        panic!(rt; "an office is opened");
-    };
-    opened
-}
-
 fn last_desk(rt: &impl Abort, _fabric: &Fabric, desks: &mut Vec<Desk>) -> Desk
     requires { AreDesksOf desks.old.items _fabric.now }
     ensures rest { AreDesksOf desks.new.items _fabric.now }
     ensures desk { IsDeskOf result _fabric.now }
 {
-    let Some(desk) = desks.pop() else {
-        panic!(rt; "there are two desks");
-    };
-    desk
+    desks.pop().expect(rt, "there are two desks")
 }
 
+/// Shared words with a desk of each of these kinds.
 pub fn open_desks<'p>(
     rt: &impl Abort,
     alloc: Global,
     plan: &'p Plan,
     kinds: &[Kind],
 ) -> TwoDesks<'p> {
-    let (fabric, mut desks) = open_fabric(rt, alloc, plan, kinds);
+    let (fabric, mut desks) = Fabric::open(alloc, plan, kinds).expect(rt, "an office is opened");
     let last = last_desk(rt, &fabric, &mut desks);
     let last_but_one = last_desk(rt, &fabric, &mut desks);
-    check_equal(
-        rt,
-        "the last desk",
-        &(last.marker() as usize + 1),
-        &kinds.len(),
-    );
+    check_eq!(rt; last.marker() as usize + 1, kinds.len(), "the last desk");
     TwoDesks {
         fabric,
         last_but_one,

@@ -1,12 +1,11 @@
 //! Audits of lists of records, and what closed crosspoints an office lists.
 
-use super::texts::job;
-use crate::checks::check_eq;
-use crate::fixtures::{near_path, record};
-use std::alloc::{AllocError, Global};
+use super::texts::reply_to;
+use crate::fixtures::{check_printed, example, near_path, record};
+use std::alloc::Global;
 use std::process::Abort;
-use std::test::Fail;
-use xbar_equip::Crosspoint;
+use test_checks::check_eq;
+use xbar_equip::{Crosspoint, Dialled};
 use xbar_office::{AuditFault, End, Job, Office, Record, audit};
 use xbar_plan::Plan;
 
@@ -47,38 +46,29 @@ fn check_crosspoints(rt: &impl Abort, closed: &[Crosspoint], wanted: Closed) {
     }
 }
 
-fn check_closed(
-    rt: &impl Abort,
-    alloc: Global,
-    office: &Office<'_>,
-    wanted: Closed,
-) -> Result<(), Fail> {
-    let closed = office.crosspoints(alloc)?;
+fn check_closed(rt: &impl Abort, alloc: Global, office: &Office<'_>, wanted: Closed) {
+    let closed = office
+        .crosspoints(alloc)
+        .expect(rt, "there is memory for crosspoints");
     check_crosspoints(rt, &closed, wanted);
-    Ok(())
 }
 
-/// In the example office the records are legal, and these crosspoints are closed after them.
-fn check_legal(
-    rt: &impl Abort,
-    alloc: Global,
-    records: &[Record],
-    wanted: Closed,
-) -> Result<(), Fail> {
-    let plan = Plan::example(alloc)?;
-    check_closed(rt, alloc, &audit(alloc, &plan, records)?, wanted)
+/// The records are legal, and these crosspoints are closed after them.
+fn check_legal(rt: &impl Abort, alloc: Global, plan: &Plan, records: &[Record], wanted: Closed) {
+    let office = audit(alloc, plan, records).expect(rt, "the records are legal");
+    check_closed(rt, alloc, &office, wanted);
 }
 
 #[test]
-fn legal_records_give_an_office(rt: HostRuntime) -> Result<(), Fail> {
-    check_legal(&rt, rt.alloc(), &[], &[])?;
-    check_legal(&rt, rt.alloc(), &[dialled(0, dial_tone())], NEAR)
+fn legal_records_give_an_office(rt: HostRuntime) {
+    let plan = example(&rt, rt.alloc());
+    check_legal(&rt, rt.alloc(), &plan, &[], &[]);
+    check_legal(&rt, rt.alloc(), &plan, &[dialled(0, dial_tone())], NEAR);
 }
 
-/// The fault of these records in the example office, if they have one.
-fn fault_of(alloc: Global, records: &[Record]) -> Result<Option<AuditFault>, AllocError> {
-    let plan = Plan::example(alloc)?;
-    Ok(audit(alloc, &plan, records).err())
+/// The fault of these records, if they have one.
+fn fault_of(alloc: Global, plan: &Plan, records: &[Record]) -> Option<AuditFault> {
+    audit(alloc, plan, records).err()
 }
 
 /// In the example office the audit tells this fault, which prints so.
@@ -88,42 +78,31 @@ pub fn check_refused(
     records: &[Record],
     wanted: AuditFault,
     text: &str,
-) -> Result<(), Fail> {
-    let fault = fault_of(alloc, records)?;
+) {
+    let fault = fault_of(alloc, &example(rt, alloc), records);
     check_eq!(rt; fault, Some(wanted));
-    check_eq!(rt; wanted.to_string(alloc)?.as_str(), text);
-    Ok(())
+    check_printed(rt, alloc, &wanted, text);
 }
 
 #[test]
-fn other_records_have_a_fault(rt: HostRuntime) -> Result<(), Fail> {
-    let alloc = rt.alloc();
-    let records = [dialled(1, dial_tone())];
+fn other_records_have_a_fault(rt: HostRuntime) {
     let fault = AuditFault::Turns { place: 0 };
     let text = "the record at place 0 hasn't turn 0";
-    check_refused(&rt, alloc, &records, fault, text)?;
-    let records = [dialled(0, End::LineBusy)];
+    check_refused(&rt, rt.alloc(), &[dialled(1, dial_tone())], fault, text);
     let fault = AuditFault::Reply { turn: 0 };
     let text = "the reply of turn 0 is another";
-    check_refused(&rt, alloc, &records, fault, text)
+    check_refused(&rt, rt.alloc(), &[dialled(0, End::LineBusy)], fault, text);
 }
 
-/// Does a job, whatever the reply.
-fn does_job(office: &mut Office<'_>, job: Job) -> Result<(), AllocError> {
-    let _reply = office.whole(job)?;
-    Ok(())
-}
-
-fn calls_inside(office: &mut Office<'_>) -> Result<(), Fail> {
-    does_job(office, job(b'D', b"3041", b"")?)?;
-    does_job(office, job(b'C', b"3041", b"2340004")?)?;
-    Ok(())
+fn check_call_inside(rt: &impl Abort, alloc: Global, office: &mut Office<'_>) {
+    let line = near_path().line;
+    let _reply = reply_to(rt, office, Job::Dial(line));
+    let _reply = reply_to(rt, office, Job::Complete(line, Dialled::new(2_340_004)));
+    check_closed(rt, alloc, office, INSIDE);
 }
 
 #[test]
-fn a_call_inside_closes_eight_crosspoints(rt: HostRuntime) -> Result<(), Fail> {
-    let plan = Plan::example(rt.alloc())?;
-    let mut office = Office::open(rt.alloc(), &plan);
-    calls_inside(&mut office)?;
-    check_closed(&rt, rt.alloc(), &office, INSIDE)
+fn a_call_inside_closes_eight_crosspoints(rt: HostRuntime) {
+    let plan = example(&rt, rt.alloc());
+    check_call_inside(&rt, rt.alloc(), &mut Office::open(rt.alloc(), &plan));
 }

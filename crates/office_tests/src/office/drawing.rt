@@ -1,20 +1,31 @@
 //! Parts of the drawing of an office, worked out by hand.
 
 use super::plans::plan;
-use super::texts::job;
-use crate::checks::check;
+use super::texts::reply_to;
+use crate::fixtures::{example, near_path};
 use std::alloc::Global;
 use std::process::Abort;
-use std::test::Fail;
-use xbar_office::{Office, Record};
+use test_checks::check;
+use xbar_equip::Path;
+use xbar_office::{Job, Office, Record};
 use xbar_office_drawing::{laws, office_drawing};
 use xbar_plan::Plan;
 
+fn drawn(
+    rt: &impl Abort,
+    alloc: Global,
+    plan: &Plan,
+    paths: &[Path],
+    records: &[Record],
+) -> String {
+    office_drawing(alloc, plan, paths, records).expect(rt, "there is memory for a drawing")
+}
+
 /// The drawing of the office under this plan after a dial tone job of line 3041.
-fn after_dial_tone(alloc: Global, plan: &Plan) -> Result<String, Fail> {
+fn after_dial_tone(rt: &impl Abort, alloc: Global, plan: &Plan) -> String {
     let mut office = Office::open(alloc, plan);
-    let job = job(b'D', b"3041", b"")?;
-    let reply = office.whole(job)?;
+    let job = Job::Dial(near_path().line);
+    let reply = reply_to(rt, &mut office, job);
     let records = [Record {
         turn: 0,
         marker: 0,
@@ -22,7 +33,7 @@ fn after_dial_tone(alloc: Global, plan: &Plan) -> Result<String, Fail> {
         job,
         reply,
     }];
-    Ok(office_drawing(alloc, plan, office.paths(), &records)?)
+    drawn(rt, alloc, plan, office.paths(), &records)
 }
 
 /// With junctor JU340 faulty the path is by channel 5, and there is a card. The path's part begins 1,360
@@ -52,16 +63,14 @@ const SECOND_TRIAL: &[&str] = &[
 
 fn check_parts(rt: &impl Abort, drawing: &str, parts: &[&str]) {
     for part in parts {
-        check!(rt; drawing.contains(*part), "{part}");
+        check!(rt; drawing.contains(*part), part);
     }
 }
 
 #[test]
-fn a_path_in_the_second_trial(rt: HostRuntime) -> Result<(), Fail> {
-    let plan = plan(rt.alloc(), "417 418 509", "3052", "\"JU340\"")?;
-    let drawing = after_dial_tone(rt.alloc(), &plan)?;
-    check_parts(&rt, &drawing, SECOND_TRIAL);
-    Ok(())
+fn a_path_in_the_second_trial(rt: HostRuntime) {
+    let plan = plan(&rt, rt.alloc(), "417 418 509", "3052", "\"JU340\"");
+    check_parts(&rt, &after_dial_tone(&rt, rt.alloc(), &plan), SECOND_TRIAL);
 }
 
 /// Parts of the drawing of an office with no path.
@@ -76,11 +85,9 @@ fn check_empty(rt: &impl Abort, drawing: &str) {
 }
 
 #[test]
-fn an_empty_sheet(rt: HostRuntime) -> Result<(), Fail> {
-    let plan = Plan::example(rt.alloc())?;
-    let drawing = office_drawing(rt.alloc(), &plan, &[], &[])?;
-    check_empty(&rt, &drawing);
-    Ok(())
+fn an_empty_sheet(rt: HostRuntime) {
+    let plan = example(&rt, rt.alloc());
+    check_empty(&rt, &drawn(&rt, rt.alloc(), &plan, &[], &[]));
 }
 
 #[test]

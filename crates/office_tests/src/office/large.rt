@@ -2,11 +2,10 @@
 
 use super::audits::check_refused;
 use super::texts::{Line, does};
-use crate::checks::check_eq;
-use crate::fixtures::{near_path, record};
-use std::alloc::Global;
+use crate::fixtures::{example, near_path, read_plan, record};
+use std::alloc::{AllocError, Global};
 use std::process::Abort;
-use std::test::Fail;
+use test_checks::{check, check_eq};
 use xbar_equip::{Dialled, Len};
 use xbar_office::{AuditFault, End, Job, Office, Record, Reply, audit};
 use xbar_plan::Plan;
@@ -35,13 +34,19 @@ faults = []
 /// and on the switch that has the number of the trunk's frame. So no two of the first hundred calls
 /// share a switch or the junctors between two frames, and channel 0 is idle for each; it is busy for
 /// each of the others.
-fn calls(rt: &impl Abort, alloc: Global, office: &mut Office<'_>, call: u32) -> Result<(), Fail> {
+fn calls(
+    rt: &impl Abort,
+    alloc: Global,
+    office: &mut Office<'_>,
+    call: u32,
+) -> Result<(), AllocError> {
     let (frame, switch, channel) = (call / 10 % 10, call % 10, call / 100);
     let line = format!(in alloc; "{switch}{frame}0{channel}")?;
     let reply = format!(in alloc; "DIALTONE,1,{line}-{channel}-999,-")?;
-    does(rt, alloc, office, &(b'D', line.as_bytes(), DIGITS, &reply))?;
+    does(rt, alloc, office, &(b'D', line.as_bytes(), DIGITS, &reply));
     let reply = format!(in alloc; "CONNECTED,1,{line}-{channel}-{frame}{switch}{channel},-")?;
-    does(rt, alloc, office, &(b'C', line.as_bytes(), DIGITS, &reply))
+    does(rt, alloc, office, &(b'C', line.as_bytes(), DIGITS, &reply));
+    Ok(())
 }
 
 const DIGITS: &[u8] = b"5550000";
@@ -53,29 +58,37 @@ const RELEASES: &[Line] = &[
     (b'R', b"9101", DIGITS, "RELEASED,-,9101-1-191,-"),
 ];
 
-fn check_calls(rt: &impl Abort, alloc: Global, office: &mut Office<'_>) -> Result<(), Fail> {
-    for call in 0..CALLS {
-        calls(rt, alloc, office, call)?;
-    }
-    let closed = office.crosspoints(alloc)?.len();
-    check_eq!(rt; (office.paths().len(), closed), (120, 480));
-    Ok(())
+fn count_closed(rt: &impl Abort, alloc: Global, office: &Office<'_>) -> usize {
+    let closed = office
+        .crosspoints(alloc)
+        .expect(rt, "there is memory for crosspoints");
+    closed.len()
 }
 
-fn check_releases(rt: &impl Abort, alloc: Global, office: &mut Office<'_>) -> Result<(), Fail> {
+fn check_calls(rt: &impl Abort, alloc: Global, office: &mut Office<'_>) {
+    for call in 0..CALLS {
+        calls(rt, alloc, office, call).expect(rt, "there is memory for texts");
+    }
+    let counts = (office.paths().len(), count_closed(rt, alloc, office));
+    check_eq!(rt; counts, (120, 480));
+}
+
+fn check_releases(rt: &impl Abort, alloc: Global, office: &mut Office<'_>) {
     for line in RELEASES {
-        does(rt, alloc, office, line)?;
+        does(rt, alloc, office, line);
     }
     check_eq!(rt; office.paths().len(), 118);
-    Ok(())
+}
+
+fn check_calls_and_releases(rt: &impl Abort, alloc: Global, office: &mut Office<'_>) {
+    check_calls(rt, alloc, office);
+    check_releases(rt, alloc, office);
 }
 
 #[test]
-fn a_hundred_and_twenty_calls_stand(rt: HostRuntime) -> Result<(), Fail> {
-    let plan = Plan::read(rt.alloc(), MANY_TRUNKS.as_bytes())?;
-    let mut office = Office::open(rt.alloc(), &plan);
-    check_calls(&rt, rt.alloc(), &mut office)?;
-    check_releases(&rt, rt.alloc(), &mut office)
+fn a_hundred_and_twenty_calls_stand(rt: HostRuntime) {
+    let plan = read_plan(&rt, rt.alloc(), MANY_TRUNKS);
+    check_calls_and_releases(&rt, rt.alloc(), &mut Office::open(rt.alloc(), &plan));
 }
 
 /// How many records are audited.
@@ -96,12 +109,12 @@ fn record_at(turn: u64) -> Record {
     record(turn, job, end)
 }
 
-fn many_records(alloc: Global) -> Result<Vec<Record>, Fail> {
+fn many_records(rt: &impl Abort, alloc: Global) -> Vec<Record> {
     let mut records = Vec::new(alloc);
     for turn in 0..RECORDS {
-        records.push(record_at(turn))?;
+        check!(rt; records.push(record_at(turn)).is_ok(), "there is memory for records");
     }
-    Ok(records)
+    records
 }
 
 /// One reply more is another one, and is told, since it comes before those that are.
@@ -112,33 +125,38 @@ fn other_reply(
     turn: usize,
     end: End,
     text: &str,
-) -> Result<(), Fail> {
+) {
     if let Some(record) = records.get_mut(turn) {
         record.reply = Reply::plain(end);
     }
     let wanted = AuditFault::Reply { turn: turn as u64 };
-    check_refused(rt, alloc, records, wanted, text)
+    check_refused(rt, alloc, records, wanted, text);
 }
 
 /// Each change of the records is told.
-fn check_changes(rt: &impl Abort, alloc: Global, records: &mut [Record]) -> Result<(), Fail> {
+fn check_changes(rt: &impl Abort, alloc: Global, records: &mut [Record]) {
     let text = "the reply of turn 100400 is another";
-    other_reply(rt, alloc, records, 100_400, End::RegistersBusy, text)?;
+    other_reply(rt, alloc, records, 100_400, End::RegistersBusy, text);
     let text = "the reply of turn 70001 is another";
-    other_reply(rt, alloc, records, 70_001, End::NoCall, text)?;
+    other_reply(rt, alloc, records, 70_001, End::NoCall, text);
     if let Some(record) = records.get_mut(100_450) {
         record.turn = 100_451;
     }
     let turns = AuditFault::Turns { place: 100_450 };
     let text = "the record at place 100450 hasn't turn 100450";
-    check_refused(rt, alloc, records, turns, text)
+    check_refused(rt, alloc, records, turns, text);
+}
+
+/// How many paths legal records leave.
+fn count_left(rt: &impl Abort, alloc: Global, plan: &Plan, records: &[Record]) -> usize {
+    let office = audit(alloc, plan, records).expect(rt, "the records are legal");
+    office.paths().len()
 }
 
 #[test]
-fn a_hundred_thousand_records_are_audited(rt: HostRuntime) -> Result<(), Fail> {
-    let alloc = rt.alloc();
-    let plan = Plan::example(alloc)?;
-    let mut records = many_records(alloc)?;
-    check_eq!(rt; audit(alloc, &plan, &records)?.paths().len(), 1);
-    check_changes(&rt, alloc, &mut records)
+fn a_hundred_thousand_records_are_audited(rt: HostRuntime) {
+    let plan = example(&rt, rt.alloc());
+    let mut records = many_records(&rt, rt.alloc());
+    check_eq!(rt; count_left(&rt, rt.alloc(), &plan, &records), 1);
+    check_changes(&rt, rt.alloc(), &mut records);
 }

@@ -1,10 +1,9 @@
 //! Where memory is refused. Each of these tests passes whichever allocation is refused.
 
-use crate::checks::{check, check_eq};
 use crate::fixtures::record;
-use std::alloc::{AllocError, Global};
+use std::alloc::Global;
 use std::process::Abort;
-use std::test::Fail;
+use test_checks::{check, check_eq};
 use xbar_equip::{Channel, Dialled, Len, Path, Ten};
 use xbar_office::{AuditFault, End, Job, Office, Record, Reply, audit};
 use xbar_plan::Plan;
@@ -89,31 +88,32 @@ fn has_paths(office: &Office<'_>, paths: &[Option<Path>]) -> bool {
 }
 
 /// Does a job. Where memory is refused, the paths stay, and the job is done once more.
-fn whole(rt: &impl Abort, office: &mut Office<'_>, job: &Job) -> Result<Reply, AllocError> {
+fn whole(rt: &impl Abort, office: &mut Office<'_>, job: &Job) -> Reply {
     let before = first_paths(office);
     if let Ok(reply) = office.whole(*job) {
-        return Ok(reply);
+        return reply;
     }
     check!(rt; has_paths(office, &before));
-    office.whole(*job)
+    office.whole(*job).expect(rt, "memory is refused once")
 }
 
-fn check_jobs(rt: &impl Abort, office: &mut Office<'_>) -> Result<(), AllocError> {
+fn check_job(rt: &impl Abort, office: &mut Office<'_>, record: &Record) {
+    let reply = whole(rt, office, &record.job);
+    check!(rt; reply == record.reply, record.turn);
+}
+
+fn check_jobs(rt: &impl Abort, office: &mut Office<'_>) {
     for record in &records() {
-        let reply = whole(rt, office, &record.job)?;
-        check!(rt; reply == record.reply, "turn {}", record.turn);
+        check_job(rt, office, record);
     }
     check_eq!(rt; office.paths().len(), 5);
-    Ok(())
 }
 
 #[test]
-fn a_job_that_was_refused_memory_is_done_right_once_more(rt: HostRuntime) -> Result<(), Fail> {
-    let Ok(plan) = Plan::example(rt.alloc()) else {
-        return Ok(());
-    };
-    check_jobs(&rt, &mut Office::open(rt.alloc(), &plan))?;
-    Ok(())
+fn a_job_that_was_refused_memory_is_done_right_once_more(rt: HostRuntime) {
+    if let Ok(plan) = Plan::example(rt.alloc()) {
+        check_jobs(&rt, &mut Office::open(rt.alloc(), &plan));
+    }
 }
 
 fn check_audit(rt: &impl Abort, alloc: Global, plan: &Plan) {

@@ -1,12 +1,12 @@
 //! The text of an office for a terminal, drawn by hand.
 
 use super::plans::plan;
-use super::texts::job;
-use crate::checks::check_eq;
-use crate::fixtures::path_of;
-use std::alloc::Global;
-use std::test::Fail;
-use xbar_equip::{Len, Link};
+use super::texts::{job, reply_to};
+use crate::fixtures::{path_of, read_plan};
+use std::alloc::{AllocError, Global};
+use std::process::Abort;
+use test_checks::{check, check_eq};
+use xbar_equip::{Len, Link, LinkKind, Path};
 use xbar_office::{Card, Cards, End, Job, Office, Record, Reply};
 use xbar_office_text::{laws, office_text};
 use xbar_plan::Plan;
@@ -14,22 +14,48 @@ use xbar_plan::Plan;
 /// A job's number, kind, line and digits.
 type Asked<'a> = (u32, u8, &'a [u8], &'a [u8]);
 
-/// The text of the office under this plan after these jobs, which marker 0 does.
-fn text_after(alloc: Global, plan: &Plan, jobs: &[Asked<'_>]) -> Result<String, Fail> {
-    let mut office = Office::open(alloc, plan);
-    let mut records = Vec::new(alloc);
-    for (turn, (job_no, kind, line, digits)) in jobs.iter().enumerate() {
-        let job = job(*kind, line, digits)?;
-        let reply = office.whole(job)?;
-        records.push(Record {
-            turn: turn as u64,
-            marker: 0,
-            job_no: *job_no,
-            job,
-            reply,
-        })?;
+/// The record of a job that marker 0 does at this turn.
+fn record_of(rt: &impl Abort, office: &mut Office<'_>, turn: usize, asked: &Asked<'_>) -> Record {
+    let (job_no, kind, line, digits) = *asked;
+    let job = job(kind, line, digits).expect(rt, "these are a job's texts");
+    Record {
+        turn: turn as u64,
+        marker: 0,
+        job_no,
+        job,
+        reply: reply_to(rt, office, job),
     }
-    Ok(office_text(alloc, plan, office.paths(), &records)?)
+}
+
+fn records_of(
+    rt: &impl Abort,
+    alloc: Global,
+    office: &mut Office<'_>,
+    jobs: &[Asked<'_>],
+) -> Vec<Record> {
+    let mut records = Vec::new(alloc);
+    for (turn, asked) in jobs.iter().enumerate() {
+        let record = record_of(rt, office, turn, asked);
+        check!(rt; records.push(record).is_ok(), "there is memory for records");
+    }
+    records
+}
+
+/// The text of the office under this plan after these jobs.
+fn text_after(rt: &impl Abort, alloc: Global, plan: &Plan, jobs: &[Asked<'_>]) -> String {
+    let mut office = Office::open(alloc, plan);
+    let records = records_of(rt, alloc, &mut office, jobs);
+    text_of(rt, alloc, plan, office.paths(), &records)
+}
+
+fn text_of(
+    rt: &impl Abort,
+    alloc: Global,
+    plan: &Plan,
+    paths: &[Path],
+    records: &[Record],
+) -> String {
+    office_text(alloc, plan, paths, records).expect(rt, "there is memory for a text")
 }
 
 const DIAL_TONE: &str = "\
@@ -196,18 +222,21 @@ const PICTURES: &[Picture] = &[
     },
 ];
 
-#[test]
-fn offices_are_drawn(rt: HostRuntime) -> Result<(), Fail> {
-    for picture in PICTURES {
-        let plan = plan(rt.alloc(), "417 418 509", "3052", picture.faults)?;
-        let text = text_after(rt.alloc(), &plan, picture.jobs)?;
-        check_eq!(rt; text.as_str(), picture.text, "{}", picture.name);
-    }
-    Ok(())
+fn check_picture(rt: &impl Abort, alloc: Global, picture: &Picture) {
+    let plan = plan(rt, alloc, "417 418 509", "3052", picture.faults);
+    let text = text_after(rt, alloc, &plan, picture.jobs);
+    check_eq!(rt; text.as_str(), picture.text, picture.name);
 }
 
-/// A plan with the longest name and the highest number of a member: pair 39, at 278 and 279.
-fn wide_plan(alloc: Global) -> Result<Plan, Fail> {
+#[test]
+fn offices_are_drawn(rt: HostRuntime) {
+    for picture in PICTURES {
+        check_picture(&rt, rt.alloc(), picture);
+    }
+}
+
+/// The text of a plan with the longest name and the highest number of a member: pair 39, at 278 and 279.
+fn wide_plan(alloc: Global) -> Result<String, AllocError> {
     let mut text = String::new(alloc);
     text.push_str("version = 2\ngroups = [\"REG register 417\", \"INTRA999 intra")?;
     for pair in 0..40u32 {
@@ -216,7 +245,7 @@ fn wide_plan(alloc: Global) -> Result<Plan, Fail> {
         write!(text, " {first}-{second}")?;
     }
     text.push_str("\"]\nnumbers = []\ncodes = []\nfaults = []\n")?;
-    Ok(Plan::read(alloc, text.as_bytes())?)
+    Ok(text)
 }
 
 const WIDE: &str = "\
@@ -246,37 +275,34 @@ holds    30                      10         8                       9
 ";
 
 /// The record of a job with the highest numbers, and a card of the last link.
-fn highest_record() -> Result<Record, Fail> {
-    let job = Job::Dial(Len::parse(b"2954")?);
+fn highest_record() -> Record {
     let card = Card {
         trial: 255,
-        link: Link::parse(b"TL999")?,
+        link: Link::new(LinkKind::TrunkLink, 9, 9, 9),
     };
-    Ok(Record {
+    Record {
         turn: u64::MAX,
         marker: u32::MAX,
         job_no: u32::MAX,
-        job,
+        job: Job::Dial(Len::new(2, 9, 29)),
         reply: Reply {
             end: End::Trouble,
             cards: Cards::one(card),
         },
-    })
+    }
 }
 
 #[test]
-fn the_longest_texts(rt: HostRuntime) -> Result<(), Fail> {
-    let path = path_of("2954", "9", "278")?;
-    let plan = wide_plan(rt.alloc())?;
-    let records = [highest_record()?];
-    let text = office_text(rt.alloc(), &plan, &[path], &records)?;
+fn the_longest_texts(rt: HostRuntime) {
+    let path = path_of("2954", "9", "278").expect(&rt, "these are a path's texts");
+    let plan = wide_plan(rt.alloc()).expect(&rt, "there is memory for a text");
+    let plan = read_plan(&rt, rt.alloc(), &plan);
+    let text = text_of(&rt, rt.alloc(), &plan, &[path], &[highest_record()]);
     check_eq!(rt; text.as_str(), WIDE);
-    Ok(())
 }
 
 #[test]
-fn laws_of_the_text_can_be_called() -> Result<(), Fail> {
+fn laws_of_the_text_can_be_called() {
     laws::each_path_has_one_line();
     laws::each_card_is_drawn_once();
-    Ok(())
 }

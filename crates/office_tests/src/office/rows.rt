@@ -2,10 +2,9 @@
 
 use super::plans::plan;
 use super::texts::{Line, does};
-use crate::checks::check_eq;
 use std::alloc::Global;
 use std::process::Abort;
-use std::test::Fail;
+use test_checks::check_eq;
 use xbar_office::Office;
 
 /// A plan, jobs in it, in parts that cases share, and the paths that stand after them.
@@ -28,14 +27,16 @@ const SECOND: &str = "3052";
 
 const HUNTED: &str = "3052 3100";
 
-fn run(rt: &impl Abort, alloc: Global, case: &Case<'_>) -> Result<(), Fail> {
-    let plan = plan(alloc, case.registers, case.second, case.faults)?;
-    let mut office = Office::open(alloc, &plan);
+fn does_all(rt: &impl Abort, alloc: Global, office: &mut Office<'_>, case: &Case<'_>) {
     for line in case.jobs.iter().copied().flatten() {
-        does(rt, alloc, &mut office, line)?;
+        does(rt, alloc, office, line);
     }
-    check_eq!(rt; office.paths().len(), case.paths, "{}", case.name);
-    Ok(())
+    check_eq!(rt; office.paths().len(), case.paths, case.name);
+}
+
+fn run(rt: &impl Abort, alloc: Global, case: &Case<'_>) {
+    let plan = plan(rt, alloc, case.registers, case.second, case.faults);
+    does_all(rt, alloc, &mut Office::open(alloc, &plan), case);
 }
 
 /// Ten lines of one line switch get all of its line links.
@@ -277,9 +278,8 @@ const CASES: &[Case] = &[
 ];
 
 #[test]
-fn jobs_have_their_replies(rt: HostRuntime) -> Result<(), Fail> {
+fn jobs_have_their_replies(rt: HostRuntime) {
     for case in CASES {
-        run(&rt, rt.alloc(), case)?;
+        run(&rt, rt.alloc(), case);
     }
-    Ok(())
 }

@@ -1,10 +1,9 @@
 //! Jobs from texts, and the texts of replies.
 
-use crate::checks::check_eq;
 use std::alloc::{AllocError, Global};
 use std::process::Abort;
-use std::test::Fail;
-use xbar_equip::{Dialled, Len, Path};
+use test_checks::check_eq;
+use xbar_equip::{Dialled, EquipFault, Len, Path};
 use xbar_office::{Card, End, Job, Office, Reply};
 use xbar_report::name_of;
 
@@ -12,7 +11,7 @@ use xbar_report::name_of;
 pub type Line<'a> = (u8, &'a [u8], &'a [u8], &'a str);
 
 /// `D`, `C` or `R`, a line, and for `C` seven digits.
-pub fn job(kind: u8, line: &[u8], digits: &[u8]) -> Result<Job, Fail> {
+pub fn job(kind: u8, line: &[u8], digits: &[u8]) -> Result<Job, EquipFault> {
     let line = Len::parse(line)?;
     match kind {
         b'D' => Ok(Job::Dial(line)),
@@ -70,17 +69,20 @@ fn add_reply(text: &mut String, reply: &Reply) -> Result<(), AllocError> {
     Ok(())
 }
 
-/// The office does this job, and replies so.
-pub fn does(
-    rt: &impl Abort,
-    alloc: Global,
-    office: &mut Office<'_>,
-    line: &Line<'_>,
-) -> Result<(), Fail> {
-    let (kind, line, digits, wanted) = *line;
-    let reply = office.whole(job(kind, line, digits)?)?;
+fn check_reply(rt: &impl Abort, alloc: Global, reply: &Reply, wanted: &str) {
     let mut text = String::new(alloc);
-    add_reply(&mut text, &reply)?;
+    add_reply(&mut text, reply).expect(rt, "there is memory for a text");
     check_eq!(rt; text.as_str(), wanted);
-    Ok(())
+}
+
+/// The reply of the office to this job, which it does.
+pub fn reply_to(rt: &impl Abort, office: &mut Office<'_>, job: Job) -> Reply {
+    office.whole(job).expect(rt, "there is memory for a job")
+}
+
+/// The office does this job, and replies so.
+pub fn does(rt: &impl Abort, alloc: Global, office: &mut Office<'_>, line: &Line<'_>) {
+    let (kind, line, digits, wanted) = *line;
+    let job = job(kind, line, digits).expect(rt, "these are a job's texts");
+    check_reply(rt, alloc, &reply_to(rt, office, job), wanted);
 }

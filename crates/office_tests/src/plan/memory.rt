@@ -1,8 +1,8 @@
 //! Where memory is refused. Each of these tests passes whichever allocation is refused.
 
 use super::writing::answer_the_same;
-use crate::checks::{check, check_eq};
 use std::alloc::Global;
+use test_checks::{check, check_eq};
 use xbar_plan::{Plan, PlanFault};
 
 /// The text of `Plan::example`, as the formats have it.

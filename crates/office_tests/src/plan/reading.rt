@@ -1,11 +1,12 @@
 //! Plans read from texts, and the fault of each other text.
 
 use super::writing::have_the_same_group;
-use crate::checks::{check, check_eq};
-use crate::fixtures::{EXAMPLE_LINES, EXAMPLE_ROUTES, check_lines, check_routes};
+use crate::fixtures::{
+    EXAMPLE_LINES, EXAMPLE_ROUTES, check_lines, check_routes, example, read_plan,
+};
 use std::alloc::{AllocError, Global};
 use std::process::Abort;
-use std::test::Fail;
+use test_checks::{check, check_eq};
 use xbar_equip::{DirNo, Len};
 use xbar_plan::{Plan, PlanFault};
 
@@ -52,26 +53,23 @@ fn check_groups(rt: &impl Abort, plan: &Plan, example: &Plan) {
 }
 
 #[test]
-fn text_of_the_example_reads_as_it(rt: HostRuntime) -> Result<(), Fail> {
-    let text = document(rt.alloc(), &[])?;
-    let plan = Plan::read(rt.alloc(), text.as_bytes())?;
-    check_groups(&rt, &plan, &Plan::example(rt.alloc())?);
+fn text_of_the_example_reads_as_it(rt: HostRuntime) {
+    let text = document(rt.alloc(), &[]).expect(&rt, "there is memory for a text");
+    let plan = read_plan(&rt, rt.alloc(), &text);
+    check_groups(&rt, &plan, &example(&rt, rt.alloc()));
     check_routes(&rt, &plan, EXAMPLE_ROUTES);
     check_lines(&rt, &plan, EXAMPLE_LINES);
-    Ok(())
+}
+
+/// The fault of a text, if it is no plan.
+fn fault_of(alloc: Global, text: &str) -> Option<PlanFault> {
+    Plan::read(alloc, text.as_bytes()).err()
 }
 
 /// With these lines changed the plan has this fault, or none.
-fn check_fault(
-    rt: &impl Abort,
-    alloc: Global,
-    changes: &[Change],
-    wanted: Option<PlanFault>,
-) -> Result<(), Fail> {
-    let text = document(alloc, changes)?;
-    let fault = Plan::read(alloc, text.as_bytes()).err();
-    check_eq!(rt; fault, wanted, "{changes:?}");
-    Ok(())
+fn check_fault(rt: &impl Abort, alloc: Global, changes: &[Change], wanted: Option<PlanFault>) {
+    let text = document(alloc, changes).expect(rt, "there is memory for a text");
+    check_eq!(rt; fault_of(alloc, &text), wanted, "{changes:?}");
 }
 
 /// A fault or none, which line of the plan is changed, and lines each of which makes it have that.
@@ -245,23 +243,21 @@ const NUMBER_TWICE: &str = r#"numbers = ["0001 3041", "0001 1000"]"#;
 
 const CODE_TWICE: &str = r#"codes = ["234 NONE", "234 OUTA"]"#;
 
-fn check_families(rt: &impl Abort, alloc: Global, families: &[Family]) -> Result<(), Fail> {
+fn check_families(rt: &impl Abort, alloc: Global, families: &[Family]) {
     for (fault, at, lines) in families {
         for line in *lines {
-            check_fault(rt, alloc, &[(*at, *line)], *fault)?;
+            check_fault(rt, alloc, &[(*at, *line)], *fault);
         }
     }
-    Ok(())
 }
 
 #[test]
-fn each_line_has_its_fault(rt: HostRuntime) -> Result<(), Fail> {
-    let alloc = rt.alloc();
-    check_families(&rt, alloc, TAKEN)?;
-    check_families(&rt, alloc, FAULTS_OF_THE_DOCUMENT)?;
-    check_families(&rt, alloc, MALFORMED)?;
-    check_families(&rt, alloc, FAULTS_OF_TABLES)?;
-    check_families(&rt, alloc, TWO_FAULTS_OF_A_LINE)
+fn each_line_has_its_fault(rt: HostRuntime) {
+    check_families(&rt, rt.alloc(), TAKEN);
+    check_families(&rt, rt.alloc(), FAULTS_OF_THE_DOCUMENT);
+    check_families(&rt, rt.alloc(), MALFORMED);
+    check_families(&rt, rt.alloc(), FAULTS_OF_TABLES);
+    check_families(&rt, rt.alloc(), TWO_FAULTS_OF_A_LINE);
 }
 
 /// Two lines that are changed, and the lesser fault of the two. In the second version a number has
@@ -328,11 +324,10 @@ const TWO_CHANGES: &[(Option<PlanFault>, &[Change])] = &[
 const SECOND_VERSION: Change = (VERSION, "version = 2");
 
 #[test]
-fn two_changed_lines_have_their_fault(rt: HostRuntime) -> Result<(), Fail> {
+fn two_changed_lines_have_their_fault(rt: HostRuntime) {
     for (fault, changes) in TWO_CHANGES {
-        check_fault(&rt, rt.alloc(), changes, *fault)?;
+        check_fault(&rt, rt.alloc(), changes, *fault);
     }
-    Ok(())
 }
 
 /// Groups G2 to G15, behind a comma.
@@ -446,13 +441,11 @@ const SIZES: &[(&str, Size, Option<PlanFault>)] = &[
 ];
 
 #[test]
-fn limits_are_the_last_that_are_taken(rt: HostRuntime) -> Result<(), Fail> {
+fn limits_are_the_last_that_are_taken(rt: HostRuntime) {
     for (name, size, wanted) in SIZES {
-        let text = sized(rt.alloc(), size)?;
-        let fault = Plan::read(rt.alloc(), text.as_bytes()).err();
-        check_eq!(rt; fault, *wanted, "{name}");
+        let text = sized(rt.alloc(), size).expect(&rt, "there is memory for a text");
+        check_eq!(rt; fault_of(rt.alloc(), &text), *wanted, name);
     }
-    Ok(())
 }
 
 const THREE_THOUSAND_NUMBERS: Size = Size {
@@ -473,16 +466,18 @@ fn are_wanted(lines: Option<&[Len]>, is_wanted: bool) -> bool {
     }
 }
 
-/// Each of 3,000 numbers is one of the plan that is read, and no other is.
-#[test]
-fn three_thousand_numbers_are_read(rt: HostRuntime) -> Result<(), Fail> {
-    let text = sized(rt.alloc(), &THREE_THOUSAND_NUMBERS)?;
-    let plan = Plan::read(rt.alloc(), text.as_bytes())?;
+fn check_three_thousand(rt: &impl Abort, plan: &Plan) {
     for number in 0..10_000 {
         let lines = plan.stations(DirNo::new(number));
-        check!(rt; are_wanted(lines, number < 3000), "{number}");
+        check!(rt; are_wanted(lines, number < 3000), number);
     }
-    Ok(())
+}
+
+/// Each of 3,000 numbers is one of the plan that is read, and no other is.
+#[test]
+fn three_thousand_numbers_are_read(rt: HostRuntime) {
+    let text = sized(rt.alloc(), &THREE_THOUSAND_NUMBERS).expect(&rt, "there is memory for a text");
+    check_three_thousand(&rt, &read_plan(&rt, rt.alloc(), &text));
 }
 
 /// Codes of a plan of the largest size, each with the one that stands in its place.
@@ -492,14 +487,18 @@ const CODES_TWICE: &[(&str, &str)] = &[
     ("\"063 G1\"", "\"062 G1\""),
 ];
 
+fn check_code_twice(rt: &impl Abort, alloc: Global, text: &str, from: &str, to: &str) {
+    let text = text
+        .replace(alloc, from, to)
+        .expect(rt, "there is memory for a text");
+    check_eq!(rt; fault_of(alloc, &text), Some(PlanFault::CodeTwice), to);
+}
+
 /// A code that stands twice is told as that, wherever it stands.
 #[test]
-fn a_code_that_stands_twice_is_told(rt: HostRuntime) -> Result<(), Fail> {
-    let text = sized(rt.alloc(), &LARGEST)?;
+fn a_code_that_stands_twice_is_told(rt: HostRuntime) {
+    let text = sized(rt.alloc(), &LARGEST).expect(&rt, "there is memory for a text");
     for (from, to) in CODES_TWICE {
-        let text = text.as_str().replace(rt.alloc(), *from, *to)?;
-        let fault = Plan::read(rt.alloc(), text.as_bytes()).err();
-        check_eq!(rt; fault, Some(PlanFault::CodeTwice), "{to}");
+        check_code_twice(&rt, rt.alloc(), &text, from, to);
     }
-    Ok(())
 }

@@ -1,12 +1,12 @@
 //! Plans made of tables, and what they answer.
 
-use crate::checks::{check, check_eq};
 use crate::fixtures::{
-    EXAMPLE_LINES, EXAMPLE_ROUTES, NumberLines, check_faulty, check_lines, check_routes,
+    EXAMPLE_LINES, EXAMPLE_ROUTES, NumberLines, check_all_printed, check_faulty, check_lines,
+    check_routes, example,
 };
 use std::alloc::Global;
 use std::process::Abort;
-use std::test::Fail;
+use test_checks::{check, check_eq};
 use xbar_equip::{DirNo, EquipFault, Len, Link, Ten};
 use xbar_plan::{Group, GroupKind, Member, Plan, PlanFault, Route, Station};
 
@@ -31,14 +31,13 @@ fn has_group(plan: &Plan, number: u8, name: &str, kind: GroupKind, members: usiz
 fn check_groups(rt: &impl Abort, plan: &Plan) {
     check_eq!(rt; (plan.group_count(), plan.register_group()), (4, 0));
     for (number, name, kind, members) in GROUPS {
-        check!(rt; has_group(plan, *number, name, *kind, *members), "{name}");
+        check!(rt; has_group(plan, *number, name, *kind, *members), name);
     }
 }
 
 #[test]
-fn example_has_its_groups(rt: HostRuntime) -> Result<(), Fail> {
-    check_groups(&rt, &Plan::example(rt.alloc())?);
-    Ok(())
+fn example_has_its_groups(rt: HostRuntime) {
+    check_groups(&rt, &example(&rt, rt.alloc()));
 }
 
 /// The group of a member, its index there and its other place.
@@ -72,14 +71,13 @@ fn member_at(plan: &Plan, place: &str) -> Result<Found, EquipFault> {
 
 fn check_members(rt: &impl Abort, plan: &Plan) {
     for (place, wanted) in MEMBERS {
-        check_eq!(rt; member_at(plan, place), Ok(*wanted), "{place}");
+        check_eq!(rt; member_at(plan, place), Ok(*wanted), place);
     }
 }
 
 #[test]
-fn members_are_found_by_their_places(rt: HostRuntime) -> Result<(), Fail> {
-    check_members(&rt, &Plan::example(rt.alloc())?);
-    Ok(())
+fn members_are_found_by_their_places(rt: HostRuntime) {
+    check_members(&rt, &example(&rt, rt.alloc()));
 }
 
 const VACANT_CODES: &[(u16, Option<&[u8]>)] = &[(0, None), (999, None), (556, None), (65535, None)];
@@ -88,15 +86,22 @@ const VACANT_NUMBERS: &[NumberLines] = &[(b"0000", None), (b"0005", None), (b"99
 
 const NOT_FAULTY: &[(&str, bool)] = &[("JU340", false)];
 
+fn check_what_is_there(rt: &impl Abort, plan: &Plan) {
+    check_routes(rt, plan, EXAMPLE_ROUTES);
+    check_lines(rt, plan, EXAMPLE_LINES);
+}
+
+fn check_what_is_vacant(rt: &impl Abort, plan: &Plan) {
+    check_routes(rt, plan, VACANT_CODES);
+    check_lines(rt, plan, VACANT_NUMBERS);
+    check_faulty(rt, plan, NOT_FAULTY);
+}
+
 #[test]
-fn codes_and_numbers_are_looked_up(rt: HostRuntime) -> Result<(), Fail> {
-    let plan = Plan::example(rt.alloc())?;
-    check_routes(&rt, &plan, EXAMPLE_ROUTES);
-    check_routes(&rt, &plan, VACANT_CODES);
-    check_lines(&rt, &plan, EXAMPLE_LINES);
-    check_lines(&rt, &plan, VACANT_NUMBERS);
-    check_faulty(&rt, &plan, NOT_FAULTY);
-    Ok(())
+fn codes_and_numbers_are_looked_up(rt: HostRuntime) {
+    let plan = example(&rt, rt.alloc());
+    check_what_is_there(&rt, &plan);
+    check_what_is_vacant(&rt, &plan);
 }
 
 /// What a plan is made of: registers 417, an intra pair of 600 and the called place, and a trunk out,
@@ -130,67 +135,74 @@ const BARE: Tables = Tables {
 
 /// A group of one member, which has a second place where that is a text of one.
 fn group(
+    rt: &impl Abort,
     alloc: Global,
     name: &str,
     kind: GroupKind,
     first: &str,
     second: &str,
-) -> Result<Group, Fail> {
-    let first = Ten::parse(first.as_bytes())?;
+) -> Group {
+    let first = Ten::parse(first.as_bytes()).expect(rt, "the text of a place");
     let second = Ten::parse(second.as_bytes()).ok();
-    let members = vec![in alloc; Member { first, second }]?;
-    Ok(Group::new(String::from_str(alloc, name)?, kind, members))
+    let members = vec![in alloc; Member { first, second }].expect(rt, "there is memory");
+    let name = String::from_str(alloc, name).expect(rt, "there is memory");
+    Group::new(name, kind, members)
 }
 
-fn groups(alloc: Global, tables: &Tables) -> Result<Vec<Group>, Fail> {
+fn groups(rt: &impl Abort, alloc: Global, tables: &Tables) -> Vec<Group> {
     let [first, second, third] = tables.kinds;
-    let mut groups = Vec::new(alloc);
-    groups.push(group(alloc, "REG", first, "417", "")?)?;
-    groups.push(group(alloc, "INTRA", second, "600", tables.called)?)?;
-    groups.push(group(alloc, "OUT2", third, tables.out, "")?)?;
-    Ok(groups)
+    let groups = [
+        group(rt, alloc, "REG", first, "417", ""),
+        group(rt, alloc, "INTRA", second, "600", tables.called),
+        group(rt, alloc, "OUT2", third, tables.out, ""),
+    ];
+    Vec::from_array(alloc, groups).expect(rt, "there is memory")
 }
 
-fn station(alloc: Global, number: &str, lines: &[&str]) -> Result<Station, Fail> {
-    let number = DirNo::parse(number.as_bytes())?;
+fn station(rt: &impl Abort, alloc: Global, number: &str, lines: &[&str]) -> Station {
+    let number = DirNo::parse(number.as_bytes()).expect(rt, "the text of a number");
     let mut all = Vec::new(alloc);
     for line in lines {
-        all.push(Len::parse(line.as_bytes())?)?;
+        let line = Len::parse(line.as_bytes()).expect(rt, "the text of a line");
+        all.push(line).expect(rt, "there is memory");
     }
-    Ok(Station::new(number, all))
+    Station::new(number, all)
 }
 
-fn stations(alloc: Global, tables: &Tables) -> Result<Vec<Station>, Fail> {
+fn stations(rt: &impl Abort, alloc: Global, tables: &Tables) -> Vec<Station> {
     let mut stations = Vec::new(alloc);
     for (number, lines) in tables.numbers {
-        stations.push(station(alloc, number, lines)?)?;
+        let station = station(rt, alloc, number, lines);
+        check!(rt; stations.push(station).is_ok(), "there is memory");
     }
-    Ok(stations)
+    stations
 }
 
-fn routes(alloc: Global, tables: &Tables) -> Result<Vec<Route>, Fail> {
+fn routes(rt: &impl Abort, alloc: Global, tables: &Tables) -> Vec<Route> {
     let mut routes = Vec::new(alloc);
     for (code, groups) in tables.codes {
-        routes.push(Route::new(*code, groups.to_vec(alloc)?))?;
+        let groups = groups.to_vec(alloc).expect(rt, "there is memory");
+        check!(rt; routes.push(Route::new(*code, groups)).is_ok(), "there is memory");
     }
-    Ok(routes)
+    routes
 }
 
-fn faults(alloc: Global, tables: &Tables) -> Result<Vec<Link>, Fail> {
+fn faults(rt: &impl Abort, alloc: Global, tables: &Tables) -> Vec<Link> {
     let mut faults = Vec::new(alloc);
     for link in tables.faults {
-        faults.push(Link::parse(link.as_bytes())?)?;
+        let link = Link::parse(link.as_bytes()).expect(rt, "the text of a link");
+        faults.push(link).expect(rt, "there is memory");
     }
-    Ok(faults)
+    faults
 }
 
 /// The plan of these tables, or its fault.
-fn plan_of(alloc: Global, tables: &Tables) -> Result<Result<Plan, PlanFault>, Fail> {
-    let groups = groups(alloc, tables)?;
-    let stations = stations(alloc, tables)?;
-    let routes = routes(alloc, tables)?;
-    let faults = faults(alloc, tables)?;
-    Ok(Plan::try_new(alloc, groups, stations, routes, faults))
+fn plan_of(rt: &impl Abort, alloc: Global, tables: &Tables) -> Result<Plan, PlanFault> {
+    let groups = groups(rt, alloc, tables);
+    let stations = stations(rt, alloc, tables);
+    let routes = routes(rt, alloc, tables);
+    let faults = faults(rt, alloc, tables);
+    Plan::try_new(alloc, groups, stations, routes, faults)
 }
 
 /// What that plan answers.
@@ -208,12 +220,11 @@ const LINKS: &[(&str, bool)] = &[
 ];
 
 #[test]
-fn lawful_tables_make_a_plan(rt: HostRuntime) -> Result<(), Fail> {
-    let plan = plan_of(rt.alloc(), &LAWFUL)??;
+fn lawful_tables_make_a_plan(rt: HostRuntime) {
+    let plan = plan_of(&rt, rt.alloc(), &LAWFUL).expect(&rt, "the tables are lawful");
     check_faulty(&rt, &plan, LINKS);
     check_lines(&rt, &plan, LINES);
     check_routes(&rt, &plan, ROUTES);
-    Ok(())
 }
 
 /// Tables, and the fault that is told of them, if they have one.
@@ -340,12 +351,11 @@ const TOLD: &[Told] = &[
 ];
 
 #[test]
-fn faults_of_tables_are_told(rt: HostRuntime) -> Result<(), Fail> {
+fn faults_of_tables_are_told(rt: HostRuntime) {
     for told in TOLD {
-        let fault = plan_of(rt.alloc(), &told.tables)?.err();
-        check_eq!(rt; fault, told.fault, "{}", told.name);
+        let fault = plan_of(&rt, rt.alloc(), &told.tables).err();
+        check_eq!(rt; fault, told.fault, told.name);
     }
-    Ok(())
 }
 
 const FAULTS: &[(PlanFault, &str)] = &[
@@ -367,9 +377,6 @@ const FAULTS: &[(PlanFault, &str)] = &[
 ];
 
 #[test]
-fn faults_are_told_by_their_numbers(rt: HostRuntime) -> Result<(), Fail> {
-    for (fault, text) in FAULTS {
-        check_eq!(rt; fault.to_string(rt.alloc())?.as_str(), *text);
-    }
-    Ok(())
+fn faults_are_told_by_their_numbers(rt: HostRuntime) {
+    check_all_printed(&rt, rt.alloc(), FAULTS);
 }

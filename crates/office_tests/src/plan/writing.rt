@@ -1,9 +1,9 @@
 //! Plans written out, and read again.
 
-use crate::checks::check;
-use crate::fixtures::{NumberLines, check_faulty, check_lines, check_routes};
-use std::alloc::{AllocError, Global};
-use std::test::Fail;
+use crate::fixtures::{NumberLines, check_faulty, check_lines, check_routes, example, read_plan};
+use std::alloc::Global;
+use std::process::Abort;
+use test_checks::check;
 use xbar_equip::DirNo;
 use xbar_plan::Plan;
 
@@ -80,23 +80,26 @@ pub fn answer_the_same(one: &Plan, other: &Plan) -> bool {
 }
 
 /// The plan that is read from the text of this one.
-fn read_again(alloc: Global, plan: &Plan) -> Result<Plan, Fail> {
-    let text = plan.version_2(alloc)?;
-    Ok(Plan::read(alloc, &text)?)
+fn read_again(rt: &impl Abort, alloc: Global, plan: &Plan) -> Plan {
+    let text = plan
+        .version_2(alloc)
+        .expect(rt, "there is memory for a text");
+    Plan::read(alloc, &text).expect(rt, "the text of a plan is one")
 }
 
-fn has_text(alloc: Global, plan: &Plan, wanted: &str) -> Result<bool, AllocError> {
-    let text = plan.version_2(alloc)?;
-    Ok(text.as_slice() == wanted.as_bytes())
+fn check_text(rt: &impl Abort, alloc: Global, plan: &Plan, wanted: &str) {
+    let text = plan
+        .version_2(alloc)
+        .expect(rt, "there is memory for a text");
+    check!(rt; text.as_slice() == wanted.as_bytes());
 }
 
 #[test]
-fn example_is_written_and_read_again(rt: HostRuntime) -> Result<(), Fail> {
-    let plan = Plan::example(rt.alloc())?;
-    check!(rt; has_text(rt.alloc(), &plan, EXAMPLE)?);
-    let again = read_again(rt.alloc(), &plan)?;
+fn example_is_written_and_read_again(rt: HostRuntime) {
+    let plan = example(&rt, rt.alloc());
+    check_text(&rt, rt.alloc(), &plan, EXAMPLE);
+    let again = read_again(&rt, rt.alloc(), &plan);
     check!(rt; answer_the_same(&again, &plan));
-    Ok(())
 }
 
 const LINES: &[NumberLines] = &[(b"0002", Some(&[b"3052", b"3100"]))];
@@ -105,13 +108,16 @@ const ROUTES: &[(u16, Option<&[u8]>)] = &[(7, Some(&[3, 2]))];
 
 const LINKS: &[(&str, bool)] = &[("JU340", true), ("TL999", true), ("JU341", false)];
 
+fn check_hunting(rt: &impl Abort, plan: &Plan) {
+    check_lines(rt, plan, LINES);
+    check_routes(rt, plan, ROUTES);
+    check_faulty(rt, plan, LINKS);
+}
+
 #[test]
-fn second_lines_and_links_are_read_again(rt: HostRuntime) -> Result<(), Fail> {
-    let plan = Plan::read(rt.alloc(), HUNTING.as_bytes())?;
-    let again = read_again(rt.alloc(), &plan)?;
+fn second_lines_and_links_are_read_again(rt: HostRuntime) {
+    let plan = read_plan(&rt, rt.alloc(), HUNTING);
+    let again = read_again(&rt, rt.alloc(), &plan);
     check!(rt; answer_the_same(&again, &plan));
-    check_lines(&rt, &again, LINES);
-    check_routes(&rt, &again, ROUTES);
-    check_faulty(&rt, &again, LINKS);
-    Ok(())
+    check_hunting(&rt, &again);
 }

@@ -1,13 +1,13 @@
 //! Each call reaches the device inside once, with the buffer that it was given.
 
 use super::check_device;
-use crate::checks::{check, check_eq};
 use counted_io::{Counted, Sink, Source, read_all, write_all};
 use std::alloc::Global;
 use std::io;
 use std::io::{Read, Write};
 use std::process::Abort;
 use std::test::Fail;
+use test_checks::{check, check_eq};
 use test_devices::{Call, FailAt, Recorder};
 
 /// A buffer's length, whether the failures of the call are counted, and how many bytes it gets.

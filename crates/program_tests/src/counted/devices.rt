@@ -1,13 +1,13 @@
 //! Devices that fail, that have no end or that take nothing.
 
 use super::fakes::{Still, Stuck};
-use crate::checks::{check, check_eq};
 use counted_io::{Counted, ReadFault, Sink, Source, WriteFault, read_all, write_all};
 use std::alloc::Global;
 use std::io;
 use std::io::{Read, Write};
 use std::process::Abort;
 use std::test::Fail;
+use test_checks::{check, check_eq};
 use test_devices::{Endless, FailAt};
 
 const READ_FAULTS: &[(ReadFault, &str)] = &[

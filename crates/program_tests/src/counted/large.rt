@@ -1,8 +1,8 @@
 //! More than two MiB go through.
 
-use crate::checks::{check, check_eq};
 use counted_io::{Counted, read_all, write_all};
 use std::test::Fail;
+use test_checks::{check, check_eq};
 
 const LARGE: usize = 2_200_000;
 

@@ -1,10 +1,10 @@
 //! The readers and writers that tests put in place of a device.
 
 use super::check_device;
-use crate::checks::check_eq;
 use std::io;
 use std::io::{Read, Write};
 use std::test::Fail;
+use test_checks::check_eq;
 use test_devices::{Call, Endless, FailAt, Recorder};
 
 /// How many bytes three reads of two give, whether a read that comes second fails, and what the

@@ -1,9 +1,9 @@
 //! Texts that replays write, read and written again.
 
-use crate::checks::{check, check_eq};
 use std::alloc::Global;
 use std::process::Abort;
 use std::test::Fail;
+use test_checks::{check, check_eq};
 use xbar_report::{Counts, read, report};
 
 /// What replays of worked rows write.

@@ -1,9 +1,8 @@
 //! Texts that are no report's, and what is wrong with them.
 
-use crate::checks::check_eq;
 use std::alloc::Global;
 use std::process::Abort;
-use std::test::Fail;
+use test_checks::check_eq;
 use xbar_report::{ReadFault, read};
 
 /// A text of two records, the first with two cards, and counts.
@@ -84,22 +83,15 @@ const SPOILED: &[(&str, &str, usize)] = &[
 ];
 
 /// The right text with its part `old` replaced by `new`.
-fn spoiled(alloc: Global, right: &str, old: &str, new: &str) -> Result<String, Fail> {
+fn spoiled(rt: &impl Abort, alloc: Global, right: &str, old: &str, new: &str) -> String {
     let (front, rest) = right.split_once(old).unwrap_or((right, ""));
-    Ok(format!(in alloc; "{front}{new}{rest}")?)
+    format!(in alloc; "{front}{new}{rest}").expect(rt, "there is memory for a text")
 }
 
 /// The right text, so spoiled, has this fault.
-fn check_spoiled(
-    rt: &impl Abort,
-    alloc: Global,
-    old: &str,
-    new: &str,
-    wanted: ReadFault,
-) -> Result<(), Fail> {
-    let text = spoiled(alloc, RIGHT, old, new)?;
+fn check_spoiled(rt: &impl Abort, alloc: Global, old: &str, new: &str, wanted: ReadFault) {
+    let text = spoiled(rt, alloc, RIGHT, old, new);
     check_eq!(rt; fault_of(alloc, &text), Some(wanted), "{text}");
-    Ok(())
 }
 
 /// A turn that is wrong is told before whose the cards are: an old part, the new one in its place,
@@ -110,16 +102,15 @@ const WRONG_TURNS: &[(&str, &str, usize)] = &[
 ];
 
 #[test]
-fn a_spoiled_text_is_refused_at_its_line(rt: HostRuntime) -> Result<(), Fail> {
+fn a_spoiled_text_is_refused_at_its_line(rt: HostRuntime) {
     for (old, new, number) in SPOILED {
         let fault = ReadFault::Line { number: *number };
-        check_spoiled(&rt, rt.alloc(), old, new, fault)?;
+        check_spoiled(&rt, rt.alloc(), old, new, fault);
     }
     for (old, new, place) in WRONG_TURNS {
         let fault = ReadFault::Turns { place: *place };
-        check_spoiled(&rt, rt.alloc(), old, new, fault)?;
+        check_spoiled(&rt, rt.alloc(), old, new, fault);
     }
-    Ok(())
 }
 
 /// Texts, each with its fault, if it has one.

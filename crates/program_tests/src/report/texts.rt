@@ -1,9 +1,9 @@
 //! The texts of records of every end.
 
-use crate::checks::{check, check_eq};
 use std::alloc::Global;
 use std::process::Abort;
 use std::test::Fail;
+use test_checks::{check, check_eq};
 use xbar_equip::{Channel, Dialled, Len, Link, LinkKind, Path, Ten};
 use xbar_office::{Card, Cards, End, Job, Record, Reply};
 use xbar_report::report;

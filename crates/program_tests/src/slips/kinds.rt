@@ -1,7 +1,7 @@
 //! Kinds of markers.
 
 use super::*;
-use crate::checks::check_eq;
+use test_checks::check_eq;
 
 /// Kinds, and what is told of those that are none.
 const KINDS: &[(&str, Option<&str>)] = &[
@@ -38,10 +38,9 @@ const KINDS: &[(&str, Option<&str>)] = &[
 ];
 
 #[test]
-fn sentences_about_kinds(rt: HostRuntime) -> Result<(), Fail> {
+fn sentences_about_kinds(rt: HostRuntime) {
     for (kinds, wanted) in KINDS {
-        let told = told(rt.alloc(), kinds_slip(kinds))?;
-        check_eq!(rt; told.as_str(), wanted.unwrap_or(NO_SLIP), "{kinds}");
+        let told = told(&rt, rt.alloc(), kinds_slip(kinds));
+        check_eq!(rt; told.as_str(), wanted.unwrap_or(NO_SLIP), kinds);
     }
-    Ok(())
 }

@@ -2,7 +2,7 @@
 //! then, and never another one.
 
 use super::*;
-use crate::checks::check;
+use test_checks::check;
 use xbar_plan::PlanFault;
 use xbar_traffic::{Mode, RowFault, TrafficFault};
 

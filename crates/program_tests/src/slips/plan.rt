@@ -1,48 +1,40 @@
 //! Plans.
 
 use super::*;
-use crate::checks::check_eq;
+use test_checks::check_eq;
 use xbar_plan::{Plan, PlanFault};
 
-/// The five lines of the example plan.
-const EXAMPLE: [&str; 5] = [
+/// A plan with a group of each kind.
+const PLAN: [&str; 5] = [
     "version = 1",
-    r#"groups = ["REG register 417 418 509", "INTRA intra 600-601 700-711", "OUTA outgoing 800", "OUTB outgoing 801 902"]"#,
-    r#"numbers = ["0001 3041", "0002 3052", "0003 1000", "0004 3100"]"#,
+    r#"groups = ["REG register 417", "INTRA intra 600-601", "OUTA outgoing 800", "OUTB outgoing 801"]"#,
+    r#"numbers = ["0001 3041"]"#,
     r#"codes = ["234 INTRA", "555 OUTA OUTB"]"#,
     "faults = []",
 ];
-
-const VERSION: usize = 0;
-
-const GROUPS: usize = 1;
-
-const NUMBERS: usize = 2;
-
-const CODES: usize = 3;
-
-const FAULTS: usize = 4;
 
 fn fault_of(alloc: Global, text: &[u8]) -> Option<PlanFault> {
     Plan::read(alloc, text).err()
 }
 
 /// The sentence about this fault of the text.
-fn sentence_about(alloc: Global, text: &[u8], fault: PlanFault) -> Result<String, AllocError> {
-    told(alloc, plan_slip(alloc, text, fault)?)
+fn sentence_about(rt: &impl Abort, alloc: Global, text: &[u8], fault: PlanFault) -> String {
+    let slip = plan_slip(alloc, text, fault).expect(rt, "there is memory for a slip");
+    told(rt, alloc, slip)
 }
 
-/// The sentence about a text that is no plan.
-fn sentence(alloc: Global, text: &[u8]) -> Result<String, Fail> {
-    let fault = fault_of(alloc, text).ok_or("it is a plan")?;
-    Ok(sentence_about(alloc, text, fault)?)
+/// This is the sentence about a text that is no plan.
+fn check_sentence(rt: &impl Abort, alloc: Global, text: &[u8], wanted: &str) {
+    let fault = fault_of(alloc, text).expect(rt, "the text is no plan");
+    let sentence = sentence_about(rt, alloc, text, fault);
+    check_eq!(rt; sentence.as_str(), wanted);
 }
 
-/// The example plan with one line changed.
-fn changed(alloc: Global, at: usize, line: &str) -> Result<String, Fail> {
+/// The plan with this line in the place of the one of this key.
+fn changed(alloc: Global, key: &str, line: &str) -> Result<String, AllocError> {
     let mut text = String::new(alloc);
-    for (index, own) in EXAMPLE.iter().enumerate() {
-        let line = if index == at { line } else { *own };
+    for own in PLAN {
+        let line = if own.starts_with(key) { line } else { own };
         write!(text, "{line}\n")?;
     }
     Ok(text)
@@ -74,14 +66,13 @@ const DOCUMENTS: &[(&[u8], &str)] = &[
 ];
 
 #[test]
-fn sentences_about_documents(rt: HostRuntime) -> Result<(), Fail> {
+fn sentences_about_documents(rt: HostRuntime) {
     for (text, wanted) in DOCUMENTS {
-        check_eq!(rt; sentence(rt.alloc(), text)?.as_str(), *wanted);
+        check_sentence(&rt, rt.alloc(), text, wanted);
     }
-    Ok(())
 }
 
-/// Lines each of which, in the place of one of the example plan's, makes it a plan that is told so.
+/// Lines each of which, in the place of one of the plan's, makes it a plan that is told so.
 type Lines = &'static [(&'static str, &'static str)];
 
 const VERSIONS: Lines = &[
@@ -255,26 +246,24 @@ const LINES_OF_FAULTS: Lines = &[
     ),
 ];
 
-fn check_lines(rt: &impl Abort, alloc: Global, at: usize, lines: Lines) -> Result<(), Fail> {
+fn check_lines(rt: &impl Abort, alloc: Global, key: &str, lines: Lines) {
     for (line, wanted) in lines {
-        let text = changed(alloc, at, line)?;
-        let told = sentence(alloc, text.as_bytes())?;
-        check_eq!(rt; told.as_str(), *wanted, "{line}");
+        let text = changed(alloc, key, line).expect(rt, "there is memory for a text");
+        check_sentence(rt, alloc, text.as_bytes(), wanted);
     }
-    Ok(())
 }
 
 #[test]
-fn sentences_about_lines(rt: HostRuntime) -> Result<(), Fail> {
-    check_lines(&rt, rt.alloc(), VERSION, VERSIONS)?;
-    check_lines(&rt, rt.alloc(), GROUPS, LINES_OF_GROUPS)?;
-    check_lines(&rt, rt.alloc(), NUMBERS, LINES_OF_NUMBERS)?;
-    check_lines(&rt, rt.alloc(), CODES, LINES_OF_CODES)?;
-    check_lines(&rt, rt.alloc(), FAULTS, LINES_OF_FAULTS)
+fn sentences_about_lines(rt: HostRuntime) {
+    check_lines(&rt, rt.alloc(), "version", VERSIONS);
+    check_lines(&rt, rt.alloc(), "groups", LINES_OF_GROUPS);
+    check_lines(&rt, rt.alloc(), "numbers", LINES_OF_NUMBERS);
+    check_lines(&rt, rt.alloc(), "codes", LINES_OF_CODES);
+    check_lines(&rt, rt.alloc(), "faults", LINES_OF_FAULTS);
 }
 
 /// A document of version 2 with as many items of each list.
-fn many(alloc: Global, groups: usize, lines: usize, faults: usize) -> Result<String, Fail> {
+fn many(alloc: Global, groups: usize, lines: usize, faults: usize) -> Result<String, AllocError> {
     let mut text = String::from_str(alloc, "version = 2\ncodes = []\ngroups = [")?;
     for group in 0..groups {
         write!(text, "'G{group} register 417',")?;
@@ -309,12 +298,11 @@ const LIMITS: &[((usize, usize, usize), &str)] = &[
 ];
 
 #[test]
-fn sentences_about_limits(rt: HostRuntime) -> Result<(), Fail> {
+fn sentences_about_limits(rt: HostRuntime) {
     for ((groups, lines, faults), wanted) in LIMITS {
-        let text = many(rt.alloc(), *groups, *lines, *faults)?;
-        check_eq!(rt; sentence(rt.alloc(), text.as_bytes())?.as_str(), *wanted);
+        let text = many(rt.alloc(), *groups, *lines, *faults).expect(&rt, "there is memory");
+        check_sentence(&rt, rt.alloc(), text.as_bytes(), wanted);
     }
-    Ok(())
 }
 
 const ALL_FAULTS: &[PlanFault] = &[
@@ -336,11 +324,10 @@ const ALL_FAULTS: &[PlanFault] = &[
 ];
 
 #[test]
-fn no_slip_is_told_where_its_fault_is_not(rt: HostRuntime) -> Result<(), Fail> {
-    let text = changed(rt.alloc(), EXAMPLE.len(), "")?;
+fn no_slip_is_told_where_its_fault_is_not(rt: HostRuntime) {
+    let text = changed(rt.alloc(), "version", "version = 1").expect(&rt, "there is memory");
     for fault in ALL_FAULTS {
-        let told = sentence_about(rt.alloc(), text.as_bytes(), *fault)?;
-        check_eq!(rt; told.as_str(), NO_SLIP, "{fault}");
+        let told = sentence_about(&rt, rt.alloc(), text.as_bytes(), *fault);
+        check_eq!(rt; told.as_str(), NO_SLIP, fault);
     }
-    Ok(())
 }

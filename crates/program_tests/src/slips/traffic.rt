@@ -1,7 +1,7 @@
 //! Traffic.
 
 use super::*;
-use crate::checks::check_eq;
+use test_checks::check_eq;
 use xbar_traffic::{MarkerFault, Mode, RowFault, Traffic, TrafficFault};
 
 /// Traffic that is refused by its rows alone, and what is told of it.
@@ -105,17 +105,16 @@ const OF_CALLS: Told = &[
     ),
 ];
 
-fn refusal_of(alloc: Global, mode: Mode, bytes: &[u8]) -> Result<TrafficFault, Fail> {
-    let traffic = Traffic::read(alloc, mode, bytes)?;
-    Ok(traffic.refusal().ok_or("a fault")?)
+fn refusal_of(rt: &impl Abort, alloc: Global, mode: Mode, bytes: &[u8]) -> TrafficFault {
+    let traffic = Traffic::read(alloc, mode, bytes).expect(rt, "there is memory for traffic");
+    traffic.refusal().expect(rt, "the traffic is refused")
 }
 
-fn check_told(rt: &impl Abort, alloc: Global, mode: Mode, rows: Told) -> Result<(), Fail> {
+fn check_told(rt: &impl Abort, alloc: Global, mode: Mode, rows: Told) {
     for (bytes, wanted) in rows {
-        let fault = refusal_of(alloc, mode, bytes)?;
-        check_slip(rt, alloc, mode, bytes, fault, wanted)?;
+        let fault = refusal_of(rt, alloc, mode, bytes);
+        check_slip(rt, alloc, mode, bytes, fault, wanted);
     }
-    Ok(())
 }
 
 /// The sentence about this fault of the traffic, or `NO_SLIP`.
@@ -126,16 +125,15 @@ fn check_slip(
     bytes: &[u8],
     fault: TrafficFault,
     wanted: &str,
-) -> Result<(), Fail> {
-    let told = told(alloc, traffic_slip(alloc, mode, bytes, fault)?)?;
-    check_eq!(rt; told.as_str(), wanted, "{fault:?}");
-    Ok(())
+) {
+    let slip = traffic_slip(alloc, mode, bytes, fault).expect(rt, "there is memory for a slip");
+    check_eq!(rt; told(rt, alloc, slip).as_str(), wanted, "{fault:?}");
 }
 
 #[test]
-fn sentences_about_rows(rt: HostRuntime) -> Result<(), Fail> {
-    check_told(&rt, rt.alloc(), Mode::Replay, OF_A_REPLAY)?;
-    check_told(&rt, rt.alloc(), Mode::Live, OF_CALLS)
+fn sentences_about_rows(rt: HostRuntime) {
+    check_told(&rt, rt.alloc(), Mode::Replay, OF_A_REPLAY);
+    check_told(&rt, rt.alloc(), Mode::Live, OF_CALLS);
 }
 
 /// Two jobs, which markers refuse.
@@ -161,15 +159,14 @@ const OF_MARKERS: &[(MarkerFault, u64, &str)] = &[
 ];
 
 #[test]
-fn sentences_about_markers(rt: HostRuntime) -> Result<(), Fail> {
+fn sentences_about_markers(rt: HostRuntime) {
     for (why, row, wanted) in OF_MARKERS {
         let fault = TrafficFault {
             row: *row,
             fault: RowFault::Marker(*why),
         };
-        check_slip(&rt, rt.alloc(), Mode::Replay, JOBS, fault, wanted)?;
+        check_slip(&rt, rt.alloc(), Mode::Replay, JOBS, fault, wanted);
     }
-    Ok(())
 }
 
 /// Traffic without a fault.
@@ -188,13 +185,12 @@ const NOT_FOUND: &[(u64, RowFault)] = &[
 ];
 
 #[test]
-fn no_slip_is_told_without_its_row_or_fault(rt: HostRuntime) -> Result<(), Fail> {
+fn no_slip_is_told_without_its_row_or_fault(rt: HostRuntime) {
     for (row, fault) in NOT_FOUND {
         let fault = TrafficFault {
             row: *row,
             fault: *fault,
         };
-        check_slip(&rt, rt.alloc(), Mode::Replay, RIGHT, fault, NO_SLIP)?;
+        check_slip(&rt, rt.alloc(), Mode::Replay, RIGHT, fault, NO_SLIP);
     }
-    Ok(())
 }

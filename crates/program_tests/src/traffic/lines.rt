@@ -1,7 +1,8 @@
 //! The codes of faults, and the lines of those that no row has by itself.
 
 use super::*;
-use crate::checks::check_eq;
+use std::fmt::Display;
+use test_checks::check_eq;
 
 /// Why a marker refuses a job, its code, and the line that is told of the job's row.
 const MARKER_FAULTS: &[(MarkerFault, &str, u64, &str)] = &[
@@ -15,17 +16,28 @@ const MARKER_FAULTS: &[(MarkerFault, &str, u64, &str)] = &[
     ),
 ];
 
+fn check_printed<T: Display>(rt: &impl Abort, alloc: Global, told: &T, wanted: &str) {
+    let text = told
+        .to_string(alloc)
+        .expect(rt, "there is memory for a text");
+    check_eq!(rt; text.as_str(), wanted);
+}
+
+fn check_line(rt: &impl Abort, alloc: Global, fault: &TrafficFault, wanted: &str) {
+    let text = fault.text(alloc).expect(rt, "there is memory for a text");
+    check_eq!(rt; text.as_str(), wanted);
+}
+
 #[test]
-fn marker_faults_are_told(rt: HostRuntime) -> Result<(), Fail> {
+fn marker_faults_are_told(rt: HostRuntime) {
     for (why, code, row, line) in MARKER_FAULTS {
         let fault = TrafficFault {
             row: *row,
             fault: RowFault::Marker(*why),
         };
-        check_eq!(rt; why.to_string(rt.alloc())?.as_str(), *code);
-        check_eq!(rt; fault.text(rt.alloc())?.as_str(), *line);
+        check_printed(&rt, rt.alloc(), why, code);
+        check_line(&rt, rt.alloc(), &fault, line);
     }
-    Ok(())
 }
 
 const ROW_FAULTS: &[(RowFault, &str)] = &[
@@ -38,9 +50,8 @@ const ROW_FAULTS: &[(RowFault, &str)] = &[
 ];
 
 #[test]
-fn faults_print_their_codes(rt: HostRuntime) -> Result<(), Fail> {
+fn faults_print_their_codes(rt: HostRuntime) {
     for (fault, code) in ROW_FAULTS {
-        check_eq!(rt; fault.to_string(rt.alloc())?.as_str(), *code);
+        check_printed(&rt, rt.alloc(), fault, code);
     }
-    Ok(())
 }

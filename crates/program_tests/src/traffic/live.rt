@@ -25,11 +25,10 @@ const CALLS: &[Rows] = &[
 ];
 
 #[test]
-fn calls_are_read(rt: HostRuntime) -> Result<(), Fail> {
+fn calls_are_read(rt: HostRuntime) {
     for (text, wanted) in CALLS {
-        check_rows(&rt, rt.alloc(), Mode::Live, text, wanted)?;
+        check_rows(&rt, rt.alloc(), Mode::Live, text, wanted);
     }
-    Ok(())
 }
 
 /// Rows before a fault are kept.
@@ -52,11 +51,10 @@ const CALLS_BEFORE_A_FAULT: &[Told] = &[
 ];
 
 #[test]
-fn calls_before_a_fault_are_kept(rt: HostRuntime) -> Result<(), Fail> {
+fn calls_before_a_fault_are_kept(rt: HostRuntime) {
     for (text, rows, wanted) in CALLS_BEFORE_A_FAULT {
-        check_told(&rt, rt.alloc(), Mode::Live, text, *rows, wanted)?;
+        check_told(&rt, rt.alloc(), Mode::Live, text, *rows, wanted);
     }
-    Ok(())
 }
 
 const REFUSED: &[Refused] = &[
@@ -111,6 +109,6 @@ const REFUSED: &[Refused] = &[
 ];
 
 #[test]
-fn other_rows_are_refused(rt: HostRuntime) -> Result<(), Fail> {
-    check_refused(&rt, rt.alloc(), Mode::Live, REFUSED)
+fn other_rows_are_refused(rt: HostRuntime) {
+    check_refused(&rt, rt.alloc(), Mode::Live, REFUSED);
 }

@@ -16,11 +16,10 @@ const ROWS: &[Rows] = &[
 ];
 
 #[test]
-fn rows_are_read(rt: HostRuntime) -> Result<(), Fail> {
+fn rows_are_read(rt: HostRuntime) {
     for (text, wanted) in ROWS {
-        check_rows(&rt, rt.alloc(), Mode::Replay, text, wanted)?;
+        check_rows(&rt, rt.alloc(), Mode::Replay, text, wanted);
     }
-    Ok(())
 }
 
 /// Rows before a fault are kept.
@@ -37,11 +36,10 @@ const ROWS_BEFORE_A_FAULT: &[Told] = &[
 ];
 
 #[test]
-fn rows_before_a_fault_are_kept(rt: HostRuntime) -> Result<(), Fail> {
+fn rows_before_a_fault_are_kept(rt: HostRuntime) {
     for (text, rows, wanted) in ROWS_BEFORE_A_FAULT {
-        check_told(&rt, rt.alloc(), Mode::Replay, text, *rows, wanted)?;
+        check_told(&rt, rt.alloc(), Mode::Replay, text, *rows, wanted);
     }
-    Ok(())
 }
 
 const REFUSED: &[Refused] = &[
@@ -90,8 +88,8 @@ const REFUSED: &[Refused] = &[
 ];
 
 #[test]
-fn other_rows_are_refused(rt: HostRuntime) -> Result<(), Fail> {
-    check_refused(&rt, rt.alloc(), Mode::Replay, REFUSED)
+fn other_rows_are_refused(rt: HostRuntime) {
+    check_refused(&rt, rt.alloc(), Mode::Replay, REFUSED);
 }
 
 const WHOLE: &[u8] = b"J,0,1,D,3041\nS,0,96,,\n";
@@ -112,16 +110,15 @@ const CUTS: &[(usize, usize, &str)] = &[
 ];
 
 #[test]
-fn cut_traffic_is_told(rt: HostRuntime) -> Result<(), Fail> {
+fn cut_traffic_is_told(rt: HostRuntime) {
     for (len, rows, wanted) in CUTS {
-        let cut = WHOLE.get(..*len).ok_or("the cut is in the text")?;
-        check_told(&rt, rt.alloc(), Mode::Replay, cut, *rows, wanted)?;
+        let cut = WHOLE.get(..*len).expect(&rt, "the cut is in the text");
+        check_told(&rt, rt.alloc(), Mode::Replay, cut, *rows, wanted);
     }
-    Ok(())
 }
 
 /// Every job number there is, and some rows of steps behind them.
-fn many_rows(alloc: Global) -> Result<String, Fail> {
+fn many_rows(alloc: Global) -> Result<String, AllocError> {
     let mut text = String::new(alloc);
     for job_no in 0..10_000 {
         write!(text, "J,0,{job_no},D,3041\n")?;
@@ -132,12 +129,12 @@ fn many_rows(alloc: Global) -> Result<String, Fail> {
 }
 
 #[test]
-fn many_rows_are_read(rt: HostRuntime) -> Result<(), Fail> {
+fn many_rows_are_read(rt: HostRuntime) {
     let alloc = rt.alloc();
-    let mut text = many_rows(alloc)?;
-    check_told(&rt, alloc, Mode::Replay, text.as_bytes(), 10_500, "none")?;
-    text.push_str("J,0,0,D,3041\n")?;
+    let mut text = many_rows(alloc).expect(&rt, "there is memory for many rows");
+    check_told(&rt, alloc, Mode::Replay, text.as_bytes(), 10_500, "none");
+    text.push_str("J,0,0,D,3041\n")
+        .expect(&rt, "there is memory for a row more");
     let told = "FAULT,T4,10501\n";
-    check_told(&rt, alloc, Mode::Replay, text.as_bytes(), 10_500, told)?;
-    Ok(())
+    check_told(&rt, alloc, Mode::Replay, text.as_bytes(), 10_500, told);
 }
