@@ -1,13 +1,14 @@
 //! Parts of the drawing of an office, worked out by hand.
 
 use super::plans::plan;
-use super::texts::reply_to;
-use crate::fixtures::{example, near_path};
+use super::texts::job;
+use crate::fixtures::example;
 use std::alloc::Global;
 use std::process::Abort;
+use std::test::Fail;
 use test_checks::check;
 use xbar_equip::Path;
-use xbar_office::{Job, Office, Record};
+use xbar_office::{Office, Record};
 use xbar_office_drawing::{laws, office_drawing};
 use xbar_plan::Plan;
 
@@ -22,10 +23,10 @@ fn drawn(
 }
 
 /// The drawing of the office under this plan after a dial tone job of line 3041.
-fn after_dial_tone(rt: &impl Abort, alloc: Global, plan: &Plan) -> String {
+fn after_dial_tone(alloc: Global, plan: &Plan) -> Result<String, Fail> {
     let mut office = Office::open(alloc, plan);
-    let job = Job::Dial(near_path().line);
-    let reply = reply_to(rt, &mut office, job);
+    let job = job(b'D', b"3041", b"")?;
+    let reply = office.whole(job)?;
     let records = [Record {
         turn: 0,
         marker: 0,
@@ -33,7 +34,7 @@ fn after_dial_tone(rt: &impl Abort, alloc: Global, plan: &Plan) -> String {
         job,
         reply,
     }];
-    drawn(rt, alloc, plan, office.paths(), &records)
+    Ok(office_drawing(alloc, plan, office.paths(), &records)?)
 }
 
 /// With junctor JU340 faulty the path is by channel 5, and there is a card. The path's part begins 1,360
@@ -68,9 +69,10 @@ fn check_parts(rt: &impl Abort, drawing: &str, parts: &[&str]) {
 }
 
 #[test]
-fn a_path_in_the_second_trial(rt: HostRuntime) {
+fn a_path_in_the_second_trial(rt: HostRuntime) -> Result<(), Fail> {
     let plan = plan(&rt, rt.alloc(), "417 418 509", "3052", "\"JU340\"");
-    check_parts(&rt, &after_dial_tone(&rt, rt.alloc(), &plan), SECOND_TRIAL);
+    check_parts(&rt, &after_dial_tone(rt.alloc(), &plan)?, SECOND_TRIAL);
+    Ok(())
 }
 
 /// Parts of the drawing of an office with no path.

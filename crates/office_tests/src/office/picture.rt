@@ -1,11 +1,12 @@
 //! The text of an office for a terminal, drawn by hand.
 
 use super::plans::plan;
-use super::texts::{job, reply_to};
+use super::texts::job;
 use crate::fixtures::{path_of, read_plan};
 use std::alloc::{AllocError, Global};
 use std::process::Abort;
-use test_checks::{check, check_eq};
+use std::test::Fail;
+use test_checks::check_eq;
 use xbar_equip::{Len, Link, LinkKind, Path};
 use xbar_office::{Card, Cards, End, Job, Office, Record, Reply};
 use xbar_office_text::{laws, office_text};
@@ -14,38 +15,22 @@ use xbar_plan::Plan;
 /// A job's number, kind, line and digits.
 type Asked<'a> = (u32, u8, &'a [u8], &'a [u8]);
 
-/// The record of a job that marker 0 does at this turn.
-fn record_of(rt: &impl Abort, office: &mut Office<'_>, turn: usize, asked: &Asked<'_>) -> Record {
-    let (job_no, kind, line, digits) = *asked;
-    let job = job(kind, line, digits).expect(rt, "these are a job's texts");
-    Record {
-        turn: turn as u64,
-        marker: 0,
-        job_no,
-        job,
-        reply: reply_to(rt, office, job),
-    }
-}
-
-fn records_of(
-    rt: &impl Abort,
-    alloc: Global,
-    office: &mut Office<'_>,
-    jobs: &[Asked<'_>],
-) -> Vec<Record> {
-    let mut records = Vec::new(alloc);
-    for (turn, asked) in jobs.iter().enumerate() {
-        let record = record_of(rt, office, turn, asked);
-        check!(rt; records.push(record).is_ok(), "there is memory for records");
-    }
-    records
-}
-
-/// The text of the office under this plan after these jobs.
-fn text_after(rt: &impl Abort, alloc: Global, plan: &Plan, jobs: &[Asked<'_>]) -> String {
+/// The text of the office under this plan after these jobs, which marker 0 does.
+fn text_after(alloc: Global, plan: &Plan, jobs: &[Asked<'_>]) -> Result<String, Fail> {
     let mut office = Office::open(alloc, plan);
-    let records = records_of(rt, alloc, &mut office, jobs);
-    text_of(rt, alloc, plan, office.paths(), &records)
+    let mut records = Vec::new(alloc);
+    for (turn, (job_no, kind, line, digits)) in jobs.iter().enumerate() {
+        let job = job(*kind, line, digits)?;
+        let reply = office.whole(job)?;
+        records.push(Record {
+            turn: turn as u64,
+            marker: 0,
+            job_no: *job_no,
+            job,
+            reply,
+        })?;
+    }
+    Ok(office_text(alloc, plan, office.paths(), &records)?)
 }
 
 fn text_of(
@@ -222,17 +207,19 @@ const PICTURES: &[Picture] = &[
     },
 ];
 
-fn check_picture(rt: &impl Abort, alloc: Global, picture: &Picture) {
+fn check_picture(rt: &impl Abort, alloc: Global, picture: &Picture) -> Result<(), Fail> {
     let plan = plan(rt, alloc, "417 418 509", "3052", picture.faults);
-    let text = text_after(rt, alloc, &plan, picture.jobs);
+    let text = text_after(alloc, &plan, picture.jobs)?;
     check_eq!(rt; text.as_str(), picture.text, picture.name);
+    Ok(())
 }
 
 #[test]
-fn offices_are_drawn(rt: HostRuntime) {
+fn offices_are_drawn(rt: HostRuntime) -> Result<(), Fail> {
     for picture in PICTURES {
-        check_picture(&rt, rt.alloc(), picture);
+        check_picture(&rt, rt.alloc(), picture)?;
     }
+    Ok(())
 }
 
 /// The text of a plan with the longest name and the highest number of a member: pair 39, at 278 and 279.
