@@ -1,4 +1,4 @@
-use Rattle.std.proofs.Common.{ap, subst, sym}
+use Rattle.std.proofs.Common.{ap}
 use Rattle.attempts.specs.Standing.{Program}
 use Rattle.attempts.proofs.Beginning.{begun}
 use Rattle.attempts.proofs.Onward.{stands_begun}
@@ -15,4 +15,3 @@ returns-clause-count g c = ap (λ (p : Program _ _ _ _). p.count) c.renew.ensure
 
 pub returns-clause-stands : goal.returns-clause-stands
 returns-clause-stands g c = λ setting right is_job. stands_begun g.S.Lock.PartialEq.eq g.S.Scripts.reply_of g.S.Scripts.effects_of (g.S.Scripts.system setting) (g.S.Scripts.Knows setting) _ _ right c.args.job c.first-lock.result c.start-point.result _ is_job (c.first-lock.ensures setting) (c.start-point.ensures setting) c.renew.ensures
-
