@@ -1,6 +1,6 @@
 //! What those workers do who take calls at the beginning.
 
-ghost use Rattle.std.specs.Prelude.{◌≡◌, ◌+◌, ◌*◌, OnOk, Ok, None, false};
+ghost use Rattle.std.specs.Prelude.{◌≡◌, ◌+◌, ◌*◌, OnOk, Ok, false};
 ghost use Rattle.fair_queue.specs.Items.{SameItems};
 ghost use Rattle.fair_queue.specs.Tickets.{IsWhole};
 ghost use Rattle.xbar_office.specs.declared.job.Job.TheVariants as job;
