@@ -5,7 +5,8 @@
 //!     rustc --edition 2021 -O -o /tmp/plain_steps examples/plain_steps.rs
 //!     /tmp/plain_steps lone CALLS            one marker, one call after another
 //!     /tmp/plain_steps live CALLS MARKERS    so many threads that dial and as many that complete calls,
-//!                                            with three calls under way at once at most
+//!                                            with three calls under way at once at most; timed
+//!                                            from their queueing to their records in turn order
 //!     /tmp/plain_steps replay < ROWS         what `crossbar5 replay` writes for jobs that are done whole, one
 //!                                            after another, on words that no threads share
 //!
