@@ -1,14 +1,17 @@
-use Rattle.std.proofs.Common.{◌≡◌, ◌≢◌, ℕ, suc, ◌+◌, ◌≤◌, true, List, [], ◌∷◌, length, sym, refl, ap, subst, arith, ◌∙◌}
+use Rattle.std.proofs.Common.{◌≡◌, ◌≢◌, ℕ, zero, suc, ◌+◌, ◌≤◌, true, false, List, [], ◌∷◌, length, sym, refl, ap, subst, arith, ◌∙◌}
+use Rattle.std.specs.Prelude.{IfNone, IfSome, None, Option, Some}
 use Rattle.turns.specs.System.{System}
-use Rattle.turns.specs.Attempt.{AttemptOf, Rest, act_in, answer_to, begin, changed, forgotten, free_act, freed, next, rest_of, restarted, restarted_in}
+use Rattle.turns.specs.Attempt.{AttemptOf, Rest, act, act_in, answer_to, begin, changed, forgotten, free_act, freed, next, rest_of, restarted, restarted_in}
 use Rattle.turns.specs.declared.answer.Answer.TheVariants.{Done}
 use Rattle.turns.specs.declared.phase.Phase.{Phase}
 use Rattle.turns.specs.declared.phase.Phase.TheVariants.{Requests, Seizes, Tests, Turns, Withdraws, GivesBack, Operates}
-use Rattle.turns.specs.World.{ActorOf, Does, RecordOf}
+use Rattle.turns.specs.Runs.{is_free}
+use Rattle.turns.specs.World.{ActorOf, Does, Idle, RecordOf}
 use Rattle.turns.specs.declared.answer.Answer.{Answer}
-use Rattle.desks.specs.Desks.{FreesAll, HasFreed, HasMade, HasStepped, HasToFree}
+use Rattle.desks.specs.Desks.{HasGivenBack, HasMade, HasStepped, HasToFree, anew, gives_back}
 use Rattle.desks.specs.Kept.{number_found}
 use Rattle.desks.specs.Outcomes.{ComesBackTo, back_left, begun_anew, is_given_up}
+use Rattle.desks.proofs.Ending.{rest_is}
 
 module _ (O : System) where
   open O use {Lock, Effect}
@@ -103,27 +106,72 @@ module _ (O : System) where
   pub is_restarted : (a : AttemptOf O) → (a.phase ≡ GivesBack → ¬ (a.held ≡ [])) → IsRestarted a (restarted O a) (begun_anew O a.phase a)
   is_restarted a some = restarted_at a a.phase refl some
 
-  same_attempt : (number other : ℕ) (a b : AttemptOf O) (m : ActorOf O) → m ≡ Does number a → m ≡ Does other b → a ≡ b
-  same_attempt number other a b m one two = cc
+  -- how many steps are left of an actor's giving back
+  abbrev pub left_of : ActorOf O → ℕ
+  left_of Idle = 0
+  left_of (Does number a) = back_left a.phase a.held
 
-  -- the same of a step that was made
-  pub goes_back_stepped : (k number : ℕ) (a b : AttemptOf O) (seen seen_after : List (RecordOf O)) (answer : Answer) → HasStepped O k (Does number a) (Does number b) seen seen_after answer → is_given_up a.phase ≡ true → HasToFree O (Does number a) → GoesBack a.phase a b
-  goes_back_stepped k number a b seen seen_after answer stepped up some =
-      let same : a ≡ stepped.attempt = same_attempt number stepped.number a stepped.attempt (Does number a) refl stepped.before_is in
+  -- an actor that gives back is on its way to this attempt at its job
+  abbrev pub IsComingTo : ℕ → AttemptOf O → ActorOf O → Type 0
+  IsComingTo number end Idle = ⊥
+  IsComingTo number end (Does other a) = (other ≡ number) × ComesBackTo O end a.phase a
+
+  -- a step of giving back, by what the actor is after it
+  pub record StepsBack (m after : ActorOf O) : Type 0 where
+    pub fewer : suc (left_of after) ≤ left_of m
+    pub back : (number : ℕ) (end : AttemptOf O) → IsComingTo number end m → IsComingTo number end after
+
+  same_attempt : (number other : ℕ) (a b : AttemptOf O) → ◌≡◌ {A = ActorOf O} (Does number a) (Does other b) → (number ≡ other) × (a ≡ b)
+  same_attempt number other a b is = (cc, cc)
+
+  pub steps_back : (k : ℕ) (m after : ActorOf O) (seen seen_after : List (RecordOf O)) (answer : Answer) → gives_back m ≡ true → HasToFree O m → HasStepped O k m after seen seen_after answer → StepsBack m after
+  steps_back k Idle after seen seen_after answer gives some stepped = absurd cc
+  steps_back k (Does number a) after seen seen_after answer gives some stepped =
+      let same = same_attempt number stepped.number a stepped.attempt stepped.before_is in
       let found = number_found O stepped.world stepped.attempt in
-      goes_back k found a b up some (same_attempt number stepped.number b _ (Does number b) refl stepped.after_is ∙ ap (λ (x : AttemptOf O). next O k x found) (sym same))
+      let b : AttemptOf O = next O k stepped.attempt found in
+      let goes : GoesBack a.phase a b = goes_back k found a b gives some (ap (λ (x : AttemptOf O). next O k x found) (sym same.1)) in
+      subst (StepsBack (Does number a)) (sym stepped.after_is) (record {
+        fewer = goes.fewer;
+        back = λ its end coming. (sym same.0 ∙ coming.0, goes.back end coming.1);
+      })
+
+  is_busy : (m : ActorOf O) → gives_back m ≡ true → HasToFree O m → is_free O m ≡ true → ⊥
+  is_busy Idle gives some free = cc
+  is_busy (Does number a) gives some free = goes_on_in a a.phase gives some (rest_is O (act a) free)
+
+  -- an actor that gives back makes its next step
+  pub step_made : (Same : Type 0) (k : ℕ) (m after : ActorOf O) (seen seen_after : List (RecordOf O)) (result : Option Answer) → gives_back m ≡ true → HasToFree O m → IfNone result ((is_free O m ≡ true) × Same) → IfSome result (HasStepped O k m after seen seen_after) → (answer : Answer) × HasStepped O k m after seen seen_after answer
+  step_made Same k m after seen seen_after None gives some none stepped = absurd (is_busy m gives some none.0)
+  step_made Same k m after seen seen_after (Some answer) gives some none stepped = (answer, stepped)
 
   -- one more step of those that were made
-  pub made_more : (k number count most : ℕ) (first a b : AttemptOf O) (seen between seen_after : List (RecordOf O)) (answer : Answer) → count + back_left a.phase a.held ≤ most → HasMade O k count (Does number first) (Does number a) seen between → HasStepped O k (Does number a) (Does number b) between seen_after answer → GoesBack a.phase a b
-      → (more : ℕ) × (more + back_left b.phase b.held ≤ most) × HasMade O k more (Does number first) (Does number b) seen seen_after
-  made_more k number count most first a b seen between seen_after answer few made stepped goes =
-      let fewer = goes.fewer in
-      (suc count, omega (arith, few, fewer), (Does number a, between, answer, made, stepped))
+  pub made_more : (k count most : ℕ) (first m after : ActorOf O) (seen between seen_after : List (RecordOf O)) (answer : Answer) → count + left_of m ≤ most → HasMade O k count first m seen between → HasStepped O k m after between seen_after answer → StepsBack m after
+      → (more : ℕ) × (more + left_of after ≤ most) × HasMade O k more first after seen seen_after
+  made_more k count most first m after seen between seen_after answer few made stepped steps =
+      let fewer = steps.fewer in
+      (suc count, omega (arith, few, fewer), (m, between, answer, made, stepped))
 
-  -- what was freed after a restart was given back
-  pub has_freed : (k number : ℕ) (a after : AttemptOf O) (seen seen_after : List (RecordOf O)) → HasToFree O (Does number a) → FreesAll O k number (restarted O a) after seen seen_after → HasFreed O k number a (Does number after) seen seen_after
-  has_freed k number a after seen seen_after some freed =
+  arrived : (number : ℕ) (end : AttemptOf O) (after : ActorOf O) → gives_back after ≡ false → IsComingTo number end after → after ≡ Does number end
+  arrived number end Idle gives coming = absurd coming
+  arrived number end (Does other b) gives coming =
+      let same : b ≡ end = has_come_back end b b.phase (λ up. absurd cc) coming.1 in
+      λ i. Does (coming.0 i) (same i)
+
+  none_made : (k count : ℕ) (after : ActorOf O) (seen seen_after : List (RecordOf O)) → count + left_of after ≤ 0 → HasMade O k count Idle after seen seen_after → (after ≡ Idle) × (seen_after ≡ seen)
+  none_made k zero after seen seen_after few made = made
+  none_made k (suc count) after seen seen_after few made = absurd (omega (arith, few))
+
+  -- what is made after a restart, to its end, is a giving back
+  pub given_back : (k count : ℕ) (m after : ActorOf O) (seen seen_after : List (RecordOf O)) → HasToFree O m → count + left_of after ≤ left_of (anew O m) → HasMade O k count (anew O m) after seen seen_after
+      → ((number : ℕ) (end : AttemptOf O) → IsComingTo number end (anew O m) → IsComingTo number end after) → gives_back after ≡ false → HasGivenBack O k m after seen seen_after
+  given_back k count Idle after seen seen_after some few made back none = none_made k count after seen seen_after few made
+  given_back k count (Does number a) after seen seen_after some few made back none =
       let again = is_restarted a some in
-      let few = again.few in
-      let fewer = freed.few in
-      record { count = freed.count; few = omega (arith, few, fewer); made = freed.made; after_is = ap (λ (b : AttemptOf O). Does number b) (freed.back (begun_anew O a.phase a) again.comes) }
+      let fewer = again.few in
+      record {
+        count = count;
+        few = omega (arith, few, fewer);
+        made = made;
+        after_is = arrived number (begun_anew O a.phase a) after none (back number (begun_anew O a.phase a) (refl, again.comes));
+      }

@@ -1,20 +1,21 @@
-ghost use Rattle.std.specs.Prelude.{◌≡◌, ℕ, IfSome, MatchOption};
+ghost use Rattle.std.specs.Prelude.{◌≡◌, ℕ, IfNone, IfSome, MatchOption, true};
 ghost use Rattle.turns.specs.Attempt.{begin as begin_of};
 ghost use Rattle.turns.specs.Law.{IsLegal};
 ghost use Rattle.turns.specs.Runs.{is_free};
 ghost use Rattle.turns.specs.System.{system_of};
 ghost use Rattle.turns.specs.World.{Idle, Does};
-ghost use Rattle.desks.specs.Desks.{HasAdvanced, HasGivenBack, actor_of, assigned_if};
+ghost use Rattle.desks.specs.Desks.{EndsIn, HasAdvanced, HasGivenBack, HasStepped, HasToFree, actor_of};
+ghost use Rattle.desks.specs.Desks.{anew, assigned_if, gives_back, told_of};
 ghost use Rattle.desks.specs.Views.{IsDeskOf};
 
 use crate::jobs::Jobs;
-use crate::progress::Progress;
+use crate::progress::{Progress, Told};
 use crate::room::Room;
 use crate::rule::Systems;
-use crate::steps::{Knows, free_all, step, tell};
+use crate::steps::{Knows, step};
 use atomic_table::Seat;
 use std::marker::Model;
-use turns::laws;
+use turns::{Answer, laws};
 
 /// One actor, which a thread owns. It is `Send` where its program is, and what it keeps of its
 /// setting.
@@ -126,24 +127,29 @@ impl<F: Jobs> Desk<F> {
         true
     }
 
-    /// Makes the next step of its job, one atomic operation, and tells what came of it.
+    /// Makes the next step of its job, one atomic operation, and gives its answer; none where it has
+    /// no job to go on with.
     #[inline(always)]
-    pub fn advance(&mut self, room: &Room<F>, setting: &F::Setting) -> Progress<F::Job, F::Reply>
+    pub fn step(&mut self, room: &Room<F>, setting: &F::Setting) -> Option<Answer>
         requires { IsDeskOf self.old room.now setting.now }
         ensures same { self.new
             ≡ record (self.old) { actor = self.new.actor; seen = self.new.seen } }
-        ensures advanced { HasAdvanced (system_of (F.system setting.now)) self.old.number
-            self.old.actor self.new.actor self.old.seen self.new.seen result }
+        ensures none { IfNone result
+            ((is_free (system_of (F.system setting.now)) self.old.actor ≡ true)
+            × (self.new ≡ self.old)) }
+        ensures stepped { IfSome result (HasStepped (system_of (F.system setting.now))
+            self.old.number self.old.actor self.new.actor self.old.seen self.new.seen) }
+        ensures ended { IfSome result (λ answer. EndsIn (system_of (F.system setting.now))
+            self.new.seen self.new.number self.new.actor) }
     {
         let Some((number, program, foresight)) = &mut self.doing else {
-            return Progress::Idle;
+            return None;
         };
         if F::rests(program) {
-            return Progress::Idle;
+            return None;
         }
-        let shared = &room.table.shared;
-        let answer = step::<F>(
-            shared,
+        Some(step::<F>(
+            &room.table.shared,
             setting,
             &mut self.seat,
             self.number,
@@ -151,8 +157,75 @@ impl<F: Jobs> Desk<F> {
             program,
             foresight,
             self.glimpses.as_mut_slice(),
-        );
-        tell::<F>(setting, &self.seat, answer, self.number, *number, program)
+        ))
+    }
+
+    /// The record of its job, once that is past its turn. Not inlined, so that a step that ends no job
+    /// carries no record.
+    #[inline(never)]
+    pub fn record(&self) -> Option<Told<F::Job, F::Reply>>
+        ensures { result
+            ≡ told_of (system_of (F.system self.now.setting)) self.now.number self.now.actor }
+    {
+        let (number, program, _) = self.doing.as_ref()?;
+        let (turn, job, reply) = F::outcome(program)?;
+        Some(Told {
+            turn,
+            actor: self.number,
+            number: *number,
+            job,
+            reply,
+        })
+    }
+
+    /// Makes the next step of its job, as `step` does, and tells what came of it.
+    #[inline]
+    pub fn advance(&mut self, room: &Room<F>, setting: &F::Setting) -> Progress<F::Job, F::Reply>
+        requires { IsDeskOf self.old room.now setting.now }
+        ensures same { self.new
+            ≡ record (self.old) { actor = self.new.actor; seen = self.new.seen } }
+        ensures advanced { HasAdvanced (system_of (F.system setting.now)) self.old.number
+            self.old.actor self.new.actor self.old.seen self.new.seen result }
+    {
+        let Some(answer) = self.step(room, setting) else {
+            return Progress::Idle;
+        };
+        if !self.is_idle() {
+            return Progress::Moved(answer);
+        }
+        // Called for its clause that what it has seen is legal.
+        let _number = self.number();
+        let Some(told) = self.record() else {
+            unreachable!()
+        };
+        Progress::Finished(told)
+    }
+
+    /// Has its job begin anew, once all that it holds is given back. Past its turn it changes nothing.
+    fn restart(&mut self, setting: &F::Setting)
+        requires { self.old.setting ≡ setting.now }
+        ensures anew { self.new
+            ≡ record (self.old) {
+              actor = anew (system_of (F.system setting.now)) self.old.actor;
+            } }
+        ensures to_free { HasToFree (system_of (F.system setting.now)) self.old.actor }
+    {
+        laws::every_move_keeps_the_law::<Systems<F>>();
+        let Some((_number, program, foresight)) = &mut self.doing else {
+            return;
+        };
+        F::restart(setting, program, foresight);
+    }
+
+    /// Whether it has a request to withdraw or locks to free before its job begins anew.
+    fn is_giving_back(&self) -> bool
+        ensures gives_back { result ≡ gives_back self.now.actor }
+        ensures to_free { HasToFree (system_of (F.system self.now.setting)) self.now.actor }
+    {
+        match &self.doing {
+            Some((_, program, _)) => F::is_given_up(program),
+            None => false,
+        }
     }
 
     /// Withdraws its request and frees what it holds, each by one atomic operation, and begins its
@@ -164,21 +237,9 @@ impl<F: Jobs> Desk<F> {
         ensures given_back { HasGivenBack (system_of (F.system setting.now)) self.old.number
             self.old.actor self.new.actor self.old.seen self.new.seen }
     {
-        laws::every_move_keeps_the_law::<Systems<F>>();
-        let Some((number, program, foresight)) = &mut self.doing else {
-            return;
-        };
-        F::restart(setting, program, foresight);
-        let shared = &room.table.shared;
-        free_all::<F>(
-            shared,
-            setting,
-            &mut self.seat,
-            self.number,
-            *number,
-            program,
-            foresight,
-            self.glimpses.as_mut_slice(),
-        );
+        self.restart(setting);
+        while self.is_giving_back() {
+            self.step(room, setting);
+        }
     }
 }

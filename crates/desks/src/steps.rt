@@ -2,16 +2,14 @@ ghost use Rattle.std.specs.Prelude.{◌≡◌, ◌≢◌, ◌<◌, ◌≤◌, �
 ghost use Rattle.atomic_table.specs.Table.{Allows};
 ghost use Rattle.turns.specs.Attempt.{Rest, act};
 ghost use Rattle.turns.specs.World.{Does, becomes, place as place_of};
-ghost use Rattle.turns.specs.Law.{IsLegal};
-ghost use Rattle.desks.specs.Desks.{FreesAll, HasStepped, IsProgress, IsSeated, IsTold, seen_in, told_record};
+ghost use Rattle.desks.specs.Desks.{HasStepped, IsSeated, seen_in};
 ghost use Rattle.desks.specs.Kept.{HasEnded};
 ghost use Rattle.turns.specs.Operations.{applied};
 ghost use Rattle.desks.specs.Rule.{Rule};
 ghost use Rattle.turns.specs.System.{system_of};
 
 use crate::jobs::Jobs;
-use crate::progress::{Progress, Told};
-use crate::rule::{Key, Rules, Systems, Telling, Told as ToldBy};
+use crate::rule::{Key, Rules, Systems, Telling, Told};
 use crate::view::View;
 use atomic_table::{Seat, Shared};
 use std::marker::Brand;
@@ -28,7 +26,7 @@ pub type Knows<F> = View<
 pub type Words<F> = Shared<(), Knows<F>, Key<<F as Jobs>::Setting>, Rules<F>>;
 
 #[inline(always)]
-fn operate<F: Jobs, T: ToldBy<Knows<F>>>(
+fn operate<F: Jobs, T: Told<Knows<F>>>(
     shared: &Words<F>,
     seat: &mut Seat<(), Knows<F>>,
     place: usize,
@@ -58,7 +56,7 @@ fn operate<F: Jobs, T: ToldBy<Knows<F>>>(
 /// Makes the atomic operation of a program's next step, and gives the number found. The job's
 /// number is for the proof.
 #[inline(always)]
-fn make<F: Jobs, T: ToldBy<Knows<F>>>(
+fn make<F: Jobs, T: Told<Knows<F>>>(
     shared: &Words<F>,
     setting: &F::Setting,
     seat: &mut Seat<(), Knows<F>>,
@@ -135,94 +133,4 @@ pub(crate) fn step<F: Jobs>(
     let found = make::<F, Brand>(shared, setting, seat, actor, number, program);
     glimpse::<F>(shared, F::in_sight(setting, program, found), glimpses);
     F::take(setting, actor, program, foresight, found, glimpses)
-}
-
-/// Steps on while what was held is given back: its request is withdrawn, and its locks are freed.
-pub(crate) fn free_all<F: Jobs>(
-    shared: &Words<F>,
-    setting: &F::Setting,
-    seat: &mut Seat<(), Knows<F>>,
-    actor: u32,
-    number: u64,
-    program: &mut F::Program,
-    foresight: &mut F::Foresight,
-    glimpses: &mut [u64],
-)
-    requires table { seat.old.table_id ≡ shared.now.table_id }
-    requires words { shared.now.table_id.words ≡ (F.system setting.now).size }
-    requires key { shared.now.key.setting.value ≡ setting.now }
-    requires setting { F.IsSetting setting.now }
-    requires stands { F.Stands setting.now program.old }
-    requires foresees { F.Foresees setting.now program.old foresight.old }
-    requires seated { IsSeated (system_of (F.system setting.now)) actor seat.old.me
-        (Does number (F.attempt program.old)) }
-    ensures same { seat.new.table_id ≡ seat.old.table_id }
-    ensures stands { F.Stands setting.now program.new }
-    ensures foresees { F.Foresees setting.now program.new foresight.new }
-    ensures freed { FreesAll (system_of (F.system setting.now)) actor number
-        (F.attempt program.old) (F.attempt program.new) (seen_in seat.old.me.0)
-        (seen_in seat.new.me.0) }
-    ensures seated { IsSeated (system_of (F.system setting.now)) actor seat.new.me
-        (Does number (F.attempt program.new)) }
-{
-    while F::is_given_up(program) {
-        step::<F>(
-            shared, setting, seat, actor, number, program, foresight, glimpses,
-        );
-    }
-}
-
-/// The record of a job that has ended. Not inlined, so that a step that ends none carries no record.
-#[inline(never)]
-fn record_of<F: Jobs>(
-    _setting: &F::Setting,
-    seat: &Seat<(), Knows<F>>,
-    actor: u32,
-    number: u64,
-    program: &F::Program,
-) -> Told<F::Job, F::Reply>
-    requires legal { let O = system_of (F.system _setting.now) in
-        IsLegal O 0 O.opening (seen_in seat.now.me.0) }
-    requires rests { act (F.attempt program.now) ≡ Rest }
-    requires ended { act (F.attempt program.now) ≡ Rest
-        → HasEnded (system_of (F.system _setting.now)) (seen_in seat.now.me.0) actor number
-        (F.attempt program.now) }
-    ensures { IsTold (system_of (F.system _setting.now)) actor
-        (Does number (F.attempt program.now)) (seen_in seat.now.me.0) (told_record result) }
-{
-    let Some((turn, job, reply)) = F::outcome(program) else {
-        unreachable!()
-    };
-    Told {
-        turn,
-        actor,
-        number,
-        job,
-        reply,
-    }
-}
-
-/// What a step has come to: where it was the last of its job, the job's record.
-#[inline(always)]
-pub(crate) fn tell<F: Jobs>(
-    setting: &F::Setting,
-    seat: &Seat<(), Knows<F>>,
-    answer: Answer,
-    actor: u32,
-    number: u64,
-    program: &F::Program,
-) -> Progress<F::Job, F::Reply>
-    requires legal { let O = system_of (F.system setting.now) in
-        IsLegal O 0 O.opening (seen_in seat.now.me.0) }
-    requires ended { act (F.attempt program.now) ≡ Rest
-        → HasEnded (system_of (F.system setting.now)) (seen_in seat.now.me.0) actor number
-        (F.attempt program.now) }
-    ensures { IsProgress (system_of (F.system setting.now)) actor
-        (Does number (F.attempt program.now)) (seen_in seat.now.me.0) answer result }
-{
-    if F::rests(program) {
-        Progress::Finished(record_of::<F>(setting, seat, actor, number, program))
-    } else {
-        Progress::Moved(answer)
-    }
 }
