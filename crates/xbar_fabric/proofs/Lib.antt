@@ -3,6 +3,7 @@ pub mod Sent
 pub mod Steps
 pub mod Finishing
 pub mod ToldSteps
+pub mod GoneOn
 pub mod GivenBack
 pub mod NewDesks
 pub mod Meets

@@ -21,6 +21,7 @@ use Rattle.xbar_jobs.proofs.StepActs.{act_answer, act_word}
 use Rattle.xbar_core.specs.AtWork.{told_of}
 use Rattle.xbar_core.specs.Exchange.{Exchange, IsLawfulExchange, Work, world}
 use Rattle.xbar_core.specs.Holding.{IsAt}
+use Rattle.xbar_core.specs.Moves as moves
 use Rattle.xbar_core.specs.Moves.{after_step, event_at_step, event_by, event_of}
 use Rattle.xbar_core.specs.declared.event.Event.{Event}
 use Rattle.xbar_core.specs.declared.event.Event.TheVariants as event
@@ -29,8 +30,8 @@ use Rattle.xbar_core.proofs.Markers.{marker_set}
 use Rattle.xbar_core.proofs.StepCases.{step_made}
 use Rattle.xbar_core.proofs.Stepping.{event_there}
 use Rattle.xbar_core.proofs.WorldMoves.{has_to_give, steps_in_world}
-use Rattle.xbar_fabric.specs.Advances.{HasStepped}
-use Rattle.xbar_fabric.specs.Views.{DeskView, entered, view_at}
+use Rattle.xbar_fabric.specs.Advances.{HasStepped, IsAnswered}
+use Rattle.xbar_fabric.specs.Views.{DeskView, IsAmid, entered, view_at}
 use Rattle.xbar_fabric.proofs.Offices.{Order, begins_entered, entered_turned, is_lawful, marker_at, marker_made, office_of, own_same, world_is}
 
 busy_act : (x : Act) → x ≢ Rest → is_rest x ≡ false
@@ -121,16 +122,28 @@ module _ (plan : Tables) (kind : Kind) (k : ℕ) (before after : Work) (seen see
       ∙ ap (λ (idle : Bool). if idle then event.Idle else event_of k step.number a (change (office plan) a (told_of k e.words a)) (told_of k e.words a)) goes_on_at
       ∙ ap (λ (t : Answer). event_of k step.number a (change (office plan) a t) t) told
 
+  amid : (table : TableId) → IsAmid (desk_at table plan kind k before seen) e
+  amid table = record {
+    lawful = lawful;
+    there = at.there;
+    begins = begins_entered seen step.world.order step.begins;
+    own_is = own_same k seen step.world.order step.own_is;
+  }
+
+  -- how the step is answered there
+  pub has_answered : (table : TableId) → IsAnswered (desk_at table plan kind k before seen) (desk_at table plan kind k after seen_after) answer
+  has_answered table = record {
+    office = e;
+    amid = amid table;
+    answered = subst (λ (m : Work). moves.IsAnswered plan k e.words m after (Some answer)) (sym step.before_is)
+        (goes_on_at, sym told, sym after_is ∙ ap (λ (t : Answer). Does step.number (change (office plan) a t)) told);
+  }
+
   -- the step, with what comes of it
   pub has_stepped : (table : TableId) (what : Event) → what ≡ event_of k step.number a (change (office plan) a answer) answer → HasStepped (desk_at table plan kind k before seen) (desk_at table plan kind k after seen_after) what
   has_stepped table what is = record {
     office = e;
-    amid = record {
-      lawful = lawful;
-      there = at.there;
-      begins = begins_entered seen step.world.order step.begins;
-      own_is = own_same k seen step.world.order step.own_is;
-    };
+    amid = amid table;
     same = refl;
     there = there_after;
     seen_is = seen_is;

@@ -1,11 +1,13 @@
 use Rattle.std.specs.Prelude.{◌≡◌, ℕ, zero, suc, ◌+◌, ◌≤◌, Some, length, slice_get, true, false}
 use Rattle.turns.specs.Attempt.{begin_with}
+use Rattle.turns.specs.declared.answer.Answer.{Answer}
 use Rattle.turns.specs.World as worlds
 use Rattle.turns.specs.World.{Does}
 use Rattle.desks.specs.Parts.{Begins}
 use Rattle.xbar_office.specs.declared.reply.Record.{Record}
 use Rattle.xbar_jobs.specs.Jobs.{first_conn}
 use Rattle.xbar_core.specs.Exchange.{Exchange, Work, is_idle, on_job}
+use Rattle.xbar_core.specs.Moves as moves
 use Rattle.xbar_core.specs.Moves.{after_step, event_at_step, work_anew}
 use Rattle.xbar_core.specs.declared.event.Event.{Event}
 use Rattle.xbar_core.specs.declared.event.Event.TheVariants.{Idle, Finished}
@@ -22,6 +24,13 @@ pub record HasStepped (before after : DeskView) (event : Event) : Type 0 where
       ≡ Some (marker_of after)
   pub seen_is : after.seen ≡ (after_step before.plan before.marker office).records
   pub event_is : event ≡ event_at_step before.plan before.marker office
+
+-- the desk's marker got this answer to its next step in an office amid which the desk stood, and the
+-- desk is at what the marker makes of it
+pub record IsAnswered (before after : DeskView) (answer : Answer) : Type 0 where
+  pub office : Exchange
+  pub amid : IsAmid before office
+  pub answered : moves.IsAnswered before.plan before.marker office.words before.work after.work (Some answer)
 
 -- what came of an advance: no step of an idle desk, and any other's marker's next step; it has seen
 -- what it had seen, and more; and a record is told of the step after which nothing is left of the

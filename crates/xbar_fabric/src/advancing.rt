@@ -1,12 +1,14 @@
 //! A desk's steps: one at a time, or so many as give back what its marker holds.
 
-ghost use Rattle.std.specs.Prelude.{◌≡◌, ◌≢◌, ◌<◌, ◌^◌, ℕ, false};
+ghost use Rattle.std.specs.Prelude.{◌≡◌, ◌≢◌, ◌<◌, ◌^◌, ℕ, IfNone, IfSome, false, option_to_list, true};
 ghost use Rattle.turns.specs.Attempt.{act, asked_in};
 ghost use Rattle.turns.specs.Runs.{is_rest};
 ghost use Rattle.desks.specs.Desks.{told_record};
 ghost use Rattle.xbar_jobs.specs.Attempt.{Attempt};
+ghost use Rattle.xbar_core.specs.Exchange.{is_idle};
 ghost use Rattle.xbar_core.specs.Moves.{event_of, given_by};
-ghost use Rattle.xbar_fabric.specs.Advances.{HasAdvanced, HasGivenBack};
+ghost use Rattle.xbar_fabric.specs.Advances.{HasAdvanced, HasGivenBack, IsAnswered};
+ghost use Rattle.xbar_fabric.specs.Histories.{turned_of};
 ghost use Rattle.xbar_fabric.specs.Views.{IsDeskOf, entered};
 
 use crate::desk::Desk;
@@ -52,6 +54,32 @@ fn record_of(told: Told<Job, Reply>) -> Record
 }
 
 impl Desk {
+    /// Makes its marker's next step, as `advance` does, and gives its answer alone; an idle marker makes
+    /// none. Where it was the last step of a job, `record` has the job's record.
+    #[inline(always)]
+    pub fn step(&mut self, fabric: &Fabric) -> Option<Answer>
+        requires { IsDeskOf self.old fabric.now }
+        ensures same { self.new ≡ record (self.old) { work = self.new.work; seen = self.new.seen } }
+        ensures none { IfNone result (is_idle self.old.work ≡ true) }
+        ensures answered { IfSome result (IsAnswered self.old self.new) }
+        ensures advanced { (event : Event) × HasAdvanced self.old self.new event }
+    {
+        // Called for its clauses alone.
+        xbar_plan::laws::every_plan_is_lawful(fabric.plan);
+        let answer = self.desk.step(&fabric.room, fabric.plan);
+        // Called for its clause that what the desk has seen is legal.
+        let _number = self.desk.number();
+        answer
+    }
+
+    /// The record of its marker's job, once that has turned.
+    pub fn record(&self) -> Option<Record>
+        ensures { option_to_list result ≡ turned_of self.now }
+    {
+        let told = self.desk.record()?;
+        Some(record_of(told))
+    }
+
     /// Makes its marker's next step, one atomic operation on the shared words, and tells what came
     /// of it. An idle marker makes none. It always succeeds, and takes no memory.
     #[inline(always)]

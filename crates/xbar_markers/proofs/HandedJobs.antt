@@ -57,7 +57,7 @@ module _ (number : ℕ) (job : Job) (start : DeskView) where
       let advanced = subst (HasAdvanced desk after) (told_end step.event r step.told_is) step.advanced in
       let ended = ends r advanced in
       let told = advanced.finished r refl in
-      has_done number job start desk after r doing now told.0 told.1 ended (later r (mine_at_end number job start after r now ended))
+      has_done number job start after r now told.0 ended (later r (mine_at_end number job start after r now ended))
 
   -- the beginning of the job that a desk is at
   begins_its_job : (at : Work) → job_at at ≡ Some (number, job) → at_beginning at ≡ Does number (begin_with (first_conn job) job)

@@ -1,19 +1,42 @@
 -- a desk that does one job
 use Rattle.std.proofs.Common.{◌≡◌, ℕ, ◌≤◌, ◌<◌, ◌^◌, true, List, [], ◌∷◌, ◌++◌, append-nil, append_assoc, length, refl, sym, ◌∙◌, ap, subst}
-use Rattle.std.specs.Prelude.{Some}
+use Rattle.std.specs.Prelude.{None, Option, Some, option_map, option_to_list, unwrap_or}
 use Rattle.std.proofs.lemmas.Option.{same_Some}
-use Rattle.turns.specs.Attempt.{begin_with}
+use Rattle.turns.specs.Attempt.{begin_with, turn_in}
 use Rattle.turns.specs.World.{Idle, Does}
 use Rattle.desks.specs.Parts.{Begins}
 use Rattle.xbar_office.specs.declared.job.Job.{Job}
 use Rattle.xbar_office.specs.declared.reply.Record.{Record}
+use Rattle.xbar_office.specs.declared.reply.Reply.{Reply}
 use Rattle.xbar_jobs.specs.Jobs.{first_conn}
 use Rattle.xbar_core.specs.Exchange.{Work, is_idle, on_job}
-use Rattle.xbar_fabric.specs.Histories.{IsTold, job_at, turned_of}
+use Rattle.xbar_core.specs.Moves.{own_record}
+use Rattle.xbar_fabric.specs.Histories.{job_at, turned_of}
 use Rattle.xbar_fabric.specs.Views.{DeskView, FabricView, IsDeskOf, mine}
 use Rattle.xbar_markers.specs.Work.{HasDone, IsDoing}
 
--- a record of a desk's job is of the job that the desk is at
+-- a record, by what it is of
+pub record IsOf (k : ℕ) (r : Record) (work : Work) : Type 0 where
+  pub marker : r.marker ≡ k
+  pub job : on_job ⊥ (λ number a. (r.job_no ≡ number) × (r.job ≡ a.job)) work
+
+-- the record that a job has turned to is of its marker, and of the job
+turned_is_of : (k : ℕ) (r : Record) (work : Work) → on_job [] (own_record k) work ≡ r ∷ [] → IsOf k r work
+turned_is_of k r Idle is = absurd cc
+turned_is_of k r (Does number a) is = by (turn_in a.phase) a.reply is where
+  at : ℕ → Reply → Record
+  at turn reply = record { turn = turn; marker = k; job_no = number; job = a.job; reply = reply }
+
+  by : (turn : Option ℕ) (reply : Option Reply) → unwrap_or (option_map (λ (t : ℕ). option_to_list (option_map (at t) reply)) turn) [] ≡ r ∷ [] → IsOf k r (Does number a)
+  by None reply is = absurd cc
+  by (Some turn) None is = absurd cc
+  by (Some turn) (Some reply) is =
+      let same : at turn reply ≡ r = cc in record {
+        marker = sym (ap (λ (x : Record). x.marker) same);
+        job = (sym (ap (λ (x : Record). x.job_no) same), sym (ap (λ (x : Record). x.job) same));
+      }
+
+-- and so is of the job that the desk is at
 told_of_job : (number : ℕ) (job : Job) (r : Record) (work : Work) → job_at work ≡ Some (number, job) → on_job ⊥ (λ n a. (r.job_no ≡ n) × (r.job ≡ a.job)) work → (r.job_no ≡ number) × (r.job ≡ job)
 told_of_job number job r Idle at told = absurd told
 told_of_job number job r (Does n a) at told =
@@ -51,17 +74,18 @@ module _ (number : ℕ) (job : Job) (start : DeskView) where
   pub mine_at_end : (after : DeskView) (r : Record) → IsDoing number job start after → turned_of after ≡ r ∷ [] → mine after ≡ mine start ++ r ∷ []
   mine_at_end after r doing ended = doing.mine_are ∙ ap (λ (l : List Record). mine start ++ l) ended
 
-  -- and then the job is done
-  pub has_done : (desk after : DeskView) (r : Record) → IsDoing number job start desk → IsDoing number job start after → is_idle after.work ≡ true → IsTold desk after r
+  -- and where nothing is left of the job, it is done
+  pub has_done : (after : DeskView) (r : Record) → IsDoing number job start after → is_idle after.work ≡ true
       → turned_of after ≡ r ∷ [] → (length after.seen < 2 ^ 64 → (length start.seen ≤ r.turn) × (r.turn < length after.seen)) → HasDone start after number job r
-  has_done desk after r before doing idle told ended turn =
-      let of_job = told_of_job number job r desk.work before.at told.job in
+  has_done after r doing idle ended turn =
+      let is_of = turned_is_of after.marker r after.work ended in
+      let of_job = told_of_job number job r after.work doing.at is_of.job in
       record {
         same = doing.same;
         idle = idle;
         seen = doing.seen;
         mine_are = mine_at_end after r doing ended;
-        marker = told.marker ∙ ap (λ (d : DeskView). d.marker) before.same;
+        marker = is_of.marker ∙ ap (λ (d : DeskView). d.marker) doing.same;
         number_is = of_job.0;
         job_is = of_job.1;
         turn = turn;

@@ -9,7 +9,7 @@ ghost use Rattle.xbar_markers.specs.Work.{HasDone, IsReady};
 use crate::gate::Gate;
 use std::sync::Wait;
 use std::thread;
-use xbar_fabric::{Desk, Fabric, Progress};
+use xbar_fabric::{Answer, Desk, Fabric};
 use xbar_office::{Job, Record};
 
 /// A desk, the gate that its steps pass, and how many it has made. That it may go to another thread
@@ -19,6 +19,11 @@ pub struct Worker<D: Drop, G: Drop> {
     pub desk: D,
     pub gate: G,
     pub steps: u64,
+}
+
+/// Whether a step found its connector held, or another marker preferred.
+fn is_refusal(answer: Option<Answer>) -> bool {
+    matches!(answer, Some(Answer::Held(_) | Answer::Preferred(_)))
 }
 
 /// Lets other threads run, once a desk that was put off has given back all that it held: nobody waits
@@ -59,17 +64,15 @@ impl<G: Gate + Drop> Worker<Desk, G> {
         let mut is_put_off = false;
         for _ in rt.forever() {
             self.pass();
-            // Matched here, since a record that may come would be moved with each step that hands one on.
-            match self.desk.advance(fabric) {
-                Progress::Finished(record) => {
+            let answer = self.desk.step(fabric);
+            // Asked for only then, since each step would else carry room for a record.
+            if self.desk.is_idle() {
+                if let Some(record) = self.desk.record() {
                     self.gate.finished(self.desk.marker(), job_no);
                     return record;
                 }
-                Progress::Refused { .. } | Progress::Preferred(_) => is_put_off = true,
-                Progress::Idle | Progress::Moved => {
-                    is_put_off = yield_once_given_back(&self.desk, is_put_off);
-                }
             }
+            is_put_off = is_refusal(answer) || yield_once_given_back(&self.desk, is_put_off);
         }
         unreachable!()
     }
