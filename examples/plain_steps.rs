@@ -7,6 +7,8 @@
 //!     /tmp/plain_steps live CALLS MARKERS    so many threads that dial and as many that complete calls,
 //!                                            with three calls under way at once at most; timed
 //!                                            from their queueing to their records in turn order
+//!     /tmp/plain_steps calls MARKERS < ROWS  what `crossbar5 live` writes, by so many threads of each kind; the
+//!                                            calls aren't paced, and the records aren't audited
 //!     /tmp/plain_steps replay < ROWS         what `crossbar5 replay` writes for jobs that are done whole, one
 //!                                            after another, on words that no threads share
 //!
@@ -82,8 +84,11 @@ impl fmt::Display for Path {
 }
 
 #[derive(Clone, Copy)]
-struct Call {
+struct Call<'a> {
+    call_no: u32,
     line: Line,
+    digits: &'a str,
+    release: bool,
 }
 
 enum End {
@@ -541,91 +546,118 @@ impl Pace {
     }
 }
 
-fn call_at(n: usize) -> Call {
+fn call_at(n: usize) -> Call<'static> {
     Call {
+        call_no: n as u32,
         line: Line {
             frame: n % 10,
             switch: n / 10 % 10,
             x: (n / 100 % 3) as u64,
         },
+        digits: "5551234",
+        release: true,
     }
 }
 
-enum Task {
-    Complete(u32, Call),
+enum Task<'a> {
+    Complete(Call<'a>),
     Stop,
+}
+
+/// The words that threads share, the queues between them, and how many calls may be under way.
+struct Floor<'a> {
+    plan: Plan,
+    words: Vec<AtomicU64>,
+    first: Queue<Call<'a>>,
+    second: Queue<Task<'a>>,
+    pace: Pace,
+}
+
+impl<'a> Floor<'a> {
+    fn new(calls: impl Iterator<Item = Call<'a>>, most: u64) -> Self {
+        let floor = Floor {
+            plan: example(),
+            words: (0..453).map(|_| AtomicU64::new(0)).collect(),
+            first: Queue::new(),
+            second: Queue::new(),
+            pace: Pace {
+                under_way: AtomicU64::new(0),
+                most,
+            },
+        };
+        for call in calls {
+            floor.first.put(call);
+        }
+        floor
+    }
+
+    /// Dials calls until there are none left, and gives the records and the number of steps.
+    fn dial_all(&self, marker: u64) -> (Vec<Record>, u64) {
+        let mut own = attempt(&self.words, marker);
+        let mut records = Vec::new();
+        while let Some(call) = self.first.try_take() {
+            self.pace.begin();
+            let record = own.do_job(&self.plan, 0, call.line, 3 * call.call_no);
+            if matches!(record.end, End::DialTone(_)) {
+                self.second.put(Task::Complete(call));
+            }
+            records.push(record);
+        }
+        (records, own.steps)
+    }
+
+    /// Completes and releases calls until it is told to stop.
+    fn complete_all(&self, marker: u64) -> (Vec<Record>, u64) {
+        let mut own = attempt(&self.words, marker);
+        let mut records = Vec::new();
+        while let Task::Complete(call) = self.second.take() {
+            let record = own.do_job(&self.plan, 1, call.line, 3 * call.call_no + 1);
+            self.pace.end();
+            let connected = matches!(record.end, End::Connected(_));
+            records.push(record);
+            if connected && call.release {
+                records.push(own.do_job(&self.plan, 2, call.line, 3 * call.call_no + 2));
+            }
+        }
+        (records, own.steps)
+    }
+
+    /// Has all calls done by so many threads of each kind, and gives the records in turn order.
+    fn work(&self, count: u64) -> (Vec<Record>, u64) {
+        let (mut records, steps) = thread::scope(|scope| {
+            let completing: Vec<_> = (0..count)
+                .map(|k| scope.spawn(move || self.complete_all(count + k)))
+                .collect();
+            let dialling: Vec<_> = (0..count)
+                .map(|k| scope.spawn(move || self.dial_all(k)))
+                .collect();
+            let mut all = (Vec::new(), 0);
+            let mut gather = |(mut records, steps): (Vec<Record>, u64)| {
+                all.0.append(&mut records);
+                all.1 += steps;
+            };
+            for thread in dialling {
+                gather(thread.join().unwrap());
+            }
+            for _ in 0..count {
+                self.second.put(Task::Stop);
+            }
+            for thread in completing {
+                gather(thread.join().unwrap());
+            }
+            all
+        });
+        records.sort_unstable_by_key(|record| record.turn);
+        assert_eq!(self.words[452].load(SeqCst), records.len() as u64);
+        (records, steps)
+    }
 }
 
 /// Does calls, from the first queue's filling to their records in turn order.
 fn live(calls: usize, count: u64, most: u64) {
-    let plan = example();
     let start = Instant::now();
-    let words: Vec<AtomicU64> = (0..453).map(|_| AtomicU64::new(0)).collect();
-    let first: Queue<(u32, Call)> = Queue::new();
-    let second: Queue<Task> = Queue::new();
-    for n in 0..calls {
-        first.put((n as u32, call_at(n)));
-    }
-    let pace = Pace {
-        under_way: AtomicU64::new(0),
-        most,
-    };
-    let (mut records, steps) = thread::scope(|scope| {
-        let (plan, words, first, second, pace) = (&plan, &words[..], &first, &second, &pace);
-        let completing: Vec<_> = (0..count)
-            .map(|k| {
-                scope.spawn(move || {
-                    let mut own = attempt(words, count + k);
-                    let mut records = Vec::new();
-                    loop {
-                        let Task::Complete(n, call) = second.take() else {
-                            return (records, own.steps);
-                        };
-                        let record = own.do_job(plan, 1, call.line, 3 * n + 1);
-                        pace.end();
-                        let connected = matches!(record.end, End::Connected(_));
-                        records.push(record);
-                        if connected {
-                            records.push(own.do_job(plan, 2, call.line, 3 * n + 2));
-                        }
-                    }
-                })
-            })
-            .collect();
-        let dialling: Vec<_> = (0..count)
-            .map(|k| {
-                scope.spawn(move || {
-                    let mut own = attempt(words, k);
-                    let mut records = Vec::new();
-                    while let Some((n, call)) = first.try_take() {
-                        pace.begin();
-                        let record = own.do_job(plan, 0, call.line, 3 * n);
-                        if matches!(record.end, End::DialTone(_)) {
-                            second.put(Task::Complete(n, call));
-                        }
-                        records.push(record);
-                    }
-                    (records, own.steps)
-                })
-            })
-            .collect();
-        let mut all = (Vec::new(), 0);
-        for thread in dialling {
-            let (mut records, steps) = thread.join().unwrap();
-            all.0.append(&mut records);
-            all.1 += steps;
-        }
-        for _ in 0..count {
-            second.put(Task::Stop);
-        }
-        for thread in completing {
-            let (mut records, steps) = thread.join().unwrap();
-            all.0.append(&mut records);
-            all.1 += steps;
-        }
-        all
-    });
-    records.sort_unstable_by_key(|record| record.turn);
+    let floor = Floor::new((0..calls).map(call_at), most);
+    let (records, steps) = floor.work(count);
     let jobs = records.len();
     let time = start.elapsed().as_nanos() as u64;
     println!(
@@ -633,7 +665,47 @@ fn live(calls: usize, count: u64, most: u64) {
         time / jobs as u64,
         steps as f64 / jobs as f64
     );
-    assert_eq!(words[452].load(SeqCst), jobs as u64);
+}
+
+fn call_of(row: &str) -> Option<Call<'_>> {
+    let mut fields = row.strip_prefix("C,")?.split(',');
+    Some(Call {
+        call_no: fields.next()?.parse().ok()?,
+        line: line_of(fields.next()?)?,
+        digits: fields.next()?,
+        release: fields.next()? == "R",
+    })
+}
+
+/// What comes of the calls of these rows, as text.
+fn text_of_calls(rows: &str, count: u64) -> Option<Vec<u8>> {
+    let calls: Vec<Call> = rows.lines().map(call_of).collect::<Option<_>>()?;
+    let mut at = vec![0; 10_000];
+    for (place, call) in calls.iter().enumerate() {
+        *at.get_mut(call.call_no as usize)? = place;
+    }
+    let (records, _) = Floor::new(calls.iter().copied(), u64::MAX).work(count);
+    let mut out = Vec::new();
+    let mut paths = 0;
+    for record in &records {
+        let call = &calls[at[record.job_no as usize / 3]];
+        let kind = (record.job_no % 3) as u8;
+        let job = Asked {
+            job_no: record.job_no,
+            kind,
+            line: call.line,
+            digits: if kind == 1 { call.digits } else { "-" },
+        };
+        match record.end {
+            End::DialTone(_) => paths += 1,
+            End::Released(_) => paths -= 1,
+            End::Busy if kind == 1 => paths -= 1,
+            _ => {}
+        }
+        write_record(&mut out, &job, record).ok()?;
+    }
+    writeln!(out, "PATHS,{paths}\nCLOSED,{}", 4 * paths).ok()?;
+    Some(out)
 }
 
 fn lone(calls: usize) {
@@ -746,10 +818,11 @@ fn replay(rows: &str) -> Option<Vec<u8>> {
     Some(out)
 }
 
-fn replay_all() -> io::Result<()> {
+/// Writes what comes of the rows on standard input.
+fn answer(text_of: impl Fn(&str) -> Option<Vec<u8>>) -> io::Result<()> {
     let mut rows = String::new();
     io::stdin().read_to_string(&mut rows)?;
-    match replay(&rows) {
+    match text_of(&rows) {
         Some(out) => io::stdout().write_all(&out),
         None => Err(io::ErrorKind::InvalidData.into()),
     }
@@ -761,7 +834,8 @@ fn main() {
     match words.get(1).map(String::as_str) {
         Some("lone") => lone(number(2, 10_000)),
         Some("live") => live(number(2, 10_000), number(3, 1) as u64, number(4, 3) as u64),
-        Some("replay") => replay_all().unwrap(),
-        _ => println!("usage: plain lone CALLS | live CALLS MARKERS UNDER_WAY"),
+        Some("calls") => answer(|rows| text_of_calls(rows, number(2, 1) as u64)).unwrap(),
+        Some("replay") => answer(replay).unwrap(),
+        _ => println!("usage: plain_steps lone | live | calls | replay, as its first lines say"),
     }
 }
