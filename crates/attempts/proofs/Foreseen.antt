@@ -2,20 +2,18 @@
 use Rattle.std.proofs.Common.{◌≡◌, ℕ, zero, suc, ◌+◌, Bool, List, [], ◌∷◌, ◌++◌, append-nil, append_assoc, refl, sym, ◌∙◌, ap, subst, arith}
 use Rattle.std.specs.Prelude.{Some, None, Result, Err, drop, slice_get}
 use Rattle.std.proofs.lemmas.Option.{same_Some}
-use Rattle.turns.specs.Attempt.{AttemptOf, goes_on}
 use Rattle.turns.specs.Script.{walk}
 use Rattle.turns.specs.Seen.{Seen}
-use Rattle.turns.specs.System.{System}
 use Rattle.turns.specs.declared.answer.Answer.TheVariants.{Value}
 use Rattle.turns.specs.declared.phase.Phase.TheVariants.{Tests}
 use Rattle.turns.specs.declared.reading.Reading.{Reading}
 use Rattle.turns.specs.declared.wanted.Wanted.{Wanted}
 use Rattle.turns.specs.declared.wanted.Wanted.TheVariants.{Test}
 use Rattle.attempts.specs.Foresight.{Foresees, ForesightView, Further, IsForeseen, SeesTo}
-use Rattle.attempts.specs.Standing.{CanWalk, KnowsIn, Program, attempt_of}
-use Rattle.attempts.specs.SystemWith.{SystemWith, system_with}
+use Rattle.attempts.specs.Standing.{CanWalk, Program}
+use Rattle.attempts.specs.SystemWith.{SystemWith}
 use Rattle.attempts.specs.Taken.{FitsValue, Takes, WalksOn, gone_on}
-use Rattle.attempts.proofs.Taken.{took, went, went_count, went_point}
+use Rattle.attempts.proofs.Taken.{reads, walks_to}
 
 -- what follows the first of those that are left
 drop_next : {A : Type 0} (made : ℕ) (items : List A) (first : A) (rest : List A) → drop made items ≡ first ∷ rest → drop (suc made) items ≡ rest
@@ -39,17 +37,8 @@ next_is (other ∷ l) next reading got word value =
     (l, ap (λ (r : Reading ℕ). r ∷ l) (same_Some other next (sym got) ∙ ap (λ (w : ℕ). record { word = w; value = next.value }) word ∙ ap (λ (v : ℕ). record { word = reading.word; value = v }) value))
 
 module _ {Lock Job Reply Effect Decision Point : Type 0} (same : Lock → Lock → Bool) (reply_of : Decision → Reply) (effects_of : Decision → List Effect) (S : SystemWith Lock Job Reply Effect Decision) (Knows : Job → Point → Seen Lock → Type 0) where
-  abbrev O : System
-  O = system_with same reply_of effects_of S
-
   abbrev Doing : Type 0
   Doing = Program Lock Job Decision Point
-
-  abbrev outside : Doing → AttemptOf O
-  outside p = attempt_of reply_of effects_of p
-
-  abbrev PointHere : Doing → Type 0
-  PointHere p = KnowsIn Knows (outside p) p.point p.phase
 
   abbrev Took : Reading ℕ → Doing → Doing → Type 0
   Took reading old new = Takes same reply_of effects_of S Knows (Value reading.value) old new
@@ -70,10 +59,8 @@ module _ {Lock Job Reply Effect Decision Point : Type 0} (same : Lock → Lock �
     pub goes_up_to : (next : Reading ℕ) (rest : List (Reading ℕ)) (new : Doing) → Sees now first (next ∷ rest) further → CanWalk same reply_of effects_of S Knows mid → new ≡ record mid { phase = Tests next.word } → GoesOn next rest new
     unfolding Foresees
     goes_up_to next rest new sees can made = record {
-      takes = took same reply_of effects_of S Knows now new (Tests first.word) (Value first.value) sees.tests fits
-          (ap outside made ∙ ap (goes_on O (outside mid)) (sym sees.foresees.1.0))
-          (subst PointHere (sym made) can.knows)
-          (ap (λ (p : Doing). p.count) made);
+      takes = reads same reply_of effects_of S Knows now mid new first.word first.value sees.tests fits refl
+          (walks_to same reply_of effects_of S Knows mid new mid.point (Err (Test next.word)) sees.foresees.1.0 can.knows made);
       sees = here;
     } where
       here : Sees new next rest further
@@ -86,10 +73,8 @@ module _ {Lock Job Reply Effect Decision Point : Type 0} (same : Lock → Lock �
     -- it comes to where its walk does
     pub arrives : (new : Doing) → Sees now first [] further → new ≡ gone_on (record mid { point = further.point }) further.found → Took first now new
     unfolding Foresees
-    arrives new sees made = took same reply_of effects_of S Knows now new (Tests first.word) (Value first.value) sees.tests fits
-        (ap outside made ∙ went same reply_of effects_of S Knows mid further.point further.found ∙ ap (goes_on O (outside mid)) (sym sees.foresees.1))
-        (subst PointHere (sym made) (went_point same reply_of effects_of S Knows mid further.point further.found sees.knows))
-        (ap (λ (p : Doing). p.count) made ∙ went_count same reply_of effects_of S Knows mid further.point further.found)
+    arrives new sees made = reads same reply_of effects_of S Knows now mid new first.word first.value sees.tests fits refl
+        (walks_to same reply_of effects_of S Knows mid new further.point further.found sees.foresees.1 sees.knows made)
 
   abbrev AreAhead : Doing → ForesightView Lock Decision Point → Type 0
   AreAhead p ahead = IsForeseen {Reply = Reply} {Effect = Effect} same S Knows p ahead.left ahead.further
@@ -156,7 +141,7 @@ module _ {Lock Job Reply Effect Decision Point : Type 0} (same : Lock → Lock �
         let one : other ≡ first = same_Some other first (sym got) in
         let wants : walk same (own old) (S.script old.job) ≡ Err (Test first.word) = sees.0 ∙ ap (λ (r : Reading ℕ). Err (Test r.word)) one in
         record {
-          walks = subst (Walks old) (sym made) (record { change = ap (goes_on O (outside old)) (sym wants); point = subst (λ (p : Doing). Knows p.job point (own old)) mid_is knows; count = refl });
+          walks = walks_to same reply_of effects_of S Knows old new point (Err (Test first.word)) wants (subst (λ (p : Doing). Knows p.job point (own old)) mid_is knows) made;
           ahead = subst (AreAhead new) (sym so) (subst (λ (p : Doing). Sees p other l (record { found = found; point = far })) (sym made) (record { tests = ap (λ (r : Reading ℕ). Tests r.word) (sym one); foresees = sees; knows = far_is }));
         }
 
@@ -172,11 +157,7 @@ module _ {Lock Job Reply Effect Decision Point : Type 0} (same : Lock → Lock �
     at : (l : List (Reading ℕ)) → after.left ≡ l → None ≡ slice_get l 0 → Foresees same (S.script old.job) (own old) l found → Knows old.job far (record { held = old.held; readings = old.readings ++ l }) → Ahead old new after
     at (other ∷ l) is got sees far_is = absurd cc
     at [] is got sees far_is = record {
-      walks = subst (Walks old) (sym made) (record {
-        change = went same reply_of effects_of S Knows old far found ∙ ap (goes_on O (outside old)) (sym sees);
-        point = went_point same reply_of effects_of S Knows old far found (subst (λ (l : List (Reading ℕ)). Knows old.job far (record { held = old.held; readings = l })) (append-nil old.readings) far_is);
-        count = went_count same reply_of effects_of S Knows old far found;
-      });
+      walks = walks_to same reply_of effects_of S Knows old new far found sees (subst (λ (l : List (Reading ℕ)). Knows old.job far (record { held = old.held; readings = l })) (append-nil old.readings) far_is) made;
       ahead = none_foreseen new after is;
     }
 

@@ -7,7 +7,7 @@ use Rattle.turns.specs.declared.phase.Phase.{Phase}
 use Rattle.turns.specs.declared.phase.Phase.TheVariants.{Requests, Seizes, Tests, Turns, Withdraws, GivesBack, Operates}
 use Rattle.attempts.specs.Counting.{has_made_none}
 use Rattle.attempts.specs.Live.{Course}
-use Rattle.attempts.specs.Standing.{Program, effects_left}
+use Rattle.attempts.specs.Standing.{Program, begun_at, effects_left}
 
 -- what is told by its phase
 pub in_phase : {Lock Job Decision Point A : Type 0} (f : Program Lock Job Decision Point → Phase Lock ℕ → A) (p now : Program Lock Job Decision Point) (phase : Phase Lock ℕ) → p ≡ now → p.phase ≡ phase → f p phase ≡ f now now.phase
@@ -29,11 +29,11 @@ with_seen p now course made of inside is so = ap (λ (x : Course _). record p { 
 pub forgets : {Lock Job Decision Point : Type 0} (p now : Program Lock Job Decision Point) (course : Course Lock) (left hold : ℕ) → p ≡ now → course ≡ record { seen = record { held = p.held; readings = [] }; left = left; hold = hold } → record p { readings = course.seen.readings; held = course.seen.held; decision = None; made = 0 } ≡ record now { readings = []; decision = None; made = 0 }
 forgets p now course left hold inside is = ap (λ (x : Course _). record p { readings = x.seen.readings; held = x.seen.held; decision = None; made = 0 }) is ∙ ap (λ (x : Program _ _ _ _). record x { readings = []; decision = None; made = 0 }) inside
 
-pub begins_anew : {Lock Job Decision Point : Type 0} (p now new : Program Lock Job Decision Point) (held : List Lock) (first : Lock) (point : Point) → p ≡ now → held ≡ [] → new ≡ record p { point = point; readings = []; held = held; phase = Requests first; decision = None; made = 0 } → new ≡ record now { point = point; readings = []; held = []; phase = Requests first; decision = None; made = 0 }
-begins_anew p now new held first point inside none made = made ∙ ap (λ (h : List _). record p { point = point; readings = []; held = h; phase = Requests first; decision = None; made = 0 }) none ∙ ap (λ (x : Program _ _ _ _). record x { point = point; readings = []; held = []; phase = Requests first; decision = None; made = 0 }) inside
+pub begins_anew : {Lock Job Decision Point : Type 0} (p now new : Program Lock Job Decision Point) (held : List Lock) (first : Lock) (point : Point) → p ≡ now → held ≡ [] → new ≡ record p { point = point; readings = []; held = held; phase = Requests first; decision = None; made = 0 } → new ≡ record (begun_at now.job first point) { count = now.count }
+begins_anew p now new held first point inside none made = made ∙ ap (λ (h : List _). record p { point = point; readings = []; held = h; phase = Requests first; decision = None; made = 0 }) none ∙ ap (λ (x : Program _ _ _ _). record (begun_at x.job first point) { count = x.count }) inside
 
 -- with nothing read and nothing held
-pub is_new : {Lock Job Decision Point : Type 0} (job : Job) (point : Point) (first : Lock) (course : Course Lock) → course ≡ record { seen = record { held = []; readings = [] }; left = 0; hold = 0 } → ◌≡◌ {A = Program Lock Job Decision Point} (record { job = job; point = point; readings = course.seen.readings; held = course.seen.held; phase = Requests first; decision = None; made = 0; count = 0 }) (record { job = job; point = point; readings = []; held = []; phase = Requests first; decision = None; made = 0; count = 0 })
+pub is_new : {Lock Job Decision Point : Type 0} (job : Job) (point : Point) (first : Lock) (course : Course Lock) → course ≡ record { seen = record { held = []; readings = [] }; left = 0; hold = 0 } → ◌≡◌ {A = Program Lock Job Decision Point} (record { job = job; point = point; readings = course.seen.readings; held = course.seen.held; phase = Requests first; decision = None; made = 0; count = 0 }) (begun_at job first point)
 is_new {Lock} {Job} {Decision} {Point} job point first course is = ap made is where
   made : Course Lock → Program Lock Job Decision Point
   made x = record { job = job; point = point; readings = x.seen.readings; held = x.seen.held; phase = Requests first; decision = None; made = 0; count = 0 }

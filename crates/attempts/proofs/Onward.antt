@@ -8,14 +8,14 @@ use Rattle.turns.specs.System.{System}
 use Rattle.turns.specs.World.{place}
 use Rattle.turns.specs.declared.answer.Answer.{Answer}
 use Rattle.turns.specs.declared.phase.Phase.{Phase}
-use Rattle.turns.specs.declared.phase.Phase.TheVariants.{Requests, Seizes, Tests}
+use Rattle.turns.specs.declared.phase.Phase.TheVariants.{Seizes, Tests}
 use Rattle.turns.specs.declared.reading.Reading.{Reading}
 use Rattle.turns.specs.declared.wanted.Wanted.TheVariants.{Test}
 use Rattle.turns.proofs.Room.{held_before, read_before}
 use Rattle.turns.proofs.Words.{read_more}
 use Rattle.desks.specs.declared.jobs.WordStep.{WordStep}
 use Rattle.attempts.specs.Points.{Extends}
-use Rattle.attempts.specs.Standing.{AreScripts, Program, CanWalk, HasPlace, KnowsIn, Stands, attempt_of}
+use Rattle.attempts.specs.Standing.{AreScripts, Program, CanWalk, HasPlace, KnowsIn, Stands, attempt_of, begun_at}
 use Rattle.attempts.specs.SystemWith.{SystemWith, system_with}
 use Rattle.attempts.specs.Taken.{MayRead}
 use Rattle.attempts.proofs.ReadOnce.{wants_unread}
@@ -74,10 +74,10 @@ module _ {Lock Job Reply Effect Decision Point : Type 0} (same : Lock → Lock �
   }
 
   -- an attempt that has just begun stands
-  pub stands_begun : (job : Job) (first : Lock) (point : Point) (new : Doing) → S.IsJob job → first ≡ S.first job → ((seen : Seen Lock) → Knows job point seen) → new ≡ record { job = job; point = point; readings = []; held = []; phase = Requests first; decision = None; made = 0; count = 0 } → StandsHere new
+  pub stands_begun : (job : Job) (first : Lock) (point : Point) (new : Doing) → S.IsJob job → first ≡ S.first job → ((seen : Seen Lock) → Knows job point seen) → new ≡ begun_at job first point → StandsHere new
   stands_begun job first point new right first_is always made =
       subst StandsHere (sym made)
-      (subst (λ (lock : Lock). StandsHere (record { job = job; point = point; readings = []; held = []; phase = Requests lock; decision = None; made = 0; count = 0 })) (sym first_is) (record {
+      (subst (λ (lock : Lock). StandsHere (begun_at job lock point)) (sym first_is) (record {
         place = place_begin O are.is_system R H are.asks job right;
         point = always (record { held = []; readings = [] });
       }))

@@ -202,6 +202,14 @@ module _ {Lock Job Reply Effect Decision Point : Type 0} (same : Lock → Lock �
   went_count p q (Ok decision) = refl
   went_count p q (Err wanted) = refl
 
+  -- it goes on to where its walk comes to
+  pub walks_to : (old new : Doing) (q : Point) (found : Result Decision (Wanted Lock ℕ)) → walk same (seen_of (outside old)) (S.script old.job) ≡ found → Knows old.job q (seen_of (outside old)) → new ≡ gone_on (record old { point = q }) found → Walks old new
+  walks_to old new q found comes knows made = subst (Walks old) (sym made) (record {
+    change = went old q found ∙ ap (goes_on O (outside old)) (sym comes);
+    point = went_point old q found knows;
+    count = went_count old q found;
+  })
+
   -- its walk goes on by what it has come by
   module _ (mid p : Doing) (course : Course Lock) (inside : p ≡ mid) (course_is : course.seen ≡ seen_of (outside p)) where
     -- what the walk wants
@@ -231,13 +239,8 @@ module _ {Lock Job Reply Effect Decision Point : Type 0} (same : Lock → Lock �
       found_is = ap (λ (x : Comes Lock Decision). x.found) comes ∙ ap (λ (s : Seen Lock). walk same s (S.script p.job)) course_is
 
       pub walked : (new : Doing) (q : Point) → Knows p.job q more.seen → new ≡ gone_on (record p { point = q; readings = more.seen.readings; held = more.seen.held }) found → Walks mid new
-      walked new q knows made = subst (λ (x : Doing). Walks x new) inside (record {
-        change = ap outside here ∙ went p q found ∙ ap (goes_on O (outside p)) found_is;
-        point = subst PointHere (sym here) (went_point p q found (subst (Knows p.job q) more_is knows));
-        count = ap (λ (x : Doing). x.count) here ∙ went_count p q found;
-      }) where
-        here : new ≡ gone_on (record p { point = q }) found
-        here = made ∙ ap (λ (s : Seen Lock). gone_on (record p { point = q; readings = s.readings; held = s.held }) found) more_is
+      walked new q knows made = subst (λ (x : Doing). Walks x new) inside (walks_to p new q found (sym found_is) (subst (Knows p.job q) more_is knows)
+          (made ∙ ap (λ (s : Seen Lock). gone_on (record p { point = q; readings = s.readings; held = s.held }) found) more_is))
 
   -- by what it goes on from
   pub walks_from : (mid made new : Doing) → mid ≡ made → Walks mid new → Walks made new

@@ -25,6 +25,10 @@ pub record Program (Lock Job Decision Point : Type 0) : Type 0 where
   -- how many steps it took since it began
   pub count : ℕ
 
+-- an attempt that has made nothing of this job yet: it requests this lock first, and goes on from this point
+abbrev pub begun_at : {Lock Job Decision Point : Type 0} → Job → Lock → Point → Program Lock Job Decision Point
+begun_at job first point = record { job = job; point = point; readings = []; held = []; phase = Requests first; decision = None; made = 0; count = 0 }
+
 -- what it is at next where its walk wants this
 abbrev pub wanted_phase : {Lock : Type 0} → Wanted Lock ℕ → Phase Lock ℕ
 wanted_phase (Seize lock) = Requests lock
@@ -106,3 +110,9 @@ module _ {Lock Job Reply Effect Decision Point : Type 0} (same : Lock → Lock �
     pub is_system : IsSystem (system_with same reply_of effects_of S)
     pub asks : (job : Job) → S.IsJob job → AsksAtMost most_readings most_held (S.script job)
     pub knows_on : (job : Job) (point : Point) (seen more : Seen Lock) → Extends same seen more → Knows job point seen → Knows job point more
+
+-- an attempt may go on: the jobs are scripts, and it stands where its job brings it, under a setting that there is
+pub record MayGoOn {Lock Job Reply Effect Decision Point : Type 0} (Setting : Type 0) (same : Lock → Lock → Bool) (reply_of : Decision → Reply) (effects_of : Decision → List Effect) (S : SystemWith Lock Job Reply Effect Decision) (Knows : Job → Point → Seen Lock → Type 0) (most_readings most_held : ℕ) (p : Program Lock Job Decision Point) : Type 0 where
+  pub setting : Setting
+  pub scripts : AreScripts same reply_of effects_of S Knows most_readings most_held
+  pub stands : Stands same reply_of effects_of S Knows most_readings most_held p

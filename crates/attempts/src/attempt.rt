@@ -5,6 +5,7 @@ ghost use Rattle.desks.specs.Outcomes.{is_given_up as is_given_up_in};
 ghost use Rattle.attempts.specs.Counting.{count_in, counted, counted_by, has_made_none};
 ghost use Rattle.attempts.specs.Live.{WantsNext};
 ghost use Rattle.attempts.specs.Running.{GoesFarEnough};
+ghost use Rattle.attempts.specs.Standing.{begun_at};
 ghost use Rattle.attempts.specs.Taken.{gone_on};
 
 use crate::scripts::Scripts;
@@ -71,17 +72,7 @@ impl<
 > Attempt<L, J, D, P, READINGS, HELD> {
     /// An attempt at a job that seizes this lock first, from this point on.
     pub(crate) fn new(job: J, first: L, point: P) -> Self
-        ensures { result
-            ≡ record {
-              job = job;
-              point = point;
-              readings = [];
-              held = [];
-              phase = Phase.Requests first;
-              decision = None;
-              made = 0;
-              count = 0;
-            } }
+        ensures { result ≡ begun_at job first point }
     {
         Attempt {
             seen: Seen::new(),
@@ -96,17 +87,7 @@ impl<
 
     /// As `new`, in the place of an attempt at another job.
     pub(crate) fn renew(&mut self, job: J, first: L, point: P)
-        ensures { self.new
-            ≡ record {
-              job = job;
-              point = point;
-              readings = [];
-              held = [];
-              phase = Phase.Requests first;
-              decision = None;
-              made = 0;
-              count = 0;
-            } }
+        ensures { self.new ≡ begun_at job first point }
     {
         self.job = job;
         self.count = 0;
@@ -116,14 +97,7 @@ impl<
     /// The job from its beginning, with nothing held.
     pub(crate) fn begin_anew(&mut self, first: L, point: P)
         ensures { self.new
-            ≡ record self.old {
-              point = point;
-              readings = [];
-              held = [];
-              phase = Phase.Requests first;
-              decision = None;
-              made = 0;
-            } }
+            ≡ record (begun_at self.old.job first point) { count = self.old.count } }
     {
         self.seen.free_all();
         self.phase = Phase::Requests(first);

@@ -3,8 +3,7 @@
 
 ghost use Rattle.std.specs.Prelude.{◌≡◌, ◌++◌, true};
 ghost use Rattle.turns.specs.Seen.{Seen as SeenView};
-ghost use Rattle.attempts.specs.Foresight.{Foresees, IsForeseen};
-ghost use Rattle.attempts.specs.Standing.{AreScripts, CanWalk};
+ghost use Rattle.attempts.specs.Foresight.{Foresees, IsForeseen, MayLookAhead};
 ghost use Rattle.attempts.specs.Taken.{WalksOn};
 
 use crate::attempt::AttemptOf;
@@ -22,11 +21,8 @@ fn see<S: Scripts<READINGS, HELD>, const READINGS: usize, const HELD: usize>(
     words: &mut [u64],
     ahead: &mut ForesightOf<S, READINGS, HELD>,
 ) -> bool
-    requires setting { S.IsSetting setting.now }
-    requires scripts { AreScripts S.Lock.eq S.reply_of S.effects_of (S.system setting.now)
-        (S.Knows setting.now) READINGS HELD }
-    requires walk { CanWalk S.Lock.eq S.reply_of S.effects_of (S.system setting.now)
-        (S.Knows setting.now) program.old }
+    requires { MayLookAhead (S.IsSetting setting.now) S.Lock.eq S.reply_of S.effects_of
+        (S.system setting.now) (S.Knows setting.now) READINGS HELD program.old }
     ensures same { program.new ≡ record program.old { point = program.new.point } }
     ensures sees { result ≡ true → Foresees S.Lock.eq
         ((S.system setting.now).script program.old.job)
@@ -94,11 +90,8 @@ pub(crate) fn walk_ahead<S: Scripts<READINGS, HELD>, const READINGS: usize, cons
     words: &mut [u64],
     ahead: &mut ForesightOf<S, READINGS, HELD>,
 )
-    requires setting { S.IsSetting setting.now }
-    requires scripts { AreScripts S.Lock.eq S.reply_of S.effects_of (S.system setting.now)
-        (S.Knows setting.now) READINGS HELD }
-    requires walk { CanWalk S.Lock.eq S.reply_of S.effects_of (S.system setting.now)
-        (S.Knows setting.now) program.old }
+    requires { MayLookAhead (S.IsSetting setting.now) S.Lock.eq S.reply_of S.effects_of
+        (S.system setting.now) (S.Knows setting.now) READINGS HELD program.old }
     ensures walks { WalksOn S.Lock.eq S.reply_of S.effects_of (S.system setting.now)
         (S.Knows setting.now) program.old program.new }
     ensures foreseen { IsForeseen S.Lock.eq (S.system setting.now) (S.Knows setting.now)

@@ -1,11 +1,13 @@
 //! The steps that an attempt makes by its walk, where nobody else makes any in between.
 
 ghost use Rattle.std.specs.Prelude.{◌≡◌, ◌<◌, ◌≤◌};
+ghost use Rattle.turns.specs.Sharing.{with_request};
+ghost use Rattle.turns.specs.Sharings.{preferring, taken_by as taken_by_of};
 ghost use Rattle.turns.specs.System.{AreWords};
 ghost use Rattle.attempts.specs.Counting.{counted_by};
-ghost use Rattle.attempts.specs.Live.{LeadsTo, WantsNext};
+ghost use Rattle.attempts.specs.Live.{LeadsTo};
 ghost use Rattle.attempts.specs.Running.{GoesFarEnough, Runs};
-ghost use Rattle.attempts.specs.Standing.{AreScripts, Stands, attempt_of};
+ghost use Rattle.attempts.specs.Standing.{AreScripts, MayGoOn, Stands, attempt_of};
 ghost use Rattle.attempts.specs.SystemWith.{system_with};
 
 use crate::attempt::AttemptOf;
@@ -18,29 +20,35 @@ fn are_words(_words: &[u64])
     ensures { AreWords _words.now }
 {}
 
-/// Goes on through the job, by as many steps of its own as its walk makes, and gives their number.
-fn walk_alone<S: Scripts<READINGS, HELD>, const READINGS: usize, const HELD: usize>(
+/// What it puts into the word of a free lock as it seizes it.
+fn own_word(actor: u32) -> u64
+    requires { actor < 48 }
+    ensures { result ≡ taken_by_of actor (with_request preferring actor 0) }
+{
+    taken_by(actor, asked_by(actor, 0))
+}
+
+/// Goes on through the job where it wants a lock or a word next, by as many steps of its own as its
+/// walk makes, and gives their number. Elsewhere it makes none.
+fn make_steps<S: Scripts<READINGS, HELD>, const READINGS: usize, const HELD: usize>(
     program: &mut AttemptOf<S, READINGS, HELD>,
     setting: &S::Setting,
     actor: u32,
     words: &mut [u64],
     most: u32,
 ) -> u32
-    requires setting { S.IsSetting setting.now }
-    requires scripts { AreScripts S.Lock.eq S.reply_of S.effects_of (S.system setting.now)
-        (S.Knows setting.now) READINGS HELD }
-    requires stands { Stands S.Lock.eq S.reply_of S.effects_of (S.system setting.now)
-        (S.Knows setting.now) READINGS HELD program.old }
-    requires wants { WantsNext program.old.phase }
+    requires may { MayGoOn (S.IsSetting setting.now) S.Lock.eq S.reply_of S.effects_of
+        (S.system setting.now) (S.Knows setting.now) READINGS HELD program.old }
     requires actor { actor < 48 }
     ensures { Runs S.Lock.eq S.reply_of S.effects_of (S.system setting.now) (S.Knows setting.now)
         READINGS HELD actor most result program.old words.old program.new words.new }
 {
+    let Some(_) = program.wants() else {
+        return 0;
+    };
     // Called for its clause alone.
     are_words(words);
-    program
-        .seen
-        .allow(most, taken_by(actor, asked_by(actor, 0)));
+    program.seen.allow(most, own_word(actor));
     let found = walk_by::<S, READINGS, HELD>(
         setting,
         &program.job,
@@ -51,29 +59,6 @@ fn walk_alone<S: Scripts<READINGS, HELD>, const READINGS: usize, const HELD: usi
     let left = program.seen.left();
     program.go_on(found);
     most - left
-}
-
-/// Makes steps where it wants a lock or a word next, and none elsewhere.
-fn make_steps<S: Scripts<READINGS, HELD>, const READINGS: usize, const HELD: usize>(
-    program: &mut AttemptOf<S, READINGS, HELD>,
-    setting: &S::Setting,
-    actor: u32,
-    words: &mut [u64],
-    most: u32,
-) -> u32
-    requires setting { S.IsSetting setting.now }
-    requires scripts { AreScripts S.Lock.eq S.reply_of S.effects_of (S.system setting.now)
-        (S.Knows setting.now) READINGS HELD }
-    requires stands { Stands S.Lock.eq S.reply_of S.effects_of (S.system setting.now)
-        (S.Knows setting.now) READINGS HELD program.old }
-    requires actor { actor < 48 }
-    ensures { Runs S.Lock.eq S.reply_of S.effects_of (S.system setting.now) (S.Knows setting.now)
-        READINGS HELD actor most result program.old words.old program.new words.new }
-{
-    match program.wants() {
-        Some(_) => walk_alone::<S, READINGS, HELD>(program, setting, actor, words, most),
-        None => 0,
-    }
 }
 
 /// Makes its next steps on the words, as this actor: as many as its walk makes by itself, but no

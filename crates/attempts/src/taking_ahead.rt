@@ -5,8 +5,8 @@ ghost use Rattle.turns.specs.Attempt.{change};
 ghost use Rattle.turns.specs.Script.{value_read};
 ghost use Rattle.turns.specs.declared.reading.Reading.{Reading as ReadingView};
 ghost use Rattle.attempts.specs.Counting.{count_in, counted};
-ghost use Rattle.attempts.specs.Foresight.{IsForeseen, MayReadAhead, MayTakeAhead};
-ghost use Rattle.attempts.specs.Standing.{AreScripts, CanWalk, Stands, attempt_of};
+ghost use Rattle.attempts.specs.Foresight.{IsForeseen, MayLookAhead, MayReadAhead, MayTakeAhead};
+ghost use Rattle.attempts.specs.Standing.{AreScripts, CanWalk, MayGoOn, Stands, attempt_of};
 ghost use Rattle.attempts.specs.SystemWith.{system_with};
 ghost use Rattle.attempts.specs.Taken.{MayRead, Takes, gone_on};
 
@@ -26,6 +26,8 @@ fn may_take<S: Scripts<READINGS, HELD>, const READINGS: usize, const HELD: usize
 )
     requires { MayTakeAhead (S.IsSetting _setting.now) S.Lock.eq S.reply_of S.effects_of
         (S.system _setting.now) (S.Knows _setting.now) READINGS HELD _program.now _ahead.now }
+    ensures goes_on { MayGoOn (S.IsSetting _setting.now) S.Lock.eq S.reply_of S.effects_of
+        (S.system _setting.now) (S.Knows _setting.now) READINGS HELD _program.now }
     ensures setting { S.IsSetting _setting.now }
     ensures scripts { AreScripts S.Lock.eq S.reply_of S.effects_of (S.system _setting.now)
         (S.Knows _setting.now) READINGS HELD }
@@ -115,18 +117,21 @@ fn as_foreseen<L: Copy + Drop, D: Drop, P: Drop, const READINGS: usize>(
     }
 }
 
-/// Holds the lock too, and may go on through its job.
+/// Holds the lock too, and may look ahead from there.
 fn hold_lock<S: Scripts<READINGS, HELD>, const READINGS: usize, const HELD: usize>(
     program: &mut AttemptOf<S, READINGS, HELD>,
     setting: &S::Setting,
     lock: S::Lock,
 )
+    requires setting { S.IsSetting setting.now }
+    requires scripts { AreScripts S.Lock.eq S.reply_of S.effects_of (S.system setting.now)
+        (S.Knows setting.now) READINGS HELD }
     requires room { length program.old.held < HELD }
     requires walk { CanWalk S.Lock.eq S.reply_of S.effects_of (S.system setting.now)
         (S.Knows setting.now) (record program.old { held = program.old.held ++ lock ∷ [] }) }
     ensures held { program.new ≡ record program.old { held = program.old.held ++ lock ∷ [] } }
-    ensures walk { CanWalk S.Lock.eq S.reply_of S.effects_of (S.system setting.now)
-        (S.Knows setting.now) program.new }
+    ensures looks { MayLookAhead (S.IsSetting setting.now) S.Lock.eq S.reply_of S.effects_of
+        (S.system setting.now) (S.Knows setting.now) READINGS HELD program.new }
 {
     let _ = setting;
     program.hold(lock);
