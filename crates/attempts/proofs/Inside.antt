@@ -1,7 +1,8 @@
 -- an attempt from inside, as its methods have it, and from outside
-use Rattle.std.proofs.Common.{◌≡◌, ℕ, ◌<◌, ◌+◌, ◌^◌, Bool, true, false, List, [], ◌∷◌, length, refl, sym, ◌∙◌, ap, subst, inl, inr}
-use Rattle.std.specs.Prelude.{◌⊎◌, if◌then◌else◌, Option, Some, None, IfSome, slice_get}
+use Rattle.std.proofs.Common.{◌≡◌, ℕ, suc, arith, ne_eqb, ◌<◌, ◌+◌, ◌^◌, Bool, true, false, List, [], ◌∷◌, length, refl, sym, ◌∙◌, ap, subst, inl, inr}
+use Rattle.std.specs.Prelude.{◌⊎◌, ◌==◌, if◌then◌else◌, Option, Some, None, IfSome, slice_get}
 use Rattle.turns.specs.Attempt.{Act, Free, Rest, asked_in, free_act, turn_in}
+use Rattle.turns.specs.Runs.{is_rest}
 use Rattle.desks.specs.Outcomes.{is_given_up}
 use Rattle.turns.specs.declared.phase.Phase.{Phase}
 use Rattle.turns.specs.declared.phase.Phase.TheVariants.{Requests, Seizes, Tests, Turns, Withdraws, GivesBack, Operates}
@@ -94,6 +95,10 @@ frees_first (own ∷ held) lock e = let same : lock ≡ own = cc in ap Free same
 pub frees_none : {Lock Effect : Type 0} (held : List Lock) → None ≡ slice_get held 0 → ◌≡◌ {A = Act Lock Effect} Rest (free_act held)
 frees_none [] e = refl
 frees_none (own ∷ held) e = absurd cc
+
+pub none_to_free : {Lock : Type 0} (Effect : Type 0) (held : List Lock) → (length held == 0) ≡ is_rest (free_act {Effect = Effect} held)
+none_to_free Effect [] = refl
+none_to_free Effect (lock ∷ held) = ne_eqb (suc (length held)) 0 (λ e. omega (arith, e))
 
 -- undecided, it has no effect left to make
 pub undecided : {Lock Job Decision Point Effect : Type 0} (effects_of : Decision → List Effect) (p now : Program Lock Job Decision Point) → p ≡ now → p.decision ≡ None → effects_left effects_of now.decision now.made ≡ []

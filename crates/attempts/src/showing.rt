@@ -70,21 +70,44 @@ pub fn next<S: Scripts<READINGS, HELD>, const READINGS: usize, const HELD: usize
     }
 }
 
-/// Whether its job is done, and it holds nothing.
+fn holds_none<S: Scripts<READINGS, HELD>, const READINGS: usize, const HELD: usize>(
+    program: &AttemptOf<S, READINGS, HELD>,
+) -> bool
+    ensures { result ≡ is_rest (free_act {Effect = S.Effect} program.now.held) }
+{
+    program.seen.holds_none()
+}
+
+/// Whether it has neither an effect left to make nor a lock to free.
+fn is_closed<S: Scripts<READINGS, HELD>, const READINGS: usize, const HELD: usize>(
+    program: &AttemptOf<S, READINGS, HELD>,
+) -> bool
+    ensures { result ≡ is_rest
+        (closing_act (attempt_of S.reply_of S.effects_of program.now).effects program.now.held) }
+{
+    match next_effect::<S, READINGS, HELD>(program) {
+        Some(_) => false,
+        None => holds_none::<S, READINGS, HELD>(program),
+    }
+}
+
+/// Whether its job is done, and it holds nothing. It is asked for with each step, so by the phase alone
+/// where that tells.
+#[inline]
 pub fn is_done<S: Scripts<READINGS, HELD>, const READINGS: usize, const HELD: usize>(
     program: &AttemptOf<S, READINGS, HELD>,
 ) -> bool
     ensures { result ≡ is_rest (act (attempt_of S.reply_of S.effects_of program.now)) }
 {
-    match next::<S, READINGS, HELD>(program) {
-        Step::Rest => true,
-        Step::Ask(_) => false,
-        Step::Take(_, _) => false,
-        Step::Leave(_) => false,
-        Step::Free(_) => false,
-        Step::Look(_) => false,
-        Step::Turn => false,
-        Step::Make(_) => false,
+    let phase = program.phase;
+    match phase {
+        Phase::Requests(_) => false,
+        Phase::Seizes(_, _) => false,
+        Phase::Tests(_) => false,
+        Phase::Turns => false,
+        Phase::Withdraws(_) => false,
+        Phase::GivesBack => holds_none::<S, READINGS, HELD>(program),
+        Phase::Operates(_) => is_closed::<S, READINGS, HELD>(program),
     }
 }
 

@@ -1,0 +1,10 @@
+use Rattle.std.proofs.Common.{ap, sym, ◌∙◌}
+use Rattle.turns.specs.Attempt.{closing_act}
+use Rattle.turns.specs.Runs.{is_rest}
+use Rattle.attempts.proofs.showing.is_closed.Goals as goal
+
+pub returns-in-Some : goal.returns-in-Some
+returns-in-Some g c = ap (λ effects. is_rest (closing_act effects c.args.program.now.held)) (sym c.in-Some.ensures.some)
+
+pub returns-in-None : goal.returns-in-None
+returns-in-None g c = c.holds_none.ensures ∙ ap (λ effects. is_rest (closing_act effects c.args.program.now.held)) (sym c.in-None.ensures.none)
