@@ -100,4 +100,6 @@ measure "" "$program" live.csv live
 measure ", two markers of each kind" "$program" live.csv live --dial 2 --completing 2
 if [[ -n $plain ]]; then
     for file in dials tones idle calls calls48; do measure ", ordinary Rust" "$plain" $file.csv replay; done
+    measure ", ordinary Rust" "$plain" live.csv calls 1
+    measure ", two markers of each kind, ordinary Rust" "$plain" live.csv calls 2
 fi
