@@ -7,7 +7,7 @@ use Rattle.turns.specs.declared.reading.Reading.{Reading}
 use Rattle.turns.specs.declared.wanted.Wanted.{Wanted}
 use Rattle.turns.specs.declared.wanted.Wanted.TheVariants.{Test}
 use Rattle.attempts.specs.Points.{seen_with}
-use Rattle.attempts.specs.Standing.{AreScripts, CanWalk, MayGoOn, Program, Stands}
+use Rattle.attempts.specs.Standing.{AreScripts, CanWalk, Program, Stands}
 use Rattle.attempts.specs.SystemWith.{SystemWith}
 use Rattle.attempts.specs.Taken.{MayRead}
 
@@ -49,10 +49,11 @@ pub record MayLookAhead {Lock Job Reply Effect Decision Point : Type 0} (Setting
   pub scripts : AreScripts same reply_of effects_of S Knows most_readings most_held
   pub walk : CanWalk same reply_of effects_of S Knows p
 
--- it may go on, and what it foresees is so
+-- the jobs are scripts, and an attempt that foresees this stands where its job brings it, under a setting that there is
 pub record MayTakeAhead {Lock Job Reply Effect Decision Point : Type 0} (Setting : Type 0) (same : Lock → Lock → Bool) (reply_of : Decision → Reply) (effects_of : Decision → List Effect) (S : SystemWith Lock Job Reply Effect Decision) (Knows : Job → Point → Seen Lock → Type 0) (most_readings most_held : ℕ) (p : Program Lock Job Decision Point) (ahead : ForesightView Lock Decision Point) : Type 0 where
-  pub goes_on : MayGoOn Setting same reply_of effects_of S Knows most_readings most_held p
-  pub open goes_on use *
+  pub setting : Setting
+  pub scripts : AreScripts same reply_of effects_of S Knows most_readings most_held
+  pub stands : Stands same reply_of effects_of S Knows most_readings most_held p
   pub foreseen : IsForeseen same S Knows p ahead.left ahead.further
 
 -- it may go on with this reading

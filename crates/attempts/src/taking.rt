@@ -5,7 +5,7 @@ ghost use Rattle.turns.specs.Attempt.{change, freed, operated, rest_of};
 ghost use Rattle.attempts.specs.Counting.{count_in, counted};
 ghost use Rattle.attempts.specs.Live.{live};
 ghost use Rattle.attempts.specs.Points.{GoesOnTo};
-ghost use Rattle.attempts.specs.Standing.{AreScripts, CanWalk, KnowsIn, MayGoOn, Stands, attempt_of};
+ghost use Rattle.attempts.specs.Standing.{AreScripts, CanWalk, KnowsIn, Stands, attempt_of};
 ghost use Rattle.attempts.specs.SystemWith.{system_with};
 ghost use Rattle.attempts.specs.Taken.{MayAskNext, MayRead, MayWalk, SeizesLock, Takes, WalksOn};
 
@@ -355,34 +355,22 @@ fn take_done<S: Scripts<READINGS, HELD>, const READINGS: usize, const HELD: usiz
     }
 }
 
-/// Each part of what lets it go on. Called for its clauses alone.
-fn may_go_on<S: Scripts<READINGS, HELD>, const READINGS: usize, const HELD: usize>(
-    _program: &AttemptOf<S, READINGS, HELD>,
-    _setting: &S::Setting,
-)
-    requires { MayGoOn (S.IsSetting _setting.now) S.Lock.eq S.reply_of S.effects_of
-        (S.system _setting.now) (S.Knows _setting.now) READINGS HELD _program.now }
-    ensures setting { S.IsSetting _setting.now }
-    ensures scripts { AreScripts S.Lock.eq S.reply_of S.effects_of (S.system _setting.now)
-        (S.Knows _setting.now) READINGS HELD }
-    ensures stands { Stands S.Lock.eq S.reply_of S.effects_of (S.system _setting.now)
-        (S.Knows _setting.now) READINGS HELD _program.now }
-{}
-
-/// Changes, but for its count.
+/// Changes as what it is told of its step wants it, but for its count.
 #[inline(always)]
 pub(crate) fn take_answer<S: Scripts<READINGS, HELD>, const READINGS: usize, const HELD: usize>(
     program: &mut AttemptOf<S, READINGS, HELD>,
     setting: &S::Setting,
-    answer: Answer,
+    told: Answer,
 )
-    requires { MayGoOn (S.IsSetting setting.now) S.Lock.eq S.reply_of S.effects_of
-        (S.system setting.now) (S.Knows setting.now) READINGS HELD program.old }
+    requires setting { S.IsSetting setting.now }
+    requires scripts { AreScripts S.Lock.eq S.reply_of S.effects_of (S.system setting.now)
+        (S.Knows setting.now) READINGS HELD }
+    requires stands { Stands S.Lock.eq S.reply_of S.effects_of (S.system setting.now)
+        (S.Knows setting.now) READINGS HELD program.old }
     ensures { Takes S.Lock.eq S.reply_of S.effects_of (S.system setting.now) (S.Knows setting.now)
-        answer program.old program.new }
+        told program.old program.new }
 {
-    may_go_on::<S, READINGS, HELD>(program, setting);
-    match answer {
+    match told {
         Answer::Asked(word) => take_request::<S, READINGS, HELD>(program, setting, word),
         Answer::Again(word) => take_again::<S, READINGS, HELD>(program, setting, word),
         Answer::Held(_) => take_refusal::<S, READINGS, HELD>(program, setting),

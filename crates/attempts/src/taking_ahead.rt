@@ -6,7 +6,7 @@ ghost use Rattle.turns.specs.Script.{value_read};
 ghost use Rattle.turns.specs.declared.reading.Reading.{Reading as ReadingView};
 ghost use Rattle.attempts.specs.Counting.{count_in, counted};
 ghost use Rattle.attempts.specs.Foresight.{IsForeseen, MayLookAhead, MayReadAhead, MayTakeAhead};
-ghost use Rattle.attempts.specs.Standing.{AreScripts, CanWalk, MayGoOn, Stands, attempt_of};
+ghost use Rattle.attempts.specs.Standing.{AreScripts, CanWalk, Stands, attempt_of};
 ghost use Rattle.attempts.specs.SystemWith.{system_with};
 ghost use Rattle.attempts.specs.Taken.{MayRead, Takes, gone_on};
 
@@ -26,8 +26,6 @@ fn may_take<S: Scripts<READINGS, HELD>, const READINGS: usize, const HELD: usize
 )
     requires { MayTakeAhead (S.IsSetting _setting.now) S.Lock.eq S.reply_of S.effects_of
         (S.system _setting.now) (S.Knows _setting.now) READINGS HELD _program.now _ahead.now }
-    ensures goes_on { MayGoOn (S.IsSetting _setting.now) S.Lock.eq S.reply_of S.effects_of
-        (S.system _setting.now) (S.Knows _setting.now) READINGS HELD _program.now }
     ensures setting { S.IsSetting _setting.now }
     ensures scripts { AreScripts S.Lock.eq S.reply_of S.effects_of (S.system _setting.now)
         (S.Knows _setting.now) READINGS HELD }

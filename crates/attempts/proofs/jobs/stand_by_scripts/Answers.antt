@@ -2,10 +2,8 @@ use Rattle.attempts.proofs.jobs.stand_by_scripts.Goals as goal
 
 pub returns : goal.returns
 returns g c = record {
-  goes_on = record {
-    setting = c.requires.stands.0;
-    scripts = g.met.S.OnWords.are_scripts c.args.setting.now c.requires.stands.0;
-    stands = c.requires.stands.1;
-  };
+  setting = c.requires.stands.0;
+  scripts = g.met.S.OnWords.are_scripts c.args.setting.now c.requires.stands.0;
+  stands = c.requires.stands.1;
   foreseen = c.requires.foresees;
 }

@@ -1,8 +1,5 @@
 use Rattle.attempts.proofs.taking_ahead.may_take.Goals as goal
 
-pub returns-clause-goes_on : goal.returns-clause-goes_on
-returns-clause-goes_on g c = c.requires.goes_on
-
 pub returns-clause-setting : goal.returns-clause-setting
 returns-clause-setting g c = c.requires.setting
 
