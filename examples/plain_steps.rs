@@ -779,7 +779,7 @@ fn write_record(out: &mut Vec<u8>, job: &Asked, record: &Record) -> io::Result<(
         End::Connected(path) => writeln!(out, "CONNECTED,1,{path},-"),
         End::Released(path) => writeln!(out, "RELEASED,-,{path},-"),
         End::LineBusy => writeln!(out, "LINEBUSY,-,-,-"),
-        End::Busy if job.kind == 0 => writeln!(out, "NOREGISTER,-,-,-"),
+        End::Busy if job.kind == 0 => writeln!(out, "REGISTERSBUSY,-,-,-"),
         End::Busy => writeln!(out, "TRUNKSBUSY,-,-,-"),
         End::NoPath => writeln!(out, "NOPATH,-,-,-"),
         End::NoCall => writeln!(out, "NOCALL,-,-,-"),

@@ -5,7 +5,7 @@ use super::tally::{State, Tally};
 use std::alloc::Global;
 use std::thread::Threads;
 use std::{io, thread};
-use xbar_fabric::{Desk, Fabric, Progress};
+use xbar_fabric::{Desk, Fabric};
 
 /// More steps than a job has left that is past its turn.
 const MOST_STEPS_LEFT: u32 = 128;
@@ -16,17 +16,16 @@ fn go_on(fabric: &Fabric, desk: &mut Desk, state: &mut State)
     requires { IsDeskOf desk.old fabric.now }
     ensures { IsDeskOf desk.new fabric.now }
 {
-    match desk.advance(fabric) {
-        Progress::Idle => {
-            let job = state.next_job(desk.marker());
-            let _assigned = desk.assign(0, job);
-            return;
-        }
-        Progress::Finished(_) => state.count_step(true),
-        Progress::Moved | Progress::Refused { .. } | Progress::Preferred(_) => {
-            state.count_step(false);
-        }
+    if desk.step(fabric).is_none() {
+        let job = state.next_job(desk.marker());
+        let _assigned = desk.assign(0, job);
+        return;
     }
+    let has_ended = desk.is_idle();
+    if has_ended {
+        let _record = desk.record();
+    }
+    state.count_step(has_ended);
     if state.gives_up() {
         let _given = desk.give_back(fabric);
         thread::yield_now();
@@ -42,7 +41,7 @@ fn let_go(fabric: &Fabric, desk: &mut Desk)
         if desk.is_idle() {
             return;
         }
-        let _event = desk.advance(fabric);
+        let _answer = desk.step(fabric);
     }
     let _given = desk.give_back(fabric);
 }
