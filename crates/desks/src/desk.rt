@@ -179,7 +179,7 @@ impl<F: Jobs> Desk<F> {
     }
 
     /// Makes the next step of its job, as `step` does, and tells what came of it.
-    #[inline]
+    #[inline(always)]
     pub fn advance(&mut self, room: &Room<F>, setting: &F::Setting) -> Progress<F::Job, F::Reply>
         requires { IsDeskOf self.old room.now setting.now }
         ensures same { self.new
@@ -218,7 +218,7 @@ impl<F: Jobs> Desk<F> {
     }
 
     /// Whether it has a request to withdraw or locks to free before its job begins anew.
-    fn is_giving_back(&self) -> bool
+    pub fn is_giving_back(&self) -> bool
         ensures gives_back { result ≡ gives_back self.now.actor }
         ensures to_free { HasToFree (system_of (F.system self.now.setting)) self.now.actor }
     {
