@@ -1,4 +1,4 @@
-//! Calls by markers on threads: by `run_calls`, as they come and paced so that registers last, and beside
+//! Calls by markers on threads: by `run_desks`, as they come and paced so that registers last, and beside
 //! it by as many workers of the core's office behind one lock.
 
 ghost use Rattle.std.specs.Prelude.{◌≤◌, All};
@@ -12,6 +12,7 @@ mod traffic;
 
 use crate::timing::nanoseconds_each;
 use load::Load;
+use paced::Done;
 use std::alloc::Global;
 use std::io;
 use std::rt::Clock;
@@ -31,10 +32,15 @@ fn measure_markers<R: Eprint + Clock + Threads + Wait + Sync>(
     requires count { load.now.count ≤ 24 }
 {
     let Load { count, most, .. } = *load;
-    let start = Instant::now(rt)?;
-    let jobs = paced::work(rt, alloc, plan, load)?;
-    let job = nanoseconds_each(start.elapsed(rt)?, jobs as u64);
-    eprintln!(rt; "{count} and {count} markers, {most} calls at once: {job} ns a job of {jobs}")
+    let Done {
+        jobs,
+        working,
+        auditing,
+    } = paced::work(rt, alloc, plan, load)?;
+    let job = nanoseconds_each(working, jobs as u64);
+    let audit = nanoseconds_each(auditing, jobs as u64);
+    eprint!(rt; "{count} and {count} markers, {most} calls at once: ")?;
+    eprintln!(rt; "{job} ns a job of {jobs}, and {audit} for its audit")
 }
 
 /// The same by as many workers behind one lock, paced so that registers last.

@@ -138,11 +138,31 @@ fn holds_the_place_selected_last(rt: HostRuntime) -> Result<(), Fail> {
     Ok(())
 }
 
-/// Shapes, each with its width and its places, the highest place that a field of it names, and what
-/// is left of a word of ones without field 0.
-const SHAPES: &[(Shape, (u32, u8), u8, u64)] = &[
-    (Shape::Line, (6, 30), 62, 18446744073709551552),
-    (Shape::Other, (4, 10), 14, 18446744073709551600),
+/// A shape with its width and its places, the highest place that a field of it names, and what is
+/// left of a word of ones without field 0.
+struct Known {
+    shape: Shape,
+    width: u32,
+    places: u8,
+    highest: u8,
+    released: u64,
+}
+
+const KNOWN: &[Known] = &[
+    Known {
+        shape: Shape::Line,
+        width: 6,
+        places: 30,
+        highest: 62,
+        released: 18446744073709551552,
+    },
+    Known {
+        shape: Shape::Other,
+        width: 4,
+        places: 10,
+        highest: 14,
+        released: 18446744073709551600,
+    },
 ];
 
 /// What ends of a word of ones name, and what is left of it without field 0.
@@ -155,12 +175,18 @@ fn ones(shape: Shape) -> (Option<u8>, Option<u8>, u64) {
     }
 }
 
+fn check_shape(rt: &impl Abort, known: &Known) {
+    let Known { shape, highest, .. } = *known;
+    check_eq!(rt; shape.width(), known.width, "{shape:?}");
+    check_eq!(rt; shape.places(), known.places, "{shape:?}");
+    let wanted = (Some(highest), Some(highest), known.released);
+    check_eq!(rt; ones(shape), wanted, "{shape:?}");
+}
+
 #[test]
 fn tells_shapes_apart(rt: HostRuntime) {
-    for (shape, size, highest, released) in SHAPES {
-        check_eq!(rt; (shape.width(), shape.places()), *size);
-        let wanted = (Some(*highest), Some(*highest), *released);
-        check_eq!(rt; ones(*shape), wanted, "{shape:?}");
+    for known in KNOWN {
+        check_shape(&rt, known);
     }
 }
 

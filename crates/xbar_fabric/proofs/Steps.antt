@@ -30,7 +30,7 @@ use Rattle.xbar_core.proofs.Markers.{marker_set}
 use Rattle.xbar_core.proofs.StepCases.{step_made}
 use Rattle.xbar_core.proofs.Stepping.{event_there}
 use Rattle.xbar_core.proofs.WorldMoves.{has_to_give, steps_in_world}
-use Rattle.xbar_fabric.specs.Advances.{HasStepped, IsAnswered}
+use Rattle.xbar_fabric.specs.Advances.{HasStepped}
 use Rattle.xbar_fabric.specs.Views.{DeskView, IsAmid, entered, view_at}
 use Rattle.xbar_fabric.proofs.Offices.{Order, begins_entered, entered_turned, is_lawful, marker_at, marker_made, office_of, own_same, world_is}
 
@@ -100,7 +100,7 @@ module _ (plan : Tables) (kind : Kind) (k : ℕ) (before after : Work) (seen see
   after_is : Does step.number (change (office plan) a (told_of k e.words a)) ≡ after
   after_is = ap (λ (t : Answer). Does step.number (change (office plan) a t)) answered ∙ sym step.after_is
 
-  there_after : slice_get (after_step plan k e).markers k ≡ Some (marker_at kind after)
+  pub there_after : slice_get (after_step plan k e).markers k ≡ Some (marker_at kind after)
   there_after =
       ap (λ (x : Exchange). slice_get x.markers k) (step_made plan e k step.number a at goes_on_at)
       ∙ marker_set e.markers k _ at.marker at.there
@@ -122,7 +122,7 @@ module _ (plan : Tables) (kind : Kind) (k : ℕ) (before after : Work) (seen see
       ∙ ap (λ (idle : Bool). if idle then event.Idle else event_of k step.number a (change (office plan) a (told_of k e.words a)) (told_of k e.words a)) goes_on_at
       ∙ ap (λ (t : Answer). event_of k step.number a (change (office plan) a t) t) told
 
-  amid : (table : TableId) → IsAmid (desk_at table plan kind k before seen) e
+  pub amid : (table : TableId) → IsAmid (desk_at table plan kind k before seen) e
   amid table = record {
     lawful = lawful;
     there = at.there;
@@ -130,17 +130,14 @@ module _ (plan : Tables) (kind : Kind) (k : ℕ) (before after : Work) (seen see
     own_is = own_same k seen step.world.order step.own_is;
   }
 
-  -- how the step is answered there
-  pub has_answered : (table : TableId) → IsAnswered (desk_at table plan kind k before seen) (desk_at table plan kind k after seen_after) answer
-  has_answered table = record {
-    office = e;
-    amid = amid table;
-    answered = subst (λ (m : Work). moves.IsAnswered plan k e.words m after (Some answer)) (sym step.before_is)
-        (goes_on_at, sym told, sym after_is ∙ ap (λ (t : Answer). Does step.number (change (office plan) a t)) told);
-  }
+  -- how the marker is answered there
+  pub is_answered : moves.IsAnswered plan k e.words before after (Some answer)
+  is_answered =
+      subst (λ (m : Work). moves.IsAnswered plan k e.words m after (Some answer)) (sym step.before_is)
+      (goes_on_at, sym told, sym after_is ∙ ap (λ (t : Answer). Does step.number (change (office plan) a t)) told)
 
   -- the step, with what comes of it
-  pub has_stepped : (table : TableId) (what : Event) → what ≡ event_of k step.number a (change (office plan) a answer) answer → HasStepped (desk_at table plan kind k before seen) (desk_at table plan kind k after seen_after) what
+  unfoldable pub has_stepped : (table : TableId) (what : Event) → what ≡ event_of k step.number a (change (office plan) a answer) answer → HasStepped (desk_at table plan kind k before seen) (desk_at table plan kind k after seen_after) what
   has_stepped table what is = record {
     office = e;
     amid = amid table;

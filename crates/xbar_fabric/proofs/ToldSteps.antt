@@ -58,7 +58,7 @@ on_goes : (k number : ℕ) (after : Attempt) (r : Record) (rests : Bool) → mov
 on_goes k number after r true is = refl
 on_goes k number after r false is = absurd cc
 
-finished_rests : (k number : ℕ) (a after : Attempt) (r : Record) (answer : Answer) → event_of k number a after answer ≡ event.Finished r → is_rest (act after) ≡ true
+pub finished_rests : (k number : ℕ) (a after : Attempt) (r : Record) (answer : Answer) → event_of k number a after answer ≡ event.Finished r → is_rest (act after) ≡ true
 finished_rests k number a after r (Held holder) is = absurd (refusal_goes holder _ r is)
 finished_rests k number a after r (Preferred other) is = absurd cc
 finished_rests k number a after r (Asked word) is = absurd cc
@@ -110,16 +110,16 @@ module _ (plan : Tables) (table : TableId) (kind : Kind) (k : ℕ) (before after
     pub busy_now : is_free (office plan) after ≡ false → is_rest (act next_attempt) ≡ false
     busy_now goes = subst (λ (m : Work). is_free (office plan) m ≡ false) after_is goes
 
-    never_idle : is_idle before ≡ true → ⊥
+    pub never_idle : is_idle before ≡ true → ⊥
     never_idle idle = step.goes_on (rest_is (act step.attempt) (subst (λ (m : Work). is_idle m ≡ true) step.before_is idle))
 
-    grows : Begins (map entered seen) (map entered seen_after)
+    pub grows : Begins (map entered seen) (map entered seen_after)
     grows =
         let added = added_in (office plan) k step.number step.attempt step.attempt.phase (number_found (office plan) step.world step.attempt) in
         begins_entered seen seen_after (step.begins.0 ++ added, step.seen_is ∙ ap (λ (l : Order). l ++ added) step.begins.1 ∙ append_assoc seen step.begins.0 added)
 
     -- a step after which something is left of the job
-    pub moves : (what : Event) → what ≡ event_of k step.number step.attempt next_attempt answer → is_free (office plan) after ≡ false → HasAdvanced old new what
+    unfoldable pub moves : (what : Event) → what ≡ event_of k step.number step.attempt next_attempt answer → is_free (office plan) after ≡ false → HasAdvanced old new what
     moves what is goes = record {
       idle = λ idle. absurd (never_idle idle);
       stepped = λ _. has_stepped plan kind k before after seen seen_after answer step table what is;
@@ -149,7 +149,7 @@ module _ (plan : Tables) (table : TableId) (kind : Kind) (k : ℕ) (before after
           let found = number_found (office plan) step.world step.attempt in
           step.answer_is ∙ ends_done plan k found step.attempt holds_some (subst (λ (t : Answer). is_rest (act (change (office plan) step.attempt t)) ≡ true) step.answer_is rests_now)
 
-      what_is : event.Finished (entered told) ≡ event_of k step.number step.attempt next_attempt answer
+      pub what_is : event.Finished (entered told) ≡ event_of k step.number step.attempt next_attempt answer
       what_is =
           let phase : next_attempt.phase ≡ Operates told.turn = ap (λ (a : Attempt). a.phase) same.1 ∙ is_told.phase in
           let reply : next_attempt.reply ≡ Some told.reply = ap (λ (a : Attempt). a.reply) same.1 ∙ is_told.reply in
@@ -169,7 +169,7 @@ module _ (plan : Tables) (table : TableId) (kind : Kind) (k : ℕ) (before after
           let long = ap (length {A = Record}) (seen_is plan kind k before after seen seen_after answer step ∙ step_adds plan office_at k step.number step.attempt (at plan kind k before after seen seen_after answer step)) in
           omega (arith, few, simp length-append at long)
 
-      tells : IsTold old new (entered told)
+      pub tells : IsTold old new (entered told)
       tells =
           let office_at = e plan kind k before after seen seen_after answer step in
           let here = at plan kind k before after seen seen_after answer step in
@@ -182,7 +182,7 @@ module _ (plan : Tables) (table : TableId) (kind : Kind) (k : ℕ) (before after
                 ∙ finished_at plan office_at k (entered told) (lawful plan kind k before after seen seen_after answer step) (shorter few) its_event;
           }
 
-      pub finishes_job : HasAdvanced old new (event.Finished (entered told))
+      unfoldable pub finishes_job : HasAdvanced old new (event.Finished (entered told))
       finishes_job = record {
         idle = λ idle. absurd (never_idle idle);
         stepped = λ _. has_stepped plan kind k before after seen seen_after answer step table (event.Finished (entered told)) what_is;

@@ -1,4 +1,4 @@
-use Rattle.std.specs.Prelude.{◌≡◌, ℕ, zero, suc, ◌+◌, ◌≤◌, Some, length, slice_get, true, false}
+use Rattle.std.specs.Prelude.{◌≡◌, ℕ, zero, suc, ◌+◌, ◌≤◌, Option, None, Some, length, slice_get, true, false}
 use Rattle.turns.specs.Attempt.{begin_with}
 use Rattle.turns.specs.declared.answer.Answer.{Answer}
 use Rattle.turns.specs.World as worlds
@@ -25,13 +25,6 @@ pub record HasStepped (before after : DeskView) (event : Event) : Type 0 where
   pub seen_is : after.seen ≡ (after_step before.plan before.marker office).records
   pub event_is : event ≡ event_at_step before.plan before.marker office
 
--- the desk's marker got this answer to its next step in an office amid which the desk stood, and the
--- desk is at what the marker makes of it
-pub record IsAnswered (before after : DeskView) (answer : Answer) : Type 0 where
-  pub office : Exchange
-  pub amid : IsAmid before office
-  pub answered : moves.IsAnswered before.plan before.marker office.words before.work after.work (Some answer)
-
 -- what came of an advance: no step of an idle desk, and any other's marker's next step; it has seen
 -- what it had seen, and more; and a record is told of the step after which nothing is left of the
 -- job
@@ -41,6 +34,16 @@ pub record HasAdvanced (before after : DeskView) (event : Event) : Type 0 where
   pub grown : Begins before.seen after.seen
   pub finished : (r : Record) → event ≡ Finished r →
       (is_idle after.work ≡ true) × IsTold before after r
+
+-- how an advance was answered, if no more is told of it: not at all where the desk was idle, and
+-- else as the marker is in the office in which it made the step
+pub record IsAnswered (before after : DeskView) (answer : Option Answer) : Type 0 where
+  pub event : Event
+  pub advanced : HasAdvanced before after event
+  pub idle : is_idle before.work ≡ true → answer ≡ None
+  pub answered : (goes_on : is_idle before.work ≡ false) →
+      moves.IsAnswered before.plan before.marker (advanced.stepped goes_on).office.words
+          before.work after.work answer
 
 -- so many steps of the desk's marker, between which other markers may move
 abbrev pub HasMade : ℕ → DeskView → DeskView → Type 0

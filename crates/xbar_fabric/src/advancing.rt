@@ -1,6 +1,6 @@
 //! A desk's steps: one at a time, or so many as give back what its marker holds.
 
-ghost use Rattle.std.specs.Prelude.{◌≡◌, ◌≢◌, ◌<◌, ◌^◌, ℕ, IfNone, IfSome, false, option_to_list, true};
+ghost use Rattle.std.specs.Prelude.{◌≡◌, ◌≢◌, ◌<◌, ◌^◌, ℕ, false, option_to_list, true};
 ghost use Rattle.turns.specs.Attempt.{act, asked_in};
 ghost use Rattle.turns.specs.Runs.{is_rest};
 ghost use Rattle.desks.specs.Desks.{told_record};
@@ -60,9 +60,7 @@ impl Desk {
     pub fn step(&mut self, fabric: &Fabric) -> Option<Answer>
         requires { IsDeskOf self.old fabric.now }
         ensures same { self.new ≡ record (self.old) { work = self.new.work; seen = self.new.seen } }
-        ensures none { IfNone result (is_idle self.old.work ≡ true) }
-        ensures answered { IfSome result (IsAnswered self.old self.new) }
-        ensures advanced { (event : Event) × HasAdvanced self.old self.new event }
+        ensures answered { IsAnswered self.old self.new result }
     {
         // Called for its clauses alone.
         xbar_plan::laws::every_plan_is_lawful(fabric.plan);

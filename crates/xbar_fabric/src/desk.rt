@@ -3,8 +3,8 @@ ghost use Rattle.turns.specs.Attempt.{begin_with};
 ghost use Rattle.turns.specs.World.{Does};
 ghost use Rattle.xbar_office.specs.Legal.{IsJob};
 ghost use Rattle.xbar_jobs.specs.Jobs.{first_conn};
-ghost use Rattle.desks.specs.Outcomes.{is_given_up};
-ghost use Rattle.xbar_core.specs.Exchange.{is_idle as is_idle_work, on_job};
+ghost use Rattle.desks.specs.Desks.{gives_back};
+ghost use Rattle.xbar_core.specs.Exchange.{is_idle as is_idle_work};
 ghost use Rattle.xbar_core.specs.Moves.{given_by, refusal_of};
 ghost use Rattle.xbar_fabric.specs.Histories.{IsHistory};
 ghost use Rattle.xbar_fabric.specs.Views.{marker_of};
@@ -64,12 +64,9 @@ impl Desk {
 
     /// Whether its marker was put off, and has a request to withdraw or connectors to free.
     pub fn is_giving_up(&self) -> bool
-        ensures { result ≡ on_job false (λ number a. is_given_up a.phase) self.now.work }
+        ensures { result ≡ gives_back self.now.work }
     {
-        match self.desk.doing() {
-            Some((_, program)) => program.is_given_up(),
-            None => false,
-        }
+        self.desk.is_giving_back()
     }
 
     /// What comes of asking its marker to give back.

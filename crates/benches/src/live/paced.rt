@@ -5,9 +5,12 @@ use super::load::Load;
 use super::pacing::Pace;
 use std::alloc::{AllocError, Global};
 use std::io;
+use std::rt::Clock;
 use std::sync::Wait;
 use std::thread::Threads;
-use xbar_markers::{Gate, run_calls};
+use std::time::{Duration, Instant};
+use xbar_markers::{Gate, open_staff, run_desks};
+use xbar_office::{Record, audit};
 use xbar_plan::Plan;
 
 /// Keeps who dials from running ahead of who completes calls.
@@ -51,21 +54,53 @@ fn gates(alloc: Global, pace: &Pace, count: usize) -> Result<Vec<PacedGate>, All
     Ok(gates)
 }
 
-/// Markers have such a load, each on a thread of its own. Gives how many jobs were done.
-pub fn work<R: Threads + Wait + Sync>(
+/// What came of a load: how many jobs there were, and how long they and the audit of their records took.
+#[derive(Drop)]
+pub struct Done {
+    pub jobs: usize,
+    pub working: Duration,
+    pub auditing: Duration,
+}
+
+/// How long an audit of these takes.
+fn audit_time<R: Clock>(
+    rt: &R,
+    alloc: Global,
+    plan: &Plan,
+    records: &[Record],
+) -> io::Result<Duration> {
+    let start = Instant::now(rt)?;
+    let audited = audit(alloc, plan, records);
+    let time = start.elapsed(rt)?;
+    match audited {
+        Ok(_) => Ok(time),
+        Err(_) => Err(io::ErrorKind::InvalidData.into()),
+    }
+}
+
+/// Markers have such a load, each on a thread of its own: from the opening of the words to the
+/// records in turn order, and then the audit of these.
+pub fn work<R: Clock + Threads + Wait + Sync>(
     rt: &R,
     alloc: Global,
     plan: &Plan,
     load: &Load,
-) -> io::Result<usize>
+) -> io::Result<Done>
     requires call_nos { All HasCallNo load.now.calls.now }
     requires count { load.now.count ≤ 24 }
 {
     let count = load.count;
     let pace = Pace::new(load.most);
     let gates = gates(alloc, &pace, count)?;
-    match run_calls(rt, alloc, plan, load.calls, count, count, gates) {
-        Ok(outcome) => Ok(outcome.records.len()),
-        Err(_) => Ok(0),
-    }
+    let start = Instant::now(rt)?;
+    let Ok((fabric, desks)) = open_staff(alloc, plan, count, count) else {
+        return Err(io::ErrorKind::InvalidInput.into());
+    };
+    let (_desks, records) = run_desks(rt, alloc, &fabric, desks, load.calls, gates)?;
+    let working = start.elapsed(rt)?;
+    Ok(Done {
+        jobs: records.len(),
+        working,
+        auditing: audit_time(rt, alloc, plan, records.as_slice())?,
+    })
 }

@@ -1,23 +1,14 @@
-use Rattle.std.proofs.Common.{◌≡◌, ℕ, true, sym, ap, subst, ◌∙◌}
-use Rattle.std.specs.Prelude.{IfNone, IfSome}
+use Rattle.std.proofs.Common.{◌≡◌, ℕ, sym, ap, subst, ◌∙◌}
+use Rattle.std.specs.Prelude.{IfSome}
 use Rattle.turns.specs.Law.{IsLegal}
 use Rattle.desks.specs.Desks as desks
 use Rattle.xbar_plan.specs.Tables.{Tables}
 use Rattle.xbar_jobs.specs.Office.{office}
-use Rattle.xbar_core.specs.Exchange.{is_idle}
-use Rattle.xbar_core.specs.declared.event.Event.{Event}
-use Rattle.xbar_fabric.specs.Advances.{HasAdvanced, IsAnswered}
+use Rattle.xbar_fabric.specs.Advances.{IsAnswered}
 use Rattle.xbar_fabric.specs.Views.{DeskView}
-use Rattle.xbar_fabric.proofs.GoneOn.{has_advanced, is_answered, none_idle}
+use Rattle.xbar_fabric.proofs.GoneOn.{has_answered}
 use Rattle.xbar_fabric.proofs.Steps.{as_seen}
 use Rattle.xbar_fabric.proofs.desk.Desk.step.Goals as goal
-
-pub returns-clause-none : goal.returns-clause-none
-returns-clause-none c =
-    let plan = c.fabric.inside.plan.now in
-    let desk = c.self.inside.desk in
-    subst (λ (d : DeskView). IfNone c.step-answer.result (is_idle d.work ≡ true)) c.self.view_is
-    (none_idle plan desk.table c.self.inside.kind desk.number desk.actor c.step-answer.new.self.actor desk.seen c.step-answer.new.self.seen _ c.step-answer.result c.step-answer.ensures.none)
 
 pub returns-clause-answered : goal.returns-clause-answered
 returns-clause-answered c =
@@ -26,18 +17,8 @@ returns-clause-answered c =
     let desk = c.self.inside.desk in
     let after = c.step-answer.new.self in
     let setting : c.self.inside.desk.setting ≡ c.fabric.inside.plan.now = ap (λ d. d.plan) c.self.view_is ∙ c.requires.plan_is ∙ sym (ap (λ f. f.plan) c.fabric.view_is) in
-    as_seen (λ (old new : DeskView). IfSome c.step-answer.result (IsAnswered old new)) plan kind desk after c.args.self.now setting c.step-answer.ensures.same c.self.view_is
-    (is_answered plan desk.table kind desk.number desk.actor after.actor desk.seen after.seen c.step-answer.result c.step-answer.ensures.stepped)
-
-pub returns-clause-advanced : goal.returns-clause-advanced
-returns-clause-advanced c =
-    let plan = c.fabric.inside.plan.now in
-    let kind = c.self.inside.kind in
-    let desk = c.self.inside.desk in
-    let after = c.step-answer.new.self in
-    let setting : c.self.inside.desk.setting ≡ c.fabric.inside.plan.now = ap (λ d. d.plan) c.self.view_is ∙ c.requires.plan_is ∙ sym (ap (λ f. f.plan) c.fabric.view_is) in
     let still : c.step-answer.new.self.setting ≡ c.fabric.inside.plan.now = ap (λ d. d.setting) c.step-answer.ensures.same ∙ setting in
     let legal = subst (λ (p : Tables). IsLegal (office p) 0 (office p).opening after.seen) still c.number-number.ensures.legal in
     let ends = subst (λ (k : ℕ). IfSome c.step-answer.result (λ answer. desks.EndsIn (office plan) after.seen k after.actor)) (ap (λ d. d.number) c.step-answer.ensures.same) c.step-answer.ensures.ended in
-    as_seen (λ (old new : DeskView). (event : Event) × HasAdvanced old new event) plan kind desk after c.args.self.now setting c.step-answer.ensures.same c.self.view_is
-    (has_advanced plan desk.table kind desk.number desk.actor after.actor desk.seen after.seen c.every_plan_is_lawful.ensures legal _ (λ same. (ap (λ d. d.actor) same, ap (λ d. d.seen) same)) c.step-answer.result c.step-answer.ensures.none c.step-answer.ensures.stepped ends)
+    as_seen (λ (old new : DeskView). IsAnswered old new c.step-answer.result) plan kind desk after c.args.self.now setting c.step-answer.ensures.same c.self.view_is
+    (has_answered plan desk.table kind desk.number desk.actor after.actor desk.seen after.seen c.every_plan_is_lawful.ensures legal _ (λ same. (ap (λ d. d.actor) same, ap (λ d. d.seen) same)) c.step-answer.result c.step-answer.ensures.none c.step-answer.ensures.stepped ends)

@@ -14,11 +14,11 @@ returns-in-Some-record g c =
     let desk = c.pass.new.self.desk in
     let after = c.step-answer.new.self in
     let r = c.in-Some-record.record in
-    let came = c.step-answer.ensures.advanced in
+    let told = c.step-answer.ensures.answered in
     let was : IsDoing c.args.job_no c.args.job c.args.self.now.desk c.pass.new.self.desk = subst (IsDoing c.args.job_no c.args.job start) (sym c.pass.ensures) c.loop.invariant in
-    let doing = goes_on c.args.job_no c.args.job start desk after was c.step-answer.ensures.same came.1.grown
-    (laws.advance desk after came.0 (mine start) came.1 was.mine_are)
-    (laws.job desk after came.0 came.1) in
+    let doing = goes_on c.args.job_no c.args.job start desk after was c.step-answer.ensures.same told.advanced.grown
+    (laws.advance desk after told.event (mine start) told.advanced was.mine_are)
+    (laws.job desk after told.event told.advanced) in
     let ended = sym c.in-Some-record.ensures in
     has_done c.args.job_no c.args.job start after r doing (sym c.is_idle.ensures ∙ c.if-is_idle.true) ended
     (c.next_records_have_later_turns.ensures.later start after r
