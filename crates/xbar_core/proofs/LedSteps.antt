@@ -1,5 +1,5 @@
 -- the steps that an attempt makes by itself are its marker's next steps in the office
-use Rattle.std.proofs.Common.{◌≡◌, ℕ, zero, suc, ◌+◌, Bool, false, List, [], ◌∷◌, ◌++◌, append-nil, arith, refl, sym, ◌∙◌, ap}
+use Rattle.std.proofs.Common.{◌≡◌, ℕ, zero, suc, ◌+◌, false, List, [], ◌∷◌, ◌++◌, append-nil, arith, refl, sym, ◌∙◌, ap}
 use Rattle.std.specs.Prelude.{Some, slice_get, slice_set}
 use Rattle.turns.specs.Attempt.{IsAnswerTo, Rest, Ask, Take, Leave, Free, Look, Turn, Make, act, change}
 use Rattle.turns.specs.Runs.{is_rest}
@@ -13,7 +13,6 @@ use Rattle.xbar_jobs.specs.Attempt.{Act, Attempt, next_step}
 use Rattle.xbar_jobs.specs.Office.{office}
 use Rattle.xbar_jobs.specs.OnWords.{words_after}
 use Rattle.xbar_jobs.proofs.PastTurn.{told_led, words_led}
-use Rattle.xbar_core.specs.AtWork.{told_of}
 use Rattle.xbar_core.specs.Exchange.{Exchange, Marker, Work}
 use Rattle.xbar_core.specs.Holding.{IsAt}
 use Rattle.xbar_core.specs.declared.kind.Kind.{Kind}

@@ -43,7 +43,7 @@ pub record IsAnswered (before after : DeskView) (answer : Option Answer) : Type 
   pub idle : is_idle before.work ≡ true → answer ≡ None
   pub answered : (goes_on : is_idle before.work ≡ false) →
       moves.IsAnswered before.plan before.marker (advanced.stepped goes_on).office.words
-          before.work after.work answer
+      before.work after.work answer
 
 -- so many steps of the desk's marker, between which other markers may move
 abbrev pub HasMade : ℕ → DeskView → DeskView → Type 0

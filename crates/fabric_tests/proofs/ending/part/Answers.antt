@@ -1,6 +1,5 @@
-use Rattle.std.proofs.Common.{rules, suc, ◌∷◌, ◌<◌, List, arith, length, subst}
+use Rattle.std.proofs.Common.{suc, arith, subst}
 use Rattle.std.specs.Prelude.{All}
-use Rattle.std.specs.Vec.Iter.{into_iter_items}
 use Rattle.xbar_fabric.specs.Views.{IsDeskOf}
 use Rattle.fabric_tests.proofs.ending.part.Goals as goal
 

@@ -1,9 +1,9 @@
-use Rattle.std.proofs.Common.{◌≡◌, ℕ, ◌<◌, length, slice_index_or, refl, subst}
+use Rattle.std.proofs.Common.{refl, subst}
 use Rattle.std.proofs.lemmas.Option.{slice_get_read}
 use Rattle.std.specs.Prelude.{IfSome, Option, Some}
 use denote.Param.Send as send
 use denote.Param.Send.{sendable}
-use Rattle.xbar_fabric.specs.Views.{AreDesksOf, DeskView, IsDeskOf}
+use Rattle.xbar_fabric.specs.Views.{DeskView, IsDeskOf}
 use Rattle.xbar_fabric.proofs.Sent.{desk_send}
 use Rattle.xbar_fabric.specs.contracts.desk.Desk as desk
 use Rattle.fabric_tests.specs.contracts.driving.AtWork as work
