@@ -6,6 +6,4 @@ pub use jobs::{SlotJobs, SlotScripts};
 pub mod driving;
 mod jobs;
 pub mod on_threads;
-#[cfg(test)]
-mod tests;
 mod walks;

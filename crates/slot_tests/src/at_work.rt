@@ -1,7 +1,9 @@
-use crate::SlotJobs;
-use crate::driving::{Shift, SlotDesk, SlotTold, finish, in_turn, last_desk, put_desk};
-use crate::on_threads::{idle_desks, take_and_give_at_once};
+//! Eight desks on threads, and two in turn; the rule that judges their records is written anew here.
+
 use desks::{Room, meet, shut_all};
+use slot_desks::SlotJobs;
+use slot_desks::driving::{Shift, SlotDesk, SlotTold, finish, in_turn, last_desk, put_desk};
+use slot_desks::on_threads::{idle_desks, take_and_give_at_once};
 use slots::{Job, UpToTwo};
 use std::alloc::Global;
 use std::test::Fail;
