@@ -13,6 +13,4 @@ pub mod laws;
 mod opening;
 mod outlet;
 mod rule;
-#[cfg(test)]
-mod tests;
 mod ticket;

@@ -1,7 +1,7 @@
 ghost use Rattle.std.specs.Prelude.{◌≡◌, ◌<◌, All, IfOk};
 ghost use Rattle.fair_queue.specs.Tickets.{IsTicketOf, IsUsable, with_put};
 
-use crate::{Inlet, Item, Outlet, Ticket, bounded};
+use fair_queue::{Inlet, Item, Outlet, Ticket, bounded};
 use std::alloc::{AllocError, Global};
 use std::sync::Wait;
 use std::test::Fail;

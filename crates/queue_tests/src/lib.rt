@@ -1,0 +1,5 @@
+//! Tests of queues among threads.
+#![tactic(auto)]
+
+#[cfg(test)]
+mod queues;
