@@ -1,7 +1,7 @@
 //! What an attempt does next, and what is to be seen of it.
 
-ghost use Rattle.std.specs.Prelude.{◌≡◌, ◌<◌, ◌+◌, ◌∷◌, ◌^◌, [], IfNone, IfSome};
-ghost use Rattle.turns.specs.Attempt.{act, closing_act, free_act};
+ghost use Rattle.std.specs.Prelude.{◌≡◌, ◌<◌, ◌+◌, ◌∷◌, ◌^◌, [], IfNone, IfSome, None};
+ghost use Rattle.turns.specs.Attempt.{act, asked_in, closing_act, free_act};
 ghost use Rattle.turns.specs.Runs.{is_rest};
 ghost use Rattle.desks.specs.Outcomes.{outcome_of};
 ghost use Rattle.attempts.specs.Standing.{attempt_of, effects_left};
@@ -67,6 +67,25 @@ pub fn next<S: Scripts<READINGS, HELD>, const READINGS: usize, const HELD: usize
         Phase::Withdraws(lock) => Step::Leave(lock),
         Phase::GivesBack => next_free::<S, READINGS, HELD>(program),
         Phase::Operates(_) => next_closing::<S, READINGS, HELD>(program),
+    }
+}
+
+/// The same, where its phase tells that this asks for no lock: a reading, its turn, and what comes past
+/// that.
+#[inline(always)]
+pub(crate) fn next_sure<S: Scripts<READINGS, HELD>, const READINGS: usize, const HELD: usize>(
+    program: &AttemptOf<S, READINGS, HELD>,
+) -> Option<Step<S::Lock, S::Effect>>
+    ensures next { IfSome result (λ step.
+        act_of step ≡ act (attempt_of S.reply_of S.effects_of program.now)) }
+    ensures asks_none { IfSome result (λ step. asked_in program.now.phase ≡ None) }
+{
+    let phase = program.phase;
+    match phase {
+        Phase::Tests(word) => Some(Step::Look(word)),
+        Phase::Turns => Some(Step::Turn),
+        Phase::Operates(_) => Some(next_closing::<S, READINGS, HELD>(program)),
+        Phase::Requests(_) | Phase::Seizes(_, _) | Phase::Withdraws(_) | Phase::GivesBack => None,
     }
 }
 

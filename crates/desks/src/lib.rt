@@ -8,6 +8,7 @@ pub use progress::{Progress, Told};
 pub use room::Room;
 pub use shutting::{shut, shut_all, shut_all_into};
 pub use view::View;
+pub use watch::Watch;
 
 mod desk;
 mod jobs;
@@ -19,3 +20,4 @@ mod rule;
 mod shutting;
 mod steps;
 mod view;
+mod watch;

@@ -38,10 +38,10 @@ impl State {
         }
     }
 
-    /// One more step was made, which ended the job or did not.
-    pub fn count_step(&mut self, finished: bool) {
-        self.tally.steps = self.tally.steps.saturating_add(1);
-        self.waited = self.waited.saturating_add(1);
+    /// So many more steps were made, which ended the job or did not.
+    pub fn count_steps(&mut self, made: u32, finished: bool) {
+        self.tally.steps = self.tally.steps.saturating_add(u64::from(made));
+        self.waited = self.waited.saturating_add(made);
         if finished {
             self.tally.jobs = self.tally.jobs.saturating_add(1);
             self.waited = 0;
