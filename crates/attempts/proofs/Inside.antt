@@ -1,8 +1,10 @@
 -- an attempt from inside, as its methods have it, and from outside
 use Rattle.std.proofs.Common.{◌≡◌, ℕ, suc, arith, ne_eqb, ◌<◌, ◌+◌, ◌^◌, Bool, true, false, List, [], ◌∷◌, length, refl, sym, ◌∙◌, ap, subst, inl, inr}
 use Rattle.std.specs.Prelude.{◌⊎◌, ◌==◌, if◌then◌else◌, Option, Some, None, IfSome, slice_get}
-use Rattle.turns.specs.Attempt.{Act, Free, Rest, asked_in, free_act, turn_in}
+use Rattle.turns.specs.Attempt.{Act, Free, Rest, answer_to, asked_in, closing_act, free_act, turn_in}
 use Rattle.turns.specs.Runs.{is_rest}
+use Rattle.turns.specs.System.{System}
+use Rattle.turns.specs.declared.answer.Answer.TheVariants.{Done}
 use Rattle.desks.specs.Outcomes.{is_given_up}
 use Rattle.turns.specs.declared.phase.Phase.{Phase}
 use Rattle.turns.specs.declared.phase.Phase.TheVariants.{Requests, Seizes, Tests, Turns, Withdraws, GivesBack, Operates}
@@ -106,3 +108,13 @@ undecided effects_of p now inside none = sym (ap (λ (x : Program _ _ _ _). effe
 
 pub more_fits : {Lock Job Decision Point Effect : Type 0} (p now : Program Lock Job Decision Point) (found : Option Effect) → p ≡ now → IfSome found (λ effect. p.made + 1 < 2 ^ 64) → IfSome found (λ effect. now.made + 1 < 2 ^ 64)
 more_fits p now found inside more = subst (λ (x : Program _ _ _ _). IfSome found (λ effect. x.made + 1 < 2 ^ 64)) inside more
+
+-- what frees, or closes a job, is answered by this alone
+module _ (O : System) (k found : ℕ) where
+  pub freeing_done : (held : List O.Lock) → Done ≡ answer_to O k (free_act held) found
+  freeing_done [] = refl
+  freeing_done (lock ∷ held) = refl
+
+  pub closing_done : (effects : List O.Effect) (held : List O.Lock) → Done ≡ answer_to O k (closing_act effects held) found
+  closing_done [] held = freeing_done held
+  closing_done (effect ∷ effects) held = refl

@@ -14,9 +14,11 @@ pub mod Counts
 pub mod SeenSteps
 pub mod LiveWalks
 pub mod LookingAhead
-pub mod Foreseen
+pub mod AheadNow
+pub mod Confirmed
+mod Confirming
+pub mod Seeing
 pub mod TakenBack
-pub mod SeenAhead
 pub mod LiveSteps
 pub mod LiveStands
 pub mod LiveEnds

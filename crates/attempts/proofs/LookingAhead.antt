@@ -8,7 +8,7 @@ use Rattle.turns.specs.Seen.{Seen}
 use Rattle.turns.specs.declared.reading.Reading.{Reading}
 use Rattle.turns.specs.declared.wanted.Wanted.{Wanted}
 use Rattle.turns.proofs.Room.{Grows, held_last}
-use Rattle.attempts.specs.Foresight.{Foresees}
+use Rattle.attempts.specs.Ahead.{Foresees}
 use Rattle.attempts.specs.Live.{Course, Comes, with_reading, with_lock, read_at_once, may_seize, live_test, live_seize, live}
 use Rattle.attempts.proofs.LiveWalks.{grows_reading, grows_lock}
 use Rattle.attempts.proofs.ReadOnce.{read_new}

@@ -1,4 +1,4 @@
-ghost use Rattle.std.specs.Prelude.{◌≡◌, ◌<◌, ◌^◌, ◌++◌, ◌∷◌, [], ℕ, Err, IfNone, IfSome, List, None, Ok, Some, length, option_copied};
+ghost use Rattle.std.specs.Prelude.{◌≡◌, ◌<◌, ◌^◌, ◌++◌, ◌∷◌, [], ℕ, Err, IfNone, IfSome, List, None, Ok, Some, is_some, length, option_copied, take};
 ghost use Rattle.turns.specs.Attempt.{asked_in, rest_of, turn_in};
 ghost use Rattle.turns.specs.Script.{value_read};
 ghost use Rattle.desks.specs.Outcomes.{is_given_up as is_given_up_in};
@@ -210,6 +210,52 @@ impl<
         ensures { self.new ≡ record self.old { readings = self.old.readings ++ reading ∷ [] } }
     {
         self.seen.note(reading);
+    }
+
+    /// How many words were read, and how many locks are held.
+    pub(crate) fn counts(&self) -> (usize, usize)
+        ensures { result ≡ (length self.now.readings, length self.now.held) }
+    {
+        self.seen.counts()
+    }
+
+    /// Whether it has decided.
+    pub(crate) fn has_decided(&self) -> bool
+        ensures { result ≡ is_some self.now.decision }
+    {
+        self.decision.is_some()
+    }
+
+    /// Takes back all but the first so many readings.
+    pub(crate) fn keep_readings(&mut self, kept: usize)
+        ensures { self.new ≡ record self.old { readings = take kept self.old.readings } }
+    {
+        self.seen.keep_readings(kept);
+    }
+
+    /// Has come by so many readings and locks alone, and goes on from this point.
+    pub(crate) fn go_back(&mut self, readings: usize, locks: usize, start: P)
+        ensures { self.new
+            ≡ record self.old {
+              readings = take readings self.old.readings;
+              held = take locks self.old.held;
+              point = start;
+            } }
+    {
+        self.seen.keep_readings(readings);
+        self.seen.keep_locks(locks);
+        self.point = start;
+    }
+
+    /// It has decided nothing, and tests this word next; it goes on from this point.
+    pub(crate) fn wait_for(&mut self, word: usize, start: P)
+        ensures { self.new
+            ≡ record self.old { phase = Phase.Tests word; decision = None; made = 0; point = start } }
+    {
+        self.phase = Phase::Tests(word);
+        self.decision = None;
+        self.made = 0;
+        self.point = start;
     }
 
     /// Whether it has made no step yet.

@@ -1,48 +1,45 @@
 ghost use Rattle.std.specs.Prelude.{◌≡◌, ◌≤◌, ◌<◌, IfNone, IfSome};
 ghost use Rattle.turns.specs.Attempt.{Rest, act};
-ghost use Rattle.turns.specs.World.{operation as operation_of, place as place_of};
-ghost use Rattle.attempts.specs.Foresight.{IsForeseen, MayTakeAhead};
-ghost use Rattle.attempts.specs.Standing.{Stands, attempt_of};
+ghost use Rattle.desks.specs.WordSteps.{Makes};
+ghost use Rattle.attempts.specs.Ahead.{MayTake, StandsAhead, now_of};
+ghost use Rattle.attempts.specs.Steps.{act_of};
 ghost use Rattle.attempts.specs.SystemWith.{system_with};
 
-use crate::attempt::AttemptOf;
-use crate::foresight::{Foresight, ForesightOf};
+use crate::ahead::AheadOf;
+use crate::now::{
+    begin_next_now, begin_now, close_far, gives_back, has_ended, next_closing_now, next_now,
+    next_sure_now, outcome_now, restart_now, take_found,
+};
 use crate::scripts::OnWords;
-use crate::showing::{is_done, next, outcome};
-use crate::starting::{begin, begin_next, restart};
-use crate::step::{Step, operation, place, told};
-use crate::taking_ahead::take_ahead;
+use crate::step::{Step, operation, place};
 use desks::{Jobs, WordStep};
 use std::alloc::{AllocError, Global};
 use std::marker::PhantomData;
 use std::ops::Range;
-use turns::{Answer, Operation, Phase};
+use turns::{Answer, Phase, Reading};
 
 /// They are scripts. Called for its clause alone.
 fn stand_by_scripts<S: OnWords<READINGS, HELD>, const READINGS: usize, const HELD: usize>(
     setting: &S::Setting,
-    _program: &AttemptOf<S, READINGS, HELD>,
-    _foresight: &ForesightOf<S, READINGS, HELD>,
+    _program: &AheadOf<S, READINGS, HELD>,
 )
-    requires stands { S.IsSetting setting.now
-        × Stands S.Lock.eq S.reply_of S.effects_of (S.system setting.now) (S.Knows setting.now)
-        READINGS HELD _program.now }
-    requires foresees { IsForeseen S.Lock.eq (S.system setting.now) (S.Knows setting.now)
-        _program.now _foresight.now.left _foresight.now.further }
-    ensures { MayTakeAhead (S.IsSetting setting.now) S.Lock.eq S.reply_of S.effects_of
-        (S.system setting.now) (S.Knows setting.now) READINGS HELD _program.now _foresight.now }
+    requires { S.IsSetting setting.now
+        × StandsAhead S.Lock.eq S.reply_of S.effects_of (S.system setting.now)
+        (S.Knows setting.now) READINGS HELD _program.now }
+    ensures { MayTake (S.IsSetting setting.now) S.Lock.eq S.reply_of S.effects_of
+        (S.system setting.now) (S.Knows setting.now) READINGS HELD _program.now }
 {}
 
 /// The words under the lock that an attempt has seized, if its next step, which found this number, did
 /// so.
 fn seized_words<S: OnWords<READINGS, HELD>, const READINGS: usize, const HELD: usize>(
     setting: &S::Setting,
-    program: &AttemptOf<S, READINGS, HELD>,
+    program: &AheadOf<S, READINGS, HELD>,
     found: u64,
 ) -> Range<usize>
     ensures { result.end ≤ (S.system setting.now).size }
 {
-    let phase = program.phase;
+    let phase = program.far.phase;
     if let Phase::Seizes(lock, expected) = phase {
         if found == expected {
             return S::words_under(setting, lock);
@@ -51,23 +48,24 @@ fn seized_words<S: OnWords<READINGS, HELD>, const READINGS: usize, const HELD: u
     0..0
 }
 
-/// The next step on its word; none where the job is done, and nothing is held.
+/// A step on its word, which is the next of an attempt; none where that is at rest.
 #[inline(always)]
-fn word_step<S: OnWords<READINGS, HELD>, const READINGS: usize, const HELD: usize>(
+fn on_word<S: OnWords<READINGS, HELD>, const READINGS: usize, const HELD: usize>(
     setting: &S::Setting,
     actor: u32,
-    program: &AttemptOf<S, READINGS, HELD>,
+    _program: &AheadOf<S, READINGS, HELD>,
+    step: Step<S::Lock, S::Effect>,
 ) -> Option<WordStep>
-    requires { actor < 48 }
-    ensures place { let O = system_with S.Lock.eq S.reply_of S.effects_of (S.system setting.now) in
-        IfSome result (λ step. step.place
-        ≡ place_of O (act (attempt_of S.reply_of S.effects_of program.now))) }
-    ensures operation { let O = system_with S.Lock.eq S.reply_of S.effects_of (S.system setting.now) in
-        IfSome result (λ step. step.operation
-        ≡ operation_of O actor (act (attempt_of S.reply_of S.effects_of program.now))) }
-    ensures none { IfNone result (act (attempt_of S.reply_of S.effects_of program.now) ≡ Rest) }
+    requires actor { actor < 48 }
+    requires stands { S.IsSetting setting.now
+        × StandsAhead S.Lock.eq S.reply_of S.effects_of (S.system setting.now)
+        (S.Knows setting.now) READINGS HELD _program.now }
+    requires next { act_of step ≡ act (now_of S.reply_of S.effects_of _program.now) }
+    ensures makes { IfSome result
+        (Makes (system_with S.Lock.eq S.reply_of S.effects_of (S.system setting.now)) actor
+        (now_of S.reply_of S.effects_of _program.now)) }
+    ensures none { IfNone result (act (now_of S.reply_of S.effects_of _program.now) ≡ Rest) }
 {
-    let step = next::<S, READINGS, HELD>(program);
     if let Step::Rest = step {
         return None;
     }
@@ -77,15 +75,14 @@ fn word_step<S: OnWords<READINGS, HELD>, const READINGS: usize, const HELD: usiz
     })
 }
 
-/// The jobs of `S` as desks do them, by attempts that foresee what they can.
+/// The jobs of `S` as desks do them, by attempts that look ahead where they can.
 pub struct Attempts<S, const READINGS: usize, const HELD: usize> {
     of: PhantomData<S>,
 }
 
 impl<S: OnWords<READINGS, HELD>, const READINGS: usize, const HELD: usize> Jobs
     for Attempts<S, READINGS, HELD> {
-    ghost use Rattle.attempts.specs.Foresight.{IsForeseen};
-    ghost use Rattle.attempts.specs.Standing.{Stands, attempt_of};
+    ghost use Rattle.attempts.specs.Ahead.{StandsAhead, guesses, now_of};
     ghost use Rattle.attempts.specs.SystemWith.{over_with};
 
     type Setting = S::Setting;
@@ -100,45 +97,32 @@ impl<S: OnWords<READINGS, HELD>, const READINGS: usize, const HELD: usize> Jobs
 
     type Effect = S::Effect;
 
-    type Program = AttemptOf<S, READINGS, HELD>;
-
-    type Foresight = ForesightOf<S, READINGS, HELD>;
+    type Program = AheadOf<S, READINGS, HELD>;
 
     ghost kept = { S.kept };
 
     ghost system = { λ setting. over_with S.Lock.eq S.reply_of S.effects_of (S.system setting) };
 
+    ghost guesses_of = { guesses };
+
     ghost IsSetting = { S.IsSetting };
 
-    ghost attempt = { λ program. attempt_of S.reply_of S.effects_of program };
+    ghost attempt = { λ program. now_of S.reply_of S.effects_of program };
 
     ghost Stands = { λ setting program. S.IsSetting setting
-        × Stands S.Lock.eq S.reply_of S.effects_of (S.system setting) (S.Knows setting) READINGS
+        × StandsAhead S.Lock.eq S.reply_of S.effects_of (S.system setting) (S.Knows setting) READINGS
         HELD program };
-
-    ghost Foresees = { λ setting program foresight. IsForeseen S.Lock.eq (S.system setting)
-        (S.Knows setting) program foresight.left foresight.further };
 
     fn keep(setting: &S::Setting) -> S::Kept {
         S::keep(setting)
     }
 
-    fn begin(
-        _setting: &S::Kept,
-        job: S::Job,
-    ) -> (AttemptOf<S, READINGS, HELD>, ForesightOf<S, READINGS, HELD>) {
-        let foresight = Foresight::new(S::start(&job));
-        (begin::<S, READINGS, HELD>(job), foresight)
+    fn begin(_setting: &S::Kept, job: S::Job) -> AheadOf<S, READINGS, HELD> {
+        begin_now::<S, READINGS, HELD>(job)
     }
 
-    fn begin_next(
-        _setting: &S::Kept,
-        job: S::Job,
-        program: &mut AttemptOf<S, READINGS, HELD>,
-        foresight: &mut ForesightOf<S, READINGS, HELD>,
-    ) {
-        begin_next::<S, READINGS, HELD>(program, job);
-        foresight.clear();
+    fn begin_next(_setting: &S::Kept, job: S::Job, program: &mut AheadOf<S, READINGS, HELD>) {
+        begin_next_now::<S, READINGS, HELD>(program, job);
     }
 
     fn size(setting: &S::Setting) -> usize {
@@ -153,30 +137,74 @@ impl<S: OnWords<READINGS, HELD>, const READINGS: usize, const HELD: usize> Jobs
         S::turn_word(setting)
     }
 
-    fn rests(program: &AttemptOf<S, READINGS, HELD>) -> bool {
-        is_done::<S, READINGS, HELD>(program)
+    fn rests(program: &AheadOf<S, READINGS, HELD>) -> bool {
+        has_ended::<S, READINGS, HELD>(program)
     }
 
-    fn is_given_up(program: &AttemptOf<S, READINGS, HELD>) -> bool {
-        program.is_given_up()
+    fn is_given_up(program: &AheadOf<S, READINGS, HELD>) -> bool {
+        gives_back::<S, READINGS, HELD>(program)
     }
 
-    fn outcome(program: &AttemptOf<S, READINGS, HELD>) -> Option<(u64, S::Job, S::Reply)> {
-        outcome::<S, READINGS, HELD>(program)
+    fn outcome(program: &AheadOf<S, READINGS, HELD>) -> Option<(u64, S::Job, S::Reply)> {
+        outcome_now::<S, READINGS, HELD>(program)
     }
 
     #[inline(always)]
     fn next(
         setting: &S::Setting,
         actor: u32,
-        program: &AttemptOf<S, READINGS, HELD>,
+        program: &AheadOf<S, READINGS, HELD>,
     ) -> Option<WordStep> {
-        word_step::<S, READINGS, HELD>(setting, actor, program)
+        let step = next_now::<S, READINGS, HELD>(program);
+        on_word::<S, READINGS, HELD>(setting, actor, program, step)
+    }
+
+    #[inline(always)]
+    fn next_sure(
+        setting: &S::Setting,
+        actor: u32,
+        program: &AheadOf<S, READINGS, HELD>,
+    ) -> Option<WordStep> {
+        let step = next_sure_now::<S, READINGS, HELD>(program)?;
+        on_word::<S, READINGS, HELD>(setting, actor, program, step)
+    }
+
+    #[inline(always)]
+    fn guesses<'a>(
+        setting: &S::Setting,
+        program: &'a AheadOf<S, READINGS, HELD>,
+    ) -> &'a [Reading<usize>] {
+        stand_by_scripts::<S, READINGS, HELD>(setting, program);
+        program.guesses()
+    }
+
+    #[inline(always)]
+    fn confirm(setting: &S::Setting, program: &mut AheadOf<S, READINGS, HELD>, made: usize) {
+        stand_by_scripts::<S, READINGS, HELD>(setting, program);
+        // Called for its clause that what was read fits words.
+        let _guesses = program.guesses();
+        program.confirm(made);
+    }
+
+    #[inline(always)]
+    fn next_closing(
+        setting: &S::Setting,
+        actor: u32,
+        program: &AheadOf<S, READINGS, HELD>,
+    ) -> Option<WordStep> {
+        let step = next_closing_now::<S, READINGS, HELD>(program)?;
+        on_word::<S, READINGS, HELD>(setting, actor, program, step)
+    }
+
+    #[inline(always)]
+    fn close(setting: &S::Setting, program: &mut AheadOf<S, READINGS, HELD>) {
+        stand_by_scripts::<S, READINGS, HELD>(setting, program);
+        close_far::<S, READINGS, HELD>(program);
     }
 
     fn in_sight(
         setting: &S::Setting,
-        program: &AttemptOf<S, READINGS, HELD>,
+        program: &AheadOf<S, READINGS, HELD>,
         found: u64,
     ) -> Range<usize> {
         seized_words::<S, READINGS, HELD>(setting, program, found)
@@ -186,24 +214,17 @@ impl<S: OnWords<READINGS, HELD>, const READINGS: usize, const HELD: usize> Jobs
     fn take(
         setting: &S::Setting,
         actor: u32,
-        program: &mut AttemptOf<S, READINGS, HELD>,
-        foresight: &mut ForesightOf<S, READINGS, HELD>,
+        program: &mut AheadOf<S, READINGS, HELD>,
         found: u64,
         glimpses: &mut [u64],
     ) -> Answer {
-        let told = told::<S, READINGS, HELD>(setting, actor, program, found);
-        stand_by_scripts::<S, READINGS, HELD>(setting, program, foresight);
-        take_ahead::<S, READINGS, HELD>(program, setting, told, glimpses, foresight);
-        told
+        stand_by_scripts::<S, READINGS, HELD>(setting, program);
+        take_found::<S, READINGS, HELD>(setting, actor, program, found, glimpses)
     }
 
-    fn restart(
-        _setting: &S::Setting,
-        program: &mut AttemptOf<S, READINGS, HELD>,
-        foresight: &mut ForesightOf<S, READINGS, HELD>,
-    ) {
-        restart::<S, READINGS, HELD>(program);
-        foresight.clear();
+    fn restart(setting: &S::Setting, program: &mut AheadOf<S, READINGS, HELD>) {
+        let _ = setting;
+        restart_now::<S, READINGS, HELD>(program);
     }
 
     ghost is_system = { λ setting right. (S.are_scripts setting right).is_system };

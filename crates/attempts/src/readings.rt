@@ -59,17 +59,6 @@ fn value_at(readings: &[Reading<usize>], place: usize) -> Option<u64>
     readings.get(place).map(|reading| reading.value)
 }
 
-/// The readings from a place on.
-fn read_from(readings: &[Reading<usize>], place: usize) -> &[Reading<usize>]
-    ensures { result.now ≡ drop place readings.now }
-{
-    if place < readings.len() {
-        &readings[place..]
-    } else {
-        &[]
-    }
-}
-
 impl<const MOST: usize> Readings<MOST> {
     #[tactic(auto, using(crate::proofs::Marked::marked_none))]
     pub fn new() -> Self
@@ -130,15 +119,10 @@ impl<const MOST: usize> Readings<MOST> {
         value_at(items, found)
     }
 
-    /// Takes back all but the first so many, and hands them out.
-    pub fn take_back(&mut self, kept: usize, into: &mut ArrayVec<Reading<usize>, MOST>)
-        ensures kept { self.new ≡ take kept self.old }
-        ensures into { into.new.items ≡ drop kept self.old }
+    /// Takes back all but the first so many.
+    pub fn keep(&mut self, kept: usize)
+        ensures { self.new ≡ take kept self.old }
     {
-        into.clear();
-        let Ok(()) = into.try_extend_from_slice(read_from(self.items.as_slice(), kept)) else {
-            unreachable!()
-        };
         self.items.truncate(kept);
     }
 

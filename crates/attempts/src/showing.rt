@@ -1,9 +1,9 @@
 //! What an attempt does next, and what is to be seen of it.
 
-ghost use Rattle.std.specs.Prelude.{◌≡◌, ◌<◌, ◌+◌, ◌∷◌, ◌^◌, [], IfNone, IfSome};
-ghost use Rattle.turns.specs.Attempt.{act, closing_act, free_act};
+ghost use Rattle.std.specs.Prelude.{◌≡◌, ◌<◌, ◌+◌, ◌∷◌, ◌^◌, [], IfNone, IfSome, None};
+ghost use Rattle.turns.specs.Attempt.{act, asked_in, closing_act, free_act};
 ghost use Rattle.turns.specs.Runs.{is_rest};
-ghost use Rattle.desks.specs.Outcomes.{outcome_of};
+ghost use Rattle.desks.specs.Outcomes.{IsPastTurn, outcome_of};
 ghost use Rattle.attempts.specs.Standing.{attempt_of, effects_left};
 ghost use Rattle.attempts.specs.Steps.{act_of};
 
@@ -67,6 +67,44 @@ pub fn next<S: Scripts<READINGS, HELD>, const READINGS: usize, const HELD: usize
         Phase::Withdraws(lock) => Step::Leave(lock),
         Phase::GivesBack => next_free::<S, READINGS, HELD>(program),
         Phase::Operates(_) => next_closing::<S, READINGS, HELD>(program),
+    }
+}
+
+/// The same, where its phase tells that this is a reading or its turn.
+#[inline(always)]
+pub(crate) fn next_sure<S: Scripts<READINGS, HELD>, const READINGS: usize, const HELD: usize>(
+    program: &AttemptOf<S, READINGS, HELD>,
+) -> Option<Step<S::Lock, S::Effect>>
+    ensures next { IfSome result (λ step.
+        act_of step ≡ act (attempt_of S.reply_of S.effects_of program.now)) }
+    ensures asks_none { IfSome result (λ step. asked_in program.now.phase ≡ None) }
+{
+    let phase = program.phase;
+    match phase {
+        Phase::Tests(word) => Some(Step::Look(word)),
+        Phase::Turns => Some(Step::Turn),
+        Phase::Requests(_)
+        | Phase::Seizes(_, _)
+        | Phase::Withdraws(_)
+        | Phase::GivesBack
+        | Phase::Operates(_) => None,
+    }
+}
+
+/// The same, past its turn.
+#[inline(always)]
+pub(crate) fn next_past_turn<S: Scripts<READINGS, HELD>, const READINGS: usize, const HELD: usize>(
+    program: &AttemptOf<S, READINGS, HELD>,
+) -> Option<Step<S::Lock, S::Effect>>
+    ensures next { IfSome result (λ step.
+        act_of step ≡ act (attempt_of S.reply_of S.effects_of program.now)) }
+    ensures turned { IfSome result (λ step. IsPastTurn program.now.phase) }
+{
+    let phase = program.phase;
+    if let Phase::Operates(_) = phase {
+        Some(next_closing::<S, READINGS, HELD>(program))
+    } else {
+        None
     }
 }
 

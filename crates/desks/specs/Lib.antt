@@ -4,5 +4,8 @@ pub mod Rule
 pub mod Outcomes
 pub mod Views
 pub mod Codes
+pub mod WordSteps
 pub mod Desks
+pub mod Guesses
+pub mod Running
 pub mod Met

@@ -1,10 +1,12 @@
-ghost use Rattle.std.specs.Prelude.{◌≡◌, ℕ, IfNone, IfSome, MatchOption, true};
+ghost use Rattle.std.specs.Prelude.{◌≡◌, ◌<◌, ◌≤◌, ℕ, IfNone, IfSome, MatchOption, false, true};
 ghost use Rattle.turns.specs.Attempt.{begin as begin_of};
 ghost use Rattle.turns.specs.Law.{IsLegal};
 ghost use Rattle.turns.specs.Runs.{is_free};
 ghost use Rattle.turns.specs.System.{system_of};
 ghost use Rattle.turns.specs.World.{Idle, Does};
-ghost use Rattle.desks.specs.Desks.{EndsIn, HasAdvanced, HasGivenBack, HasStepped, HasToFree, actor_of};
+ghost use Rattle.turns.specs.declared.answer.Answer.{Answer as AnswerView};
+ghost use Rattle.desks.specs.Desks.{EndsIn, HasAdvanced, HasGivenBack, HasStepped, HasToFree};
+ghost use Rattle.desks.specs.Desks.{actor_of};
 ghost use Rattle.desks.specs.Desks.{anew, assigned_if, gives_back, told_of};
 ghost use Rattle.desks.specs.Views.{IsDeskOf};
 
@@ -24,7 +26,7 @@ pub struct Desk<F: Jobs> {
     pub(crate) setting: F::Kept,
     pub(crate) seat: Seat<(), Knows<F>>,
     pub(crate) number: u32,
-    pub(crate) doing: Option<(u64, F::Program, F::Foresight)>,
+    pub(crate) doing: Option<(u64, F::Program)>,
     /// Each word as the desk glimpsed it last.
     pub(crate) glimpses: Vec<u64>,
 }
@@ -51,14 +53,13 @@ impl<F: Jobs> Model for Desk<F> {
     ghost invariant = { λ d. F.IsSetting (F.kept d.setting)
         × IsSeated (system_of (F.system (F.kept d.setting))) d.number d.seat.me
         (actor_of F.attempt d.doing)
-        × IfSome d.doing (λ doing. F.Stands (F.kept d.setting) doing.1
-        × F.Foresees (F.kept d.setting) doing.1 doing.2) };
+        × IfSome d.doing (λ doing. F.Stands (F.kept d.setting) doing.1) };
 }
 
 /// Begins a job. A program is large, so the next one takes the place of the last.
 fn begin<F: Jobs>(
     setting: &F::Kept,
-    doing: &mut Option<(u64, F::Program, F::Foresight)>,
+    doing: &mut Option<(u64, F::Program)>,
     number: u64,
     job: F::Job,
 )
@@ -66,15 +67,13 @@ fn begin<F: Jobs>(
     requires job { (F.system (F.kept setting.now)).IsJob job }
     ensures actor { actor_of F.attempt doing.new
         ≡ Does number (begin_of (system_of (F.system (F.kept setting.now))) job) }
-    ensures stands { IfSome doing.new (λ doing. F.Stands (F.kept setting.now) doing.1
-        × F.Foresees (F.kept setting.now) doing.1 doing.2) }
+    ensures stands { IfSome doing.new (λ doing. F.Stands (F.kept setting.now) doing.1) }
 {
-    if let Some((its_number, program, foresight)) = doing {
+    if let Some((its_number, program)) = doing {
         *its_number = number;
-        F::begin_next(setting, job, program, foresight);
+        F::begin_next(setting, job, program);
     } else {
-        let (program, foresight) = F::begin(setting, job);
-        *doing = Some((number, program, foresight));
+        *doing = Some((number, F::begin(setting, job)));
     }
 }
 
@@ -93,7 +92,7 @@ impl<F: Jobs> Desk<F> {
         ensures { result ≡ is_free (system_of (F.system self.now.setting)) self.now.actor }
     {
         match &self.doing {
-            Some((_, program, _)) => F::rests(program),
+            Some((_, program)) => F::rests(program),
             None => true,
         }
     }
@@ -104,7 +103,7 @@ impl<F: Jobs> Desk<F> {
             (λ doing. self.now.actor ≡ Does doing.0 (F.attempt doing.1.now)) }
     {
         match &self.doing {
-            Some((number, program, _)) => Some((*number, program)),
+            Some((number, program)) => Some((*number, program)),
             None => None,
         }
     }
@@ -142,12 +141,12 @@ impl<F: Jobs> Desk<F> {
         ensures ended { IfSome result (λ answer. EndsIn (system_of (F.system setting.now))
             self.new.seen self.new.number self.new.actor) }
     {
-        let Some((number, program, foresight)) = &mut self.doing else {
+        let Some((number, program)) = &mut self.doing else {
             return None;
         };
-        if F::rests(program) {
+        let Some(next) = F::next(setting, self.number, program) else {
             return None;
-        }
+        };
         Some(step::<F>(
             &room.table.shared,
             setting,
@@ -155,8 +154,8 @@ impl<F: Jobs> Desk<F> {
             self.number,
             *number,
             program,
-            foresight,
             self.glimpses.as_mut_slice(),
+            next,
         ))
     }
 
@@ -167,7 +166,7 @@ impl<F: Jobs> Desk<F> {
         ensures { result
             ≡ told_of (system_of (F.system self.now.setting)) self.now.number self.now.actor }
     {
-        let (number, program, _) = self.doing.as_ref()?;
+        let (number, program) = self.doing.as_ref()?;
         let (turn, job, reply) = F::outcome(program)?;
         Some(Told {
             turn,
@@ -211,10 +210,10 @@ impl<F: Jobs> Desk<F> {
         ensures to_free { HasToFree (system_of (F.system setting.now)) self.old.actor }
     {
         laws::every_move_keeps_the_law::<Systems<F>>();
-        let Some((_number, program, foresight)) = &mut self.doing else {
+        let Some((_number, program)) = &mut self.doing else {
             return;
         };
-        F::restart(setting, program, foresight);
+        F::restart(setting, program);
     }
 
     /// Whether it has a request to withdraw or locks to free before its job begins anew.
@@ -223,7 +222,7 @@ impl<F: Jobs> Desk<F> {
         ensures to_free { HasToFree (system_of (F.system self.now.setting)) self.now.actor }
     {
         match &self.doing {
-            Some((_, program, _)) => F::is_given_up(program),
+            Some((_, program)) => F::is_given_up(program),
             None => false,
         }
     }

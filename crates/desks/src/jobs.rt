@@ -1,8 +1,9 @@
-ghost use Rattle.std.specs.Prelude.{◌≡◌, ◌≢◌, ◌<◌, ◌≤◌, ℕ, IfNone, IfOk, IfSome, true};
+ghost use Rattle.std.specs.Prelude.{◌≡◌, ◌≢◌, ◌<◌, ◌≤◌, ℕ, IfNone, IfOk, IfSome, List, None, length, true};
+ghost use Rattle.turns.specs.declared.reading.Reading.{Reading as ReadingView};
 
 use std::alloc::{AllocError, Global};
 use std::ops::Range;
-use turns::{Answer, Operation};
+use turns::{Answer, Operation, Reading};
 
 /// An atomic operation, and the number of the word that it is made on.
 #[derive(Clone, Copy, Debug, PartialEq, Eq)]
@@ -17,11 +18,12 @@ pub struct WordStep {
 /// Each function is exact by the law's own words, so that whoever writes one proves nothing of
 /// threads.
 pub trait Jobs {
-    ghost use Rattle.turns.specs.Attempt.{Attempt, Rest, act, answer_to, begin, next, restarted};
+    ghost use Rattle.turns.specs.Attempt.{Attempt, Rest, act, answer_to, asked_in, begin, change, next, restarted};
     ghost use Rattle.turns.specs.Runs.{is_rest};
     ghost use Rattle.turns.specs.System.{IsSystem, SystemOver, system_of};
-    ghost use Rattle.turns.specs.World.{operation as operation_of, place as place_of};
-    ghost use Rattle.desks.specs.Outcomes.{is_given_up, outcome_of};
+    ghost use Rattle.desks.specs.Guesses.{TestsNext, confirmed};
+    ghost use Rattle.desks.specs.Outcomes.{IsPastTurn, is_given_up, outcome_of};
+    ghost use Rattle.desks.specs.WordSteps.{Makes};
 
     /// What tells the systems of a family apart, as a plan.
     type Setting;
@@ -42,10 +44,6 @@ pub trait Jobs {
     /// An actor's attempt at a job.
     type Program: Drop;
 
-    /// What a program makes beforehand of words that its desk has glimpsed. It is kept beside the
-    /// program, which is what it is whatever that may be.
-    type Foresight: Drop;
-
     ghost kept: { Self.Kept → Self.Setting };
 
     ghost system: { Self.Setting → SystemOver Self.Lock Self.Job Self.Reply Self.Effect };
@@ -54,35 +52,28 @@ pub trait Jobs {
 
     ghost attempt: { Self.Program → Attempt Self.Lock Self.Job Self.Reply Self.Effect };
 
+    // What a program guesses of the words that it tests next.
+    ghost guesses_of: { Self.Program → List (ReadingView ℕ) };
+
     // What a program keeps under a setting.
     ghost Stands: { Self.Setting → Self.Program → Type 0 };
-
-    // What is foreseen of it is so.
-    ghost Foresees: { Self.Setting → Self.Program → Self.Foresight → Type 0 };
 
     fn keep(setting: &Self::Setting) -> Self::Kept
         ensures { kept result ≡ setting.now };
 
     /// A desk holds no borrow of the setting, only what it keeps of it.
-    fn begin(setting: &Self::Kept, job: Self::Job) -> (Self::Program, Self::Foresight)
+    fn begin(setting: &Self::Kept, job: Self::Job) -> Self::Program
         requires setting { IsSetting (kept setting.now) }
         requires job { (system (kept setting.now)).IsJob job }
-        ensures begins { attempt result.0 ≡ begin (system_of (system (kept setting.now))) job }
-        ensures stands { Stands (kept setting.now) result.0 }
-        ensures foresees { Foresees (kept setting.now) result.0 result.1 };
+        ensures begins { attempt result ≡ begin (system_of (system (kept setting.now))) job }
+        ensures stands { Stands (kept setting.now) result };
 
     /// As `begin`, in the place of a program whose job has ended.
-    fn begin_next(
-        setting: &Self::Kept,
-        job: Self::Job,
-        program: &mut Self::Program,
-        foresight: &mut Self::Foresight,
-    )
+    fn begin_next(setting: &Self::Kept, job: Self::Job, program: &mut Self::Program)
         requires setting { IsSetting (kept setting.now) }
         requires job { (system (kept setting.now)).IsJob job }
         ensures begins { attempt program.new ≡ begin (system_of (system (kept setting.now))) job }
-        ensures stands { Stands (kept setting.now) program.new }
-        ensures foresees { Foresees (kept setting.now) program.new foresight.new };
+        ensures stands { Stands (kept setting.now) program.new };
 
     /// How many words there are.
     fn size(setting: &Self::Setting) -> usize
@@ -112,12 +103,56 @@ pub trait Jobs {
     fn next(setting: &Self::Setting, actor: u32, program: &Self::Program) -> Option<WordStep>
         requires actor { actor < (system setting.now).sharing.most }
         requires stands { Stands setting.now program.now }
-        ensures place { IfSome result (λ step. step.place
-            ≡ place_of (system_of (system setting.now)) (act (attempt program.now))) }
-        ensures there { IfSome result (λ step. step.place < (system setting.now).size) }
-        ensures operation { IfSome result (λ step. step.operation
-            ≡ operation_of (system_of (system setting.now)) actor (act (attempt program.now))) }
+        ensures makes { IfSome result
+            (Makes (system_of (system setting.now)) actor (attempt program.now)) }
         ensures none { IfNone result (act (attempt program.now) ≡ Rest) };
+
+    /// The same step, where it is known by itself that it asks for no lock, as a reading or its turn.
+    /// Where it is told seldom, that costs time alone.
+    fn next_sure(setting: &Self::Setting, actor: u32, program: &Self::Program) -> Option<WordStep>
+        requires actor { actor < (system setting.now).sharing.most }
+        requires stands { Stands setting.now program.now }
+        ensures makes { IfSome result
+            (Makes (system_of (system setting.now)) actor (attempt program.now)) }
+        ensures asks_none { IfSome result (λ _. asked_in (attempt program.now).phase ≡ None) };
+
+    /// The words that it tests next, one after another, as long as each shows what it guesses. Where it
+    /// guesses nothing, that costs time alone.
+    fn guesses<'a>(setting: &Self::Setting, program: &'a Self::Program) -> &'a [Reading<usize>]
+        requires stands { Stands setting.now program.now }
+        ensures guesses { result.now ≡ guesses_of program.now }
+        ensures tests { TestsNext (system_of (system setting.now)) (attempt program.now)
+            (guesses_of program.now) };
+
+    /// The first so many of these words are tested, and have shown what it guessed.
+    fn confirm(setting: &Self::Setting, program: &mut Self::Program, made: usize)
+        requires stands { Stands setting.now program.old }
+        requires made { made ≤ length (guesses_of program.old) }
+        ensures confirmed { attempt program.new
+            ≡ confirmed (system_of (system setting.now)) (attempt program.old)
+            (guesses_of program.old) made }
+        ensures stands { Stands setting.now program.new };
+
+    /// Its next step past its turn, an effect or the freeing of a lock; none before, and none where its
+    /// job is done.
+    fn next_closing(
+        setting: &Self::Setting,
+        actor: u32,
+        program: &Self::Program,
+    ) -> Option<WordStep>
+        requires actor { actor < (system setting.now).sharing.most }
+        requires stands { Stands setting.now program.now }
+        ensures makes { IfSome result
+            (Makes (system_of (system setting.now)) actor (attempt program.now)) }
+        ensures turned { IfSome result (λ _. IsPastTurn (attempt program.now).phase) };
+
+    /// That step is made, whatever it found.
+    fn close(setting: &Self::Setting, program: &mut Self::Program)
+        requires stands { Stands setting.now program.old }
+        requires turned { IsPastTurn (attempt program.old).phase }
+        ensures closes { attempt program.new
+            ≡ change (system_of (system setting.now)) (attempt program.old) Answer.Done }
+        ensures stands { Stands setting.now program.new };
 
     /// The words that nobody else changes for now, once its next step has found this number, as those
     /// under a lock that it has seized: the desk glimpses at them. Words that may change as well cost
@@ -127,37 +162,29 @@ pub trait Jobs {
         ensures { result.end ≤ (system setting.now).size };
 
     /// Tells it the number that its next step found. By the words as the desk glimpsed them it may
-    /// find out what it wants further on; what becomes of it comes of what its steps find alone.
+    /// guess what it wants further on; what becomes of it comes of what its steps find alone.
     fn take(
         setting: &Self::Setting,
         actor: u32,
         program: &mut Self::Program,
-        foresight: &mut Self::Foresight,
         found: u64,
         glimpses: &mut [u64],
     ) -> Answer
         requires actor { actor < (system setting.now).sharing.most }
         requires stands { Stands setting.now program.old }
-        requires foresees { Foresees setting.now program.old foresight.old }
         requires goes_on { act (attempt program.old) ≢ Rest }
         ensures next { attempt program.new
             ≡ next (system_of (system setting.now)) actor (attempt program.old) found }
         ensures answer { result
             ≡ answer_to (system_of (system setting.now)) actor (act (attempt program.old)) found }
-        ensures stands { Stands setting.now program.new }
-        ensures foresees { Foresees setting.now program.new foresight.new };
+        ensures stands { Stands setting.now program.new };
 
     /// Begins anew, once all that it holds is given back. Past the turn nothing changes.
-    fn restart(
-        setting: &Self::Setting,
-        program: &mut Self::Program,
-        foresight: &mut Self::Foresight,
-    )
+    fn restart(setting: &Self::Setting, program: &mut Self::Program)
         requires { Stands setting.now program.old }
         ensures restarts { attempt program.new
             ≡ restarted (system_of (system setting.now)) (attempt program.old) }
-        ensures stands { Stands setting.now program.new }
-        ensures foresees { Foresees setting.now program.new foresight.new };
+        ensures stands { Stands setting.now program.new };
 
     ghost is_system: { (setting : Self.Setting) → IsSetting setting
         → IsSystem (system_of (system setting)) };

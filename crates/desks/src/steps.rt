@@ -1,14 +1,16 @@
-ghost use Rattle.std.specs.Prelude.{◌≡◌, ◌≢◌, ◌<◌, ◌≤◌, ℕ};
+ghost use Rattle.std.specs.Prelude.{◌≡◌, ◌<◌, ◌≤◌, ℕ};
 ghost use Rattle.atomic_table.specs.Table.{Allows};
 ghost use Rattle.turns.specs.Attempt.{Rest, act};
 ghost use Rattle.turns.specs.World.{Does, becomes, place as place_of};
 ghost use Rattle.desks.specs.Desks.{HasStepped, IsSeated, seen_in};
+ghost use Rattle.desks.specs.Guesses.{confirmed};
 ghost use Rattle.desks.specs.Kept.{HasEnded};
+ghost use Rattle.desks.specs.WordSteps.{Makes};
 ghost use Rattle.turns.specs.Operations.{applied};
 ghost use Rattle.desks.specs.Rule.{Rule};
 ghost use Rattle.turns.specs.System.{system_of};
 
-use crate::jobs::Jobs;
+use crate::jobs::{Jobs, WordStep};
 use crate::rule::{Key, Rules, Systems, Telling, Told};
 use crate::view::View;
 use atomic_table::{Seat, Shared};
@@ -53,37 +55,35 @@ fn operate<F: Jobs, T: Told<Knows<F>>>(
     }
 }
 
-/// Makes the atomic operation of a program's next step, and gives the number found. The job's
-/// number is for the proof.
+/// Makes a step by its atomic operation, and gives the number found: the next one of a program, the
+/// first so many of whose guesses are so. The program, its job's number and its guesses are for the
+/// proof.
 #[inline(always)]
-fn make<F: Jobs, T: Told<Knows<F>>>(
+pub(crate) fn make<F: Jobs, T: Told<Knows<F>>>(
     shared: &Words<F>,
     setting: &F::Setting,
     seat: &mut Seat<(), Knows<F>>,
     actor: u32,
     _number: u64,
-    program: &F::Program,
+    _program: &F::Program,
+    _tested: usize,
+    step: WordStep,
 ) -> u64
     requires table { seat.old.table_id ≡ shared.now.table_id }
     requires words { shared.now.table_id.words ≡ (F.system setting.now).size }
     requires setting { shared.now.key.setting.value ≡ setting.now }
-    requires actor { actor < (F.system setting.now).sharing.most }
-    requires stands { F.Stands setting.now program.now }
-    requires goes_on { act (F.attempt program.now) ≢ Rest }
-    requires allowed { (i : ℕ) (f : ℕ → ℕ)
-        → i ≡ place_of (system_of (F.system setting.now)) (act (F.attempt program.now))
-        → ((n : ℕ)
-        → f n ≡ becomes (system_of (F.system setting.now)) actor (act (F.attempt program.now)) n)
-        → Allows (Rule (system_of (F.system setting.now)) shared.now.key.count)
-        shared.now.table_id.slots seat.old.id seat.old.me i f
+    requires makes { let O = system_of (F.system setting.now) in
+        Makes O actor (confirmed O (F.attempt _program.now) (F.guesses_of _program.now) _tested) step }
+    requires allowed { let O = system_of (F.system setting.now) in
+        let a = confirmed O (F.attempt _program.now) (F.guesses_of _program.now) _tested in
+        (i : ℕ) (f : ℕ → ℕ) → i ≡ place_of O (act a) → ((n : ℕ) → f n ≡ becomes O actor (act a) n)
+        → Allows (Rule O shared.now.key.count) shared.now.table_id.slots seat.old.id seat.old.me i f
         (λ n me. (me.1 ≡ seat.old.me.1) × T.then seat.old.me.0 n me.0) }
     ensures same { (seat.new.table_id ≡ seat.old.table_id) × (seat.new.id ≡ seat.old.id)
         × (seat.new.me.1 ≡ seat.old.me.1) }
     ensures told { T.then seat.old.me.0 result seat.new.me.0 }
 {
-    let Some(step) = F::next(setting, actor, program) else {
-        unreachable!()
-    };
+    let _ = setting;
     operate::<F, T>(shared, seat, step.place, step.operation)
 }
 
@@ -96,7 +96,7 @@ fn glimpse<F: Jobs>(shared: &Words<F>, places: Range<usize>, glimpses: &mut [u64
     }
 }
 
-/// A desk's next step.
+/// A desk's next step, which is made so.
 #[inline(always)]
 pub(crate) fn step<F: Jobs>(
     shared: &Words<F>,
@@ -105,21 +105,19 @@ pub(crate) fn step<F: Jobs>(
     actor: u32,
     number: u64,
     program: &mut F::Program,
-    foresight: &mut F::Foresight,
     glimpses: &mut [u64],
+    next: WordStep,
 ) -> Answer
     requires table { seat.old.table_id ≡ shared.now.table_id }
     requires words { shared.now.table_id.words ≡ (F.system setting.now).size }
     requires key { shared.now.key.setting.value ≡ setting.now }
     requires setting { F.IsSetting setting.now }
     requires stands { F.Stands setting.now program.old }
-    requires foresees { F.Foresees setting.now program.old foresight.old }
     requires seated { IsSeated (system_of (F.system setting.now)) actor seat.old.me
         (Does number (F.attempt program.old)) }
-    requires goes_on { act (F.attempt program.old) ≢ Rest }
+    requires makes { Makes (system_of (F.system setting.now)) actor (F.attempt program.old) next }
     ensures same { seat.new.table_id ≡ seat.old.table_id }
     ensures stands { F.Stands setting.now program.new }
-    ensures foresees { F.Foresees setting.now program.new foresight.new }
     ensures stepped { HasStepped (system_of (F.system setting.now)) actor
         (Does number (F.attempt program.old)) (Does number (F.attempt program.new))
         (seen_in seat.old.me.0) (seen_in seat.new.me.0) result }
@@ -130,7 +128,7 @@ pub(crate) fn step<F: Jobs>(
         (Does number (F.attempt program.new)) }
 {
     laws::every_move_keeps_the_law::<Systems<F>>();
-    let found = make::<F, Brand>(shared, setting, seat, actor, number, program);
+    let found = make::<F, Brand>(shared, setting, seat, actor, number, program, 0, next);
     glimpse::<F>(shared, F::in_sight(setting, program, found), glimpses);
-    F::take(setting, actor, program, foresight, found, glimpses)
+    F::take(setting, actor, program, found, glimpses)
 }

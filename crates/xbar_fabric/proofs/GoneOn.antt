@@ -47,7 +47,7 @@ module _ (plan : Tables) (table : TableId) (kind : Kind) (k : ℕ) (before after
       answered = λ _. is_answered plan kind k before after seen seen_after answer step;
     }
 
-    step_answered : IsLawful plan → IsLegal (office plan) 0 (office plan).opening seen_after → desks.EndsIn (office plan) seen_after k after → Answered (Some answer)
+    pub step_answered : IsLawful plan → IsLegal (office plan) 0 (office plan).opening seen_after → desks.EndsIn (office plan) seen_after k after → Answered (Some answer)
     step_answered laws legal ends = by (is_free (office plan) after) refl where
       tells : is_free (office plan) after ≡ true → (it : Option (Told Job Reply)) → desks.told_of (office plan) k after ≡ it → Answered (Some answer)
       tells free None none = absurd (tells_at_end (office plan) k after seen_after ends free none)

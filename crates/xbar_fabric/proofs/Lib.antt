@@ -4,6 +4,7 @@ pub mod Steps
 pub mod Finishing
 pub mod ToldSteps
 pub mod GoneOn
+pub mod Running
 pub mod GivenBack
 pub mod NewDesks
 pub mod Meets

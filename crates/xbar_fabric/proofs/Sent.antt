@@ -1,13 +1,10 @@
--- a desk may go to any thread: it has a seat, an attempt with what that foresees, and a snapshot of its plan, which
--- has no bytes
+-- a desk may go to any thread: it has a seat, an attempt, and a snapshot of its plan, which has no bytes
 use denote.Param as param
 use denote.Param.Send as send
 use denote.RattleType.{RattleType}
 use denote.Struct.Declared as declared
-use Rattle.attempts.proofs.attempt.Attempt.TheSendSync as attempt_sent
-use Rattle.attempts.proofs.foresight.Foresight.TheSendSync as foresight_sent
-use Rattle.attempts.specs.contracts.attempt.Attempt as attempt
-use Rattle.attempts.specs.contracts.foresight.Foresight as foresight
+use Rattle.attempts.proofs.ahead.Ahead.TheSendSync as attempt_sent
+use Rattle.attempts.specs.contracts.ahead.Ahead as attempt
 use Rattle.attempts.specs.contracts.jobs.Attempts as attempts
 use Rattle.attempts.specs.contracts.jobs.AttemptsJobs.TheImpl as jobs
 use Rattle.atomic_table.below.core.specs.contracts.clone.Clone+copy.TheImpl as copies
@@ -42,23 +39,17 @@ attempt_row = attempt.the_row conn.the_row job.the_row decided.the_row way.the_r
 attempt_send : send.IsSend attempt_row
 attempt_send = attempt_sent.the_send conn.the_row job.the_row decided.the_row way.the_row (param.number 42) (param.number 19) conn_sent.the_send job_sent.the_send decided_sent.the_send way_sent.the_send
 
-abbrev foresight_row : RattleType
-foresight_row = foresight.the_row conn.the_row decided.the_row way.the_row (param.number 42)
-
-foresight_send : send.IsSend foresight_row
-foresight_send = foresight_sent.the_send conn.the_row decided.the_row way.the_row (param.number 42) conn_sent.the_send decided_sent.the_send way_sent.the_send
-
 pub desk_send : send.IsSend desk.the_row
 desk_send =
     send.view_send inside.the_row _ _ _ _
     (send.recorded_send inside.the_field.row _ _ inside.the_type.to_one
     (send.struct_send (declared.shape inside.the_type) (
       below.the_send (attempts.the_row shared.the_row (param.number 42) (param.number 19)) plan.the_row (snapshot.the_row plan.the_row) conn.the_row
-          job.the_row reply.the_row effect.the_row attempt_row foresight_row
+          job.the_row reply.the_row effect.the_row attempt_row
           (jobs.ghosts shared.the_row (param.number 42) (param.number 19) (snapshot.the_row plan.the_row) plan.the_row conn.the_row job.the_row
           reply.the_row effect.the_row decided.the_row way.the_row on_words.ghosts jobs.no_dict scripts.ghosts jobs.no_dict
           (copies.ghosts conn.the_row) jobs.no_dict conn_default.ghosts jobs.no_dict conn_equal.ghosts jobs.no_dict
           (copies.ghosts job.the_row) jobs.no_dict (copies.ghosts effect.the_row) jobs.no_dict jobs.no_dict jobs.no_dict jobs.no_dict jobs.no_dict)
-          snapshot_send attempt_send foresight_send,
+          snapshot_send attempt_send,
       (kind_sent.the_field_send, tt),
     )))

@@ -45,6 +45,13 @@ pub record IsAnswered (before after : DeskView) (answer : Option Answer) : Type 
       moves.IsAnswered before.plan before.marker (advanced.stepped goes_on).office.words
       before.work after.work answer
 
+-- so many advances of the desk, none of them while it was idle, between which other markers may move
+abbrev pub HasRun : ℕ → DeskView → DeskView → Type 0
+HasRun zero before after = after ≡ before
+HasRun (suc count) before after =
+    (between : DeskView) × (event : Event) × HasRun count before between
+    × (is_idle between.work ≡ false) × HasAdvanced between after event
+
 -- so many steps of the desk's marker, between which other markers may move
 abbrev pub HasMade : ℕ → DeskView → DeskView → Type 0
 HasMade zero before after = after ≡ before

@@ -7,13 +7,15 @@ ghost use Rattle.desks.specs.Desks.{told_record};
 ghost use Rattle.xbar_jobs.specs.Attempt.{Attempt};
 ghost use Rattle.xbar_core.specs.Exchange.{is_idle};
 ghost use Rattle.xbar_core.specs.Moves.{event_of, given_by};
-ghost use Rattle.xbar_fabric.specs.Advances.{HasAdvanced, HasGivenBack, IsAnswered};
+ghost use Rattle.xbar_fabric.specs.Advances.{HasAdvanced, HasGivenBack, HasRun, IsAnswered};
 ghost use Rattle.xbar_fabric.specs.Histories.{turned_of};
 ghost use Rattle.xbar_fabric.specs.Views.{IsDeskOf, entered};
 
 use crate::desk::Desk;
 use crate::fabric::Fabric;
-use desks::Told;
+use crate::office::SharedOffices;
+use attempts::asked;
+use desks::{Told, Watch};
 use xbar_core::{Event, Given};
 use xbar_equip::Conn;
 use xbar_jobs::Answer;
@@ -70,6 +72,22 @@ impl Desk {
         answer
     }
 
+    /// Makes those of its marker's next steps that are sure to ask for no connector, and so can't be put
+    /// off, one after another: tests, its turn, effects, and what is freed past that. Whoever watches
+    /// is told before each. Gives their number.
+    pub fn run<W: Watch>(&mut self, fabric: &Fabric, watch: &mut W) -> usize
+        requires { IsDeskOf self.old fabric.now }
+        ensures same { self.new ≡ record (self.old) { work = self.new.work; seen = self.new.seen } }
+        ensures run { HasRun result self.old self.new }
+    {
+        // Called for its clauses alone.
+        xbar_plan::laws::every_plan_is_lawful(fabric.plan);
+        let made = self.desk.run(&fabric.room, fabric.plan, watch);
+        // Called for its clause that what the desk has seen is legal.
+        let _number = self.desk.number();
+        made
+    }
+
     /// The record of its marker's job, once that has turned.
     pub fn record(&self) -> Option<Record>
         ensures { option_to_list result ≡ turned_of self.now }
@@ -91,7 +109,7 @@ impl Desk {
         let Some((_, program)) = self.desk.doing() else {
             return Event::Idle;
         };
-        let asked = program.to_ask();
+        let asked = asked::<SharedOffices, 42, 19>(program);
         match self.desk.advance(&fabric.room, fabric.plan) {
             desks::Progress::Idle => Event::Idle,
             desks::Progress::Moved(answer) => moved(asked, answer),

@@ -9,7 +9,8 @@ ghost use Rattle.xbar_core.specs.Moves.{given_by, refusal_of};
 ghost use Rattle.xbar_fabric.specs.Histories.{IsHistory};
 ghost use Rattle.xbar_fabric.specs.Views.{marker_of};
 
-use crate::office::Office;
+use crate::office::{Office, SharedOffices};
+use attempts::turn;
 use std::marker::Model;
 use xbar_core::{AssignFault, Given, Kind};
 use xbar_office::Job;
@@ -77,7 +78,9 @@ impl Desk {
             return Given::Idle;
         }
         match self.desk.doing() {
-            Some((_, program)) if program.turn().is_some() => Given::PastTurn,
+            Some((_, program)) if turn::<SharedOffices, 42, 19>(program).is_some() => {
+                Given::PastTurn
+            }
             _ => Given::Given,
         }
     }

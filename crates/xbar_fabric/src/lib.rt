@@ -2,6 +2,7 @@
 #![tactic(auto)]
 
 pub use desk::Desk;
+pub use desks::Watch;
 pub use fabric::Fabric;
 pub use meeting::meet;
 pub use shutting::{ShutAllFault, ShutFault, shut, shut_all};

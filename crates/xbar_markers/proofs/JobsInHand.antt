@@ -1,5 +1,5 @@
 -- a desk that does one job
-use Rattle.std.proofs.Common.{◌≡◌, ℕ, ◌≤◌, ◌<◌, ◌^◌, true, List, [], ◌∷◌, ◌++◌, append-nil, append_assoc, length, refl, sym, ◌∙◌, ap, subst}
+use Rattle.std.proofs.Common.{◌≡◌, ℕ, zero, suc, ◌≤◌, ◌<◌, ◌^◌, true, List, [], ◌∷◌, ◌++◌, append-nil, append_assoc, length, refl, sym, ◌∙◌, ap, subst}
 use Rattle.std.specs.Prelude.{None, Option, Some, option_map, option_to_list, unwrap_or}
 use Rattle.std.proofs.lemmas.Option.{same_Some}
 use Rattle.turns.specs.Attempt.{begin_with, turn_in}
@@ -11,6 +11,8 @@ use Rattle.xbar_office.specs.declared.reply.Reply.{Reply}
 use Rattle.xbar_jobs.specs.Jobs.{first_conn}
 use Rattle.xbar_core.specs.Exchange.{Work, is_idle, on_job}
 use Rattle.xbar_core.specs.Moves.{own_record}
+use Rattle.xbar_core.specs.declared.event.Event.{Event}
+use Rattle.xbar_fabric.specs.Advances.{HasAdvanced, HasRun}
 use Rattle.xbar_fabric.specs.Histories.{job_at, turned_of}
 use Rattle.xbar_fabric.specs.Views.{DeskView, FabricView, IsDeskOf, mine}
 use Rattle.xbar_markers.specs.Work.{HasDone, IsDoing}
@@ -69,6 +71,15 @@ module _ (number : ℕ) (job : Job) (start : DeskView) where
     mine_are = mine_are;
     at = stays ∙ doing.at;
   }
+
+  -- and after as many as are made at once, if no advance adds records but the job's, or leaves it
+  pub runs_on : ((before after : DeskView) (event : Event) (earlier : List Record) → HasAdvanced before after event → mine before ≡ earlier ++ turned_of before → mine after ≡ earlier ++ turned_of after)
+      → ((before after : DeskView) (event : Event) → HasAdvanced before after event → job_at after.work ≡ job_at before.work)
+      → (count : ℕ) (desk after : DeskView) → IsDoing number job start desk → HasRun count desk after → IsDoing number job start after
+  runs_on own same zero desk after doing run = subst (IsDoing number job start) (sym run) doing
+  runs_on own same (suc count) desk after doing (between, event, run, busy, advanced) =
+      let now = runs_on own same count desk between doing run in
+      goes_on between after now (advanced.stepped busy).same advanced.grown (own between after event (mine start) advanced now.mine_are) (same between after event advanced)
 
   -- at the end its own records are more by the job's
   pub mine_at_end : (after : DeskView) (r : Record) → IsDoing number job start after → turned_of after ≡ r ∷ [] → mine after ≡ mine start ++ r ∷ []

@@ -14,6 +14,7 @@ mod call;
 mod call_records;
 mod calling;
 mod completing;
+mod counted_gate;
 mod dialled_call;
 mod dialling;
 mod gate;

@@ -8,6 +8,7 @@ ghost use Rattle.xbar_markers.specs.Seats.{AreSeatsOf, IsSeat, desk_at};
 ghost use Rattle.xbar_markers.specs.Shares.{IsShareOf, MayUse};
 ghost use Rattle.xbar_markers.specs.Work.{IsReady};
 
+use crate::counted_gate::CountedGate;
 use crate::lists::put_behind;
 use crate::queues::Queues;
 use crate::share::Share;
@@ -51,11 +52,8 @@ pub fn hire<G: Drop>(
         let Some(gate) = gates.next() else {
             unreachable!()
         };
-        let worker = Worker {
-            desk,
-            gate,
-            steps: 0,
-        };
+        let gate = CountedGate::new(gate, desk.marker());
+        let worker = Worker { desk, gate };
         let share = whole.cut(alloc, queues);
         put_behind(&mut seats, Seat { worker, share })?;
     }

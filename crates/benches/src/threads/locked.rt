@@ -16,8 +16,8 @@ fn go_on(office: &mut Exchange, marker: u32, state: &mut State) -> bool {
             let _assigned = office.assign(marker, 0, state.next_job(marker));
             return false;
         }
-        Event::Finished(_) => state.count_step(true),
-        Event::Moved | Event::Refused { .. } | Event::Preferred(_) => state.count_step(false),
+        Event::Finished(_) => state.count_steps(1, true),
+        Event::Moved | Event::Refused { .. } | Event::Preferred(_) => state.count_steps(1, false),
     }
     let gives_up = state.gives_up();
     if gives_up {

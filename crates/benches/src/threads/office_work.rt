@@ -8,10 +8,10 @@ use std::{io, thread};
 use xbar_fabric::{Desk, Fabric};
 
 /// More steps than a job has left that is past its turn.
-const MOST_STEPS_LEFT: u32 = 128;
+const MOST_STEPS_LEFT: usize = 128;
 
-/// The desk's next step, or its next job. A desk that has waited long gives back what it holds, and
-/// lets other threads run.
+/// The desk's next step with those after it that ask for no connector, or its next job. A desk that has
+/// waited long gives back what it holds, and lets other threads run.
 fn go_on(fabric: &Fabric, desk: &mut Desk, state: &mut State)
     requires { IsDeskOf desk.old fabric.now }
     ensures { IsDeskOf desk.new fabric.now }
@@ -21,11 +21,12 @@ fn go_on(fabric: &Fabric, desk: &mut Desk, state: &mut State)
         let _assigned = desk.assign(0, job);
         return;
     }
+    let more = desk.run(fabric, &mut ());
     let has_ended = desk.is_idle();
     if has_ended {
         let _record = desk.record();
     }
-    state.count_step(has_ended);
+    state.count_steps(more.saturating_add(1), has_ended);
     if state.gives_up() {
         let _given = desk.give_back(fabric);
         thread::yield_now();

@@ -2,7 +2,7 @@ use xbar_equip::Len;
 use xbar_office::Job;
 
 /// How many steps a marker waits before it gives back. No job takes as many that waits for nobody.
-const PATIENCE: u32 = 150;
+const PATIENCE: usize = 150;
 
 /// How much work was done.
 #[derive(Clone, Copy, Default)]
@@ -23,7 +23,7 @@ impl Tally {
 pub struct State {
     pub tally: Tally,
     /// Steps since it last ended a job or gave back.
-    waited: u32,
+    waited: usize,
 }
 
 impl State {
@@ -38,10 +38,10 @@ impl State {
         }
     }
 
-    /// One more step was made, which ended the job or did not.
-    pub fn count_step(&mut self, finished: bool) {
-        self.tally.steps = self.tally.steps.saturating_add(1);
-        self.waited = self.waited.saturating_add(1);
+    /// So many more steps were made, which ended the job or did not.
+    pub fn count_steps(&mut self, made: usize, finished: bool) {
+        self.tally.steps = self.tally.steps.saturating_add(made as u64);
+        self.waited = self.waited.saturating_add(made);
         if finished {
             self.tally.jobs = self.tally.jobs.saturating_add(1);
             self.waited = 0;

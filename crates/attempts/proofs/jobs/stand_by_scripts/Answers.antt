@@ -2,8 +2,7 @@ use Rattle.attempts.proofs.jobs.stand_by_scripts.Goals as goal
 
 pub returns : goal.returns
 returns g c = record {
-  setting = c.requires.stands.0;
-  scripts = g.met.S.OnWords.are_scripts c.args.setting.now c.requires.stands.0;
-  stands = c.requires.stands.1;
-  foreseen = c.requires.foresees;
+  setting = c.requires.0;
+  scripts = g.met.S.OnWords.are_scripts c.args.setting.now c.requires.0;
+  stands = c.requires.1;
 }

@@ -30,7 +30,7 @@ loop-desk-preserved g c =
     let seats = c.loop-desk.seats.items in
     let seat : Seat DeskView g.row.G.Denot =
     record {
-      worker = record { desk = desk; gate = c.in-Some-next.gate; steps = 0 };
+      worker = record { desk = desk; gate = c.new-gate.result };
       share = share;
     } in
     let pushed = c.in_ok-put_behind.ensures in

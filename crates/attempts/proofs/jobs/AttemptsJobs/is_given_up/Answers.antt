@@ -1,4 +1,4 @@
 use Rattle.attempts.proofs.jobs.AttemptsJobs.is_given_up.Goals as goal
 
 pub returns : goal.returns
-returns g c = c.is_given_up.ensures
+returns g c = c.gives_back.ensures

@@ -28,7 +28,7 @@ returns-clause-advanced c =
           let step = told.0 in
           let same = does_same _ _ _ _ (sym c.in-Some.ensures ∙ step.before_is) in
           let busy = busy_now plan desk.table kind desk.number desk.actor after.actor desk.seen after.seen w.in-Moved.answer step told.1 in
-          let is = w.result-is ∙ w.moved.ensures desk.number step.number step.attempt (change (office plan) step.attempt w.in-Moved.answer) (c.to_ask-asked.ensures ∙ ap (λ (a : Attempt). asked_in a.phase) same.1) busy in
+          let is = w.result-is ∙ w.moved.ensures desk.number step.number step.attempt (change (office plan) step.attempt w.in-Moved.answer) (c.asked-asked.ensures ∙ ap (λ (a : Attempt). asked_in a.phase) same.1) busy in
           moves plan desk.table kind desk.number desk.actor after.actor desk.seen after.seen w.in-Moved.answer step c.match-advance.result is told.1
       | in-Finished w ↦
           let told = subst (desks.HasAdvanced (office plan) desk.number desk.actor after.actor desk.seen after.seen) w.in-Finished.is advanced in

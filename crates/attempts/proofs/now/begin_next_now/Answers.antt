@@ -1,0 +1,10 @@
+use Rattle.std.proofs.Common.{ap, subst, sym, ◌∙◌}
+use Rattle.attempts.specs.Ahead.{Ahead, StandsAhead, now_of}
+use Rattle.attempts.proofs.Seeing.{plain}
+use Rattle.attempts.proofs.now.begin_next_now.Goals as goal
+
+pub returns-clause-begins : goal.returns-clause-begins
+returns-clause-begins g c setting = ap (λ (p : Ahead _ _ _ _). now_of g.S.Scripts.reply_of g.S.Scripts.effects_of p) c.be_sure.ensures ∙ c.begin_next.ensures.begins setting
+
+pub returns-clause-stands : goal.returns-clause-stands
+returns-clause-stands g c setting are right = subst (λ (p : Ahead _ _ _ _). StandsAhead g.S.Lock.PartialEq.eq g.S.Scripts.reply_of g.S.Scripts.effects_of (g.S.Scripts.system setting) (g.S.Scripts.Knows setting) g.row.READINGS g.row.HELD p) (sym c.be_sure.ensures) (plain g.S.Lock.PartialEq.eq g.S.Scripts.reply_of g.S.Scripts.effects_of (g.S.Scripts.system setting) (g.S.Scripts.Knows setting) g.row.READINGS g.row.HELD are c.begin_next.new.program (c.begin_next.ensures.stands setting are right))

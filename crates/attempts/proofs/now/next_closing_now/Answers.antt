@@ -1,0 +1,13 @@
+use Rattle.std.proofs.Common.{◌≡◌, subst}
+use Rattle.std.specs.Prelude.{IfSome}
+use Rattle.turns.specs.Attempt.{act}
+use Rattle.desks.specs.Outcomes.{IsPastTurn}
+use Rattle.attempts.specs.Steps.{act_of}
+use Rattle.attempts.proofs.AheadNow.{seen_far}
+use Rattle.attempts.proofs.now.next_closing_now.Goals as goal
+
+pub returns-in-None-clause-next : goal.returns-in-None-clause-next
+returns-in-None-clause-next g c = subst (λ a. IfSome c.next_past_turn.result (λ step. act_of step ≡ act a)) (seen_far g.S.Scripts.reply_of g.S.Scripts.effects_of (λ a. a) c.program.inside.far c.program.inside.sure c.args.program.now c.program.view_is c.in-None.ensures) c.next_past_turn.ensures.next
+
+pub returns-in-None-clause-turned : goal.returns-in-None-clause-turned
+returns-in-None-clause-turned g c = subst (λ phase. IfSome c.next_past_turn.result (λ step. IsPastTurn phase)) (seen_far g.S.Scripts.reply_of g.S.Scripts.effects_of (λ a. a.phase) c.program.inside.far c.program.inside.sure c.args.program.now c.program.view_is c.in-None.ensures) c.next_past_turn.ensures.turned

@@ -1,0 +1,12 @@
+use Rattle.std.proofs.Common.{ap, sym, ◌∙◌}
+use Rattle.turns.specs.Attempt.{act_in}
+use Rattle.turns.specs.declared.phase.Phase.TheVariants.{Operates}
+use Rattle.attempts.specs.Standing.{attempt_of}
+use Rattle.attempts.proofs.Inside.{phase_now}
+use Rattle.attempts.proofs.showing.next_past_turn.Goals as goal
+
+pub returns-in-Operates-clause-next : goal.returns-in-Operates-clause-next
+returns-in-Operates-clause-next g c = c.next_closing.ensures ∙ ap (λ phase. act_in phase (attempt_of g.S.Scripts.reply_of g.S.Scripts.effects_of c.args.program.now)) (sym (phase_now _ c.args.program.now (Operates c.in-Operates.field-0) c.program.view_is c.in-Operates.is))
+
+pub returns-in-Operates-clause-turned : goal.returns-in-Operates-clause-turned
+returns-in-Operates-clause-turned g c = (c.in-Operates.field-0, phase_now _ c.args.program.now (Operates c.in-Operates.field-0) c.program.view_is c.in-Operates.is)

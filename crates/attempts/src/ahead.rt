@@ -1,0 +1,158 @@
+ghost use Rattle.std.specs.Prelude.{◌≡◌, ◌<◌, ◌≤◌, ◌+◌, ◌-◌, ◌++◌, ◌∷◌, [], None, Some, is_some, length, option_map, slice_get, take};
+ghost use Rattle.turns.specs.Seen.{AreReadWords};
+ghost use Rattle.attempts.specs.Ahead.{guesses};
+ghost use Rattle.attempts.specs.Counting.{counted_by};
+ghost use Rattle.attempts.specs.Taken.{gone_on};
+
+use crate::attempt::Attempt;
+use crate::scripts::Scripts;
+use std::marker::Model;
+use turns::{Reading, Wanted};
+
+/// An attempt that may be ahead of itself: where it is if all of its readings are so. Those that are
+/// still to be made are guessed, by words that were only glimpsed.
+#[derive(Debug, Drop)]
+pub struct Ahead<L, J, D, P, const READINGS: usize, const HELD: usize> {
+    pub(crate) far: Attempt<L, J, D, P, READINGS, HELD>,
+    /// How many of its readings are made, if not all.
+    pub(crate) sure: Option<usize>,
+}
+
+impl<L, J, D, P, const READINGS: usize, const HELD: usize> Model
+    for Ahead<L, J, D, P, READINGS, HELD> {
+    ghost use Rattle.attempts.specs.Ahead.{Ahead};
+
+    ghost Value = { Ahead L J D P };
+
+    ghost view = { λ a. record { far = a.far; sure = a.sure } };
+}
+
+/// The attempts at jobs that are given so.
+pub type AheadOf<S, const READINGS: usize, const HELD: usize> = Ahead<
+    <S as Scripts<READINGS, HELD>>::Lock,
+    <S as Scripts<READINGS, HELD>>::Job,
+    <S as Scripts<READINGS, HELD>>::Decision,
+    <S as Scripts<READINGS, HELD>>::Point,
+    READINGS,
+    HELD,
+>;
+
+/// How many readings are made with so many more, of all that there are.
+#[inline(always)]
+fn made_with(before: usize, more: usize, readings: usize) -> usize
+    requires { more ≤ readings - before }
+    ensures { result ≡ before + more }
+{
+    if before < readings {
+        before + more
+    } else {
+        before
+    }
+}
+
+impl<
+    L: Copy + Default + Drop,
+    J: Drop,
+    D: Drop,
+    P: Drop,
+    const READINGS: usize,
+    const HELD: usize,
+> Ahead<L, J, D, P, READINGS, HELD> {
+    /// The reading that it guesses first.
+    #[inline(always)]
+    pub(crate) fn guess(&self) -> Option<Reading<usize>>
+        ensures { result ≡ slice_get (guesses self.now) 0 }
+    {
+        let made = self.sure?;
+        self.far.seen.reading(made)
+    }
+
+    /// The readings that it guesses.
+    #[inline(always)]
+    pub(crate) fn guesses(&self) -> &[Reading<usize>]
+        ensures guesses { result.now ≡ guesses self.now }
+        ensures words { AreReadWords self.now.far.readings }
+    {
+        // Called for its clause alone.
+        self.far.seen.fits_words();
+        match self.sure {
+            Some(made) => self.far.seen.readings_from(made),
+            None => &[],
+        }
+    }
+
+    /// The first so many of the readings that it guessed are made.
+    #[inline(always)]
+    pub(crate) fn confirm(&mut self, made: usize)
+        requires { made ≤ length (guesses self.old) }
+        ensures far { self.new.far ≡ record self.old.far { count = self.new.far.count } }
+        ensures sure { self.new.sure ≡ option_map (λ before. before + made) self.old.sure }
+    {
+        self.far
+            .count_steps(u32::try_from(made).unwrap_or(u32::MAX));
+        let (readings, _) = self.far.seen.counts();
+        if let Some(before) = self.sure {
+            self.sure = Some(made_with(before, made, readings));
+        }
+    }
+
+    /// How many readings it has, made or guessed, and how many locks it holds.
+    pub(crate) fn counts(&self) -> (usize, usize)
+        ensures { result ≡ (length self.now.far.readings, length self.now.far.held) }
+    {
+        self.far.counts()
+    }
+
+    /// Whether it has decided what it does at its turn.
+    pub(crate) fn has_decided(&self) -> bool
+        ensures { result ≡ is_some self.now.far.decision }
+    {
+        self.far.has_decided()
+    }
+
+    /// All of its readings are made.
+    pub(crate) fn be_sure(&mut self)
+        ensures { self.new ≡ record self.old { sure = None } }
+    {
+        self.sure = None;
+    }
+
+    /// Holds the lock too, which its next step has seized.
+    pub(crate) fn hold(&mut self, lock: L)
+        requires { length self.old.far.held < HELD }
+        ensures { self.new
+            ≡ record self.old {
+              far = record self.old.far {
+                held = self.old.far.held ++ lock ∷ [];
+                count = counted_by 1 self.old.far.count;
+              };
+            } }
+    {
+        self.far.hold(lock);
+        self.far.count_steps(1);
+    }
+
+    /// Goes on with what its walk came to; so many of its readings are made.
+    pub(crate) fn come_to(&mut self, found: Result<D, Wanted<L, usize>>, made: usize)
+        ensures { self.new ≡ record { far = gone_on self.old.far found; sure = Some made } }
+    {
+        self.far.go_on(found);
+        self.sure = Some(made);
+    }
+
+    /// Has come by so many readings and locks alone, and goes on from this point.
+    pub(crate) fn go_back(&mut self, readings: usize, locks: usize, point: P)
+        ensures { self.new
+            ≡ record {
+              far = record self.old.far {
+                readings = take readings self.old.far.readings;
+                held = take locks self.old.far.held;
+                point = point;
+              };
+              sure = None;
+            } }
+    {
+        self.far.go_back(readings, locks, point);
+        self.sure = None;
+    }
+}

@@ -1,0 +1,82 @@
+use Rattle.std.proofs.Common.{◌≡◌, ◌+◌, ℕ, List, suc, ap, arith, subst, sym, ◌∙◌}
+use Rattle.std.specs.Prelude.{Some, slice_get}
+use Rattle.turns.specs.Attempt.{change}
+use Rattle.turns.specs.System.{system_of}
+use Rattle.turns.specs.declared.answer.Answer.TheVariants.{Value}
+use Rattle.turns.specs.declared.reading.Reading.{Reading}
+use Rattle.desks.specs.Running.{HasComeTo}
+use Rattle.desks.specs.Guesses.{confirmed}
+use Rattle.desks.proofs.RunningOn.{comes_on, comes_once, goes_on, makes, next_guess, reads, works_on}
+use Rattle.desks.proofs.Seating.{allows_seated}
+use Rattle.desks.proofs.guesses.test_guesses.Goals as goal
+
+pub make-found-requires-clause-makes : goal.make-found-requires-clause-makes
+make-found-requires-clause-makes g c =
+    let O = system_of (g.F.Jobs.system c.args.setting.now) in
+    let a = g.F.Jobs.attempt c.args.program.now in
+    let guesses = g.F.Jobs.guesses_of c.args.program.now in
+    let guess = c.in-Some.guess in
+    let next = next_guess O a guesses c.loop-guess.made guess c.guesses-guesses.ensures.tests (subst (λ (l : List (Reading ℕ)). Some guess ≡ slice_get l c.loop-guess.made) c.guesses-guesses.ensures.guesses c.in-Some.ensures) in
+    makes O c.args.actor (confirmed O a guesses c.loop-guess.made) guess.word next.tests next.there
+
+pub make-found-requires-clause-allowed : goal.make-found-requires-clause-allowed
+make-found-requires-clause-allowed g c i f at does =
+    let O = system_of (g.F.Jobs.system c.args.setting.now) in
+    let a = g.F.Jobs.attempt c.args.program.now in
+    let guesses = g.F.Jobs.guesses_of c.args.program.now in
+    let here = c.loop-guess.invariant.at_work in
+    allows_seated O (g.met.F.Jobs.is_system c.args.setting.now here.right) (λ w k number a law there. c.every_move_keeps_the_law.ensures.moves c.args.setting.now w k number a (g.met.F.Jobs.is_system c.args.setting.now here.right) law there)
+    c.args.actor c.args.number (confirmed O a guesses c.loop-guess.made) c.loop-guess.seat.me here.seated c.args.shared.now.key.count _ _ i f at does
+
+pub returns-then-found-guess-clause-at_work : goal.returns-then-found-guess-clause-at_work
+returns-then-found-guess-clause-at_work g c =
+    let O = system_of (g.F.Jobs.system c.args.setting.now) in
+    let a = g.F.Jobs.attempt c.args.program.now in
+    let guesses = g.F.Jobs.guesses_of c.args.program.now in
+    let guess = c.in-Some.guess in
+    let next = next_guess O a guesses c.loop-guess.made guess c.guesses-guesses.ensures.tests (subst (λ (l : List (Reading ℕ)). Some guess ≡ slice_get l c.loop-guess.made) c.guesses-guesses.ensures.guesses c.in-Some.ensures) in
+    let here = confirmed O a guesses c.loop-guess.made in
+    works_on O c.args.actor c.args.number here _ c.loop-guess.seat.me c.make-found.new.seat.me c.make-found.result c.make-found.ensures.told (reads O c.args.actor here guess.word next.tests c.make-found.result)
+    _ _ _ _ _ _ _ _ c.loop-guess.invariant.at_work c.loop-guess.invariant.at_work.stands c.make-found.ensures.same.0 c.make-found.ensures.same.2
+
+pub returns-then-found-guess-clause-goes_on : goal.returns-then-found-guess-clause-goes_on
+returns-then-found-guess-clause-goes_on g c =
+    let O = system_of (g.F.Jobs.system c.args.setting.now) in
+    let guess = c.in-Some.guess in
+    let next = next_guess O (g.F.Jobs.attempt c.args.program.now) (g.F.Jobs.guesses_of c.args.program.now) c.loop-guess.made guess c.guesses-guesses.ensures.tests (subst (λ (l : List (Reading ℕ)). Some guess ≡ slice_get l c.loop-guess.made) c.guesses-guesses.ensures.guesses c.in-Some.ensures) in
+    (guess.word, next.tests)
+
+pub returns-then-found-guess-clause-come : goal.returns-then-found-guess-clause-come
+returns-then-found-guess-clause-come g c =
+    let O = system_of (g.F.Jobs.system c.args.setting.now) in
+    let a = g.F.Jobs.attempt c.args.program.now in
+    let guesses = g.F.Jobs.guesses_of c.args.program.now in
+    let guess = c.in-Some.guess in
+    let made : ℕ = c.loop-guess.made in
+    let next = next_guess O a guesses made guess c.guesses-guesses.ensures.tests (subst (λ (l : List (Reading ℕ)). Some guess ≡ slice_get l made) c.guesses-guesses.ensures.guesses c.in-Some.ensures) in
+    let here = confirmed O a guesses made in
+    let one : made + 1 ≡ suc made = omega arith in
+    subst (λ (n : ℕ). HasComeTo O c.args.actor c.args.number n a (change O here (Value c.make-found.result)) c.args.seat.now.me c.make-found.new.seat.me) one
+    (comes_on O c.args.actor c.args.number made 1 a here _ c.args.seat.now.me c.loop-guess.seat.me c.make-found.new.seat.me c.loop-guess.invariant.come
+    (comes_once O c.args.actor c.args.number here _ c.loop-guess.seat.me c.make-found.new.seat.me c.make-found.result c.make-found.ensures.told (reads O c.args.actor here guess.word next.tests c.make-found.result) (goes_on O c.args.actor here guess.word next.tests)))
+
+pub loop-guess-preserved : goal.loop-guess-preserved
+loop-guess-preserved g c =
+    let O = system_of (g.F.Jobs.system c.args.setting.now) in
+    let a = g.F.Jobs.attempt c.args.program.now in
+    let guesses = g.F.Jobs.guesses_of c.args.program.now in
+    let guess = c.in-Some.guess in
+    let made : ℕ = c.loop-guess.made in
+    let next = next_guess O a guesses made guess c.guesses-guesses.ensures.tests (subst (λ (l : List (Reading ℕ)). Some guess ≡ slice_get l made) c.guesses-guesses.ensures.guesses c.in-Some.ensures) in
+    let here = confirmed O a guesses made in
+    let one : suc made ≡ made + 1 = omega arith in
+    let found = c.make-found.result in
+    let same = c.if-found-guess.false in
+    let is = sym (ap (λ (n : ℕ). confirmed O a guesses n) one) ∙ next.more ∙ ap (λ (v : ℕ). change O here (Value v)) (sym same) ∙ reads O c.args.actor here guess.word next.tests found in
+    record {
+      at_work = works_on O c.args.actor c.args.number here _ c.loop-guess.seat.me c.make-found.new.seat.me found c.make-found.ensures.told is
+          _ _ _ _ _ _ _ _ c.loop-guess.invariant.at_work c.loop-guess.invariant.at_work.stands c.make-found.ensures.same.0 c.make-found.ensures.same.2;
+      come = comes_on O c.args.actor c.args.number made 1 a here _ c.args.seat.now.me c.loop-guess.seat.me c.make-found.new.seat.me c.loop-guess.invariant.come
+          (comes_once O c.args.actor c.args.number here _ c.loop-guess.seat.me c.make-found.new.seat.me found c.make-found.ensures.told is (goes_on O c.args.actor here guess.word next.tests));
+      within = omega (arith, next.within);
+    }
