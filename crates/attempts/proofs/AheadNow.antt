@@ -1,6 +1,6 @@
 -- what is to be seen of an attempt that may be ahead of itself
 use Rattle.std.proofs.Common.{◌≡◌, ℕ, zero, suc, List, [], ◌∷◌, refl, sym, ap, ◌∙◌}
-use Rattle.std.specs.Prelude.{IfSome, Option, Some, None, drop, slice_get}
+use Rattle.std.specs.Prelude.{IfNone, IfSome, Option, Some, None, drop, slice_get}
 use Rattle.std.proofs.lemmas.Option.{same_Some}
 use Rattle.turns.specs.Attempt.{Attempt}
 use Rattle.turns.specs.declared.reading.Reading.{Reading}
@@ -56,3 +56,8 @@ module _ {Lock Job Reply Effect Decision Point A : Type 0} (reply_of : Decision 
 pub of_any : {A P : Type 0} (found : Option A) → P → IfSome found (λ _. P)
 of_any None holds = tt
 of_any (Some step) holds = holds
+
+-- and where there is nothing, whatever it is asked for
+pub of_none : {A : Type 0} (P Q : Type 0) (found : Option A) → IfNone found Q → IfNone found (P → Q)
+of_none P Q None holds = λ p. holds
+of_none P Q (Some step) holds = tt

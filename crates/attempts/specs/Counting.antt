@@ -33,7 +33,8 @@ pub record Counted (Lock Job Reply Effect : Type 0) : Type 0 where
   pub count : ℕ
 
 -- an attempt that took so many steps to come to this
-abbrev pub with_count : {Lock Job Reply Effect : Type 0} → ℕ → Attempt Lock Job Reply Effect → Counted Lock Job Reply Effect
+abbrev pub with_count : {Lock Job Reply Effect : Type 0} → ℕ → Attempt Lock Job Reply Effect
+    → Counted Lock Job Reply Effect
 with_count count a = record { attempt = a; count = count_in a.phase a.held count }
 
 module _ (O : System) where

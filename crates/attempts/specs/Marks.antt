@@ -10,4 +10,5 @@ has_mark marks word = bit_at marks (word % 64) == 1
 
 -- each word that was read has its mark
 abbrev pub AreMarked : List (Reading ℕ) → ℕ → Type 0
-AreMarked readings marks = (word : ℕ) → has_mark marks word ≡ false → value_read readings word ≡ None
+AreMarked readings marks =
+    (word : ℕ) → has_mark marks word ≡ false → value_read readings word ≡ None

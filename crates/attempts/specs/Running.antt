@@ -8,9 +8,11 @@ use Rattle.attempts.specs.Standing.{Program, Stands, attempt_of}
 use Rattle.attempts.specs.SystemWith.{SystemWith, system_with}
 
 module _ {Lock : Type 0} (lock_word : Lock → ℕ) (words : List ℕ) where
-  -- with so many steps left an attempt can make none more by itself: it has come to its turn, or its lock isn't free or wants two steps, or its word isn't there or wants one
+  -- with so many steps left an attempt can make none more by itself: it has come to its turn, or
+  -- its lock isn't free or wants two steps, or its word isn't there or wants one
   abbrev pub GoesNoFurther : ℕ → Phase Lock ℕ → Type 0
-  GoesNoFurther left (Requests lock) = (left < 2) ⊎ (is_free (slice_get words (lock_word lock)) ≡ false)
+  GoesNoFurther left (Requests lock) =
+      (left < 2) ⊎ (is_free (slice_get words (lock_word lock)) ≡ false)
   GoesNoFurther left (Tests word) = (left ≡ 0) ⊎ (slice_get words word ≡ None)
   GoesNoFurther left Turns = ⊤
   GoesNoFurther left (Seizes lock expected) = ⊥
@@ -18,7 +20,8 @@ module _ {Lock : Type 0} (lock_word : Lock → ℕ) (words : List ℕ) where
   GoesNoFurther left GivesBack = ⊥
   GoesNoFurther left (Operates turn) = ⊥
 
-  -- where it wants a lock or a word next it goes on as far as it can, and elsewhere it makes no step
+  -- where it wants a lock or a word next it goes on as far as it can,
+  -- and elsewhere it makes no step
   abbrev pub GoesFarEnough : ℕ → ℕ → Phase Lock ℕ → Phase Lock ℕ → Type 0
   GoesFarEnough most made (Requests lock) new = GoesNoFurther (most - made) new
   GoesFarEnough most made (Tests word) new = GoesNoFurther (most - made) new
@@ -28,15 +31,20 @@ module _ {Lock : Type 0} (lock_word : Lock → ℕ) (words : List ℕ) where
   GoesFarEnough most made GivesBack new = made ≡ 0
   GoesFarEnough most made (Operates turn) new = made ≡ 0
 
-module _ {Lock Job Reply Effect Decision Point : Type 0} (same : Lock → Lock → Bool) (reply_of : Decision → Reply) (effects_of : Decision → List Effect) (S : SystemWith Lock Job Reply Effect Decision) (Knows : Job → Point → Seen Lock → Type 0) where
+module _ {Lock Job Reply Effect Decision Point : Type 0} (same : Lock → Lock → Bool)
+    (reply_of : Decision → Reply) (effects_of : Decision → List Effect)
+    (S : SystemWith Lock Job Reply Effect Decision) (Knows : Job → Point → Seen Lock → Type 0) where
   -- an attempt, and the words that it is made on
-  abbrev pub moment : Program Lock Job Decision Point → List ℕ → Moment (system_with same reply_of effects_of S)
+  abbrev pub moment : Program Lock Job Decision Point → List ℕ
+      → Moment (system_with same reply_of effects_of S)
   moment p words = record { attempt = attempt_of reply_of effects_of p; words = words }
 
   -- so many steps of actor k, no more than it may make, lead it to where it stands again
-  pub record Runs (reads seizes k most made : ℕ) (old : Program Lock Job Decision Point) (words : List ℕ) (new : Program Lock Job Decision Point) (after : List ℕ) : Type 0 where
+  pub record Runs (reads seizes k most made : ℕ) (old : Program Lock Job Decision Point)
+      (words : List ℕ) (new : Program Lock Job Decision Point) (after : List ℕ) : Type 0 where
     pub fits : made ≤ most
-    pub steps : LeadsTo (system_with same reply_of effects_of S) k made (moment old words) (moment new after)
+    pub steps : LeadsTo (system_with same reply_of effects_of S) k made (moment old words)
+        (moment new after)
     pub stands : Stands same reply_of effects_of S Knows reads seizes new
     pub far : GoesFarEnough S.lock_word after most made old.phase new.phase
     pub count : new.count ≡ old.count

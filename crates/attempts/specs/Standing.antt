@@ -25,9 +25,20 @@ pub record Program (Lock Job Decision Point : Type 0) : Type 0 where
   -- how many steps it took since it began
   pub count : ℕ
 
--- an attempt that has made nothing of this job yet: it requests this lock first, and goes on from this point
-abbrev pub begun_at : {Lock Job Decision Point : Type 0} → Job → Lock → Point → Program Lock Job Decision Point
-begun_at job first point = record { job = job; point = point; readings = []; held = []; phase = Requests first; decision = None; made = 0; count = 0 }
+-- an attempt that has made nothing of this job yet: it requests this lock first,
+-- and goes on from this point
+abbrev pub begun_at : {Lock Job Decision Point : Type 0} → Job → Lock → Point
+    → Program Lock Job Decision Point
+begun_at job first point = record {
+  job = job;
+  point = point;
+  readings = [];
+  held = [];
+  phase = Requests first;
+  decision = None;
+  made = 0;
+  count = 0;
+}
 
 -- what it is at next where its walk wants this
 abbrev pub wanted_phase : {Lock : Type 0} → Wanted Lock ℕ → Phase Lock ℕ
@@ -35,12 +46,15 @@ wanted_phase (Seize lock) = Requests lock
 wanted_phase (Test word) = Tests word
 
 -- the effects that are still to be made
-abbrev pub effects_left : {Decision Effect : Type 0} → (Decision → List Effect) → Option Decision → ℕ → List Effect
+abbrev pub effects_left : {Decision Effect : Type 0} → (Decision → List Effect) → Option Decision
+    → ℕ → List Effect
 effects_left effects_of None made = []
 effects_left effects_of (Some decision) made = drop made (effects_of decision)
 
 -- the attempt that it is
-abbrev pub attempt_of : {Lock Job Reply Effect Decision Point : Type 0} → (Decision → Reply) → (Decision → List Effect) → Program Lock Job Decision Point → generic.Attempt Lock Job Reply Effect
+abbrev pub attempt_of : {Lock Job Reply Effect Decision Point : Type 0} → (Decision → Reply)
+    → (Decision → List Effect) → Program Lock Job Decision Point
+    → generic.Attempt Lock Job Reply Effect
 attempt_of reply_of effects_of p = record {
   job = p.job;
   readings = p.readings;
@@ -55,7 +69,9 @@ module _ (O : System) (most_readings most_held : ℕ) where
 
   -- the attempt has room for what is left of its script
   abbrev pub HasRoom : generic.AttemptOf O → Type 0
-  HasRoom a = AsksAtMost (most_readings - length a.readings) (most_held - length a.held) (left O.same (generic.seen_of a) (O.script a.job))
+  HasRoom a =
+      AsksAtMost (most_readings - length a.readings) (most_held - length a.held)
+      (left O.same (generic.seen_of a) (O.script a.job))
 
   -- it needs room only as long as it goes through its script
   abbrev pub HasRoomIn : generic.AttemptOf O → Phase Lock ℕ → Type 0
@@ -84,7 +100,8 @@ module _ (O : System) (most_readings most_held : ℕ) where
     pub effects : AreThere a.effects
 
 -- what a point says matters only as long as the attempt goes through its script
-abbrev pub KnowsIn : {Lock Job Reply Effect Point : Type 0} → (Job → Point → Seen Lock → Type 0) → generic.Attempt Lock Job Reply Effect → Point → Phase Lock ℕ → Type 0
+abbrev pub KnowsIn : {Lock Job Reply Effect Point : Type 0} → (Job → Point → Seen Lock → Type 0)
+    → generic.Attempt Lock Job Reply Effect → Point → Phase Lock ℕ → Type 0
 KnowsIn Knows a point (Requests lock) = Knows a.job point (generic.seen_of a)
 KnowsIn Knows a point (Seizes lock expected) = Knows a.job point (generic.seen_of a)
 KnowsIn Knows a point (Tests word) = Knows a.job point (generic.seen_of a)
@@ -93,10 +110,14 @@ KnowsIn Knows a point (Withdraws lock) = ⊤
 KnowsIn Knows a point GivesBack = ⊤
 KnowsIn Knows a point (Operates turn) = ⊤
 
-module _ {Lock Job Reply Effect Decision Point : Type 0} (same : Lock → Lock → Bool) (reply_of : Decision → Reply) (effects_of : Decision → List Effect) (S : SystemWith Lock Job Reply Effect Decision) (Knows : Job → Point → Seen Lock → Type 0) where
+module _ {Lock Job Reply Effect Decision Point : Type 0} (same : Lock → Lock → Bool)
+    (reply_of : Decision → Reply) (effects_of : Decision → List Effect)
+    (S : SystemWith Lock Job Reply Effect Decision) (Knows : Job → Point → Seen Lock → Type 0) where
   -- an attempt stands where its job brings it, and what its point says is so
-  pub record Stands (most_readings most_held : ℕ) (p : Program Lock Job Decision Point) : Type 0 where
-    pub place : HasPlace (system_with same reply_of effects_of S) most_readings most_held (attempt_of reply_of effects_of p)
+  pub record Stands (most_readings most_held : ℕ) (p : Program Lock Job Decision Point)
+      : Type 0 where
+    pub place : HasPlace (system_with same reply_of effects_of S) most_readings most_held
+        (attempt_of reply_of effects_of p)
     pub point : KnowsIn Knows (attempt_of reply_of effects_of p) p.point p.phase
 
   -- it may go on with what its point says
@@ -105,14 +126,20 @@ module _ {Lock Job Reply Effect Decision Point : Type 0} (same : Lock → Lock �
     pub read : AreReadWords p.readings
     pub knows : Knows p.job p.point (generic.seen_of (attempt_of reply_of effects_of p))
 
-  -- the jobs are a system, none asks for more than there is room for, and what a point says stays so with more that is come by
+  -- the jobs are a system, none asks for more than there is room for, and what a point says stays
+  -- so with more that is come by
   pub record AreScripts (most_readings most_held : ℕ) : Type 0 where
     pub is_system : IsSystem (system_with same reply_of effects_of S)
     pub asks : (job : Job) → S.IsJob job → AsksAtMost most_readings most_held (S.script job)
-    pub knows_on : (job : Job) (point : Point) (seen more : Seen Lock) → Extends same seen more → Knows job point seen → Knows job point more
+    pub knows_on : (job : Job) (point : Point) (seen more : Seen Lock) → Extends same seen more
+        → Knows job point seen → Knows job point more
 
--- an attempt may go on: the jobs are scripts, and it stands where its job brings it, under a setting that there is
-pub record MayGoOn {Lock Job Reply Effect Decision Point : Type 0} (Setting : Type 0) (same : Lock → Lock → Bool) (reply_of : Decision → Reply) (effects_of : Decision → List Effect) (S : SystemWith Lock Job Reply Effect Decision) (Knows : Job → Point → Seen Lock → Type 0) (most_readings most_held : ℕ) (p : Program Lock Job Decision Point) : Type 0 where
+-- an attempt may go on: the jobs are scripts, and it stands where its job brings it,
+-- under a setting that there is
+pub record MayGoOn {Lock Job Reply Effect Decision Point : Type 0} (Setting : Type 0)
+    (same : Lock → Lock → Bool) (reply_of : Decision → Reply) (effects_of : Decision → List Effect)
+    (S : SystemWith Lock Job Reply Effect Decision) (Knows : Job → Point → Seen Lock → Type 0)
+    (most_readings most_held : ℕ) (p : Program Lock Job Decision Point) : Type 0 where
   pub setting : Setting
   pub scripts : AreScripts same reply_of effects_of S Knows most_readings most_held
   pub stands : Stands same reply_of effects_of S Knows most_readings most_held p

@@ -25,9 +25,11 @@ pub record SystemWith (Lock Job Reply Effect Decision : Type 0) : Type 1 where
   pub turn_word : ℕ
   pub Shows : List ℕ → State → Type 0
 
-module _ {Lock Job Reply Effect Decision : Type 0} (same : Lock → Lock → Bool) (reply_of : Decision → Reply) (effects_of : Decision → List Effect) where
+module _ {Lock Job Reply Effect Decision : Type 0} (same : Lock → Lock → Bool)
+    (reply_of : Decision → Reply) (effects_of : Decision → List Effect) where
   -- the system, by these
-  abbrev pub over_with : SystemWith Lock Job Reply Effect Decision → SystemOver Lock Job Reply Effect
+  abbrev pub over_with : SystemWith Lock Job Reply Effect Decision
+      → SystemOver Lock Job Reply Effect
   over_with S = record {
     IsJob = S.IsJob;
     State = S.State;
@@ -56,7 +58,8 @@ module _ {Lock Job Reply Effect Decision : Type 0} (same : Lock → Lock → Boo
   system_with S = system_of (over_with S)
 
 -- what a system is beside these
-abbrev pub with : {Lock Job Reply Effect : Type 0} → (O : SystemOver Lock Job Reply Effect) → SystemWith Lock Job Reply Effect O.Decision
+abbrev pub with : {Lock Job Reply Effect : Type 0} → (O : SystemOver Lock Job Reply Effect)
+    → SystemWith Lock Job Reply Effect O.Decision
 with O = record {
   IsJob = O.IsJob;
   State = O.State;

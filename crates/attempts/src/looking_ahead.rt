@@ -1,7 +1,7 @@
 //! How an attempt looks ahead: once it has seized a lock its walk reads on at once in words that were
 //! only glimpsed, and it guesses what it reads there.
 
-ghost use Rattle.std.specs.Prelude.{◌≡◌, ◌<◌, ◌++◌, ◌∷◌, [], ℕ, IfNone, IfSome, None, length, take};
+ghost use Rattle.std.specs.Prelude.{◌≡◌, ◌<◌, ◌++◌, ◌∷◌, [], ℕ, IfNone, IfSome, None, false, is_some, length, take};
 ghost use Rattle.turns.specs.Attempt.{change};
 ghost use Rattle.turns.specs.Seen.{Seen as SeenView};
 ghost use Rattle.attempts.specs.Ahead.{HasSeen, LooksOn, MayLookAhead, MayTake, StandsAhead, now_of};
@@ -148,6 +148,47 @@ fn walk_ahead<S: Scripts<READINGS, HELD>, const READINGS: usize, const HELD: usi
     }
 }
 
+/// Where it guesses nothing it stands where its job brings it. Called for its clauses alone.
+fn stand_far<S: Scripts<READINGS, HELD>, const READINGS: usize, const HELD: usize>(
+    _program: &AheadOf<S, READINGS, HELD>,
+    _setting: &S::Setting,
+)
+    requires may { MayTake (S.IsSetting _setting.now) S.Lock.eq S.reply_of S.effects_of
+        (S.system _setting.now) (S.Knows _setting.now) READINGS HELD _program.now }
+    requires none { _program.now.sure ≡ None }
+    ensures setting { S.IsSetting _setting.now }
+    ensures scripts { AreScripts S.Lock.eq S.reply_of S.effects_of (S.system _setting.now)
+        (S.Knows _setting.now) READINGS HELD }
+    ensures stands { Stands S.Lock.eq S.reply_of S.effects_of (S.system _setting.now)
+        (S.Knows _setting.now) READINGS HELD _program.now.far }
+{}
+
+/// Holds the lock too, and may look ahead then.
+#[inline(always)]
+fn hold_ahead<S: Scripts<READINGS, HELD>, const READINGS: usize, const HELD: usize>(
+    program: &mut AheadOf<S, READINGS, HELD>,
+    setting: &S::Setting,
+    lock: S::Lock,
+)
+    requires setting { S.IsSetting setting.now }
+    requires scripts { AreScripts S.Lock.eq S.reply_of S.effects_of (S.system setting.now)
+        (S.Knows setting.now) READINGS HELD }
+    requires undecided { false ≡ is_some program.old.far.decision }
+    requires room { length program.old.far.held < HELD }
+    requires walk { CanWalk S.Lock.eq S.reply_of S.effects_of (S.system setting.now)
+        (S.Knows setting.now)
+        (record program.old.far { held = program.old.far.held ++ lock ∷ [] }) }
+    ensures held { program.new.far
+        ≡ record (record program.old.far { held = program.old.far.held ++ lock ∷ [] }) {
+          count = program.new.far.count;
+        } }
+    ensures look { MayLookAhead (S.IsSetting setting.now) S.Lock.eq S.reply_of S.effects_of
+        (S.system setting.now) (S.Knows setting.now) READINGS HELD program.new.far }
+{
+    let _ = setting;
+    program.hold(lock);
+}
+
 /// The lock is its own: it goes on through its job, and looks ahead. Not inlined, so that a step that
 /// seizes no lock pays for no walk's locals.
 #[inline(never)]
@@ -165,11 +206,13 @@ pub(crate) fn take_lock_ahead<S: Scripts<READINGS, HELD>, const READINGS: usize,
     ensures stands { StandsAhead S.Lock.eq S.reply_of S.effects_of (S.system setting.now)
         (S.Knows setting.now) READINGS HELD program.new }
 {
+    // Called for its clauses alone.
+    stand_far::<S, READINGS, HELD>(program, setting);
     // Before its turn it has decided nothing; else it needn't look ahead.
     if program.has_decided() {
         take_far::<S, READINGS, HELD>(program, setting, Answer::Seized);
     } else if let Some(lock) = lock_to_seize::<S, READINGS, HELD>(program, setting) {
-        program.hold(lock);
+        hold_ahead::<S, READINGS, HELD>(program, setting, lock);
         walk_ahead::<S, READINGS, HELD>(program, setting, words);
     }
 }

@@ -1,6 +1,6 @@
 //! What an attempt does next, and what is to be seen of it now, whatever it guesses.
 
-ghost use Rattle.std.specs.Prelude.{◌≡◌, ◌<◌, IfSome, None};
+ghost use Rattle.std.specs.Prelude.{◌≡◌, ◌<◌, IfNone, IfSome, None};
 ghost use Rattle.turns.specs.Attempt.{act, answer_to, asked_in, begin as begin_of, next as next_of, operated, restarted, turn_in};
 ghost use Rattle.turns.specs.Runs.{is_rest};
 ghost use Rattle.desks.specs.Outcomes.{IsPastTurn, is_given_up, outcome_of};
@@ -58,6 +58,8 @@ pub(crate) fn next_closing_now<
         act_of step ≡ act (now_of S.reply_of S.effects_of program.now)) }
     ensures turned { IfSome result (λ step.
         IsPastTurn (now_of S.reply_of S.effects_of program.now).phase) }
+    ensures none { IfNone result
+        (¬ IsPastTurn (now_of S.reply_of S.effects_of program.now).phase) }
 {
     match program.guess() {
         Some(_) => None,

@@ -99,6 +99,7 @@ pub(crate) fn next_past_turn<S: Scripts<READINGS, HELD>, const READINGS: usize, 
     ensures next { IfSome result (λ step.
         act_of step ≡ act (attempt_of S.reply_of S.effects_of program.now)) }
     ensures turned { IfSome result (λ step. IsPastTurn program.now.phase) }
+    ensures none { IfNone result (¬ IsPastTurn program.now.phase) }
 {
     let phase = program.phase;
     if let Phase::Operates(_) = phase {

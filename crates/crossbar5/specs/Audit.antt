@@ -19,31 +19,46 @@ use Rattle.crossbar5.specs.declared.status.Status.TheVariants.{Fine, ReportRefus
 
 -- what stands after records: the paths of the set, and four closed crosspoints a path
 abbrev pub standing_after : Tables → List Record → Standing
-standing_after plan records = record { paths = length (after plan records); closed = 4 * length (after plan records) }
+standing_after plan records = record {
+  paths = length (after plan records);
+  closed = 4 * length (after plan records);
+}
 
 -- counts, if any are given, are those of what stands
 abbrev pub AreRightCounts : Option Counts → Standing → Type 0
 AreRightCounts None standing = ⊤
-AreRightCounts (Some counts) standing = (counts.paths ≡ standing.paths) × (counts.closed ≡ standing.closed)
+AreRightCounts (Some counts) standing =
+    (counts.paths ≡ standing.paths) × (counts.closed ≡ standing.closed)
 
 -- a record as it has to be behind these: with the reply of the one-marker office to its job
 abbrev pub righted : Tables → List Record → Record → Record
-righted plan before given = record given { reply = (whole plan (after plan before) given.job).reply }
+righted plan before given = record given {
+  reply = (whole plan (after plan before) given.job).reply;
+}
 
--- what is found of records, each of which has the turn of its place, and of the counts behind them, if there are any
+-- what is found of records, each of which has the turn of its place, and of the counts
+-- behind them, if there are any
 abbrev pub IsFoundOf : Tables → List Record → Option Counts → Finding → Type 0
-IsFoundOf plan records counts (Legal count standing) = IsLegal plan records × (count ≡ length records) × (standing ≡ standing_after plan records) × AreRightCounts counts standing
-IsFoundOf plan records counts (WrongCounts standing) = IsLegal plan records × (standing ≡ standing_after plan records) × ¬ AreRightCounts counts standing
+IsFoundOf plan records counts (Legal count standing) =
+    IsLegal plan records × (count ≡ length records) × (standing ≡ standing_after plan records)
+    × AreRightCounts counts standing
+IsFoundOf plan records counts (WrongCounts standing) =
+    IsLegal plan records × (standing ≡ standing_after plan records)
+    × ¬ AreRightCounts counts standing
 IsFoundOf plan records counts (WrongReply given right) =
-    IsFirstWrongReply plan records given.turn × (slice_get records given.turn ≡ Some given) × (right ≡ righted plan (take given.turn records) given)
+    IsFirstWrongReply plan records given.turn × (slice_get records given.turn ≡ Some given)
+    × (right ≡ righted plan (take given.turn records) given)
 IsFoundOf plan records counts (WrongTurn place) = ⊥
 IsFoundOf plan records counts (NoReport line) = ⊥
 
--- what is found of a text: the fault for which it isn't that of records at their turns, or what is found of its records and counts
+-- what is found of a text: the fault for which it isn't that of records at their turns, or what is
+-- found of its records and counts
 abbrev pub IsFoundIn : Tables → List ℕ → Finding → Type 0
 IsFoundIn plan text (NoReport line) = IsFaultOf text (Line line)
 IsFoundIn plan text (WrongTurn place) = IsFaultOf text (Turns place)
-IsFoundIn plan text finding = (records : List Record) × (counts : Option Counts) × IsReport records counts × (text ≡ records_text records counts) × IsFoundOf plan records counts finding
+IsFoundIn plan text finding =
+    (records : List Record) × (counts : Option Counts) × IsReport records counts
+    × (text ≡ records_text records counts) × IsFoundOf plan records counts finding
 
 -- what is written of what stands, and of a record
 abbrev pub standing_text : Standing → List ℕ
@@ -77,9 +92,12 @@ pub record IsAuditUnder (plan : Tables) (records text : List ℕ) (status : Stat
   pub finding : Finding
   pub found : IsFoundIn plan records finding
   -- of records at their turns, with counts or without, whose text it is, just this is found
-  pub only : (list : List Record) (counts : Option Counts) → IsReport list counts → records ≡ records_text list counts → IsFoundOf plan list counts finding
+  pub only : (list : List Record) (counts : Option Counts) → IsReport list counts
+      → records ≡ records_text list counts → IsFoundOf plan list counts finding
   -- so a legal list with right counts is found legal
-  pub legal : (list : List Record) (counts : Option Counts) → IsReport list counts → records ≡ records_text list counts → IsLegal plan list → AreRightCounts counts (standing_after plan list)
+  pub legal : (list : List Record) (counts : Option Counts) → IsReport list counts
+      → records ≡ records_text list counts → IsLegal plan list
+      → AreRightCounts counts (standing_after plan list)
       → finding ≡ Legal (length list) (standing_after plan list)
   pub text_is : text ≡ finding_text finding
   pub status_is : status ≡ finding_status finding

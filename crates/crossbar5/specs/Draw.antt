@@ -22,13 +22,17 @@ drawn Text plan paths records = office_text plan paths records
 drawn Drawing plan paths records = office_drawing plan paths records
 drawn Page plan paths records = office_page plan records
 
--- under a plan's tables, the text is a drawing of the office after a text of records, or tells what is wrong with them; the status is an audit's
-pub record IsDrawUnder (look : Look) (plan : Tables) (records text : List ℕ) (status : Status) : Type 0 where
+-- under a plan's tables, the text is a drawing of the office after a text of records, or tells what
+-- is wrong with them; the status is an audit's
+pub record IsDrawUnder (look : Look) (plan : Tables) (records text : List ℕ) (status : Status)
+    : Type 0 where
   -- what an audit writes of them
   pub told : List ℕ
   pub audit : IsAuditUnder plan records told status
   -- of a legal list with right counts, or none, the office after it is drawn
-  pub legal : (list : List Record) (counts : Option Counts) → IsReport list counts → records ≡ records_text list counts → IsLegal plan list → AreRightCounts counts (standing_after plan list)
+  pub legal : (list : List Record) (counts : Option Counts) → IsReport list counts
+      → records ≡ records_text list counts → IsLegal plan list
+      → AreRightCounts counts (standing_after plan list)
       → (text ≡ drawn look plan (after plan list) list) × (status ≡ Fine)
   -- of all else is told what the audit tells
   pub refused : status ≢ Fine → text ≡ told

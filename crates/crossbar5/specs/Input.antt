@@ -6,10 +6,11 @@ use Rattle.crossbar5.specs.PlanRefusal.{IsPlanRefusal}
 use Rattle.crossbar5.specs.declared.input.Input.{Input}
 use Rattle.crossbar5.specs.declared.input.Input.TheVariants.{Read, Refused}
 
--- the plan is that of its text, and the bytes are all that the source had left, if that is known; or
--- the text is refused, and that is told
+-- the plan is that of its text, and the bytes are all that the source had left, if that is known;
+-- or the text is refused, and that is told
 abbrev pub IsInputOf : List ℕ → Option (List ℕ) → Input → Type 0
 IsInputOf plan remaining (Read tables bytes) =
     (plan_of plan ≡ Ok tables) × IfSome remaining (λ all. bytes.items ≡ all)
 IsInputOf plan remaining (Refused written) =
-    (fault : PlanFault) × (plan_of plan ≡ Err fault) × IsPlanRefusal fault written.text.items written.status
+    (fault : PlanFault) × (plan_of plan ≡ Err fault)
+    × IsPlanRefusal fault written.text.items written.status

@@ -11,7 +11,8 @@ letter_of Combined = 88
 
 -- whether a letter names a kind
 abbrev pub is_letter : ℕ → Bool
-is_letter letter = letter == letter_of Dial || letter == letter_of Completing || letter == letter_of Combined
+is_letter letter =
+    letter == letter_of Dial || letter == letter_of Completing || letter == letter_of Combined
 
 -- a text names the kinds of an office's markers, marker 0 first, a letter for each
 pub record Names (text : List ℕ) (kinds : List Kind) : Type 0 where

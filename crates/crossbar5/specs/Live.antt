@@ -32,12 +32,14 @@ calls_of rows = flat_map calls_in rows
 
 -- the text is that of calls done by so many markers: of the records of one legal history of just
 -- these calls, and of the paths and the closed crosspoints after it
-pub record IsTextOfCalls (plan : Tables) (dialling completing : ℕ) (calls : List Call) (text : List ℕ) : Type 0 where
+pub record IsTextOfCalls (plan : Tables) (dialling completing : ℕ) (calls : List Call)
+    (text : List ℕ) : Type 0 where
   pub records : List Record
   pub legal : IsLegal plan records
   pub served : AreServed ⊤ calls records
   pub taken : AreTaken (kinds_of dialling completing) records
-  pub text_is : text ≡ report_text records (length (after plan records)) (4 * length (after plan records))
+  pub text_is : text
+      ≡ report_text records (length (after plan records)) (4 * length (after plan records))
 
 -- rows are refused if the row behind them has a fault; else their calls are done
 abbrev pub IsLiveOf : Tables → ℕ → ℕ → List Row → Option RowFault → List ℕ → Status → Type 0
@@ -47,7 +49,8 @@ IsLiveOf plan dialling completing rows None text status =
     IsTextOfCalls plan dialling completing (calls_of rows) text × (status ≡ Fine)
 
 -- under a plan's tables, the text and the status are those of what the traffic's rows come to
-pub record IsLiveUnder (plan : Tables) (dialling completing : ℕ) (traffic text : List ℕ) (status : Status) : Type 0 where
+pub record IsLiveUnder (plan : Tables) (dialling completing : ℕ) (traffic text : List ℕ)
+    (status : Status) : Type 0 where
   pub rows : List Row
   pub fault : Option RowFault
   pub read : IsTrafficOf Live (csv_records default_config (strip_bom traffic)) rows fault
@@ -58,7 +61,7 @@ abbrev pub IsLive : List ℕ → ℕ → ℕ → List ℕ → List ℕ → Statu
 IsLive plan dialling completing traffic text status =
     IsAnswerOf (λ tables. IsLiveUnder tables dialling completing) (plan_of plan) traffic text status
 
--- markers that are too few or too many, or a plan's text that is refused, refuse live traffic before
--- any of it is read
+-- markers that are too few or too many, or a plan's text that is refused, refuse live
+-- traffic before any of it is read
 abbrev pub IsLiveUnread : List ℕ → ℕ → ℕ → Type 0
 IsLiveUnread plan dialling completing = ¬ IsStaffCount dialling completing ⊎ IsRefusedPlan plan

@@ -20,7 +20,8 @@ status_of (Traffic slip) = TrafficRefused
 
 -- where there is a slip, the text and the status tell that its fault refused the run
 abbrev pub TellsItsRefusal : Option Slip → List ℕ → Status → Type 0
-TellsItsRefusal slip text status = ForSome slip (λ slip. (text ≡ line_of slip) × (status ≡ status_of slip))
+TellsItsRefusal slip text status =
+    ForSome slip (λ slip. (text ≡ line_of slip) × (status ≡ status_of slip))
 
 -- the same of the status alone
 abbrev pub HasItsStatus : Option Slip → Status → Type 0

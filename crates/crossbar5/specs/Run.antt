@@ -30,7 +30,8 @@ pub data Outcome : Type 0 where
   RefusesTraffic : TrafficFault → Outcome
   Leaves : Exchange → Outcome
 
--- after the last row traffic is refused if the row behind it has a fault, and else the office settles
+-- after the last row traffic is refused if the row behind it has a fault,
+-- and else the office settles
 abbrev pub at_end : Tables → Exchange → ℕ → Option RowFault → Outcome
 at_end plan e row (Some fault) = RefusesTraffic (record { row = row; fault = fault })
 at_end plan e row None = Leaves (settled plan e)
@@ -43,16 +44,19 @@ judged row (Some why) later = RefusesTraffic (record { row = row; fault = AtMark
 -- rows are judged and done one after another, the first of them having this number
 unfoldable pub outcome_from : Tables → Exchange → ℕ → List Row → Option RowFault → Outcome
 outcome_from plan e number [] fault = at_end plan e number fault
-outcome_from plan e number (row ∷ rows) fault = judged number (row_fault e row) (outcome_from plan (done plan e row) (number + 1) rows fault)
+outcome_from plan e number (row ∷ rows) fault =
+    judged number (row_fault e row) (outcome_from plan (done plan e row) (number + 1) rows fault)
 
--- what rows come to in an office that opens with markers of these kinds, with the fault of the row behind them
+-- what rows come to in an office that opens with markers of these kinds, with the
+-- fault of the row behind them
 abbrev pub outcome : Tables → List Kind → List Row → Option RowFault → Outcome
 outcome plan kinds rows fault = outcome_from plan (fresh_exchange kinds) 1 rows fault
 
 -- what is written of it
 abbrev pub outcome_text : Outcome → List ℕ
 outcome_text (RefusesTraffic fault) = fault_line fault
-outcome_text (Leaves e) = report_text e.records (closed_line_fields e.words) (closed_switch_fields e.words)
+outcome_text (Leaves e) =
+    report_text e.records (closed_line_fields e.words) (closed_switch_fields e.words)
 
 -- and the status that it ends with
 abbrev pub outcome_status : Outcome → Status
@@ -64,8 +68,8 @@ pub record IsWrittenOf (came : Outcome) (text : List ℕ) (status : Status) : Ty
   pub text_is : text ≡ outcome_text came
   pub status_is : status ≡ outcome_status came
 
--- the records of an office are those of the one-marker office, job by job in turn order, and its words show the set after them:
--- the turn word counts the records, and the closed fields the paths
+-- the records of an office are those of the one-marker office, job by job in turn order, and its
+-- words show the set after them: the turn word counts the records, and the closed fields the paths
 pub record IsOneHistory (plan : Tables) (e : Exchange) : Type 0 where
   pub idle : (k : ℕ) (m : Marker) → slice_get e.markers k ≡ Some m → is_idle m.work ≡ true
   pub legal : IsLegal plan e.records
@@ -78,18 +82,23 @@ abbrev pub LeavesOneHistory : Tables → Outcome → Type 0
 LeavesOneHistory plan (RefusesTraffic fault) = ⊤
 LeavesOneHistory plan (Leaves e) = IsOneHistory plan e
 
--- under a plan's tables, the text and the status are those of what the traffic's rows come to, and what they leave is one history
-pub record IsReplayUnder (plan : Tables) (kinds : List Kind) (traffic text : List ℕ) (status : Status) : Type 0 where
+-- under a plan's tables, the text and the status are those of what the traffic's rows come to, and
+-- what they leave is one history
+pub record IsReplayUnder (plan : Tables) (kinds : List Kind) (traffic text : List ℕ)
+    (status : Status) : Type 0 where
   pub rows : List Row
   pub fault : Option RowFault
   pub read : IsTrafficOf Replay (csv_records default_config (strip_bom traffic)) rows fault
   pub history : LeavesOneHistory plan (outcome plan kinds rows fault)
   pub written : IsWrittenOf (outcome plan kinds rows fault) text status
 
--- the text and the status are those of a replay of traffic with a plan's text and markers of these kinds
+-- the text and the status are those of a replay of traffic with a plan's
+-- text and markers of these kinds
 abbrev pub IsReplay : List ℕ → List Kind → List ℕ → List ℕ → Status → Type 0
-IsReplay plan kinds traffic text status = IsAnswerOf (λ tables. IsReplayUnder tables kinds) (plan_of plan) traffic text status
+IsReplay plan kinds traffic text status =
+    IsAnswerOf (λ tables. IsReplayUnder tables kinds) (plan_of plan) traffic text status
 
--- markers that are no office's, or a plan's text that is refused, refuse a replay before any traffic is read
+-- markers that are no office's, or a plan's text that is refused, refuse a
+-- replay before any traffic is read
 abbrev pub IsRefusedUnread : List ℕ → List Kind → Type 0
 IsRefusedUnread plan kinds = ¬ IsMarkerCount (length kinds) ⊎ IsRefusedPlan plan

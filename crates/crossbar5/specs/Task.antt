@@ -21,7 +21,8 @@ HasItsMarkers (Draw look) = Unit {0}
 -- under a plan's tables, the text and the status are those of the task
 abbrev pub IsDoneUnder : Task → Tables → List ℕ → List ℕ → Status → Type 0
 IsDoneUnder (Replay kinds) plan input text status = IsReplayUnder plan kinds.now input text status
-IsDoneUnder (Walk kinds telling) plan input text status = IsWalkUnder telling plan kinds.now input text status
+IsDoneUnder (Walk kinds telling) plan input text status =
+    IsWalkUnder telling plan kinds.now input text status
 IsDoneUnder Audit plan input text status = IsAuditUnder plan input text status
 IsDoneUnder (Draw look) plan input text status = IsDrawUnder look plan input text status
 

@@ -55,14 +55,18 @@ TellsOf told (RefusesTraffic fault) = ⊤
 TellsOf told (Leaves e) = told.office.exchange ≡ e
 
 -- the text and the status are those of a walk of which this is told, where the replay comes to this
-pub record IsTellingOf (telling : Telling) (told : Walk) (came : Outcome) (text : List ℕ) (status : Status) : Type 0 where
+pub record IsTellingOf (telling : Telling) (told : Walk) (came : Outcome) (text : List ℕ)
+    (status : Status) : Type 0 where
   pub same : TellsOf told came
   pub text_is : text ≡ walk_text telling told came
   pub status_is : status ≡ outcome_status came
 
--- under a plan's tables, the text and the status are those of a walk: traffic is refused as a replay of it is, and else each step of that replay is told
-pub record IsWalkUnder (telling : Telling) (plan : Tables) (kinds : List Kind) (traffic text : List ℕ) (status : Status) : Type 0 where
+-- under a plan's tables, the text and the status are those of a walk: traffic is refused as a
+-- replay of it is, and else each step of that replay is told
+pub record IsWalkUnder (telling : Telling) (plan : Tables) (kinds : List Kind)
+    (traffic text : List ℕ) (status : Status) : Type 0 where
   pub rows : List Row
   pub fault : Option RowFault
   pub read : IsTrafficOf Replay (csv_records default_config (strip_bom traffic)) rows fault
-  pub told : IsTellingOf telling (whole_walk plan kinds rows) (outcome plan kinds rows fault) text status
+  pub told : IsTellingOf telling (whole_walk plan kinds rows) (outcome plan kinds rows fault) text
+      status

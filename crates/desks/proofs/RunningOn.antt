@@ -1,11 +1,11 @@
 -- a desk that makes one step after another
 use Rattle.std.proofs.Common.{◌≡◌, ◌≢◌, ◌<◌, ◌+◌, ℕ, zero, suc, List, [], ◌∷◌, length, sym, refl, ap, subst, arith, ◌∙◌}
-use Rattle.std.specs.Prelude.{Some, slice_get}
+use Rattle.std.specs.Prelude.{None, Some, slice_get}
 use Rattle.std.proofs.lemmas.Option.{same_Some}
 use Rattle.atomic_table.specs.Seated.{TableId}
 use Rattle.atomic_table.specs.Table.{Me}
 use Rattle.turns.specs.System.{System}
-use Rattle.turns.specs.Attempt.{Act, AttemptOf, Rest, Look, act, act_in, answer_to, change, closing_act, next}
+use Rattle.turns.specs.Attempt.{Act, AttemptOf, Rest, Look, act, act_in, answer_to, asked_in, change, closing_act, next}
 use Rattle.turns.specs.World.{ActorOf, RecordOf, Does, Idle, operation, place}
 use Rattle.turns.specs.declared.answer.Answer.TheVariants.{Done, Value}
 use Rattle.turns.specs.declared.operation.Operation.TheVariants.{Load}
@@ -26,9 +26,9 @@ module _ (O : System) where
   made_on k m zero a b c seen seen_b seen_c first second =
       let all : m ≡ m + 0 = omega arith in
       subst (λ (n : ℕ). HasMade O k n a c seen seen_c) all (subst (λ (x : ActorOf O). HasMade O k m a x seen seen_c) (sym second.0) (subst (λ (s : List (RecordOf O)). HasMade O k m a b seen s) (sym second.1) first))
-  made_on k m (suc n) a b c seen seen_b seen_c first (between, seen_between, answer, made, step) =
+  made_on k m (suc n) a b c seen seen_b seen_c first (between, seen_between, answer, made, asks, step) =
       let all : suc (m + n) ≡ m + suc n = omega arith in
-      subst (λ (n : ℕ). HasMade O k n a c seen seen_c) all (between, seen_between, answer, made_on k m n a b between seen seen_b seen_between first made, step)
+      subst (λ (n : ℕ). HasMade O k n a c seen seen_c) all (between, seen_between, answer, made_on k m n a b between seen seen_b seen_between first made, asks, step)
 
   -- the attempt of an actor that does a job, else this one
   abbrev attempt_in : AttemptOf O → ActorOf O → AttemptOf O
@@ -76,9 +76,9 @@ module _ (O : System) where
 
   -- one step, by what the seat tells of it
   module _ (k number : ℕ) (a after : AttemptOf O) (me me_after : Me (Unit {0}) (List (PartOf O))) (found : ℕ) (moved : HasMoved O k number a (seen_in me.0) found me_after.0) (is : after ≡ next O k a found) where
-    pub comes_once : act a ≢ Rest → HasComeTo O k number 1 a after me me_after
-    comes_once goes_on = record {
-      made = (Does number a, seen_in me.0, answer_to O k (act a) found, (refl, refl), stepped_by O k number a after me me_after found (answer_to O k (act a) found) moved is refl goes_on);
+    pub comes_once : asked_in a.phase ≡ None → act a ≢ Rest → HasComeTo O k number 1 a after me me_after
+    comes_once asks goes_on = record {
+      made = (Does number a, seen_in me.0, answer_to O k (act a) found, (refl, refl), asks, stepped_by O k number a after me me_after found (answer_to O k (act a) found) moved is refl goes_on);
       ended = λ some rests. ended_after O k number a after me me_after found moved is rests;
     }
 
@@ -108,6 +108,9 @@ module _ (O : System) where
 
     pub reads : (found : ℕ) → change O a (Value found) ≡ next O k a found
     reads found = sym (ap (λ (step : Act O.Lock O.Effect). change O a (answer_to O k step found)) looks)
+
+    pub asks_none : asked_in a.phase ≡ None
+    asks_none = ap asked_in is
 
     pub goes_on : act a ≢ Rest
     goes_on rests = let same : Look word ≡ Rest = sym looks ∙ rests in absurd cc

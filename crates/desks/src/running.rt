@@ -1,8 +1,8 @@
 //! Steps that a desk makes one after another, since they are sure to ask for no lock.
 
-ghost use Rattle.std.specs.Prelude.{◌<◌, ◌^◌};
+ghost use Rattle.std.specs.Prelude.{◌≡◌, ◌+◌, ◌<◌, ◌^◌, false};
 ghost use Rattle.turns.specs.System.{system_of};
-ghost use Rattle.desks.specs.Running.{HasRun, counted};
+ghost use Rattle.desks.specs.Running.{NothingLeftPastTurn, HasRun, counted};
 ghost use Rattle.desks.specs.Views.{IsDeskOf};
 
 use crate::desk::Desk;
@@ -45,7 +45,8 @@ impl<F: Jobs> Desk<F> {
     #[inline(always)]
     fn close_once<W: Watch>(&mut self, room: &Room<F>, setting: &F::Setting, watch: &mut W) -> bool
         requires { IsDeskOf self.old room.now setting.now }
-        ensures { HasRun (system_of (F.system setting.now)) (counted result) self.old self.new }
+        ensures run { HasRun (system_of (F.system setting.now)) (counted result) self.old self.new }
+        ensures to_the_end { result ≡ false → NothingLeftPastTurn self.new.actor }
     {
         let Some((number, program)) = &mut self.doing else {
             return false;
@@ -61,11 +62,12 @@ impl<F: Jobs> Desk<F> {
         )
     }
 
-    /// Makes its next steps past its turn, and gives their number.
+    /// Makes its next steps past its turn, and gives their number, which it keeps below 2^32.
     #[inline(always)]
     fn close<W: Watch>(&mut self, room: &Room<F>, setting: &F::Setting, watch: &mut W) -> u32
         requires { IsDeskOf self.old room.now setting.now }
-        ensures { HasRun (system_of (F.system setting.now)) result self.old self.new }
+        ensures run { HasRun (system_of (F.system setting.now)) result self.old self.new }
+        ensures to_the_end { result + 1 < 2 ^ 32 → NothingLeftPastTurn self.new.actor }
     {
         let mut made = 0;
         while made < u32::MAX && self.close_once(room, setting, watch) {
@@ -105,16 +107,15 @@ impl<F: Jobs> Desk<F> {
 
     /// Makes those of its next steps that are sure to ask for no lock, and so can't be put off, one
     /// after another, and gives their number: the words that its program guesses, one step more, as its
-    /// turn, and what comes past that. Whoever watches is told before each.
+    /// turn, and all that comes past that. Whoever watches is told before each.
     pub fn run<W: Watch>(&mut self, room: &Room<F>, setting: &F::Setting, watch: &mut W) -> usize
         requires { IsDeskOf self.old room.now setting.now }
-        ensures { HasRun (system_of (F.system setting.now)) result self.old self.new }
+        ensures run { HasRun (system_of (F.system setting.now)) result self.old self.new }
+        ensures to_the_end { result + 1 < 2 ^ 32 → NothingLeftPastTurn self.new.actor }
     {
         let read = self.read_guesses(room, setting, watch);
-        if !self.step_surely(room, setting, watch) {
-            return read;
-        }
+        let sure = usize::from(self.step_surely(room, setting, watch));
         let closed = self.close(room, setting, watch);
-        read + 1 + closed as usize
+        read + sure + closed as usize
     }
 }

@@ -110,7 +110,8 @@ event_by plan k words work =
     if is_rest (act a) then event.Idle else event_of k number a (change (office plan) a told) told)
     work
 
--- how a marker is answered that comes from one work to another by its next step: not at all where it is idle
+-- how a marker is answered that comes from one work to another by its next step:
+-- not at all where it is idle
 abbrev pub IsAnswered : Tables → ℕ → List ℕ → Work → Work → Option Answer → Type 0
 IsAnswered plan k words before after None = is_idle before ≡ true
 IsAnswered plan k words before after (Some told) =

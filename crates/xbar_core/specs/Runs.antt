@@ -25,7 +25,8 @@ unless_refused (Some fault) now before = before
 
 -- a move of a marker; where an assignment is refused, or no marker has the number, nothing changes
 abbrev pub after_move : Tables → Exchange → Move → Exchange
-after_move plan e (Assigns k number job) = unless_refused (refusal e k job) (assigned k number job e) e
+after_move plan e (Assigns k number job) =
+    unless_refused (refusal e k job) (assigned k number job e) e
 after_move plan e (Steps k) = after_step plan k e
 after_move plan e (BeginsAnew k) = begun_anew plan k e
 after_move plan e (GivesBack k) = given_back plan k e

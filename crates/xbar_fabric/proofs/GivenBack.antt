@@ -29,10 +29,11 @@ module _ (plan : Tables) (table : TableId) (kind : Kind) (k : ℕ) where
   -- so many steps of the desk below are so many of the marker
   has_made : (count : ℕ) (before after : Work) (seen seen_after : Order) → desks.HasMade (office plan) k count before after seen seen_after → HasMade count (desk_at table plan kind k before seen) (desk_at table plan kind k after seen_after)
   has_made zero before after seen seen_after made = λ i. desk_at table plan kind k (made.0 i) (made.1 i)
-  has_made (suc count) before after seen seen_after (between, seen_between, answer, made, step) = (
+  has_made (suc count) before after seen seen_after (between, seen_between, answer, made, asks, step) = (
     desk_at table plan kind k between seen_between,
     event_of k step.number step.attempt (change (office plan) step.attempt answer) answer,
     has_made count before between seen seen_between made,
+    asks,
     has_stepped plan kind k between after seen_between seen_after answer step table _ refl,
   )
 

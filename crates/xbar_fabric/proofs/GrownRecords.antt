@@ -124,7 +124,7 @@ module _ (before after : DeskView) (event : Event) (step : HasStepped before aft
 -- by many
 pub steps_grown : (count : ℕ) (before after : DeskView) → HasMade count before after → HasGrown before after
 steps_grown zero before after same = still_grown before after same
-steps_grown (suc count) before after (between, event, made, step) = both_grown before between after (steps_grown count before between made) (step_grown between after event step)
+steps_grown (suc count) before after (between, event, made, asks, step) = both_grown before between after (steps_grown count before between made) (step_grown between after event step)
 
 -- and by an advance
 pub advance_grown : (before after : DeskView) (event : Event) → HasAdvanced before after event → HasGrown before after

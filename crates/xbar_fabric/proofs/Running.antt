@@ -22,7 +22,7 @@ use Rattle.xbar_fabric.proofs.ToldSteps.{free_idle, moves}
 -- steps leave a job its number
 pub keeps_number : (plan : Tables) (k count : ℕ) (before after : Work) (seen seen_after : Order) → desks.HasMade (office plan) k count before after seen seen_after → HasJobNo before → HasJobNo after
 keeps_number plan k zero before after seen seen_after made has = subst HasJobNo (sym made.0) has
-keeps_number plan k (suc count) before after seen seen_after (between, seen_between, answer, made, step) has =
+keeps_number plan k (suc count) before after seen seen_after (between, seen_between, answer, made, asks, step) has =
     subst HasJobNo (sym step.after_is) (subst HasJobNo step.before_is (keeps_number plan k count before between seen seen_between made has))
 
 module _ (plan : Tables) (table : TableId) (kind : Kind) (k : ℕ) where
@@ -33,12 +33,13 @@ module _ (plan : Tables) (table : TableId) (kind : Kind) (k : ℕ) where
   -- steps after which something is left of the job
   on_their_way : (count : ℕ) (before after : Work) (seen seen_after : Order) → desks.HasMade (office plan) k count before after seen seen_after → is_free (office plan) after ≡ false → HasRun count (desk_at table plan kind k before seen) (desk_at table plan kind k after seen_after)
   on_their_way zero before after seen seen_after made goes = λ i. desk_at table plan kind k (made.0 i) (made.1 i)
-  on_their_way (suc count) before after seen seen_after (between, seen_between, answer, made, step) goes =
+  on_their_way (suc count) before after seen seen_after (between, seen_between, answer, made, asks, step) goes =
       let its = busy between after seen_between seen_after answer step in (
         desk_at table plan kind k between seen_between,
         event_of k step.number step.attempt (change (office plan) step.attempt answer) answer,
         on_their_way count before between seen seen_between made (sym (free_idle plan between) ∙ its),
         its,
+        asks,
         moves plan table kind k between after seen_between seen_after answer step _ refl goes,
       )
 
@@ -46,12 +47,13 @@ module _ (plan : Tables) (table : TableId) (kind : Kind) (k : ℕ) where
   pub runs : (count : ℕ) (before after : Work) (seen seen_after : Order) → IsLawful plan → IsLegal (office plan) 0 (office plan).opening seen_after → (0 < count → desks.EndsIn (office plan) seen_after k after)
       → desks.HasMade (office plan) k count before after seen seen_after → HasRun count (desk_at table plan kind k before seen) (desk_at table plan kind k after seen_after)
   runs zero before after seen seen_after laws legal ends made = λ i. desk_at table plan kind k (made.0 i) (made.1 i)
-  runs (suc count) before after seen seen_after laws legal ends (between, seen_between, answer, made, step) =
+  runs (suc count) before after seen seen_after laws legal ends (between, seen_between, answer, made, asks, step) =
       let its = busy between after seen_between seen_after answer step in
       let told = step_answered plan table kind k between after seen_between seen_after answer step laws legal (ends (omega arith)) in (
         desk_at table plan kind k between seen_between,
         told.event,
         on_their_way count before between seen seen_between made (sym (free_idle plan between) ∙ its),
         its,
+        asks,
         told.advanced,
       )

@@ -3,6 +3,7 @@ use Rattle.turns.specs.Attempt.{begin_with}
 use Rattle.turns.specs.declared.answer.Answer.{Answer}
 use Rattle.turns.specs.World as worlds
 use Rattle.turns.specs.World.{Does}
+use Rattle.desks.specs.Desks.{asked_by}
 use Rattle.desks.specs.Parts.{Begins}
 use Rattle.xbar_office.specs.declared.reply.Record.{Record}
 use Rattle.xbar_jobs.specs.Jobs.{first_conn}
@@ -45,19 +46,23 @@ pub record IsAnswered (before after : DeskView) (answer : Option Answer) : Type 
       moves.IsAnswered before.plan before.marker (advanced.stepped goes_on).office.words
       before.work after.work answer
 
--- so many advances of the desk, none of them while it was idle, between which other markers may move
+-- so many advances of the desk, none of them while it was idle and none that asked for a connector,
+-- between which other markers may move
 abbrev pub HasRun : ℕ → DeskView → DeskView → Type 0
 HasRun zero before after = after ≡ before
 HasRun (suc count) before after =
     (between : DeskView) × (event : Event) × HasRun count before between
-    × (is_idle between.work ≡ false) × HasAdvanced between after event
+    × (is_idle between.work ≡ false) × (asked_by between.work ≡ None)
+    × HasAdvanced between after event
 
--- so many steps of the desk's marker, between which other markers may move
+-- so many steps of the desk's marker, none of which asked for a connector, between
+-- which other markers may move
 abbrev pub HasMade : ℕ → DeskView → DeskView → Type 0
 HasMade zero before after = after ≡ before
 HasMade (suc count) before after =
     (between : DeskView) × (event : Event)
-    × HasMade count before between × HasStepped between after event
+    × HasMade count before between × (asked_by between.work ≡ None)
+    × HasStepped between after event
 
 -- a marker at the very beginning of its job
 abbrev pub at_beginning : Work → Work

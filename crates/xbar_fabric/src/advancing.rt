@@ -1,9 +1,10 @@
 //! A desk's steps: one at a time, or so many as give back what its marker holds.
 
-ghost use Rattle.std.specs.Prelude.{◌≡◌, ◌≢◌, ◌<◌, ◌^◌, ℕ, false, option_to_list, true};
+ghost use Rattle.std.specs.Prelude.{◌≡◌, ◌≢◌, ◌+◌, ◌<◌, ◌^◌, ℕ, false, option_to_list, true};
 ghost use Rattle.turns.specs.Attempt.{act, asked_in};
 ghost use Rattle.turns.specs.Runs.{is_rest};
 ghost use Rattle.desks.specs.Desks.{told_record};
+ghost use Rattle.desks.specs.Running.{NothingLeftPastTurn};
 ghost use Rattle.xbar_jobs.specs.Attempt.{Attempt};
 ghost use Rattle.xbar_core.specs.Exchange.{is_idle};
 ghost use Rattle.xbar_core.specs.Moves.{event_of, given_by};
@@ -73,12 +74,13 @@ impl Desk {
     }
 
     /// Makes those of its marker's next steps that are sure to ask for no connector, and so can't be put
-    /// off, one after another: tests, its turn, effects, and what is freed past that. Whoever watches
-    /// is told before each. Gives their number.
+    /// off, one after another: tests, its turn, and all that comes past that. Whoever watches is told
+    /// before each. Gives their number.
     pub fn run<W: Watch>(&mut self, fabric: &Fabric, watch: &mut W) -> usize
         requires { IsDeskOf self.old fabric.now }
         ensures same { self.new ≡ record (self.old) { work = self.new.work; seen = self.new.seen } }
         ensures run { HasRun result self.old self.new }
+        ensures to_the_end { result + 1 < 2 ^ 32 → NothingLeftPastTurn self.new.work }
     {
         // Called for its clauses alone.
         xbar_plan::laws::every_plan_is_lawful(fabric.plan);

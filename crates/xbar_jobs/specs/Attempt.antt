@@ -46,7 +46,8 @@ abbrev pub effect_step : Effect → Step
 effect_step (Close c) = step.Close c.word (close_bits_of (shape_at c.word) c.field (c.value - 1))
 effect_step (Open c) = step.Open c.word (open_mask_of (shape_at c.word) c.field)
 effect_step (SetBit number index) = step.Close (word_number (GroupWord number)) (2 ^ index)
-effect_step (ClearBit number index) = step.Open (word_number (GroupWord number)) (2 ^ 64 - 1 - 2 ^ index)
+effect_step (ClearBit number index) =
+    step.Open (word_number (GroupWord number)) (2 ^ 64 - 1 - 2 ^ index)
 
 -- the step that makes an act
 abbrev pub step_of : Act → Step

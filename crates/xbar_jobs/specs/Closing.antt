@@ -33,15 +33,28 @@ take_of number choice = record { group = number; index = choice.index; paths = c
 
 -- decided: the member of a group and the paths that two trials came to, or none
 abbrev pub tried : Aim → ℕ → Trials → Decision
-tried aim number trials = record { reply = trials_reply aim trials; leave = None; take = option_map (take_of number) trials.choice }
+tried aim number trials = record {
+  reply = trials_reply aim trials;
+  leave = None;
+  take = option_map (take_of number) trials.choice;
+}
 
 -- a member of the plan is let go, with the path that ends there and the other party's
 abbrev pub leave_of : Path → Option Path → MemberPlace → Leave
-leave_of own other found = record { group = found.group; index = found.index; own = own; other = other }
+leave_of own other found = record {
+  group = found.group;
+  index = found.index;
+  own = own;
+  other = other;
+}
 
 -- decided: a call is let go, and nothing is taken
 abbrev pub released : Leave → Decision
-released leave = record { reply = plain_reply (Released leave.own leave.other); leave = Some leave; take = None }
+released leave = record {
+  reply = plain_reply (Released leave.own leave.other);
+  leave = Some leave;
+  take = None;
+}
 
 -- decided so, after a register is let go
 abbrev pub leaving : Leave → Decision → Decision
@@ -58,7 +71,9 @@ called_closes (Some path) = path_closes path
 
 -- what is taken is closed: the calling path, the called path, and then the member's bit is set
 abbrev pub take_effects : Take → List Effect
-take_effects take = path_closes take.paths.calling ++ called_closes take.paths.called ++ SetBit take.group take.index ∷ []
+take_effects take =
+    path_closes take.paths.calling ++ called_closes take.paths.called
+    ++ SetBit take.group take.index ∷ []
 
 -- a path's four crosspoints are opened in their order
 abbrev pub path_opens : Path → List Effect
@@ -71,11 +86,13 @@ other_opens (Some path) = path_opens path
 
 -- what is let go is opened: the own path, the other party's, and then the member's bit is cleared
 abbrev pub leave_effects : Leave → List Effect
-leave_effects leave = path_opens leave.own ++ other_opens leave.other ++ ClearBit leave.group leave.index ∷ []
+leave_effects leave =
+    path_opens leave.own ++ other_opens leave.other ++ ClearBit leave.group leave.index ∷ []
 
 -- the effects of a decision, in their order: what is let go comes before what is taken
 abbrev pub effects : Decision → List Effect
-effects decision = option_map_or leave_effects decision.leave [] ++ option_map_or take_effects decision.take []
+effects decision =
+    option_map_or leave_effects decision.leave [] ++ option_map_or take_effects decision.take []
 
 -- the word that an effect changes
 abbrev pub effect_word : Effect → ℕ

@@ -30,7 +30,8 @@ unless_calling line next false = do
   party ← approach line
   unless_busy party next (channel_of party)
 
--- the first of a number's lines that isn't the calling one and is in no path: each is approached in turn, until one is
+-- the first of a number's lines that isn't the calling one and is in no path: each is
+-- approached in turn, until one is
 unfoldable pub hunt : Line → List Line → Script (Option Party)
 hunt calling [] = Ends None
 hunt calling (line ∷ lines) = unless_calling line (hunt calling lines) (line_eq line calling)
@@ -38,7 +39,8 @@ hunt calling (line ∷ lines) = unless_calling line (hunt calling lines) (line_e
 -- a call to a line of the office
 unfoldable pub call_line : Tables → Party → List ℕ → Option Party → Script Decision
 call_line plan calling groups None = Ends (refused CalledBusy)
-call_line plan calling groups (Some called) = connect plan Connected (record { calling = calling; called = Some called }) groups
+call_line plan calling groups (Some called) =
+    connect plan Connected (record { calling = calling; called = Some called }) groups
 
 -- a call to a number of the office, by the lines that it has
 unfoldable pub call_number : Tables → Party → List ℕ → Option (List Line) → Script Decision
@@ -49,13 +51,15 @@ call_number plan calling groups (Some lines) = do
 
 -- a call inside the office counts its number; any other does not
 unfoldable pub call_by : Tables → Party → ℕ → List ℕ → Bool → Script Decision
-call_by plan calling dialled groups true = call_number plan calling groups (lines_of plan (number_of dialled))
+call_by plan calling dialled groups true =
+    call_number plan calling groups (lines_of plan (number_of dialled))
 call_by plan calling dialled groups false = connect plan Connected (alone calling) groups
 
 -- a call by the groups that its code leads to
 unfoldable pub call : Tables → Party → ℕ → Option (List ℕ) → Script Decision
 call plan calling dialled None = Ends (refused VacantCode)
-call plan calling dialled (Some groups) = call_by plan calling dialled groups (leads_inside plan groups)
+call plan calling dialled (Some groups) =
+    call_by plan calling dialled groups (leads_inside plan groups)
 
 -- the register at the end of a path, if it ends at one
 abbrev pub if_register : Tables → MemberPlace → Option MemberPlace
@@ -64,22 +68,28 @@ if_register plan found = if found.group == register_group plan then Some found e
 abbrev pub register_at : Tables → Path → Option MemberPlace
 register_at plan own = option_and_then (if_register plan) (member_place plan own.place)
 
--- the register is let go: its group is seized, and the call is decided on the words as they will be once that is done
+-- the register is let go: its group is seized, and the call is decided on the words as
+-- they will be once that is done
 unfoldable pub call_without : Tables → Party → ℕ → Leave → Script Decision
 call_without plan calling dialled leave = do
   seize (Group leave.group)
-  decision ← as_if_made (leave_effects leave) (call plan (party_after (leave_effects leave) calling) dialled (route_of plan (code_of dialled)))
+  decision ← as_if_made (leave_effects leave)
+      (call plan (party_after (leave_effects leave) calling) dialled
+      (route_of plan (code_of dialled)))
   Ends (leaving leave decision)
 
 unfoldable pub call_from : Tables → Party → ℕ → Path → Option MemberPlace → Script Decision
 call_from plan calling dialled own None = Ends (refused NoRegister)
-call_from plan calling dialled own (Some found) = call_without plan calling dialled (leave_of own None found)
+call_from plan calling dialled own (Some found) =
+    call_without plan calling dialled (leave_of own None found)
 
 unfoldable pub complete_from : Tables → Party → ℕ → Option Path → Script Decision
 complete_from plan calling dialled None = Ends (refused NoRegister)
-complete_from plan calling dialled (Some own) = call_from plan calling dialled own (register_at plan own)
+complete_from plan calling dialled (Some own) =
+    call_from plan calling dialled own (register_at plan own)
 
--- a completing job: approach the line and trace its path, and where that ends at a register go on with the call
+-- a completing job: approach the line and trace its path, and where that ends at a
+-- register go on with the call
 unfoldable pub complete_steps : Tables → Line → ℕ → Script Decision
 complete_steps plan line dialled = do
   calling ← approach line

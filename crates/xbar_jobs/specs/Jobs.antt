@@ -46,7 +46,8 @@ script plan (Dial line) = dial_steps plan line
 script plan (Complete line dialled) = complete_steps plan line dialled
 script plan (Release line) = release_steps plan line
 
--- from here on a job tests line junctor switches in their rows alone: a dial tone job always, a completing one once its own path was traced
+-- from here on a job tests line junctor switches in their rows alone: a dial tone job always, a
+-- completing one once its own path was traced
 abbrev pub TestsRows : Job → Way → Type 0
 TestsRows (Dial line) way = ⊤
 TestsRows (Complete line dialled) Begun = ⊥

@@ -14,7 +14,8 @@ use Rattle.xbar_jobs.specs.declared.decision.Decision.{Decision}
 use Rattle.xbar_jobs.specs.declared.effect.Effect.{Effect}
 use Rattle.xbar_jobs.specs.declared.effect.Effect.TheVariants.{Close, Open, SetBit, ClearBit}
 
--- an effect on a crosspoint of the office, or on the bit of one of forty members of one of sixteen groups
+-- an effect on a crosspoint of the office, or on the bit of one of forty
+-- members of one of sixteen groups
 abbrev pub IsEffect : Effect → Type 0
 IsEffect (Close c) = IsCrosspoint c
 IsEffect (Open c) = IsCrosspoint c

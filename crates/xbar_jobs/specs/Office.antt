@@ -23,17 +23,21 @@ use Rattle.xbar_jobs.specs.declared.effect.Effect.{Effect}
 
 -- whether a group has a member of this number that is not idle
 abbrev pub is_busy_at : Tables → List Path → ℕ → ℕ → Bool
-is_busy_at plan paths number index = option_map_or (λ member. not (is_member_idle paths member)) (member_at plan number index) false
+is_busy_at plan paths number index =
+    option_map_or (λ member. not (is_member_idle paths member)) (member_at plan number index) false
 
 -- a group's word has a bit for each member that is not idle, and no other bit
 abbrev pub GroupShows : Tables → List Path → ℕ → ℕ → Type 0
-GroupShows plan paths number word = (index : ℕ) → bit_at word index ≡ (if is_busy_at plan paths number index then 1 else 0)
+GroupShows plan paths number word =
+    (index : ℕ) → bit_at word index ≡ (if is_busy_at plan paths number index then 1 else 0)
 
--- the 416 protected words show a lawful set of paths: the switches its crosspoints, the groups' words its busy members
+-- the 416 protected words show a lawful set of paths: the switches its crosspoints, the
+-- groups' words its busy members
 pub record ShowsOffice (plan : Tables) (words : List ℕ) (paths : List Path) : Type 0 where
   pub lawful : IsLawfulSet plan paths
   pub switches : ShowsPaths words paths
-  pub groups : (number : ℕ) → number < 16 → GroupShows plan paths number (word_of words (GroupWord number))
+  pub groups : (number : ℕ) → number < 16
+      → GroupShows plan paths number (word_of words (GroupWord number))
 
 -- a connector protects the number of a word
 pub record Protects (conn : Conn) (number : ℕ) : Type 0 where
@@ -47,7 +51,10 @@ abbrev pub office_over : Tables → SystemOver Conn Job Reply Effect
 office_over plan = record {
   IsJob = IsJob;
   State = List Path;
-  whole = λ paths job. record { state = (whole plan paths job).paths; reply = (whole plan paths job).reply };
+  whole = λ paths job. record {
+    state = (whole plan paths job).paths;
+    reply = (whole plan paths job).reply;
+  };
   opening = [];
   initial = replicate word_count 0;
   IsLock = IsConn;

@@ -36,8 +36,11 @@ operation marker Finished = Load
 
 -- what the marker is told of a step that found this number
 abbrev pub step_answer : ℕ → Step → ℕ → Answer
-step_answer marker (Request conn) found = unless_put_off (Asked (bit_or found (request_bit marker))) (judged marker (bit_or found (request_bit marker)))
-step_answer marker (Seize conn expected) found = if found == expected then Seized else unless_put_off (Again found) (judged marker found)
+step_answer marker (Request conn) found =
+    unless_put_off (Asked (bit_or found (request_bit marker)))
+    (judged marker (bit_or found (request_bit marker)))
+step_answer marker (Seize conn expected) found =
+    if found == expected then Seized else unless_put_off (Again found) (judged marker found)
 step_answer marker (Withdraw conn) found = Done
 step_answer marker (Test word) found = Value found
 step_answer marker Turn found = TurnNumber found
@@ -48,7 +51,9 @@ step_answer marker Finished found = Done
 
 -- the words after a marker's step
 abbrev pub words_after : ℕ → Step → List ℕ → List ℕ
-words_after marker step words = slice_set words (step_word step) (applied (operation marker step) (slice_index words (step_word step)))
+words_after marker step words =
+    slice_set words (step_word step)
+    (applied (operation marker step) (slice_index words (step_word step)))
 
 -- what the marker is told of it
 abbrev pub answer_of : ℕ → Step → List ℕ → Answer

@@ -17,7 +17,8 @@ unfoldable pub trace_other : Option TrunkPlace → Script (Option Path)
 trace_other None = Ends None
 trace_other (Some place) = trace_back place
 
--- what stands at the end of the line's path is let go: its group is seized, and of a pair the other party's path is traced
+-- what stands at the end of the line's path is let go: its group is seized, and of a pair the
+-- other party's path is traced
 unfoldable pub release_member : Path → Option MemberPlace → Script Decision
 release_member own None = Ends (refused NoCall)
 release_member own (Some found) = do

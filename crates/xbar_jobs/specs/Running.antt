@@ -13,17 +13,22 @@ use Rattle.xbar_jobs.specs.Office.{office}
 use Rattle.xbar_jobs.specs.OnWords.{operation, step_word, words_after}
 use Rattle.xbar_jobs.specs.Standing.{Doing, IsAttempt, Stands, attempt_at}
 
--- so many steps of the marker, none of them a turn and no more than it may make, lead its program to where it stands again
-pub record RunsOn (plan : Tables) (marker most made : ℕ) (old : Counted) (words : List ℕ) (new : Counted) (after : List ℕ) : Type 0 where
+-- so many steps of the marker, none of them a turn and no more than it may make, lead its
+-- program to where it stands again
+pub record RunsOn (plan : Tables) (marker most made : ℕ) (old : Counted) (words : List ℕ)
+    (new : Counted) (after : List ℕ) : Type 0 where
   pub fits : made ≤ most
-  pub steps : LeadsTo (office plan) marker made (record { attempt = old.attempt; words = words }) (record { attempt = new.attempt; words = after })
+  pub steps : LeadsTo (office plan) marker made (record { attempt = old.attempt; words = words })
+      (record { attempt = new.attempt; words = after })
   pub count : new.count ≡ counted_by made old.count
   pub stands : Stands plan new.attempt
 
--- with its turn taken it makes all that is left, or as many steps as it may; before, it goes as far as its walk can
+-- with its turn taken it makes all that is left, or as many steps as it may; before, it
+-- goes as far as its walk can
 abbrev pub GoesFar : Tables → ℕ → ℕ → List ℕ → Attempt → Attempt → Option ℕ → Type 0
 GoesFar plan most made words old new (Some turn) = (made ≡ most) ⊎ (is_rest (act new) ≡ true)
-GoesFar plan most made words old new None = GoesFarEnough (office plan).lock_word words most made old.phase new.phase
+GoesFar plan most made words old new None =
+    GoesFarEnough (office plan).lock_word words most made old.phase new.phase
 
 -- an attempt's next step is on this word, by this operation, whoever makes it
 pub record Closes (a : Attempt) (made : ℕ × Operation) : Type 0 where
@@ -42,12 +47,15 @@ pub record Closed (old : Doing) (words : List ℕ) (new : Doing) (after : List �
 -- or there was none left, and nothing has changed
 abbrev pub HasClosed : Doing → List ℕ → Bool → Doing → List ℕ → Type 0
 HasClosed old words true new after = Closed old words new after
-HasClosed old words false new after = (new ≡ old) × ((after ≡ words) × (is_rest (act (attempt_at old)) ≡ true))
+HasClosed old words false new after =
+    (new ≡ old) × ((after ≡ words) × (is_rest (act (attempt_at old)) ≡ true))
 
 -- so many steps past its turn lead an attempt on
-pub record RunsOut (plan : Tables) (marker most made : ℕ) (old : Doing) (words : List ℕ) (new : Doing) (after : List ℕ) : Type 0 where
+pub record RunsOut (plan : Tables) (marker most made : ℕ) (old : Doing) (words : List ℕ)
+    (new : Doing) (after : List ℕ) : Type 0 where
   pub fits : made ≤ most
-  pub steps : LeadsTo (office plan) marker made (record { attempt = attempt_at old; words = words }) (record { attempt = attempt_at new; words = after })
+  pub steps : LeadsTo (office plan) marker made (record { attempt = attempt_at old; words = words })
+      (record { attempt = attempt_at new; words = after })
   pub count : new.count ≡ counted_by made old.count
   pub stands : Stands plan (attempt_at new)
   pub attempt : IsAttempt (attempt_at new)

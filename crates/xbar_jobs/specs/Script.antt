@@ -39,9 +39,11 @@ walk seen script = generic.walk conn_eq seen script
 abbrev pub conn_word : Conn → ℕ
 conn_word conn = word_number (ConnWord conn)
 
--- the walk that makes steps of its own as long as it may, and goes on by each word as effects will leave it
+-- the walk that makes steps of its own as long as it may, and goes on by each
+-- word as effects will leave it
 abbrev pub live : {A : Type 0} → List Effect → Script A → Course → List ℕ → Comes A
-live made script course words = live_by.live conn_eq conn_word 42 19 (value_after made) script course words
+live made script course words =
+    live_by.live conn_eq conn_word 42 19 (value_after made) script course words
 
 -- a script that reads words as effects will leave them
 abbrev pub as_if_made : {A : Type 0} → List Effect → Script A → Script A

@@ -72,7 +72,8 @@ test_second (Some place) = do
   reached ← test_place place
   Ends (Some reached)
 
--- reach a member: seize its trunk link frame, and test the trunk switch of its place, or of its first and its second one
+-- reach a member: seize its trunk link frame, and test the trunk switch of its place, or of
+-- its first and its second one
 unfoldable pub reach : Member → Script Trunk
 reach member = do
   seize (Tlf member.first.frame)
@@ -83,30 +84,50 @@ reach member = do
 -- the path from a side's line to a place by the first channel whose three fields are open
 abbrev pub open_path : Side → ℕ → Reached → Option Path
 open_path side start reached =
-    option_map (path_by side.party.line reached.place) (first_open_channel (match_words side.party.word side.junctors reached.word) reached.place.frame start)
+    option_map (path_by side.party.line reached.place)
+    (first_open_channel (match_words side.party.word side.junctors reached.word)
+    reached.place.frame start)
 
 -- a party's word as effects will leave it
 abbrev pub party_after : List Effect → Party → Party
-party_after effects party = record { line = party.line; word = value_after effects (word_number (LineSwitch party.line.frame party.line.switch)) party.word }
+party_after effects party = record {
+  line = party.line;
+  word = value_after effects (word_number (LineSwitch party.line.frame party.line.switch))
+      party.word;
+}
 
 -- the same of line junctor switches, from a channel on
 abbrev pub junctors_after : List Effect → ℕ → ℕ → List ℕ → List ℕ
 junctors_after effects frame channel [] = []
-junctors_after effects frame channel (word ∷ words) = value_after effects (word_number (LineJunctor frame channel)) word ∷ junctors_after effects frame (channel + 1) words
+junctors_after effects frame channel (word ∷ words) =
+    value_after effects (word_number (LineJunctor frame channel)) word
+    ∷ junctors_after effects frame (channel + 1) words
 
 abbrev pub side_after : List Effect → Side → Side
-side_after effects side = record { party = party_after effects side.party; junctors = junctors_after effects side.party.line.frame 0 side.junctors }
+side_after effects side = record {
+  party = party_after effects side.party;
+  junctors = junctors_after effects side.party.line.frame 0 side.junctors;
+}
 
 abbrev pub reached_after : List Effect → Reached → Reached
-reached_after effects reached = record { place = reached.place; word = value_after effects (word_number (TrunkSwitch reached.place.frame reached.place.switch)) reached.word }
+reached_after effects reached = record {
+  place = reached.place;
+  word = value_after effects (word_number (TrunkSwitch reached.place.frame reached.place.switch))
+      reached.word;
+}
 
--- the called side is joined to the second place as the words will be once the calling path is closed, with the same start
+-- the called side is joined to the second place as the words will be once the calling path is
+-- closed, with the same start
 abbrev pub join_called : Option Side → ℕ → Option Reached → Path → Option CallPaths
 join_called (Some side) start (Some reached) calling =
-    option_map (λ called. record { calling = calling; called = Some called }) (open_path (side_after (path_closes calling) side) start (reached_after (path_closes calling) reached))
+    option_map (λ called. record { calling = calling; called = Some called })
+    (open_path (side_after (path_closes calling) side) start
+    (reached_after (path_closes calling) reached))
 join_called (Some side) start None calling = Some (record { calling = calling; called = None })
 join_called None start reached calling = Some (record { calling = calling; called = None })
 
 -- the paths that join the sides to a member, where each of them finds a channel
 abbrev pub join : Sides → ℕ → Trunk → Option CallPaths
-join sides start trunk = option_and_then (join_called sides.called start trunk.second) (open_path sides.calling start trunk.first)
+join sides start trunk =
+    option_and_then (join_called sides.called start trunk.second)
+    (open_path sides.calling start trunk.first)

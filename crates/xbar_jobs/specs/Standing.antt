@@ -70,7 +70,8 @@ HasReplyIn (Tests word) reply = ⊤
 HasReplyIn (Withdraws conn) reply = ⊤
 HasReplyIn GivesBack reply = ⊤
 
--- what every attempt keeps, whatever the plan: its job, its connectors, its words and its effects are the office's
+-- what every attempt keeps, whatever the plan: its job, its connectors, its words and
+-- its effects are the office's
 pub record IsAttempt (a : Attempt) : Type 0 where
   pub job : IsJob a.job
   pub phase : IsPhase a.phase
@@ -83,8 +84,8 @@ pub record IsNextStep (a : Attempt) (step : Step) : Type 0 where
   pub step_is : step ≡ next_step a
   pub range : IsStep step
 
--- the attempt holds connectors of the office, none of them twice; and besides line link frames no more than
--- leave room for those that its script may still seize
+-- the attempt holds connectors of the office, none of them twice; and besides line link frames no
+-- more than leave room for those that its script may still seize
 pub record HoldsFew (plan : Tables) (a : Attempt) : Type 0 where
   pub conns : AreConns a.held
   pub distinct : AreDistinct a.held
@@ -118,9 +119,10 @@ reply_of decision = decision.reply
 abbrev pub attempt_at : Doing → Attempt
 attempt_at p = standing.attempt_of reply_of effects_of p
 
--- what every program keeps, whatever the plan: its attempt is one of the office, the step is the attempt's next, and walks
--- that go on know what its way says
+-- what every program keeps, whatever the plan: its attempt is one of the office, the step is the
+-- attempt's next, and walks that go on know what its way says
 pub record IsProgram (p : Doing) (next : Step) : Type 0 where
   pub attempt : IsAttempt (attempt_at p)
   pub next_is : IsNextStep (attempt_at p) next
-  pub knows : standing.KnowsIn (λ job way seen. Knows (job_line job) way seen) (attempt_at p) p.point p.phase
+  pub knows : standing.KnowsIn (λ job way seen. Knows (job_line job) way seen) (attempt_at p)
+      p.point p.phase

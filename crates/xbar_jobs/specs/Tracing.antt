@@ -29,7 +29,10 @@ unfoldable pub trace_at : Line → ℕ → ℕ → Option ℕ → Script (Option
 trace_at line channel frame None = Ends None
 trace_at line channel frame (Some switch) = do
   word ← test (TrunkSwitch frame switch)
-  Ends (option_map (λ appearance. path_by line (record { frame = frame; switch = switch; appearance = appearance }) channel) (place_at_field Other word channel))
+  Ends (option_map
+      (λ appearance.
+      path_by line (record { frame = frame; switch = switch; appearance = appearance }) channel)
+      (place_at_field Other word channel))
 
 -- once channel and trunk link frame are known
 unfoldable pub trace_to : Line → ℕ → Option ℕ → Script (Option Path)
@@ -51,7 +54,8 @@ unfoldable pub trace : Party → Script (Option Path)
 trace party = trace_by party.line (channel_of party)
 
 -- the calling line was approached, and its own path traced
-pub record HasTraced (line : Line) (calling : Party) (own : Option Path) (seen : Seen) : Type 0 where
+pub record HasTraced (line : Line) (calling : Party) (own : Option Path) (seen : Seen)
+    : Type 0 where
   pub approached : walk seen (approach line) ≡ Ok calling
   pub traced : walk seen (trace calling) ≡ Ok own
 
@@ -66,7 +70,9 @@ unfoldable pub trace_back_at : TrunkPlace → ℕ → ℕ → Option ℕ → Scr
 trace_back_at place channel frame None = Ends None
 trace_back_at place channel frame (Some switch) = do
   word ← test (LineSwitch frame switch)
-  Ends (option_map (λ x. path_by (record { frame = frame; switch = switch; x = x }) place channel) (place_at_field LineShape word channel))
+  Ends (option_map
+      (λ x. path_by (record { frame = frame; switch = switch; x = x }) place channel)
+      (place_at_field LineShape word channel))
 
 -- once channel and line link frame are known
 unfoldable pub trace_back_to : TrunkPlace → ℕ → Option ℕ → Script (Option Path)

@@ -34,9 +34,11 @@ pub record IsOfPlan (plan : Tables) (idle : IdleGroup) : Type 0 where
 -- a group that has an idle member is taken, and of one that has none the next ones are tried
 unfoldable pub idle_or : ℕ → ℕ → Script (Option IdleGroup) → Option ℕ → Script (Option IdleGroup)
 idle_or group word next None = next
-idle_or group word next (Some first) = Ends (Some (record { group = group; word = word; first = first }))
+idle_or group word next (Some first) =
+    Ends (Some (record { group = group; word = word; first = first }))
 
--- the first of some groups that has an idle member: each is seized and its word tested, until one has
+-- the first of some groups that has an idle member: each is seized and
+-- its word tested, until one has
 unfoldable pub find_trunk : Tables → List ℕ → Script (Option IdleGroup)
 find_trunk plan [] = Ends None
 find_trunk plan (group ∷ groups) = do

@@ -13,18 +13,22 @@ use Rattle.xbar_jobs.specs.Office.{ShowsOffice, office}
 use Rattle.xbar_jobs.specs.declared.step.Step.{Step}
 use Rattle.xbar_jobs.specs.declared.step.Step.TheVariants.{Request, Seize, Withdraw, Test, Turn, Close, Open, Free, Finished}
 
--- on words that show these paths, the attempt does what the one-marker office does: its reply is that office's, and the effects
--- that it has left lead to words that show that office's paths; each is due when its turn comes, on a word that is held
-pub record DoesAsWhole (plan : Tables) (words : List ℕ) (paths : List Path) (a : Attempt) : Type 0 where
+-- on words that show these paths, the attempt does what the one-marker office does: its reply is
+-- that office's, and the effects that it has left lead to words that show that office's paths; each
+-- is due when its turn comes, on a word that is held
+pub record DoesAsWhole (plan : Tables) (words : List ℕ) (paths : List Path) (a : Attempt)
+    : Type 0 where
   pub reply : a.reply ≡ Some (whole plan paths a.job).reply
-  pub shows : ShowsOffice plan (perform_all (office plan) words a.effects) (whole plan paths a.job).paths
+  pub shows : ShowsOffice plan (perform_all (office plan) words a.effects)
+      (whole plan paths a.job).paths
   pub due : AreDue (office plan) words a.effects
   pub under : AreUnder (office plan) a.held a.effects
 
 -- whatever the words show, if they have what the attempt has read
 abbrev pub DoesAsOffice : Tables → Attempt → Type 0
 DoesAsOffice plan a =
-    (words : List ℕ) (paths : List Path) → length words ≡ word_count → ShowsOffice plan words paths → AreReadFrom words a.readings → DoesAsWhole plan words paths a
+    (words : List ℕ) (paths : List Path) → length words ≡ word_count → ShowsOffice plan words paths
+    → AreReadFrom words a.readings → DoesAsWhole plan words paths a
 
 -- the connector of a step is one of the office's, and its word is one of the office's words
 abbrev pub IsStep : Step → Type 0

@@ -43,7 +43,7 @@ step_begins before after event step =
 -- by many steps too
 steps_begin : (count : ℕ) (before after : DeskView) → HasMade count before after → Begins before.seen after.seen
 steps_begin zero before after same = ([], ap (λ (d : DeskView). d.seen) same ∙ sym (append-nil before.seen))
-steps_begin (suc count) before after (between, event, made, step) =
+steps_begin (suc count) before after (between, event, made, asks, step) =
     begins_both before.seen between.seen after.seen (steps_begin count before between made) (step_begins between after event step)
 
 module _ (number : ℕ) (job : Job) (start : DeskView) where

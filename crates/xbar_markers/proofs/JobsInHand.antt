@@ -77,7 +77,7 @@ module _ (number : ℕ) (job : Job) (start : DeskView) where
       → ((before after : DeskView) (event : Event) → HasAdvanced before after event → job_at after.work ≡ job_at before.work)
       → (count : ℕ) (desk after : DeskView) → IsDoing number job start desk → HasRun count desk after → IsDoing number job start after
   runs_on own same zero desk after doing run = subst (IsDoing number job start) (sym run) doing
-  runs_on own same (suc count) desk after doing (between, event, run, busy, advanced) =
+  runs_on own same (suc count) desk after doing (between, event, run, busy, asks, advanced) =
       let now = runs_on own same count desk between doing run in
       goes_on between after now (advanced.stepped busy).same advanced.grown (own between after event (mine start) advanced now.mine_are) (same between after event advanced)
 

@@ -39,7 +39,8 @@ pub record HasDialTone (c : CallRecords) : Type 0 where
 
 -- the call is to be released: that was asked for, and it was connected
 abbrev pub IsToRelease : CallRecords → Type 0
-IsToRelease c = (c.call.release ≡ true) × IsSomeAnd c.complete (λ r. is_connected r.reply.end ≡ true)
+IsToRelease c =
+    (c.call.release ≡ true) × IsSomeAnd c.complete (λ r. is_connected r.reply.end ≡ true)
 
 -- by the same marker, and, where turn numbers are told apart, later
 pub record Follows (short : Type 0) (r before : Record) : Type 0 where

@@ -28,7 +28,8 @@ IsBegun before number job after begun = MatchResult begun
 -- the desk gave back: it is at the very beginning of this job, so that it holds no connector, and
 -- its own records are as before
 pub record HasGiven (before after : DeskView) (number : ℕ) (job : Job) : Type 0 where
-  pub same : after ≡ record before { work = Does number (begin_with (first_conn job) job); seen = after.seen }
+  pub same : after
+      ≡ record before { work = Does number (begin_with (first_conn job) job); seen = after.seen }
   pub seen : Begins before.seen after.seen
   pub mine_are : mine after ≡ mine before
 

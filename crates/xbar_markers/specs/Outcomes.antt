@@ -23,7 +23,8 @@ pub record AreTaken (kinds : List Kind) (records : List Record) : Type 0 where
 
 -- what came of calls that so many markers did: a legal history of just these calls, the one-marker
 -- office after it, and words that show it, with no connector held
-pub record IsOutcome (plan : Tables) (dialling completing : ℕ) (calls : List Call) (o : Outcome) : Type 0 where
+pub record IsOutcome (plan : Tables) (dialling completing : ℕ) (calls : List Call) (o : Outcome)
+    : Type 0 where
   pub legal : IsLegal plan o.records.items
   pub served : AreServed ⊤ calls o.records.items
   pub taken : AreTaken (kinds_of dialling completing) o.records.items

@@ -24,12 +24,14 @@ module _ {G : Type 0} where
       (λ worker. IsReady worker.desk fabric × (worker.desk.kind ≡ kind))
 
   -- what workers did, from this share to that one, whichever desks' share it is
-  abbrev pub HaveServed : List (Worker DeskView G) → Share → List (Worker DeskView G) → Share → Type 0
+  abbrev pub HaveServed : List (Worker DeskView G) → Share → List (Worker DeskView G) → Share
+      → Type 0
   HaveServed workers share after share_after = (befores : List DeskView)
       → IsShareOf befores (desks_at workers) share → IsShareOf befores (desks_at after) share_after
 
   -- an idle desk of this kind, with one part of each queue
-  pub record IsSeat (kind : Kind) (fabric : FabricView) (queues : Queues) (seat : Seat DeskView G) : Type 0 where
+  pub record IsSeat (kind : Kind) (fabric : FabricView) (queues : Queues) (seat : Seat DeskView G)
+      : Type 0 where
     pub ready : IsReady (desk_at seat) fabric
     pub kind_is : (desk_at seat).kind ≡ kind
     pub may : MayUse seat.share queues
@@ -52,15 +54,18 @@ module _ {G : Type 0} where
 
   -- seats that worked on are of the same desks
   abbrev pub StayOf : List (Seat DeskView G) → List (Seat DeskView G) → Type 0
-  StayOf seats after = (befores : List DeskView) → AreSeatsOf befores seats → AreSeatsOf befores after
+  StayOf seats after =
+      (befores : List DeskView) → AreSeatsOf befores seats → AreSeatsOf befores after
 
   -- a seat of this kind worked on
-  pub record HasStayed (kind : Kind) (fabric : FabricView) (queues : Queues) (seat after : Seat DeskView G) : Type 0 where
+  pub record HasStayed (kind : Kind) (fabric : FabricView) (queues : Queues)
+      (seat after : Seat DeskView G) : Type 0 where
     pub seat_is : IsSeat kind fabric queues after
     pub stays : StaysOf seat after
 
   -- seats of this kind worked on
-  pub record HaveStayed (kind : Kind) (fabric : FabricView) (queues : Queues) (seats after : List (Seat DeskView G)) : Type 0 where
+  pub record HaveStayed (kind : Kind) (fabric : FabricView) (queues : Queues)
+      (seats after : List (Seat DeskView G)) : Type 0 where
     pub each : All (IsSeat kind fabric queues) after
     pub count : length after ≡ length seats
     pub stay : StayOf seats after

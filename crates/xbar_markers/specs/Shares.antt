@@ -67,7 +67,8 @@ pub record MayUse (share : Share) (queues : Queues) : Type 0 where
   pub tasks : IsUsable share.tasks queues.tasks_in
 
 -- an idle desk of this kind may use the queues with this share
-pub record MayServe (kind : Kind) (fabric : FabricView) (queues : Queues) (desk : DeskView) (share : Share) : Type 0 where
+pub record MayServe (kind : Kind) (fabric : FabricView) (queues : Queues) (desk : DeskView)
+    (share : Share) : Type 0 where
   pub are_open : AreOpen queues
   pub may : MayUse share queues
   pub ready : IsReady desk fabric
@@ -78,7 +79,8 @@ pub record HasPassedOn (call : CallRecords) (share after : Share) : Type 0 where
   pub calls : after.calls ≡ share.calls
   pub taken : after.tasks.taken ≡ share.tasks.taken
   pub ended : after.ended.items ≡ share.ended.items
-  pub went : (after.kept.items ≡ share.kept.items) × (after.tasks.put ≡ share.tasks.put ++ task.Complete call ∷ [])
+  pub went : (after.kept.items ≡ share.kept.items)
+      × (after.tasks.put ≡ share.tasks.put ++ task.Complete call ∷ [])
       ⊎ (after.kept.items ≡ share.kept.items ++ call ∷ []) × (after.tasks.put ≡ share.tasks.put)
 
 -- nothing came yet, and every part of the right to use the queues is here

@@ -29,7 +29,8 @@ pub record HasDone (before after : DeskView) (number : ℕ) (job : Job) (r : Rec
   pub marker : r.marker ≡ before.marker
   pub number_is : r.job_no ≡ number
   pub job_is : r.job ≡ job
-  pub turn : length after.seen < 2 ^ 64 → (length before.seen ≤ r.turn) × (r.turn < length after.seen)
+  pub turn : length after.seen < 2 ^ 64
+      → (length before.seen ≤ r.turn) × (r.turn < length after.seen)
 
 -- the desk has worked, and is idle again: its own records are these more, of jobs that it takes
 pub record HasWorked (before after : DeskView) (its : List Record) : Type 0 where

@@ -29,7 +29,8 @@ item_of _ number marker told records = Says (step_lines number marker told recor
 unfoldable pub step_item : ℕ → ℕ → Told → List Record → Item
 step_item number marker told records = item_of told.step number marker told records
 
--- whether an item is told in one line with the one before it: a test that goes on with a row, where that is told in short
+-- whether an item is told in one line with the one before it: a test that goes on with a row,
+-- where that is told in short
 abbrev pub joins_test : Telling → Tested → Item → Bool
 joins_test telling before (Tests tested) = is_short telling && goes_on before tested
 joins_test telling before (Says lines) = false
@@ -53,7 +54,8 @@ before_runs joined item runs = if joined then in_first item runs else (item ∷ 
 -- items, cut into runs: behind each item that the next one doesn't go on with
 unfoldable pub runs_of : Telling → List Item → List (List Item)
 runs_of telling [] = []
-runs_of telling (item ∷ later) = before_runs (joins_first telling item later) item (runs_of telling later)
+runs_of telling (item ∷ later) =
+    before_runs (joins_first telling item later) item (runs_of telling later)
 
 -- a run is one item, or two or more tests of a row, one after another
 abbrev pub IsRun : Telling → List Item → Type 0

@@ -14,7 +14,8 @@ abbrev pub on_line_frame : ℕ → ℕ → Place
 on_line_frame frame at = if nat_lt at 10 then LineSwitch frame at else LineJunctor frame (at - 10)
 
 abbrev pub on_trunk_frame : ℕ → ℕ → Place
-on_trunk_frame frame at = if nat_lt at 10 then TrunkSwitch frame at else TrunkJunctor frame (at - 10)
+on_trunk_frame frame at =
+    if nat_lt at 10 then TrunkSwitch frame at else TrunkJunctor frame (at - 10)
 
 -- what of the office the word of a number is
 unfoldable pub place_of : ℕ → Place

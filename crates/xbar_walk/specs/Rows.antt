@@ -13,7 +13,8 @@ use Rattle.xbar_walk.specs.declared.tested.Tested.{Tested}
 
 -- whether a place is this junctor switch
 abbrev pub is_line_junctor : ℕ → ℕ → Place → Bool
-is_line_junctor frame channel (LineJunctor its_frame its_channel) = (its_frame == frame) && (its_channel == channel)
+is_line_junctor frame channel (LineJunctor its_frame its_channel) =
+    (its_frame == frame) && (its_channel == channel)
 is_line_junctor frame channel (LineSwitch _ _) = false
 is_line_junctor frame channel (TrunkSwitch _ _) = false
 is_line_junctor frame channel (TrunkJunctor _ _) = false
@@ -21,7 +22,8 @@ is_line_junctor frame channel (Group _) = false
 is_line_junctor frame channel (Other _) = false
 
 abbrev pub is_trunk_junctor : ℕ → ℕ → Place → Bool
-is_trunk_junctor frame channel (TrunkJunctor its_frame its_channel) = (its_frame == frame) && (its_channel == channel)
+is_trunk_junctor frame channel (TrunkJunctor its_frame its_channel) =
+    (its_frame == frame) && (its_channel == channel)
 is_trunk_junctor frame channel (LineSwitch _ _) = false
 is_trunk_junctor frame channel (LineJunctor _ _) = false
 is_trunk_junctor frame channel (TrunkSwitch _ _) = false
@@ -74,19 +76,23 @@ unfoldable pub last_of : Tested → List Tested → Tested
 last_of first [] = first
 last_of first (next ∷ later) = last_of next later
 
--- tests of a row in words: its first and its last switch, the numbers of these steps, and all that they find
+-- tests of a row in words: its first and its last switch, the numbers of these
+-- steps, and all that they find
 unfoldable pub row_words : Tested → Tested → List Tested → List ℕ
 row_words first last tests =
     concat (codes "tests " ∷ row_name first.place ∷ codes " to " ∷ place_numbers last.place
     ∷ codes " (steps " ∷ decimal first.number ∷ codes " to " ∷ decimal last.number ∷ codes "): " ∷ row_found tests ∷ [])
 
 unfoldable pub row_line : Tested → Tested → List Tested → List ℕ
-row_line first last tests = marker_line (in_four first.number) first.marker (row_words first last tests)
+row_line first last tests =
+    marker_line (in_four first.number) first.marker (row_words first last tests)
 
 unfoldable pub test_line : Tested → List ℕ
-test_line tested = marker_line (in_four tested.number) tested.marker (test_words tested.place tested.word)
+test_line tested =
+    marker_line (in_four tested.number) tested.marker (test_words tested.place tested.word)
 
--- one test has its own line, and several tests of a row have one, which begins with the number of the first
+-- one test has its own line, and several tests of a row have one, which begins
+-- with the number of the first
 unfoldable pub tests_line : Tested → List Tested → List ℕ
 tests_line first [] = test_line first
 tests_line first (next ∷ later) = row_line first (last_of next later) (first ∷ next ∷ later)

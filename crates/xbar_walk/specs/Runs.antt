@@ -30,7 +30,8 @@ unfoldable pub made_by : Tables → List ℕ → Exchange → List Made
 made_by plan [] e = []
 made_by plan (k ∷ ks) e = made_at plan k e ++ made_by plan ks (after_step plan k e)
 
--- the number of the last of some steps, and the items and the lines of them all, each under the number that follows
+-- the number of the last of some steps, and the items and the lines of them all, each
+-- under the number that follows
 unfoldable pub last_number : ℕ → List Made → ℕ
 last_number number [] = number
 last_number number (made ∷ later) = last_number (one_more number) later
@@ -38,9 +39,11 @@ last_number number (made ∷ later) = last_number (one_more number) later
 unfoldable pub made_items : ℕ → List Made → List Item
 made_items number [] = []
 made_items number (made ∷ later) =
-    step_item (one_more number) made.marker made.told made.records ∷ made_items (one_more number) later
+    step_item (one_more number) made.marker made.told made.records
+    ∷ made_items (one_more number) later
 
 unfoldable pub made_lines : ℕ → List Made → List ℕ
 made_lines number [] = []
 made_lines number (made ∷ later) =
-    step_lines (one_more number) made.marker made.told made.records ++ made_lines (one_more number) later
+    step_lines (one_more number) made.marker made.told made.records
+    ++ made_lines (one_more number) later

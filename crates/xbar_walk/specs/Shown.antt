@@ -50,11 +50,14 @@ item_at place word position = item_name place position (held_at place word posit
 
 -- what a position shows, if it shows something, behind a lead
 unfoldable pub shown_at : Place → ℕ → ℕ → List ℕ → List ℕ
-shown_at place word position lead = if is_shown place word position then lead ++ item_at place word position else []
+shown_at place word position lead =
+    if is_shown place word position then lead ++ item_at place word position else []
 
--- what a word shows at the first so many positions: its closed fields, or its busy members, one by one
+-- what a word shows at the first so many positions: its closed fields, or
+-- its busy members, one by one
 unfoldable pub shown_to : ℕ → Place → ℕ → List (List ℕ)
-shown_to count place word = map (item_at place word) (filter (is_shown place word) (range_with_len 0 count))
+shown_to count place word =
+    map (item_at place word) (filter (is_shown place word) (range_with_len 0 count))
 
 abbrev pub shown : Place → ℕ → List (List ℕ)
 shown place word = shown_to (positions place) place word
@@ -62,7 +65,8 @@ shown place word = shown_to (positions place) place word
 -- texts behind a head, parted by separators; or what is said if there are none
 unfoldable pub listed : List ℕ → List ℕ → List ℕ → List (List ℕ) → List ℕ
 listed none head separator [] = none
-listed none head separator (text ∷ texts) = head ++ text ++ flat_map (λ other. separator ++ other) texts
+listed none head separator (text ∷ texts) =
+    head ++ text ++ flat_map (λ other. separator ++ other) texts
 
 -- whether there are any texts
 abbrev pub has_any : List (List ℕ) → Bool

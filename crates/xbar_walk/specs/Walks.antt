@@ -54,7 +54,8 @@ after_told_step k w =
     else (record {
       office = record { plan = plan; exchange = after_step plan k e };
       number = one_more w.number;
-      items = w.items ++ step_item (one_more w.number) k (told_of plan k e) (added_by plan k e) ∷ [];
+      items =
+          w.items ++ step_item (one_more w.number) k (told_of plan k e) (added_by plan k e) ∷ [];
     })
 
 -- so many steps of it

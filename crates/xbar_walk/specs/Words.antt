@@ -45,7 +45,8 @@ unfoldable pub not_seized_words : Conn → Event → List ℕ
 not_seized_words conn came = concat (codes "would seize " ∷ conn_name conn ∷ put_off came ∷ [])
 
 unfoldable pub seize_words : Conn → Event → Step → List ℕ
-seize_words conn (event.Refused asked holder) next = not_seized_words conn (event.Refused asked holder)
+seize_words conn (event.Refused asked holder) next =
+    not_seized_words conn (event.Refused asked holder)
 seize_words conn (event.Preferred other) next = not_seized_words conn (event.Preferred other)
 seize_words conn _ next = seized_words conn next
 

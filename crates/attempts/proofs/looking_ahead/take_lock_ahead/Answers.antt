@@ -1,21 +1,8 @@
-use Rattle.std.proofs.Common.{arith, ap, refl, ◌∙◌}
+use Rattle.std.proofs.Common.{refl, ◌∙◌}
 use Rattle.turns.specs.declared.answer.Answer.TheVariants.{Seized}
-use Rattle.attempts.specs.Ahead.{Ahead}
-use Rattle.attempts.proofs.Seeing.{may_look, plainly, seizes, told_far}
+use Rattle.attempts.proofs.Seeing.{seizes, told_far}
 use Rattle.attempts.proofs.Taken.{not_seized}
 use Rattle.attempts.proofs.looking_ahead.take_lock_ahead.Goals as goal
-
-pub take_far-requires : goal.take_far-requires
-take_far-requires g c = (grind arith steps 60000000, (c.requires.may.setting, (c.requires.may.scripts, plainly g.S.Lock.PartialEq.eq g.S.Scripts.reply_of g.S.Scripts.effects_of (g.S.Scripts.system c.args.setting.now) (g.S.Scripts.Knows c.args.setting.now) g.row.READINGS g.row.HELD c.requires.may.scripts c.args.program.now c.requires.none c.requires.may.stands)))
-
-pub lock_to_seize-requires : goal.lock_to_seize-requires
-lock_to_seize-requires g c = (grind arith steps 60000000, (c.requires.may.scripts, plainly g.S.Lock.PartialEq.eq g.S.Scripts.reply_of g.S.Scripts.effects_of (g.S.Scripts.system c.args.setting.now) (g.S.Scripts.Knows c.args.setting.now) g.row.READINGS g.row.HELD c.requires.may.scripts c.args.program.now c.requires.none c.requires.may.stands))
-
-pub hold-requires : goal.hold-requires
-hold-requires g c = (grind arith steps 60000000, c.in-Some.ensures.room)
-
-pub walk_ahead-requires : goal.walk_ahead-requires
-walk_ahead-requires g c = (grind arith steps 60000000, may_look g.S.Lock.PartialEq.eq g.S.Scripts.reply_of g.S.Scripts.effects_of (g.S.Scripts.system c.args.setting.now) (g.S.Scripts.Knows c.args.setting.now) g.row.READINGS g.row.HELD c.requires.may.scripts c.args.program.now c.hold.new.self.far c.in-Some.lock _ _ c.requires.may.setting c.in-Some.ensures.walk c.if-has_decided.ensures (ap (λ (p : Ahead _ _ _ _). p.far) c.hold.ensures))
 
 pub returns-then-has_decided-clause-change : goal.returns-then-has_decided-clause-change
 returns-then-has_decided-clause-change g c = (told_far g.S.Lock.PartialEq.eq g.S.Scripts.reply_of g.S.Scripts.effects_of (g.S.Scripts.system c.args.setting.now) (g.S.Scripts.Knows c.args.setting.now) g.row.READINGS g.row.HELD c.requires.may.scripts c.args.program.now c.take_far.new.program Seized c.requires.none (c.take_far.ensures.sure ∙ c.requires.none) c.take_far.ensures.change c.take_far.ensures.stands).0
@@ -24,13 +11,13 @@ pub returns-then-has_decided-clause-stands : goal.returns-then-has_decided-claus
 returns-then-has_decided-clause-stands g c = (told_far g.S.Lock.PartialEq.eq g.S.Scripts.reply_of g.S.Scripts.effects_of (g.S.Scripts.system c.args.setting.now) (g.S.Scripts.Knows c.args.setting.now) g.row.READINGS g.row.HELD c.requires.may.scripts c.args.program.now c.take_far.new.program Seized c.requires.none (c.take_far.ensures.sure ∙ c.requires.none) c.take_far.ensures.change c.take_far.ensures.stands).1
 
 pub returns-in-Some-clause-change : goal.returns-in-Some-clause-change
-returns-in-Some-clause-change g c = (seizes g.S.Lock.PartialEq.eq g.S.Scripts.reply_of g.S.Scripts.effects_of (g.S.Scripts.system c.args.setting.now) (g.S.Scripts.Knows c.args.setting.now) g.row.READINGS g.row.HELD c.requires.may.scripts c.args.program.now c.walk_ahead.new.program c.hold.new.self.far c.in-Some.lock c.in-Some.ensures.seizes.0 _ c.requires.may.stands c.requires.none c.in-Some.ensures.seizes.1 (ap (λ (p : Ahead _ _ _ _). p.far) c.hold.ensures) c.walk_ahead.ensures).0
+returns-in-Some-clause-change g c = (seizes g.S.Lock.PartialEq.eq g.S.Scripts.reply_of g.S.Scripts.effects_of (g.S.Scripts.system c.args.setting.now) (g.S.Scripts.Knows c.args.setting.now) g.row.READINGS g.row.HELD c.requires.may.scripts c.args.program.now c.walk_ahead.new.program c.hold_ahead.new.program.far c.in-Some.lock c.in-Some.ensures.seizes.0 _ c.requires.may.stands c.requires.none c.in-Some.ensures.seizes.1 c.hold_ahead.ensures.held c.walk_ahead.ensures).0
 
 pub returns-in-Some-clause-stands : goal.returns-in-Some-clause-stands
-returns-in-Some-clause-stands g c = (seizes g.S.Lock.PartialEq.eq g.S.Scripts.reply_of g.S.Scripts.effects_of (g.S.Scripts.system c.args.setting.now) (g.S.Scripts.Knows c.args.setting.now) g.row.READINGS g.row.HELD c.requires.may.scripts c.args.program.now c.walk_ahead.new.program c.hold.new.self.far c.in-Some.lock c.in-Some.ensures.seizes.0 _ c.requires.may.stands c.requires.none c.in-Some.ensures.seizes.1 (ap (λ (p : Ahead _ _ _ _). p.far) c.hold.ensures) c.walk_ahead.ensures).1
+returns-in-Some-clause-stands g c = (seizes g.S.Lock.PartialEq.eq g.S.Scripts.reply_of g.S.Scripts.effects_of (g.S.Scripts.system c.args.setting.now) (g.S.Scripts.Knows c.args.setting.now) g.row.READINGS g.row.HELD c.requires.may.scripts c.args.program.now c.walk_ahead.new.program c.hold_ahead.new.program.far c.in-Some.lock c.in-Some.ensures.seizes.0 _ c.requires.may.stands c.requires.none c.in-Some.ensures.seizes.1 c.hold_ahead.ensures.held c.walk_ahead.ensures).1
 
 pub returns-in_default-clause-change : goal.returns-in_default-clause-change
-returns-in_default-clause-change g c = (told_far g.S.Lock.PartialEq.eq g.S.Scripts.reply_of g.S.Scripts.effects_of (g.S.Scripts.system c.args.setting.now) (g.S.Scripts.Knows c.args.setting.now) g.row.READINGS g.row.HELD c.requires.may.scripts c.args.program.now c.args.program.now Seized c.requires.none c.requires.none (not_seized g.S.Lock.PartialEq.eq g.S.Scripts.reply_of g.S.Scripts.effects_of (g.S.Scripts.system c.args.setting.now) (g.S.Scripts.Knows c.args.setting.now) c.args.program.now.far c.args.program.now.far refl (plainly g.S.Lock.PartialEq.eq g.S.Scripts.reply_of g.S.Scripts.effects_of (g.S.Scripts.system c.args.setting.now) (g.S.Scripts.Knows c.args.setting.now) g.row.READINGS g.row.HELD c.requires.may.scripts c.args.program.now c.requires.none c.requires.may.stands).point (λ lock expected is. c.in_default.ensures.none lock (expected, is))).change (plainly g.S.Lock.PartialEq.eq g.S.Scripts.reply_of g.S.Scripts.effects_of (g.S.Scripts.system c.args.setting.now) (g.S.Scripts.Knows c.args.setting.now) g.row.READINGS g.row.HELD c.requires.may.scripts c.args.program.now c.requires.none c.requires.may.stands)).0
+returns-in_default-clause-change g c = (told_far g.S.Lock.PartialEq.eq g.S.Scripts.reply_of g.S.Scripts.effects_of (g.S.Scripts.system c.args.setting.now) (g.S.Scripts.Knows c.args.setting.now) g.row.READINGS g.row.HELD c.requires.may.scripts c.args.program.now c.args.program.now Seized c.requires.none c.requires.none (not_seized g.S.Lock.PartialEq.eq g.S.Scripts.reply_of g.S.Scripts.effects_of (g.S.Scripts.system c.args.setting.now) (g.S.Scripts.Knows c.args.setting.now) c.args.program.now.far c.args.program.now.far refl c.stand_far.ensures.stands.point (λ lock expected is. c.in_default.ensures.none lock (expected, is))).change c.stand_far.ensures.stands).0
 
 pub returns-in_default-clause-stands : goal.returns-in_default-clause-stands
-returns-in_default-clause-stands g c = (told_far g.S.Lock.PartialEq.eq g.S.Scripts.reply_of g.S.Scripts.effects_of (g.S.Scripts.system c.args.setting.now) (g.S.Scripts.Knows c.args.setting.now) g.row.READINGS g.row.HELD c.requires.may.scripts c.args.program.now c.args.program.now Seized c.requires.none c.requires.none (not_seized g.S.Lock.PartialEq.eq g.S.Scripts.reply_of g.S.Scripts.effects_of (g.S.Scripts.system c.args.setting.now) (g.S.Scripts.Knows c.args.setting.now) c.args.program.now.far c.args.program.now.far refl (plainly g.S.Lock.PartialEq.eq g.S.Scripts.reply_of g.S.Scripts.effects_of (g.S.Scripts.system c.args.setting.now) (g.S.Scripts.Knows c.args.setting.now) g.row.READINGS g.row.HELD c.requires.may.scripts c.args.program.now c.requires.none c.requires.may.stands).point (λ lock expected is. c.in_default.ensures.none lock (expected, is))).change (plainly g.S.Lock.PartialEq.eq g.S.Scripts.reply_of g.S.Scripts.effects_of (g.S.Scripts.system c.args.setting.now) (g.S.Scripts.Knows c.args.setting.now) g.row.READINGS g.row.HELD c.requires.may.scripts c.args.program.now c.requires.none c.requires.may.stands)).1
+returns-in_default-clause-stands g c = (told_far g.S.Lock.PartialEq.eq g.S.Scripts.reply_of g.S.Scripts.effects_of (g.S.Scripts.system c.args.setting.now) (g.S.Scripts.Knows c.args.setting.now) g.row.READINGS g.row.HELD c.requires.may.scripts c.args.program.now c.args.program.now Seized c.requires.none c.requires.none (not_seized g.S.Lock.PartialEq.eq g.S.Scripts.reply_of g.S.Scripts.effects_of (g.S.Scripts.system c.args.setting.now) (g.S.Scripts.Knows c.args.setting.now) c.args.program.now.far c.args.program.now.far refl c.stand_far.ensures.stands.point (λ lock expected is. c.in_default.ensures.none lock (expected, is))).change c.stand_far.ensures.stands).1

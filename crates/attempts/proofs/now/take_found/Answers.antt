@@ -2,14 +2,8 @@ use Rattle.std.proofs.Common.{arith, ap, ◌∙◌}
 use Rattle.turns.specs.Attempt.{act, answer_to, change}
 use Rattle.attempts.specs.Ahead.{now_of}
 use Rattle.attempts.specs.SystemWith.{system_with}
-use Rattle.attempts.proofs.AheadNow.{empty_of, first_of, seen_far, seen_waiting}
+use Rattle.attempts.proofs.AheadNow.{seen_far, seen_waiting}
 use Rattle.attempts.proofs.now.take_found.Goals as goal
-
-pub take_guess-requires : goal.take_guess-requires
-take_guess-requires g c = (grind arith steps 60000000, (c.requires.may, first_of _ c.in-Some.guess c.in-Some.ensures))
-
-pub take_told-requires : goal.take_told-requires
-take_told-requires g c = (grind arith steps 60000000, (c.requires.may, empty_of _ c.in-None.ensures))
 
 pub told-told-requires : goal.told-told-requires
 told-told-requires g c = (grind arith steps 60000000, c.requires.actor)

@@ -6,7 +6,7 @@ use Rattle.turns.specs.declared.answer.Answer.TheVariants.{Value}
 use Rattle.turns.specs.declared.reading.Reading.{Reading}
 use Rattle.desks.specs.Running.{HasComeTo}
 use Rattle.desks.specs.Guesses.{confirmed}
-use Rattle.desks.proofs.RunningOn.{comes_on, comes_once, goes_on, makes, next_guess, reads, works_on}
+use Rattle.desks.proofs.RunningOn.{asks_none, comes_on, comes_once, goes_on, makes, next_guess, reads, works_on}
 use Rattle.desks.proofs.Seating.{allows_seated}
 use Rattle.desks.proofs.guesses.test_guesses.Goals as goal
 
@@ -58,7 +58,7 @@ returns-then-found-guess-clause-come g c =
     let one : made + 1 ≡ suc made = omega arith in
     subst (λ (n : ℕ). HasComeTo O c.args.actor c.args.number n a (change O here (Value c.make-found.result)) c.args.seat.now.me c.make-found.new.seat.me) one
     (comes_on O c.args.actor c.args.number made 1 a here _ c.args.seat.now.me c.loop-guess.seat.me c.make-found.new.seat.me c.loop-guess.invariant.come
-    (comes_once O c.args.actor c.args.number here _ c.loop-guess.seat.me c.make-found.new.seat.me c.make-found.result c.make-found.ensures.told (reads O c.args.actor here guess.word next.tests c.make-found.result) (goes_on O c.args.actor here guess.word next.tests)))
+    (comes_once O c.args.actor c.args.number here _ c.loop-guess.seat.me c.make-found.new.seat.me c.make-found.result c.make-found.ensures.told (reads O c.args.actor here guess.word next.tests c.make-found.result) (asks_none O c.args.actor here guess.word next.tests) (goes_on O c.args.actor here guess.word next.tests)))
 
 pub loop-guess-preserved : goal.loop-guess-preserved
 loop-guess-preserved g c =
@@ -77,6 +77,6 @@ loop-guess-preserved g c =
       at_work = works_on O c.args.actor c.args.number here _ c.loop-guess.seat.me c.make-found.new.seat.me found c.make-found.ensures.told is
           _ _ _ _ _ _ _ _ c.loop-guess.invariant.at_work c.loop-guess.invariant.at_work.stands c.make-found.ensures.same.0 c.make-found.ensures.same.2;
       come = comes_on O c.args.actor c.args.number made 1 a here _ c.args.seat.now.me c.loop-guess.seat.me c.make-found.new.seat.me c.loop-guess.invariant.come
-          (comes_once O c.args.actor c.args.number here _ c.loop-guess.seat.me c.make-found.new.seat.me found c.make-found.ensures.told is (goes_on O c.args.actor here guess.word next.tests));
+          (comes_once O c.args.actor c.args.number here _ c.loop-guess.seat.me c.make-found.new.seat.me found c.make-found.ensures.told is (asks_none O c.args.actor here guess.word next.tests) (goes_on O c.args.actor here guess.word next.tests));
       within = omega (arith, next.within);
     }

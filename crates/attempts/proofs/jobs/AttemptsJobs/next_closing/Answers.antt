@@ -1,5 +1,8 @@
-use Rattle.attempts.proofs.AheadNow.{of_any}
+use Rattle.attempts.proofs.AheadNow.{of_any, of_none}
 use Rattle.attempts.proofs.jobs.AttemptsJobs.next_closing.Goals as goal
 
 pub returns-clause-turned : goal.returns-clause-turned
 returns-clause-turned g c = of_any c.on_word.result c.in_ok-step.ensures.turned
+
+pub returns-clause-none : goal.returns-clause-none
+returns-clause-none g c = of_none _ _ c.on_word.result c.on_word.ensures.none

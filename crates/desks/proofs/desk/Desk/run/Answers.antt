@@ -1,21 +1,25 @@
-use Rattle.std.proofs.Common.{◌≡◌, ◌+◌, ℕ, arith, subst}
+use Rattle.std.proofs.Common.{◌≡◌, ◌+◌, ℕ, Bool, true, false, refl, subst, sym, arith, ◌∙◌}
+use mir.Val.{bool_byte}
 use Rattle.turns.specs.System.{system_of}
-use Rattle.desks.specs.Running.{HasRun}
+use Rattle.desks.specs.Running.{HasRun, counted}
 use Rattle.desks.proofs.RunningOn.{runs_on}
 use Rattle.desks.proofs.desk.Desk.run.Goals as goal
 
-pub returns-then-not-step_surely : goal.returns-then-not-step_surely
-returns-then-not-step_surely g c =
-    let O = system_of (g.F.Jobs.system c.args.setting.now) in
-    let read = c.read_guesses-read in
-    let none : read.result + 0 ≡ read.result = omega arith in
-    subst (λ (n : ℕ). HasRun O n c.args.self.now c.step_surely.new.self) none
-    (runs_on O _ read.result 0 c.args.self.now read.new.self c.step_surely.new.self read.ensures.run c.if-not-step_surely.ensures)
+-- as it is counted
+as_counted : (made : Bool) → counted made ≡ bool_byte made
+as_counted true = refl
+as_counted false = refl
 
 pub returns : goal.returns
 returns g c =
     let O = system_of (g.F.Jobs.system c.args.setting.now) in
+    let start = c.args.self.now in
     let read = c.read_guesses-read in
-    runs_on O _ (read.result + 1) c.close-closed.result c.args.self.now c.step_surely.new.self c.close-closed.new.self
-    (runs_on O _ read.result 1 c.args.self.now read.new.self c.step_surely.new.self read.ensures.run c.if-not-step_surely.ensures)
-    c.close-closed.ensures
+    let sure = c.step_surely in
+    let end = c.close-closed in
+    let stepped = runs_on O _ read.result (counted sure.result) start read.new.self sure.new.self read.ensures.run sure.ensures in
+    let all = runs_on O _ (read.result + counted sure.result) end.result start sure.new.self end.new.self stepped end.ensures.run in
+    record {
+      run = subst (λ (n : ℕ). HasRun O (read.result + n + end.result) start end.new.self) (as_counted sure.result ∙ sym c.from-sure.ensures) all;
+      to_the_end = λ few. end.ensures.to_the_end (omega (arith, few));
+    }
