@@ -71,6 +71,9 @@ fn stay_sure<S: Scripts<READINGS, HELD>, const READINGS: usize, const HELD: usiz
     requires may { MayTake (S.IsSetting setting.now) S.Lock.eq S.reply_of S.effects_of
         (S.system setting.now) (S.Knows setting.now) READINGS HELD program.old }
     requires none { None ≡ slice_get (guesses program.old) 0 }
+    ensures sure { program.new.sure ≡ None }
+    ensures now { attempt_of S.reply_of S.effects_of program.new.far
+        ≡ now_of S.reply_of S.effects_of program.old }
     ensures may { MayTake (S.IsSetting setting.now) S.Lock.eq S.reply_of S.effects_of
         (S.system setting.now) (S.Knows setting.now) READINGS HELD program.new }
     ensures setting { S.IsSetting setting.now }
@@ -78,9 +81,6 @@ fn stay_sure<S: Scripts<READINGS, HELD>, const READINGS: usize, const HELD: usiz
         (S.Knows setting.now) READINGS HELD }
     ensures stands { Stands S.Lock.eq S.reply_of S.effects_of (S.system setting.now)
         (S.Knows setting.now) READINGS HELD program.new.far }
-    ensures now { attempt_of S.reply_of S.effects_of program.new.far
-        ≡ now_of S.reply_of S.effects_of program.old }
-    ensures sure { program.new.sure ≡ None }
 {
     let _ = setting;
     program.be_sure();

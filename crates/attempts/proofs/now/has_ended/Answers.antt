@@ -1,4 +1,4 @@
-use Rattle.std.proofs.Common.{◌∙◌}
+use Rattle.std.proofs.Common.{arith, ◌∙◌}
 use Rattle.turns.specs.Attempt.{act}
 use Rattle.turns.specs.Runs.{is_rest}
 use Rattle.attempts.proofs.AheadNow.{seen_far, seen_waiting}
@@ -9,3 +9,9 @@ returns-in-Some g c = seen_waiting g.S.Scripts.reply_of g.S.Scripts.effects_of (
 
 pub returns-in-None : goal.returns-in-None
 returns-in-None g c = c.is_done.ensures ∙ seen_far g.S.Scripts.reply_of g.S.Scripts.effects_of (λ a. is_rest (act a)) c.program.inside.far c.program.inside.sure c.args.program.now c.program.view_is c.in-None.ensures
+
+pub guess-requires : goal.guess-requires
+guess-requires g c = grind arith steps 60000000
+
+pub is_done-requires : goal.is_done-requires
+is_done-requires g c = grind arith steps 60000000

@@ -1,4 +1,4 @@
-use Rattle.std.proofs.Common.{◌≡◌, subst}
+use Rattle.std.proofs.Common.{arith, ◌≡◌, subst}
 use Rattle.std.specs.Prelude.{IfSome}
 use Rattle.turns.specs.Attempt.{act}
 use Rattle.desks.specs.Outcomes.{IsPastTurn}
@@ -11,3 +11,9 @@ returns-in-None-clause-next g c = subst (λ a. IfSome c.next_past_turn.result (�
 
 pub returns-in-None-clause-turned : goal.returns-in-None-clause-turned
 returns-in-None-clause-turned g c = subst (λ phase. IfSome c.next_past_turn.result (λ step. IsPastTurn phase)) (seen_far g.S.Scripts.reply_of g.S.Scripts.effects_of (λ a. a.phase) c.program.inside.far c.program.inside.sure c.args.program.now c.program.view_is c.in-None.ensures) c.next_past_turn.ensures.turned
+
+pub guess-requires : goal.guess-requires
+guess-requires g c = grind arith steps 60000000
+
+pub next_past_turn-requires : goal.next_past_turn-requires
+next_past_turn-requires g c = grind arith steps 60000000

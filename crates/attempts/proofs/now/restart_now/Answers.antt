@@ -19,3 +19,12 @@ returns-in_default-clause-restarts g c setting = restarted_far g.S.Lock.PartialE
 
 pub returns-in_default-clause-stands : goal.returns-in_default-clause-stands
 returns-in_default-clause-stands g c setting are stands = stands_plain g.S.Lock.PartialEq.eq g.S.Scripts.reply_of g.S.Scripts.effects_of (g.S.Scripts.system setting) (g.S.Scripts.Knows setting) g.row.READINGS g.row.HELD are c.restart_far-in_default.new.program (c.restart_far-in_default.ensures.sure ∙ (ap (λ (p : Ahead _ _ _ _). p.sure) c.be_sure.ensures)) (c.restart_far-in_default.ensures.stands setting are (plainly g.S.Lock.PartialEq.eq g.S.Scripts.reply_of g.S.Scripts.effects_of (g.S.Scripts.system setting) (g.S.Scripts.Knows setting) g.row.READINGS g.row.HELD are c.be_sure.new.self (ap (λ (p : Ahead _ _ _ _). p.sure) c.be_sure.ensures) (stands_sure g.S.Lock.PartialEq.eq g.S.Scripts.reply_of g.S.Scripts.effects_of (g.S.Scripts.system setting) (g.S.Scripts.Knows setting) g.row.READINGS g.row.HELD are c.args.program.now c.be_sure.new.self (empty_of _ c.in_default.ensures) c.be_sure.ensures stands)))
+
+pub guess-requires : goal.guess-requires
+guess-requires g c = grind arith steps 60000000
+
+pub settle-requires : goal.settle-requires
+settle-requires g c = grind arith steps 60000000
+
+pub be_sure-requires : goal.be_sure-requires
+be_sure-requires g c = grind arith steps 60000000
