@@ -73,9 +73,11 @@ audit_line fields = line_with (codes "AUDIT" ∷ fields)
 
 -- what is written of what was found
 abbrev pub finding_text : Finding → List ℕ
-finding_text (Legal count standing) = audit_line (codes "LEGAL" ∷ decimal count ∷ []) ++ standing_text standing
+finding_text (Legal count standing) =
+    audit_line (codes "LEGAL" ∷ decimal count ∷ []) ++ standing_text standing
 finding_text (WrongCounts standing) = audit_line (codes "COUNTS" ∷ []) ++ standing_text standing
-finding_text (WrongReply given right) = audit_line (codes "REPLY" ∷ decimal given.turn ∷ []) ++ record_text given ++ record_text right
+finding_text (WrongReply given right) =
+    audit_line (codes "REPLY" ∷ decimal given.turn ∷ []) ++ record_text given ++ record_text right
 finding_text (WrongTurn place) = audit_line (codes "TURNS" ∷ decimal place ∷ [])
 finding_text (NoReport line) = line_with (codes "FAULT" ∷ codes "U1" ∷ decimal line ∷ [])
 

@@ -40,7 +40,8 @@ fn comes_to<R: Source>(
     ensures long { result ≡ Err EngineFault.Long →
         ReadsUsedUp (R.read_count source.old) (R.read_count source.new) }
     ensures unread { IsUnreadTask task.entry plan.now → source.new ≡ source.old }
-    ensures end { OnOk result (¬ IsUnreadTask task.entry plan.now → IsAtEnd (R.remaining source.new)) }
+    ensures end { OnOk result
+        (¬ IsUnreadTask task.entry plan.now → IsAtEnd (R.remaining source.new)) }
 {
     if !task.has_its_markers() {
         return Err(EngineFault::Markers);
@@ -80,7 +81,8 @@ pub fn answer_task<R: Source, W: Sink>(
         → (R.failure_count source.new ≡ R.failure_count source.old)
         × (W.failure_count sink.new ≡ W.failure_count sink.old) }
     ensures unread { IsUnreadTask task.entry plan.now → source.new ≡ source.old }
-    ensures end { OnOk result (¬ IsUnreadTask task.entry plan.now → IsAtEnd (R.remaining source.new)) }
+    ensures end { OnOk result
+        (¬ IsUnreadTask task.entry plan.now → IsAtEnd (R.remaining source.new)) }
     ensures long { result ≡ Err EngineFault.Long →
         ReadsUsedUp (R.read_count source.old) (R.read_count source.new) }
     ensures unwritten { IfErr result (λ fault. ComesFirst fault →

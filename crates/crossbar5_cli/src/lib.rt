@@ -5,7 +5,7 @@
 //! on standard error, in a sentence.
 #![tactic(auto)]
 
-ghost use Rattle.std.specs.Prelude.{◌≡◌, ◌≢◌, ◌↔◌, Err, List, if◌then◌else◌};
+ghost use Rattle.std.specs.Prelude.{◌≡◌, ◌≢◌, ◌↔◌, Err, IfErr, List, if◌then◌else◌};
 ghost use Rattle.std.specs.Process.{exit_status};
 ghost use Rattle.xbar_core.specs.declared.kind.Kind.{Kind};
 ghost use Rattle.crossbar5.specs.Faults.{IsStaffCount};
@@ -14,12 +14,8 @@ ghost use Rattle.crossbar5.specs.Task.{HasItsMarkers};
 ghost use Rattle.crossbar5_cli.specs.Endings.{exit_of};
 ghost use Rattle.crossbar5_cli.specs.Streams.{MayEndOf};
 
-use crate::between::{live_between, task_between};
 use crate::causes::ending_without_words;
-use crate::ended::Ended;
-use crate::ending::Ending;
-use crate::plan_text::plan_text;
-use crate::stream::{Stream, stream_of, told_on};
+use crate::stream::{stream_of, told_on};
 use crossbar5::{Counted, EngineFault, Look, Task, Telling, kinds_of, open_gates};
 use crossbar5_command::{Ask, CommandFault, command};
 use std::alloc::AllocError;
@@ -34,11 +30,16 @@ mod between;
 mod causes;
 mod ended;
 mod ending;
-mod plan_text;
+mod plan_file;
 mod sentence;
 mod stream;
-#[cfg(test)]
-mod tests;
+
+pub use between::{live_between, task_between};
+pub use ended::Ended;
+pub use ending::Ending;
+pub use plan_file::plan_text;
+pub use sentence::Sentence;
+pub use stream::Stream;
 
 /// Runs the program, and tells the status that it ends with. The second handle is for live calls:
 /// the runtime itself, where it may make threads and wait for them.
@@ -72,12 +73,14 @@ fn run_words<T: Threads + Wait + Sync>(
     }
 }
 
-/// Does what is asked for, or tells why nothing is.
-fn do_as_asked<'w, T: Threads + Wait + Sync>(
+/// Does what is asked for, between standard input and output, or tells why nothing is.
+pub fn do_as_asked<'w, T: Threads + Wait + Sync>(
     rt: &HostRuntime,
     threads: &T,
     asked: &'w Result<Ask, CommandFault>,
-) -> Ended<'w> {
+) -> Ended<'w>
+    ensures { IfErr asked.now (λ fault. MayEndOf fault result.ending) }
+{
     match asked {
         Ok(Ask::Replay { plan, kinds }) => replay(rt, plan.as_deref(), kinds.as_str()),
         Ok(

@@ -32,7 +32,8 @@ HasValues values (Replay file letters) = (option_map string_bytes file ≡ value
 HasValues values (Walk file letters short) = (option_map string_bytes file ≡ values (codes "plan"))
     × (string_bytes letters ≡ unwrap_or (values (codes "markers")) default_kinds)
     × (IsTrue short ↔ IsGiven (values (codes "short")))
-HasValues values (Live file dial completing) = (option_map string_bytes file ≡ values (codes "plan"))
+HasValues values (Live file dial completing) =
+    (option_map string_bytes file ≡ values (codes "plan"))
     × IsNumberOf (unwrap_or (values (codes "dial")) one) dial
     × IsNumberOf (unwrap_or (values (codes "completing")) one) completing
 HasValues values (Audit file) = option_map string_bytes file ≡ values (codes "plan")

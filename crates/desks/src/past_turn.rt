@@ -31,7 +31,8 @@ pub(crate) fn close_once<F: Jobs, W: Watch>(
         (F.Stands setting.now program.new) setting.now shared.now.key.setting.value
         shared.now.table_id seat.new.table_id seat.new.me actor number (F.attempt program.new) }
     ensures none { result ≡ false → (program.new ≡ program.old) × (seat.new ≡ seat.old) }
-    ensures to_the_end { result ≡ false → NothingLeftPastTurn (Does number (F.attempt program.new)) }
+    ensures to_the_end { result ≡ false
+        → NothingLeftPastTurn (Does number (F.attempt program.new)) }
     ensures come { result ≡ true → HasComeTo (system_of (F.system setting.now)) actor number 1
         (F.attempt program.old) (F.attempt program.new) seat.old.me seat.new.me }
 {

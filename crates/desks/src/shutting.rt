@@ -49,7 +49,8 @@ fn gather<F: Jobs>(
     requires room { (shared.now.key.setting.value ≡ setting.now) × (0 < shared.now.table_id.words) }
     requires desks { AreIdle (system_of (F.system setting.now)) shared.now.table_id setting.now
         desks.items }
-    ensures table { IfSome result (λ seat. (seat.table_id ≡ shared.now.table_id) × (seat.me.1 ≡ [])) }
+    ensures table { IfSome result
+        (λ seat. (seat.table_id ≡ shared.now.table_id) × (seat.me.1 ≡ [])) }
     ensures rest { IfSome result (λ seat. AllRest (system_of (F.system setting.now)) seat.me.0) }
     ensures told { IfSome result (λ seat. (i : ℕ) → IfSome (slice_get desks.items i)
         (λ d. Tells (system_of (F.system setting.now)) seat.me.0 i d.seen)) }

@@ -24,7 +24,8 @@ fn work_all<R: Threads + Sync>(
     seed: u64,
 ) -> Result<Vec<Shift>, AllocError>
     requires { AreDesksOf desks.items fabric.now }
-    ensures desks { IfOk result (λ shifts. All (λ shift. IsDeskOf shift.desk fabric.now) shifts.items) }
+    ensures desks { IfOk result
+        (λ shifts. All (λ shift. IsDeskOf shift.desk fabric.now) shifts.items) }
     ensures count { IfOk result (λ shifts. vec_len shifts ≡ vec_len desks) }
 {
     map_vec(

@@ -6,12 +6,15 @@ use Rattle.svg.specs.Figure.{Figure, figure_text}
 -- what a drawing of this size begins with whose style sheet stands elsewhere
 unfoldable pub open_text : ℕ → ℕ → List ℕ
 open_text width height =
-    concat (codes "<svg xmlns=\"http://www.w3.org/2000/svg\" viewBox=\"0 0 " ∷ decimal width ∷ codes " " ∷ decimal height
-    ∷ codes "\" width=\"" ∷ decimal width ∷ codes "\" height=\"" ∷ decimal height ∷ codes "\">\n" ∷ [])
+    concat (codes "<svg xmlns=\"http://www.w3.org/2000/svg\" viewBox=\"0 0 " ∷ decimal width
+    ∷ codes " " ∷ decimal height
+    ∷ codes "\" width=\"" ∷ decimal width ∷ codes "\" height=\"" ∷ decimal height ∷ codes "\">\n"
+    ∷ [])
 
 -- and one that has its style sheet in it
 unfoldable pub head_text : ℕ → ℕ → List ℕ → List ℕ
-head_text width height style = concat (open_text width height ∷ codes "<style>" ∷ escaped style ∷ codes "</style>\n" ∷ [])
+head_text width height style =
+    concat (open_text width height ∷ codes "<style>" ∷ escaped style ∷ codes "</style>\n" ∷ [])
 
 -- what it ends with
 abbrev pub foot_text : List ℕ
@@ -26,4 +29,5 @@ group_end_text = codes "</g>\n"
 
 -- a drawing: what is drawn, each behind and so over the one before
 abbrev pub drawing_text : ℕ → ℕ → List ℕ → List Figure → List ℕ
-drawing_text width height style figures = head_text width height style ++ flat_map figure_text figures ++ foot_text
+drawing_text width height style figures =
+    head_text width height style ++ flat_map figure_text figures ++ foot_text

@@ -7,9 +7,11 @@ is_allowed character = nat_le 32 character && not (character == 0xfffe) && not (
 
 -- what stands for a character that begins or ends no markup
 abbrev pub plain_character : ℕ → List ℕ
-plain_character character = if is_allowed character then encode_utf8 character else encode_utf8 0xfffd
+plain_character character =
+    if is_allowed character then encode_utf8 character else encode_utf8 0xfffd
 
--- what stands for a character: an entity for each of & < > and the quote, U+FFFD for those that XML has not
+-- what stands for a character: an entity for each of & < > and the quote, U+FFFD for those that XML
+-- has not
 abbrev pub escaped_character : ℕ → List ℕ
 escaped_character character =
     if character == 38 then codes "&amp;" else
@@ -23,7 +25,9 @@ escaped text = flat_map escaped_character (chars text)
 
 -- whether a character may stand as it is: XML has it, and it is none of & < > and the quote
 abbrev pub is_plain : ℕ → Bool
-is_plain character = is_allowed character && not (character == 38) && not (character == 60) && not (character == 62) && not (character == 34)
+is_plain character =
+    is_allowed character && not (character == 38) && not (character == 60) && not (character == 62)
+    && not (character == 34)
 
 -- a part in which no markup begins or ends: one of four entities, or a plain character
 abbrev pub IsPart : List ℕ → Type 0

@@ -27,12 +27,15 @@ in_class class = concat (codes " class=\"" ∷ escaped class ∷ codes "\"" ∷ 
 unfoldable pub figure_text : Figure → List ℕ
 figure_text (Rectangle corner width height class) =
     concat (codes "<rect x=\"" ∷ decimal corner.x ∷ codes "\" y=\"" ∷ decimal corner.y
-    ∷ codes "\" width=\"" ∷ decimal width ∷ codes "\" height=\"" ∷ decimal height ∷ codes "\"" ∷ in_class class ∷ codes "/>\n" ∷ [])
+    ∷ codes "\" width=\"" ∷ decimal width ∷ codes "\" height=\"" ∷ decimal height ∷ codes "\""
+    ∷ in_class class ∷ codes "/>\n" ∷ [])
 figure_text (Line from to class) =
     concat (codes "<line x1=\"" ∷ decimal from.x ∷ codes "\" y1=\"" ∷ decimal from.y
-    ∷ codes "\" x2=\"" ∷ decimal to.x ∷ codes "\" y2=\"" ∷ decimal to.y ∷ codes "\"" ∷ in_class class ∷ codes "/>\n" ∷ [])
+    ∷ codes "\" x2=\"" ∷ decimal to.x ∷ codes "\" y2=\"" ∷ decimal to.y ∷ codes "\""
+    ∷ in_class class ∷ codes "/>\n" ∷ [])
 figure_text (Circle center radius class) =
     concat (codes "<circle cx=\"" ∷ decimal center.x ∷ codes "\" cy=\"" ∷ decimal center.y
     ∷ codes "\" r=\"" ∷ decimal radius ∷ codes "\"" ∷ in_class class ∷ codes "/>\n" ∷ [])
 figure_text (Words at class content) =
-    concat (codes "<text x=\"" ∷ decimal at.x ∷ codes "\" y=\"" ∷ decimal at.y ∷ codes "\"" ∷ in_class class ∷ codes ">" ∷ escaped content ∷ codes "</text>\n" ∷ [])
+    concat (codes "<text x=\"" ∷ decimal at.x ∷ codes "\" y=\"" ∷ decimal at.y ∷ codes "\""
+    ∷ in_class class ∷ codes ">" ∷ escaped content ∷ codes "</text>\n" ∷ [])

@@ -47,7 +47,8 @@ abbrev pub closing_act : {Lock Effect : Type 0} → List Effect → List Lock �
 closing_act [] held = free_act held
 closing_act (effect ∷ effects) held = Make effect
 
-abbrev pub act_in : {Lock Job Reply Effect : Type 0} → Phase Lock ℕ → Attempt Lock Job Reply Effect → Act Lock Effect
+abbrev pub act_in : {Lock Job Reply Effect : Type 0} → Phase Lock ℕ → Attempt Lock Job Reply Effect
+    → Act Lock Effect
 act_in (Requests lock) a = Ask lock
 act_in (Seizes lock expected) a = Take lock expected
 act_in (Tests word) a = Look word
@@ -141,19 +142,30 @@ reply_in (Withdraws lock) reply = None
 reply_in GivesBack reply = None
 
 -- the first moment of an attempt: nothing held, nothing read, nothing decided
-abbrev pub begin_with : {Lock Job Reply Effect : Type 0} → Lock → Job → Attempt Lock Job Reply Effect
-begin_with first job = record { job = job; readings = []; held = []; phase = Requests first; reply = None; effects = [] }
+abbrev pub begin_with : {Lock Job Reply Effect : Type 0} → Lock → Job
+    → Attempt Lock Job Reply Effect
+begin_with first job = record {
+  job = job;
+  readings = [];
+  held = [];
+  phase = Requests first;
+  reply = None;
+  effects = [];
+}
 
 -- given up: nothing read or decided is remembered
-abbrev pub forgotten : {Lock Job Reply Effect : Type 0} → Attempt Lock Job Reply Effect → Attempt Lock Job Reply Effect
+abbrev pub forgotten : {Lock Job Reply Effect : Type 0} → Attempt Lock Job Reply Effect
+    → Attempt Lock Job Reply Effect
 forgotten a = record a { readings = []; reply = None; effects = [] }
 
 -- put off: the request for this lock is to be withdrawn
-abbrev pub put_off : {Lock Job Reply Effect : Type 0} → Attempt Lock Job Reply Effect → Lock → Attempt Lock Job Reply Effect
+abbrev pub put_off : {Lock Job Reply Effect : Type 0} → Attempt Lock Job Reply Effect → Lock
+    → Attempt Lock Job Reply Effect
 put_off a lock = record (forgotten a) { phase = Withdraws lock }
 
 -- past the turn, an effect is made; with none left, the first of what is held is freed
-abbrev pub operated : {Lock Job Reply Effect : Type 0} → Attempt Lock Job Reply Effect → List Effect → Attempt Lock Job Reply Effect
+abbrev pub operated : {Lock Job Reply Effect : Type 0} → Attempt Lock Job Reply Effect → List Effect
+    → Attempt Lock Job Reply Effect
 operated a [] = record a { held = rest_of a.held }
 operated a (effect ∷ effects) = record a { effects = effects }
 
@@ -194,7 +206,8 @@ module _ (O : System) where
 
   -- its walk comes to an end, so the attempt has decided, or to what it wants next
   abbrev pub goes_on : AttemptOf → Result Decision (Wanted Lock ℕ) → AttemptOf
-  goes_on a (Ok decision) = record a { phase = Turns; reply = Some (reply_of decision); effects = effects_of decision }
+  goes_on a (Ok decision) =
+      record a { phase = Turns; reply = Some (reply_of decision); effects = effects_of decision }
   goes_on a (Err (Seize lock)) = record a { phase = Requests lock }
   goes_on a (Err (Test word)) = record a { phase = Tests word }
 
@@ -215,7 +228,8 @@ module _ (O : System) where
   changed a (Seizes lock expected) (Held holder) = put_off a lock
   changed a (Seizes lock expected) (Preferred other) = put_off a lock
   changed a (Seizes lock expected) (Again word) = record a { phase = Seizes lock word }
-  changed a (Tests word) (Value value) = walks_on (record a { readings = a.readings ++ record { word = word; value = value } ∷ [] })
+  changed a (Tests word) (Value value) =
+      walks_on (record a { readings = a.readings ++ record { word = word; value = value } ∷ [] })
   changed a Turns (TurnNumber number) = record a { phase = Operates number }
   changed a (Withdraws lock) Done = freed a a.held
   changed a GivesBack Done = freed a (rest_of a.held)
@@ -229,8 +243,11 @@ module _ (O : System) where
   -- what actor k is told of its step that found this number
   abbrev pub answer_to : ℕ → Act Lock Effect → ℕ → Answer
   answer_to k Rest found = Done
-  answer_to k (Ask lock) found = unless_put_off (Asked (with_request sharing k found)) (sharing.judged k (with_request sharing k found))
-  answer_to k (Take lock expected) found = if found == expected then Seized else unless_put_off (Again found) (sharing.judged k found)
+  answer_to k (Ask lock) found =
+      unless_put_off (Asked (with_request sharing k found))
+      (sharing.judged k (with_request sharing k found))
+  answer_to k (Take lock expected) found =
+      if found == expected then Seized else unless_put_off (Again found) (sharing.judged k found)
   answer_to k (Leave lock) found = Done
   answer_to k (Free lock) found = Done
   answer_to k (Look word) found = Value found
@@ -261,7 +278,8 @@ module _ (O : System) where
     pub reply : a.reply ≡ Some (reply_of decision)
     pub effects : a.effects ≡ effects_of decision
 
-  -- it took its turn with the decision that its job came to then, of whose effects those left are the end
+  -- it took its turn with the decision that its job came to then, of whose effects those left are
+  -- the end
   pub record HasTurned (a : AttemptOf) : Type 0 where
     pub seen : Seen Lock
     pub decision : Decision

@@ -25,22 +25,27 @@ IsSteady (Turn number) = ⊤
 IsSteady Done = ⊤
 
 module _ (O : System) where
-  -- each of the answers is to the attempt's next step then, and none of them puts it off or has it try again
+  -- each of the answers is to the attempt's next step then, and none of them puts it off or has it
+  -- try again
   abbrev pub AreSteady : AttemptOf O → List Answer → Type 0
   AreSteady a [] = ⊤
-  AreSteady a (answer ∷ answers) = IsAnswerTo (act a) answer × IsSteady answer × AreSteady (change O a answer) answers
+  AreSteady a (answer ∷ answers) =
+      IsAnswerTo (act a) answer × IsSteady answer × AreSteady (change O a answer) answers
 
-  -- each job tests no more words and seizes no more locks than so many, and decides on no more effects
+  -- each job tests no more words and seizes no more locks than so many, and decides on no more
+  -- effects
   pub record AreBounded (tests seizings most_effects : ℕ) : Type 0 where
     pub asks : (job : O.Job) → O.IsJob job → AsksAtMost tests seizings (O.script job)
-    pub effects : (job : O.Job) → O.IsJob job → EndsIn (λ decision. length (O.effects_of decision) ≤ most_effects) (O.script job)
+    pub effects : (job : O.Job) → O.IsJob job
+        → EndsIn (λ decision. length (O.effects_of decision) ≤ most_effects) (O.script job)
 
   -- so many next steps of actor k
   abbrev pub after_steps : ℕ → ℕ → World O → World O
   after_steps k zero w = w
   after_steps k (suc count) w = after_steps k count (after_move O w (Steps k))
 
-  -- an actor that is out of the way of the others: it is idle or has ended its job, or it is at the beginning of its job, with nothing held and no request standing
+  -- an actor that is out of the way of the others: it is idle or has ended its job, or it is at the
+  -- beginning of its job, with nothing held and no request standing
   abbrev pub IsAside : ActorOf O → Type 0
   IsAside Idle = ⊤
   IsAside (Does number a) = (a.held ≡ []) × (request_in a.phase ≡ None)

@@ -13,7 +13,20 @@ use Rattle.turns.specs.declared.phase.Phase.TheVariants.{Requests, Seizes, Tests
 use Rattle.turns.specs.declared.reading.Reading.{Reading}
 
 module _ (O : System) where
-  open O use {Lock, Job, State, Effect, IsLock, IsJob, effects_of, effect_word, lock_word, sharing, whole, Shows}
+  open O use {
+    Lock,
+    Job,
+    State,
+    Effect,
+    IsLock,
+    IsJob,
+    effects_of,
+    effect_word,
+    lock_word,
+    sharing,
+    whole,
+    Shows,
+  }
 
   -- a lock's own word; who holds the lock, by its word
   abbrev pub word_at : List ℕ → Lock → ℕ
@@ -22,13 +35,17 @@ module _ (O : System) where
   abbrev pub holder_at : List ℕ → Lock → ℕ
   holder_at words lock = sharing.holder (word_at words lock)
 
-  -- records from number i and a state on: each has its number as its turn, and the reply of its job done whole on the state after those before
+  -- records from number i and a state on: each has its number as its turn, and the reply of its job
+  -- done whole on the state after those before
   abbrev pub IsLegal : ℕ → State → List (RecordOf O) → Type 0
   IsLegal i state [] = ⊤
-  IsLegal i state (r ∷ order) = IsJob r.job × (r.turn ≡ i % 2 ^ 64) × (r.reply ≡ (whole state r.job).reply) × IsLegal (suc i) (whole state r.job).state order
+  IsLegal i state (r ∷ order) =
+      IsJob r.job × (r.turn ≡ i % 2 ^ 64) × (r.reply ≡ (whole state r.job).reply)
+      × IsLegal (suc i) (whole state r.job).state order
 
   -- actor k's turn stands in the order, at the place that its number tells, with its job and reply
-  pub record IsRecorded (order : List (RecordOf O)) (k number turn : ℕ) (a : AttemptOf O) : Type 0 where
+  pub record IsRecorded (order : List (RecordOf O)) (k number turn : ℕ)
+      (a : AttemptOf O) : Type 0 where
     pub place : ℕ
     pub recorded : RecordOf O
     pub stands : slice_get order place ≡ Some recorded
@@ -38,28 +55,35 @@ module _ (O : System) where
     pub job : recorded.job ≡ a.job
     pub reply : a.reply ≡ Some recorded.reply
 
-  -- what was decided at a turn: the script's decision on some words that show the state before the turn, of whose effects those left are the end
-  pub record WasDecided (now : List ℕ) (order : List (RecordOf O)) (place : ℕ) (a : AttemptOf O) : Type 0 where
+  -- what was decided at a turn: the script's decision on some words that show the state before the
+  -- turn, of whose effects those left are the end
+  pub record WasDecided (now : List ℕ) (order : List (RecordOf O)) (place : ℕ)
+      (a : AttemptOf O) : Type 0 where
     pub words : List ℕ
     pub size : length words ≡ O.size
     pub are_words : AreWords words
     pub shows : Shows words (after O O.opening (take place order))
     pub made : List Effect
     pub effects : effects_of (run words (O.script a.job)) ≡ made ++ a.effects
-    -- while an effect is left, those made are under what is held; and what is under that is now what they made of those words
+    -- while an effect is left, those made are under what is held; and what is under that is now
+    -- what they made of those words
     pub under : (effect : Effect) → IsIn effect a.effects → AreUnder O a.held made
-    pub since : (number : ℕ) → IsUnder O a.held number → slice_index now number ≡ fold_effects effect_word (effect_on O) made number (slice_index words number)
+    pub since : (number : ℕ) → IsUnder O a.held number
+        → slice_index now number
+        ≡ fold_effects effect_word (effect_on O) made number (slice_index words number)
 
-  -- past its turn: the effects that are left are under what is held and fit their words, each is due, the turn is recorded, and it was decided on the state before it
-  pub record IsOperating (words : List ℕ) (order : List (RecordOf O)) (k number turn : ℕ) (a : AttemptOf O) : Type 0 where
+  -- past its turn: the effects that are left are under what is held and fit their words, each is
+  -- due, the turn is recorded, and it was decided on the state before it
+  pub record IsOperating (words : List ℕ) (order : List (RecordOf O)) (k number turn : ℕ)
+      (a : AttemptOf O) : Type 0 where
     pub under : AreUnder O a.held a.effects
     pub fit : FitWords O a.effects
     pub due : AreDue O words a.effects
     pub recorded : IsRecorded order k number turn a
     pub decided : WasDecided words order recorded.place a
 
-  -- what is expected of a lock's word is a word by which actor k may seize it; its request stands there, if
-  -- requests are shown
+  -- what is expected of a lock's word is a word by which actor k may seize it; its request stands
+  -- there, if requests are shown
   pub record MaySeize (k expected : ℕ) : Type 0 where
     pub is_word : sharing.IsWord expected
     pub requested : ShowsRequests sharing → sharing.requests k expected ≡ true
@@ -108,9 +132,10 @@ module _ (O : System) where
     pub does : get_elem? actors k ≡ some (Does number attempt)
     pub requests : request_in attempt.phase ≡ Some lock
 
-  -- actor k's request stands in a lock's word only where it was made, and wherever it was if requests are
-  -- shown
-  pub record TellsRequest (actors : List (ActorOf O)) (k : ℕ) (lock : Lock) (word : ℕ) : Type 0 where
+  -- actor k's request stands in a lock's word only where it was made, and wherever it was if
+  -- requests are shown
+  pub record TellsRequest (actors : List (ActorOf O)) (k : ℕ) (lock : Lock)
+      (word : ℕ) : Type 0 where
     pub made : sharing.requests k word ≡ true → HasRequested actors k lock
     pub shown : ShowsRequests sharing → HasRequested actors k lock → sharing.requests k word ≡ true
 
@@ -131,7 +156,8 @@ module _ (O : System) where
     pub legal : IsLegal 0 O.opening w.order
     pub shows : Shows (completed O w) (after O O.opening w.order)
     -- each actor is sound, and each lock's word tells the truth
-    pub sound : (k number : ℕ) (a : AttemptOf O) → get_elem? w.actors k ≡ some (Does number a) → IsSound w k number a
+    pub sound : (k number : ℕ) (a : AttemptOf O) → get_elem? w.actors k ≡ some (Does number a)
+        → IsSound w k number a
     pub shared : (lock : Lock) → IsLock lock → IsShared w lock
 
   -- an actor to which a job may be assigned

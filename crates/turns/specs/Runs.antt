@@ -5,7 +5,8 @@ use Rattle.turns.specs.System.{System}
 use Rattle.turns.specs.Attempt.{Act, Rest, act}
 use Rattle.turns.specs.World.{World, ActorOf, Idle, Does, moved, assigned, given_back, fresh_world}
 
--- what may happen next: a job is assigned to an actor under a number, an actor makes its next step, or it gives back
+-- what may happen next: a job is assigned to an actor under a number, an actor makes its next step,
+-- or it gives back
 pub data Move (Job : Type 0) : Type 0 where
   Assigns : ℕ → ℕ → Job → Move Job
   Steps : ℕ → Move Job

@@ -7,7 +7,8 @@ use Rattle.turns.specs.declared.wanted.Wanted.TheVariants.{Seize, Test}
 
 infixl 20 ◌>>=◌
 infixl 20 ◌>>◌
--- what a job is to do until it can decide: it ends with what it found, or tests a word and goes on by its value, or seizes a lock and goes on
+-- what a job is to do until it can decide: it ends with what it found, or tests a word and goes on
+-- by its value, or seizes a lock and goes on
 pub data Script (Lock A : Type 0) : Type 0 where
   Ends : A → Script Lock A
   TestThen : ℕ → (ℕ → Script Lock A) → Script Lock A
@@ -34,7 +35,8 @@ seize lock = SeizeThen lock (Ends tt)
 -- a script that goes on by each word's value as this makes it
 unfoldable pub read_with : {Lock A : Type 0} → (ℕ → ℕ → ℕ) → Script Lock A → Script Lock A
 read_with change (Ends found) = Ends found
-read_with change (TestThen word script) = TestThen word (λ value. read_with change (script (change word value)))
+read_with change (TestThen word script) =
+    TestThen word (λ value. read_with change (script (change word value)))
 read_with change (SeizeThen lock script) = SeizeThen lock (read_with change script)
 
 -- the end of a script on given words, all locks being free
@@ -49,23 +51,31 @@ is_held same held lock = list_any (λ own. same own lock) held
 
 -- what was read in a word, if it was read: the first reading stands
 unfoldable pub value_read : List (Reading ℕ) → ℕ → Option ℕ
-value_read readings word = option_map (λ reading. reading.value) (find (λ reading. reading.word == word) readings)
+value_read readings word =
+    option_map (λ reading. reading.value) (find (λ reading. reading.word == word) readings)
 
 -- a test is left to do where its word was not read
-unfoldable pub left_of_test : {Lock A : Type 0} → (ℕ → Script Lock A) → (ℕ → Script Lock A) → ℕ → Option ℕ → Script Lock A
+unfoldable pub left_of_test : {Lock A : Type 0} → (ℕ → Script Lock A) → (ℕ → Script Lock A) → ℕ
+    → Option ℕ → Script Lock A
 left_of_test script left word None = TestThen word script
 left_of_test script left word (Some value) = left value
 
 -- a seizing is left to do where its lock is not held
-unfoldable pub left_of_seizing : {Lock A : Type 0} → Script Lock A → Script Lock A → Lock → Bool → Script Lock A
+unfoldable pub left_of_seizing : {Lock A : Type 0} → Script Lock A → Script Lock A → Lock → Bool
+    → Script Lock A
 left_of_seizing script left lock false = SeizeThen lock script
 left_of_seizing script left lock true = left
 
--- what is left of a script for an attempt: a lock that it holds is not seized again, and a word that it has read is not tested again
-unfoldable pub left : {Lock A : Type 0} → (Lock → Lock → Bool) → Seen Lock → Script Lock A → Script Lock A
+-- what is left of a script for an attempt: a lock that it holds is not seized again, and a word
+-- that it has read is not tested again
+unfoldable pub left : {Lock A : Type 0} → (Lock → Lock → Bool) → Seen Lock → Script Lock A
+    → Script Lock A
 left same seen (Ends found) = Ends found
-left same seen (TestThen word script) = left_of_test script (λ value. left same seen (script value)) word (value_read seen.readings word)
-left same seen (SeizeThen lock script) = left_of_seizing script (left same seen script) lock (is_held same seen.held lock)
+left same seen (TestThen word script) =
+    left_of_test script (λ value. left same seen (script value)) word
+    (value_read seen.readings word)
+left same seen (SeizeThen lock script) =
+    left_of_seizing script (left same seen script) lock (is_held same seen.held lock)
 
 -- the end of a script, or what it wants first
 unfoldable pub first_wanted : {Lock A : Type 0} → Script Lock A → Result A (Wanted Lock ℕ)
@@ -74,7 +84,8 @@ first_wanted (TestThen word script) = Err (Test word)
 first_wanted (SeizeThen lock script) = Err (Seize lock)
 
 -- the walk of an attempt through a script: to its end, or to what it wants next
-unfoldable pub walk : {Lock A : Type 0} → (Lock → Lock → Bool) → Seen Lock → Script Lock A → Result A (Wanted Lock ℕ)
+unfoldable pub walk : {Lock A : Type 0} → (Lock → Lock → Bool) → Seen Lock → Script Lock A
+    → Result A (Wanted Lock ℕ)
 walk same seen script = first_wanted (left same seen script)
 
 -- whatever is read in words of 64 bits, a script has no more tests and no more seizings than these

@@ -38,7 +38,8 @@ without_holder S word = applied S.freeing word
 abbrev pub IsTrueOf : Sharing → ℕ → ℕ → Judgement → Type 0
 IsTrueOf S k word Free = S.holder word ≡ 0
 IsTrueOf S k word (Held other) = S.holder word ≡ suc other
-IsTrueOf S k word (Preferred other) = (other < k) × (S.holder word ≡ 0) × (S.requests other word ≡ true)
+IsTrueOf S k word (Preferred other) =
+    (other < k) × (S.holder word ≡ 0) × (S.requests other word ≡ true)
 
 -- the word of a lock that nobody holds or requests
 pub record IsUnused (S : Sharing) (word : ℕ) : Type 0 where
@@ -70,30 +71,39 @@ KeepsOthers S k word after =
 pub record IsSharing (S : Sharing) : Type 0 where
   -- a request keeps the holder
   pub asked_is : (k word : ℕ) → k < S.most → S.IsWord word → S.IsWord (with_request S k word)
-  pub asked_holder : (k word : ℕ) → k < S.most → S.IsWord word → S.holder (with_request S k word) ≡ S.holder word
-  pub asked_requests : (k word : ℕ) → k < S.most → S.IsWord word → AddsOnly S k word (with_request S k word)
+  pub asked_holder : (k word : ℕ) → k < S.most → S.IsWord word
+      → S.holder (with_request S k word) ≡ S.holder word
+  pub asked_requests : (k word : ℕ) → k < S.most → S.IsWord word
+      → AddsOnly S k word (with_request S k word)
   -- so does its withdrawal
   pub withdrawn_is : (k word : ℕ) → k < S.most → S.IsWord word → S.IsWord (without_request S k word)
-  pub withdrawn_holder : (k word : ℕ) → k < S.most → S.IsWord word → S.holder (without_request S k word) ≡ S.holder word
-  pub withdrawn_requests : (k word : ℕ) → k < S.most → S.IsWord word → Clears S k word (without_request S k word)
+  pub withdrawn_holder : (k word : ℕ) → k < S.most → S.IsWord word
+      → S.holder (without_request S k word) ≡ S.holder word
+  pub withdrawn_requests : (k word : ℕ) → k < S.most → S.IsWord word
+      → Clears S k word (without_request S k word)
   -- a lock that nobody holds, once seized, names its holder, whose request is gone
-  pub taken_is : (k word : ℕ) → k < S.most → S.IsWord word → S.holder word ≡ 0 → S.IsWord (S.taken k word)
-  pub taken_holder : (k word : ℕ) → k < S.most → S.IsWord word → S.holder word ≡ 0 → S.holder (S.taken k word) ≡ suc k
-  pub taken_requests : (k word : ℕ) → k < S.most → S.IsWord word → S.holder word ≡ 0 → Clears S k word (S.taken k word)
+  pub taken_is : (k word : ℕ) → k < S.most → S.IsWord word → S.holder word ≡ 0
+      → S.IsWord (S.taken k word)
+  pub taken_holder : (k word : ℕ) → k < S.most → S.IsWord word → S.holder word ≡ 0
+      → S.holder (S.taken k word) ≡ suc k
+  pub taken_requests : (k word : ℕ) → k < S.most → S.IsWord word → S.holder word ≡ 0
+      → Clears S k word (S.taken k word)
   -- a lock that was freed has no holder
   pub freed_is : (word : ℕ) → S.IsWord word → S.IsWord (without_holder S word)
   pub freed_holder : (word : ℕ) → S.IsWord word → S.holder (without_holder S word) ≡ 0
   pub freed_requests : (word : ℕ) → S.IsWord word → AddsNone S word (without_holder S word)
   -- judgements are true, and an actor that requests alone what nobody holds may go on
   pub judged_true : (k word : ℕ) → k < S.most → S.IsWord word → IsTrueOf S k word (S.judged k word)
-  pub alone_free : (k word : ℕ) → k < S.most → S.IsWord word → S.holder word ≡ 0 → ((j : ℕ) → j < S.most → S.requests j word ≡ true → j ≡ k) → S.judged k word ≡ Free
+  pub alone_free : (k word : ℕ) → k < S.most → S.IsWord word → S.holder word ≡ 0
+      → ((j : ℕ) → j < S.most → S.requests j word ≡ true → j ≡ k) → S.judged k word ≡ Free
   -- a lock's word has 64 bits
   pub word_below : (word : ℕ) → S.IsWord word → word < 2 ^ 64
 
--- what must hold too where each request is to be seen in the word, from the step that makes it to that which
--- withdraws it or seizes the lock
+-- what must hold too where each request is to be seen in the word, from the step that makes it to
+-- that which withdraws it or seizes the lock
 pub record ShowsRequests (S : Sharing) : Type 0 where
-  pub asked_own : (k word : ℕ) → k < S.most → S.IsWord word → S.requests k (with_request S k word) ≡ true
+  pub asked_own : (k word : ℕ) → k < S.most → S.IsWord word
+      → S.requests k (with_request S k word) ≡ true
   pub asked_others : (k word : ℕ) → k < S.most → S.IsWord word →
       KeepsOthers S k word (with_request S k word)
   pub withdrawn_others : (k word : ℕ) → k < S.most → S.IsWord word →

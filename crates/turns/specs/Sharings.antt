@@ -12,7 +12,8 @@ request_bit k = 2 ^ (8 + k)
 -- the first of the actors j, j + 1, .., `count` of them, whose request stands in a word
 abbrev pub first_request : ℕ → ℕ → ℕ → Option ℕ
 first_request word j zero = None
-first_request word j (suc count) = if bit_at word (8 + j) == 1 then Some j else first_request word (suc j) count
+first_request word j (suc count) =
+    if bit_at word (8 + j) == 1 then Some j else first_request word (suc j) count
 
 -- the least actor below this one whose request stands in a word
 unfoldable pub lower_request : ℕ → ℕ → Option ℕ
@@ -36,7 +37,8 @@ judged k word = by_holder (word % 64) (lower_request k word)
 abbrev pub taken_by : ℕ → ℕ → ℕ
 taken_by k word = bit_or (bit_and word (2 ^ 64 - 1 - request_bit k)) (1 + k)
 
--- a lock's word: the lowest six bits name a holder of 48, each of the bits 8 to 55 is a request, and no other bit is set
+-- a lock's word: the lowest six bits name a holder of 48, each of the bits 8 to 55 is a request,
+-- and no other bit is set
 pub record IsLockWord (word : ℕ) : Type 0 where
   pub holder : word % 64 ≤ 48
   pub bits : (i : ℕ) → bit_at word i ≡ 1 → (i < 6) ⊎ ((8 ≤ i) × (i < 56))
@@ -56,8 +58,8 @@ preferring = record {
   judged = judged;
 }
 
--- any number of actors, none of whose requests is seen: a lock's word is 0, or one more than the number of the
--- actor that holds it, and to request is to look
+-- any number of actors, none of whose requests is seen: a lock's word is 0, or one more than the
+-- number of the actor that holds it, and to request is to look
 abbrev pub plain : ℕ → Sharing
 plain most = record {
   most = most;

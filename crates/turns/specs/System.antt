@@ -11,8 +11,8 @@ pub record Whole (State Reply : Type 0) : Type 0 where
   pub state : State
   pub reply : Reply
 
--- a system of jobs, over the types of its locks, jobs, replies and effects: what the jobs do one after
--- another, what they do step by step, and the words that they do it on
+-- a system of jobs, over the types of its locks, jobs, replies and effects: what the jobs do one
+-- after another, what they do step by step, and the words that they do it on
 pub record SystemOver (Lock Job Reply Effect : Type 0) : Type 1 where
   -- the jobs one after another, from the opening state on
   pub IsJob : Job → Type 0
@@ -34,7 +34,8 @@ pub record SystemOver (Lock Job Reply Effect : Type 0) : Type 1 where
   pub effect_word : Effect → ℕ
   pub operation_of : Effect → Operation
   pub Due : Effect → ℕ → Type 0
-  -- the words: how many there are, which lock protects a word, where each lock's own word stands and how it is shared, the turn word
+  -- the words: how many there are, which lock protects a word, where each lock's own word stands
+  -- and how it is shared, the turn word
   pub size : ℕ
   pub Protects : Lock → ℕ → Type 0
   pub lock_word : Lock → ℕ
@@ -62,12 +63,28 @@ abbrev pub AreWords : List ℕ → Type 0
 AreWords words = (n : ℕ) → slice_index words n < 2 ^ 64
 
 -- what effects, one after another, make of the number in a word
-abbrev pub fold_effects : {Effect : Type 0} → (Effect → ℕ) → (Effect → ℕ → ℕ) → List Effect → ℕ → ℕ → ℕ
+abbrev pub fold_effects : {Effect : Type 0} → (Effect → ℕ) → (Effect → ℕ → ℕ) → List Effect → ℕ → ℕ
+    → ℕ
 fold_effects word_of on [] word value = value
-fold_effects word_of on (effect ∷ effects) word value = fold_effects word_of on effects word (if word_of effect == word then on effect value else value)
+fold_effects word_of on (effect ∷ effects) word value =
+    fold_effects word_of on effects word (if word_of effect == word then on effect value else value)
 
 module _ (O : System) where
-  open O use {Lock, Job, State, Reply, Effect, Decision, IsLock, Protects, effect_word, Due, effects_of, reply_of, size}
+  open O use {
+    Lock,
+    Job,
+    State,
+    Reply,
+    Effect,
+    Decision,
+    IsLock,
+    Protects,
+    effect_word,
+    Due,
+    effects_of,
+    reply_of,
+    size,
+  }
 
   -- what an effect makes of the number that it finds in its word
   abbrev pub effect_on : Effect → ℕ → ℕ
@@ -81,19 +98,23 @@ module _ (O : System) where
 
   -- each effect changes a word that some of these locks protects
   abbrev pub AreUnder : List Lock → List Effect → Type 0
-  AreUnder held effects = (effect : Effect) → IsIn effect effects → IsUnder held (effect_word effect)
+  AreUnder held effects =
+      (effect : Effect) → IsIn effect effects → IsUnder held (effect_word effect)
 
   -- each effect's operation puts no more than 64 bits into its word
   abbrev pub FitWords : List Effect → Type 0
   FitWords effects = (effect : Effect) → IsIn effect effects → FitsWord (O.operation_of effect)
 
-  -- effects that may be made with these locks held: each on a word that some of them protects, in which it leaves 64 bits
+  -- effects that may be made with these locks held: each on a word that some of them protects, in
+  -- which it leaves 64 bits
   pub record MayMake (held : List Lock) (effects : List Effect) : Type 0 where
     pub under : AreUnder held effects
     pub fit : FitWords effects
 
-  -- with these locks held, a script tests only words that what is seized by then protects, and, whatever is read in words of 64 bits, its ends fit what is held then
-  unfoldable pub KeepsTo : {A : Type 0} → (List Lock → A → Type 0) → List Lock → Script Lock A → Type 0
+  -- with these locks held, a script tests only words that what is seized by then protects, and,
+  -- whatever is read in words of 64 bits, its ends fit what is held then
+  unfoldable pub KeepsTo : {A : Type 0} → (List Lock → A → Type 0) → List Lock → Script Lock A
+      → Type 0
   KeepsTo Fits held (Ends found) = Fits held found
   KeepsTo Fits held (TestThen word script) =
       IsUnder held word × ((value : ℕ) → value < 2 ^ 64 → KeepsTo Fits held (script value))
@@ -105,7 +126,9 @@ module _ (O : System) where
 
   -- the words after an effect, and after effects one after another
   abbrev pub perform : List ℕ → Effect → List ℕ
-  perform words effect = slice_set words (effect_word effect) (effect_on effect (slice_index words (effect_word effect)))
+  perform words effect =
+      slice_set words (effect_word effect)
+      (effect_on effect (slice_index words (effect_word effect)))
 
   unfoldable pub perform_all : List ℕ → List Effect → List ℕ
   perform_all words effects = fold perform words effects
@@ -113,10 +136,13 @@ module _ (O : System) where
   -- each effect finds what it must when it is made
   abbrev pub AreDue : List ℕ → List Effect → Type 0
   AreDue words [] = ⊤
-  AreDue words (effect ∷ effects) = Due effect (slice_index words (effect_word effect)) × AreDue (perform words effect) effects
+  AreDue words (effect ∷ effects) =
+      Due effect (slice_index words (effect_word effect)) × AreDue (perform words effect) effects
 
-  -- a decision is that of the job done whole: its reply, and effects that lead to words that show its state
-  pub record DecidesAs (words : List ℕ) (after : Whole State Reply) (decision : Decision) : Type 0 where
+  -- a decision is that of the job done whole: its reply, and effects that lead to words that show
+  -- its state
+  pub record DecidesAs (words : List ℕ) (after : Whole State Reply)
+      (decision : Decision) : Type 0 where
     pub reply : reply_of decision ≡ after.reply
     pub shows : O.Shows (perform_all words (effects_of decision)) after.state
     pub due : AreDue words (effects_of decision)
@@ -125,9 +151,11 @@ module _ (O : System) where
   pub record AreAlike (words other : List ℕ) : Type 0 where
     pub this_length : length words ≡ size
     pub that_length : length other ≡ size
-    pub under : (number : ℕ) (lock : Lock) → Protects lock number → slice_index words number ≡ slice_index other number
+    pub under : (number : ℕ) (lock : Lock) → Protects lock number
+        → slice_index words number ≡ slice_index other number
 
-  -- where the words stand: all within `size`, a lock's own word and the turn word under no lock, each word under at most one
+  -- where the words stand: all within `size`, a lock's own word and the turn word under no lock,
+  -- each word under at most one
   pub record AreApart : Type 0 where
     pub one_lock_word : (a b : Lock) → IsLock a → IsLock b → O.lock_word a ≡ O.lock_word b → a ≡ b
     pub lock_word_there : (a : Lock) → IsLock a → O.lock_word a < size
@@ -139,8 +167,8 @@ module _ (O : System) where
     pub lock_there : (number : ℕ) (lock : Lock) → Protects lock number → IsLock lock
     pub one_protector : (number : ℕ) (a b : Lock) → Protects a number → Protects b number → a ≡ b
 
-  -- what must hold of the words that a system opens on: they have 64 bits and show its opening state, nobody
-  -- holds or requests a lock, and no turn was taken
+  -- what must hold of the words that a system opens on: they have 64 bits and show its opening
+  -- state, nobody holds or requests a lock, and no turn was taken
   pub record IsInitial : Type 0 where
     pub initial_length : length O.initial ≡ size
     pub are_words : AreWords O.initial
@@ -162,5 +190,6 @@ module _ (O : System) where
         length words ≡ size → AreWords words → O.Shows words state →
         DecidesAs words (O.whole state job) (run words (O.script job))
     -- what words show is told by the words under locks
-    pub looks : (words other : List ℕ) (state : State) → AreAlike words other → O.Shows words state → O.Shows other state
+    pub looks : (words other : List ℕ) (state : State) → AreAlike words other → O.Shows words state
+        → O.Shows other state
     pub opens : IsInitial

@@ -64,7 +64,8 @@ module _ (O : System) where
   -- the record of a turn, else none
   abbrev pub turn_record : ℕ → ℕ → Job → Option Reply → ℕ → List RecordOf
   turn_record k number job None found = []
-  turn_record k number job (Some reply) found = record { turn = found; actor = k; number = number; job = job; reply = reply } ∷ []
+  turn_record k number job (Some reply) found =
+      record { turn = found; actor = k; number = number; job = job; reply = reply } ∷ []
 
   abbrev pub added_in : ℕ → ℕ → AttemptOf O → Phase Lock ℕ → ℕ → List RecordOf
   added_in k number a Turns found = turn_record k number a.job a.reply found
@@ -116,11 +117,13 @@ module _ (O : System) where
 
   abbrev pub completed_word : List ActorOf → ℕ → ℕ → ℕ
   completed_word [] word value = value
-  completed_word (m ∷ actors) word value = completed_word actors word (value_after (left_of m) word value)
+  completed_word (m ∷ actors) word value =
+      completed_word actors word (value_after (left_of m) word value)
 
   abbrev pub completed_from : List ActorOf → ℕ → List ℕ → List ℕ
   completed_from actors word [] = []
-  completed_from actors word (value ∷ words) = completed_word actors word value ∷ completed_from actors (suc word) words
+  completed_from actors word (value ∷ words) =
+      completed_word actors word value ∷ completed_from actors (suc word) words
 
   -- the words once all effects that actors have left are made
   abbrev pub completed : World → List ℕ

@@ -9,12 +9,13 @@ mod work;
 use row::row_of;
 use std::{fs, io};
 use toml::Value;
-use work::{Came, came_of};
+use work::came_of;
 
-const FILES: [&str; 7] = [
+const FILES: [&str; 8] = [
     "calls.toml",
     "refusals.toml",
     "plans.toml",
+    "slips.toml",
     "audits.toml",
     "walks.toml",
     "drawings.toml",
@@ -41,12 +42,13 @@ fn tell_all(rt: &HostRuntime, example: &str, rows: &[Value]) -> io::Result<()> {
     for value in rows {
         match row_of(value, example) {
             Some(row) => {
-                let Came { text, status } = came_of(rt.alloc(), &row)?;
-                if text.as_slice() == row.output.as_bytes() && status == row.status {
+                let came = came_of(rt.alloc(), &row)?;
+                if came.is_wanted_by(&row) {
                     println!(rt; "{}: as worked out", row.name)?;
                 } else {
-                    let text = str::from_utf8(&text).unwrap_or("no text");
-                    println!(rt; "{}: {status}, and this:\n{text}", row.name)?;
+                    let text = str::from_utf8(&came.text).unwrap_or("no text");
+                    let slip = came.slip.as_deref().unwrap_or("no slip");
+                    println!(rt; "{}: {}, {slip}, and this:\n{text}", row.name, came.status)?;
                 }
             }
             None => println!(rt; "a row that can't be read")?,

@@ -24,6 +24,8 @@ pub struct Row<'a> {
     pub output: &'a str,
     /// The exit status that the program ends with.
     pub status: i64,
+    /// The sentence on what is refused, where the row says it.
+    pub slip: Option<&'a str>,
 }
 
 fn text_at<'a>(value: &'a Value, key: &str) -> Option<&'a str> {
@@ -57,5 +59,6 @@ pub fn row_of<'a>(value: &'a Value, example: &'a str) -> Option<Row<'a>> {
         status: value
             .get("status")
             .map_or(0, |status| status.as_integer().unwrap_or(0)),
+        slip: text_at(value, "slip"),
     })
 }

@@ -1,5 +1,5 @@
 use crate::row::{Row, Verb};
-use crossbar5::{Counted, EngineFault, Status, Task, answer_task, kinds_of};
+use crossbar5::{Answer, Counted, EngineFault, Status, Task, answer_task, kinds_of};
 use std::alloc::{AllocError, Global};
 
 /// What came of a row.
@@ -7,23 +7,32 @@ use std::alloc::{AllocError, Global};
 pub struct Came {
     pub text: Vec<u8>,
     pub status: i64,
+    /// The sentence on what was refused, or none.
+    pub slip: Option<String>,
+}
+
+impl Came {
+    /// Whether it is just what the row wants.
+    pub fn is_wanted_by(&self, row: &Row<'_>) -> bool {
+        self.text.as_slice() == row.output.as_bytes()
+            && self.status == row.status
+            && (row.slip.is_none() || self.slip.as_deref() == row.slip)
+    }
 }
 
 /// What comes of a row, by the engine.
 pub fn came_of(alloc: Global, row: &Row<'_>) -> Result<Came, AllocError> {
     match done(alloc, row) {
-        Ok((text, status)) => Ok(Came {
-            text,
-            status: status_number(status),
-        }),
+        Ok(came) => Ok(came),
         Err(fault) => Ok(Came {
             text: fault.to_string(alloc)?.into_bytes(),
             status: 1,
+            slip: None,
         }),
     }
 }
 
-fn done(alloc: Global, row: &Row<'_>) -> Result<(Vec<u8>, Status), EngineFault> {
+fn done(alloc: Global, row: &Row<'_>) -> Result<Came, EngineFault> {
     let input = row.input.as_bytes();
     let kinds = kinds_of(alloc, row.markers)?;
     let replay = Task::Replay { kinds: &kinds };
@@ -36,29 +45,36 @@ fn done(alloc: Global, row: &Row<'_>) -> Result<(Vec<u8>, Status), EngineFault> 
         Verb::Audit => written(alloc, Task::Audit, row.plan, input),
         Verb::Draw(look) => written(alloc, Task::Draw { look }, row.plan, input),
         Verb::ReplayAndAudit => {
-            let (records, status) = written(alloc, replay, row.plan, input)?;
-            let (_, found) = written(alloc, Task::Audit, row.plan, &records)?;
-            let status = if status == Status::Fine {
-                found
-            } else {
-                status
-            };
-            Ok((records, status))
+            let mut came = written(alloc, replay, row.plan, input)?;
+            let audit = written(alloc, Task::Audit, row.plan, &came.text)?;
+            if came.status == 0 {
+                came.status = audit.status;
+            }
+            Ok(came)
         }
     }
 }
 
-/// What the engine writes of a task, and the status.
-fn written(
-    alloc: Global,
-    task: Task<'_>,
-    plan: &str,
-    input: &[u8],
-) -> Result<(Vec<u8>, Status), EngineFault> {
+/// What the engine writes of a task, the status, and the sentence beside it.
+fn written(alloc: Global, task: Task<'_>, plan: &str, input: &[u8]) -> Result<Came, EngineFault> {
     let mut source = Counted::new(input);
     let mut sink = Counted::new(Vec::new(alloc));
-    let answer = answer_task(alloc, task, plan.as_bytes(), &mut source, &mut sink)?;
-    Ok((sink.into_inner(), answer.status))
+    let Answer { status, slip } = answer_task(
+        alloc,
+        task,
+        plan.as_bytes(),
+        &mut source,
+        &mut sink,
+    )?;
+    let slip = match slip {
+        Some(slip) => Some(slip.to_string(alloc)?),
+        None => None,
+    };
+    Ok(Came {
+        text: sink.into_inner(),
+        status: status_number(status),
+        slip,
+    })
 }
 
 /// The exit status that the program has for it.

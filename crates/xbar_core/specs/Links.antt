@@ -30,10 +30,14 @@ pub record Joint : Type 0 where
 -- the trunk link, and that to the place
 abbrev pub joints : Path → List Joint
 joints path =
-    let line = crosspoint_at (LineSwitch path.line.frame path.line.switch) path.channel path.line.x in
-    let line_side = crosspoint_at (LineJunctor path.line.frame path.channel) path.place.frame path.line.switch in
-    let trunk_side = crosspoint_at (TrunkJunctor path.place.frame path.channel) path.line.frame path.place.switch in
-    let place = crosspoint_at (TrunkSwitch path.place.frame path.place.switch) path.channel path.place.appearance in
+    let line = crosspoint_at
+    (LineSwitch path.line.frame path.line.switch) path.channel path.line.x in
+    let line_side = crosspoint_at
+    (LineJunctor path.line.frame path.channel) path.place.frame path.line.switch in
+    let trunk_side = crosspoint_at
+    (TrunkJunctor path.place.frame path.channel) path.line.frame path.place.switch in
+    let place = crosspoint_at
+    (TrunkSwitch path.place.frame path.place.switch) path.channel path.place.appearance in
     record { crosspoint = line; link = line_link path } ∷
     record { crosspoint = line_side; link = line_link path } ∷
     record { crosspoint = line_side; link = junctor path } ∷

@@ -70,7 +70,8 @@ impl<'p> Exchange<'p> {
     /// Opens an office with no path, whose markers are idle and of these kinds.
     pub fn open(alloc: Global, plan: &'p Plan, kinds: &[Kind]) -> Result<Self, OpenFault>
         ensures ok { IfOk result
-            (λ exchange. exchange ≡ record { plan = plan.now; exchange = fresh_exchange kinds.now }) }
+            (λ exchange. exchange
+            ≡ record { plan = plan.now; exchange = fresh_exchange kinds.now }) }
         ensures markers { (result ≡ Err OpenFault.Markers)
             ↔ ¬ ((0 < length kinds.now) × (length kinds.now ≤ 48)) }
     {

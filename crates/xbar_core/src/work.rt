@@ -133,7 +133,8 @@ impl Work {
             + length (added_record marker self.now.job_no self.now.program.attempt answer)
             ≤ vec_capacity records.old }
         ensures records { records.new.items
-            ≡ records.old.items ++ added_record marker self.now.job_no self.now.program.attempt answer }
+            ≡ records.old.items
+            ++ added_record marker self.now.job_no self.now.program.attempt answer }
         ensures room { vec_capacity records.old ≤ vec_capacity records.new }
     {
         if let Answer::Turn(_) = answer {
@@ -188,7 +189,8 @@ impl Work {
               (change (office plan.now) self.old.program.attempt
               (told_of marker words.old self.old.program.attempt));
         } }
-        ensures words { words.new ≡ words_after marker (next_step self.old.program.attempt) words.old }
+        ensures words { words.new
+            ≡ words_after marker (next_step self.old.program.attempt) words.old }
         ensures records { records.new.items ≡ records.old.items
             ++ added_record marker self.old.job_no self.old.program.attempt
             (told_of marker words.old self.old.program.attempt) }

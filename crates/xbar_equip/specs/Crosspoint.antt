@@ -5,13 +5,16 @@ use Rattle.xbar_equip.specs.declared.crosspoint.Crosspoint.{Crosspoint}
 
 -- field `field` of a switch's word holds one more than the place that it is joined to
 abbrev pub crosspoint_at : Word → ℕ → ℕ → Crosspoint
-crosspoint_at switch field place = record { word = word_number switch; field = field; value = 1 + place }
+crosspoint_at switch field place =
+    record { word = word_number switch; field = field; value = 1 + place }
 
--- the four crosspoints of a path, in the order in which they are closed and opened:
--- the line to its line link, the line link to the junctor, the junctor to the trunk link, the trunk link to the place
+-- the four crosspoints of a path, in the order in which they are closed and opened: the line to its
+-- line link, the line link to the junctor, the junctor to the trunk link, the trunk link to the
+-- place
 abbrev pub crosspoints : Path → List Crosspoint
 crosspoints path =
     crosspoint_at (LineSwitch path.line.frame path.line.switch) path.channel path.line.x ∷
     crosspoint_at (LineJunctor path.line.frame path.channel) path.place.frame path.line.switch ∷
     crosspoint_at (TrunkJunctor path.place.frame path.channel) path.line.frame path.place.switch ∷
-    crosspoint_at (TrunkSwitch path.place.frame path.place.switch) path.channel path.place.appearance ∷ []
+    crosspoint_at (TrunkSwitch path.place.frame path.place.switch) path.channel
+    path.place.appearance ∷ []

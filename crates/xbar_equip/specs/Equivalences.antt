@@ -9,7 +9,8 @@ use Rattle.xbar_equip.specs.declared.conn.Conn.{Conn}
 use Rattle.xbar_equip.specs.declared.conn.Conn.TheVariants.{Llf, Tlf, Group}
 
 -- a test that is exact is an equivalence
-pub exact-equivalence : {K : Type 0} (test : K → K → Bool) → ((x y : K) → (test x y ≡ true) ↔ (x ≡ y)) → IsEquivalence test
+pub exact-equivalence : {K : Type 0} (test : K → K → Bool)
+    → ((x y : K) → (test x y ≡ true) ↔ (x ≡ y)) → IsEquivalence test
 exact-equivalence {K} test exact = record {
   refl = λ x. (exact x x).1 refl;
   symm = λ x y. of x y (test x y) (test y x) refl refl;

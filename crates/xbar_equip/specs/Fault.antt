@@ -3,7 +3,8 @@ use Rattle.xbar_equip.specs.Digits.{are_digits}
 use Rattle.xbar_equip.specs.declared.fault.EquipFault.{EquipFault}
 use Rattle.xbar_equip.specs.declared.fault.EquipFault.TheVariants.{Length, NotDigit, Range}
 
--- the first fault that applies: a wrong number of bytes, a byte that is no digit, a digit out of its range
+-- the first fault that applies: a wrong number of bytes, a byte that is no digit, a digit out of
+-- its range
 abbrev pub first_fault : Bool → Bool → Bool → Option EquipFault
 first_fault true no_digits out_of_range = Some Length
 first_fault false true out_of_range = Some NotDigit

@@ -9,18 +9,23 @@ first_from test k (suc count) = if test k then Some k else first_from test (suc 
 unfoldable pub first_below : (ℕ → Bool) → ℕ → Option ℕ
 first_below test count = first_from test 0 count
 
--- the number found is the first below `count` that passes the test; where none is found, none passes
+-- the number found is the first below `count` that passes the test; where none is found, none
+-- passes
 abbrev pub IsFirstBelow : (ℕ → Bool) → ℕ → Option ℕ → Type 0
 IsFirstBelow test count found =
     MatchOption found ((j : ℕ) → j < count → test j ≡ false)
     (λ first. (first < count) × (test first ≡ true) × ((j : ℕ) → j < first → test j ≡ false))
 
--- the number is the first after k and below `count` that passes the test; where none does, it is k again
+-- the number is the first after k and below `count` that passes the test; where none does, it is k
+-- again
 abbrev pub IsNextBelow : (ℕ → Bool) → ℕ → ℕ → ℕ → Type 0
 IsNextBelow test count k next =
     ((next ≡ k) × ((j : ℕ) → k < j → j < count → test j ≡ false))
-    ⊎ ((k < next) × (next < count) × (test next ≡ true) × ((j : ℕ) → k < j → j < next → test j ≡ false))
+    ⊎ ((k < next) × (next < count) × (test next ≡ true)
+    × ((j : ℕ) → k < j → j < next → test j ≡ false))
 
 -- the first number after k and below `count` that passes the test; k again, where none does
 abbrev pub next_below : (ℕ → Bool) → ℕ → ℕ → ℕ
-next_below test count k = unwrap_or (option_map (λ j. k + 1 + j) (first_below (λ j. test (k + 1 + j)) (count - (k + 1)))) k
+next_below test count k =
+    unwrap_or
+    (option_map (λ j. k + 1 + j) (first_below (λ j. test (k + 1 + j)) (count - (k + 1)))) k

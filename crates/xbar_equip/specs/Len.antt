@@ -21,7 +21,8 @@ pub record IsLine (line : Line) : Type 0 where
 abbrev pub is_line : Line → Bool
 is_line line = nat_lt line.frame 10 && nat_lt line.switch 10 && nat_lt line.x 30
 
--- a digit each: frame, horizontal group (the switch), vertical group and vertical file, with x = 5 * group + file
+-- a digit each: frame, horizontal group (the switch), vertical group and vertical file, with x = 5
+-- * group + file
 abbrev pub line_text : Line → List ℕ
 line_text line = digit line.frame ∷ digit line.switch ∷ digit (line.x / 5) ∷ digit (line.x % 5) ∷ []
 
@@ -37,4 +38,6 @@ line_eq a b = a.frame == b.frame && a.switch == b.switch && a.x == b.x
 
 -- by frame, then by switch, then by place: the order of the texts
 abbrev pub line_cmp : Line → Line → Ordering
-line_cmp a b = ordering_then (nat_cmp a.frame b.frame) (ordering_then (nat_cmp a.switch b.switch) (nat_cmp a.x b.x))
+line_cmp a b =
+    ordering_then (nat_cmp a.frame b.frame)
+    (ordering_then (nat_cmp a.switch b.switch) (nat_cmp a.x b.x))

@@ -37,11 +37,13 @@ link_text link = letters link.kind ++ digit link.frame ∷ digit link.at ∷ dig
 -- whether a text begins with the letters of a kind of link
 abbrev pub has_letters : List ℕ → Bool
 has_letters text =
-    starts_with nat_eq text (letters LineLink) || starts_with nat_eq text (letters Junctor) || starts_with nat_eq text (letters TrunkLink)
+    starts_with nat_eq text (letters LineLink) || starts_with nat_eq text (letters Junctor)
+    || starts_with nat_eq text (letters TrunkLink)
 
 -- what is wrong with a link's text: wrong letters count as bytes that are no digits
 abbrev pub link_fault : List ℕ → Option EquipFault
-link_fault text = first_fault (not (length text == 5)) (not (has_letters text && are_digits (drop 2 text))) false
+link_fault text =
+    first_fault (not (length text == 5)) (not (has_letters text && are_digits (drop 2 text))) false
 
 -- whether two kinds are one
 abbrev pub kind_eq : LinkKind → LinkKind → Bool

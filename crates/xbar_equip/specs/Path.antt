@@ -20,25 +20,46 @@ path_by line place channel = record { line = line; channel = channel; place = pl
 
 -- from the line's switch: the line link of the path's channel
 abbrev pub line_link : Path → Link
-line_link path = record { kind = LineLink; frame = path.line.frame; at = path.line.switch; channel = path.channel }
+line_link path = record {
+  kind = LineLink;
+  frame = path.line.frame;
+  at = path.line.switch;
+  channel = path.channel;
+}
 
 -- between the two frames: the junctor of the path's channel
 abbrev pub junctor : Path → Link
-junctor path = record { kind = Junctor; frame = path.line.frame; at = path.place.frame; channel = path.channel }
+junctor path = record {
+  kind = Junctor;
+  frame = path.line.frame;
+  at = path.place.frame;
+  channel = path.channel;
+}
 
 -- to the trunk's switch: the trunk link of the path's channel
 abbrev pub trunk_link : Path → Link
-trunk_link path = record { kind = TrunkLink; frame = path.place.frame; at = path.place.switch; channel = path.channel }
+trunk_link path = record {
+  kind = TrunkLink;
+  frame = path.place.frame;
+  at = path.place.switch;
+  channel = path.channel;
+}
 
--- two paths have a part in common: the line, the place, the line link, the junctor or the trunk link
+-- two paths have a part in common: the line, the place, the line link, the junctor or the trunk
+-- link
 abbrev pub SharesPart : Path → Path → Type 0
 SharesPart p q =
-    (p.line ≡ q.line) ⊎ (p.place ≡ q.place) ⊎ (line_link p ≡ line_link q) ⊎ (junctor p ≡ junctor q) ⊎ (trunk_link p ≡ trunk_link q)
+    (p.line ≡ q.line) ⊎ (p.place ≡ q.place) ⊎ (line_link p ≡ line_link q) ⊎ (junctor p ≡ junctor q)
+    ⊎ (trunk_link p ≡ trunk_link q)
 
 -- line, channel and place, joined by dashes, as `3041-0-417`
 abbrev pub path_text : Path → List ℕ
-path_text path = line_text path.line ++ codes "-" ++ channel_text path.channel ++ codes "-" ++ place_text path.place
+path_text path =
+    line_text path.line ++ codes "-" ++ channel_text path.channel ++ codes "-"
+    ++ place_text path.place
 
 -- by line, then by channel, then by place: the order of the texts
 abbrev pub path_cmp : Path → Path → Ordering
-path_cmp p q = ordering_then (line_cmp p.line q.line) (ordering_then (nat_cmp p.channel q.channel) (place_cmp p.place q.place))
+path_cmp p q =
+    ordering_then (line_cmp p.line q.line)
+    (ordering_then (nat_cmp p.channel q.channel) (place_cmp p.place q.place))

@@ -3,7 +3,8 @@ use Rattle.std.specs.Ordering.{nat_cmp, ordering_then}
 use Rattle.std.specs.declared.cmp.Ordering.{Ordering}
 use Rattle.xbar_equip.specs.Digits.{digit}
 
--- where a trunk or a register stands: a trunk link frame, a trunk switch of it, and an appearance on that switch
+-- where a trunk or a register stands: a trunk link frame, a trunk switch of it, and an appearance
+-- on that switch
 pub record TrunkPlace : Type 0 where
   pub frame : ℕ
   pub switch : ℕ
@@ -30,4 +31,5 @@ place_eq a b = a.frame == b.frame && a.switch == b.switch && a.appearance == b.a
 -- by frame, then by switch, then by appearance: the order of the texts
 abbrev pub place_cmp : TrunkPlace → TrunkPlace → Ordering
 place_cmp a b =
-    ordering_then (nat_cmp a.frame b.frame) (ordering_then (nat_cmp a.switch b.switch) (nat_cmp a.appearance b.appearance))
+    ordering_then (nat_cmp a.frame b.frame)
+    (ordering_then (nat_cmp a.switch b.switch) (nat_cmp a.appearance b.appearance))

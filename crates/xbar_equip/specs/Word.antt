@@ -3,8 +3,9 @@ use Rattle.xbar_equip.specs.Conn.{IsConn}
 use Rattle.xbar_equip.specs.declared.conn.Conn.{Conn}
 use Rattle.xbar_equip.specs.declared.conn.Conn.TheVariants.{Llf, Tlf, Group}
 
--- the office's shared words: of each line link frame ten line switches and ten junctor switches,
--- of each trunk link frame likewise, busy bits for each group, a word for each connector, and the turn word
+-- the office's shared words: of each line link frame ten line switches and ten junctor switches, of
+-- each trunk link frame likewise, busy bits for each group, a word for each connector, and the turn
+-- word
 pub data Word : Type 0 where
   LineSwitch : ℕ → ℕ → Word
   LineJunctor : ℕ → ℕ → Word

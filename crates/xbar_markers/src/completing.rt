@@ -126,7 +126,8 @@ impl<G: Gate + Drop> Worker<Desk, G> {
         requires kept { All HasDialTone share.old.kept.items }
         ensures ready { IsReady self.new.desk fabric.now }
         ensures kind { self.new.desk.kind ≡ Completing }
-        ensures tickets { (share.new.calls ≡ share.old.calls) × (share.new.tasks ≡ share.old.tasks) }
+        ensures tickets { (share.new.calls ≡ share.old.calls)
+            × (share.new.tasks ≡ share.old.tasks) }
         ensures none { OnOk result (share.new.kept.items ≡ []) }
         ensures served { OnOk result (HasServed self.old.desk share.old self.new.desk share.new) }
     {

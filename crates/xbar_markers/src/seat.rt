@@ -34,7 +34,8 @@ pub fn hire<G: Drop>(
 ) -> Result<Vec<Seat<Desk, G>>, AllocError>
     requires may { MayUse whole.old queues.now }
     requires gates { vec_len gates ≡ vec_len desks }
-    requires parts { (vec_len desks < whole.old.calls.parts) × (vec_len desks < whole.old.tasks.parts) }
+    requires parts { (vec_len desks < whole.old.calls.parts)
+        × (vec_len desks < whole.old.tasks.parts) }
     requires ready { All (λ desk. IsReady desk fabric.now) desks.items }
     ensures calls { OnOk result
         (whole.new.calls ≡ with_fewer_parts whole.old.calls (vec_len desks)) }

@@ -11,7 +11,8 @@ use Rattle.xbar_switch.specs.Field.{field_of}
 use Rattle.xbar_switch.specs.declared.shape.Shape.{Shape}
 use Rattle.xbar_switch.specs.declared.shape.Shape.TheVariants.{Line as LineShape, Other}
 
--- the words that a channel test looks at: the line switch, the ten line junctor switches of its frame, and the trunk switch
+-- the words that a channel test looks at: the line switch, the ten line junctor switches of its
+-- frame, and the trunk switch
 pub record MatchWords : Type 0 where
   pub line : ℕ
   pub junctors : List ℕ
@@ -24,18 +25,28 @@ match_words line junctors trunk = record { line = line; junctors = junctors; tru
 -- whether a channel's three fields are open, with trunk link frame t
 abbrev pub is_open_channel : MatchWords → ℕ → ℕ → Bool
 is_open_channel words t n =
-    field_of LineShape words.line n == 0 && field_of Other (slice_index words.junctors n) t == 0 && field_of Other words.trunk n == 0
+    field_of LineShape words.line n == 0 && field_of Other (slice_index words.junctors n) t == 0
+    && field_of Other words.trunk n == 0
 
 -- the first channel from the start on, round ten, whose three fields are open
 abbrev pub first_open_channel : MatchWords → ℕ → ℕ → Option ℕ
 first_open_channel words t start =
-    option_map (channel_in_turn start) (first_below (λ k. is_open_channel words t (channel_in_turn start k)) 10)
+    option_map (channel_in_turn start)
+    (first_below (λ k. is_open_channel words t (channel_in_turn start k)) 10)
 
--- the three links of each channel between line and place are idle exactly where their fields are open
-pub record ShowsLinks (words : MatchWords) (paths : List Path) (line : Line) (place : TrunkPlace) : Type 0 where
-  pub line_links : (n : ℕ) → n < 10 → is_idle (has_link (line_link (path_by line place n))) paths ≡ (field_of LineShape words.line n == 0)
-  pub junctors : (n : ℕ) → n < 10 → is_idle (has_link (junctor (path_by line place n))) paths ≡ (field_of Other (slice_index words.junctors n) place.frame == 0)
-  pub trunk_links : (n : ℕ) → n < 10 → is_idle (has_link (trunk_link (path_by line place n))) paths ≡ (field_of Other words.trunk n == 0)
+-- the three links of each channel between line and place are idle exactly where their fields are
+-- open
+pub record ShowsLinks (words : MatchWords) (paths : List Path) (line : Line)
+    (place : TrunkPlace) : Type 0 where
+  pub line_links : (n : ℕ) → n < 10
+      → is_idle (has_link (line_link (path_by line place n))) paths
+      ≡ (field_of LineShape words.line n == 0)
+  pub junctors : (n : ℕ) → n < 10
+      → is_idle (has_link (junctor (path_by line place n))) paths
+      ≡ (field_of Other (slice_index words.junctors n) place.frame == 0)
+  pub trunk_links : (n : ℕ) → n < 10
+      → is_idle (has_link (trunk_link (path_by line place n))) paths
+      ≡ (field_of Other words.trunk n == 0)
 
 -- bit n tells whether field n of the word is open, for the ten fields, and no other bit is set
 pub record TellsOpenFields (shape : Shape) (word bits : ℕ) : Type 0 where

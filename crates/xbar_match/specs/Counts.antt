@@ -16,7 +16,8 @@ closed_fields shape word = sum_below (λ v. if field_of shape word v == 0 then 0
 
 -- how many fields of the hundred line switches are closed
 abbrev pub closed_line_fields : List ℕ → ℕ
-closed_line_fields words = sum_below (λ k. closed_fields Line (word_of words (LineSwitch (k / 10) (k % 10)))) 100
+closed_line_fields words =
+    sum_below (λ k. closed_fields Line (word_of words (LineSwitch (k / 10) (k % 10)))) 100
 
 -- how many fields of all 400 switches are closed
 abbrev pub closed_switch_fields : List ℕ → ℕ

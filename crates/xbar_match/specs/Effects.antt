@@ -6,7 +6,8 @@ use Rattle.xbar_switch.specs.Shape.{places}
 use Rattle.xbar_switch.specs.Field.{with_closed, with_open}
 use Rattle.xbar_match.specs.Switches.{shape_at, held_at}
 
--- a crosspoint of the office: one of a switch's ten fields, with a value that stands for one of its places
+-- a crosspoint of the office: one of a switch's ten fields, with a value that stands for one of its
+-- places
 pub record IsCrosspoint (c : Crosspoint) : Type 0 where
   pub word : c.word < 400
   pub field : c.field < 10

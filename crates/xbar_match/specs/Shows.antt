@@ -15,10 +15,13 @@ AreInRange paths = (path : Path) → IsIn path paths → IsPath path
 abbrev pub IsClosedIn : List Path → Crosspoint → Type 0
 IsClosedIn paths c = (path : Path) × IsIn path paths × IsIn c (crosspoints path)
 
--- the word of switch n shows what is closed: each closed crosspoint is what its field holds, all other fields are 0, and nothing stands above the fields
+-- the word of switch n shows what is closed: each closed crosspoint is what its field holds, all
+-- other fields are 0, and nothing stands above the fields
 pub record WordShows (IsClosed : Crosspoint → Type 0) (n word : ℕ) : Type 0 where
-  pub closed : (c : Crosspoint) → IsClosed c → c.word ≡ n → field_of (shape_at n) word c.field ≡ c.value
-  pub others : (v : ℕ) → v < 10 → (field_of (shape_at n) word v ≡ 0) ⊎ IsClosed (record { word = n; field = v; value = field_of (shape_at n) word v })
+  pub closed : (c : Crosspoint) → IsClosed c → c.word ≡ n
+      → field_of (shape_at n) word c.field ≡ c.value
+  pub others : (v : ℕ) → v < 10 → (field_of (shape_at n) word v ≡ 0)
+      ⊎ IsClosed (record { word = n; field = v; value = field_of (shape_at n) word v })
   pub above : above_fields (shape_at n) word ≡ 0
 
 -- the 400 switch words show the paths; what stands behind them plays no part

@@ -4,7 +4,8 @@ use Rattle.xbar_switch.specs.Field.{field_of}
 use Rattle.xbar_switch.specs.declared.shape.Shape.{Shape}
 use Rattle.xbar_switch.specs.declared.shape.Shape.TheVariants.{Line, Other}
 
--- the shape of switch number n, of 400: the first ten of each twenty on the line side are line switches
+-- the shape of switch number n, of 400: the first ten of each twenty on the line side are line
+-- switches
 unfoldable pub shape_at : ℕ → Shape
 shape_at n = if nat_lt n 200 && nat_lt (n % 20) 10 then Line else Other
 

@@ -28,23 +28,27 @@ place_at_field shape word v = place_told shape (field_of shape word v)
 -- a line's path, once channel, trunk link frame and trunk switch are known
 abbrev pub traced_at : List ℕ → Line → ℕ → ℕ → ℕ → Option Path
 traced_at words line channel frame switch =
-    option_map (λ appearance. path_by line (record { frame = frame; switch = switch; appearance = appearance }) channel)
+    option_map (λ appearance. path_by line
+    (record { frame = frame; switch = switch; appearance = appearance }) channel)
     (place_at_field Other (word_of words (TrunkSwitch frame switch)) channel)
 
 -- once channel and trunk link frame are known
 abbrev pub traced_to : List ℕ → Line → ℕ → ℕ → Option Path
 traced_to words line channel frame =
-    option_and_then (traced_at words line channel frame) (place_at_field Other (word_of words (TrunkJunctor frame channel)) line.frame)
+    option_and_then (traced_at words line channel frame)
+    (place_at_field Other (word_of words (TrunkJunctor frame channel)) line.frame)
 
 -- once the channel is known
 abbrev pub traced_by : List ℕ → Line → ℕ → Option Path
 traced_by words line channel =
-    option_and_then (traced_to words line channel) (field_at_place Other (word_of words (LineJunctor line.frame channel)) line.switch)
+    option_and_then (traced_to words line channel)
+    (field_at_place Other (word_of words (LineJunctor line.frame channel)) line.switch)
 
 -- the path that the words join a line to, from switch to switch
 abbrev pub traced : List ℕ → Line → Option Path
 traced words line =
-    option_and_then (traced_by words line) (field_at_place LineShape (word_of words (LineSwitch line.frame line.switch)) line.x)
+    option_and_then (traced_by words line)
+    (field_at_place LineShape (word_of words (LineSwitch line.frame line.switch)) line.x)
 
 -- a place's path, once channel, line link frame and line switch are known
 abbrev pub traced_back_at : List ℕ → TrunkPlace → ℕ → ℕ → ℕ → Option Path
@@ -55,14 +59,17 @@ traced_back_at words place channel frame switch =
 -- once channel and line link frame are known
 abbrev pub traced_back_to : List ℕ → TrunkPlace → ℕ → ℕ → Option Path
 traced_back_to words place channel frame =
-    option_and_then (traced_back_at words place channel frame) (place_at_field Other (word_of words (LineJunctor frame channel)) place.frame)
+    option_and_then (traced_back_at words place channel frame)
+    (place_at_field Other (word_of words (LineJunctor frame channel)) place.frame)
 
 -- once the channel is known
 abbrev pub traced_back_by : List ℕ → TrunkPlace → ℕ → Option Path
 traced_back_by words place channel =
-    option_and_then (traced_back_to words place channel) (field_at_place Other (word_of words (TrunkJunctor place.frame channel)) place.switch)
+    option_and_then (traced_back_to words place channel)
+    (field_at_place Other (word_of words (TrunkJunctor place.frame channel)) place.switch)
 
 -- the path that the words join a trunk place to, from switch to switch
 abbrev pub traced_back : List ℕ → TrunkPlace → Option Path
 traced_back words place =
-    option_and_then (traced_back_by words place) (field_at_place Other (word_of words (TrunkSwitch place.frame place.switch)) place.appearance)
+    option_and_then (traced_back_by words place)
+    (field_at_place Other (word_of words (TrunkSwitch place.frame place.switch)) place.appearance)

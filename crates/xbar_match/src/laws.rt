@@ -95,7 +95,8 @@ pub fn closing_a_path_adds_it()
         → has_idle_links paths path ≡ true → EachCloses words (crosspoints path) }
     ensures set { (words : List ℕ) (paths : List Path) (path : Path) → 400 ≤ length words →
         ShowsPaths words paths → AreInRange paths → IsPath path
-        → has_idle_links paths path ≡ true → ShowsPaths (close_path words path) (with_path paths path) }
+        → has_idle_links paths path ≡ true
+        → ShowsPaths (close_path words path) (with_path paths path) }
 {}
 
 /// Opening the crosspoints of one of the paths: each of them is closed, and the words then show the set

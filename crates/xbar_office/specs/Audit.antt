@@ -14,12 +14,16 @@ pub record IsFirstWrongTurn (records : List Record) (place : ℕ) : Type 0 where
 -- the record at this place, and none before it, hasn't the reply of the one-marker office
 pub record IsFirstWrongReply (plan : Tables) (records : List Record) (place : ℕ) : Type 0 where
   pub before : HaveReplies plan [] (take place records)
-  pub here : IsSomeAnd (slice_get records place) (λ r. r.reply ≢ (whole plan (after plan (take place records)) r.job).reply)
+  pub here : IsSomeAnd (slice_get records place)
+      (λ r. r.reply ≢ (whole plan (after plan (take place records)) r.job).reply)
 
--- some record, with none before it that has a wrong reply, is of a job that makes the set longer: only there can memory be refused
+-- some record, with none before it that has a wrong reply, is of a job that makes the set longer:
+-- only there can memory be refused
 pub record GrowsAt (plan : Tables) (records : List Record) (place : ℕ) : Type 0 where
   pub before : HaveReplies plan [] (take place records)
-  pub here : IsSomeAnd (slice_get records place) (λ r. length (after plan (take place records)) < length (whole plan (after plan (take place records)) r.job).paths)
+  pub here : IsSomeAnd (slice_get records place)
+      (λ r. length (after plan (take place records))
+      < length (whole plan (after plan (take place records)) r.job).paths)
 
 -- what is wrong with records: the turns are looked at first, then the replies in the order of turns
 abbrev pub IsFaultOf : Tables → List Record → AuditFault → Type 0

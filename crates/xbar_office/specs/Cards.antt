@@ -28,7 +28,10 @@ card_eq-exact a b = (one, same) where
       λ i. record { trial = trial i; link = link i }
 
   same : a ≡ b → card_eq a b ≡ true
-  same e = both_hold (a.trial == b.trial) (link_eq a.link b.link) (eq-eqb a.trial b.trial (ap (λ (c : Card). c.trial) e)) ((link_eq-exact a.link b.link).1 (ap (λ (c : Card). c.link) e))
+  same e =
+      both_hold (a.trial == b.trial) (link_eq a.link b.link)
+      (eq-eqb a.trial b.trial (ap (λ (c : Card). c.trial) e))
+      ((link_eq-exact a.link b.link).1 (ap (λ (c : Card). c.link) e))
 
 -- so the tests of cards and of lists of cards are equivalences
 pub cards-equivalence : IsEquivalence cards_eq

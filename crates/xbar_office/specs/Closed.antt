@@ -11,4 +11,6 @@ closed paths = flat_map crosspoints paths
 -- no two of the crosspoints are at one field of one word
 abbrev pub NamesFieldsOnce : List Crosspoint → Type 0
 NamesFieldsOnce [] = Unit {0}
-NamesFieldsOnce (c ∷ others) = ((d : Crosspoint) → IsIn d others → c.word ≡ d.word → c.field ≡ d.field → ⊥) × NamesFieldsOnce others
+NamesFieldsOnce (c ∷ others) =
+    ((d : Crosspoint) → IsIn d others → c.word ≡ d.word → c.field ≡ d.field → ⊥)
+    × NamesFieldsOnce others

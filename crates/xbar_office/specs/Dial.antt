@@ -14,10 +14,13 @@ use Rattle.xbar_office.specs.declared.reply.End.TheVariants.{LineBusy, Registers
 abbrev pub dial_register : Tables → List Path → Line → List Member → Option ℕ → Done
 dial_register plan paths line registers None = refused paths RegistersBusy
 dial_register plan paths line registers (Some first) =
-    tried aim.DialTone paths (two_trials plan paths (record { calling = line; called = None }) registers first)
+    tried aim.DialTone paths
+    (two_trials plan paths (record { calling = line; called = None }) registers first)
 
 -- a dial tone job: a line that is in no path gets an idle register, and a path to it
 abbrev pub dial : Tables → List Path → Line → Done
 dial plan paths line =
     let registers = members_of plan (register_group plan) in
-    if is_idle (has_line line) paths then dial_register plan paths line registers (first_idle paths registers) else refused paths LineBusy
+    if is_idle (has_line line) paths
+    then dial_register plan paths line registers (first_idle paths registers)
+    else refused paths LineBusy

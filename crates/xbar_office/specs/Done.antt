@@ -34,4 +34,7 @@ chosen_paths choice = option_map (λ c. c.paths) choice
 
 -- a job that makes trials leaves the set with what they chose
 abbrev pub tried : Aim → List Path → Trials → Done
-tried aim paths trials = record { paths = with_added paths (chosen_paths trials.choice); reply = trials_reply aim trials }
+tried aim paths trials = record {
+  paths = with_added paths (chosen_paths trials.choice);
+  reply = trials_reply aim trials;
+}

@@ -16,7 +16,8 @@ pub record IsMembersPlace (plan : Tables) (place : TrunkPlace) : Type 0 where
   pub listed : member_at plan group index ≡ Some member
   pub stands : stands_at member place ≡ true
 
--- each path ends at a member's place, and no two paths share a part: what single paths that come and go leave so
+-- each path ends at a member's place, and no two paths share a part: what single paths that come
+-- and go leave so
 pub record IsOrderlySet (plan : Tables) (paths : List Path) : Type 0 where
   pub set : IsSet paths
   pub ranges : (path : Path) → IsIn path paths → IsPath path
@@ -26,11 +27,14 @@ pub record IsOrderlySet (plan : Tables) (paths : List Path) : Type 0 where
 -- of a pair both places have a path, or neither has
 abbrev pub HasBothOrNone : List Path → Member → Type 0
 HasBothOrNone paths member =
-    (second : TrunkPlace) → member.second ≡ Some second → is_idle (has_place member.first) paths ≡ is_idle (has_place second) paths
+    (second : TrunkPlace) → member.second ≡ Some second
+    → is_idle (has_place member.first) paths ≡ is_idle (has_place second) paths
 
 -- and so it is with each member of the plan
 abbrev pub HasWholePairs : Tables → List Path → Type 0
-HasWholePairs plan paths = (group index : ℕ) (member : Member) → member_at plan group index ≡ Some member → HasBothOrNone paths member
+HasWholePairs plan paths =
+    (group index : ℕ) (member : Member) → member_at plan group index ≡ Some member
+    → HasBothOrNone paths member
 
 -- a set that an office may have
 pub record IsLawfulSet (plan : Tables) (paths : List Path) : Type 0 where

@@ -36,12 +36,16 @@ abbrev pub HaveTurns : ℕ → List Record → Type 0
 HaveTurns turn [] = Unit {0}
 HaveTurns turn (r ∷ records) = (r.turn ≡ turn) × HaveTurns (turn + 1) records
 
--- each record has the reply of the one-marker office, on the set that this one becomes by the records before it
+-- each record has the reply of the one-marker office, on the set that this one becomes by the
+-- records before it
 abbrev pub HaveReplies : Tables → List Path → List Record → Type 0
 HaveReplies plan paths [] = Unit {0}
-HaveReplies plan paths (r ∷ records) = (r.reply ≡ (whole plan paths r.job).reply) × HaveReplies plan (whole plan paths r.job).paths records
+HaveReplies plan paths (r ∷ records) =
+    (r.reply ≡ (whole plan paths r.job).reply)
+    × HaveReplies plan (whole plan paths r.job).paths records
 
--- a legal list of records: jobs that there are, the turns from 0 on, and the replies of an office that begins with the empty set
+-- a legal list of records: jobs that there are, the turns from 0 on, and the replies of an office
+-- that begins with the empty set
 pub record IsLegal (plan : Tables) (records : List Record) : Type 0 where
   pub jobs : AreJobs (jobs_of records)
   pub turns : HaveTurns 0 records

@@ -18,7 +18,8 @@ is_member_idle paths member = list_all (λ place. is_idle (has_place place) path
 
 -- whether the member of this number is idle
 abbrev pub is_idle_at : List Path → List Member → ℕ → Bool
-is_idle_at paths members index = option_map_or (is_member_idle paths) (slice_get members index) false
+is_idle_at paths members index =
+    option_map_or (is_member_idle paths) (slice_get members index) false
 
 -- the first idle one of a group's members
 abbrev pub first_idle : List Path → List Member → Option ℕ

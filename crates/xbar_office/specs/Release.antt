@@ -15,7 +15,10 @@ without_other paths (Some other) = without_path paths other
 
 -- a line's own path goes, and the other party's with it
 abbrev pub release_paths : List Path → Path → Option Path → Done
-release_paths paths own other = record { paths = without_other (without_path paths own) other; reply = plain_reply (Released own other) }
+release_paths paths own other = record {
+  paths = without_other (without_path paths own) other;
+  reply = plain_reply (Released own other);
+}
 
 abbrev pub release_from : Tables → List Path → Option Path → Done
 release_from plan paths None = refused paths NoCall

@@ -29,4 +29,5 @@ trials_end aim (Some choice) cards = success_end aim choice
 
 -- the reply to a job that made trials
 abbrev pub trials_reply : Aim → Trials → Reply
-trials_reply aim trials = record { end = trials_end aim trials.choice trials.cards; cards = trials.cards }
+trials_reply aim trials =
+    record { end = trials_end aim trials.choice trials.cards; cards = trials.cards }

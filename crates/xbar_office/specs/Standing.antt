@@ -16,7 +16,8 @@ path_at paths place = find (has_place place) paths
 
 -- a path ends at a register where its place is of a member of the register group
 abbrev pub ends_at_register : Tables → Path → Bool
-ends_at_register plan path = option_map_or (λ found. found.group == register_group plan) (member_place plan path.place) false
+ends_at_register plan path =
+    option_map_or (λ found. found.group == register_group plan) (member_place plan path.place) false
 
 -- a path, if it ends at a register
 abbrev pub if_register : Tables → Path → Option Path
@@ -28,4 +29,6 @@ register_path plan paths line = option_and_then (if_register plan) (path_of path
 
 -- the path of the other party, where a path's place is of a pair
 abbrev pub other_path : Tables → List Path → Path → Option Path
-other_path plan paths own = option_and_then (path_at paths) (option_and_then (λ found. found.other) (member_place plan own.place))
+other_path plan paths own =
+    option_and_then (path_at paths)
+    (option_and_then (λ found. found.other) (member_place plan own.place))

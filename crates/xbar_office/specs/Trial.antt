@@ -17,22 +17,27 @@ calling_leg parties member = record { line = parties.calling; place = member.fir
 
 -- the called line, if there is one, is to be joined to the second place of a pair
 abbrev pub called_leg : Parties → Member → Option Leg
-called_leg parties member = option_and_then (λ line. option_map (λ place. record { line = line; place = place }) member.second) parties.called
+called_leg parties member =
+    option_and_then (λ line. option_map
+    (λ place. record { line = line; place = place }) member.second) parties.called
 
 -- the path for a leg, by the channel test
 abbrev pub leg_path : List Path → ℕ → Leg → Option Path
-leg_path paths start leg = option_map (path_by leg.line leg.place) (channel_test paths leg.line leg.place start)
+leg_path paths start leg =
+    option_map (path_by leg.line leg.place) (channel_test paths leg.line leg.place start)
 
 -- the called line's leg is matched once the calling path was added, with the same start
 abbrev pub with_called : List Path → ℕ → Option Leg → Path → Option CallPaths
 with_called paths start None calling = Some (record { calling = calling; called = None })
 with_called paths start (Some leg) calling =
-    option_map (λ called. record { calling = calling; called = Some called }) (leg_path (with_path paths calling) start leg)
+    option_map (λ called. record { calling = calling; called = Some called })
+    (leg_path (with_path paths calling) start leg)
 
 -- the paths that join the parties to the member, where each of them finds a channel
 abbrev pub matched : List Path → ℕ → Parties → Member → Option CallPaths
 matched paths start parties member =
-    option_and_then (with_called paths start (called_leg parties member)) (leg_path paths start (calling_leg parties member))
+    option_and_then (with_called paths start (called_leg parties member))
+    (leg_path paths start (calling_leg parties member))
 
 -- a path's links in the order in which they are looked up in the fault list
 abbrev pub links : Path → List Link
@@ -48,9 +53,11 @@ abbrev pub faulty_or_chosen : CallPaths → Option Link → TrialEnd
 faulty_or_chosen call None = Chosen call
 faulty_or_chosen call (Some link) = Faulty link
 
--- chosen paths are looked through for the first link that is out of order, the calling path's links first
+-- chosen paths are looked through for the first link that is out of order, the calling path's links
+-- first
 abbrev pub end_of_chosen : Tables → CallPaths → TrialEnd
-end_of_chosen plan call = faulty_or_chosen call (find (is_faulty plan) (links call.calling ++ called_links call.called))
+end_of_chosen plan call =
+    faulty_or_chosen call (find (is_faulty plan) (links call.calling ++ called_links call.called))
 
 -- a trial ends without a channel, or as its chosen paths are
 abbrev pub end_of : Tables → Option CallPaths → TrialEnd

@@ -19,7 +19,8 @@ leads_inside plan groups = list_all (is_group is_intra plan.groups) groups
 
 -- the first of a number's lines that isn't the calling one and is idle
 abbrev pub called_line : List Path → Line → List Line → Option Line
-called_line paths calling lines = find (λ line. not (line_eq line calling) && is_idle (has_line line) paths) lines
+called_line paths calling lines =
+    find (λ line. not (line_eq line calling) && is_idle (has_line line) paths) lines
 
 -- a group's first idle member; where it has none, what the next groups have
 abbrev pub trunk_or : ℕ → Option ℕ → Option IdleTrunk → Option IdleTrunk
@@ -29,4 +30,5 @@ trunk_or group (Some first) next = Some (record { group = group; first = first }
 -- the first of the groups that has an idle member, and its first one
 abbrev pub idle_trunk : Tables → List Path → List ℕ → Option IdleTrunk
 idle_trunk plan paths [] = None
-idle_trunk plan paths (group ∷ groups) = trunk_or group (first_idle paths (members_of plan group)) (idle_trunk plan paths groups)
+idle_trunk plan paths (group ∷ groups) =
+    trunk_or group (first_idle paths (members_of plan group)) (idle_trunk plan paths groups)

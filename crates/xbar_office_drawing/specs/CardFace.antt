@@ -15,8 +15,10 @@ card_height = 250
 -- the edges of a card; its upper left corner is cut
 unfoldable pub edges : List Figure
 edges =
-    stroke (point 64 10) (point 574 10) (codes "edge") ∷ stroke (point 574 10) (point 574 240) (codes "edge")
-    ∷ stroke (point 574 240) (point 40 240) (codes "edge") ∷ stroke (point 40 240) (point 40 34) (codes "edge")
+    stroke (point 64 10) (point 574 10) (codes "edge")
+    ∷ stroke (point 574 10) (point 574 240) (codes "edge")
+    ∷ stroke (point 574 240) (point 40 240) (codes "edge")
+    ∷ stroke (point 40 240) (point 40 34) (codes "edge")
     ∷ stroke (point 40 34) (point 64 10) (codes "edge") ∷ []
 
 -- how a place of a card looks, punched or not
@@ -28,11 +30,14 @@ punch x y punched = box (point x y) 9 15 (punch_class punched)
 
 -- a number of the card, below its name
 unfoldable pub entry : ℕ → List ℕ → ℕ → List Figure
-entry left name value = words (point left 66) (codes "small") name ∷ words (point left 84) (codes "plain") (decimal value) ∷ []
+entry left name value =
+    words (point left 66) (codes "small") name
+    ∷ words (point left 84) (codes "plain") (decimal value) ∷ []
 
 -- what a card tells
 abbrev pub told_words : OwnedCard → Figure
-told_words owned = words (point 550 40) (codes "told") (link_text owned.card.link ++ codes " is faulty")
+told_words owned =
+    words (point 550 40) (codes "told") (link_text owned.card.link ++ codes " is faulty")
 
 -- which link is faulty
 unfoldable pub card_title : OwnedCard → List Figure
@@ -40,15 +45,21 @@ card_title owned = words (point 90 40) (codes "big") (codes "TROUBLE") ∷ told_
 
 -- whose card it is, and in which trial the link was met
 unfoldable pub card_owner : OwnedCard → List Figure
-card_owner owned = entry 90 (codes "turn") owned.turn ++ entry 270 (codes "job") owned.job_no ++ entry 380 (codes "marker") owned.marker ++ entry 470 (codes "trial") owned.card.trial
+card_owner owned =
+    entry 90 (codes "turn") owned.turn ++ entry 270 (codes "job") owned.job_no
+    ++ entry 380 (codes "marker") owned.marker ++ entry 470 (codes "trial") owned.card.trial
 
 -- a kind of link, punched if it is this one
 unfoldable pub kind_place : ℕ → List ℕ → Bool → List Figure
-kind_place column name punched = punch (210 + 110 * column) 102 punched ∷ words (point (226 + 110 * column) 114) (codes "small") name ∷ []
+kind_place column name punched =
+    punch (210 + 110 * column) 102 punched
+    ∷ words (point (226 + 110 * column) 114) (codes "small") name ∷ []
 
 unfoldable pub kind_places : LinkKind → List Figure
 kind_places kind =
-    kind_place 0 (codes "line link") (kind_eq kind LineLink) ++ kind_place 1 (codes "junctor") (kind_eq kind Junctor) ++ kind_place 2 (codes "trunk link") (kind_eq kind TrunkLink)
+    kind_place 0 (codes "line link") (kind_eq kind LineLink)
+    ++ kind_place 1 (codes "junctor") (kind_eq kind Junctor)
+    ++ kind_place 2 (codes "trunk link") (kind_eq kind TrunkLink)
 
 -- the digits above the rows of ten places
 unfoldable pub digit_head : ℕ → Figure
@@ -61,7 +72,8 @@ digit_punch y digit place = punch (210 + 34 * place) y (place == digit)
 -- a digit in a row of ten places
 unfoldable pub digit_places : ℕ → List ℕ → ℕ → List Figure
 digit_places row name digit =
-    words (point 194 (162 + 28 * row)) (codes "small end") name ∷ map (digit_punch (150 + 28 * row) digit) (range_with_len 0 10)
+    words (point 194 (162 + 28 * row)) (codes "small end") name
+    ∷ map (digit_punch (150 + 28 * row) digit) (range_with_len 0 10)
 
 -- what the first two digits of a link are
 abbrev pub first_name : LinkKind → List ℕ
@@ -77,9 +89,12 @@ second_name TrunkLink = codes "trunk switch"
 -- the link as it is punched: its kind, and a row for each of its digits
 unfoldable pub link_places : Link → List Figure
 link_places link =
-    kind_places link.kind ++ map digit_head (range_with_len 0 10) ++ digit_places 0 (first_name link.kind) link.frame
-    ++ digit_places 1 (second_name link.kind) link.at ++ digit_places 2 (codes "channel") link.channel
+    kind_places link.kind ++ map digit_head (range_with_len 0 10)
+    ++ digit_places 0 (first_name link.kind) link.frame
+    ++ digit_places 1 (second_name link.kind) link.at
+    ++ digit_places 2 (codes "channel") link.channel
 
 -- a card
 unfoldable pub card_face : OwnedCard → List Figure
-card_face owned = sheet card_height ∷ edges ++ card_title owned ++ card_owner owned ++ link_places owned.card.link
+card_face owned =
+    sheet card_height ∷ edges ++ card_title owned ++ card_owner owned ++ link_places owned.card.link

@@ -16,7 +16,8 @@ use Rattle.xbar_office_drawing.specs.OfficeMap.{map_height, office_map}
 
 -- a card with whose it is, and so all cards of records
 abbrev pub owned_by : Record → Card → OwnedCard
-owned_by owner card = record { turn = owner.turn; job_no = owner.job_no; marker = owner.marker; card = card }
+owned_by owner card =
+    record { turn = owner.turn; job_no = owner.job_no; marker = owner.marker; card = card }
 
 abbrev pub cards_in : Record → List OwnedCard
 cards_in owner = map (owned_by owner) owner.reply.cards
@@ -35,7 +36,8 @@ path_picture plan path = sheet path_height ∷ frames_picture plan path ++ grids
 -- pictures of one height, each below the one before
 unfoldable pub stacked : ℕ → ℕ → List (List Figure) → List Part
 stacked height down [] = []
-stacked height down (figures ∷ more) = record { down = down; figures = figures } ∷ stacked height (down + height) more
+stacked height down (figures ∷ more) =
+    record { down = down; figures = figures } ∷ stacked height (down + height) more
 
 -- how far down the cards begin, and the drawing ends, by how many paths and cards there are
 abbrev pub cards_top : ℕ → ℕ
@@ -44,10 +46,13 @@ cards_top paths = map_height + path_height * paths
 abbrev pub drawing_height : ℕ → ℕ → ℕ
 drawing_height paths cards = cards_top paths + card_height * cards
 
--- the parts of a picture: all paths at a glance, those that are shown, each through its frames with its four switches, and the cards
+-- the parts of a picture: all paths at a glance, those that are shown, each through its frames with
+-- its four switches, and the cards
 unfoldable pub picture_parts : Tables → List Path → List Path → List OwnedCard → List Part
 picture_parts plan paths shown cards =
-    record { down = 0; figures = office_map plan paths } ∷ stacked path_height map_height (map (path_picture plan) shown) ++ stacked card_height (cards_top (length shown)) (map card_face cards)
+    record { down = 0; figures = office_map plan paths }
+    ∷ stacked path_height map_height (map (path_picture plan) shown)
+    ++ stacked card_height (cards_top (length shown)) (map card_face cards)
 
 -- how each class looks
 abbrev pub style : List ℕ
@@ -56,12 +61,14 @@ style = codes "text{font:12px Helvetica,Arial,'DejaVu Sans',sans-serif}.sheet{fi
 -- a picture whose style sheet stands elsewhere
 unfoldable pub picture_of : Tables → List Path → List Path → List OwnedCard → List ℕ
 picture_of plan paths shown cards =
-    concat (open_text sheet_width (drawing_height (length shown) (length cards)) ∷ flat_map part_text (picture_parts plan paths shown cards) ∷ foot_text ∷ [])
+    concat (open_text sheet_width (drawing_height (length shown) (length cards))
+    ∷ flat_map part_text (picture_parts plan paths shown cards) ∷ foot_text ∷ [])
 
 -- a drawing: a picture that shows each path, with its style sheet
 unfoldable pub drawing_of : Tables → List Path → List OwnedCard → List ℕ
 drawing_of plan paths cards =
-    concat (head_text sheet_width (drawing_height (length paths) (length cards)) style ∷ flat_map part_text (picture_parts plan paths paths cards) ∷ foot_text ∷ [])
+    concat (head_text sheet_width (drawing_height (length paths) (length cards)) style
+    ∷ flat_map part_text (picture_parts plan paths paths cards) ∷ foot_text ∷ [])
 
 -- an office after its records, with all cards that are among them
 abbrev pub office_drawing : Tables → List Path → List Record → List ℕ

@@ -1,4 +1,5 @@
--- A path through its two frames: four columns of ten switches, the links between them, and the path.
+-- A path through its two frames: four columns of ten switches, the links between them, and the
+-- path.
 use Rattle.std.specs.Prelude.{ℕ, ◌+◌, ◌*◌, ◌/◌, ◌-◌, ◌==◌, List, [], ◌∷◌, ◌++◌, codes, decimal, flat_map, if◌then◌else◌}
 use Rattle.std.specs.List.{concat, range_with_len}
 use Rattle.svg.specs.Figure.{Figure}
@@ -23,15 +24,20 @@ switch_class used number = if number == used then codes "used" else codes "switc
 
 unfoldable pub switch_box : ℕ → ℕ → ℕ → List Figure
 switch_box left used number =
-    box (point left (row_at number - 11)) 70 22 (switch_class used number) ∷ words (point (left + 35) (row_at number + 4)) (codes "middle") (decimal number) ∷ []
+    box (point left (row_at number - 11)) 70 22 (switch_class used number)
+    ∷ words (point (left + 35) (row_at number + 4)) (codes "middle") (decimal number) ∷ []
 
 -- ten of them, of which the path uses one, below what they are
 unfoldable pub column : ℕ → List ℕ → ℕ → List Figure
-column left name used = words (point (left + 35) 82) (codes "small middle") name ∷ flat_map (switch_box left used) (range_with_len 0 10)
+column left name used =
+    words (point (left + 35) 82) (codes "small middle") name
+    ∷ flat_map (switch_box left used) (range_with_len 0 10)
 
 -- the edges of a frame, and its name
 unfoldable pub frame : ℕ → List ℕ → ℕ → List Figure
-frame left name number = box (point left 46) 330 356 (codes "frame") ∷ words (point (left + 165) 64) (codes "middle") (name ++ decimal number) ∷ []
+frame left name number =
+    box (point left 46) 330 356 (codes "frame")
+    ∷ words (point (left + 165) 64) (codes "middle") (name ++ decimal number) ∷ []
 
 -- how a link looks that no path of the picture takes: one that is out of order is dashed
 abbrev pub link_class : Tables → Link → List ℕ
@@ -41,9 +47,12 @@ link_class plan link = if is_faulty plan link then codes "fault" else codes "idl
 unfoldable pub links_of : Tables → Path → ℕ → List Figure
 links_of plan path channel =
     let other = path_by path.line path.place channel in
-    stroke (point 200 (row_at path.line.switch)) (point 350 (row_at channel)) (link_class plan (line_link other))
-    ∷ stroke (point 420 (row_at channel)) (point 540 (row_at channel)) (link_class plan (junctor other))
-    ∷ stroke (point 610 (row_at channel)) (point 760 (row_at path.place.switch)) (link_class plan (trunk_link other)) ∷ []
+    stroke (point 200 (row_at path.line.switch)) (point 350 (row_at channel))
+    (link_class plan (line_link other))
+    ∷ stroke (point 420 (row_at channel)) (point 540 (row_at channel))
+    (link_class plan (junctor other))
+    ∷ stroke (point 610 (row_at channel)) (point 760 (row_at path.place.switch))
+    (link_class plan (trunk_link other)) ∷ []
 
 -- the path: its line, the three links, and what stands at its place
 unfoldable pub path_strokes : Tables → Path → List Figure
@@ -52,8 +61,11 @@ path_strokes plan path =
     let channel = row_at path.channel in
     let place = row_at path.place.switch in
     let class = use_class plan path in
-    stroke (point 40 line) (point 130 line) class ∷ stroke (point 200 line) (point 350 channel) class ∷ stroke (point 420 channel) (point 540 channel) class
-    ∷ stroke (point 610 channel) (point 760 place) class ∷ stroke (point 830 place) (point 980 place) class ∷ []
+    stroke (point 40 line) (point 130 line) class
+    ∷ stroke (point 200 line) (point 350 channel) class
+    ∷ stroke (point 420 channel) (point 540 channel) class
+    ∷ stroke (point 610 channel) (point 760 place) class
+    ∷ stroke (point 830 place) (point 980 place) class ∷ []
 
 -- and their names
 unfoldable pub path_names : Tables → Path → List Figure
@@ -61,29 +73,40 @@ path_names plan path =
     let line = row_at path.line.switch in
     let channel = row_at path.channel in
     let place = row_at path.place.switch in
-    words (point 40 (line - 7)) (codes "plain") (codes "line " ++ line_text path.line) ∷ words (point 275 ((line + channel) / 2 + 4)) (codes "name") (link_text (line_link path))
-    ∷ words (point 480 (channel + 4)) (codes "name") (link_text (junctor path)) ∷ words (point 685 ((channel + place) / 2 + 4)) (codes "name") (link_text (trunk_link path))
+    words (point 40 (line - 7)) (codes "plain") (codes "line " ++ line_text path.line)
+    ∷ words (point 275 ((line + channel) / 2 + 4)) (codes "name") (link_text (line_link path))
+    ∷ words (point 480 (channel + 4)) (codes "name") (link_text (junctor path))
+    ∷ words (point 685 ((channel + place) / 2 + 4)) (codes "name") (link_text (trunk_link path))
     ∷ words (point 856 (place - 7)) (codes "small") (end_text plan path) ∷ []
 
 -- which line comes to what, and where, over which channel
 unfoldable pub path_told : Tables → Path → List ℕ
 path_told plan path =
-    concat (codes "line " ∷ line_text path.line ∷ codes ", channel " ∷ channel_text path.channel ∷ codes ", " ∷ end_text plan path ∷ codes " at place " ∷ place_text path.place ∷ [])
+    concat (codes "line " ∷ line_text path.line ∷ codes ", channel " ∷ channel_text path.channel
+    ∷ codes ", " ∷ end_text plan path ∷ codes " at place " ∷ place_text path.place ∷ [])
 
 unfoldable pub path_title : Tables → Path → List Figure
-path_title plan path = words (point 40 30) (codes "big") (path_text path) ∷ words (point 190 30) (codes "plain") (path_told plan path) ∷ []
+path_title plan path =
+    words (point 40 30) (codes "big") (path_text path)
+    ∷ words (point 190 30) (codes "plain") (path_told plan path) ∷ []
 
 -- the two frames of a path with the links between their switches
 unfoldable pub frames_and_links : Tables → Path → List Figure
 frames_and_links plan path =
-    frame 110 (codes "line link frame ") path.line.frame ++ frame 520 (codes "trunk link frame ") path.place.frame ++ flat_map (links_of plan path) (range_with_len 0 10)
+    frame 110 (codes "line link frame ") path.line.frame
+    ++ frame 520 (codes "trunk link frame ") path.place.frame
+    ++ flat_map (links_of plan path) (range_with_len 0 10)
 
 -- the four columns of switches
 unfoldable pub columns : Path → List Figure
 columns path =
-    column 130 (codes "line switches") path.line.switch ++ column 350 (codes "junctor switches") path.channel
-    ++ column 540 (codes "junctor switches") path.channel ++ column 760 (codes "trunk switches") path.place.switch
+    column 130 (codes "line switches") path.line.switch
+    ++ column 350 (codes "junctor switches") path.channel
+    ++ column 540 (codes "junctor switches") path.channel
+    ++ column 760 (codes "trunk switches") path.place.switch
 
 -- a path through its two frames
 unfoldable pub frames_picture : Tables → Path → List Figure
-frames_picture plan path = path_title plan path ++ frames_and_links plan path ++ columns path ++ path_strokes plan path ++ path_names plan path
+frames_picture plan path =
+    path_title plan path ++ frames_and_links plan path ++ columns path ++ path_strokes plan path
+    ++ path_names plan path

@@ -9,27 +9,34 @@ use Rattle.xbar_office_drawing.specs.Figures.{dot, point, stroke, words}
 
 -- the ten bars of a switch, one for each field of its word
 unfoldable pub bar : ℕ → ℕ → ℕ → Figure
-bar left columns field = stroke (point left (450 + 9 * field)) (point (left + 9 * columns) (450 + 9 * field)) (codes "idle")
+bar left columns field =
+    stroke (point left (450 + 9 * field)) (point (left + 9 * columns) (450 + 9 * field))
+    (codes "idle")
 
 -- and what they cross, one for each value that a field may hold
 unfoldable pub upright : ℕ → ℕ → Figure
-upright left place = stroke (point (left + 9 * place + 4) 446) (point (left + 9 * place + 4) 536) (codes "idle")
+upright left place =
+    stroke (point (left + 9 * place + 4) 446) (point (left + 9 * place + 4) 536) (codes "idle")
 
 -- where the bar of a field crosses the place that the field is joined to
 abbrev pub crossing : ℕ → Crosspoint → Figure
-crossing left crosspoint = dot (point (left + 9 * crosspoint.value - 5) (450 + 9 * crosspoint.field)) (codes "point")
+crossing left crosspoint =
+    dot (point (left + 9 * crosspoint.value - 5) (450 + 9 * crosspoint.field)) (codes "point")
 
 -- the crosspoint that is closed, with the way through it
 unfoldable pub closed_point : ℕ → Crosspoint → List Figure
 closed_point left crosspoint =
     let across = left + 9 * crosspoint.value - 5 in
     let down = 450 + 9 * crosspoint.field in
-    stroke (point (left - 6) down) (point across down) (codes "closed") ∷ stroke (point across down) (point across 544) (codes "closed") ∷ crossing left crosspoint ∷ []
+    stroke (point (left - 6) down) (point across down) (codes "closed")
+    ∷ stroke (point across down) (point across 544) (codes "closed") ∷ crossing left crosspoint
+    ∷ []
 
 -- the word of the switch, the field, and what it holds
 abbrev pub field_text : Crosspoint → List ℕ
 field_text crosspoint =
-    concat (codes "word " ∷ decimal crosspoint.word ∷ codes ", field " ∷ decimal crosspoint.field ∷ codes " holds " ∷ decimal crosspoint.value ∷ [])
+    concat (codes "word " ∷ decimal crosspoint.word ∷ codes ", field " ∷ decimal crosspoint.field
+    ∷ codes " holds " ∷ decimal crosspoint.value ∷ [])
 
 unfoldable pub field_words : ℕ → Crosspoint → Figure
 field_words left crosspoint = words (point left 560) (codes "field") (field_text crosspoint)
@@ -37,14 +44,16 @@ field_words left crosspoint = words (point left 560) (codes "field") (field_text
 -- a switch of so many columns, below its name
 unfoldable pub grid : ℕ → ℕ → List ℕ → Crosspoint → List Figure
 grid left columns name crosspoint =
-    words (point left 438) (codes "plain") name ∷ map (bar left columns) (range_with_len 0 10) ++ map (upright left) (range_with_len 0 columns)
+    words (point left 438) (codes "plain") name ∷ map (bar left columns) (range_with_len 0 10)
+    ++ map (upright left) (range_with_len 0 columns)
     ++ closed_point left crosspoint ++ field_words left crosspoint ∷ []
 
 -- what a switch is, by its frame and its own number
 unfoldable pub switch_name : List ℕ → ℕ → ℕ → List ℕ
 switch_name kind frame number = concat (kind ∷ decimal frame ∷ codes "," ∷ decimal number ∷ [])
 
--- the grids of the four crosspoints: line switch, line junctor switch, trunk junctor switch, trunk switch
+-- the grids of the four crosspoints: line switch, line junctor switch, trunk junctor switch, trunk
+-- switch
 unfoldable pub grids_of : Path → List Crosspoint → List Figure
 grids_of path (first ∷ second ∷ third ∷ fourth ∷ []) =
     grid 40 30 (switch_name (codes "line switch ") path.line.frame path.line.switch) first

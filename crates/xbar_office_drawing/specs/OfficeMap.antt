@@ -1,4 +1,5 @@
--- All paths at a glance: of each frame a box, which has a column for each of its switches and a row for each channel.
+-- All paths at a glance: of each frame a box, which has a column for each of its switches and a row
+-- for each channel.
 use Rattle.std.specs.Prelude.{ℕ, ◌+◌, ◌-◌, ◌*◌, List, [], ◌∷◌, ◌++◌, codes, decimal, flat_map, if◌then◌else◌, length}
 use Rattle.std.specs.List.{concat, range_with_len}
 use Rattle.svg.specs.Figure.{Figure}
@@ -24,26 +25,34 @@ channel_top frame channel = frame_top frame + 5 + 10 * channel
 -- the box of a frame, below its name
 unfoldable pub frame_box : ℕ → List ℕ → ℕ → List Figure
 frame_box left name frame =
-    words (point left (frame_top frame - 4)) (codes "small") (name ++ decimal frame) ∷ box (point left (frame_top frame)) 300 110 (codes "frame") ∷ []
+    words (point left (frame_top frame - 4)) (codes "small") (name ++ decimal frame)
+    ∷ box (point left (frame_top frame)) 300 110 (codes "frame") ∷ []
 
 -- the two frames of a number
 unfoldable pub two_frames : ℕ → List Figure
-two_frames frame = frame_box 40 (codes "line link frame ") frame ++ frame_box 620 (codes "trunk link frame ") frame
+two_frames frame =
+    frame_box 40 (codes "line link frame ") frame ++ frame_box 620 (codes "trunk link frame ") frame
 
 -- how a path looks: as a register's, or as that of a call
 abbrev pub use_class : Tables → Path → List ℕ
 use_class plan path = if ends_at_register plan path then codes "register" else codes "call"
 
--- a path: its line in the column of its line switch, its place in the column of its trunk switch, both in the row of its channel, and the junctor between them
+-- a path: its line in the column of its line switch, its place in the column of its trunk switch,
+-- both in the row of its channel, and the junctor between them
 unfoldable pub path_on_map : Tables → Path → List Figure
 path_on_map plan path =
-    words (point (42 + 30 * path.line.switch) (channel_top path.line.frame path.channel + 8)) (codes "cell") (line_text path.line)
-    ∷ stroke (point 340 (channel_top path.line.frame path.channel + 5)) (point 620 (channel_top path.place.frame path.channel + 5)) (use_class plan path)
-    ∷ words (point (622 + 30 * path.place.switch) (channel_top path.place.frame path.channel + 8)) (codes "cell") (place_text path.place) ∷ []
+    words (point (42 + 30 * path.line.switch) (channel_top path.line.frame path.channel + 8))
+    (codes "cell") (line_text path.line)
+    ∷ stroke (point 340 (channel_top path.line.frame path.channel + 5))
+    (point 620 (channel_top path.place.frame path.channel + 5)) (use_class plan path)
+    ∷ words (point (622 + 30 * path.place.switch) (channel_top path.place.frame path.channel + 8))
+    (codes "cell") (place_text path.place) ∷ []
 
 -- how many paths there are, and so how many crosspoints are closed
 unfoldable pub count_text : ℕ → List ℕ
-count_text count = concat (codes "paths: " ∷ decimal count ∷ codes ", crosspoints closed: " ∷ decimal (4 * count) ∷ [])
+count_text count =
+    concat (codes "paths: " ∷ decimal count ∷ codes ", crosspoints closed: " ∷ decimal (4 * count)
+    ∷ [])
 
 abbrev pub map_title : ℕ → Figure
 map_title count = words (point 40 34) (codes "big") (count_text count)
@@ -51,8 +60,12 @@ map_title count = words (point 40 34) (codes "big") (count_text count)
 -- what the two looks mean
 unfoldable pub map_key : List Figure
 map_key =
-    stroke (point 620 29) (point 660 29) (codes "register") ∷ words (point 668 33) (codes "small") (codes "to a register")
-    ∷ stroke (point 770 29) (point 810 29) (codes "call") ∷ words (point 818 33) (codes "small") (codes "of a call") ∷ []
+    stroke (point 620 29) (point 660 29) (codes "register")
+    ∷ words (point 668 33) (codes "small") (codes "to a register")
+    ∷ stroke (point 770 29) (point 810 29) (codes "call")
+    ∷ words (point 818 33) (codes "small") (codes "of a call") ∷ []
 
 unfoldable pub office_map : Tables → List Path → List Figure
-office_map plan paths = sheet map_height ∷ map_title (length paths) ∷ map_key ++ flat_map two_frames (range_with_len 0 10) ++ flat_map (path_on_map plan) paths
+office_map plan paths =
+    sheet map_height ∷ map_title (length paths) ∷ map_key
+    ++ flat_map two_frames (range_with_len 0 10) ++ flat_map (path_on_map plan) paths

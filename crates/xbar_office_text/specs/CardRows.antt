@@ -28,7 +28,8 @@ digit_row name digit = row (codes "|    ") (name ++ ten_places digit)
 unfoldable pub kind_row : LinkKind → List ℕ
 kind_row kind =
     row (codes "|    ")
-    (concat (mark (kind_eq kind LineLink) ∷ codes " line link   " ∷ mark (kind_eq kind Junctor) ∷ codes " junctor   " ∷ mark (kind_eq kind TrunkLink) ∷ codes " trunk link" ∷ []))
+    (concat (mark (kind_eq kind LineLink) ∷ codes " line link   " ∷ mark (kind_eq kind Junctor)
+    ∷ codes " junctor   " ∷ mark (kind_eq kind TrunkLink) ∷ codes " trunk link" ∷ []))
 
 -- what the first two digits of a link are
 abbrev pub first_name : LinkKind → List ℕ
@@ -44,5 +45,7 @@ second_name TrunkLink = codes "trunk switch      "
 -- a link as a card is punched with it
 unfoldable pub link_rows : Link → List ℕ
 link_rows link =
-    concat (kind_row link.kind ∷ row (codes "|    ") (codes "                   0 1 2 3 4 5 6 7 8 9")
-    ∷ digit_row (first_name link.kind) link.frame ∷ digit_row (second_name link.kind) link.at ∷ digit_row (codes "channel           ") link.channel ∷ [])
+    concat (kind_row link.kind
+    ∷ row (codes "|    ") (codes "                   0 1 2 3 4 5 6 7 8 9")
+    ∷ digit_row (first_name link.kind) link.frame ∷ digit_row (second_name link.kind) link.at
+    ∷ digit_row (codes "channel           ") link.channel ∷ [])

@@ -7,15 +7,21 @@ use Rattle.xbar_office_text.specs.CardRows.{row, link_rows}
 
 -- what a card is about
 unfoldable pub title_row : Card → List ℕ
-title_row card = row (codes "  /  ") (concat (codes "TROUBLE CARD: " ∷ link_text card.link ∷ codes " is faulty" ∷ []))
+title_row card =
+    row (codes "  /  ") (concat
+    (codes "TROUBLE CARD: " ∷ link_text card.link ∷ codes " is faulty" ∷ []))
 
 -- whose card it is: the turn and the number of the job
 unfoldable pub job_row : Record → List ℕ
-job_row owner = row (codes " /   ") (concat (codes "turn " ∷ decimal owner.turn ∷ codes ", job " ∷ decimal owner.job_no ∷ []))
+job_row owner =
+    row (codes " /   ") (concat
+    (codes "turn " ∷ decimal owner.turn ∷ codes ", job " ∷ decimal owner.job_no ∷ []))
 
 -- who met the link, and in which trial
 unfoldable pub trial_row : Record → Card → List ℕ
-trial_row owner card = row (codes "|    ") (concat (codes "marker " ∷ decimal owner.marker ∷ codes ", trial " ∷ decimal card.trial ∷ []))
+trial_row owner card =
+    row (codes "|    ") (concat
+    (codes "marker " ∷ decimal owner.marker ∷ codes ", trial " ∷ decimal card.trial ∷ []))
 
 -- a trouble card, below an empty line
 unfoldable pub card_text : Record → Card → List ℕ

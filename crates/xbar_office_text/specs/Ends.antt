@@ -13,24 +13,31 @@ group_name plan group = option_map_or (λ found. found.name) (slice_get plan.gro
 
 -- a member of a group: the group's name, and which member it is, counted from 0
 abbrev pub member_name : Tables → MemberPlace → List ℕ
-member_name plan member = concat (group_name plan member.group ∷ codes " " ∷ decimal member.index ∷ [])
+member_name plan member =
+    concat (group_name plan member.group ∷ codes " " ∷ decimal member.index ∷ [])
 
 -- the member that stands where a path ends
 unfoldable pub member_text : Tables → Path → List ℕ
-member_text plan path = option_map_or (member_name plan) (member_place plan path.place) (codes "no member")
+member_text plan path =
+    option_map_or (member_name plan) (member_place plan path.place) (codes "no member")
 
 -- the member's other place, where the other party's path ends
 abbrev pub with_place : TrunkPlace → List ℕ
 with_place place = codes ", with " ++ place_text place
 
 unfoldable pub other_text : Tables → Path → List ℕ
-other_text plan path = option_map_or with_place (option_and_then (λ member. member.other) (member_place plan path.place)) []
+other_text plan path =
+    option_map_or with_place
+    (option_and_then (λ member. member.other) (member_place plan path.place)) []
 
 -- whose a path is: a register's, or that of a call
 unfoldable pub use_text : Tables → Path → List ℕ
 use_text plan path =
-    concat ((if ends_at_register plan path then codes "register's path: " else codes "call: ") ∷ member_text plan path ∷ other_text plan path ∷ [])
+    concat ((if ends_at_register plan path then codes "register's path: " else codes "call: ")
+    ∷ member_text plan path ∷ other_text plan path ∷ [])
 
 -- what a path comes to: a register, or the trunk of a call
 unfoldable pub end_text : Tables → Path → List ℕ
-end_text plan path = (if ends_at_register plan path then codes "register " else codes "trunk ") ++ member_text plan path
+end_text plan path =
+    (if ends_at_register plan path then codes "register " else codes "trunk ")
+    ++ member_text plan path

@@ -7,7 +7,8 @@ use Rattle.xbar_equip.specs.declared.path.Path.{Path}
 use Rattle.xbar_plan.specs.Tables.{Tables}
 use Rattle.xbar_office_text.specs.Ends.{use_text}
 
--- a path in one line: line, line link frame, channel, trunk link frame, trunk place, and whose it is
+-- a path in one line: line, line link frame, channel, trunk link frame, trunk place, and whose it
+-- is
 unfoldable pub glance_line : Tables → Path → List ℕ
 glance_line plan path =
     concat (line_text path.line ∷ codes " --[frame " ∷ decimal path.line.frame ∷ codes "]-- channel " ∷ channel_text path.channel
@@ -16,4 +17,5 @@ glance_line plan path =
 -- all paths at a glance: a line each, in the order of the set
 unfoldable pub glance : Tables → List Path → List ℕ
 glance plan [] = codes "No path is up.\n"
-glance plan (path ∷ paths) = codes "PATHS AT A GLANCE\n" ++ flat_map (glance_line plan) (path ∷ paths)
+glance plan (path ∷ paths) =
+    codes "PATHS AT A GLANCE\n" ++ flat_map (glance_line plan) (path ∷ paths)

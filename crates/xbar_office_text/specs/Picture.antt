@@ -7,7 +7,8 @@ use Rattle.xbar_office_text.specs.Ends.{end_text}
 
 -- an empty line, and whose a path is
 unfoldable pub heading : Tables → Path → List ℕ
-heading plan path = if ends_at_register plan path then codes "\nA REGISTER'S PATH\n" else codes "\nA CALL'S PATH\n"
+heading plan path =
+    if ends_at_register plan path then codes "\nA REGISTER'S PATH\n" else codes "\nA CALL'S PATH\n"
 
 -- a path in its eight lines, below a heading
 unfoldable pub picture : Tables → Path → List ℕ

@@ -8,7 +8,9 @@ use Rattle.xbar_office_text.specs.Faults.{faults_of, fault_lines}
 use Rattle.xbar_office_text.specs.Glance.{glance}
 use Rattle.xbar_office_text.specs.Picture.{picture}
 
--- an office after its records: its paths at a glance, each of them in its eight lines, the links that are out of order, and the trouble cards
+-- an office after its records: its paths at a glance, each of them in its eight lines, the links
+-- that are out of order, and the trouble cards
 unfoldable pub office_text : Tables → List Path → List Record → List ℕ
 office_text plan paths records =
-    concat (glance plan paths ∷ flat_map (picture plan) paths ∷ fault_lines (faults_of plan) ∷ flat_map cards_of records ∷ [])
+    concat (glance plan paths ∷ flat_map (picture plan) paths ∷ fault_lines (faults_of plan)
+    ∷ flat_map cards_of records ∷ [])

@@ -8,7 +8,8 @@ use Rattle.xbar_page.specs.Links.{start_nav_text}
 use Rattle.xbar_page.specs.Section.{section_end, section_text}
 use Rattle.xbar_page.specs.Sections.{last_turn, sections, turn_at}
 
--- how the page looks beside its pictures: of all sections the one that is named is shown, else the last
+-- how the page looks beside its pictures: of all sections the one that is named is shown, else the
+-- last
 unfoldable pub page_style : List ℕ
 page_style = codes "body{margin:0;font:16px Helvetica,Arial,'DejaVu Sans',sans-serif;color:#222}section{display:none;max-width:1480px;margin:auto;padding:16px 24px}section:target,section:last-of-type{display:block}section:target~section:last-of-type{display:none}h1{font-size:24px;margin:2px 230px 14px 0}nav{display:flex;flex-wrap:wrap;gap:8px}nav a,nav span,button{padding:6px 16px;border:1px solid #8a8474;border-radius:6px;background:#f7f5ee;color:#222;font:inherit;text-decoration:none}nav span{border-color:#d6d0c0;color:#b5b0a3}button{position:absolute;top:14px;right:24px;cursor:pointer}[hidden]{display:none}pre{overflow-x:auto;padding:8px 12px;background:#f7f5ee}.turn{display:flex;gap:28px;align-items:flex-start}.turn ul{flex:0 0 360px;position:sticky;top:16px;margin:0;padding-left:20px;line-height:1.5}.turn svg{flex:1 1 600px;min-width:0;height:auto}li{margin-bottom:8px}.trouble{margin-left:-20px;padding:6px 10px;list-style:none;background:#fbe9d0;border:1px solid #b9976a;border-radius:4px}@media(max-width:1000px){.turn{display:block}.turn ul{position:static;margin-bottom:16px}.turn svg{width:100%}}"
 
@@ -29,11 +30,13 @@ foot_text = concat (codes "<script>" ∷ script ∷ codes "</script>\n</body>\n<
 -- the empty office, before all turns
 unfoldable pub start_text : Tables → List Record → List ℕ
 start_text plan records =
-    concat (codes "<section id=\"start\">\n<h1>The office before all turns</h1>\n" ∷ start_nav_text (turn_at records 0) (last_turn records)
+    concat (codes "<section id=\"start\">\n<h1>The office before all turns</h1>\n"
+    ∷ start_nav_text (turn_at records 0) (last_turn records)
     ∷ codes "<div class=\"turn\">\n<ul>\n<li>No path stands: all crosspoints are open.</li>\n<li>Jobs that take their turn: " ∷ decimal (length records) ∷ codes ".</li>\n</ul>\n"
     ∷ picture_of plan [] [] [] ∷ section_end ∷ [])
 
 -- an office turn by turn
 unfoldable pub office_page : Tables → List Record → List ℕ
 office_page plan records =
-    concat (head_text ∷ start_text plan records ∷ flat_map (section_text plan) (sections plan records) ∷ foot_text ∷ [])
+    concat (head_text ∷ start_text plan records
+    ∷ flat_map (section_text plan) (sections plan records) ∷ foot_text ∷ [])

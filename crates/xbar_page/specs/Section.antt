@@ -13,18 +13,23 @@ use Rattle.xbar_page.specs.Words.{asked_words, brought, card_words, sentences}
 -- the name of a turn's section, and its heading
 unfoldable pub title_text : Record → List ℕ
 title_text owner =
-    concat (codes "<section id=\"" ∷ section_name (Some owner.turn) ∷ codes "\">\n<h1>Turn " ∷ decimal owner.turn ∷ codes ": " ∷ asked_words owner.job ∷ codes "</h1>\n" ∷ [])
+    concat (codes "<section id=\"" ∷ section_name (Some owner.turn) ∷ codes "\">\n<h1>Turn "
+    ∷ decimal owner.turn ∷ codes ": " ∷ asked_words owner.job ∷ codes "</h1>\n" ∷ [])
 
--- the lines of a record and of its cards, as a replay writes them: digits, letters, commas and hyphens, so nothing that means more in a page
+-- the lines of a record and of its cards, as a replay writes them: digits, letters, commas and
+-- hyphens, so nothing that means more in a page
 unfoldable pub lines_text : Record → List ℕ
-lines_text owner = concat (codes "<pre><code>" ∷ record_line owner ∷ card_lines owner ∷ codes "</code></pre>\n" ∷ [])
+lines_text owner =
+    concat (codes "<pre><code>" ∷ record_line owner ∷ card_lines owner ∷ codes "</code></pre>\n"
+    ∷ [])
 
 -- a sentence, and one of a trouble card
 unfoldable pub item_text : List ℕ → List ℕ
 item_text sentence = concat (codes "<li>" ∷ escaped sentence ∷ codes "</li>\n" ∷ [])
 
 unfoldable pub card_item_text : List ℕ → List ℕ
-card_item_text sentence = concat (codes "<li class=\"trouble\">" ∷ escaped sentence ∷ codes "</li>\n" ∷ [])
+card_item_text sentence =
+    concat (codes "<li class=\"trouble\">" ∷ escaped sentence ∷ codes "</li>\n" ∷ [])
 
 -- what happened, in words
 unfoldable pub words_text : Tables → Record → List ℕ
@@ -36,8 +41,11 @@ words_text plan owner =
 abbrev pub section_end : List ℕ
 section_end = codes "</div>\n</section>\n"
 
--- a turn: its heading, its links, its lines, what happened, and the office after it with the paths that it brought and its cards
+-- a turn: its heading, its links, its lines, what happened, and the office after it with the paths
+-- that it brought and its cards
 unfoldable pub section_text : Tables → Section → List ℕ
 section_text plan section =
-    concat (title_text section.owner ∷ nav_text section.links ∷ lines_text section.owner ∷ words_text plan section.owner
-    ∷ picture_of plan section.paths (brought section.owner.reply.end) (cards_in section.owner) ∷ section_end ∷ [])
+    concat (title_text section.owner ∷ nav_text section.links ∷ lines_text section.owner
+    ∷ words_text plan section.owner
+    ∷ picture_of plan section.paths (brought section.owner.reply.end) (cards_in section.owner)
+    ∷ section_end ∷ [])

@@ -24,11 +24,14 @@ use Rattle.xbar_plan.specs.Tables.{Tables}
 -- what a line asks for
 unfoldable pub asked_words : Job → List ℕ
 asked_words (Dial line) = concat (codes "line " ∷ line_text line ∷ codes " wants dial tone" ∷ [])
-asked_words (Complete line dialled) = concat (codes "line " ∷ line_text line ∷ codes " calls " ∷ dialled_text dialled ∷ [])
+asked_words (Complete line dialled) =
+    concat (codes "line " ∷ line_text line ∷ codes " calls " ∷ dialled_text dialled ∷ [])
 asked_words (Release line) = concat (codes "line " ∷ line_text line ∷ codes " hangs up" ∷ [])
 
 unfoldable pub marker_words : Record → List ℕ
-marker_words owner = concat (codes "Marker " ∷ decimal owner.marker ∷ codes " does job " ∷ decimal owner.job_no ∷ codes "." ∷ [])
+marker_words owner =
+    concat (codes "Marker " ∷ decimal owner.marker ∷ codes " does job " ∷ decimal owner.job_no
+    ∷ codes "." ∷ [])
 
 -- ---- its end
 
@@ -39,7 +42,8 @@ refusal_words LineBusy = codes "Line busy: the line is in a path already."
 refusal_words RegistersBusy = codes "Registers busy: no register is idle."
 refusal_words TrunksBusy = codes "Trunks busy: no trunk that the code leads to is idle."
 refusal_words NoPath = codes "No path: no trial found an idle channel."
-refusal_words Trouble = codes "Trouble: both trials failed, and at least one of them at a faulty link."
+refusal_words Trouble =
+    codes "Trouble: both trials failed, and at least one of them at a faulty link."
 refusal_words VacantCode = codes "Vacant code: the office has no such code."
 refusal_words VacantNumber = codes "Vacant number: the office has no such number."
 refusal_words NoRegister = codes "No register: the line has no register."
@@ -53,11 +57,14 @@ with_line (Some other) = codes " with line " ++ line_text other.line
 
 unfoldable pub end_words : Tables → End → List ℕ
 end_words plan (DialTone path trial) =
-    concat (codes "Dial tone: trial " ∷ decimal trial ∷ codes " found a path to " ∷ end_text plan path ∷ codes "." ∷ [])
+    concat (codes "Dial tone: trial " ∷ decimal trial ∷ codes " found a path to "
+    ∷ end_text plan path ∷ codes "." ∷ [])
 end_words plan (Connected calling called trial) =
-    concat (codes "Connected" ∷ with_line called ∷ codes ": trial " ∷ decimal trial ∷ codes " found a path to " ∷ end_text plan calling ∷ codes "." ∷ [])
+    concat (codes "Connected" ∷ with_line called ∷ codes ": trial " ∷ decimal trial
+    ∷ codes " found a path to " ∷ end_text plan calling ∷ codes "." ∷ [])
 end_words plan (Released own other) =
-    concat (codes "Released" ∷ with_line other ∷ codes ": the path to " ∷ end_text plan own ∷ codes " is gone." ∷ [])
+    concat (codes "Released" ∷ with_line other ∷ codes ": the path to " ∷ end_text plan own
+    ∷ codes " is gone." ∷ [])
 end_words plan end = refusal_words end
 
 -- a completing job of a line that has a register gives it back, whatever comes of the call
@@ -66,7 +73,8 @@ had_register NoRegister = false
 had_register _ = true
 
 abbrev pub register_words : Job → End → List (List ℕ)
-register_words (Complete line dialled) end = if had_register end then codes "The register is given back: four crosspoints open." ∷ [] else []
+register_words (Complete line dialled) end =
+    if had_register end then codes "The register is given back: four crosspoints open." ∷ [] else []
 register_words _ end = []
 
 -- ---- its paths
@@ -85,15 +93,18 @@ brought end = paths_of (added_by end)
 
 unfoldable pub links_words : Path → List ℕ
 links_words path =
-    concat (link_text (line_link path) ∷ codes ", " ∷ link_text (junctor path) ∷ codes ", " ∷ link_text (trunk_link path) ∷ [])
+    concat (link_text (line_link path) ∷ codes ", " ∷ link_text (junctor path) ∷ codes ", "
+    ∷ link_text (trunk_link path) ∷ [])
 
 unfoldable pub taken_out_words : Path → List ℕ
 taken_out_words path =
-    concat (codes "Path " ∷ path_text path ∷ codes " is taken out: " ∷ links_words path ∷ codes " are idle again. Four crosspoints open." ∷ [])
+    concat (codes "Path " ∷ path_text path ∷ codes " is taken out: " ∷ links_words path
+    ∷ codes " are idle again. Four crosspoints open." ∷ [])
 
 unfoldable pub brought_words : Path → List ℕ
 brought_words path =
-    concat (codes "Channel " ∷ channel_text path.channel ∷ codes " is idle from line " ∷ line_text path.line ∷ codes " to place " ∷ place_text path.place
+    concat (codes "Channel " ∷ channel_text path.channel ∷ codes " is idle from line "
+    ∷ line_text path.line ∷ codes " to place " ∷ place_text path.place
     ∷ codes ": " ∷ links_words path ∷ codes ". Four crosspoints close." ∷ [])
 
 -- ---- all of it
@@ -101,7 +112,10 @@ brought_words path =
 unfoldable pub sentences : Tables → Record → List (List ℕ)
 sentences plan owner =
     marker_words owner ∷ end_words plan owner.reply.end ∷ register_words owner.job owner.reply.end
-    ++ map taken_out_words (taken_out owner.reply.end) ++ map brought_words (brought owner.reply.end)
+    ++ map taken_out_words (taken_out owner.reply.end)
+    ++ map brought_words (brought owner.reply.end)
 
 unfoldable pub card_words : Card → List ℕ
-card_words card = concat (codes "Trouble card: trial " ∷ decimal card.trial ∷ codes ", " ∷ link_text card.link ∷ codes " is faulty." ∷ [])
+card_words card =
+    concat (codes "Trouble card: trial " ∷ decimal card.trial ∷ codes ", " ∷ link_text card.link
+    ∷ codes " is faulty." ∷ [])

@@ -11,14 +11,16 @@ use Rattle.xbar_equip.specs.declared.path.Path.{Path}
 -- which line comes to what, over which channel
 unfoldable pub title_line : Path → List ℕ → List ℕ
 title_line path member =
-    concat (path_text path ∷ codes ": line " ∷ line_text path.line ∷ codes " to " ∷ member ∷ codes ", channel " ∷ channel_text path.channel ∷ codes "\n" ∷ [])
+    concat (path_text path ∷ codes ": line " ∷ line_text path.line ∷ codes " to " ∷ member
+    ∷ codes ", channel " ∷ channel_text path.channel ∷ codes "\n" ∷ [])
 
 -- the upper edges of the two frames
 unfoldable pub frames_line : Path → List ℕ
 frames_line path =
     concat (codes "         +-- line link frame " ∷ decimal path.line.frame ∷ codes " --+         +- trunk link frame " ∷ decimal path.place.frame ∷ codes " --+\n" ∷ [])
 
--- the path from its line to its place: through a line switch and a junctor switch of either frame, by its three links
+-- the path from its line to its place: through a line switch and a junctor switch of either frame,
+-- by its three links
 unfoldable pub links_line : Path → List ℕ
 links_line path =
     concat (line_text path.line ∷ codes " ----X-------- " ∷ link_text (line_link path) ∷ codes " --------X--" ∷ link_text (junctor path)
@@ -38,28 +40,35 @@ switches_line path =
     concat (codes "switch  " ∷ switch_text path.line.frame path.line.switch
     ∷ codes "                     " ∷ switch_text path.line.frame path.channel
     ∷ codes "       " ∷ switch_text path.place.frame path.channel
-    ∷ codes "                     " ∷ switch_text path.place.frame path.place.switch ∷ codes "\n" ∷ [])
+    ∷ codes "                     " ∷ switch_text path.place.frame path.place.switch ∷ codes "\n"
+    ∷ [])
 
 -- a number below a thousand, at the right of three places
 unfoldable pub in_three : ℕ → List ℕ
-in_three number = if nat_lt number 10 then codes "  " ++ decimal number else (if nat_lt number 100 then codes " " ++ decimal number else decimal number)
+in_three number =
+    if nat_lt number 10 then codes "  " ++ decimal number
+    else (if nat_lt number 100 then codes " " ++ decimal number else decimal number)
 
 -- a row of four numbers, one under each switch
 unfoldable pub numbers_line : List ℕ → List ℕ → List ℕ
 numbers_line name (first ∷ second ∷ third ∷ fourth ∷ []) =
     concat (name ∷ in_three first ∷ codes "                     " ∷ in_three second
-    ∷ codes "       " ∷ in_three third ∷ codes "                     " ∷ in_three fourth ∷ codes "\n" ∷ [])
+    ∷ codes "       " ∷ in_three third ∷ codes "                     " ∷ in_three fourth
+    ∷ codes "\n" ∷ [])
 numbers_line name _ = []
 
 -- of each crosspoint that the path closes the switch's word, the field, and what the field holds
 abbrev pub words_line : Path → List ℕ
-words_line path = numbers_line (codes "word    ") (map (λ crosspoint. crosspoint.word) (crosspoints path))
+words_line path =
+    numbers_line (codes "word    ") (map (λ crosspoint. crosspoint.word) (crosspoints path))
 
 abbrev pub fields_line : Path → List ℕ
-fields_line path = numbers_line (codes "field   ") (map (λ crosspoint. crosspoint.field) (crosspoints path))
+fields_line path =
+    numbers_line (codes "field   ") (map (λ crosspoint. crosspoint.field) (crosspoints path))
 
 abbrev pub values_line : Path → List ℕ
-values_line path = numbers_line (codes "holds   ") (map (λ crosspoint. crosspoint.value) (crosspoints path))
+values_line path =
+    numbers_line (codes "holds   ") (map (λ crosspoint. crosspoint.value) (crosspoints path))
 
 -- a path in eight lines of a terminal
 unfoldable pub path_lines : Path → List ℕ → List ℕ

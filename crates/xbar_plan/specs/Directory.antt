@@ -16,13 +16,19 @@ pub record Directory : Type 0 where
   pub members : List (Option MemberPlace)
   pub faults : List Bool
 
--- a directory of these tables: at each directory number and at each code is where the first station or route
--- with it stands, at each trunk place the first member that stands there, and at each link whether it is out of order
+-- a directory of these tables: at each directory number and at each code is where the first station
+-- or route with it stands, at each trunk place the first member that stands there, and at each link
+-- whether it is out of order
 pub record IsDirectoryOf (plan : Tables) (directory : Directory) : Type 0 where
-  pub stations : (number : ℕ) → number < 10000 → slice_get directory.stations number ≡ Some (position (λ station. station.number == number) plan.stations)
-  pub routes : (code : ℕ) → code < 1000 → slice_get directory.routes code ≡ Some (position (λ route. route.code == code) plan.routes)
-  pub members : (place : TrunkPlace) → IsTrunkPlace place → slice_get directory.members (place_number place) ≡ Some (member_place plan place)
-  pub faults : (link : Link) → IsLink link → slice_get directory.faults (link_number link) ≡ Some (is_faulty plan link)
+  pub stations : (number : ℕ) → number < 10000
+      → slice_get directory.stations number
+      ≡ Some (position (λ station. station.number == number) plan.stations)
+  pub routes : (code : ℕ) → code < 1000
+      → slice_get directory.routes code ≡ Some (position (λ route. route.code == code) plan.routes)
+  pub members : (place : TrunkPlace) → IsTrunkPlace place
+      → slice_get directory.members (place_number place) ≡ Some (member_place plan place)
+  pub faults : (link : Link) → IsLink link
+      → slice_get directory.faults (link_number link) ≡ Some (is_faulty plan link)
 
 -- what a plan keeps: its tables are lawful, and its directory is theirs
 pub record IsKept (plan : Tables) (directory : Directory) : Type 0 where
@@ -34,15 +40,20 @@ pub record IsKept (plan : Tables) (directory : Directory) : Type 0 where
 -- a member with its other place, if it stands at the place
 abbrev pub member_here : ℕ → ℕ → Member → TrunkPlace → Option MemberPlace
 member_here number index member place =
-    if stands_at member place then Some (record { group = number; index = index; other = other_place member place }) else None
+    if stands_at member place
+    then Some (record { group = number; index = index; other = other_place member place }) else None
 
 -- the first of these members that stands at the place
 abbrev pub first_member : ℕ → List Member → TrunkPlace → Option MemberPlace
 first_member number members place =
-    option_map (λ found. record { group = number; index = found.0; other = other_place found.1 place })
+    option_map
+    (λ found. record { group = number; index = found.0; other = other_place found.1 place })
     (first_with (λ member. stands_at member place) members)
 
 -- where none stood before there stands what comes now, at each of the thousand places
-pub record ArePlaced (before : List (Option MemberPlace)) (now : TrunkPlace → Option MemberPlace) (after : List (Option MemberPlace)) : Type 0 where
+pub record ArePlaced (before : List (Option MemberPlace)) (now : TrunkPlace → Option MemberPlace)
+    (after : List (Option MemberPlace)) : Type 0 where
   pub size : length after ≡ 1000
-  pub first : (place : TrunkPlace) → IsTrunkPlace place → slice_index_or after (place_number place) None ≡ option_or (slice_index_or before (place_number place) None) (now place)
+  pub first : (place : TrunkPlace) → IsTrunkPlace place
+      → slice_index_or after (place_number place) None
+      ≡ option_or (slice_index_or before (place_number place) None) (now place)

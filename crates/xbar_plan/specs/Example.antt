@@ -18,13 +18,26 @@ single first = record { first = first; second = None }
 abbrev pub pair : TrunkPlace → TrunkPlace → Member
 pair first second = record { first = first; second = Some second }
 
--- 417, 418 and 509 are registers; 600 with 601 and 700 with 711 are intra trunks; 800, 801 and 902 go out
+-- 417, 418 and 509 are registers; 600 with 601 and 700 with 711 are intra trunks; 800, 801 and 902
+-- go out
 abbrev pub example_groups : List TrunkGroup
 example_groups =
-    record { name = codes "REG"; kind = Register; members = single (place 4 1 7) ∷ single (place 4 1 8) ∷ single (place 5 0 9) ∷ [] } ∷
-    record { name = codes "INTRA"; kind = Intra; members = pair (place 6 0 0) (place 6 0 1) ∷ pair (place 7 0 0) (place 7 1 1) ∷ [] } ∷
+    record {
+      name = codes "REG";
+      kind = Register;
+      members = single (place 4 1 7) ∷ single (place 4 1 8) ∷ single (place 5 0 9) ∷ [];
+    } ∷
+    record {
+      name = codes "INTRA";
+      kind = Intra;
+      members = pair (place 6 0 0) (place 6 0 1) ∷ pair (place 7 0 0) (place 7 1 1) ∷ [];
+    } ∷
     record { name = codes "OUTA"; kind = Outgoing; members = single (place 8 0 0) ∷ [] } ∷
-    record { name = codes "OUTB"; kind = Outgoing; members = single (place 8 0 1) ∷ single (place 9 0 2) ∷ [] } ∷ []
+    record {
+      name = codes "OUTB";
+      kind = Outgoing;
+      members = single (place 8 0 1) ∷ single (place 9 0 2) ∷ [];
+    } ∷ []
 
 -- a directory number with one line
 abbrev pub station : ℕ → Line → Station
@@ -40,8 +53,15 @@ example_stations =
 
 -- 234 leads to INTRA, 555 to OUTA and then to OUTB
 abbrev pub example_routes : List Route
-example_routes = record { code = 234; groups = 1 ∷ [] } ∷ record { code = 555; groups = 2 ∷ 3 ∷ [] } ∷ []
+example_routes =
+    record { code = 234; groups = 1 ∷ [] } ∷ record { code = 555; groups = 2 ∷ 3 ∷ [] } ∷ []
 
 -- a small plan, in which no link is out of order
 abbrev pub example : Tables
-example = record { groups = example_groups; stations = example_stations; routes = example_routes; faults = [] }
+example =
+    record {
+      groups = example_groups;
+      stations = example_stations;
+      routes = example_routes;
+      faults = [];
+    }

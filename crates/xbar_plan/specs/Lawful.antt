@@ -31,11 +31,13 @@ is_name name = is_between 1 8 (length name) && list_all is_name_character name
 
 -- an intra member has two places, any other member has one
 abbrev pub has_its_places : TrunkGroup → Bool
-has_its_places group = list_all (λ member. beq (is_some member.second) (is_intra group)) group.members
+has_its_places group =
+    list_all (λ member. beq (is_some member.second) (is_intra group)) group.members
 
 -- the second place, if there is one, is on the trunk link frame of the first
 abbrev pub is_on_one_frame : Member → Bool
-is_on_one_frame member = option_map_or (λ second. second.frame == member.first.frame) member.second true
+is_on_one_frame member =
+    option_map_or (λ second. second.frame == member.first.frame) member.second true
 
 -- the places of all members of a group
 abbrev pub group_places : TrunkGroup → List TrunkPlace
@@ -52,8 +54,10 @@ is_well_formed_group group = is_name group.name && has_its_places group
 -- places, numbers, lines, codes and links in range
 abbrev pub are_in_range : Tables → Bool
 are_in_range plan =
-    list_all is_trunk_place (all_places plan.groups) && list_all (λ station. nat_lt station.number 10000) plan.stations
-    && list_all (λ station. list_all is_line station.lines) plan.stations && list_all (λ route. nat_lt route.code 1000) plan.routes
+    list_all is_trunk_place (all_places plan.groups)
+    && list_all (λ station. nat_lt station.number 10000) plan.stations
+    && list_all (λ station. list_all is_line station.lines) plan.stations
+    && list_all (λ route. nat_lt route.code 1000) plan.routes
     && list_all is_link plan.faults
 
 -- nothing in the tables that no text could say
@@ -68,7 +72,8 @@ are_groups_within_limits groups =
 -- at most 3000 numbers, with 1 to 10 lines each
 abbrev pub are_stations_within_limits : List Station → Bool
 are_stations_within_limits stations =
-    nat_le (length stations) 3000 && list_all (λ station. is_between 1 10 (length station.lines)) stations
+    nat_le (length stations) 3000
+    && list_all (λ station. is_between 1 10 (length station.lines)) stations
 
 -- at most 64 codes, which lead to 1 to 4 groups each
 abbrev pub are_routes_within_limits : List Route → Bool
@@ -117,18 +122,21 @@ is_group test groups number = option_map_or test (slice_get groups number) false
 -- a code leads to intra groups alone, or to outgoing groups alone
 abbrev pub leads_to_trunks : List TrunkGroup → Route → Bool
 leads_to_trunks groups route =
-    list_all (is_group is_intra groups) route.groups || list_all (is_group is_outgoing groups) route.groups
+    list_all (is_group is_intra groups) route.groups
+    || list_all (is_group is_outgoing groups) route.groups
 
 -- every one of these numbers is that of a group that passes the test
 abbrev pub LeadsOnlyTo : (TrunkGroup → Bool) → Tables → List ℕ → Type 0
 LeadsOnlyTo test plan groups =
-    (k number : ℕ) → slice_get groups k ≡ Some number → (group : TrunkGroup) × (slice_get plan.groups number ≡ Some group) × (test group ≡ true)
+    (k number : ℕ) → slice_get groups k ≡ Some number → (group : TrunkGroup)
+    × (slice_get plan.groups number ≡ Some group) × (test group ≡ true)
 
 -- so does each code
 abbrev pub do_routes_lead_to_trunks : List TrunkGroup → List Route → Bool
 do_routes_lead_to_trunks groups routes = list_all (leads_to_trunks groups) routes
 
--- what tables are tested for, and the fault that they have where the test fails, in the order of the faults' numbers
+-- what tables are tested for, and the fault that they have where the test fails, in the order of
+-- the faults' numbers
 abbrev pub tests : Tables → List (Bool × PlanFault)
 tests plan =
     (are_well_formed plan, Malformed) ∷
@@ -158,4 +166,5 @@ pub record IsLawful (plan : Tables) : Type 0 where
 -- a plan of these tables, which are lawful, or the fault that they have, unless memory ran out
 abbrev pub IsPlanOf : Tables → Result Tables PlanFault → Type 0
 IsPlanOf plan result =
-    MatchResult result (λ made. (fault_in plan ≡ None) × (made ≡ plan)) (λ fault. (fault ≡ Memory) ⊎ (fault_in plan ≡ Some fault))
+    MatchResult result (λ made. (fault_in plan ≡ None) × (made ≡ plan))
+    (λ fault. (fault ≡ Memory) ⊎ (fault_in plan ≡ Some fault))

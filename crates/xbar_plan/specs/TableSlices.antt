@@ -3,4 +3,10 @@ use Rattle.xbar_plan.specs.declared.table_slices.TableSlices.{TableSlices}
 
 -- the tables that the slices show
 abbrev pub tables_of : TableSlices → Tables
-tables_of slices = record { groups = slices.groups.now; stations = slices.stations.now; routes = slices.routes.now; faults = slices.faults.now }
+tables_of slices =
+    record {
+      groups = slices.groups.now;
+      stations = slices.stations.now;
+      routes = slices.routes.now;
+      faults = slices.faults.now;
+    }

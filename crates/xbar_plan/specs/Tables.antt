@@ -17,7 +17,8 @@ pub record Route : Type 0 where
   pub code : ℕ
   pub groups : List ℕ
 
--- what a plan lays down: trunk groups, the number group, routes, and the links that are out of order
+-- what a plan lays down: trunk groups, the number group, routes, and the links that are out of
+-- order
 pub record Tables : Type 0 where
   pub groups : List TrunkGroup
   pub stations : List Station
@@ -26,15 +27,19 @@ pub record Tables : Type 0 where
 
 -- the lines of a directory number, if it has any
 abbrev pub lines_of : Tables → ℕ → Option (List Line)
-lines_of plan number = option_map (λ station. station.lines) (find (λ station. station.number == number) plan.stations)
+lines_of plan number =
+    option_map (λ station. station.lines) (find (λ station. station.number == number) plan.stations)
 
 -- the groups of a code, if it has any
 abbrev pub route_of : Tables → ℕ → Option (List ℕ)
-route_of plan code = option_map (λ route. route.groups) (find (λ route. route.code == code) plan.routes)
+route_of plan code =
+    option_map (λ route. route.groups) (find (λ route. route.code == code) plan.routes)
 
 -- the first item that passes a test, with its number, counted from 0
 abbrev pub first_with : {A : Type 0} → (A → Bool) → List A → Option (ℕ × A)
-first_with test items = option_and_then (λ number. option_map (λ item. (number, item)) (slice_get items number)) (position test items)
+first_with test items =
+    option_and_then (λ number. option_map (λ item. (number, item)) (slice_get items number))
+    (position test items)
 
 -- the number of the first register group
 abbrev pub register_group : Tables → ℕ
@@ -46,7 +51,8 @@ is_faulty plan link = list_any (λ fault. link_eq fault link) plan.faults
 
 -- member `index` of group `group`, both counted from 0, if there is one
 abbrev pub member_at : Tables → ℕ → ℕ → Option Member
-member_at plan group index = option_and_then (λ found. slice_get found.members index) (slice_get plan.groups group)
+member_at plan group index =
+    option_and_then (λ found. slice_get found.members index) (slice_get plan.groups group)
 
 -- a member of the group stands at the place
 abbrev pub has_member_at : TrunkPlace → TrunkGroup → Bool
@@ -55,17 +61,21 @@ has_member_at place group = list_any (λ member. stands_at member place) group.m
 -- the first member of group `number` that stands at the place, with its other place
 abbrev pub member_within : ℕ → TrunkGroup → TrunkPlace → Option MemberPlace
 member_within number group place =
-    option_map (λ found. record { group = number; index = found.0; other = other_place found.1 place })
+    option_map
+    (λ found. record { group = number; index = found.0; other = other_place found.1 place })
     (first_with (λ member. stands_at member place) group.members)
 
 -- the first member that stands at a place, in the first group that has one
 abbrev pub member_place : Tables → TrunkPlace → Option MemberPlace
 member_place plan place =
-    option_and_then (λ found. member_within found.0 found.1 place) (first_with (has_member_at place) plan.groups)
+    option_and_then (λ found. member_within found.0 found.1 place)
+    (first_with (has_member_at place) plan.groups)
 
 -- no member of any group stands at the place
 abbrev pub IsNoMembers : Tables → TrunkPlace → Type 0
-IsNoMembers plan place = (group index : ℕ) → IfSome (member_at plan group index) (λ member. stands_at member place ≡ false)
+IsNoMembers plan place =
+    (group index : ℕ) → IfSome (member_at plan group index)
+    (λ member. stands_at member place ≡ false)
 
 -- the member found stands at the place, and its other place is the one found
 abbrev pub IsOfMember : Tables → TrunkPlace → MemberPlace → Type 0
@@ -73,6 +83,8 @@ IsOfMember plan place found =
     IsSomeAnd (member_at plan found.group found.index)
     (λ member. (stands_at member place ≡ true) × (found.other ≡ other_place member place))
 
--- which member stands at a place, with its other place; none is found only where no member stands there
+-- which member stands at a place, with its other place; none is found only where no member stands
+-- there
 abbrev pub IsMemberPlace : Tables → TrunkPlace → Option MemberPlace → Type 0
-IsMemberPlace plan place found = MatchOption found (IsNoMembers plan place) (λ member. IsOfMember plan place member)
+IsMemberPlace plan place found =
+    MatchOption found (IsNoMembers plan place) (λ member. IsOfMember plan place member)

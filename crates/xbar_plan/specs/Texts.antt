@@ -24,7 +24,8 @@ abbrev pub onto_first : ℕ → List (List ℕ) → List (List ℕ)
 onto_first byte [] = (byte ∷ []) ∷ []
 onto_first byte (part ∷ others) = (byte ∷ part) ∷ others
 
--- the parts of a text, between its spaces: a space at an end, and two in a row, leave an empty part there
+-- the parts of a text, between its spaces: a space at an end, and two in a row, leave an empty part
+-- there
 abbrev pub parts : List ℕ → List (List ℕ)
 parts [] = [] ∷ []
 parts (byte ∷ text) = if byte == 32 then [] ∷ parts text else onto_first byte (parts text)
@@ -37,7 +38,9 @@ pub record IsFirstPart (text first others : List ℕ) : Type 0 where
 -- what each item reads as, if each one reads
 abbrev pub read_all : {A B : Type 0} → (A → Option B) → List A → Option (List B)
 read_all read [] = Some []
-read_all read (item ∷ items) = option_and_then (λ first. option_map (λ others. first ∷ others) (read_all read items)) (read item)
+read_all read (item ∷ items) =
+    option_and_then (λ first. option_map (λ others. first ∷ others) (read_all read items))
+    (read item)
 
 -- ---- numbers
 
@@ -47,12 +50,17 @@ digit_at text place = slice_index text place - 48
 
 -- a value in its range whose text this is
 abbrev pub whose_text : {A : Type 0} → (A → Bool) → (A → List ℕ) → List ℕ → A → Option A
-whose_text in_range text_of text value = if in_range value && bytes_eq text (text_of value) then Some value else None
+whose_text in_range text_of text value =
+    if in_range value && bytes_eq text (text_of value) then Some value else None
 
 -- a line's four digits
 abbrev pub line_of : List ℕ → Option Line
 line_of text = whose_text is_line line_text text
-    (record { frame = digit_at text 0; switch = digit_at text 1; x = 5 * digit_at text 2 + digit_at text 3 })
+    (record {
+      frame = digit_at text 0;
+      switch = digit_at text 1;
+      x = 5 * digit_at text 2 + digit_at text 3;
+    })
 
 -- a trunk place's three digits
 abbrev pub place_of : List ℕ → Option TrunkPlace
@@ -67,7 +75,8 @@ number_of text = whose_text (λ number. nat_lt number 10000) dir_no_text text
 -- a code's three digits
 abbrev pub code_of : List ℕ → Option ℕ
 code_of (a ∷ b ∷ c ∷ []) =
-    if is_ascii_digit a && is_ascii_digit b && is_ascii_digit c then Some (100 * (a - 48) + 10 * (b - 48) + (c - 48)) else None
+    if is_ascii_digit a && is_ascii_digit b
+    && is_ascii_digit c then Some (100 * (a - 48) + 10 * (b - 48) + (c - 48)) else None
 code_of _ = None
 
 -- the kind of link that a text begins with, as far as its first letter tells
@@ -83,7 +92,9 @@ link_kind_of text =
 abbrev pub pair_of : List ℕ → Option Member
 pair_of text =
     if slice_index text 3 == 45
-    then option_and_then (λ first. option_map (λ second. record { first = first; second = Some second }) (place_of (drop 4 text))) (place_of (take 3 text))
+    then option_and_then
+    (λ first. option_map (λ second. record { first = first; second = Some second })
+    (place_of (drop 4 text))) (place_of (take 3 text))
     else None
 
 -- a member of any other group is one
@@ -106,7 +117,8 @@ name_of text = if is_name text then Some text else None
 -- NAME KIND MEMBER MEMBER ..
 abbrev pub group_of_parts : List (List ℕ) → Option TrunkGroup
 group_of_parts (name ∷ kind ∷ members) =
-    option_and_then (λ name. option_and_then (λ kind. option_map (λ members. record { name = name; kind = kind; members = members })
+    option_and_then (λ name. option_and_then
+    (λ kind. option_map (λ members. record { name = name; kind = kind; members = members })
     (read_all (member_of kind) members)) (kind_of kind)) (name_of name)
 group_of_parts _ = None
 
@@ -122,7 +134,9 @@ is_line_count Two count = true
 abbrev pub station_of_parts : Version → List (List ℕ) → Option Station
 station_of_parts version (number ∷ lines) =
     if is_line_count version (length lines)
-    then option_and_then (λ number. option_map (λ lines. record { number = number; lines = lines }) (read_all line_of lines)) (number_of number)
+    then option_and_then
+    (λ number. option_map (λ lines. record { number = number; lines = lines })
+    (read_all line_of lines)) (number_of number)
     else None
 station_of_parts version [] = None
 
@@ -137,7 +151,8 @@ pub record CodeEntry : Type 0 where
 -- CCC NAME NAME ..
 abbrev pub code_entry_of_parts : List (List ℕ) → Option CodeEntry
 code_entry_of_parts (code ∷ names) =
-    option_and_then (λ code. option_map (λ names. record { code = code; names = names }) (read_all name_of names)) (code_of code)
+    option_and_then (λ code. option_map (λ names. record { code = code; names = names })
+    (read_all name_of names)) (code_of code)
 code_entry_of_parts [] = None
 
 abbrev pub code_entry_of : List ℕ → Option CodeEntry
@@ -146,24 +161,36 @@ code_entry_of text = code_entry_of_parts (parts text)
 -- a link that is out of order, two letters and three digits
 abbrev pub fault_of : List ℕ → Option Link
 fault_of text = whose_text is_link link_text text
-    (record { kind = link_kind_of text; frame = digit_at text 2; at = digit_at text 3; channel = digit_at text 4 })
+    (record {
+      kind = link_kind_of text;
+      frame = digit_at text 2;
+      at = digit_at text 3;
+      channel = digit_at text 4;
+    })
 
--- what a reading of an item may answer: what the item reads as, or that it is malformed, or that memory ran out
+-- what a reading of an item may answer: what the item reads as, or that it is malformed, or that
+-- memory ran out
 abbrev pub IsReadAs : {A B : Type 0} → (B → A) → Option A → Result B PlanFault → Type 0
-IsReadAs seen wanted result = MatchResult result (λ read. wanted ≡ Some (seen read)) (λ told. (told ≡ Memory) ⊎ ((told ≡ Malformed) × (wanted ≡ None)))
+IsReadAs seen wanted result =
+    MatchResult result (λ read. wanted ≡ Some (seen read))
+    (λ told. (told ≡ Memory) ⊎ ((told ≡ Malformed) × (wanted ≡ None)))
 
 -- ---- names
 
--- the number of the first group of a name, counted from 0; of a name that no group has, the number past the last group's
+-- the number of the first group of a name, counted from 0; of a name that no group has, the number
+-- past the last group's
 abbrev pub group_number : List TrunkGroup → List ℕ → ℕ
-group_number groups name = unwrap_or (position (λ group. bytes_eq group.name name) groups) (length groups)
+group_number groups name =
+    unwrap_or (position (λ group. bytes_eq group.name name) groups) (length groups)
 
 abbrev pub route_of_entry : List TrunkGroup → CodeEntry → Route
-route_of_entry groups entry = record { code = entry.code; groups = map (group_number groups) entry.names }
+route_of_entry groups entry =
+    record { code = entry.code; groups = map (group_number groups) entry.names }
 
 -- the same as far as a byte goes: a plan with that many groups is refused for them
 abbrev pub capped_number : List TrunkGroup → List ℕ → ℕ
 capped_number groups name = min 255 (group_number groups name)
 
 abbrev pub capped_route : List TrunkGroup → CodeEntry → Route
-capped_route groups entry = record { code = entry.code; groups = map (capped_number groups) entry.names }
+capped_route groups entry =
+    record { code = entry.code; groups = map (capped_number groups) entry.names }

@@ -23,7 +23,9 @@ with_cards r cards = record r { reply = record r.reply { cards = map (λ t. t.ca
 -- records take their cards, one record after another
 unfoldable pub dealt_records : List Record → List TroubleLine → List Record
 dealt_records [] cards = []
-dealt_records (r ∷ records) cards = with_cards r (take (own_count_of r cards) cards) ∷ dealt_records records (drop (own_count_of r cards) cards)
+dealt_records (r ∷ records) cards =
+    with_cards r (take (own_count_of r cards) cards)
+    ∷ dealt_records records (drop (own_count_of r cards) cards)
 
 -- and these cards are left
 unfoldable pub left_of : List Record → List TroubleLine → List TroubleLine

@@ -21,9 +21,11 @@ tally_lines (Whole counts) = line.Paths counts.paths ∷ line.Closed counts.clos
 
 -- the lines that were read so far
 abbrev pub draft_lines : Draft → List Line
-draft_lines d = map line.Record d.records.items ++ map line.Trouble d.cards.items ++ tally_lines d.tally
+draft_lines d =
+    map line.Record d.records.items ++ map line.Trouble d.cards.items ++ tally_lines d.tally
 
--- a text is that of this line, and of no other but for the cards that a line of a record doesn't show
+-- a text is that of this line, and of no other but for the cards that a line of a record doesn't
+-- show
 pub record IsTextOf (text : List ℕ) (line : Line) : Type 0 where
   pub range : IsLine line
   pub text_is : text ≡ line_text line

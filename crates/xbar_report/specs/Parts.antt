@@ -58,4 +58,6 @@ end_second _ = nothing
 
 -- the ends that have neither a trial nor a path
 abbrev pub plain_ends : List End
-plain_ends = CalledBusy ∷ LineBusy ∷ RegistersBusy ∷ TrunksBusy ∷ NoPath ∷ Trouble ∷ VacantCode ∷ VacantNumber ∷ NoRegister ∷ NoCall ∷ []
+plain_ends =
+    CalledBusy ∷ LineBusy ∷ RegistersBusy ∷ TrunksBusy ∷ NoPath ∷ Trouble ∷ VacantCode
+    ∷ VacantNumber ∷ NoRegister ∷ NoCall ∷ []

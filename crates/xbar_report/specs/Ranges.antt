@@ -35,7 +35,8 @@ IsEnd VacantNumber = ⊤
 IsEnd NoRegister = ⊤
 IsEnd NoCall = ⊤
 
--- a record that there can be: its numbers fit their types, its job and its paths are there, and it has at most two cards
+-- a record that there can be: its numbers fit their types, its job and its paths are there, and it
+-- has at most two cards
 pub record IsRecord (r : Record) : Type 0 where
   pub turn : r.turn < 2 ^ 64
   pub marker : r.marker < 2 ^ 32

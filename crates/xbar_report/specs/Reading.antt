@@ -10,7 +10,8 @@ use Rattle.xbar_report.specs.declared.read_fault.ReadFault.TheVariants.{Line, Tu
 abbrev pub HaveSameLines : ℕ → List ℕ → List ℕ → Type 0
 HaveSameLines count a b = take count (lines a) ≡ take count (lines b)
 
--- the first line, counted from 1, at which a text leaves all texts of a kind: some has the lines before it, and none has it too
+-- the first line, counted from 1, at which a text leaves all texts of a kind: some has the lines
+-- before it, and none has it too
 pub record IsFirstStrayLine (IsOfKind : List ℕ → Type 0) (text : List ℕ) (number : ℕ) : Type 0 where
   pub before : (other : List ℕ) × IsOfKind other × HaveSameLines (number - 1) other text
   pub here : (other : List ℕ) → IsOfKind other → ¬ HaveSameLines number other text
@@ -19,8 +20,12 @@ pub record IsFirstStrayLine (IsOfKind : List ℕ → Type 0) (text : List ℕ) (
 abbrev pub HasTurns : List ℕ → Type 0
 HasTurns text = (s : Sheet) × IsSheet s × (text ≡ sheet_text s) × HaveTurns 0 s.records
 
--- what is wrong with a text that is no report's: the lines are looked at first, each by itself, then the turns, then whose the cards are
+-- what is wrong with a text that is no report's: the lines are looked at first, each by itself,
+-- then the turns, then whose the cards are
 abbrev pub IsFaultOf : List ℕ → ReadFault → Type 0
-IsFaultOf text (Line number) = IsFirstStrayLine IsSheetText text number ⊎ (HasTurns text × IsFirstStrayLine IsReportText text number)
-IsFaultOf text (Turns place) = (s : Sheet) × IsSheet s × (text ≡ sheet_text s) × IsFirstWrongTurn s.records place
+IsFaultOf text (Line number) =
+    IsFirstStrayLine IsSheetText text number
+    ⊎ (HasTurns text × IsFirstStrayLine IsReportText text number)
+IsFaultOf text (Turns place) =
+    (s : Sheet) × IsSheet s × (text ≡ sheet_text s) × IsFirstWrongTurn s.records place
 IsFaultOf text Memory = ⊤

@@ -7,14 +7,16 @@ use Rattle.xbar_report.specs.Text.{record_line, trouble_line, count_lines, recor
 use Rattle.xbar_report.specs.declared.counts.Counts.{Counts}
 use Rattle.xbar_report.specs.declared.trouble_line.TroubleLine.{TroubleLine}
 
--- what the lines of a text may say, whatever belongs to what: records, whose own cards don't show, then cards, then counts or none
+-- what the lines of a text may say, whatever belongs to what: records, whose own cards don't show,
+-- then cards, then counts or none
 pub record Sheet : Type 0 where
   pub records : List Record
   pub cards : List TroubleLine
   pub counts : Option Counts
 
 abbrev pub sheet_text : Sheet → List ℕ
-sheet_text s = flat_map record_line s.records ++ flat_map trouble_line s.cards ++ count_lines s.counts
+sheet_text s =
+    flat_map record_line s.records ++ flat_map trouble_line s.cards ++ count_lines s.counts
 
 -- its numbers fit their types, and its jobs, paths and links are there
 pub record IsSheet (s : Sheet) : Type 0 where
@@ -34,4 +36,6 @@ IsSheetText text = (s : Sheet) × IsSheet s × (text ≡ sheet_text s)
 
 -- or that of some report
 abbrev pub IsReportText : List ℕ → Type 0
-IsReportText text = (records : List Record) × (counts : Option Counts) × IsReport records counts × (text ≡ records_text records counts)
+IsReportText text =
+    (records : List Record) × (counts : Option Counts) × IsReport records counts
+    × (text ≡ records_text records counts)

@@ -39,9 +39,12 @@ plain_end_fields name = fields (name ∷ nothing ∷ nothing ∷ nothing ∷ [])
 
 -- the fields of an end: its name, trial, first path, second path
 abbrev pub end_fields : End → List ℕ
-end_fields (DialTone path trial) = fields (codes "DIALTONE" ∷ decimal trial ∷ path_text path ∷ nothing ∷ [])
-end_fields (Connected calling called trial) = fields (codes "CONNECTED" ∷ decimal trial ∷ path_text calling ∷ path_field called ∷ [])
-end_fields (Released own other) = fields (codes "RELEASED" ∷ nothing ∷ path_text own ∷ path_field other ∷ [])
+end_fields (DialTone path trial) =
+    fields (codes "DIALTONE" ∷ decimal trial ∷ path_text path ∷ nothing ∷ [])
+end_fields (Connected calling called trial) =
+    fields (codes "CONNECTED" ∷ decimal trial ∷ path_text calling ∷ path_field called ∷ [])
+end_fields (Released own other) =
+    fields (codes "RELEASED" ∷ nothing ∷ path_text own ∷ path_field other ∷ [])
 end_fields CalledBusy = plain_end_fields (codes "CALLEDBUSY")
 end_fields LineBusy = plain_end_fields (codes "LINEBUSY")
 end_fields RegistersBusy = plain_end_fields (codes "REGISTERSBUSY")
@@ -59,11 +62,15 @@ line_with texts = fields texts ++ codes "\n"
 
 -- the line of a record: turn, job number, marker, then the fields of its job and of its end
 abbrev pub record_line : Record → List ℕ
-record_line r = line_with (decimal r.turn ∷ decimal r.job_no ∷ decimal r.marker ∷ job_fields r.job ∷ end_fields r.reply.end ∷ [])
+record_line r =
+    line_with (decimal r.turn ∷ decimal r.job_no ∷ decimal r.marker ∷ job_fields r.job
+    ∷ end_fields r.reply.end ∷ [])
 
 -- the line of a trouble card: turn, job number, trial, link
 abbrev pub trouble_line : TroubleLine → List ℕ
-trouble_line t = line_with (codes "TROUBLE" ∷ decimal t.turn ∷ decimal t.job_no ∷ decimal t.card.trial ∷ link_text t.card.link ∷ [])
+trouble_line t =
+    line_with (codes "TROUBLE" ∷ decimal t.turn ∷ decimal t.job_no ∷ decimal t.card.trial
+    ∷ link_text t.card.link ∷ [])
 
 -- a card of a record, with the record's turn and job number
 abbrev pub trouble_of : Record → Card → TroubleLine
@@ -94,10 +101,13 @@ abbrev pub count_lines : Option Counts → List ℕ
 count_lines None = []
 count_lines (Some counts) = paths_line counts.paths ++ closed_line counts.closed
 
--- the text of records, with counts or without: the lines of all records, then those of all cards, then the counts
+-- the text of records, with counts or without: the lines of all records, then those of all cards,
+-- then the counts
 abbrev pub records_text : List Record → Option Counts → List ℕ
-records_text records counts = flat_map record_line records ++ flat_map card_lines records ++ count_lines counts
+records_text records counts =
+    flat_map record_line records ++ flat_map card_lines records ++ count_lines counts
 
 -- what is written of a run with these records, which leaves so many paths and closed crosspoints
 abbrev pub report_text : List Record → ℕ → ℕ → List ℕ
-report_text records paths closed = records_text records (Some (record { paths = paths; closed = closed }))
+report_text records paths closed =
+    records_text records (Some (record { paths = paths; closed = closed }))

@@ -57,7 +57,8 @@ item_at list found = record { list = list; number = found.0 + 1; text = found.1 
 
 -- the first item of a list that hasn't its form
 abbrev pub malformed_in : Version → PlanList → List (List ℕ) → Option Item
-malformed_in version list texts = option_map (item_at list) (first_with (λ text. not (has_form version list text)) texts)
+malformed_in version list texts =
+    option_map (item_at list) (first_with (λ text. not (has_form version list text)) texts)
 
 abbrev pub or_else : {A : Type 0} → Option A → Option A → Option A
 or_else None second = second
@@ -67,10 +68,12 @@ or_else (Some first) second = Some first
 abbrev pub malformed_among : Version → Members → List PlanList → Option Item
 malformed_among version document [] = None
 malformed_among version document (list ∷ others) =
-    option_and_then (λ texts. or_else (malformed_in version list texts) (malformed_among version document others)) (texts_at document list)
+    option_and_then (λ texts. or_else (malformed_in version list texts)
+    (malformed_among version document others)) (texts_at document list)
 
 abbrev pub malformed_of_document : Members → Option Item
-malformed_of_document document = option_and_then (λ version. malformed_among version document plan_lists) (version_of document)
+malformed_of_document document =
+    option_and_then (λ version. malformed_among version document plan_lists) (version_of document)
 
 -- the same of the document that bytes are
 abbrev pub malformed_item : List ℕ → Option Item
@@ -78,10 +81,13 @@ malformed_item bytes = option_and_then malformed_of_document (document_of bytes)
 
 -- the item of which a place speaks with its text
 abbrev pub item_of : PlanPlace → Option Item
-item_of (ItemText item) = Some (record { list = item.list; number = item.number; text = item.text.items })
-item_of (Part item number text) = Some (record { list = item.list; number = item.number; text = item.text.items })
+item_of (ItemText item) =
+    Some (record { list = item.list; number = item.number; text = item.text.items })
+item_of (Part item number text) =
+    Some (record { list = item.list; number = item.number; text = item.text.items })
 item_of _ = None
 
 -- what is told is wrong with this item; nothing is told where there is no item
 abbrev pub TellsItem : Option PlanWrong → Option Item → Type 0
-TellsItem wrong item = option_map (λ wrong. item_of wrong.place) wrong ≡ option_map (λ item. Some item) item
+TellsItem wrong item =
+    option_map (λ wrong. item_of wrong.place) wrong ≡ option_map (λ item. Some item) item

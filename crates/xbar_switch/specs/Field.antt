@@ -2,7 +2,8 @@ use Rattle.std.specs.Prelude.{◌≡◌, ◌≢◌, ℕ, ◌+◌, ◌-◌, ◌*�
 use Rattle.xbar_switch.specs.declared.shape.Shape.{Shape}
 use Rattle.xbar_switch.specs.Shape.{width}
 
--- what field v of the word holds: 0 where it is open, and one more than the place where it is closed
+-- what field v of the word holds: 0 where it is open, and one more than the place where it is
+-- closed
 unfoldable pub field_of : Shape → ℕ → ℕ → ℕ
 field_of shape word v = word / 2 ^ (width shape * v) % 2 ^ width shape
 
@@ -29,5 +30,6 @@ with_open shape word v = bit_and word (open_mask_of shape v)
 -- field v of the new word holds this value, and all else in the word is as it was
 pub record ChangesField (shape : Shape) (old new v value : ℕ) : Type 0 where
   pub changed : field_of shape new v ≡ value
-  pub others : (other : ℕ) → other < 10 → other ≢ v → field_of shape new other ≡ field_of shape old other
+  pub others : (other : ℕ) → other < 10 → other ≢ v
+      → field_of shape new other ≡ field_of shape old other
   pub above : above_fields shape new ≡ above_fields shape old

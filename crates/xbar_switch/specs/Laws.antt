@@ -6,13 +6,15 @@ use Rattle.xbar_switch.specs.Field.{field_of, above_fields, with_closed, with_op
 -- closing an open field sets it to one more than the place
 abbrev pub ClosingSetsField : Type 0
 ClosingSetsField =
-    (shape : Shape) (word v h : ℕ) → word < 2 ^ 64 → v < 10 → h < places shape → field_of shape word v ≡ 0
+    (shape : Shape) (word v h : ℕ) → word < 2 ^ 64 → v < 10 → h < places shape
+    → field_of shape word v ≡ 0
     → field_of shape (with_closed shape word v h) v ≡ 1 + h
 
 -- closing a field leaves every other field as it was
 abbrev pub ClosingKeepsOthers : Type 0
 ClosingKeepsOthers =
-    (shape : Shape) (word v h other : ℕ) → word < 2 ^ 64 → v < 10 → h < places shape → other < 10 → other ≢ v
+    (shape : Shape) (word v h other : ℕ) → word < 2 ^ 64 → v < 10 → h < places shape → other < 10
+    → other ≢ v
     → field_of shape (with_closed shape word v h) other ≡ field_of shape word other
 
 -- closing a field leaves what stands above the fields as it was

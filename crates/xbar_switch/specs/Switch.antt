@@ -2,7 +2,8 @@ use Rattle.std.specs.Prelude.{◌≡◌, ℕ, ◌+◌, Option}
 use Rattle.xbar_switch.specs.declared.shape.Shape.{Shape}
 use Rattle.xbar_switch.specs.Field.{field_of, with_closed, with_open, ChangesField}
 
--- a switch: which kind it is, what stands in its word, and the place that its select magnets prepare
+-- a switch: which kind it is, what stands in its word, and the place that its select magnets
+-- prepare
 pub record SwitchState : Type 0 where
   pub shape : Shape
   pub word : ℕ

@@ -4,4 +4,5 @@ use Rattle.xbar_traffic.specs.declared.fields.Fields.{Fields}
 -- the five fields, in their order
 abbrev pub five_fields : Fields → List (List ℕ)
 five_fields fields =
-    fields.first.now ∷ fields.second.now ∷ fields.third.now ∷ fields.fourth.now ∷ fields.fifth.now ∷ []
+    fields.first.now ∷ fields.second.now ∷ fields.third.now ∷ fields.fourth.now ∷ fields.fifth.now
+    ∷ []

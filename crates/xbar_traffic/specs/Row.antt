@@ -31,11 +31,13 @@ hold_letter false = codes "K"
 abbrev pub row_fields : Row → List (List ℕ)
 row_fields (Assign marker job_no job) = codes "J" ∷ decimal marker ∷ decimal job_no ∷ job_fields job
 row_fields (Steps marker count) = codes "S" ∷ decimal marker ∷ decimal count ∷ [] ∷ [] ∷ []
-row_fields (Call call_no line dialled release) = codes "C" ∷ decimal call_no ∷ line_text line ∷ dialled_text dialled ∷ hold_letter release ∷ []
+row_fields (Call call_no line dialled release) =
+    codes "C" ∷ decimal call_no ∷ line_text line ∷ dialled_text dialled ∷ hold_letter release ∷ []
 
 -- whether a first field is the letter of a row; whether it is that of a row of this mode
 abbrev pub is_row_letter : List ℕ → Bool
-is_row_letter letter = bytes_eq letter (codes "J") || bytes_eq letter (codes "S") || bytes_eq letter (codes "C")
+is_row_letter letter =
+    bytes_eq letter (codes "J") || bytes_eq letter (codes "S") || bytes_eq letter (codes "C")
 
 abbrev pub is_letter_of : Mode → List ℕ → Bool
 is_letter_of Replay letter = bytes_eq letter (codes "J") || bytes_eq letter (codes "S")
@@ -49,12 +51,16 @@ five_fault mode letter kind =
     if bytes_eq letter (codes "J") && not (is_job_kind kind) then UnknownKind else
     Malformed
 
--- what is wrong with fields that are no row of a mode: there aren't five, or what is wrong with the five
+-- what is wrong with fields that are no row of a mode: there aren't five, or what is wrong with the
+-- five
 abbrev pub fields_fault : Mode → List (List ℕ) → RowFault
 fields_fault mode (letter ∷ second ∷ third ∷ kind ∷ fifth ∷ []) = five_fault mode letter kind
 fields_fault mode _ = Unreadable
 
--- what reading fields comes to: the row of this mode that they write, or what is wrong if they write none
+-- what reading fields comes to: the row of this mode that they write, or what is wrong if they
+-- write none
 abbrev pub IsReadAs : Mode → List (List ℕ) → Result Row RowFault → Type 0
 IsReadAs mode fields (Ok row) = IsRow row × (mode_of row ≡ mode) × (fields ≡ row_fields row)
-IsReadAs mode fields (Err fault) = ((row : Row) → IsRow row → mode_of row ≡ mode → fields ≢ row_fields row) × (fault ≡ fields_fault mode fields)
+IsReadAs mode fields (Err fault) =
+    ((row : Row) → IsRow row → mode_of row ≡ mode → fields ≢ row_fields row)
+    × (fault ≡ fields_fault mode fields)

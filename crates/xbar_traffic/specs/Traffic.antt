@@ -26,15 +26,19 @@ repeats stood (Call call_no line dialled release) = stood call_no
 -- what reading fields comes to where these numbers stood before
 abbrev pub IsJudgedAs : Mode → (ℕ → Bool) → List (List ℕ) → Result Row RowFault → Type 0
 IsJudgedAs mode stood fields (Ok row) = IsReadAs mode fields (Ok row) × (repeats stood row ≡ false)
-IsJudgedAs mode stood fields (Err NumberTwice) = (row : Row) × IsReadAs mode fields (Ok row) × (repeats stood row ≡ true)
+IsJudgedAs mode stood fields (Err NumberTwice) =
+    (row : Row) × IsReadAs mode fields (Ok row) × (repeats stood row ≡ true)
 IsJudgedAs mode stood fields (Err fault) = IsReadAs mode fields (Err fault)
 
 -- what records come to after rows: their rows up to the first fault, and that fault if there is one
-abbrev pub AreReadAfter : Mode → List Row → List (List (List ℕ)) → List Row → Option RowFault → Type 0
+abbrev pub AreReadAfter : Mode → List Row → List (List (List ℕ)) → List Row → Option RowFault
+    → Type 0
 AreReadAfter mode before [] [] None = Unit {0}
-AreReadAfter mode before (fields ∷ records) [] (Some fault) = IsJudgedAs mode (stands_in before) fields (Err fault)
+AreReadAfter mode before (fields ∷ records) [] (Some fault) =
+    IsJudgedAs mode (stands_in before) fields (Err fault)
 AreReadAfter mode before (fields ∷ records) (row ∷ rows) fault =
-    IsJudgedAs mode (stands_in before) fields (Ok row) × AreReadAfter mode (before ++ row ∷ []) records rows fault
+    IsJudgedAs mode (stands_in before) fields (Ok row)
+    × AreReadAfter mode (before ++ row ∷ []) records rows fault
 AreReadAfter mode before _ _ _ = ⊥
 
 -- what the records of a whole traffic of a mode come to

@@ -61,7 +61,8 @@ runs_of telling (item ∷ later) =
 abbrev pub IsRun : Telling → List Item → Type 0
 IsRun telling run =
     ((item : Item) × (run ≡ item ∷ []))
-    ⊎ ((first : Tested) × (next : Tested) × (later : List Tested) × (run ≡ map Tests (first ∷ next ∷ later)) × (are_joined telling (first ∷ next ∷ later) ≡ true))
+    ⊎ ((first : Tested) × (next : Tested) × (later : List Tested)
+    × (run ≡ map Tests (first ∷ next ∷ later)) × (are_joined telling (first ∷ next ∷ later) ≡ true))
 
 abbrev pub tests_of : Item → List Tested
 tests_of (Tests tested) = tested ∷ []

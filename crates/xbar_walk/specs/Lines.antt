@@ -26,12 +26,14 @@ marker_line number marker words =
 -- a job is assigned to a marker: no step, so it has no number
 unfoldable pub assignment_line : ℕ → ℕ → Job → List ℕ
 assignment_line marker job_no job =
-    concat (codes "      marker " ∷ decimal marker ∷ codes "  is given job " ∷ decimal job_no ∷ codes ": " ∷ job_words job ∷ codes "\n" ∷ [])
+    concat (codes "      marker " ∷ decimal marker ∷ codes "  is given job " ∷ decimal job_no
+    ∷ codes ": " ∷ job_words job ∷ codes "\n" ∷ [])
 
 -- a trouble card stands below the turn that gave it
 unfoldable pub card_line : Card → List ℕ
 card_line card =
-    concat (codes "                  trouble card: trial " ∷ decimal card.trial ∷ codes ", " ∷ link_text card.link ∷ codes " is faulty\n" ∷ [])
+    concat (codes "                  trouble card: trial " ∷ decimal card.trial ∷ codes ", "
+    ∷ link_text card.link ∷ codes " is faulty\n" ∷ [])
 
 abbrev pub card_lines : List Record → List ℕ
 card_lines records = flat_map (λ r. flat_map card_line r.reply.cards) records

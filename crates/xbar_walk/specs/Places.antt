@@ -26,7 +26,8 @@ place_of word =
 
 -- a switch, by its frame and its own number there
 unfoldable pub switch_name : List ℕ → ℕ → ℕ → List ℕ
-switch_name kind frame switch = concat (kind ∷ codes " " ∷ decimal frame ∷ codes "," ∷ decimal switch ∷ [])
+switch_name kind frame switch =
+    concat (kind ∷ codes " " ∷ decimal frame ∷ codes "," ∷ decimal switch ∷ [])
 
 -- what the office calls it
 unfoldable pub place_name : Place → List ℕ
@@ -57,4 +58,5 @@ link_name kind frame at channel =
 unfoldable pub trunk_name : ℕ → ℕ → ℕ → List ℕ
 trunk_name frame switch appearance =
     let place : TrunkPlace = record { frame = frame; switch = switch; appearance = appearance } in
-    if is_trunk_place place then concat (codes "place " ∷ place_text place ∷ []) else codes "no place"
+    if is_trunk_place place then concat (codes "place " ∷ place_text place ∷ [])
+    else codes "no place"

@@ -81,7 +81,8 @@ last_of first (next ∷ later) = last_of next later
 unfoldable pub row_words : Tested → Tested → List Tested → List ℕ
 row_words first last tests =
     concat (codes "tests " ∷ row_name first.place ∷ codes " to " ∷ place_numbers last.place
-    ∷ codes " (steps " ∷ decimal first.number ∷ codes " to " ∷ decimal last.number ∷ codes "): " ∷ row_found tests ∷ [])
+    ∷ codes " (steps " ∷ decimal first.number ∷ codes " to " ∷ decimal last.number ∷ codes "): "
+    ∷ row_found tests ∷ [])
 
 unfoldable pub row_line : Tested → Tested → List Tested → List ℕ
 row_line first last tests =

@@ -100,4 +100,5 @@ told_settling w =
     let count = length w.office.exchange.markers in
     told_for_each told_end count
     (told_for_each told_give_back count
-    (told_for_each told_end_past_turn count (record w { items = w.items ++ Says settling_line ∷ [] })))
+    (told_for_each told_end_past_turn count
+    (record w { items = w.items ++ Says settling_line ∷ [] })))

@@ -24,13 +24,16 @@ use Rattle.xbar_walk.specs.declared.told.Told.{Told}
 -- what a job is
 unfoldable pub job_words : Job → List ℕ
 job_words (Dial line) = concat (codes "dial tone for line " ∷ line_text line ∷ [])
-job_words (Complete line dialled) = concat (codes "call of line " ∷ line_text line ∷ codes " to " ∷ dialled_text dialled ∷ [])
+job_words (Complete line dialled) =
+    concat (codes "call of line " ∷ line_text line ∷ codes " to " ∷ dialled_text dialled ∷ [])
 job_words (Release line) = concat (codes "release of line " ∷ line_text line ∷ [])
 
 -- why a marker does not get what it asks for, if it does not
 unfoldable pub put_off : Event → List ℕ
-put_off (event.Refused conn holder) = concat (codes ": marker " ∷ decimal holder ∷ codes " holds it" ∷ [])
-put_off (event.Preferred other) = concat (codes ": marker " ∷ decimal other ∷ codes " is preferred" ∷ [])
+put_off (event.Refused conn holder) =
+    concat (codes ": marker " ∷ decimal holder ∷ codes " holds it" ∷ [])
+put_off (event.Preferred other) =
+    concat (codes ": marker " ∷ decimal other ∷ codes " is preferred" ∷ [])
 put_off _ = []
 
 unfoldable pub request_words : Conn → Event → List ℕ
@@ -38,7 +41,9 @@ request_words conn came = concat (codes "requests " ∷ conn_name conn ∷ put_o
 
 -- a marker whose next step is to seize once more has found another word than it expected
 unfoldable pub seized_words : Conn → Step → List ℕ
-seized_words conn (step.Seize same expected) = concat (codes "would seize " ∷ conn_name conn ∷ codes ": its word has changed, it tries again" ∷ [])
+seized_words conn (step.Seize same expected) =
+    concat (codes "would seize " ∷ conn_name conn ∷ codes ": its word has changed, it tries again"
+    ∷ [])
 seized_words conn _ = concat (codes "seizes " ∷ conn_name conn ∷ [])
 
 unfoldable pub not_seized_words : Conn → Event → List ℕ
@@ -52,20 +57,26 @@ seize_words conn _ next = seized_words conn next
 
 -- what a test finds
 unfoldable pub found_words : Place → ℕ → List ℕ
-found_words (Group group) word = listed (codes "all members idle") (codes "busy members: ") (codes ", ") (shown (Group group) word)
-found_words place word = listed (codes "nothing closed") (codes "closed: ") (codes "; ") (shown place word)
+found_words (Group group) word =
+    listed (codes "all members idle") (codes "busy members: ") (codes ", ")
+    (shown (Group group) word)
+found_words place word =
+    listed (codes "nothing closed") (codes "closed: ") (codes "; ") (shown place word)
 
 unfoldable pub test_words : Place → ℕ → List ℕ
-test_words place word = concat (codes "tests " ∷ place_name place ∷ codes ": " ∷ found_words place word ∷ [])
+test_words place word =
+    concat (codes "tests " ∷ place_name place ∷ codes ": " ∷ found_words place word ∷ [])
 
 -- crosspoints of a switch change, or the bits of members of a group
 unfoldable pub switched_words : List ℕ → List ℕ → Place → ℕ → List ℕ
 switched_words verb state place bits =
-    concat (verb ∷ place_name place ∷ listed (codes ":") (codes ": ") (codes "; ") (shown place bits) ∷ state ∷ [])
+    concat (verb ∷ place_name place
+    ∷ listed (codes ":") (codes ": ") (codes "; ") (shown place bits) ∷ state ∷ [])
 
 unfoldable pub marked_words : List ℕ → Place → ℕ → List ℕ
 marked_words state place bits =
-    concat (listed (codes "marks nothing") (codes "marks member ") (codes ", ") (shown place bits) ∷ codes " of " ∷ place_name place ∷ state ∷ [])
+    concat (listed (codes "marks nothing") (codes "marks member ") (codes ", ") (shown place bits)
+    ∷ codes " of " ∷ place_name place ∷ state ∷ [])
 
 -- the bits that a close sets
 unfoldable pub close_words : Place → ℕ → List ℕ
@@ -97,16 +108,21 @@ and_path (Some path) = concat (codes " and " ∷ path_text path ∷ [])
 
 -- how a job ends, by the end's name in records, its trial and its paths
 unfoldable pub end_words : End → List ℕ
-end_words (DialTone path trial) = concat (codes "DIALTONE at trial " ∷ decimal trial ∷ codes " by " ∷ path_text path ∷ [])
-end_words (Connected calling called trial) = concat (codes "CONNECTED at trial " ∷ decimal trial ∷ codes " by " ∷ path_text calling ∷ and_path called ∷ [])
-end_words (Released own other) = concat (codes "RELEASED, and takes out " ∷ path_text own ∷ and_path other ∷ [])
+end_words (DialTone path trial) =
+    concat (codes "DIALTONE at trial " ∷ decimal trial ∷ codes " by " ∷ path_text path ∷ [])
+end_words (Connected calling called trial) =
+    concat (codes "CONNECTED at trial " ∷ decimal trial ∷ codes " by " ∷ path_text calling
+    ∷ and_path called ∷ [])
+end_words (Released own other) =
+    concat (codes "RELEASED, and takes out " ∷ path_text own ∷ and_path other ∷ [])
 end_words end = end_name end
 
 -- the turn, with the record that it adds
 unfoldable pub turn_words : List Record → List ℕ
 turn_words [] = codes "takes its turn"
 turn_words (r ∷ records) =
-    concat (codes "takes turn " ∷ decimal r.turn ∷ codes ": job " ∷ decimal r.job_no ∷ codes " ends " ∷ end_words r.reply.end ∷ [])
+    concat (codes "takes turn " ∷ decimal r.turn ∷ codes ": job " ∷ decimal r.job_no
+    ∷ codes " ends " ∷ end_words r.reply.end ∷ [])
 
 -- a step in words: what it is on, and what came of it
 unfoldable pub step_words : Told → List Record → List ℕ
@@ -114,7 +130,8 @@ step_words told records = of_step told.step where
   of_step : Step → List ℕ
   of_step (step.Request conn) = request_words conn told.event
   of_step (step.Seize conn expected) = seize_words conn told.event told.next
-  of_step (step.Withdraw conn) = given_words (codes "withdraws its request for ") conn told.event told.next
+  of_step (step.Withdraw conn) =
+      given_words (codes "withdraws its request for ") conn told.event told.next
   of_step (step.Test word) = test_words (place_of word) told.found
   of_step step.Turn = turn_words records
   of_step (step.Close word bits) = close_words (place_of word) bits

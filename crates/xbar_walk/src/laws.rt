@@ -56,7 +56,8 @@ pub fn words_are_told_by_their_places()
     ensures trunk_switch { (frame switch : ℕ) → frame < 10 → switch < 10 →
         place_of (word_number (words.TrunkSwitch frame switch)) ≡ Place.TrunkSwitch frame switch }
     ensures trunk_junctor { (frame channel : ℕ) → frame < 10 → channel < 10 →
-        place_of (word_number (words.TrunkJunctor frame channel)) ≡ Place.TrunkJunctor frame channel }
+        place_of (word_number (words.TrunkJunctor frame channel))
+        ≡ Place.TrunkJunctor frame channel }
     ensures group { (group : ℕ) → group < 16 →
         place_of (word_number (words.GroupWord group)) ≡ Place.Group group }
 {}

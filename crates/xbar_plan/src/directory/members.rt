@@ -77,7 +77,8 @@ pub fn placed_members(
     groups: &[Group],
 ) -> Result<Vec<Option<MemberPlace>>, AllocError>
     requires few { length groups.now ≤ 16 }
-    requires members { (number : ℕ) (group : TrunkGroup) → slice_get groups.now number ≡ Some group →
+    requires members { (number : ℕ) (group : TrunkGroup)
+        → slice_get groups.now number ≡ Some group →
         length group.members ≤ 40 }
     ensures { IfOk result (λ members. (place : TrunkPlace) → IsTrunkPlace place →
         slice_get members.items (number_of_place place) ≡ Some (member_place

@@ -2,11 +2,11 @@
 //! and the status stay, and the sentence is the right one or none.
 
 use super::refused::FILE;
-use crate::between::task_between;
-use crate::ending::Ending;
 use crossbar5::{Counted, Task, kinds_of};
+use crossbar5_cli::{Ending, task_between};
 use std::alloc::Global;
 use std::process::Abort;
+use test_checks::check_eq;
 
 /// A replay by two markers is refused with this output, status and sentence, or without the sentence,
 /// or is out of memory before all that.
@@ -35,10 +35,10 @@ fn is_refused_or_out_of_memory(
     if let Ending::Failed(_) = ended.ending {
         return;
     }
-    assert_eq!(rt; sink.get_ref().as_slice(), output);
+    check_eq!(rt; sink.get_ref().as_slice(), output);
     if let Some(found) = &ended.sentence {
         if let Ok(told) = found.to_string(alloc) {
-            assert_eq!(rt; told.as_str(), sentence);
+            check_eq!(rt; told.as_str(), sentence);
         }
     }
 }

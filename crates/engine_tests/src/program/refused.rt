@@ -1,0 +1,85 @@
+//! Runs between devices that tell their bytes.
+
+use crossbar5::{Counted, Task, open_gates};
+use crossbar5_cli::{Ended, live_between, task_between};
+use std::alloc::Global;
+use std::process::Abort;
+use std::sync::Wait;
+use std::test::Fail;
+use std::thread::Threads;
+use test_checks::check_eq;
+
+/// The file that a plan's text stood in.
+pub const FILE: &str = "town.toml";
+
+/// What is on standard output, the status, and the line behind it on standard error.
+pub type Wanted<'t> = (&'t str, u8, &'t str);
+
+/// The sentence on how a run ended, or `none`.
+pub fn sentence_of(alloc: Global, ended: &Ended<'_>) -> Result<String, Fail> {
+    Ok(match &ended.sentence {
+        Some(sentence) => sentence.to_string(alloc)?,
+        None => String::from_str(alloc, "none")?,
+    })
+}
+
+/// A run ends so.
+pub fn check_ended(
+    rt: &impl Abort,
+    alloc: Global,
+    ended: &Ended<'_>,
+    written: &[u8],
+    wanted: Wanted<'_>,
+) -> Result<(), Fail> {
+    let line = sentence_of(alloc, ended)?;
+    let text = str::from_utf8(written).unwrap_or("this is no text");
+    check_eq!(rt; (text, ended.ending.status(), line.as_str()), wanted);
+    Ok(())
+}
+
+/// A task with this plan and this input ends so.
+pub fn check_task(
+    rt: &impl Abort,
+    alloc: Global,
+    plan: &str,
+    task: Task<'_>,
+    input: &str,
+    wanted: Wanted<'_>,
+) -> Result<(), Fail> {
+    let mut source = Counted::new(input.as_bytes());
+    let mut sink = Counted::new(Vec::new(alloc));
+    let ended = task_between(
+        alloc,
+        Some(FILE),
+        plan.as_bytes(),
+        task,
+        &mut source,
+        &mut sink,
+    );
+    check_ended(rt, alloc, &ended, sink.get_ref(), wanted)
+}
+
+/// So do live calls by one marker of each kind.
+pub fn check_live<T: Threads + Wait + Sync + Abort>(
+    rt: &T,
+    alloc: Global,
+    plan: &str,
+    traffic: &str,
+    wanted: Wanted<'_>,
+) -> Result<(), Fail> {
+    let gates = open_gates(alloc, 1, 1)?;
+    let mut source = Counted::new(traffic.as_bytes());
+    let mut sink = Counted::new(Vec::new(alloc));
+    let ended = live_between(
+        rt,
+        alloc,
+        Some(FILE),
+        plan.as_bytes(),
+        1,
+        1,
+        gates,
+        &mut source,
+        &mut sink,
+    );
+    check_ended(rt, alloc, &ended, sink.get_ref(), wanted)
+}
