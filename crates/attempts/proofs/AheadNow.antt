@@ -1,11 +1,14 @@
 -- what is to be seen of an attempt that may be ahead of itself
-use Rattle.std.proofs.Common.{◌≡◌, ℕ, zero, suc, List, [], ◌∷◌, refl, sym, ap, ◌∙◌}
+use Rattle.std.proofs.Common.{◌≡◌, ℕ, Bool, zero, suc, List, [], ◌∷◌, refl, sym, ap, ◌∙◌}
 use Rattle.std.specs.Prelude.{IfNone, IfSome, Option, Some, None, drop, slice_get}
 use Rattle.std.proofs.lemmas.Option.{same_Some}
-use Rattle.turns.specs.Attempt.{Attempt}
+use Rattle.turns.specs.Attempt.{Attempt, act, answer_to}
 use Rattle.turns.specs.declared.reading.Reading.{Reading}
 use Rattle.attempts.specs.Ahead.{Ahead, guessed_of, guesses, made_of, now_by, now_of, waiting}
 use Rattle.attempts.specs.Standing.{Program, attempt_of}
+use Rattle.attempts.specs.Steps.{told_in}
+use Rattle.attempts.specs.SystemWith.{SystemWith, system_with}
+use Rattle.attempts.proofs.Inside.{told_by}
 
 module _ {Lock Job Reply Effect Decision Point : Type 0} (reply_of : Decision → Reply) (effects_of : Decision → List Effect) (p : Ahead Lock Job Decision Point) where
   -- with no guess it is where it comes to
@@ -51,6 +54,13 @@ module _ {Lock Job Reply Effect Decision Point A : Type 0} (reply_of : Decision 
 
   pub seen_waiting : (now : Ahead Lock Job Decision Point) (guess : Reading ℕ) → Some guess ≡ slice_get (guesses now) 0 → f (waiting Reply Effect now.far (made_of now.sure now.far.readings) guess.word) ≡ f (now_of reply_of effects_of now)
   seen_waiting now guess got = ap f (sym (waits reply_of effects_of now guess got))
+
+-- where it guesses nothing, it is told of its next step by the phase that it has from inside
+pub told_far : {Lock Job Reply Effect Decision Point : Type 0} (same : Lock → Lock → Bool) (reply_of : Decision → Reply) (effects_of : Decision → List Effect) (S : SystemWith Lock Job Reply Effect Decision) (k found : ℕ) (p far : Program Lock Job Decision Point) (sure : Option ℕ) (now : Ahead Lock Job Decision Point) → p ≡ far → record { far = far; sure = sure } ≡ now → None ≡ slice_get (guesses now) 0 → told_in p.phase k found ≡ answer_to (system_with same reply_of effects_of S) k (act (now_of reply_of effects_of now)) found
+told_far same reply_of effects_of S k found p far sure now within inside none =
+    told_by same reply_of effects_of S k found p.phase (attempt_of reply_of effects_of p)
+    ∙ ap (λ (x : Program _ _ _ _). answer_to (system_with same reply_of effects_of S) k (act (attempt_of reply_of effects_of x)) found) within
+    ∙ seen_far reply_of effects_of (λ a. answer_to (system_with same reply_of effects_of S) k (act a) found) far sure now inside none
 
 -- whatever there is
 pub of_any : {A P : Type 0} (found : Option A) → P → IfSome found (λ _. P)

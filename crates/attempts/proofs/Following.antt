@@ -2,7 +2,7 @@
 use Rattle.std.proofs.Common.{◌≡◌, ℕ, Bool, List, sym, ◌∙◌, ap, subst}
 use Rattle.std.specs.Prelude.{Err, IfSome, Option}
 use Rattle.turns.specs.Attempt.{AttemptOf, StandsIn, seen_of}
-use Rattle.turns.specs.Script.{walk}
+use Rattle.turns.specs.Script.{Script, walk}
 use Rattle.turns.specs.Seen.{Seen}
 use Rattle.turns.specs.System.{System}
 use Rattle.turns.specs.declared.phase.Phase.{Phase}
@@ -38,5 +38,8 @@ module _ {Lock Job Reply Effect Decision Point : Type 0} (same : Lock → Lock �
     pub wants_here : walk same (seen_of (outside p)) (S.script p.job) ≡ Err (Test word)
     wants_here = subst (λ (phase : Phase Lock ℕ). StandsIn O (outside p) phase) tests_here here.place.comes
 
-  pub goes_on_there : (p now : Doing) (inside : p ≡ now) (word : ℕ) (next : Option ℕ) → IfSome next (GoesOnTo same (seen_of (outside p)) (S.script p.job) word) → IfSome next (GoesOnTo same (record { held = now.held; readings = now.readings }) (S.script now.job) word)
-  goes_on_there p now inside word next goes = subst (λ (x : Doing). IfSome next (GoesOnTo same (record { held = x.held; readings = x.readings }) (S.script x.job) word)) inside goes
+-- what it goes on to is the same by the parts that it has, as by those that are seen of it
+pub goes_on_there : {Lock Job Decision : Type 0} (same : Lock → Lock → Bool) (script : Job → Script Lock Decision) (job own_job : Job) (seen own_seen : Seen Lock) (word : ℕ) (next : Option ℕ) → job ≡ own_job → seen ≡ own_seen → IfSome next (GoesOnTo same seen (script job) word) → IfSome next (GoesOnTo same own_seen (script own_job) word)
+goes_on_there same script job own_job seen own_seen word next job_is seen_is goes =
+    subst (λ (x : Seen _). IfSome next (GoesOnTo same x (script own_job) word)) seen_is
+    (subst (λ j. IfSome next (GoesOnTo same seen (script j) word)) job_is goes)

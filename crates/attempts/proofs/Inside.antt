@@ -1,9 +1,9 @@
 -- an attempt from inside, as its methods have it, and from outside
 use Rattle.std.proofs.Common.{◌≡◌, ℕ, suc, arith, ne_eqb, ◌<◌, ◌+◌, ◌^◌, Bool, true, false, List, [], ◌∷◌, length, refl, sym, ◌∙◌, ap, subst, inl, inr}
 use Rattle.std.specs.Prelude.{◌⊎◌, ◌==◌, if◌then◌else◌, Option, Some, None, IfSome, slice_get}
-use Rattle.turns.specs.Attempt.{Act, Free, Rest, answer_to, asked_in, closing_act, free_act, turn_in}
+use Rattle.turns.specs.Attempt.{Act, Attempt, Free, Rest, act_in, answer_to, asked_in, closing_act, free_act, turn_in}
 use Rattle.turns.specs.Runs.{is_rest}
-use Rattle.turns.specs.System.{System}
+use Rattle.turns.specs.declared.answer.Answer.{Answer}
 use Rattle.turns.specs.declared.answer.Answer.TheVariants.{Done}
 use Rattle.desks.specs.Outcomes.{is_given_up}
 use Rattle.turns.specs.declared.phase.Phase.{Phase}
@@ -11,6 +11,8 @@ use Rattle.turns.specs.declared.phase.Phase.TheVariants.{Requests, Seizes, Tests
 use Rattle.attempts.specs.Counting.{has_made_none}
 use Rattle.attempts.specs.Live.{Course}
 use Rattle.attempts.specs.Standing.{Program, begun_at, effects_left}
+use Rattle.attempts.specs.Steps.{told_in}
+use Rattle.attempts.specs.SystemWith.{SystemWith, system_with}
 
 -- what is told by its phase
 pub in_phase : {Lock Job Decision Point A : Type 0} (f : Program Lock Job Decision Point → Phase Lock ℕ → A) (p now : Program Lock Job Decision Point) (phase : Phase Lock ℕ) → p ≡ now → p.phase ≡ phase → f p phase ≡ f now now.phase
@@ -109,12 +111,24 @@ undecided effects_of p now inside none = sym (ap (λ (x : Program _ _ _ _). effe
 pub more_fits : {Lock Job Decision Point Effect : Type 0} (p now : Program Lock Job Decision Point) (found : Option Effect) → p ≡ now → IfSome found (λ effect. p.made + 1 < 2 ^ 64) → IfSome found (λ effect. now.made + 1 < 2 ^ 64)
 more_fits p now found inside more = subst (λ (x : Program _ _ _ _). IfSome found (λ effect. x.made + 1 < 2 ^ 64)) inside more
 
--- what frees, or closes a job, is answered by this alone
-module _ (O : System) (k found : ℕ) where
-  pub freeing_done : (held : List O.Lock) → Done ≡ answer_to O k (free_act held) found
+-- what it is told of its next step goes by its phase alone
+module _ {Lock Job Reply Effect Decision : Type 0} (same : Lock → Lock → Bool) (reply_of : Decision → Reply) (effects_of : Decision → List Effect) (S : SystemWith Lock Job Reply Effect Decision) (k found : ℕ) where
+  abbrev answered : Act Lock Effect → Answer
+  answered step = answer_to (system_with same reply_of effects_of S) k step found
+
+  freeing_done : (held : List Lock) → Done ≡ answered (free_act held)
   freeing_done [] = refl
   freeing_done (lock ∷ held) = refl
 
-  pub closing_done : (effects : List O.Effect) (held : List O.Lock) → Done ≡ answer_to O k (closing_act effects held) found
+  closing_done : (effects : List Effect) (held : List Lock) → Done ≡ answered (closing_act effects held)
   closing_done [] held = freeing_done held
   closing_done (effect ∷ effects) held = refl
+
+  pub told_by : (phase : Phase Lock ℕ) (a : Attempt Lock Job Reply Effect) → told_in phase k found ≡ answered (act_in phase a)
+  told_by (Requests lock) a = refl
+  told_by (Seizes lock expected) a = refl
+  told_by (Tests word) a = refl
+  told_by Turns a = refl
+  told_by (Withdraws lock) a = refl
+  told_by GivesBack a = freeing_done a.held
+  told_by (Operates turn) a = closing_done a.effects a.held

@@ -250,7 +250,7 @@ pub(crate) fn take_found<S: Scripts<READINGS, HELD>, const READINGS: usize, cons
             Answer::Value(found)
         }
         None => {
-            let told = told::<S, READINGS, HELD>(setting, actor, &program.far, found);
+            let told = told(actor, program.far.phase, found);
             take_told::<S, READINGS, HELD>(program, setting, told, glimpses);
             told
         }

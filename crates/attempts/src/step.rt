@@ -1,16 +1,14 @@
 //! An attempt's next step: its word, the operation that makes it there, and what it is told.
 
 ghost use Rattle.std.specs.Prelude.{◌≡◌, ◌==◌, ◌<◌, if◌then◌else◌};
-ghost use Rattle.turns.specs.Attempt.{act, answer_to, unless_put_off};
+ghost use Rattle.turns.specs.Attempt.{unless_put_off};
 ghost use Rattle.turns.specs.Sharing.{with_request};
 ghost use Rattle.turns.specs.Sharings.{preferring};
-ghost use Rattle.attempts.specs.Standing.{attempt_of};
 ghost use Rattle.turns.specs.World.{operation as operation_of, place as place_of};
-ghost use Rattle.attempts.specs.Steps.{act_of};
+ghost use Rattle.attempts.specs.Steps.{act_of, told_in};
 ghost use Rattle.attempts.specs.SystemWith.{system_with};
 
-use crate::attempt::AttemptOf;
-use crate::scripts::{OnWords, Scripts};
+use crate::scripts::OnWords;
 use turns::lock_word::{asked_by, request_bit, taken_by};
 use turns::{Answer, Judgement, Operation, Phase};
 
@@ -109,20 +107,12 @@ fn taken(actor: u32, expected: u64, found: u64) -> Answer
     }
 }
 
-/// What an actor is told of its attempt's next step, which found this number. That goes by the phase
-/// alone.
+/// What an actor is told of the next step of its attempt in this phase, which found this number.
 #[inline(always)]
-pub(crate) fn told<S: Scripts<READINGS, HELD>, const READINGS: usize, const HELD: usize>(
-    _setting: &S::Setting,
-    actor: u32,
-    program: &AttemptOf<S, READINGS, HELD>,
-    found: u64,
-) -> Answer
+pub(crate) fn told<L: Copy>(actor: u32, phase: Phase<L, usize>, found: u64) -> Answer
     requires { actor < 48 }
-    ensures { let O = system_with S.Lock.eq S.reply_of S.effects_of (S.system _setting.now) in
-        result ≡ answer_to O actor (act (attempt_of S.reply_of S.effects_of program.now)) found }
+    ensures { result ≡ told_in phase actor found }
 {
-    let phase = program.phase;
     match phase {
         Phase::Requests(_) => asked(actor, found),
         Phase::Seizes(_, expected) => taken(actor, expected, found),

@@ -60,20 +60,25 @@ pub(crate) fn walk_on<S: Scripts<READINGS, HELD>, const READINGS: usize, const H
     }
 }
 
-/// The word that a job tests next once the one that its walk wants was read.
-fn following_by<S: Scripts<READINGS, HELD>, const READINGS: usize, const HELD: usize>(
-    setting: &S::Setting,
-    job: &S::Job,
-    point: &S::Point,
-    seen: &Seen<S::Lock, READINGS, HELD>,
-    word: usize,
-) -> Option<usize>
-    requires { MayAskNext (S.IsSetting setting.now) S.Lock.eq (S.system setting.now)
-        (S.Knows setting.now) job.now point.now seen.now.seen word }
-    ensures { IfSome result
-        (GoesOnTo S.Lock.eq seen.now.seen ((S.system setting.now).script job.now) word) }
+/// Its job, its point and what it has come by, of which what follows the word that it tests may be
+/// asked.
+#[inline(always)]
+fn to_follow<'a, S: Scripts<READINGS, HELD>, const READINGS: usize, const HELD: usize>(
+    program: &'a AttemptOf<S, READINGS, HELD>,
+    _setting: &S::Setting,
+    _word: usize,
+) -> (&'a S::Job, &'a S::Point, &'a Seen<S::Lock, READINGS, HELD>)
+    requires setting { S.IsSetting _setting.now }
+    requires stands { Stands S.Lock.eq S.reply_of S.effects_of (S.system _setting.now)
+        (S.Knows _setting.now) READINGS HELD program.now }
+    requires tests { program.now.phase ≡ Phase.Tests _word }
+    ensures may { MayAskNext (S.IsSetting _setting.now) S.Lock.eq (S.system _setting.now)
+        (S.Knows _setting.now) result.0.now result.1.now result.2.now.seen _word }
+    ensures job { result.0.now ≡ program.now.job }
+    ensures seen { result.2.now.seen
+        ≡ record { held = program.now.held; readings = program.now.readings } }
 {
-    S::following(setting, job, point, seen, word)
+    (&program.job, &program.point, &program.seen)
 }
 
 /// The word that it tests next once it has read this one, where that needs no walk.
@@ -90,7 +95,8 @@ fn following<S: Scripts<READINGS, HELD>, const READINGS: usize, const HELD: usiz
         (GoesOnTo S.Lock.eq (record { held = program.now.held; readings = program.now.readings })
         ((S.system setting.now).script program.now.job) word) }
 {
-    following_by::<S, READINGS, HELD>(setting, &program.job, &program.point, &program.seen, word)
+    let (job, point, seen) = to_follow::<S, READINGS, HELD>(program, setting, word);
+    S::following(setting, job, point, seen, word)
 }
 
 /// Its request stands.
