@@ -214,7 +214,8 @@ impl<
 
     /// How many words were read, and how many locks are held.
     pub(crate) fn counts(&self) -> (usize, usize)
-        ensures { result ≡ (length self.now.readings, length self.now.held) }
+        ensures readings { result.0 ≡ length self.now.readings }
+        ensures locks { result.1 ≡ length self.now.held }
     {
         self.seen.counts()
     }
