@@ -67,6 +67,10 @@ pub of_any : {A P : Type 0} (found : Option A) → P → IfSome found (λ _. P)
 of_any None holds = tt
 of_any (Some step) holds = holds
 
+pub unless_any : {A P : Type 0} (found : Option A) → P → IfNone found P
+unless_any None holds = holds
+unless_any (Some step) holds = tt
+
 -- and where there is nothing, whatever it is asked for
 pub of_none : {A : Type 0} (P Q : Type 0) (found : Option A) → IfNone found Q → IfNone found (P → Q)
 of_none P Q None holds = λ p. holds

@@ -1,18 +1,18 @@
 -- the steps that an attempt makes by its walk, as the code has it
 use Rattle.std.proofs.Common.{◌≡◌, ℕ, ◌-◌, ◌<◌, ◌≤◌, ◌^◌, ◌⊎◌, inl, inr, Bool, List, length, refl, sym, ◌∙◌, ap, subst, arith}
-use Rattle.std.specs.Prelude.{Result, Ok, Err}
+use Rattle.std.specs.Prelude.{IfSome, None, Option, Result, Some, Ok, Err}
 use Rattle.turns.specs.Attempt.{AttemptOf, seen_of}
-use Rattle.turns.specs.Seen.{AreReadWords, Seen}
+use Rattle.turns.specs.Seen.{Seen}
 use Rattle.turns.specs.System.{AreWords, System}
 use Rattle.turns.specs.declared.phase.Phase.{Phase}
 use Rattle.turns.specs.declared.phase.Phase.TheVariants.{Requests, Seizes, Tests, Turns, Withdraws, GivesBack, Operates}
 use Rattle.turns.specs.declared.wanted.Wanted.{Wanted}
 use Rattle.turns.specs.declared.wanted.Wanted.TheVariants.{Seize, Test}
 use Rattle.turns.proofs.Preferring.{zero_unused}
-use Rattle.attempts.specs.Live.{Comes, Course, LeadsTo, Moment, WantsNext, gone_on_by, live}
+use Rattle.attempts.specs.Live.{Comes, LeadsTo, Moment, WantsNext, gone_on_by}
 use Rattle.attempts.specs.Running as running
-use Rattle.attempts.specs.Running.{GoesFarEnough, GoesNoFurther}
-use Rattle.attempts.specs.Standing.{AreScripts, KnowsIn, Program, Stands, attempt_of}
+use Rattle.attempts.specs.Running.{GoesFarEnough, GoesNoFurther, WalksBySteps}
+use Rattle.attempts.specs.Standing.{AreScripts, CanWalk, KnowsIn, Program, Stands, attempt_of}
 use Rattle.attempts.specs.SystemWith.{SystemWith, system_with}
 use Rattle.attempts.specs.Taken.{gone_on}
 use Rattle.attempts.proofs.LiveEnds.{Stuck, live_stuck, no_further, no_reading}
@@ -54,94 +54,87 @@ module _ {Lock Job Reply Effect Decision Point : Type 0} (same : Lock → Lock �
   abbrev pub own_word : ℕ
   own_word = held_word O are.is_system reads seizes are.asks k few zero_unused
 
-  module _ (old p : Doing) (inside : p ≡ old) (stands : Stands same reply_of effects_of S Knows reads seizes old) (wants : WantsNext old.phase) (course : Course Lock) (most : ℕ) (course_is : course ≡ record { seen = seen_of (outside p); left = most; hold = own_word }) where
-    stands_here : Stands same reply_of effects_of S Knows reads seizes p
-    stands_here = subst (λ (x : Doing). Stands same reply_of effects_of S Knows reads seizes x) (sym inside) stands
+  module _ (old : Doing) (stands : Stands same reply_of effects_of S Knows reads seizes old) (wants : WantsNext old.phase) (most : ℕ) (words after : List ℕ) (are_words : AreWords words) (below : own_word < 2 ^ 64) (found : Result Decision (Wanted Lock ℕ)) (mid : Doing) (left : ℕ) (by : WalksBySteps same S Knows reads seizes most own_word old words mid after found left) where
+    abbrev comes : Comes Lock Decision
+    comes = comes_of O are.is_system reads seizes are.asks k few zero_unused (outside old) most words
 
-    wants_here : WantsNext p.phase
-    wants_here = subst (λ (x : Doing). WantsNext x.phase) (sym inside) wants
+    so : Runs O are.is_system reads seizes are.asks k few zero_unused (outside old) most words
+    so = runs O are.is_system reads seizes are.asks k few zero_unused (outside old) most words wants stands.place.comes are_words below
 
-    seen_is : course.seen ≡ seen_of (outside p)
-    seen_is = ap (λ (x : Course Lock). x.seen) course_is
+    left_is : left ≡ comes.course.left
+    left_is = ap (λ (x : Comes Lock Decision). x.course.left) by.walk
 
-    -- what the walk wants
-    pub job_right : S.IsJob p.job
-    job_right = stands_here.place.job
+    -- no more steps are left than there were
+    pub left_fits : left ≤ most
+    left_fits = omega (arith, left_is, so.spent)
 
-    pub read_words : AreReadWords course.seen.readings
-    read_words = subst (λ (s : Seen Lock). AreReadWords s.readings) (sym seen_is) stands_here.place.read
+    module _ (new : Doing) (goes : new ≡ gone_on mid found) where
+      abbrev then_seen : Doing
+      then_seen = record old { readings = mid.readings; held = mid.held }
 
-    pub knows_it : Knows p.job p.point course.seen
-    knows_it = subst (Knows p.job p.point) (sym seen_is) (knows_next reply_of effects_of Knows p p.phase wants_here stands_here.point)
+      made : new ≡ gone_on (record then_seen { point = mid.point }) found
+      made = goes ∙ ap (λ (x : Doing). gone_on x found) by.still
 
-    module _ (words after : List ℕ) (are_words : AreWords words) (below : own_word < 2 ^ 64) (found : Result Decision (Wanted Lock ℕ)) (more : Course Lock) (walks : record { found = found; course = more; words = after } ≡ live same S.lock_word reads seizes (λ word value. value) (S.script p.job) course words) where
-      abbrev comes : Comes Lock Decision
-      comes = comes_of O are.is_system reads seizes are.asks k few zero_unused (outside p) most words
+      new_is : running.moment same reply_of effects_of S Knows new after ≡ run_on O are.is_system reads seizes are.asks k few zero_unused (outside old) most words
+      new_is = ap (λ (a : AttemptOf O). record { attempt = a; words = after }) (ap outside made ∙ went same reply_of effects_of S Knows then_seen mid.point found)
+          ∙ ap (λ (x : Comes Lock Decision). record { attempt = gone_on_by O (outside old) x.course x.found; words = x.words }) by.walk
 
-      comes_is : record { found = found; course = more; words = after } ≡ comes
-      comes_is = walks ∙ ap (λ (x : Course Lock). live same S.lock_word reads seizes (λ word value. value) (S.script p.job) x words) course_is
+      made_by : so.made ≡ most - left
+      made_by = omega (arith, left_is, so.spent)
 
-      so : Runs O are.is_system reads seizes are.asks k few zero_unused (outside p) most words
-      so = runs O are.is_system reads seizes are.asks k few zero_unused (outside p) most words wants_here stands_here.place.comes are_words below
+      leads : LeadsTo O k so.made (running.moment same reply_of effects_of S Knows old words) (running.moment same reply_of effects_of S Knows new after)
+      leads = subst (λ (m : Moment O). LeadsTo O k so.made (running.moment same reply_of effects_of S Knows old words) m) (sym new_is) so.steps
 
-      left_is : more.left ≡ comes.course.left
-      left_is = ap (λ (x : Comes Lock Decision). x.course.left) comes_is
+      stands_new : Stands same reply_of effects_of S Knows reads seizes new
+      stands_new = record {
+        place = leads_place O are.is_system reads seizes are.asks k so.made (running.moment same reply_of effects_of S Knows old words) (running.moment same reply_of effects_of S Knows new after) leads stands.place;
+        point = subst (λ (x : Doing). KnowsIn Knows (outside x) x.point x.phase) (sym made) (went_point same reply_of effects_of S Knows then_seen mid.point found by.knows);
+      }
 
-      -- no more steps are left than there were
-      pub left_fits : (left : ℕ) → left ≡ more.left → left ≤ most
-      left_fits left same_left = omega (arith, same_left, left_is, so.spent)
+      phase_is : (f : Result Decision (Wanted Lock ℕ)) → found ≡ f → new.phase ≡ (gone_on (record then_seen { point = mid.point }) f).phase
+      phase_is f e = ap (λ (x : Doing). x.phase) made ∙ ap (λ (r : Result Decision (Wanted Lock ℕ)). (gone_on (record then_seen { point = mid.point }) r).phase) e
 
-      module _ (new : Doing) (q : Point) (knows : Knows p.job q more.seen) (made : new ≡ gone_on (record p { point = q; readings = more.seen.readings; held = more.seen.held }) found) where
-        abbrev then_seen : Doing
-        then_seen = record p { readings = more.seen.readings; held = more.seen.held }
+      seen_new : (f : Result Decision (Wanted Lock ℕ)) → found ≡ f → seen_of (outside new) ≡ seen_of (outside (gone_on (record then_seen { point = mid.point }) f))
+      seen_new f e = ap (λ (x : Doing). seen_of (outside x)) made ∙ ap (λ (r : Result Decision (Wanted Lock ℕ)). seen_of (outside (gone_on (record then_seen { point = mid.point }) r))) e
 
-        new_is : running.moment same reply_of effects_of S Knows new after ≡ run_on O are.is_system reads seizes are.asks k few zero_unused (outside p) most words
-        new_is = ap (λ (a : AttemptOf O). record { attempt = a; words = after }) (ap outside made ∙ went same reply_of effects_of S Knows then_seen q found)
-            ∙ ap (λ (x : Comes Lock Decision). record { attempt = gone_on_by O (outside p) x.course x.found; words = x.words }) comes_is
+      abbrev more : Comes Lock Decision
+      more = record { found = found; course = record { seen = seen_of (outside mid); left = left; hold = by.hold_then }; words = after }
 
-        made_by : (left : ℕ) → left ≡ more.left → so.made ≡ most - left
-        made_by left same_left = omega (arith, same_left, left_is, so.spent)
+      stuck : Stuck same S.lock_word reads seizes more
+      stuck = subst (Stuck same S.lock_word reads seizes) (sym by.walk) (live_stuck same S.lock_word reads seizes (S.script old.job) (record { seen = seen_of (outside old); left = most; hold = own_word }) words)
 
-        leads : LeadsTo O k so.made (running.moment same reply_of effects_of S Knows p words) (running.moment same reply_of effects_of S Knows new after)
-        leads = subst (λ (m : Moment O). LeadsTo O k so.made (running.moment same reply_of effects_of S Knows p words) m) (sym new_is) so.steps
+      ends : (f : Result Decision (Wanted Lock ℕ)) → found ≡ f → GoesNoFurther S.lock_word after left new.phase
+      ends (Ok decision) e = subst (GoesNoFurther S.lock_word after left) (sym (phase_is (Ok decision) e)) tt
+      ends (Err (Seize lock)) e =
+          let at : new.phase ≡ Requests lock = phase_is (Err (Seize lock)) e in
+          let room : length mid.held < seizes = subst (λ (s : Seen Lock). length s.held < seizes) (seen_new (Err (Seize lock)) e) (fits_request O are.is_system reads seizes are.asks (outside new) lock at stands_new.place) in
+          subst (GoesNoFurther S.lock_word after left) (sym at) (no_further same S.lock_word reads seizes more lock e room stuck)
+      ends (Err (Test word)) e =
+          let at : new.phase ≡ Tests word = phase_is (Err (Test word)) e in
+          let room : length mid.readings < reads = subst (λ (s : Seen Lock). length s.readings < reads) (seen_new (Err (Test word)) e) (fits_test O are.is_system reads seizes are.asks (outside new) word at stands_new.place) in
+          subst (GoesNoFurther S.lock_word after left) (sym at) (no_reading same S.lock_word reads seizes more word e room stuck)
 
-        stands_new : Stands same reply_of effects_of S Knows reads seizes new
-        stands_new = record {
-          place = leads_place O are.is_system reads seizes are.asks k so.made (running.moment same reply_of effects_of S Knows p words) (running.moment same reply_of effects_of S Knows new after) leads stands_here.place;
-          point = subst (λ (x : Doing). KnowsIn Knows (outside x) x.point x.phase) (sym made) (went_point same reply_of effects_of S Knows then_seen q found knows);
-        }
+      left_again : most - (most - left) ≡ left
+      left_again = omega (arith, left_is, so.spent)
 
-        phase_is : (f : Result Decision (Wanted Lock ℕ)) → found ≡ f → new.phase ≡ (gone_on (record then_seen { point = q }) f).phase
-        phase_is f e = ap (λ (x : Doing). x.phase) made ∙ ap (λ (r : Result Decision (Wanted Lock ℕ)). (gone_on (record then_seen { point = q }) r).phase) e
+      pub runs_on : running.Runs same reply_of effects_of S Knows reads seizes k most (most - left) old words new after
+      runs_on = record {
+        fits = omega arith;
+        steps = subst (λ (n : ℕ). LeadsTo O k n (running.moment same reply_of effects_of S Knows old words) (running.moment same reply_of effects_of S Knows new after)) made_by leads;
+        stands = stands_new;
+        far = goes_far S.lock_word after most (most - left) old.phase new.phase wants (subst (λ (n : ℕ). GoesNoFurther S.lock_word after n new.phase) (sym left_again) (ends found refl));
+        count = ap (λ (x : Doing). x.count) made ∙ went_count same reply_of effects_of S Knows then_seen mid.point found;
+      }
 
-        seen_new : (f : Result Decision (Wanted Lock ℕ)) → found ≡ f → seen_of (outside new) ≡ seen_of (outside (gone_on (record then_seen { point = q }) f))
-        seen_new f e = ap (λ (x : Doing). seen_of (outside x)) made ∙ ap (λ (r : Result Decision (Wanted Lock ℕ)). seen_of (outside (gone_on (record then_seen { point = q }) r))) e
-
-        stuck : Stuck same S.lock_word reads seizes (record { found = found; course = more; words = after })
-        stuck = subst (Stuck same S.lock_word reads seizes) (sym walks) (live_stuck same S.lock_word reads seizes (S.script p.job) course words)
-
-        ends : (f : Result Decision (Wanted Lock ℕ)) → found ≡ f → GoesNoFurther S.lock_word after more.left new.phase
-        ends (Ok decision) e = subst (GoesNoFurther S.lock_word after more.left) (sym (phase_is (Ok decision) e)) tt
-        ends (Err (Seize lock)) e =
-            let at : new.phase ≡ Requests lock = phase_is (Err (Seize lock)) e in
-            let room : length more.seen.held < seizes = subst (λ (s : Seen Lock). length s.held < seizes) (seen_new (Err (Seize lock)) e) (fits_request O are.is_system reads seizes are.asks (outside new) lock at stands_new.place) in
-            subst (GoesNoFurther S.lock_word after more.left) (sym at) (no_further same S.lock_word reads seizes (record { found = found; course = more; words = after }) lock e room stuck)
-        ends (Err (Test word)) e =
-            let at : new.phase ≡ Tests word = phase_is (Err (Test word)) e in
-            let room : length more.seen.readings < reads = subst (λ (s : Seen Lock). length s.readings < reads) (seen_new (Err (Test word)) e) (fits_test O are.is_system reads seizes are.asks (outside new) word at stands_new.place) in
-            subst (GoesNoFurther S.lock_word after more.left) (sym at) (no_reading same S.lock_word reads seizes (record { found = found; course = more; words = after }) word e room stuck)
-
-        left_again : (left : ℕ) → left ≡ more.left → most - (most - left) ≡ more.left
-        left_again left same_left = omega (arith, same_left, left_is, so.spent)
-
-        pub runs_on : (left : ℕ) → left ≡ more.left → running.Runs same reply_of effects_of S Knows reads seizes k most (most - left) old words new after
-        runs_on left same_left = record {
-          fits = omega arith;
-          steps = subst (λ (x : Doing). LeadsTo O k (most - left) (running.moment same reply_of effects_of S Knows x words) (running.moment same reply_of effects_of S Knows new after)) inside (subst (λ (n : ℕ). LeadsTo O k n (running.moment same reply_of effects_of S Knows p words) (running.moment same reply_of effects_of S Knows new after)) (made_by left same_left) leads);
-          stands = stands_new;
-          far = goes_far S.lock_word after most (most - left) old.phase new.phase wants (subst (λ (n : ℕ). GoesNoFurther S.lock_word after n new.phase) (sym (left_again left same_left)) (ends found refl));
-          count = ap (λ (x : Doing). x.count) made ∙ went_count same reply_of effects_of S Knows then_seen q found ∙ ap (λ (x : Doing). x.count) inside;
-        }
+module _ {Lock Job Reply Effect Decision Point : Type 0} (same : Lock → Lock → Bool) (reply_of : Decision → Reply) (effects_of : Decision → List Effect) (S : SystemWith Lock Job Reply Effect Decision) (Knows : Job → Point → Seen Lock → Type 0) (reads seizes : ℕ) where
+  -- where it wants something it can walk
+  pub can_walk_next : (p : Program Lock Job Decision Point) → Stands same reply_of effects_of S Knows reads seizes p → (wanted : Option (Wanted Lock ℕ)) → IfSome wanted (λ w. WantsNext p.phase) → IfSome wanted (λ w. CanWalk same reply_of effects_of S Knows p)
+  can_walk_next p stands None wants = wants
+  can_walk_next p stands (Some wanted) wants = record {
+    job = stands.place.job;
+    read = stands.place.read;
+    knows = knows_next reply_of effects_of Knows p p.phase wants stands.point;
+  }
 
 -- where it makes no step, nothing changes
 pub made_none : (O : System) (k : ℕ) (m : Moment O) → LeadsTo O k 0 m m

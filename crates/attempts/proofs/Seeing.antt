@@ -3,7 +3,7 @@ use Rattle.std.proofs.Common.{◌≡◌, ℕ, Bool, true, false, List, [], ◌�
 use Rattle.std.specs.Prelude.{Option, Some, None, Result, Ok, Err, drop, is_some, take, slice_get, option_map}
 use Rattle.turns.specs.Attempt as generic
 use Rattle.turns.specs.Attempt.{goes_on, restarted, walks_on}
-use Rattle.turns.specs.Seen.{Seen}
+use Rattle.turns.specs.Seen.{AreReadWords, Seen}
 use Rattle.turns.specs.System.{System}
 use Rattle.turns.specs.declared.answer.Answer.{Answer}
 use Rattle.turns.specs.declared.answer.Answer.TheVariants.{Seized}
@@ -12,8 +12,8 @@ use Rattle.turns.specs.declared.phase.Phase.TheVariants.{Seizes, Tests, Turns}
 use Rattle.turns.specs.declared.reading.Reading.{Reading}
 use Rattle.turns.specs.declared.wanted.Wanted.{Wanted}
 use Rattle.turns.specs.declared.wanted.Wanted.TheVariants.{Seize, Test}
-use Rattle.attempts.specs.Ahead.{Ahead, Foresees, HasSeen, KnowsBy, LooksOn, MayLookAhead, StandsAhead, guessed_of, guesses, made_of, now_by, now_of, own, waiting}
-use Rattle.attempts.specs.Live.{Course, live}
+use Rattle.attempts.specs.Ahead.{Ahead, Foresees, HasSeen, KnowsBy, LooksOn, MayGoBack, MayLookAhead, StandsAhead, guessed_of, guesses, made_of, now_by, now_of, own, waiting}
+use Rattle.attempts.specs.Running.{WalksBySteps}
 use Rattle.attempts.specs.Standing.{AreScripts, CanWalk, HasPlace, Program, Stands, attempt_of, effects_left, wanted_phase}
 use Rattle.attempts.specs.SystemWith.{SystemWith, system_with}
 use Rattle.attempts.specs.Taken.{WalksOn, gone_on}
@@ -42,24 +42,20 @@ module _ {Lock Job Reply Effect Decision Point : Type 0} (same : Lock → Lock �
   at_word p readings word = waiting Reply Effect p readings word
 
   -- what a walk by guessed words comes to
-  module _ (self : (lock : Lock) → same lock lock ≡ true) (reads seizes : ℕ) (p now : Doing) (inside : p ≡ now) (course : Course Lock) (course_is : course.seen ≡ own p) (words : List ℕ) (found : Result Decision (Wanted Lock ℕ)) (more : Course Lock) (after : List ℕ)
-      (walks : record { found = found; course = more; words = after } ≡ live same S.lock_word reads seizes (λ word value. value) (S.script p.job) course words) where
-    looks : Looked same self S.lock_word reads seizes (S.script p.job) course found more (length course.seen.readings) (length course.seen.held)
-    looks = looked same self S.lock_word reads seizes (S.script p.job) course words found more after (length course.seen.readings) (length course.seen.held) walks refl refl
+  module _ (self : (lock : Lock) → same lock lock ≡ true) (reads seizes most hold left : ℕ) (old new : Doing) (words after : List ℕ) (found : Result Decision (Wanted Lock ℕ)) (by : WalksBySteps same S Knows reads seizes most hold old words new after found left) where
+    looks : Looked same self S.lock_word reads seizes (S.script old.job) (record { seen = own old; left = most; hold = hold }) found (record { seen = own new; left = left; hold = by.hold_then }) (length old.readings) (length old.held)
+    looks = looked same self S.lock_word reads seizes (S.script old.job) (record { seen = own old; left = most; hold = hold }) words found (record { seen = own new; left = left; hold = by.hold_then }) after (length old.readings) (length old.held) by.walk refl refl
 
-    as_many : length more.seen.held ≡ length p.held → length more.seen.held ≡ length course.seen.held
-    as_many e = e ∙ sym (ap (λ (s : Seen Lock). length s.held) course_is)
-
-    pub has_seen : (q : Point) → Knows p.job q more.seen → Saw now (record p { point = q; readings = more.seen.readings; held = more.seen.held }) found
-    has_seen q knows = subst (λ (x : Doing). Saw x (record p { point = q; readings = more.seen.readings; held = more.seen.held }) found) inside (record {
-      still = refl;
-      back_held = subst (λ (s : Seen Lock). take (length s.held) more.seen.held ≡ s.held) course_is looks.back_held;
-      back_read = subst (λ (s : Seen Lock). take (length s.readings) more.seen.readings ≡ s.readings) course_is looks.back_read;
-      knows = knows;
-      held = λ e. subst (λ (s : Seen Lock). more.seen.held ≡ s.held) course_is (looks.held (as_many e));
-      read = subst (λ (s : Seen Lock). more.seen.readings ≡ s.readings ++ drop (length s.readings) more.seen.readings) course_is looks.read;
-      foresees = λ e. subst (λ (s : Seen Lock). Foresees same (S.script p.job) s (drop (length s.readings) more.seen.readings) found) course_is (looks.foresees (as_many e));
-    })
+    pub has_seen : Saw old new found
+    has_seen = record {
+      still = by.still;
+      back_held = looks.back_held;
+      back_read = looks.back_read;
+      knows = by.knows;
+      held = looks.held;
+      read = looks.read;
+      foresees = looks.foresees;
+    }
 
   -- where a walk comes to is the same whatever the phase was
   from_phase : (a : generic.AttemptOf O) (phase : Phase Lock ℕ) (found : Result Decision (Wanted Lock ℕ)) → goes_on O (record a { phase = phase }) found ≡ goes_on O a found
@@ -152,21 +148,27 @@ module _ {Lock Job Reply Effect Decision Point : Type 0} (same : Lock → Lock �
   looks_back old back new_far start is by = record { change = by.change ∙ ap (λ (x : Doing). walks_on O (outside x)) is; knows = by.point }
 
   -- the same as the code has it, which has counted what was read and held before
-  module _ (old inside mid : Doing) (found : Result Decision (Wanted Lock ℕ)) (reads locks : ℕ) (is : inside ≡ old) (seen : Saw inside mid found) (reads_are : reads ≡ length inside.readings) (locks_are : locks ≡ length inside.held) where
-    pub looks_ahead : (new_far : Doing) (held : List Lock) → held ≡ mid.held → length held ≡ locks → old.decision ≡ None → new_far ≡ gone_on mid found → Looks old (record { far = new_far; sure = Some reads })
-    looks_ahead new_far held held_is lens none made =
-        subst (λ (n : ℕ). Looks old (record { far = new_far; sure = Some n })) (sym (reads_are ∙ ap (λ (x : Doing). length x.readings) is))
-        (looks_on old mid new_far found (subst (λ (x : Doing). Saw x mid found) is seen) (sym (ap length held_is) ∙ lens ∙ locks_are ∙ ap (λ (x : Doing). length x.held) is) none made)
+  module _ (old mid : Doing) (found : Result Decision (Wanted Lock ℕ)) (reads locks : ℕ) (seen : Saw old mid found) (reads_are : reads ≡ length old.readings) (locks_are : locks ≡ length old.held) where
+    pub looks_ahead : (new_far : Doing) → length mid.held ≡ locks → old.decision ≡ None → new_far ≡ gone_on mid found → Looks old (record { far = new_far; sure = Some reads })
+    looks_ahead new_far lens none made =
+        subst (λ (n : ℕ). Looks old (record { far = new_far; sure = Some n })) (sym reads_are) (looks_on old mid new_far found seen (lens ∙ locks_are) none made)
 
     pub goes_back : (back : Doing) (start : Point) → back ≡ record mid { readings = take reads mid.readings; held = take locks mid.held; point = start } → back ≡ record old { point = start }
-    goes_back back start made = back_is old mid back found start (subst (λ (x : Doing). Saw x mid found) is seen)
+    goes_back back start made = back_is old mid back found start seen
         (made
-        ∙ ap (λ (n : ℕ). record mid { readings = take n mid.readings; held = take locks mid.held; point = start }) (reads_are ∙ ap (λ (x : Doing). length x.readings) is)
-        ∙ ap (λ (n : ℕ). record mid { readings = take (length old.readings) mid.readings; held = take n mid.held; point = start }) (locks_are ∙ ap (λ (x : Doing). length x.held) is))
+        ∙ ap (λ (n : ℕ). record mid { readings = take n mid.readings; held = take locks mid.held; point = start }) reads_are
+        ∙ ap (λ (n : ℕ). record mid { readings = take (length old.readings) mid.readings; held = take n mid.held; point = start }) locks_are)
 
-    pub can_again : (back : Doing) (start : Point) → back ≡ record mid { readings = take reads mid.readings; held = take locks mid.held; point = start } → CanWalk same reply_of effects_of S Knows old → ((seen : Seen Lock) → Knows mid.job start seen) → CanWalk same reply_of effects_of S Knows back
-    can_again back start made can knows = subst (λ (x : Doing). CanWalk same reply_of effects_of S Knows x) (sym (goes_back back start made))
-        (record { job = can.job; read = can.read; knows = subst (λ (j : Job). Knows j start (own old)) (ap (λ (x : Doing). x.job) seen.still ∙ ap (λ (x : Doing). x.job) is) (knows (own old)) })
+  -- it may go back where it could walk before
+  pub may_go_back : (old mid : Doing) (found : Result Decision (Wanted Lock ℕ)) (reads : ℕ) → Saw old mid found → reads ≡ length old.readings → CanWalk same reply_of effects_of S Knows old → MayGoBack S reads mid
+  may_go_back old mid found reads seen reads_are can = record {
+    job = subst S.IsJob (sym (ap (λ (x : Doing). x.job) seen.still)) can.job;
+    read = subst AreReadWords (sym (ap (λ (n : ℕ). take n mid.readings) reads_are ∙ seen.back_read)) can.read;
+  }
+
+  pub can_again : (mid back : Doing) (reads locks : ℕ) (job : Job) (start : Point) → MayGoBack S reads mid → job ≡ mid.job → ((seen : Seen Lock) → Knows job start seen) → back ≡ record mid { readings = take reads mid.readings; held = take locks mid.held; point = start } → CanWalk same reply_of effects_of S Knows back
+  can_again mid back reads locks job start may job_is knows made = subst (λ (x : Doing). CanWalk same reply_of effects_of S Knows x) (sym made)
+      (record { job = may.job; read = may.read; knows = subst (λ (j : Job). Knows j start (own (record mid { readings = take reads mid.readings; held = take locks mid.held }))) job_is (knows _) })
 
   -- where nothing is guessed
   pub now_plain : (p : Ahead Lock Job Decision Point) → p.sure ≡ None → now_of reply_of effects_of p ≡ outside p.far

@@ -14,6 +14,7 @@ use Rattle.turns.specs.declared.wanted.Wanted.TheVariants.{Seize, Test}
 use Rattle.attempts.specs.Counting.{count_in}
 use Rattle.attempts.specs.Live.{Comes, Course, live}
 use Rattle.attempts.specs.Points.{GoesOnTo}
+use Rattle.attempts.specs.Running.{WalksBySteps}
 use Rattle.attempts.specs.Standing.{CanWalk, KnowsIn, Program, attempt_of, effects_left}
 use Rattle.attempts.specs.SystemWith.{SystemWith, system_with}
 use Rattle.attempts.specs.Taken.{FitsValue, Takes, WalksOn, gone_on}
@@ -227,20 +228,39 @@ module _ {Lock Job Reply Effect Decision Point : Type 0} (same : Lock → Lock �
           knows = subst (Knows p.job p.point) (sym course_is) here.knows;
         }
 
+  -- where it comes to, from outside
+  module _ (reads seizes most hold : ℕ) (words after : List ℕ) (found : Result Decision (Wanted Lock ℕ)) where
+    abbrev BySteps : Doing → Doing → ℕ → Type 0
+    BySteps old new left = WalksBySteps same S Knows reads seizes most hold old words new after found left
+
+    pub walks_by_steps : (old p : Doing) (course more : Course Lock) (q : Point) (left : ℕ) → p ≡ old → course ≡ record { seen = seen_of (outside p); left = most; hold = hold } → left ≡ more.left
+        → record { found = found; course = more; words = after } ≡ live same S.lock_word reads seizes (λ word value. value) (S.script p.job) course words → Knows p.job q more.seen
+        → BySteps old (record p { point = q; readings = more.seen.readings; held = more.seen.held }) left
+    walks_by_steps old p course more q left inside course_is left_is walks knows = subst (λ (x : Doing). BySteps x (record p { point = q; readings = more.seen.readings; held = more.seen.held }) left) inside (record {
+      still = refl;
+      hold_then = more.hold;
+      walk = ap (λ (n : ℕ). record { found = found; course = record { seen = more.seen; left = n; hold = more.hold }; words = after }) left_is ∙ walks
+          ∙ ap (λ (x : Course Lock). live same S.lock_word reads seizes (λ word value. value) (S.script p.job) x words) course_is;
+      knows = knows;
+    })
+
     -- with no words at hand it comes by nothing more
-    module _ (reads seizes : ℕ) (found : Result Decision (Wanted Lock ℕ)) (more : Course Lock) (words after : List ℕ) (none : words ≡ []) (walks : record { found = found; course = more; words = after } ≡ live same S.lock_word reads seizes (λ word value. value) (S.script p.job) course words) where
-      comes : ◌≡◌ {A = Comes Lock Decision} (record { found = found; course = more; words = after }) (record { found = walk same course.seen (S.script p.job); course = course; words = [] })
-      comes = walks ∙ ap (live same S.lock_word reads seizes (λ word value. value) (S.script p.job) course) none ∙ walk_none same S.lock_word reads seizes (S.script p.job) course
+    module _ (old mid : Doing) (left : ℕ) (by : BySteps old mid left) (none : words ≡ []) where
+      abbrev course : Course Lock
+      course = record { seen = seen_of (outside old); left = most; hold = hold }
 
-      more_is : more.seen ≡ seen_of (outside p)
-      more_is = ap (λ (x : Comes Lock Decision). x.course.seen) comes ∙ course_is
+      comes : ◌≡◌ {A = Comes Lock Decision} (record { found = found; course = record { seen = seen_of (outside mid); left = left; hold = by.hold_then }; words = after }) (record { found = walk same course.seen (S.script old.job); course = course; words = [] })
+      comes = by.walk ∙ ap (live same S.lock_word reads seizes (λ word value. value) (S.script old.job) course) none ∙ walk_none same S.lock_word reads seizes (S.script old.job) course
 
-      found_is : found ≡ walk same (seen_of (outside p)) (S.script p.job)
-      found_is = ap (λ (x : Comes Lock Decision). x.found) comes ∙ ap (λ (s : Seen Lock). walk same s (S.script p.job)) course_is
+      found_is : found ≡ walk same (seen_of (outside old)) (S.script old.job)
+      found_is = ap (λ (x : Comes Lock Decision). x.found) comes
 
-      pub walked : (new : Doing) (q : Point) → Knows p.job q more.seen → new ≡ gone_on (record p { point = q; readings = more.seen.readings; held = more.seen.held }) found → Walks mid new
-      walked new q knows made = subst (λ (x : Doing). Walks x new) inside (walks_to p new q found (sym found_is) (subst (Knows p.job q) more_is knows)
-          (made ∙ ap (λ (s : Seen Lock). gone_on (record p { point = q; readings = s.readings; held = s.held }) found) more_is))
+      seen_is : seen_of (outside mid) ≡ seen_of (outside old)
+      seen_is = ap (λ (x : Comes Lock Decision). x.course.seen) comes
+
+      pub walked : (new : Doing) → new ≡ gone_on mid found → Walks old new
+      walked new made = walks_to old new mid.point found (sym found_is) (subst (Knows old.job mid.point) seen_is by.knows)
+          (made ∙ ap (λ (x : Doing). gone_on x found) by.still ∙ ap (λ (s : Seen Lock). gone_on (record old { point = mid.point; readings = s.readings; held = s.held }) found) seen_is)
 
   -- by what it goes on from
   pub walks_from : (mid made new : Doing) → mid ≡ made → Walks mid new → Walks made new

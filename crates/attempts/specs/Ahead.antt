@@ -2,7 +2,7 @@
 use Rattle.std.specs.Prelude.{◌≡◌, ℕ, Bool, Option, Some, None, List, [], ◌∷◌, ◌++◌, Result, Err, drop, length, take}
 use Rattle.turns.specs.Attempt as generic
 use Rattle.turns.specs.Script.{Script, walk}
-use Rattle.turns.specs.Seen.{Seen}
+use Rattle.turns.specs.Seen.{AreReadWords, Seen}
 use Rattle.turns.specs.System.{System}
 use Rattle.turns.specs.declared.phase.Phase.TheVariants.{Tests}
 use Rattle.turns.specs.declared.reading.Reading.{Reading}
@@ -136,3 +136,10 @@ pub record MayTake {Lock Job Reply Effect Decision Point : Type 0} (Setting : Ty
   pub setting : Setting
   pub scripts : AreScripts same reply_of effects_of S Knows most_readings most_held
   pub stands : StandsAhead same reply_of effects_of S Knows most_readings most_held p
+
+-- with the first so many of its readings alone it may go on through its job from the beginning
+pub record MayGoBack {Lock Job Reply Effect Decision Point : Type 0}
+    (S : SystemWith Lock Job Reply Effect Decision) (readings : ℕ)
+    (p : Program Lock Job Decision Point) : Type 0 where
+  pub job : S.IsJob p.job
+  pub read : AreReadWords (take readings p.readings)

@@ -1,9 +1,10 @@
 -- attempts that make steps by their walks
-use Rattle.std.specs.Prelude.{◌≡◌, ◌<◌, ◌≤◌, ◌-◌, ◌⊎◌, ℕ, Bool, false, None, List, slice_get, ⊤}
+use Rattle.std.specs.Prelude.{◌≡◌, ◌<◌, ◌≤◌, ◌-◌, ◌⊎◌, ℕ, Bool, false, None, List, Result, slice_get, ⊤}
 use Rattle.turns.specs.Seen.{Seen}
 use Rattle.turns.specs.declared.phase.Phase.{Phase}
 use Rattle.turns.specs.declared.phase.Phase.TheVariants.{Requests, Seizes, Tests, Turns, Withdraws, GivesBack, Operates}
-use Rattle.attempts.specs.Live.{LeadsTo, Moment, is_free}
+use Rattle.turns.specs.declared.wanted.Wanted.{Wanted}
+use Rattle.attempts.specs.Live.{LeadsTo, Moment, is_free, live}
 use Rattle.attempts.specs.Standing.{Program, Stands, attempt_of}
 use Rattle.attempts.specs.SystemWith.{SystemWith, system_with}
 
@@ -48,3 +49,29 @@ module _ {Lock Job Reply Effect Decision Point : Type 0} (same : Lock → Lock �
     pub stands : Stands same reply_of effects_of S Knows reads seizes new
     pub far : GoesFarEnough S.lock_word after most made old.phase new.phase
     pub count : new.count ≡ old.count
+
+-- where its walk comes to, which may make so many steps itself, and puts this word into that of a
+-- lock that it seizes; and how many of the steps are left
+pub record WalksBySteps {Lock Job Reply Effect Decision Point : Type 0} (same : Lock → Lock → Bool)
+    (S : SystemWith Lock Job Reply Effect Decision) (Knows : Job → Point → Seen Lock → Type 0)
+    (reads seizes most hold : ℕ) (old : Program Lock Job Decision Point) (words : List ℕ)
+    (new : Program Lock Job Decision Point) (after : List ℕ)
+    (found : Result Decision (Wanted Lock ℕ)) (left : ℕ) : Type 0 where
+  pub still : new ≡ record old { point = new.point; readings = new.readings; held = new.held }
+  pub hold_then : ℕ
+  pub walk : record {
+    found = found;
+    course = record {
+      seen = record { held = new.held; readings = new.readings };
+      left = left;
+      hold = hold_then;
+    };
+    words = after;
+  } ≡ live same S.lock_word reads seizes (λ word value. value) (S.script old.job)
+      (record {
+        seen = record { held = old.held; readings = old.readings };
+        left = most;
+        hold = hold;
+      })
+      words
+  pub knows : Knows old.job new.point (record { held = new.held; readings = new.readings })

@@ -1,13 +1,12 @@
-ghost use Rattle.std.specs.Prelude.{◌≡◌, ◌<◌, ◌≤◌, ◌+◌, ◌-◌, ◌++◌, ◌∷◌, [], None, Some, is_some, length, option_map, slice_get, take};
+ghost use Rattle.std.specs.Prelude.{◌≡◌, ◌<◌, ◌≤◌, ◌+◌, ◌-◌, ◌++◌, ◌∷◌, [], None, Some, is_some, length, option_map, slice_get};
 ghost use Rattle.turns.specs.Seen.{AreReadWords};
 ghost use Rattle.attempts.specs.Ahead.{guesses};
 ghost use Rattle.attempts.specs.Counting.{counted_by};
-ghost use Rattle.attempts.specs.Taken.{gone_on};
 
 use crate::attempt::Attempt;
 use crate::scripts::Scripts;
 use std::marker::Model;
-use turns::{Reading, Wanted};
+use turns::Reading;
 
 /// An attempt that may be ahead of itself: where it is if all of its readings are so. Those that are
 /// still to be made are guessed, by words that were only glimpsed.
@@ -96,13 +95,6 @@ impl<
         }
     }
 
-    /// How many readings it has, made or guessed, and how many locks it holds.
-    pub(crate) fn counts(&self) -> (usize, usize)
-        ensures { result ≡ (length self.now.far.readings, length self.now.far.held) }
-    {
-        self.far.counts()
-    }
-
     /// Whether it has decided what it does at its turn.
     pub(crate) fn has_decided(&self) -> bool
         ensures { result ≡ is_some self.now.far.decision }
@@ -130,29 +122,5 @@ impl<
     {
         self.far.hold(lock);
         self.far.count_steps(1);
-    }
-
-    /// Goes on with what its walk came to; so many of its readings are made.
-    pub(crate) fn come_to(&mut self, found: Result<D, Wanted<L, usize>>, made: usize)
-        ensures { self.new ≡ record { far = gone_on self.old.far found; sure = Some made } }
-    {
-        self.far.go_on(found);
-        self.sure = Some(made);
-    }
-
-    /// Has come by so many readings and locks alone, and goes on from this point.
-    pub(crate) fn go_back(&mut self, readings: usize, locks: usize, point: P)
-        ensures { self.new
-            ≡ record {
-              far = record self.old.far {
-                readings = take readings self.old.far.readings;
-                held = take locks self.old.far.held;
-                point = point;
-              };
-              sure = None;
-            } }
-    {
-        self.far.go_back(readings, locks, point);
-        self.sure = None;
     }
 }

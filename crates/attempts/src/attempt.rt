@@ -214,7 +214,8 @@ impl<
 
     /// How many words were read, and how many locks are held.
     pub(crate) fn counts(&self) -> (usize, usize)
-        ensures { result ≡ (length self.now.readings, length self.now.held) }
+        ensures readings { result.0 ≡ length self.now.readings }
+        ensures locks { result.1 ≡ length self.now.held }
     {
         self.seen.counts()
     }
@@ -250,7 +251,12 @@ impl<
     /// It has decided nothing, and tests this word next; it goes on from this point.
     pub(crate) fn wait_for(&mut self, word: usize, start: P)
         ensures { self.new
-            ≡ record self.old { phase = Phase.Tests word; decision = None; made = 0; point = start } }
+            ≡ record self.old {
+              phase = Phase.Tests word;
+              decision = None;
+              made = 0;
+              point = start;
+            } }
     {
         self.phase = Phase::Tests(word);
         self.decision = None;

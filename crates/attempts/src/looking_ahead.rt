@@ -3,84 +3,99 @@
 
 ghost use Rattle.std.specs.Prelude.{◌≡◌, ◌<◌, ◌++◌, ◌∷◌, [], ℕ, IfNone, IfSome, None, false, is_some, length, take};
 ghost use Rattle.turns.specs.Attempt.{change};
-ghost use Rattle.turns.specs.Seen.{Seen as SeenView};
-ghost use Rattle.attempts.specs.Ahead.{HasSeen, LooksOn, MayLookAhead, MayTake, StandsAhead, now_of};
+ghost use Rattle.attempts.specs.Ahead.{HasSeen, LooksOn, MayGoBack, MayLookAhead, MayTake, StandsAhead, now_of};
 ghost use Rattle.attempts.specs.Standing.{AreScripts, CanWalk, Stands, attempt_of};
 ghost use Rattle.attempts.specs.SystemWith.{system_with};
-ghost use Rattle.attempts.specs.Taken.{SeizesLock, WalksOn};
+ghost use Rattle.attempts.specs.Taken.{SeizesLock};
 
 use crate::ahead::AheadOf;
 use crate::attempt::AttemptOf;
 use crate::scripts::Scripts;
-use crate::taking::{take, to_seize, walk_by, walk_on};
+use crate::taking::{take, to_seize, walk_by_steps, walk_on};
 use turns::{Answer, Wanted};
 
-/// Goes on through the job by glimpsed words.
+/// Goes on through the job by glimpsed words. It may go back then to what it had read before, so many
+/// readings.
 #[inline(always)]
 fn see<S: Scripts<READINGS, HELD>, const READINGS: usize, const HELD: usize>(
     far: &mut AttemptOf<S, READINGS, HELD>,
     setting: &S::Setting,
     words: &mut [u64],
+    _readings: usize,
 ) -> Result<S::Decision, Wanted<S::Lock, usize>>
+    requires may { MayLookAhead (S.IsSetting setting.now) S.Lock.eq S.reply_of S.effects_of
+        (S.system setting.now) (S.Knows setting.now) READINGS HELD far.old }
+    requires readings { _readings ≡ length far.old.readings }
+    ensures seen { HasSeen S.Lock.eq S.reply_of S.effects_of (S.system setting.now)
+        (S.Knows setting.now) far.old far.new result }
+    ensures back { MayGoBack (S.system setting.now) _readings far.new }
+{
+    let mut left = u32::MAX;
+    walk_by_steps::<S, READINGS, HELD>(far, setting, words, &mut left, 1)
+}
+
+/// Has come by so many readings and locks alone, and its point has found nothing: it can walk again.
+fn go_back<S: Scripts<READINGS, HELD>, const READINGS: usize, const HELD: usize>(
+    far: &mut AttemptOf<S, READINGS, HELD>,
+    _setting: &S::Setting,
+    readings: usize,
+    locks: usize,
+)
+    requires { MayGoBack (S.system _setting.now) readings far.old }
+    ensures back { far.new
+        ≡ record far.old {
+          readings = take readings far.old.readings;
+          held = take locks far.old.held;
+          point = far.new.point;
+        } }
+    ensures walk { CanWalk S.Lock.eq S.reply_of S.effects_of (S.system _setting.now)
+        (S.Knows _setting.now) far.new }
+{
+    let start = S::start(&far.job);
+    far.go_back(readings, locks, start);
+}
+
+/// Goes on through the job, and guesses what it reads in glimpsed words: gives how many of its
+/// readings are made. Where it would seize a lock on its way it guesses nothing.
+#[inline(always)]
+fn walk_ahead<S: Scripts<READINGS, HELD>, const READINGS: usize, const HELD: usize>(
+    far: &mut AttemptOf<S, READINGS, HELD>,
+    setting: &S::Setting,
+    words: &mut [u64],
+) -> Option<usize>
     requires { MayLookAhead (S.IsSetting setting.now) S.Lock.eq S.reply_of S.effects_of
         (S.system setting.now) (S.Knows setting.now) READINGS HELD far.old }
-    ensures { HasSeen S.Lock.eq S.reply_of S.effects_of (S.system setting.now) (S.Knows setting.now)
-        far.old far.new result }
+    ensures { LooksOn S.Lock.eq S.reply_of S.effects_of (S.system setting.now) (S.Knows setting.now)
+        far.old (record { far = far.new; sure = result }) }
 {
-    far.seen.allow(u32::MAX, 1);
-    walk_by::<S, READINGS, HELD>(setting, &far.job, &mut far.point, &mut far.seen, words)
+    let (readings, locks) = far.counts();
+    let found = see::<S, READINGS, HELD>(far, setting, words, readings);
+    let (_, locks_after) = far.counts();
+    if locks_after == locks {
+        far.go_on(found);
+        Some(readings)
+    } else {
+        drop(found);
+        go_back::<S, READINGS, HELD>(far, setting, readings, locks);
+        walk_on::<S, READINGS, HELD>(far, setting);
+        None
+    }
 }
 
 /// The same, from where an attempt is that guesses nothing yet.
 #[inline(always)]
-fn see_far<S: Scripts<READINGS, HELD>, const READINGS: usize, const HELD: usize>(
+fn look_ahead<S: Scripts<READINGS, HELD>, const READINGS: usize, const HELD: usize>(
     program: &mut AheadOf<S, READINGS, HELD>,
     setting: &S::Setting,
     words: &mut [u64],
-) -> Result<S::Decision, Wanted<S::Lock, usize>>
+)
     requires { MayLookAhead (S.IsSetting setting.now) S.Lock.eq S.reply_of S.effects_of
         (S.system setting.now) (S.Knows setting.now) READINGS HELD program.old.far }
-    ensures { HasSeen S.Lock.eq S.reply_of S.effects_of (S.system setting.now) (S.Knows setting.now)
-        program.old.far program.new.far result }
+    ensures { LooksOn S.Lock.eq S.reply_of S.effects_of (S.system setting.now) (S.Knows setting.now)
+        program.old.far program.new }
 {
-    see::<S, READINGS, HELD>(&mut program.far, setting, words)
-}
-
-/// Has come by so many readings and locks alone, and its point has found nothing.
-fn go_back<S: Scripts<READINGS, HELD>, const READINGS: usize, const HELD: usize>(
-    program: &mut AheadOf<S, READINGS, HELD>,
-    readings: usize,
-    locks: usize,
-)
-    ensures back { program.new
-        ≡ record {
-          far = record program.old.far {
-            readings = take readings program.old.far.readings;
-            held = take locks program.old.far.held;
-            point = program.new.far.point;
-          };
-          sure = None;
-        } }
-    ensures knows { (setting : S.Setting) (seen : SeenView S.Lock) →
-        S.Knows setting program.old.far.job program.new.far.point seen }
-{
-    let start = S::start(&program.far.job);
-    program.go_back(readings, locks, start);
-}
-
-/// Goes on through the job by what it has come by.
-fn walk_far<S: Scripts<READINGS, HELD>, const READINGS: usize, const HELD: usize>(
-    program: &mut AheadOf<S, READINGS, HELD>,
-    setting: &S::Setting,
-)
-    requires setting { S.IsSetting setting.now }
-    requires walk { CanWalk S.Lock.eq S.reply_of S.effects_of (S.system setting.now)
-        (S.Knows setting.now) program.old.far }
-    ensures walks { WalksOn S.Lock.eq S.reply_of S.effects_of (S.system setting.now)
-        (S.Knows setting.now) program.old.far program.new.far }
-    ensures sure { program.new.sure ≡ program.old.sure }
-{
-    walk_on::<S, READINGS, HELD>(&mut program.far, setting);
+    let sure = walk_ahead::<S, READINGS, HELD>(&mut program.far, setting, words);
+    program.sure = sure;
 }
 
 /// The lock that it seizes.
@@ -121,31 +136,6 @@ pub(crate) fn take_far<S: Scripts<READINGS, HELD>, const READINGS: usize, const 
     ensures sure { program.new.sure ≡ program.old.sure }
 {
     take::<S, READINGS, HELD>(&mut program.far, setting, answer);
-}
-
-/// Goes on through the job, and guesses what it reads in glimpsed words. Where it would seize a lock
-/// on its way it guesses nothing.
-#[inline(always)]
-fn walk_ahead<S: Scripts<READINGS, HELD>, const READINGS: usize, const HELD: usize>(
-    program: &mut AheadOf<S, READINGS, HELD>,
-    setting: &S::Setting,
-    words: &mut [u64],
-)
-    requires { MayLookAhead (S.IsSetting setting.now) S.Lock.eq S.reply_of S.effects_of
-        (S.system setting.now) (S.Knows setting.now) READINGS HELD program.old.far }
-    ensures { LooksOn S.Lock.eq S.reply_of S.effects_of (S.system setting.now) (S.Knows setting.now)
-        program.old.far program.new }
-{
-    let (readings, locks) = program.counts();
-    let found = see_far::<S, READINGS, HELD>(program, setting, words);
-    let (_, locks_after) = program.counts();
-    if locks_after == locks {
-        program.come_to(found, readings);
-    } else {
-        drop(found);
-        go_back::<S, READINGS, HELD>(program, readings, locks);
-        walk_far::<S, READINGS, HELD>(program, setting);
-    }
 }
 
 /// Where it guesses nothing it stands where its job brings it. Called for its clauses alone.
@@ -213,6 +203,6 @@ pub(crate) fn take_lock_ahead<S: Scripts<READINGS, HELD>, const READINGS: usize,
         take_far::<S, READINGS, HELD>(program, setting, Answer::Seized);
     } else if let Some(lock) = lock_to_seize::<S, READINGS, HELD>(program, setting) {
         hold_ahead::<S, READINGS, HELD>(program, setting, lock);
-        walk_ahead::<S, READINGS, HELD>(program, setting, words);
+        look_ahead::<S, READINGS, HELD>(program, setting, words);
     }
 }

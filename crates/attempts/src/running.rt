@@ -1,18 +1,19 @@
 //! The steps that an attempt makes by its walk, where nobody else makes any in between.
 
-ghost use Rattle.std.specs.Prelude.{◌≡◌, ◌<◌, ◌≤◌};
+ghost use Rattle.std.specs.Prelude.{◌≡◌, ◌<◌, ◌≤◌, ℕ, IfNone, IfSome, List};
 ghost use Rattle.turns.specs.Sharing.{with_request};
 ghost use Rattle.turns.specs.Sharings.{preferring, taken_by as taken_by_of};
 ghost use Rattle.turns.specs.System.{AreWords};
 ghost use Rattle.attempts.specs.Counting.{counted_by};
-ghost use Rattle.attempts.specs.Live.{LeadsTo};
+ghost use Rattle.attempts.specs.Live.{LeadsTo, WantsNext};
 ghost use Rattle.attempts.specs.Running.{GoesFarEnough, Runs};
-ghost use Rattle.attempts.specs.Standing.{AreScripts, MayGoOn, Stands, attempt_of};
+ghost use Rattle.attempts.specs.Standing.{AreScripts, CanWalk, MayGoOn, Stands, attempt_of};
 ghost use Rattle.attempts.specs.SystemWith.{system_with};
 
 use crate::attempt::AttemptOf;
 use crate::scripts::Scripts;
-use crate::taking::walk_by;
+use crate::taking::walk_by_steps;
+use turns::Wanted;
 use turns::lock_word::{asked_by, taken_by};
 
 /// Words fit 64 bits. Called for its clause alone.
@@ -26,6 +27,23 @@ fn own_word(actor: u32) -> u64
     ensures { result ≡ taken_by_of actor (with_request preferring actor 0) }
 {
     taken_by(actor, asked_by(actor, 0))
+}
+
+/// The lock or the word that it wants next, where nothing of that is done yet: it can go on by a walk
+/// then.
+fn to_walk<S: Scripts<READINGS, HELD>, const READINGS: usize, const HELD: usize>(
+    program: &AttemptOf<S, READINGS, HELD>,
+    _setting: &S::Setting,
+) -> Option<Wanted<S::Lock, usize>>
+    requires may { MayGoOn (S.IsSetting _setting.now) S.Lock.eq S.reply_of S.effects_of
+        (S.system _setting.now) (S.Knows _setting.now) READINGS HELD program.now }
+    ensures walk { IfSome result (λ wanted. CanWalk S.Lock.eq S.reply_of S.effects_of
+        (S.system _setting.now) (S.Knows _setting.now) program.now) }
+    ensures wants { IfSome result (λ wanted. WantsNext program.now.phase) }
+    ensures none { IfNone result ((lock_word : S.Lock → ℕ) (words : List ℕ) (most : ℕ) →
+        GoesFarEnough lock_word words most 0 program.now.phase program.now.phase) }
+{
+    program.wants()
 }
 
 /// Goes on through the job where it wants a lock or a word next, by as many steps of its own as its
@@ -43,20 +61,14 @@ fn make_steps<S: Scripts<READINGS, HELD>, const READINGS: usize, const HELD: usi
     ensures { Runs S.Lock.eq S.reply_of S.effects_of (S.system setting.now) (S.Knows setting.now)
         READINGS HELD actor most result program.old words.old program.new words.new }
 {
-    let Some(_) = program.wants() else {
+    let Some(_) = to_walk::<S, READINGS, HELD>(program, setting) else {
         return 0;
     };
     // Called for its clause alone.
     are_words(words);
-    program.seen.allow(most, own_word(actor));
-    let found = walk_by::<S, READINGS, HELD>(
-        setting,
-        &program.job,
-        &mut program.point,
-        &mut program.seen,
-        words,
-    );
-    let left = program.seen.left();
+    let mut left = most;
+    let word = own_word(actor);
+    let found = walk_by_steps::<S, READINGS, HELD>(program, setting, words, &mut left, word);
     program.go_on(found);
     most - left
 }

@@ -5,6 +5,7 @@ ghost use Rattle.turns.specs.Attempt.{change, freed, operated, rest_of};
 ghost use Rattle.attempts.specs.Counting.{count_in, counted};
 ghost use Rattle.attempts.specs.Live.{live};
 ghost use Rattle.attempts.specs.Points.{GoesOnTo};
+ghost use Rattle.attempts.specs.Running.{WalksBySteps};
 ghost use Rattle.attempts.specs.Standing.{AreScripts, CanWalk, KnowsIn, Stands, attempt_of};
 ghost use Rattle.attempts.specs.SystemWith.{system_with};
 ghost use Rattle.attempts.specs.Taken.{MayAskNext, MayRead, MayWalk, SeizesLock, Takes, WalksOn};
@@ -17,7 +18,7 @@ use crate::starting::give_back;
 use turns::{Answer, Phase, Reading, Wanted};
 
 /// Goes through a job by what an attempt has come by, and by what it comes by itself of these words.
-pub(crate) fn walk_by<S: Scripts<READINGS, HELD>, const READINGS: usize, const HELD: usize>(
+fn walk_by<S: Scripts<READINGS, HELD>, const READINGS: usize, const HELD: usize>(
     setting: &S::Setting,
     job: &S::Job,
     point: &mut S::Point,
@@ -34,6 +35,35 @@ pub(crate) fn walk_by<S: Scripts<READINGS, HELD>, const READINGS: usize, const H
     S::walk(setting, job, point, seen, words)
 }
 
+/// Goes through its job by what it has come by, and by what it comes by itself of these words, by as
+/// many steps as are left at most: fewer are left then. This is put into the word of a lock that it
+/// seizes.
+#[inline(always)]
+pub(crate) fn walk_by_steps<S: Scripts<READINGS, HELD>, const READINGS: usize, const HELD: usize>(
+    program: &mut AttemptOf<S, READINGS, HELD>,
+    setting: &S::Setting,
+    words: &mut [u64],
+    left: &mut u32,
+    hold_word: u64,
+) -> Result<S::Decision, Wanted<S::Lock, usize>>
+    requires setting { S.IsSetting setting.now }
+    requires walk { CanWalk S.Lock.eq S.reply_of S.effects_of (S.system setting.now)
+        (S.Knows setting.now) program.old }
+    ensures { WalksBySteps S.Lock.eq (S.system setting.now) (S.Knows setting.now) READINGS HELD
+        left.old hold_word program.old words.old program.new words.new result left.new }
+{
+    program.seen.allow(*left, hold_word);
+    let found = walk_by::<S, READINGS, HELD>(
+        setting,
+        &program.job,
+        &mut program.point,
+        &mut program.seen,
+        words,
+    );
+    *left = program.seen.left();
+    found
+}
+
 /// Goes on through the job from where it stands, as far as it goes. Not inlined, so that a step that
 /// needs no walk pays for no walk's locals.
 #[inline(never)]
@@ -47,14 +77,9 @@ pub(crate) fn walk_on<S: Scripts<READINGS, HELD>, const READINGS: usize, const H
     ensures { WalksOn S.Lock.eq S.reply_of S.effects_of (S.system setting.now) (S.Knows setting.now)
         program.old program.new }
 {
-    // Matched here, so that a walk that stops early hands on what it wants alone.
-    match walk_by::<S, READINGS, HELD>(
-        setting,
-        &program.job,
-        &mut program.point,
-        &mut program.seen,
-        &mut [],
-    ) {
+    // With no words it makes no step itself. Matched here, so that a walk that stops early hands on
+    // what it wants alone.
+    match walk_by_steps::<S, READINGS, HELD>(program, setting, &mut [], &mut 0, 0) {
         Ok(decision) => program.decide(decision),
         Err(wanted) => program.want(wanted),
     }

@@ -1,10 +1,23 @@
-use Rattle.std.specs.Prelude.{ℕ, List, Option, Some, None, codes}
+use Rattle.std.specs.Prelude.{ℕ, List, Option, Some, None, Result, Ok, Err, codes, ⊤}
+use Rattle.crossbar5.specs.declared.answer.Answer.{Answer}
+use Rattle.crossbar5.specs.declared.engine_fault.EngineFault.{EngineFault}
 use Rattle.crossbar5.specs.declared.status.Status.TheVariants.{Fine, PlanRefused, TrafficRefused, ReportRefused, FoundWrong}
 use Rattle.crossbar5.specs.declared.engine_fault.EngineFault.TheVariants.{Markers, Memory, Device, Long}
 use Rattle.crossbar5_cli.specs.declared.ending.Ending.{Ending}
 use Rattle.crossbar5_cli.specs.declared.ending.Ending.TheVariants.{Answered, Told, Refused, NotText, Failed}
 use Rattle.crossbar5_cli.specs.declared.stream.Stream.{Stream}
 use Rattle.crossbar5_cli.specs.declared.stream.Stream.TheVariants.{Errors}
+
+-- how a run of the engine ends
+abbrev pub ending_of_run : Result Answer EngineFault → Ending
+ending_of_run (Ok answer) = Answered answer.status
+ending_of_run (Err fault) = Failed fault
+
+-- a run ends so: the engine answered, or something failed
+abbrev pub IsOfRun : Ending → Type 0
+IsOfRun (Answered status) = ⊤
+IsOfRun (Failed fault) = ⊤
+IsOfRun _ = ⊥
 
 -- the exit status of each ending
 abbrev pub exit_of : Ending → ℕ

@@ -2,3 +2,4 @@ pub mod Endings
 pub mod Streams
 pub mod Causes
 pub mod Sentences
+pub mod Asks

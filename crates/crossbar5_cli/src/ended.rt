@@ -1,6 +1,8 @@
-ghost use Rattle.std.specs.Prelude.{◌≡◌, ◌⊎◌, IsSome};
+ghost use Rattle.std.specs.Prelude.{◌≡◌, None, option_and_then};
 ghost use Rattle.crossbar5.specs.Refusal.{status_of};
-ghost use Rattle.crossbar5_cli.specs.Sentences.{SpeaksOf, sentence_on as sentence_on_fault, sentence_on_telling as sentence_of_telling};
+ghost use Rattle.crossbar5_cli.specs.Endings.{ending_of_run};
+ghost use Rattle.crossbar5_cli.specs.Sentences as specs;
+ghost use Rattle.crossbar5_cli.specs.Sentences.{SpeaksOf};
 
 use crate::ending::Ending;
 use crate::sentence::Sentence;
@@ -18,7 +20,8 @@ pub struct Ended<'w> {
 impl<'w> Ended<'w> {
     /// With no sentence.
     pub fn plainly(ending: Ending) -> Self
-        ensures { result.ending ≡ ending }
+        ensures ending { result.ending ≡ ending }
+        ensures sentence { result.sentence ≡ None }
     {
         Ended {
             ending,
@@ -26,11 +29,25 @@ impl<'w> Ended<'w> {
         }
     }
 
-    /// With the sentence on the slip of the answer. A plan that no file is named for is the example plan,
-    /// which is never refused.
-    pub fn answered(answer: Answer, file: Option<&'w str>) -> Self
+    /// A run of the engine came to this, with the plan's file, if one is named, after so many failures
+    /// of the device that it read.
+    pub fn of_run(run: Result<Answer, EngineFault>, file: Option<&'w str>, failures: u64) -> Self
+        ensures ending { result.ending ≡ ending_of_run run }
+        ensures sentence { result.sentence ≡ specs.sentence_on_run run file.entry failures }
+    {
+        match run {
+            Ok(answer) => Ended::answered(answer, file),
+            Err(fault) => Ended {
+                ending: Ending::Failed(fault),
+                sentence: sentence_on_fault(fault, failures),
+            },
+        }
+    }
+
+    fn answered(answer: Answer, file: Option<&'w str>) -> Self
         ensures ending { result.ending ≡ Ending.Answered answer.status }
-        ensures told { IsSome answer.slip → IsSome file.entry → IsSome result.sentence }
+        ensures sentence { result.sentence
+            ≡ option_and_then (specs.sentence_on_slip file.entry) answer.slip }
     {
         let Answer { status, slip } = answer;
         let ending = Ending::Answered(status);
@@ -63,7 +80,7 @@ impl<'w> Ended<'w> {
     /// Gates for so many markers come to this fault.
     pub fn of_staff(fault: EngineFault, dialling: u32, completing: u32) -> Self
         ensures ending { result.ending ≡ Ending.Failed fault }
-        ensures told { fault ≡ EngineFault.Markers → IsSome result.sentence }
+        ensures sentence { result.sentence ≡ specs.sentence_on_staff fault dialling completing }
     {
         let ending = Ending::Failed(fault);
         if fault != EngineFault::Markers {
@@ -81,8 +98,7 @@ impl<'w> Ended<'w> {
     /// The plan's file, if one is named, comes to this fault.
     pub fn of_plan_file(fault: EngineFault, file: Option<&'w str>) -> Self
         ensures ending { result.ending ≡ Ending.Failed fault }
-        ensures told { (fault ≡ EngineFault.Device) ⊎ (fault ≡ EngineFault.Long)
-            → IsSome file.entry → IsSome result.sentence }
+        ensures sentence { result.sentence ≡ specs.sentence_on_plan_file fault file.entry }
     {
         Ended {
             ending: Ending::Failed(fault),
@@ -90,22 +106,10 @@ impl<'w> Ended<'w> {
         }
     }
 
-    /// A run between standard input and output comes to this fault, after so many failures of standard
-    /// input.
-    pub fn of_run(fault: EngineFault, failures: u64) -> Self
-        ensures ending { result.ending ≡ Ending.Failed fault }
-        ensures sentence { result.sentence ≡ sentence_on_fault fault failures }
-    {
-        Ended {
-            ending: Ending::Failed(fault),
-            sentence: sentence_on_run(fault, failures),
-        }
-    }
-
     /// Help, the version or a refusal of the words was written, or couldn't be.
     pub fn of_telling(ending: Ending) -> Self
         ensures ending { result.ending ≡ ending }
-        ensures sentence { result.sentence ≡ sentence_of_telling ending }
+        ensures sentence { result.sentence ≡ specs.sentence_on_telling ending }
     {
         Ended {
             ending,
@@ -114,10 +118,9 @@ impl<'w> Ended<'w> {
     }
 }
 
-/// The sentence on a slip, with the plan's file, if one is named.
 fn sentence_on_slip(slip: Slip, file: Option<&str>) -> Option<Sentence<'_>>
     ensures fits { SpeaksOf result (Ending.Answered (status_of slip)) }
-    ensures told { IsSome file.entry → IsSome result }
+    ensures sentence { result ≡ specs.sentence_on_slip file.entry slip }
 {
     match (slip, file) {
         (Slip::Traffic(slip), _) => Some(Sentence::Traffic(slip)),
@@ -128,8 +131,7 @@ fn sentence_on_slip(slip: Slip, file: Option<&str>) -> Option<Sentence<'_>>
 
 fn sentence_on_plan_file(fault: EngineFault, file: Option<&str>) -> Option<Sentence<'_>>
     ensures fits { SpeaksOf result (Ending.Failed fault) }
-    ensures told { (fault ≡ EngineFault.Device) ⊎ (fault ≡ EngineFault.Long)
-        → IsSome file.entry → IsSome result }
+    ensures sentence { result ≡ specs.sentence_on_plan_file fault file.entry }
 {
     let file = file?;
     match fault {
@@ -139,9 +141,9 @@ fn sentence_on_plan_file(fault: EngineFault, file: Option<&str>) -> Option<Sente
     }
 }
 
-fn sentence_on_run<'w>(fault: EngineFault, failures: u64) -> Option<Sentence<'w>>
+fn sentence_on_fault<'w>(fault: EngineFault, failures: u64) -> Option<Sentence<'w>>
     ensures fits { SpeaksOf result (Ending.Failed fault) }
-    ensures sentence { result ≡ sentence_on_fault fault failures }
+    ensures sentence { result ≡ specs.sentence_on_fault fault failures }
 {
     match fault {
         EngineFault::Device if failures == 0 => Some(Sentence::OutputUnwritable),
@@ -153,7 +155,7 @@ fn sentence_on_run<'w>(fault: EngineFault, failures: u64) -> Option<Sentence<'w>
 
 fn sentence_on_telling<'w>(ending: Ending) -> Option<Sentence<'w>>
     ensures fits { SpeaksOf result ending }
-    ensures sentence { result ≡ sentence_of_telling ending }
+    ensures sentence { result ≡ specs.sentence_on_telling ending }
 {
     match ending {
         Ending::Failed(EngineFault::Device) => Some(Sentence::OutputUnwritable),

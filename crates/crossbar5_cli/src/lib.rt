@@ -5,18 +5,20 @@
 //! on standard error, in a sentence.
 #![tactic(auto)]
 
-ghost use Rattle.std.specs.Prelude.{◌≡◌, ◌≢◌, ◌↔◌, Err, IfErr, List, if◌then◌else◌};
+ghost use Rattle.std.specs.Prelude.{◌≡◌, ◌≢◌, ◌↔◌, Err, if◌then◌else◌};
 ghost use Rattle.std.specs.Process.{exit_status};
-ghost use Rattle.xbar_core.specs.declared.kind.Kind.{Kind};
 ghost use Rattle.crossbar5.specs.Faults.{IsStaffCount};
-ghost use Rattle.crossbar5.specs.Kinds.{Names};
 ghost use Rattle.crossbar5.specs.Task.{HasItsMarkers};
-ghost use Rattle.crossbar5_cli.specs.Endings.{exit_of};
+ghost use Rattle.crossbar5_cli.specs.Asks.{MayEndAsked, NamesNone};
+ghost use Rattle.crossbar5_cli.specs.Endings.{IsOfRun, exit_of};
 ghost use Rattle.crossbar5_cli.specs.Streams.{MayEndOf};
 
 use crate::causes::ending_without_words;
 use crate::stream::{stream_of, told_on};
-use crossbar5::{Counted, EngineFault, Look, Task, Telling, kinds_of, open_gates};
+use crossbar5::{
+    Counted, EngineFault, Look, Source, Task, Telling, answer_live, answer_task, kinds_of,
+    open_gates,
+};
 use crossbar5_command::{Ask, CommandFault, command};
 use std::alloc::AllocError;
 use std::fs::File;
@@ -26,7 +28,6 @@ use std::sync::Wait;
 use std::thread::Threads;
 use std::{env, io};
 
-mod between;
 mod causes;
 mod ended;
 mod ending;
@@ -34,7 +35,6 @@ mod plan_file;
 mod sentence;
 mod stream;
 
-pub use between::{live_between, task_between};
 pub use ended::Ended;
 pub use ending::Ending;
 pub use plan_file::plan_text;
@@ -65,51 +65,48 @@ fn run_words<T: Threads + Wait + Sync>(
         .map(|word| word.as_str())
         .collect(rt.alloc());
     match words {
-        Ok(words) => {
-            let asked = command(rt.alloc(), &words);
-            finish(rt, &do_as_asked(rt, threads, &asked))
-        }
+        Ok(words) => match command(rt.alloc(), &words) {
+            Ok(ask) => finish(rt, &do_as_asked(rt, threads, &ask)),
+            Err(fault) => finish(rt, &tell_fault(rt, &fault)),
+        },
         Err(error) => finish(rt, &Ended::plainly(error.into())),
     }
 }
 
-/// Does what is asked for, between standard input and output, or tells why nothing is.
+/// Does what is asked for, between standard input and output, or tells why it isn't done.
 pub fn do_as_asked<'w, T: Threads + Wait + Sync>(
     rt: &HostRuntime,
     threads: &T,
-    asked: &'w Result<Ask, CommandFault>,
+    ask: &'w Ask,
 ) -> Ended<'w>
-    ensures { IfErr asked.now (λ fault. MayEndOf fault result.ending) }
+    ensures { MayEndAsked ask.now result.ending }
 {
-    match asked {
-        Ok(Ask::Replay { plan, kinds }) => replay(rt, plan.as_deref(), kinds.as_str()),
-        Ok(
-            Ask::Live {
-                plan,
-                dial,
-                completing,
-            },
-        ) => live(rt, threads, plan.as_deref(), *dial, *completing),
-        Ok(Ask::Walk { plan, kinds, short }) => {
+    match ask {
+        Ask::Replay { plan, kinds } => replay(rt, plan.as_deref(), kinds.as_str()),
+        Ask::Live {
+            plan,
+            dial,
+            completing,
+        } => live(rt, threads, plan.as_deref(), *dial, *completing),
+        Ask::Walk { plan, kinds, short } => {
             walk(rt, plan.as_deref(), kinds.as_str(), telling_of(*short))
         }
-        Ok(Ask::Audit { plan }) => perform(rt, plan.as_deref(), Task::Audit),
-        Ok(Ask::Draw { plan, text }) => {
+        Ask::Audit { plan } => perform(rt, plan.as_deref(), Task::Audit),
+        Ask::Draw { plan, text } => {
             let look = look_of(*text);
             perform(rt, plan.as_deref(), Task::Draw { look })
         }
-        Ok(Ask::Page { plan }) => {
+        Ask::Page { plan } => {
             let look = Look::Page;
             perform(rt, plan.as_deref(), Task::Draw { look })
         }
-        Err(fault) => Ended::of_telling(tell(rt, fault)),
     }
 }
 
 /// Kinds that are refused are so whatever the plan's file is.
 fn replay<'w>(rt: &HostRuntime, file: Option<&'w str>, kinds: &'w str) -> Ended<'w>
-    ensures { (result.ending ≡ Ending.Failed EngineFault.Markers)
-        ↔ ((named : List Kind) → ¬ Names kinds.now named) }
+    ensures run { IsOfRun result.ending }
+    ensures markers { (result.ending ≡ Ending.Failed EngineFault.Markers) ↔ NamesNone kinds.now }
 {
     match kinds_of(rt.alloc(), kinds) {
         Ok(named) => perform(rt, file, Task::Replay { kinds: &named }),
@@ -124,8 +121,8 @@ fn walk<'w>(
     letters: &'w str,
     telling: Telling,
 ) -> Ended<'w>
-    ensures { (result.ending ≡ Ending.Failed EngineFault.Markers)
-        ↔ ((named : List Kind) → ¬ Names letters.now named) }
+    ensures run { IsOfRun result.ending }
+    ensures markers { (result.ending ≡ Ending.Failed EngineFault.Markers) ↔ NamesNone letters.now }
 {
     match kinds_of(rt.alloc(), letters) {
         Ok(kinds) => perform(
@@ -157,7 +154,8 @@ fn look_of(text: bool) -> Look
 /// Does a task with the plan's file, standard input and output.
 fn perform<'w>(rt: &HostRuntime, file: Option<&'w str>, task: Task<'_>) -> Ended<'w>
     requires { HasItsMarkers task }
-    ensures { result.ending ≢ Ending.Failed EngineFault.Markers }
+    ensures run { IsOfRun result.ending }
+    ensures markers { result.ending ≢ Ending.Failed EngineFault.Markers }
 {
     let plan = match plan_named(rt, file) {
         Ok(plan) => plan,
@@ -166,7 +164,8 @@ fn perform<'w>(rt: &HostRuntime, file: Option<&'w str>, task: Task<'_>) -> Ended
     hint_at_end(rt, input_of(task));
     let mut source = Counted::new(rt.stdin());
     let mut sink = Counted::new(rt.stdout());
-    task_between(rt.alloc(), file, &plan, task, &mut source, &mut sink)
+    let run = answer_task(rt.alloc(), task, &plan, &mut source, &mut sink);
+    Ended::of_run(run, file, source.failures())
 }
 
 /// What a task reads.
@@ -185,7 +184,8 @@ fn live<'w, T: Threads + Wait + Sync>(
     dial: u32,
     completing: u32,
 ) -> Ended<'w>
-    ensures { (result.ending ≡ Ending.Failed EngineFault.Markers)
+    ensures run { IsOfRun result.ending }
+    ensures markers { (result.ending ≡ Ending.Failed EngineFault.Markers)
         ↔ ¬ IsStaffCount dial completing }
 {
     let gates = match open_gates(rt.alloc(), dial as usize, completing as usize) {
@@ -199,17 +199,17 @@ fn live<'w, T: Threads + Wait + Sync>(
     hint_at_end(rt, "rows");
     let mut source = Counted::new(rt.stdin());
     let mut sink = Counted::new(rt.stdout());
-    live_between(
+    let run = answer_live(
         threads,
         rt.alloc(),
-        file,
         &plan,
         dial as usize,
         completing as usize,
         gates,
         &mut source,
         &mut sink,
-    )
+    );
+    Ended::of_run(run, file, source.failures())
 }
 
 /// Tells who types the input how it ends. That this can't be written changes nothing.
@@ -230,6 +230,12 @@ fn plan_named(rt: &HostRuntime, file: Option<&str>) -> Result<Vec<u8>, EngineFau
 }
 
 /// Tells help or the version on standard output, and why the words are refused on standard error.
+pub fn tell_fault<'w>(rt: &HostRuntime, fault: &CommandFault) -> Ended<'w>
+    ensures { MayEndOf fault.now result.ending }
+{
+    Ended::of_telling(tell(rt, fault))
+}
+
 fn tell(rt: &HostRuntime, fault: &CommandFault) -> Ending
     ensures { MayEndOf fault.now result }
 {

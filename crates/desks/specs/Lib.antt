@@ -8,4 +8,5 @@ pub mod WordSteps
 pub mod Desks
 pub mod Guesses
 pub mod Running
+pub mod Watching
 pub mod Met

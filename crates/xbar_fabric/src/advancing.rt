@@ -5,6 +5,7 @@ ghost use Rattle.turns.specs.Attempt.{act, asked_in};
 ghost use Rattle.turns.specs.Runs.{is_rest};
 ghost use Rattle.desks.specs.Desks.{told_record};
 ghost use Rattle.desks.specs.Running.{NothingLeftPastTurn};
+ghost use Rattle.desks.specs.Watching.{told_more};
 ghost use Rattle.xbar_jobs.specs.Attempt.{Attempt};
 ghost use Rattle.xbar_core.specs.Exchange.{is_idle};
 ghost use Rattle.xbar_core.specs.Moves.{event_of, given_by};
@@ -81,6 +82,7 @@ impl Desk {
         ensures same { self.new ≡ record (self.old) { work = self.new.work; seen = self.new.seen } }
         ensures run { HasRun result self.old self.new }
         ensures to_the_end { result + 1 < 2 ^ 32 → NothingLeftPastTurn self.new.work }
+        ensures told { W.steps_told watch.new ≡ told_more result (W.steps_told watch.old) }
     {
         // Called for its clauses alone.
         xbar_plan::laws::every_plan_is_lawful(fabric.plan);

@@ -50,14 +50,14 @@ fn devices_have_their_sentences(rt: HostRuntime) -> Result<(), Fail> {
     let input = "crossbar5: standard input: cannot be read";
     let telling = Ending::Failed(EngineFault::Device);
     for (ended, status, line) in [
-        (Ended::of_run(EngineFault::Device, 0), 6, output),
-        (Ended::of_run(EngineFault::Device, 1), 6, input),
+        (Ended::of_run(Err(EngineFault::Device), None, 0), 6, output),
+        (Ended::of_run(Err(EngineFault::Device), None, 1), 6, input),
         (
-            Ended::of_run(EngineFault::Long, 0),
+            Ended::of_run(Err(EngineFault::Long), None, 0),
             4,
             "crossbar5: standard input: is too long",
         ),
-        (Ended::of_run(EngineFault::Memory, 0), 5, "none"),
+        (Ended::of_run(Err(EngineFault::Memory), None, 0), 5, "none"),
         (Ended::of_telling(telling), 6, output),
         (Ended::of_telling(Ending::Refused), 2, "none"),
         (Ended::plainly(Ending::NotText), 2, "none"),

@@ -1,9 +1,9 @@
 //! Where memory is refused. Each of these tests passes whichever allocation is refused: the fault line
 //! and the status stay, and the sentence is the right one or none.
 
-use super::refused::FILE;
-use crossbar5::{Counted, Task, kinds_of};
-use crossbar5_cli::{Ending, task_between};
+use super::refused::{FILE, PLAN};
+use crossbar5::{Counted, Source, Task, answer_task, kinds_of};
+use crossbar5_cli::{Ended, Ending};
 use std::alloc::Global;
 use std::process::Abort;
 use test_checks::check_eq;
@@ -24,14 +24,8 @@ fn is_refused_or_out_of_memory(
     let mut source = Counted::new(traffic);
     let mut sink = Counted::new(Vec::new(alloc));
     let task = Task::Replay { kinds: &kinds };
-    let ended = task_between(
-        alloc,
-        Some(FILE),
-        plan.as_bytes(),
-        task,
-        &mut source,
-        &mut sink,
-    );
+    let run = answer_task(alloc, task, plan.as_bytes(), &mut source, &mut sink);
+    let ended = Ended::of_run(run, Some(FILE), source.failures());
     if let Ending::Failed(_) = ended.ending {
         return;
     }
@@ -42,10 +36,6 @@ fn is_refused_or_out_of_memory(
         }
     }
 }
-
-/// A plan with one register.
-const PLAN: &str =
-    "version = 1\ngroups = ['REG register 417']\nnumbers = []\ncodes = []\nfaults = []\n";
 
 #[test]
 fn a_fault_line_needs_no_sentence(rt: HostRuntime) {

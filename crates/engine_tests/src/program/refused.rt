@@ -1,7 +1,7 @@
 //! Runs between devices that tell their bytes.
 
-use crossbar5::{Counted, Task, open_gates};
-use crossbar5_cli::{Ended, live_between, task_between};
+use crossbar5::{Counted, Source, Task, answer_live, answer_task, open_gates};
+use crossbar5_cli::Ended;
 use std::alloc::Global;
 use std::process::Abort;
 use std::sync::Wait;
@@ -11,6 +11,10 @@ use test_checks::check_eq;
 
 /// The file that a plan's text stood in.
 pub const FILE: &str = "town.toml";
+
+/// A plan with one register.
+pub const PLAN: &str =
+    "version = 1\ngroups = ['REG register 417']\nnumbers = []\ncodes = []\nfaults = []\n";
 
 /// What is on standard output, the status, and the line behind it on standard error.
 pub type Wanted<'t> = (&'t str, u8, &'t str);
@@ -48,14 +52,8 @@ pub fn check_task(
 ) -> Result<(), Fail> {
     let mut source = Counted::new(input.as_bytes());
     let mut sink = Counted::new(Vec::new(alloc));
-    let ended = task_between(
-        alloc,
-        Some(FILE),
-        plan.as_bytes(),
-        task,
-        &mut source,
-        &mut sink,
-    );
+    let run = answer_task(alloc, task, plan.as_bytes(), &mut source, &mut sink);
+    let ended = Ended::of_run(run, Some(FILE), source.failures());
     check_ended(rt, alloc, &ended, sink.get_ref(), wanted)
 }
 
@@ -70,10 +68,9 @@ pub fn check_live<T: Threads + Wait + Sync + Abort>(
     let gates = open_gates(alloc, 1, 1)?;
     let mut source = Counted::new(traffic.as_bytes());
     let mut sink = Counted::new(Vec::new(alloc));
-    let ended = live_between(
+    let run = answer_live(
         rt,
         alloc,
-        Some(FILE),
         plan.as_bytes(),
         1,
         1,
@@ -81,5 +78,6 @@ pub fn check_live<T: Threads + Wait + Sync + Abort>(
         &mut source,
         &mut sink,
     );
+    let ended = Ended::of_run(run, Some(FILE), source.failures());
     check_ended(rt, alloc, &ended, sink.get_ref(), wanted)
 }

@@ -1,14 +1,10 @@
 //! The sentence on what is refused, in each kind of run: one on a plan, one on its input, and none where
 //! nothing is refused, or where the formats have none.
 
-use super::refused::{Wanted, check_live, check_task};
+use super::refused::{PLAN, Wanted, check_live, check_task};
 use crossbar5::{Look, Task, Telling};
 use std::test::Fail;
 use xbar_core::Kind;
-
-/// A plan with one register.
-const PLAN: &str =
-    "version = 1\ngroups = ['REG register 417']\nnumbers = []\ncodes = []\nfaults = []\n";
 
 const OTHER: &str = "version = 3\n";
 

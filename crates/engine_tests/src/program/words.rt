@@ -1,7 +1,7 @@
 //! Command lines, each with its status, and with the sentence on it where there is one.
 
 use super::refused::sentence_of;
-use crossbar5_cli::do_as_asked;
+use crossbar5_cli::{do_as_asked, tell_fault};
 use crossbar5_command::command;
 use std::sync::Wait;
 use std::test::Fail;
@@ -93,7 +93,10 @@ fn ending_of<T: Threads + Wait + Sync>(
         words.push(word)?;
     }
     let asked = command(rt.alloc(), &words);
-    let ended = do_as_asked(rt, threads, &asked);
+    let ended = match &asked {
+        Ok(ask) => do_as_asked(rt, threads, ask),
+        Err(fault) => tell_fault(rt, fault),
+    };
     Ok((ended.ending.status(), sentence_of(rt.alloc(), &ended)?))
 }
 

@@ -24,4 +24,4 @@ pub returns-else-found-guess-clause-stands : goal.returns-else-found-guess-claus
 returns-else-found-guess-clause-stands g c = (settles_on g.S.Lock.PartialEq.eq g.S.Scripts.reply_of g.S.Scripts.effects_of (g.S.Scripts.system c.args.setting.now) (g.S.Scripts.Knows c.args.setting.now) g.row.READINGS g.row.HELD c.requires.may.scripts c.args.program.now c.settle_down.new.program c.take_far.new.program (Value c.args.found) c.settle_down.ensures.now c.settle_down.ensures.sure c.take_far.ensures.sure c.take_far.ensures.change c.take_far.ensures.stands).1
 
 pub confirm-requires : goal.confirm-requires
-confirm-requires g c = (grind arith steps 60000000, subst (λ (l : List (Reading ℕ)). 1 ≤ length l) (sym (first_of _ c.args.guess c.requires.guess).1) (omega arith))
+confirm-requires g c = (search, subst (λ (l : List (Reading ℕ)). 1 ≤ length l) (sym (first_of _ c.args.guess c.requires.guess).1) (omega arith))

@@ -13,4 +13,4 @@ pub begin_next-requires : goal.begin_next-requires
 begin_next-requires g c = grind arith steps 60000000
 
 pub be_sure-requires : goal.be_sure-requires
-be_sure-requires g c = grind arith steps 60000000
+be_sure-requires g c = search

@@ -10,7 +10,7 @@ pub returns-in-None : goal.returns-in-None
 returns-in-None g c = c.is_given_up.ensures ∙ seen_far g.S.Scripts.reply_of g.S.Scripts.effects_of (λ a. is_given_up a.phase) c.program.inside.far c.program.inside.sure c.args.program.now c.program.view_is c.in-None.ensures
 
 pub guess-requires : goal.guess-requires
-guess-requires g c = grind arith steps 60000000
+guess-requires g c = search
 
 pub is_given_up-requires : goal.is_given_up-requires
 is_given_up-requires g c = grind arith steps 60000000

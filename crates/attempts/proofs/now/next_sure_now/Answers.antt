@@ -18,7 +18,7 @@ pub returns-in-None-clause-asks_none : goal.returns-in-None-clause-asks_none
 returns-in-None-clause-asks_none g c = subst (λ phase. IfSome c.next_sure.result (λ step. asked_in phase ≡ None)) (seen_far g.S.Scripts.reply_of g.S.Scripts.effects_of (λ a. a.phase) c.program.inside.far c.program.inside.sure c.args.program.now c.program.view_is c.in-None.ensures) c.next_sure.ensures.asks_none
 
 pub guess-requires : goal.guess-requires
-guess-requires g c = grind arith steps 60000000
+guess-requires g c = search
 
 pub next_sure-requires : goal.next_sure-requires
 next_sure-requires g c = grind arith steps 60000000

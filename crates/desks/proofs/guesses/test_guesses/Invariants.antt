@@ -1,8 +1,9 @@
-use Rattle.std.proofs.Common.{◌-◌, ◌≤◌, length}
+use Rattle.std.proofs.Common.{◌≡◌, ◌-◌, ◌≤◌, length}
 use Rattle.turns.specs.System.{system_of}
 use Rattle.desks.specs.Running.{HasComeTo, IsAtWork}
 use Rattle.desks.specs.Guesses.{confirmed}
 use Rattle.desks.specs.Desks.{seen_in}
+use Rattle.desks.specs.Watching.{told_more}
 use Rattle.desks.specs.Kept.{HasMoved}
 use Rattle.desks.proofs.guesses.test_guesses.Given as goal
 
@@ -14,6 +15,7 @@ invariant-loop-guess g l =
     record {
       at_work : IsAtWork O (g.F.Jobs.IsSetting l.setting) (g.F.Jobs.Stands l.setting l.program) l.setting l.shared.key.setting.value l.shared.table_id l.seat.table_id l.seat.me l.actor l.number (confirmed O a guesses l.made);
       come : HasComeTo O l.actor l.number l.made a (confirmed O a guesses l.made) l.fn.seat.me l.seat.me;
+      told : g.W.Watch.steps_told l.watch ≡ told_more l.made (g.W.Watch.steps_told l.fn.watch);
       within : l.made ≤ length guesses;
     }
 

@@ -1,4 +1,3 @@
-use Rattle.std.proofs.Common.{arith}
 use Rattle.attempts.proofs.Confirming.{closes_on}
 use Rattle.attempts.proofs.jobs.AttemptsJobs.close.Goals as goal
 
@@ -9,4 +8,4 @@ pub returns-clause-stands : goal.returns-clause-stands
 returns-clause-stands g c = (c.requires.stands.0, (closes_on g.S.Lock.PartialEq.eq g.S.Scripts.reply_of g.S.Scripts.effects_of (g.S.Scripts.system c.args.setting.now) (g.S.Scripts.Knows c.args.setting.now) g.row.READINGS g.row.HELD c.stand_by_scripts.ensures.scripts c.args.program.now c.close_far.new.program c.requires.turned.0 c.requires.stands.1 c.requires.turned.1 c.close_far.ensures.operates c.close_far.ensures.phase c.close_far.ensures.sure).stands)
 
 pub close_far-requires : goal.close_far-requires
-close_far-requires g c = grind arith steps 60000000
+close_far-requires g c = search

@@ -1,5 +1,4 @@
-use Rattle.std.proofs.Common.{arith}
 use Rattle.attempts.proofs.jobs.AttemptsJobs.next.Goals as goal
 
 pub next_now-step-requires : goal.next_now-step-requires
-next_now-step-requires g c = grind arith steps 60000000
+next_now-step-requires g c = search

@@ -1,5 +1,0 @@
-use Rattle.xbar_fabric.specs.Views.{IsDeskOf}
-use Rattle.fabric_tests.proofs.driving.do_jobs.Given as goal
-
-abbrev pub invariant-loop-job_no : goal.invariant-loop-job_no
-invariant-loop-job_no l = IsDeskOf l.shift.desk l.fabric

@@ -1,0 +1,7 @@
+//! Desks of the office, each on a thread of its own.
+
+mod driving;
+mod ending;
+mod many_desks;
+mod opening;
+mod two_desks;
