@@ -1,5 +1,5 @@
 use Rattle.std.specs.Prelude.{◌≡◌, ℕ, ◌==◌, if◌then◌else◌, List, Option, Some, None}
-use Rattle.std.specs.Prelude.{Result, Ok, Err, option_and_then}
+use Rattle.std.specs.Prelude.{Result, Ok, Err, option_and_then, option_map}
 use Rattle.std.specs.Borrow.{Bor}
 use Rattle.std.specs.Option.{ForSome}
 use Rattle.crossbar5.specs.declared.answer.Answer.{Answer}
@@ -8,6 +8,7 @@ use Rattle.crossbar5.specs.declared.engine_fault.EngineFault.TheVariants.{Marker
 use Rattle.crossbar5.specs.declared.slip.Slip.{Slip}
 use Rattle.crossbar5.specs.declared.slip.Slip.TheVariants as slip
 use Rattle.crossbar5.specs.declared.status.Status.TheVariants.{PlanRefused, TrafficRefused}
+use Rattle.xbar_slips.specs.Kinds.{wrong_in}
 use Rattle.crossbar5_cli.specs.declared.ending.Ending.{Ending}
 use Rattle.crossbar5_cli.specs.declared.ending.Ending.TheVariants.{Answered, Failed}
 use Rattle.crossbar5_cli.specs.declared.sentence.Sentence.{Sentence}
@@ -56,6 +57,12 @@ abbrev pub sentence_on_plan_file : EngineFault → FileName → Option Sentence
 sentence_on_plan_file Device (Some file) = Some (PlanUnreadable file)
 sentence_on_plan_file Long (Some file) = Some (PlanTooLong file)
 sentence_on_plan_file _ _ = None
+
+-- the sentence on a fault that the letters of the markers' kinds come to
+abbrev pub sentence_on_kinds : EngineFault → Bor (List ℕ) → Option Sentence
+sentence_on_kinds Markers letters =
+    option_map (λ wrong. Kinds (record { kinds = letters; wrong = wrong })) (wrong_in letters.now)
+sentence_on_kinds _ letters = None
 
 -- the sentence on a fault that gates for so many markers come to
 abbrev pub sentence_on_staff : EngineFault → ℕ → ℕ → Option Sentence

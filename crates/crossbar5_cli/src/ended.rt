@@ -62,7 +62,8 @@ impl<'w> Ended<'w> {
 
     /// The letters of the markers' kinds come to this fault.
     pub fn of_kinds(fault: EngineFault, kinds: &'w str) -> Self
-        ensures { result.ending ≡ Ending.Failed fault }
+        ensures ending { result.ending ≡ Ending.Failed fault }
+        ensures sentence { result.sentence ≡ specs.sentence_on_kinds fault kinds.entry }
     {
         let ending = Ending::Failed(fault);
         if fault != EngineFault::Markers {

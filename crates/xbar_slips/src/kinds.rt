@@ -53,7 +53,8 @@ fn letter_at(kinds: &str, number: usize) -> Option<&str> {
 
 /// What is wrong with the letters of markers' kinds, if anything is.
 pub fn kinds_slip(kinds: &str) -> Option<KindsSlip<'_>>
-    ensures { option_map (λ slip. slip.wrong) result ≡ wrong_in kinds.now }
+    ensures { result
+        ≡ option_map (λ wrong. record { kinds = kinds.entry; wrong = wrong }) (wrong_in kinds.now) }
 {
     let wrong = match first_wrong(kinds.as_bytes()) {
         Some(place) => KindsWrong::Letter(place + 1),
