@@ -4,16 +4,17 @@
 //!
 //!     rustc --edition 2021 -O -o /tmp/plain_steps examples/plain_steps.rs
 //!     /tmp/plain_steps lone CALLS            one marker, one call after another
-//!     /tmp/plain_steps live CALLS MARKERS    so many threads that dial and as many that complete calls,
+//!     /tmp/plain_steps live CALLS MARKERS    MARKERS threads that dial and as many that complete calls,
 //!                                            with three calls under way at once at most; timed
 //!                                            from their queueing to their records in turn order
-//!     /tmp/plain_steps calls MARKERS < ROWS  what `crossbar5 live` writes, by so many threads of each kind; the
+//!     /tmp/plain_steps calls MARKERS < ROWS  what `crossbar5 live` writes, by MARKERS threads of each kind; the
 //!                                            calls aren't paced, and the records aren't audited
 //!     /tmp/plain_steps replay < ROWS         what `crossbar5 replay` writes for jobs that are done whole, one
 //!                                            after another, on words that no threads share
 //!
-//! A job is one function that makes its steps as it comes to them; it can't be stopped between two of them,
-//! as the simulator's can.
+//! A job is one function that makes its steps in order; it can't be stopped between two of them, as the
+//! simulator's can. It has the example plan and calls out of the office alone: rows with other calls are
+//! refused with status 101. `examples/plain_steps.sh` compares it with the program on the examples.
 
 use std::cell::Cell;
 use std::collections::VecDeque;
@@ -57,7 +58,8 @@ struct Place {
 
 impl fmt::Display for Line {
     fn fmt(&self, f: &mut fmt::Formatter) -> fmt::Result {
-        write!(f, "{}{}{:02}", self.frame, self.switch, self.x)
+        let (group, file) = (self.x / 5, self.x % 5);
+        write!(f, "{}{}{group}{file}", self.frame, self.switch)
     }
 }
 
@@ -98,7 +100,20 @@ enum End {
     LineBusy,
     Busy,
     NoPath,
+    NoRegister,
     NoCall,
+}
+
+impl End {
+    /// How many paths a job of this kind adds with this end, or takes away.
+    fn new_paths(&self, kind: u8) -> i32 {
+        match self {
+            End::DialTone(_) => 1,
+            End::Released(_) => -1,
+            End::Busy if kind == 1 => -1,
+            _ => 0,
+        }
+    }
 }
 
 struct Record {
@@ -403,10 +418,10 @@ impl<W: Word> Attempt<'_, W> {
 
     fn complete(&mut self, plan: &Plan, line: Line) -> Result<(u64, End), PutOff> {
         let Some(own) = self.trace(line)? else {
-            return Ok((self.turn(), End::NoCall));
+            return Ok((self.turn(), End::NoRegister));
         };
         let Some(register) = plan.groups[0].iter().position(|p| *p == own.place) else {
-            return Ok((self.turn(), End::NoCall));
+            return Ok((self.turn(), End::NoRegister));
         };
         self.seize(Conn::Group(0))?;
         let mut found = None;
@@ -696,12 +711,7 @@ fn text_of_calls(rows: &str, count: u64) -> Option<Vec<u8>> {
             line: call.line,
             digits: if kind == 1 { call.digits } else { "-" },
         };
-        match record.end {
-            End::DialTone(_) => paths += 1,
-            End::Released(_) => paths -= 1,
-            End::Busy if kind == 1 => paths -= 1,
-            _ => {}
-        }
+        paths += record.end.new_paths(kind);
         write_record(&mut out, &job, record).ok()?;
     }
     writeln!(out, "PATHS,{paths}\nCLOSED,{}", 4 * paths).ok()?;
@@ -744,15 +754,19 @@ struct Asked<'a> {
 
 fn line_of(text: &str) -> Option<Line> {
     let number: usize = text.parse().ok()?;
-    (text.len() == 4).then_some(Line {
+    let (group, file) = (number / 10 % 10, number % 10);
+    (text.len() == 4 && group <= 5 && file <= 4).then_some(Line {
         frame: number / 1000,
         switch: number / 100 % 10,
-        x: (number % 100) as u64,
+        x: (5 * group + file) as u64,
     })
 }
 
 fn job_of<'a>(number: &str, kind: &str, operand: &'a str) -> Option<Asked<'a>> {
     let (line, digits) = operand.split_once(' ').unwrap_or((operand, "-"));
+    if kind == "C" && !digits.starts_with("555") {
+        return None;
+    }
     Some(Asked {
         job_no: number.parse().ok()?,
         kind: "DCR".find(kind)? as u8,
@@ -782,6 +796,7 @@ fn write_record(out: &mut Vec<u8>, job: &Asked, record: &Record) -> io::Result<(
         End::Busy if job.kind == 0 => writeln!(out, "REGISTERSBUSY,-,-,-"),
         End::Busy => writeln!(out, "TRUNKSBUSY,-,-,-"),
         End::NoPath => writeln!(out, "NOPATH,-,-,-"),
+        End::NoRegister => writeln!(out, "NOREGISTER,-,-,-"),
         End::NoCall => writeln!(out, "NOCALL,-,-,-"),
     }
 }
@@ -804,11 +819,7 @@ fn replay(rows: &str) -> Option<Vec<u8>> {
                 let _count: u32 = fields.next()?.parse().ok()?;
                 let Some(asked) = job.take() else { continue };
                 let record = own.do_job(&plan, asked.kind, asked.line, asked.job_no);
-                match record.end {
-                    End::DialTone(_) => paths += 1,
-                    End::Released(_) => paths -= 1,
-                    _ => {}
-                }
+                paths += record.end.new_paths(asked.kind);
                 write_record(&mut out, &asked, &record).ok()?;
             }
             _ => return None,

@@ -10,7 +10,7 @@ set -euo pipefail
 [[ $# -gt 0 ]] || { echo "refused_memory.sh TRAFFIC [WORD].." >&2; exit 1; }
 root=$(cd "$(dirname "$(readlink -f "${BASH_SOURCE[0]}")")/.." && pwd)
 program=$root/crates/crossbar5_program/out/crossbar5_program
-[[ -x $program ]] || { echo "$program isn't built; bin/crossbar5 --version builds it" >&2; exit 1; }
+[[ -x $program ]] || { echo "$program isn't built; bin/build builds it" >&2; exit 1; }
 traffic=$(readlink -f "$1")
 shift
 words=$*

@@ -7,7 +7,7 @@ set -euo pipefail
 root=$(cd "$(dirname "$(readlink -f "${BASH_SOURCE[0]}")")/.." && pwd)
 program=${1:-$root/crates/crossbar5_program/out/crossbar5_program}
 plain=${2:-}
-[[ -x $program ]] || { echo "speed.sh: $program isn't built; bin/crossbar5 --version builds it" >&2; exit 1; }
+[[ -x $program ]] || { echo "speed.sh: $program isn't built; bin/build builds it" >&2; exit 1; }
 folder=$(mktemp -d)
 trap 'rm -r "$folder"' EXIT
 

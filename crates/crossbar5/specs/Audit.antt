@@ -11,6 +11,7 @@ use Rattle.xbar_report.specs.Text.{card_lines, closed_line, line_with, paths_lin
 use Rattle.xbar_report.specs.declared.counts.Counts.{Counts}
 use Rattle.xbar_report.specs.declared.read_fault.ReadFault.TheVariants.{Line, Turns}
 use Rattle.crossbar5.specs.PlanRefusal.{IsAnswerOf}
+use Rattle.crossbar5.specs.Refusal.{report_fault_line}
 use Rattle.crossbar5.specs.declared.finding.Finding.{Finding}
 use Rattle.crossbar5.specs.declared.finding.Finding.TheVariants.{NoReport, WrongTurn, WrongReply, WrongCounts, Legal}
 use Rattle.crossbar5.specs.declared.finding.Standing.{Standing}
@@ -79,7 +80,7 @@ finding_text (WrongCounts standing) = audit_line (codes "COUNTS" ∷ []) ++ stan
 finding_text (WrongReply given right) =
     audit_line (codes "REPLY" ∷ decimal given.turn ∷ []) ++ record_text given ++ record_text right
 finding_text (WrongTurn place) = audit_line (codes "TURNS" ∷ decimal place ∷ [])
-finding_text (NoReport line) = line_with (codes "FAULT" ∷ codes "U1" ∷ decimal line ∷ [])
+finding_text (NoReport line) = report_fault_line line
 
 -- and the status that it ends with
 abbrev pub finding_status : Finding → Status

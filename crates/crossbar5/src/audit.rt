@@ -7,14 +7,17 @@ ghost use Rattle.xbar_office.specs.declared.reply.Record.{Record as TheRecord};
 ghost use Rattle.xbar_report.specs.Sheet.{IsReport};
 ghost use Rattle.xbar_report.specs.Text.{records_text};
 ghost use Rattle.xbar_report.specs.declared.counts.Counts.{Counts as TheCounts};
-ghost use Rattle.crossbar5.specs.Audit.{AreRightCounts, IsAuditUnder, IsFoundIn, IsFoundOf, righted, standing_after};
+ghost use Rattle.crossbar5.specs.Audit.{AreRightCounts, IsAuditUnder, IsFoundIn, IsFoundOf, finding_status, finding_text, righted, standing_after};
+ghost use Rattle.crossbar5.specs.Refusal.{TellsItsRefusal};
 
 use crate::finding::{Finding, Standing};
+use crate::slip::Slip;
 use crate::written::Written;
 use std::alloc::{AllocError, Global};
 use xbar_office::{AuditFault, Office, Record, Reply, audit};
 use xbar_plan::Plan;
 use xbar_report::{Counts, ReadFault, Report, read};
+use xbar_slips::report_slip;
 
 /// What is written of a text of records.
 pub fn audit_text(alloc: Global, plan: &Plan, text: &[u8]) -> Result<Written, AllocError>
@@ -25,8 +28,21 @@ pub fn audit_text(alloc: Global, plan: &Plan, text: &[u8]) -> Result<Written, Al
     Ok(Written {
         text: finding.text(alloc)?.into_bytes(),
         status: finding.status(),
-        slip: None,
+        slip: slip_of(alloc, &finding, text),
     })
+}
+
+/// What is wrong with a text that is no text of records, if there is memory for it.
+fn slip_of(alloc: Global, finding: &Finding, text: &[u8]) -> Option<Slip>
+    ensures { TellsItsRefusal result (finding_text finding.now) (finding_status finding.now) }
+{
+    let Finding::NoReport { line } = finding else {
+        return None;
+    };
+    match report_slip(alloc, text, *line) {
+        Ok(slip) => Some(Slip::Report(slip)),
+        Err(_) => None,
+    }
 }
 
 /// What is found in a text.

@@ -1,13 +1,13 @@
 //! The engine: from the bytes of a plan and an input to those of the output, with a slip where the plan
 //! or the traffic is refused.
 
-ghost use Rattle.std.specs.Prelude.{◌≡◌, ◌≢◌, ◌↔◌, ◌⊎◌, Err, IfErr, IfOk, IfSome, List, OnOk, ℕ, ◌+◌, vec_len};
+ghost use Rattle.std.specs.Prelude.{◌≡◌, ◌≢◌, ◌↔◌, ◌⊎◌, [], Err, IfErr, IfOk, IfSome, List, OnOk, ℕ, ◌+◌, vec_len};
 ghost use Rattle.std.specs.Io.KnownBytes.{Appends, IsAtEnd, Keeps};
 ghost use Rattle.counted_io.specs.Counts.{HasFailed, ReadsUsedUp};
 ghost use Rattle.crossbar5.specs.Faults.{ComesFirst, IsStaffCount};
 ghost use Rattle.crossbar5.specs.Live.{IsLive, IsLiveUnread};
 ghost use Rattle.crossbar5.specs.Refusal.{TellsItsRefusal};
-ghost use Rattle.crossbar5.specs.Task.{HasItsMarkers, IsDone, IsUnreadTask};
+ghost use Rattle.crossbar5.specs.Task.{HasItsMarkers, IsDone, IsUnreadTask, output_of, reasons_of};
 
 use crate::answer::Answer;
 use crate::engine_fault::EngineFault;
@@ -52,8 +52,9 @@ fn comes_to<R: Source>(
     }
 }
 
-/// Does a task with the plan of this text and what the source gives, and writes what comes of it to the
-/// sink.
+/// Does a task with the plan of this text and what the source gives, and writes its text to the sink.
+/// Of a drawing nothing is written but the drawing: where the plan or the records are refused, or the
+/// records are wrong, the answer has the text, as the reasons.
 ///
 /// The markers of a replay or a walk are judged first, then the plan, then the input. Markers or a plan
 /// that are refused leave the source unread. The input is read to its end before a line of it is looked
@@ -69,9 +70,13 @@ pub fn answer_task<R: Source, W: Sink>(
     ensures done { IfOk result (λ answer. (input text : List ℕ) ×
         IfSome (R.remaining source.old) (λ all. input ≡ all) ×
         IsDone task.entry plan.now input text answer.status ×
-        Appends (W.contents sink.old) (W.contents sink.new) text) }
+        Appends (W.contents sink.old) (W.contents sink.new)
+        (output_of task.entry answer.status text) ×
+        (answer.reasons.items ≡ reasons_of task.entry answer.status text)) }
     ensures slip { IfOk result (λ answer. (text : List ℕ) ×
-        Appends (W.contents sink.old) (W.contents sink.new) text ×
+        Appends (W.contents sink.old) (W.contents sink.new)
+        (output_of task.entry answer.status text) ×
+        (answer.reasons.items ≡ reasons_of task.entry answer.status text) ×
         TellsItsRefusal answer.slip text answer.status) }
     ensures markers { (result ≡ Err EngineFault.Markers) ↔ ¬ HasItsMarkers task.entry }
     ensures device { result ≡ Err EngineFault.Device
@@ -89,8 +94,13 @@ pub fn answer_task<R: Source, W: Sink>(
         Keeps (W.contents sink.old) (W.contents sink.new)) }
 {
     let Written { text, status, slip } = comes_to(alloc, task, plan, source)?;
-    write_all(sink, &text)?;
-    Ok(Answer { status, slip })
+    let (output, reasons) = task.parted(alloc, status, text);
+    write_all(sink, &output)?;
+    Ok(Answer {
+        status,
+        slip,
+        reasons,
+    })
 }
 
 /// What is written of live traffic with a plan's text, for all that the source gives.
@@ -155,6 +165,7 @@ pub fn answer_live<G: Gate + Send + Drop, T: Threads + Wait + Sync, R: Source, W
     ensures slip { IfOk result (λ answer. (text : List ℕ) ×
         Appends (W.contents sink.old) (W.contents sink.new) text ×
         TellsItsRefusal answer.slip text answer.status) }
+    ensures reasons { IfOk result (λ answer. answer.reasons.items ≡ []) }
     ensures markers { (result ≡ Err EngineFault.Markers) ↔ ¬ IsStaffCount dialling completing }
     ensures device { result ≡ Err EngineFault.Device
         → HasFailed (R.failure_count source.old) (R.failure_count source.new)
@@ -174,5 +185,9 @@ pub fn answer_live<G: Gate + Send + Drop, T: Threads + Wait + Sync, R: Source, W
         rt, alloc, plan, dialling, completing, gates, source,
     )?;
     write_all(sink, &text)?;
-    Ok(Answer { status, slip })
+    Ok(Answer {
+        status,
+        slip,
+        reasons: Vec::new(alloc),
+    })
 }

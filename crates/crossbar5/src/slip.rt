@@ -1,11 +1,12 @@
 use std::fmt;
-use xbar_slips::{PlanSlip, TrafficSlip};
+use xbar_slips::{PlanSlip, ReportSlip, TrafficSlip};
 
-/// What is wrong with a plan or with traffic that was refused, and where. Its text is the sentence.
+/// What is wrong with a refused plan, traffic or text of records, and where. Its text is the sentence.
 #[derive(Debug, Drop)]
 pub enum Slip {
     Plan(PlanSlip),
     Traffic(TrafficSlip),
+    Report(ReportSlip),
 }
 
 impl fmt::Display for Slip {
@@ -13,6 +14,7 @@ impl fmt::Display for Slip {
         match self {
             Slip::Plan(slip) => write!(f, "{slip}"),
             Slip::Traffic(slip) => write!(f, "{slip}"),
+            Slip::Report(slip) => write!(f, "{slip}"),
         }
     }
 }

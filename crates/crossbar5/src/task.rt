@@ -2,6 +2,7 @@ use crate::audit::audit_text;
 use crate::draw::draw_text;
 use crate::look::Look;
 use crate::run::replay;
+use crate::status::Status;
 use crate::walk::walk;
 use crate::written::Written;
 use std::alloc::{AllocError, Global};
@@ -23,8 +24,8 @@ pub enum Task<'a> {
 }
 
 impl Task<'_> {
-    ghost use Rattle.std.specs.Prelude.{◌↔◌, IfOk, IsTrue};
-    ghost use Rattle.crossbar5.specs.Task.{HasItsMarkers, IsDoneUnder};
+    ghost use Rattle.std.specs.Prelude.{◌≡◌, ◌↔◌, IfOk, IsTrue};
+    ghost use Rattle.crossbar5.specs.Task.{HasItsMarkers, IsDoneUnder, is_output, output_of, reasons_of};
 
     /// Whether its markers are 1 to 48, if it has any.
     pub fn has_its_markers(self) -> bool
@@ -54,6 +55,29 @@ impl Task<'_> {
             Task::Walk { kinds, telling } => walk(alloc, plan, kinds, telling, input),
             Task::Audit => audit_text(alloc, plan, input),
             Task::Draw { look } => draw_text(alloc, plan, look, input),
+        }
+    }
+
+    /// Whether the text of a task that ends with this status is its output. That of a drawing which
+    /// isn't made says why it isn't.
+    fn is_output(self, status: Status) -> bool
+        ensures { result ≡ is_output self.entry status }
+    {
+        match self {
+            Task::Replay { .. } | Task::Walk { .. } | Task::Audit => true,
+            Task::Draw { .. } => status == Status::Fine,
+        }
+    }
+
+    /// Parts a task's text into its output and the reasons why nothing is drawn. One of them is empty.
+    pub(crate) fn parted(self, alloc: Global, status: Status, text: Vec<u8>) -> (Vec<u8>, Vec<u8>)
+        ensures output { result.0.items ≡ output_of self.entry status text.items }
+        ensures reasons { result.1.items ≡ reasons_of self.entry status text.items }
+    {
+        if self.is_output(status) {
+            (text, Vec::new(alloc))
+        } else {
+            (Vec::new(alloc), text)
         }
     }
 }

@@ -1,26 +1,33 @@
-use Rattle.std.specs.Prelude.{◌≡◌, ℕ, ◌==◌, if◌then◌else◌, List, Option, Some, None}
-use Rattle.std.specs.Prelude.{Result, Ok, Err, option_and_then, option_map}
+use Rattle.std.specs.Prelude.{◌≡◌, ◌∷◌, [], ℕ, ◌==◌, if◌then◌else◌, List, Option, Some, None}
+use Rattle.std.specs.Prelude.{Result, Ok, Err, option_map}
 use Rattle.std.specs.Borrow.{Bor}
 use Rattle.std.specs.Option.{ForSome}
+use Rattle.std.specs.declared.io.Error.{Error}
+use Rattle.clap.specs.declared.error.kind.ErrorKind.{ErrorKind}
+use Rattle.clap.specs.declared.error.kind.ErrorKind.TheVariants.{ValueValidation}
 use Rattle.crossbar5.specs.declared.answer.Answer.{Answer}
 use Rattle.crossbar5.specs.declared.engine_fault.EngineFault.{EngineFault}
 use Rattle.crossbar5.specs.declared.engine_fault.EngineFault.TheVariants.{Markers, Memory, Device, Long}
 use Rattle.crossbar5.specs.declared.slip.Slip.{Slip}
 use Rattle.crossbar5.specs.declared.slip.Slip.TheVariants as slip
-use Rattle.crossbar5.specs.declared.status.Status.TheVariants.{PlanRefused, TrafficRefused}
+use Rattle.crossbar5.specs.declared.status.Status.{Status}
+use Rattle.crossbar5.specs.declared.status.Status.TheVariants.{FoundWrong, PlanRefused, ReportRefused, TrafficRefused}
 use Rattle.xbar_slips.specs.Kinds.{wrong_in}
 use Rattle.crossbar5_cli.specs.declared.ending.Ending.{Ending}
-use Rattle.crossbar5_cli.specs.declared.ending.Ending.TheVariants.{Answered, Failed}
+use Rattle.crossbar5_cli.specs.declared.ending.Ending.TheVariants.{Answered, Failed, Refused}
 use Rattle.crossbar5_cli.specs.declared.sentence.Sentence.{Sentence}
-use Rattle.crossbar5_cli.specs.declared.sentence.Sentence.TheVariants.{Kinds, Staff, Plan, Traffic, PlanUnreadable, PlanTooLong, InputUnreadable, InputTooLong, OutputUnwritable}
+use Rattle.crossbar5_cli.specs.declared.sentence.Sentence.TheVariants.{Kinds, Staff, NotMarkerCount, Plan, Traffic, Report, NothingDrawn, PlanUnreadable, PlanTooLong, InputUnreadable, InputTooLong, OutputUnwritable}
 
 -- the ending that a sentence speaks of
 abbrev pub ending_on : Sentence → Ending
 ending_on (Kinds slip) = Failed Markers
 ending_on (Staff dialling completing) = Failed Markers
 ending_on (Plan file slip) = Answered PlanRefused
+ending_on NotMarkerCount = Refused
 ending_on (Traffic slip) = Answered TrafficRefused
-ending_on (PlanUnreadable file) = Failed Device
+ending_on (Report slip) = Answered ReportRefused
+ending_on NothingDrawn = Answered FoundWrong
+ending_on (PlanUnreadable file reason) = Failed Device
 ending_on (PlanTooLong file) = Failed Long
 ending_on InputUnreadable = Failed Device
 ending_on InputTooLong = Failed Long
@@ -37,6 +44,7 @@ FileName = Option (Bor (List ℕ))
 -- the sentence on a slip. A plan that no file is named for is the example plan, which is never refused
 abbrev pub sentence_on_slip : FileName → Slip → Option Sentence
 sentence_on_slip file (slip.Traffic found) = Some (Traffic found)
+sentence_on_slip file (slip.Report found) = Some (Report found)
 sentence_on_slip (Some file) (slip.Plan found) = Some (Plan file found)
 sentence_on_slip None (slip.Plan found) = None
 
@@ -47,16 +55,32 @@ sentence_on_fault Long failures = Some InputTooLong
 sentence_on_fault Memory failures = None
 sentence_on_fault Markers failures = None
 
+-- the sentence on an answer with this slip, status and reasons why nothing is drawn: on the slip, or
+-- that wrong records aren't drawn
+abbrev pub sentence_on_parts : FileName → Option Slip → Status → List ℕ → Option Sentence
+sentence_on_parts file (Some slip) status reasons = sentence_on_slip file slip
+sentence_on_parts file None FoundWrong (first ∷ rest) = Some NothingDrawn
+sentence_on_parts file None _ _ = None
+
+abbrev pub sentence_on_answer : FileName → Answer → Option Sentence
+sentence_on_answer file answer =
+    sentence_on_parts file answer.slip answer.status answer.reasons.items
+
 -- the sentence on such a run
 abbrev pub sentence_on_run : Result Answer EngineFault → FileName → ℕ → Option Sentence
-sentence_on_run (Ok answer) file failures = option_and_then (sentence_on_slip file) answer.slip
+sentence_on_run (Ok answer) file failures = sentence_on_answer file answer
 sentence_on_run (Err fault) file failures = sentence_on_fault fault failures
 
--- the sentence on a fault that the plan's file comes to
-abbrev pub sentence_on_plan_file : EngineFault → FileName → Option Sentence
-sentence_on_plan_file Device (Some file) = Some (PlanUnreadable file)
-sentence_on_plan_file Long (Some file) = Some (PlanTooLong file)
-sentence_on_plan_file _ _ = None
+-- the lines on standard error before it, which say why nothing is drawn
+abbrev pub reasons_of_run : Result Answer EngineFault → Option (List ℕ)
+reasons_of_run (Ok answer) = Some answer.reasons.items
+reasons_of_run (Err fault) = None
+
+-- the sentence on a fault of the plan's file, with the system's reason if it is known
+abbrev pub sentence_on_plan_file : EngineFault → FileName → Option Error → Option Sentence
+sentence_on_plan_file Device (Some file) reason = Some (PlanUnreadable file reason)
+sentence_on_plan_file Long (Some file) reason = Some (PlanTooLong file)
+sentence_on_plan_file _ _ reason = None
 
 -- the sentence on a fault that the letters of the markers' kinds come to
 abbrev pub sentence_on_kinds : EngineFault → Bor (List ℕ) → Option Sentence
@@ -69,7 +93,8 @@ abbrev pub sentence_on_staff : EngineFault → ℕ → ℕ → Option Sentence
 sentence_on_staff Markers dialling completing = Some (Staff dialling completing)
 sentence_on_staff _ dialling completing = None
 
--- the sentence on help or the version, once it was written, or couldn't be
-abbrev pub sentence_on_telling : Ending → Option Sentence
-sentence_on_telling (Failed Device) = Some OutputUnwritable
-sentence_on_telling _ = None
+-- the sentence after a text of clap's of this kind, once it was written, or couldn't be
+abbrev pub sentence_on_telling : ErrorKind → Ending → Option Sentence
+sentence_on_telling kind (Failed Device) = Some OutputUnwritable
+sentence_on_telling ValueValidation Refused = Some NotMarkerCount
+sentence_on_telling _ _ = None

@@ -1,8 +1,5 @@
-//! All of the program `crossbar5`: it replays traffic from standard input in an office with the plan
-//! and the markers that its words ask for, or tells such a replay step by step, or does the calls of
-//! live traffic on threads, and writes what comes of it to standard output; or it audits such a text, or
-//! draws the office after it, or after each of its turns. What is wrong with what it was given it tells
-//! on standard error, in a sentence.
+//! All of the program `crossbar5` but its `main`: it does what its words ask for between standard input
+//! and standard output. Errors go to standard error, as a line and a sentence.
 #![tactic(auto)]
 
 ghost use Rattle.std.specs.Prelude.{◌≡◌, ◌≢◌, ◌↔◌, Err, if◌then◌else◌};
@@ -11,10 +8,12 @@ ghost use Rattle.crossbar5.specs.Faults.{IsStaffCount};
 ghost use Rattle.crossbar5.specs.Task.{HasItsMarkers};
 ghost use Rattle.crossbar5_cli.specs.Asks.{MayEndAsked, NamesNone};
 ghost use Rattle.crossbar5_cli.specs.Endings.{IsOfRun, exit_of};
-ghost use Rattle.crossbar5_cli.specs.Streams.{MayEndOf};
+ghost use Rattle.clap.specs.Words.{kind_of};
+ghost use Rattle.crossbar5_cli.specs.Streams.{MayEndOf, MayEndOn, stream_of as stream_of_kind};
 
 use crate::causes::ending_without_words;
 use crate::stream::{stream_of, told_on};
+use clap::error::ErrorKind;
 use crossbar5::{
     Counted, EngineFault, Look, Source, Task, Telling, answer_live, answer_task, kinds_of,
     open_gates,
@@ -22,7 +21,7 @@ use crossbar5::{
 use crossbar5_command::{Ask, CommandFault, command};
 use std::alloc::AllocError;
 use std::fs::File;
-use std::io::IsTerminal;
+use std::io::{IsTerminal, Read, Write};
 use std::process::ExitCode;
 use std::sync::Wait;
 use std::thread::Threads;
@@ -41,11 +40,12 @@ pub use plan_file::plan_text;
 pub use sentence::Sentence;
 pub use stream::Stream;
 
-/// Runs the program, and tells the status that it ends with. The second handle is for live calls:
-/// the runtime itself, where it may make threads and wait for them.
-pub fn run<T: Threads + Wait + Sync>(rt: &HostRuntime, threads: &T) -> ExitCode {
+/// Runs the program and returns its exit status. The second handle is for live calls: the runtime itself,
+/// where it may start threads and wait for them. `build` names the kit and the commit that the program was
+/// built with, as the last line of `--version`.
+pub fn run<T: Threads + Wait + Sync>(rt: &HostRuntime, threads: &T, build: &str) -> ExitCode {
     match words(rt) {
-        Ok(words) => run_words(rt, threads, &words),
+        Ok(words) => run_words(rt, threads, &words, build),
         Err(error) => finish(rt, &Ended::plainly(ending_without_words(&error))),
     }
 }
@@ -59,6 +59,7 @@ fn run_words<T: Threads + Wait + Sync>(
     rt: &HostRuntime,
     threads: &T,
     words: &[String],
+    build: &str,
 ) -> ExitCode {
     let words: Result<Vec<&str>, AllocError> = words
         .iter()
@@ -67,13 +68,13 @@ fn run_words<T: Threads + Wait + Sync>(
     match words {
         Ok(words) => match command(rt.alloc(), &words) {
             Ok(ask) => finish(rt, &do_as_asked(rt, threads, &ask)),
-            Err(fault) => finish(rt, &tell_fault(rt, &fault)),
+            Err(fault) => finish(rt, &tell_fault(rt, &fault, build)),
         },
         Err(error) => finish(rt, &Ended::plainly(error.into())),
     }
 }
 
-/// Does what is asked for, between standard input and output, or tells why it isn't done.
+/// Does what is asked for, between standard input and output.
 pub fn do_as_asked<'w, T: Threads + Wait + Sync>(
     rt: &HostRuntime,
     threads: &T,
@@ -159,7 +160,7 @@ fn perform<'w>(rt: &HostRuntime, file: Option<&'w str>, task: Task<'_>) -> Ended
 {
     let plan = match plan_named(rt, file) {
         Ok(plan) => plan,
-        Err(fault) => return Ended::of_plan_file(fault, file),
+        Err(fault) => return Ended::of_plan_file(fault, file, reason_of(rt, file, fault)),
     };
     hint_at_end(rt, input_of(task));
     let mut source = Counted::new(rt.stdin());
@@ -168,11 +169,11 @@ fn perform<'w>(rt: &HostRuntime, file: Option<&'w str>, task: Task<'_>) -> Ended
     Ended::of_run(run, file, source.failures())
 }
 
-/// What a task reads.
+/// What a task reads, with an example.
 fn input_of(task: Task<'_>) -> &'static str {
     match task {
-        Task::Replay { .. } | Task::Walk { .. } => "rows",
-        Task::Audit | Task::Draw { .. } => "records",
+        Task::Replay { .. } | Task::Walk { .. } => "rows, such as J,0,1,D,3041 and S,0,128,,",
+        Task::Audit | Task::Draw { .. } => "records, as a replay prints them",
     }
 }
 
@@ -194,9 +195,9 @@ fn live<'w, T: Threads + Wait + Sync>(
     };
     let plan = match plan_named(rt, file) {
         Ok(plan) => plan,
-        Err(fault) => return Ended::of_plan_file(fault, file),
+        Err(fault) => return Ended::of_plan_file(fault, file, reason_of(rt, file, fault)),
     };
-    hint_at_end(rt, "rows");
+    hint_at_end(rt, "calls, such as C,7,3041,5551234,R");
     let mut source = Counted::new(rt.stdin());
     let mut sink = Counted::new(rt.stdout());
     let run = answer_live(
@@ -212,11 +213,11 @@ fn live<'w, T: Threads + Wait + Sync>(
     Ended::of_run(run, file, source.failures())
 }
 
-/// Tells who types the input how it ends. That this can't be written changes nothing.
+/// Says on a terminal what to type and how to end it. A failure to write this changes nothing.
 fn hint_at_end(rt: &HostRuntime, what: &str) {
     if rt.stdin().is_terminal() {
         let _told = eprintln!(rt;
-            "crossbar5: standard input is a terminal; {what} are read up to Ctrl-D"
+            "crossbar5: standard input is a terminal: type {what}; end with Ctrl-D"
         );
     }
 }
@@ -229,29 +230,41 @@ fn plan_named(rt: &HostRuntime, file: Option<&str>) -> Result<Vec<u8>, EngineFau
     plan_text(rt.alloc(), asked)
 }
 
-/// Tells help or the version on standard output, and why the words are refused on standard error.
-pub fn tell_fault<'w>(rt: &HostRuntime, fault: &CommandFault) -> Ended<'w>
-    ensures { MayEndOf fault.now result.ending }
-{
-    Ended::of_telling(tell(rt, fault))
+/// The system's reason why the plan's file can't be read, by trying once more.
+fn reason_of(rt: &HostRuntime, file: Option<&str>, fault: EngineFault) -> Option<io::Error> {
+    if fault != EngineFault::Device {
+        return None;
+    }
+    match File::open(rt, file?) {
+        Ok(mut file) => file.read(&mut [0]).err(),
+        Err(error) => Some(error),
+    }
 }
 
-fn tell(rt: &HostRuntime, fault: &CommandFault) -> Ending
-    ensures { MayEndOf fault.now result }
+/// Prints help or the version on standard output, and why the words are refused on standard error.
+pub fn tell_fault<'w>(rt: &HostRuntime, fault: &CommandFault, build: &str) -> Ended<'w>
+    ensures { MayEndOf fault.now result.ending }
 {
-    let CommandFault::Refused(error) = fault else {
-        return Ending::Failed(EngineFault::Memory);
-    };
+    match fault {
+        CommandFault::Refused(error) => Ended::of_telling(error.kind(), tell(rt, error, build)),
+        CommandFault::Memory => Ended::plainly(Ending::Failed(EngineFault::Memory)),
+    }
+}
+
+fn tell(rt: &HostRuntime, error: &clap::Error, build: &str) -> Ending
+    ensures { MayEndOn (stream_of_kind (kind_of error.now)) result }
+{
     let stream = stream_of(error);
-    let told = match stream {
-        Stream::Output => rt.print(error),
-        Stream::Errors => rt.eprint(error),
+    let told = match error.kind() {
+        ErrorKind::DisplayVersion => rt.print(error).and(rt.println(build)),
+        ErrorKind::DisplayHelp => rt.print(error),
+        _ => rt.eprint(error),
     };
     told_on(stream, told.is_ok())
 }
 
-/// Writes the line of an ending, and then the sentence on it. That they can't be written changes
-/// nothing.
+/// Writes the line of an ending, the reasons why nothing is drawn, and the sentence. A failure to write
+/// them changes nothing.
 fn finish(rt: &HostRuntime, ended: &Ended<'_>) -> ExitCode
     ensures { exit_status result ≡ exit_of ended.now.ending }
 {
@@ -260,6 +273,9 @@ fn finish(rt: &HostRuntime, ended: &Ended<'_>) -> ExitCode
             Stream::Output => rt.println(line),
             Stream::Errors => rt.eprintln(line),
         };
+    }
+    if let Some(reasons) = &ended.reasons {
+        let _told = rt.stderr().write_all(reasons);
     }
     if let Some(sentence) = &ended.sentence {
         let _told = rt.eprintln(sentence);

@@ -1,20 +1,35 @@
-use std::fmt;
-use xbar_slips::{KindsSlip, PlanSlip, TrafficSlip};
+use std::{fmt, io};
+use xbar_slips::{KindsSlip, PlanSlip, ReportSlip, TrafficSlip};
 
-/// What is wrong with what the program was given, or with a device. Its text is the line for standard
-/// error, without its line end: the program's name and a sentence.
+/// What is wrong with the program's input or with a device. Its text is the line for standard error,
+/// without its line end: the program's name and a sentence.
 #[derive(Debug, Drop)]
 pub enum Sentence<'w> {
     /// The letters of the markers' kinds name none.
     Kinds(KindsSlip<'w>),
-    /// Live calls can't have so many markers that dial and that complete calls.
-    Staff { dialling: u32, completing: u32 },
+    /// Live calls can't have these numbers of markers.
+    Staff {
+        dialling: u32,
+        completing: u32,
+    },
+    /// The value of an option isn't a number of markers.
+    NotMarkerCount,
     /// The plan in this file is refused.
-    Plan { file: &'w str, slip: PlanSlip },
+    Plan {
+        file: &'w str,
+        slip: PlanSlip,
+    },
     /// The traffic is refused.
     Traffic(TrafficSlip),
-    /// The plan's file of this name can't be read.
-    PlanUnreadable(&'w str),
+    /// The text of records is refused.
+    Report(ReportSlip),
+    /// The records are wrong, so nothing is drawn.
+    NothingDrawn,
+    /// The plan's file of this name can't be read, for the system's reason.
+    PlanUnreadable {
+        file: &'w str,
+        reason: Option<io::Error>,
+    },
     PlanTooLong(&'w str),
     InputUnreadable,
     InputTooLong,
@@ -31,15 +46,32 @@ impl fmt::Display for Sentence<'_> {
                 completing,
             } => write!(
                 f,
-                "--dial {dialling} --completing {completing}: 1 to 48 markers in all are wanted, at least one of each"
+                "--dial {dialling} --completing {completing}: expected at most 48 markers in all, at least one of each kind"
             ),
             Sentence::Plan { file, slip } => write!(f, "{file}: {slip}"),
+            Sentence::NotMarkerCount => f.write_str("expected a number of markers from 1 to 47"),
             Sentence::Traffic(slip) => write!(f, "{slip}"),
-            Sentence::PlanUnreadable(file) => write!(f, "{file}: cannot be read"),
-            Sentence::PlanTooLong(file) => write!(f, "{file}: is too long"),
-            Sentence::InputUnreadable => f.write_str("standard input: cannot be read"),
-            Sentence::InputTooLong => f.write_str("standard input: is too long"),
-            Sentence::OutputUnwritable => f.write_str("standard output: cannot be written"),
+            Sentence::Report(slip) => write!(f, "{slip}"),
+            Sentence::NothingDrawn => f.write_str(
+                "nothing is drawn, since the records are wrong under this plan; if they were made with another, name it with --plan",
+            ),
+            Sentence::PlanUnreadable { file, reason } => write_unreadable(f, file, reason),
+            Sentence::PlanTooLong(file) => write!(f, "the plan {file} is too long"),
+            Sentence::InputUnreadable => f.write_str("cannot read standard input"),
+            Sentence::InputTooLong => f.write_str("standard input is too long"),
+            Sentence::OutputUnwritable => f.write_str("cannot write standard output"),
         }
+    }
+}
+
+fn write_unreadable<W: fmt::Write>(
+    f: &mut fmt::Formatter<W>,
+    file: &str,
+    reason: &Option<io::Error>,
+) -> fmt::Result {
+    write!(f, "cannot read the plan {file}")?;
+    match reason {
+        Some(reason) => write!(f, ": {reason}"),
+        None => Ok(()),
     }
 }

@@ -4,6 +4,9 @@
 pub use ask::Ask;
 pub use command_fault::CommandFault;
 pub use command_line::command;
+pub use options::CommandOption;
+pub use program::{ABOUT, AFTER_HELP, NAME, VERSION};
+pub use subcommands::{SUBCOMMANDS, Subcommand};
 
 mod ask;
 mod command_fault;

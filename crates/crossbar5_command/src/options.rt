@@ -32,10 +32,17 @@ pub const ONE: &str = "1";
 
 const MOST_OF_A_KIND: u64 = 47;
 
+/// What help calls the values of options.
+const FILE: &str = "FILE";
+
+const KINDS: &str = "KINDS";
+
+const NUMBER: &str = "N";
+
 /// The kinds of the markers where none are given: two markers for all jobs.
 pub const DEFAULT_KINDS: &str = "XX";
 
-const ABOUT_PLAN: &str = "The file with the office's plan [default: the example plan]";
+const ABOUT_PLAN: &str = "Read the office's plan from FILE [default: the example plan]";
 
 const ABOUT_MARKERS: &str = "\
 The kind of each marker, marker 0 first, 1 to 48 letters:{n}\
@@ -43,15 +50,15 @@ D for dial tone jobs{n}\
 C for completing jobs and releases{n}\
 X for all jobs";
 
-const ABOUT_DIAL: &str = "How many markers dial, 1 to 47";
+const ABOUT_DIAL: &str = "The number of markers that dial, 1 to 47";
 
 const ABOUT_COMPLETING: &str = "\
-How many markers complete calls and release them, 1 to 47,{n}\
-and with those that dial at most 48";
+The number of markers that complete and release calls, 1 to 47;{n}\
+with those that dial at most 48";
 
-const ABOUT_SHORT: &str = "Tests of a row of switches are told in one line";
+const ABOUT_SHORT: &str = "Describe the tests of a row of switches in one line";
 
-const ABOUT_TEXT: &str = "As text for a terminal of 80 columns";
+const ABOUT_TEXT: &str = "Draw for a terminal of 80 columns";
 
 /// An option of a subcommand.
 #[derive(Clone, Copy)]
@@ -65,6 +72,49 @@ pub enum CommandOption {
 }
 
 impl CommandOption {
+    /// The option's name, without its two hyphens.
+    pub fn name(self) -> &'static str {
+        match self {
+            CommandOption::Plan => PLAN,
+            CommandOption::Markers => MARKERS,
+            CommandOption::Dial => DIAL,
+            CommandOption::Completing => COMPLETING,
+            CommandOption::Short => SHORT,
+            CommandOption::Text => TEXT,
+        }
+    }
+
+    /// What help calls the option's value. None for an option that takes no value.
+    pub fn value_name(self) -> Option<&'static str> {
+        match self {
+            CommandOption::Plan => Some(FILE),
+            CommandOption::Markers => Some(KINDS),
+            CommandOption::Dial | CommandOption::Completing => Some(NUMBER),
+            CommandOption::Short | CommandOption::Text => None,
+        }
+    }
+
+    /// The value of an option that isn't given, where help names one.
+    pub fn default_value(self) -> Option<&'static str> {
+        match self {
+            CommandOption::Markers => Some(DEFAULT_KINDS),
+            CommandOption::Dial | CommandOption::Completing => Some(ONE),
+            CommandOption::Plan | CommandOption::Short | CommandOption::Text => None,
+        }
+    }
+
+    /// What help says of the option. `{n}` ends a line.
+    pub fn about(self) -> &'static str {
+        match self {
+            CommandOption::Plan => ABOUT_PLAN,
+            CommandOption::Markers => ABOUT_MARKERS,
+            CommandOption::Dial => ABOUT_DIAL,
+            CommandOption::Completing => ABOUT_COMPLETING,
+            CommandOption::Short => ABOUT_SHORT,
+            CommandOption::Text => ABOUT_TEXT,
+        }
+    }
+
     fn arg<'a>(self, alloc: Global) -> Arg<'a>
         ensures rule { rule_of result ≡ rule_for (named_option self) }
         ensures local { result.global ≡ false }
@@ -93,7 +143,7 @@ pub fn args_of<'a>(alloc: Global, options: &[CommandOption]) -> Result<Vec<Arg<'
     Ok(args)
 }
 
-/// Puts an item behind others, or lets it go where memory is refused.
+/// Appends an item, or drops it where memory is refused.
 pub fn put<T: Drop>(all: &mut Vec<T>, item: T) -> Result<(), AllocError>
     ensures { OnOk result (all.new.items ≡ all.old.items ++ item ∷ []) }
 {
@@ -106,7 +156,7 @@ fn plan_option<'a>(alloc: Global) -> Arg<'a>
 {
     Arg::new(alloc, PLAN)
         .long(PLAN)
-        .value_name("FILE")
+        .value_name(FILE)
         .help(ABOUT_PLAN)
 }
 
@@ -116,7 +166,7 @@ fn markers_option<'a>(alloc: Global) -> Arg<'a>
 {
     Arg::new(alloc, MARKERS)
         .long(MARKERS)
-        .value_name("KINDS")
+        .value_name(KINDS)
         .default_value(DEFAULT_KINDS)
         .help(ABOUT_MARKERS)
 }
@@ -128,13 +178,13 @@ fn count_option<'a>(alloc: Global, name: &'a str, about: &'a str) -> Arg<'a>
 {
     Arg::new(alloc, name)
         .long(name)
-        .value_name("N")
+        .value_name(NUMBER)
         .value_parser(ValueParser::unsigned(1, MOST_OF_A_KIND))
         .default_value(ONE)
         .help(about)
 }
 
-/// An option that stands alone.
+/// An option without a value.
 fn flag_option<'a>(alloc: Global, name: &'a str, about: &'a str) -> Arg<'a>
     ensures rule { rule_of result ≡ rule_for (record { name = name.now; argument = nothing }) }
     ensures local { result.global ≡ false }

@@ -4,24 +4,22 @@ ghost use Rattle.std.specs.Prelude.{◌≡◌, [], IfOk, true};
 ghost use Rattle.clap.specs.Words.{app_of};
 ghost use Rattle.crossbar5_command.specs.Program.{program, program_of};
 
-use crate::subcommands::{EXAMPLE_AND_STATUSES, SUBCOMMANDS, commands_of};
+use crate::subcommands::{SUBCOMMANDS, commands_of};
 use clap::Command;
 use std::alloc::{AllocError, Global};
 
-const ABOUT: &str = "\
-Replays traffic from standard input in a simulated No. 5 Crossbar telephone
-office, and writes what came of each job to standard output. Without a command
-it replays with the example plan and two markers for all jobs. The options of
-replay, --plan FILE and --markers KINDS, are told by 'crossbar5 replay --help'.
-With the command walk it tells such a replay step by step, in words. With the
-command live it does calls from standard input by markers that run on threads.
-With the command audit it reads such output, a replay's or one that was worked
-out by hand, and tells whether it is right. With the command draw it reads such
-output too, and draws the office as it stands after it. With the command page
-it tells such output turn by turn, as one page for a browser.";
+/// The program's name, and its version.
+pub const NAME: &str = "crossbar5";
 
-// The usage stands under each refusal too, so that options with no subcommand are told where they
-// belong.
+pub const VERSION: &str = "0.1.0";
+
+/// What the program is, as help begins with it.
+pub const ABOUT: &str = "\
+A simulator of a No. 5 Crossbar telephone office. It reads rows of traffic from
+standard input and prints a record of each job. Without a command it replays
+the rows with the example plan and two markers that take all jobs.";
+
+// The usage is printed under each refusal too, and so shows where each option belongs.
 const USAGE: &str = "\
 crossbar5 [COMMAND]
        crossbar5 replay [--plan <FILE>] [--markers <KINDS>]
@@ -30,6 +28,20 @@ crossbar5 [COMMAND]
        crossbar5 audit [--plan <FILE>]
        crossbar5 draw [--plan <FILE>] [--text]
        crossbar5 page [--plan <FILE>]";
+
+/// The exit statuses, as help ends with them.
+pub const AFTER_HELP: &str = "\
+Exit status:
+  0  Success
+  2  The command line or the markers are refused
+  3  The plan is refused
+  4  The traffic or the text of records is refused, or an input is too long
+  5  Out of memory
+  6  A device failed, or the plan's FILE cannot be read
+  7  The records, or the counts after them, are wrong
+
+Use 'crossbar5 COMMAND --help' for the options of a command, with an example.
+Rows, plans, records and faults are defined in docs/FORMATS.md.";
 
 /// The program, with its subcommands.
 pub fn program<'a>(alloc: Global) -> Result<Command<'a>, AllocError>
@@ -44,9 +56,9 @@ fn unnamed<'a>(alloc: Global) -> Command<'a>
     ensures { app_of result
         ≡ record (program_of []) { top = record (program_of []).top { is_leaf = true } } }
 {
-    Command::new(alloc, "crossbar5")
-        .version("0.1.0")
+    Command::new(alloc, NAME)
+        .version(VERSION)
         .about(ABOUT)
-        .after_help(EXAMPLE_AND_STATUSES)
+        .after_help(AFTER_HELP)
         .override_usage(USAGE)
 }

@@ -24,75 +24,29 @@ pub const DRAW: &str = "draw";
 
 pub const PAGE: &str = "page";
 
-const ABOUT_REPLAY: &str = "\
-Replays traffic from standard input with a plan and markers of your choice";
-
-const ABOUT_WALK: &str = "\
-Replays traffic from standard input, and tells each step of each marker";
-
-const ABOUT_LIVE: &str = "\
-Does the calls on standard input, by markers that run on threads";
-
-const ABOUT_AUDIT: &str = "\
-Tells whether the output of a replay, on standard input, is right";
-
-const ABOUT_DRAW: &str = "\
-Draws the office after the output of a replay, as SVG";
-
-const ABOUT_PAGE: &str = "\
-Tells the output of a replay turn by turn, as one page in HTML";
-
-pub const EXAMPLE_AND_STATUSES: &str = "\
-Example:
-  printf 'J,0,1,D,3041\\nS,0,128,,\\n' | crossbar5 replay --markers XX
-
-  The first row of this traffic gives marker 0 the job number 1: line 3041
-  wants dial tone. The second row has marker 0 make its steps: no job that
-  is alone in the office needs more than 128. What comes of a job is a line
-  of ten fields: turn, job number, marker, kind of job, line, dialled digits,
-  end, trial, and two paths. A field that has nothing is '-'.
-
-  crossbar5 walk < TRAFFIC   tells each step of a replay; walk --short tells
-  the tests of a row of switches in one line.
-  crossbar5 replay < TRAFFIC | crossbar5 audit   checks it.
-  crossbar5 replay < TRAFFIC | crossbar5 draw > office.svg   draws what it
-  leaves; draw --text draws it for a terminal.
-  crossbar5 replay < TRAFFIC | crossbar5 page > office.html   shows the
-  office after each turn, on one page for a browser.
-
-  printf 'C,7,3041,5551234,R\\n' | crossbar5 live   has line 3041 call: call 7
-  is dialled, completed and, for the R, released. With K it is kept.
-
-  All rows, plans, output and fault lines are defined in docs/FORMATS.md;
-  plans and traffic to begin from are in examples.
-
-Exit status:
-  0  All is fine
-  2  The command line is refused, or the KINDS or the number of the markers
-  3  The plan is refused
-  4  The traffic is refused, or what is to be audited or drawn is no text of
-     records; or that is too long, or the plan's FILE is
-  5  Memory ran out
-  6  A device failed, or FILE can't be read
-  7  The records, or the counts behind them, aren't right";
-
 /// A subcommand with its options.
 pub struct Subcommand {
     name: &'static str,
     about: &'static str,
+    usage: &'static str,
+    example: &'static str,
     options: &'static [CommandOption],
 }
 
-/// All subcommands, in the order in which help tells them.
+/// All subcommands, in the order in which help lists them.
 pub const SUBCOMMANDS: &[Subcommand] = &[
     Subcommand {
         name: REPLAY,
-        about: ABOUT_REPLAY,
+        about: "Replay rows of traffic and print a record of each job",
+        usage: "crossbar5 replay [--plan <FILE>] [--markers <KINDS>] < TRAFFIC",
+        example: EXAMPLE_REPLAY,
         options: &[CommandOption::Plan, CommandOption::Markers],
     },
     Subcommand {
         name: WALK,
-        about: ABOUT_WALK,
+        about: "Replay rows of traffic and describe each step of each marker",
+        usage: "crossbar5 walk [--plan <FILE>] [--markers <KINDS>] [--short] < TRAFFIC",
+        example: EXAMPLE_WALK,
         options: &[
             CommandOption::Plan,
             CommandOption::Markers,
@@ -101,7 +55,9 @@ pub const SUBCOMMANDS: &[Subcommand] = &[
     },
     Subcommand {
         name: LIVE,
-        about: ABOUT_LIVE,
+        about: "Make calls with markers that run on threads",
+        usage: "crossbar5 live [--plan <FILE>] [--dial <N>] [--completing <N>] < CALLS",
+        example: EXAMPLE_LIVE,
         options: &[
             CommandOption::Plan,
             CommandOption::Dial,
@@ -110,40 +66,117 @@ pub const SUBCOMMANDS: &[Subcommand] = &[
     },
     Subcommand {
         name: AUDIT,
-        about: ABOUT_AUDIT,
+        about: "Check the records of a replay or of live calls",
+        usage: "crossbar5 audit [--plan <FILE>] < RECORDS",
+        example: EXAMPLE_AUDIT,
         options: &[CommandOption::Plan],
     },
     Subcommand {
         name: DRAW,
-        about: ABOUT_DRAW,
+        about: "Draw the office that the records leave, as SVG or as text",
+        usage: "crossbar5 draw [--plan <FILE>] [--text] < RECORDS",
+        example: EXAMPLE_DRAW,
         options: &[CommandOption::Plan, CommandOption::Text],
     },
     Subcommand {
         name: PAGE,
-        about: ABOUT_PAGE,
+        about: "Show the office turn by turn, as one HTML page",
+        usage: "crossbar5 page [--plan <FILE>] < RECORDS",
+        example: EXAMPLE_PAGE,
         options: &[CommandOption::Plan],
     },
 ];
 
+const EXAMPLE_REPLAY: &str = "\
+Example:
+  printf 'J,0,1,D,3041\\nS,0,128,,\\n' | crossbar5 replay
+
+  Row J gives marker 0 the job number 1: line 3041 wants dial tone. Row S has
+  marker 0 make up to 128 steps, more than any job needs that is alone in the
+  office. Each job that has taken its turn has a record of ten fields: turn,
+  job number, marker, kind of job, line, dialled digits, end, trial, and two
+  paths. An empty field is '-'.";
+
+const EXAMPLE_WALK: &str = "\
+Example:
+  printf 'J,0,1,D,3041\\nS,0,128,,\\n' | crossbar5 walk --short
+
+  Line 3041 wants dial tone: each connector that the marker requests, seizes
+  and frees, each word that it tests, its turn, and each crosspoint that it
+  closes.";
+
+const EXAMPLE_LIVE: &str = "\
+Example:
+  printf 'C,7,3041,5551234,R\\n' | crossbar5 live
+
+  Call 7: line 3041 dials 555 1234, and releases the call (R) once it is
+  connected; with K the call is kept. Its jobs are 21, 22 and 23.";
+
+const EXAMPLE_AUDIT: &str = "\
+Example:
+  crossbar5 live < CALLS | crossbar5 audit
+
+  Prints AUDIT,LEGAL if the records are one legal history of the office. Else
+  it prints the first record that is wrong and what it should be, and ends
+  with status 7. Use the plan that the records were made with.";
+
+const EXAMPLE_DRAW: &str = "\
+Example:
+  crossbar5 replay < TRAFFIC | crossbar5 draw > office.svg
+
+  If the records are wrong, nothing is drawn: standard error has what 'audit'
+  would print. Use the plan that the records were made with.";
+
+const EXAMPLE_PAGE: &str = "\
+Example:
+  crossbar5 replay < TRAFFIC | crossbar5 page > office.html
+
+  If the records are wrong, there is no page: standard error has what 'audit'
+  would print. Use the plan that the records were made with.";
+
 impl Subcommand {
+    pub fn name(&self) -> &'static str {
+        self.name
+    }
+
+    /// What the subcommand is for, in one line.
+    pub fn about(&self) -> &'static str {
+        self.about
+    }
+
+    /// Its words, as help shows them.
+    pub fn usage(&self) -> &'static str {
+        self.usage
+    }
+
+    /// An example with its explanation, as help ends with it.
+    pub fn example(&self) -> &'static str {
+        self.example
+    }
+
+    pub fn options(&self) -> &'static [CommandOption] {
+        self.options
+    }
+
     fn command<'a>(&self, alloc: Global) -> Result<Command<'a>, AllocError>
         ensures shape { IfOk result (λ made.
             (app_of made).top ≡ shape_for (named_subcommand self.now)) }
         ensures local { IfOk result (λ made. (out-Command made).has_globals ≡ false) }
     {
         let args = args_of(alloc, self.options)?;
-        described(alloc, self.name, self.about).args(args)
+        self.described(alloc).args(args)
     }
-}
 
-/// The command with no option yet.
-fn described<'a>(alloc: Global, name: &'a str, about: &'a str) -> Command<'a>
-    ensures shape { app_of result ≡ new_app name.now }
-    ensures local { (out-Command result).has_globals ≡ false }
-{
-    Command::new(alloc, name)
-        .about(about)
-        .after_help(EXAMPLE_AND_STATUSES)
+    /// The command with its texts and no option yet.
+    fn described<'a>(&self, alloc: Global) -> Command<'a>
+        ensures shape { app_of result ≡ new_app self.now.name.now }
+        ensures local { (out-Command result).has_globals ≡ false }
+    {
+        Command::new(alloc, self.name)
+            .about(self.about)
+            .override_usage(self.usage)
+            .after_help(self.example)
+    }
 }
 
 /// The commands of these subcommands, in their order.

@@ -3,6 +3,10 @@
 
 use std::process::ExitCode;
 
+/// The kit and the commit that the program was built with: the last line of `--version`. `bin/build`
+/// writes them here.
+const BUILD: &str = "kit and commit not recorded";
+
 fn main(rt: HostRuntime) -> ExitCode {
-    crossbar5_cli::run(&rt, &rt)
+    crossbar5_cli::run(&rt, &rt, BUILD)
 }

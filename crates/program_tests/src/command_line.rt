@@ -270,49 +270,8 @@ fn other_words_are_refused(rt: HostRuntime) {
     }
 }
 
-/// All that help says of the kinds.
-const OPTION_OF_KINDS: &str = "
-      --markers <KINDS>  The kind of each marker, marker 0 first, 1 to 48 letters:
-                         D for dial tone jobs
-                         C for completing jobs and releases
-                         X for all jobs [default: XX]
-";
-
-/// All that help says of the numbers of markers.
-const OPTIONS_OF_COUNTS: &str = "
-      --dial <N>        How many markers dial, 1 to 47 [default: 1]
-      --completing <N>  How many markers complete calls and release them, 1 to 47,
-                        and with those that dial at most 48 [default: 1]
-";
-
-const WITHOUT_OPTIONS: &str = "Without a command
-it replays with the example plan and two markers for all jobs. The options of
-replay, --plan FILE and --markers KINDS, are told by 'crossbar5 replay --help'.
-With the command walk it tells such a replay step by step, in words. With the
-command live it does calls from standard input by markers that run on threads.
-With the command audit it reads such output, a replay's or one that was worked
-out by hand, and tells whether it is right. With the command draw it reads such
-output too, and draws the office as it stands after it. With the command page
-it tells such output turn by turn, as one page for a browser.
-";
-
-/// Lines of words, each with a part of the text that is told.
+/// Options without a subcommand, each with the usage that tells where it belongs.
 const TOLD: &[(&str, &str)] = &[
-    (
-        "crossbar5 replay --help",
-        "      --plan <FILE>      The file with the office's plan [default: the example plan]\n",
-    ),
-    ("crossbar5 replay --help", OPTION_OF_KINDS),
-    ("crossbar5 live --help", OPTIONS_OF_COUNTS),
-    ("crossbar5 --help", WITHOUT_OPTIONS),
-    (
-        "crossbar5 draw --help",
-        "      --text         As text for a terminal of 80 columns\n",
-    ),
-    (
-        "crossbar5 walk --help",
-        "      --short            Tests of a row of switches are told in one line\n",
-    ),
     ("crossbar5 --text", USAGE_OF_DRAW),
     ("crossbar5 --text", USAGE_OF_WALK),
     ("crossbar5 --plan a.toml", USAGE_OF_REPLAY),
@@ -320,7 +279,6 @@ const TOLD: &[(&str, &str)] = &[
     ("crossbar5 --dial 2", USAGE_OF_LIVE),
 ];
 
-/// An option in the place of a subcommand is told where it belongs.
 const USAGE_OF_REPLAY: &str = "\n       crossbar5 replay [--plan <FILE>] [--markers <KINDS>]\n";
 
 const USAGE_OF_WALK: &str =
@@ -337,48 +295,10 @@ fn check_told(rt: &impl Abort, alloc: Global, line: &str, part: &str) {
     check!(rt; told.as_str().contains(part), "{line}: {part}");
 }
 
-/// What each help says of how to start, and of the statuses.
-const STARTS: &[&str] = &[
-    "  printf 'J,0,1,D,3041\\nS,0,128,,\\n' | crossbar5 replay --markers XX\n",
-    "of ten fields: turn, job number, marker, kind of job, line, dialled digits,\n",
-    "  crossbar5 walk < TRAFFIC   tells each step of a replay; walk --short tells\n  the tests of a row of switches in one line.\n",
-    "  crossbar5 replay < TRAFFIC | crossbar5 audit   checks it.\n",
-    "  crossbar5 replay < TRAFFIC | crossbar5 draw > office.svg   draws what it\n  leaves; draw --text draws it for a terminal.\n",
-    "  crossbar5 replay < TRAFFIC | crossbar5 page > office.html   shows the\n  office after each turn, on one page for a browser.\n",
-    "  0  All is fine\n",
-    "  printf 'C,7,3041,5551234,R\\n' | crossbar5 live   has line 3041 call: call 7\n",
-    "  2  The command line is refused, or the KINDS or the number of the markers\n",
-    "  3  The plan is refused\n",
-    "  4  The traffic is refused, or what is to be audited or drawn is no text of\n",
-    "  5  Memory ran out\n",
-    "  6  A device failed, or FILE can't be read\n",
-    "  7  The records, or the counts behind them, aren't right\n",
-];
-
-const HELPS: &[&str] = &[
-    "crossbar5 --help",
-    "crossbar5 -h",
-    "crossbar5 replay --help",
-    "crossbar5 walk --help",
-    "crossbar5 live --help",
-    "crossbar5 audit --help",
-    "crossbar5 draw --help",
-    "crossbar5 page --help",
-];
-
-fn check_starts(rt: &impl Abort, line: &str, told: &str) {
-    for part in STARTS {
-        check!(rt; told.contains(*part), "{line}: {part}");
-    }
-}
-
 #[test]
-fn options_and_how_to_start_are_told(rt: HostRuntime) {
+fn options_without_a_subcommand_are_told_where_they_belong(rt: HostRuntime) {
     for (line, part) in TOLD {
         check_told(&rt, rt.alloc(), line, part);
-    }
-    for line in HELPS {
-        check_starts(&rt, line, &told(&rt, rt.alloc(), Some(line)));
     }
 }
 

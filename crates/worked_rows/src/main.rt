@@ -1,6 +1,6 @@
-//! Rows that were worked out by hand: traffic with what comes of it, texts of records with what an audit
-//! finds in them or how they are drawn, plans that are refused. Each row of the files in `data` is given to
-//! the engine, and what the engine writes is compared with what it has to be.
+//! Rows that were worked out by hand: traffic with its records, texts of records with what an audit finds
+//! in them or how they are drawn, plans that are refused. Each row of the files in `data` is given to the
+//! engine, and what the engine writes is compared with the row.
 #![tactic(auto)]
 
 mod row;
@@ -37,13 +37,13 @@ fn main(rt: HostRuntime) -> io::Result<()> {
     Ok(())
 }
 
-/// Tells of each row what came of it.
+/// Prints for each row whether the engine did as expected.
 fn tell_all(rt: &HostRuntime, example: &str, rows: &[Value]) -> io::Result<()> {
     for value in rows {
         match row_of(value, example) {
             Some(row) => {
                 let came = came_of(rt.alloc(), &row)?;
-                if came.is_wanted_by(&row) {
+                if came.is_as_expected(&row) {
                     println!(rt; "{}: as worked out", row.name)?;
                 } else {
                     let text = str::from_utf8(&came.text).unwrap_or("no text");

@@ -12,7 +12,7 @@ pub enum Verb {
     Draw(Look),
 }
 
-/// What the engine is given, and what has to come of it.
+/// What the engine is given, and what is expected of it.
 #[derive(Drop)]
 pub struct Row<'a> {
     pub name: &'a str,
@@ -22,6 +22,8 @@ pub struct Row<'a> {
     pub plan: &'a str,
     pub input: &'a str,
     pub output: &'a str,
+    /// The lines that say why nothing is drawn.
+    pub reasons: &'a str,
     /// The exit status that the program ends with.
     pub status: i64,
     /// The sentence on what is refused, where the row says it.
@@ -56,6 +58,7 @@ pub fn row_of<'a>(value: &'a Value, example: &'a str) -> Option<Row<'a>> {
         plan: text_at(value, "plan").unwrap_or(example),
         input: text_at(value, "input")?,
         output: text_at(value, "output")?,
+        reasons: text_at(value, "reasons").unwrap_or(""),
         status: value
             .get("status")
             .map_or(0, |status| status.as_integer().unwrap_or(0)),

@@ -2,30 +2,34 @@ use crate::row::{Row, Verb};
 use crossbar5::{Answer, Counted, EngineFault, Status, Task, answer_task, kinds_of};
 use std::alloc::{AllocError, Global};
 
-/// What came of a row.
+/// What the engine made of a row.
 #[derive(Drop)]
 pub struct Came {
     pub text: Vec<u8>,
+    /// Why nothing was drawn, if so.
+    pub reasons: Vec<u8>,
     pub status: i64,
     /// The sentence on what was refused, or none.
     pub slip: Option<String>,
 }
 
 impl Came {
-    /// Whether it is just what the row wants.
-    pub fn is_wanted_by(&self, row: &Row<'_>) -> bool {
+    /// Whether it is exactly what the row expects.
+    pub fn is_as_expected(&self, row: &Row<'_>) -> bool {
         self.text.as_slice() == row.output.as_bytes()
+            && self.reasons.as_slice() == row.reasons.as_bytes()
             && self.status == row.status
             && (row.slip.is_none() || self.slip.as_deref() == row.slip)
     }
 }
 
-/// What comes of a row, by the engine.
+/// Gives a row to the engine.
 pub fn came_of(alloc: Global, row: &Row<'_>) -> Result<Came, AllocError> {
     match done(alloc, row) {
         Ok(came) => Ok(came),
         Err(fault) => Ok(Came {
             text: fault.to_string(alloc)?.into_bytes(),
+            reasons: Vec::new(alloc),
             status: 1,
             slip: None,
         }),
@@ -59,19 +63,18 @@ fn done(alloc: Global, row: &Row<'_>) -> Result<Came, EngineFault> {
 fn written(alloc: Global, task: Task<'_>, plan: &str, input: &[u8]) -> Result<Came, EngineFault> {
     let mut source = Counted::new(input);
     let mut sink = Counted::new(Vec::new(alloc));
-    let Answer { status, slip } = answer_task(
-        alloc,
-        task,
-        plan.as_bytes(),
-        &mut source,
-        &mut sink,
-    )?;
+    let Answer {
+        status,
+        slip,
+        reasons,
+    } = answer_task(alloc, task, plan.as_bytes(), &mut source, &mut sink)?;
     let slip = match slip {
         Some(slip) => Some(slip.to_string(alloc)?),
         None => None,
     };
     Ok(Came {
         text: sink.into_inner(),
+        reasons,
         status: status_number(status),
         slip,
     })

@@ -6,7 +6,7 @@ ghost use Rattle.xbar_slips.specs.Kinds.{is_kind_letter as names_a_kind, wrong_i
 use crate::quoted::{Bare, Quoted};
 use std::fmt;
 
-/// How many markers an office may have.
+/// The largest number of markers in an office.
 const MOST_MARKERS: usize = 48;
 
 /// What is wrong with the kinds of markers.
@@ -14,11 +14,11 @@ const MOST_MARKERS: usize = 48;
 pub enum KindsWrong {
     /// The first letter that names no kind, counted from 1.
     Letter(usize),
-    /// Each letter names a kind, but there are so many.
+    /// Each letter names a kind, but the number of letters is out of range.
     Count(usize),
 }
 
-/// Why a text names no kinds of markers. Its sentence begins with the option that had the text.
+/// Why a text names no kinds of markers. Its sentence begins with the option that has the text.
 #[derive(Clone, Copy, Debug)]
 pub struct KindsSlip<'t> {
     pub kinds: &'t str,
@@ -33,13 +33,10 @@ impl fmt::Display for KindsSlip<'_> {
             KindsWrong::Letter(number) => {
                 let letter = letter_at(self.kinds, number.saturating_sub(1)).unwrap_or("");
                 let letter = Quoted(letter.as_bytes());
-                write!(f, "letter {number}, {letter}, is none of D, C, X")
+                write!(f, "letter {number} is {letter}; expected D, C or X")
             }
             KindsWrong::Count(count) => {
-                write!(
-                    f,
-                    "{count} letters stand there; 1 to {MOST_MARKERS} are wanted"
-                )
+                write!(f, "expected 1 to {MOST_MARKERS} letters, found {count}")
             }
         }
     }
@@ -51,7 +48,7 @@ fn letter_at(kinds: &str, number: usize) -> Option<&str> {
     kinds.get(start..start.saturating_add(letter.len_utf8()))
 }
 
-/// What is wrong with the letters of markers' kinds, if anything is.
+/// Finds what is wrong with the letters of markers' kinds, if anything is.
 pub fn kinds_slip(kinds: &str) -> Option<KindsSlip<'_>>
     ensures { result
         ≡ option_map (λ wrong. record { kinds = kinds.entry; wrong = wrong }) (wrong_in kinds.now) }

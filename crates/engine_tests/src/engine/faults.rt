@@ -58,7 +58,7 @@ fn an_earlier_failure_is_none_of_the_replay(rt: HostRuntime) {
     check_eq!(rt; written.as_slice(), FIRST_TEXT.as_bytes());
 }
 
-/// A refused plan leaves the input unread.
+/// A refused plan leaves the input unread. Where a drawing was asked for, nothing is written.
 #[test]
 fn nothing_is_read_past_a_refused_plan(rt: HostRuntime) {
     for case in CASES {
@@ -70,7 +70,11 @@ fn nothing_is_read_past_a_refused_plan(rt: HostRuntime) {
         let mut sink = Counted::new(Vec::new(rt.alloc()));
         let ended = run(rt.alloc(), &case, &mut source, &mut sink);
         check_eq!(rt; ended, Ok(Status::PlanRefused));
-        check_eq!(rt; sink.get_ref().as_slice(), b"FAULT,P2\n".as_slice());
+        let written = match case.task {
+            Task::Draw { .. } => "",
+            Task::Replay { .. } | Task::Walk { .. } | Task::Audit => "FAULT,P2\n",
+        };
+        check_eq!(rt; sink.get_ref().as_slice(), written.as_bytes());
     }
 }
 

@@ -1,6 +1,7 @@
 //! How runs end that write nothing, and where a plan's text comes from.
 
 use super::refused::check_ended;
+use clap::error::ErrorKind;
 use crossbar5::EngineFault;
 use crossbar5_cli::{Ended, Ending, Stream, plan_text};
 use std::fs::File;
@@ -46,8 +47,8 @@ fn plans_are_found(rt: HostRuntime) {
 
 #[test]
 fn devices_have_their_sentences(rt: HostRuntime) -> Result<(), Fail> {
-    let output = "crossbar5: standard output: cannot be written";
-    let input = "crossbar5: standard input: cannot be read";
+    let output = "crossbar5: cannot write standard output";
+    let input = "crossbar5: cannot read standard input";
     let telling = Ending::Failed(EngineFault::Device);
     for (ended, status, line) in [
         (Ended::of_run(Err(EngineFault::Device), None, 0), 6, output),
@@ -55,19 +56,27 @@ fn devices_have_their_sentences(rt: HostRuntime) -> Result<(), Fail> {
         (
             Ended::of_run(Err(EngineFault::Long), None, 0),
             4,
-            "crossbar5: standard input: is too long",
+            "crossbar5: standard input is too long",
         ),
         (Ended::of_run(Err(EngineFault::Memory), None, 0), 5, "none"),
-        (Ended::of_telling(telling), 6, output),
-        (Ended::of_telling(Ending::Refused), 2, "none"),
-        (Ended::plainly(Ending::NotText), 2, "none"),
         (
-            Ended::of_plan_file(EngineFault::Long, Some("endless.toml")),
-            4,
-            "crossbar5: endless.toml: is too long",
+            Ended::of_telling(ErrorKind::DisplayHelp, telling),
+            6,
+            output,
         ),
         (
-            Ended::of_plan_file(EngineFault::Memory, Some("town.toml")),
+            Ended::of_telling(ErrorKind::UnknownArgument, Ending::Refused),
+            2,
+            "none",
+        ),
+        (Ended::plainly(Ending::NotText), 2, "none"),
+        (
+            Ended::of_plan_file(EngineFault::Long, Some("endless.toml"), None),
+            4,
+            "crossbar5: the plan endless.toml is too long",
+        ),
+        (
+            Ended::of_plan_file(EngineFault::Memory, Some("town.toml"), None),
             5,
             "none",
         ),

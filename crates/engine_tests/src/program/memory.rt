@@ -45,7 +45,7 @@ fn a_fault_line_needs_no_sentence(rt: HostRuntime) {
         "version = 3\n",
         b"",
         b"FAULT,P2\n",
-        "crossbar5: town.toml: version: 3 stands there; 1 or 2 is wanted (P2)",
+        "crossbar5: town.toml: version: expected 1 or 2, found 3 (P2)",
     );
     is_refused_or_out_of_memory(
         &rt,
@@ -53,6 +53,6 @@ fn a_fault_line_needs_no_sentence(rt: HostRuntime) {
         PLAN,
         b"S,0,1,,\n\nJ,0,1,D,3045\n",
         b"FAULT,T3,2\n",
-        r#"crossbar5: traffic line 3 (row 2), field 5 "3045": a line of four digits, the third at most 5 and the fourth at most 4, is wanted (T3)"#,
+        r#"crossbar5: traffic line 3 (row 2), field 5 "3045": expected a line of four digits, the third at most 5 and the fourth at most 4 (T3)"#,
     );
 }

@@ -1,6 +1,6 @@
 //! Runs between devices that tell their bytes.
 
-use crossbar5::{Counted, Source, Task, answer_live, answer_task, open_gates};
+use crossbar5::{Counted, Look, Source, Task, answer_live, answer_task, open_gates};
 use crossbar5_cli::Ended;
 use std::alloc::Global;
 use std::process::Abort;
@@ -16,7 +16,7 @@ pub const FILE: &str = "town.toml";
 pub const PLAN: &str =
     "version = 1\ngroups = ['REG register 417']\nnumbers = []\ncodes = []\nfaults = []\n";
 
-/// What is on standard output, the status, and the line behind it on standard error.
+/// What is on standard output, the status, and the sentence on standard error.
 pub type Wanted<'t> = (&'t str, u8, &'t str);
 
 /// The sentence on how a run ended, or `none`.
@@ -55,6 +55,27 @@ pub fn check_task(
     let run = answer_task(alloc, task, plan.as_bytes(), &mut source, &mut sink);
     let ended = Ended::of_run(run, Some(FILE), source.failures());
     check_ended(rt, alloc, &ended, sink.get_ref(), wanted)
+}
+
+/// A drawing with this plan and this input is not made, for these reasons; nothing is written.
+pub fn check_not_drawn(
+    rt: &impl Abort,
+    alloc: Global,
+    plan: &str,
+    input: &str,
+    wanted: Wanted<'_>,
+) -> Result<(), Fail> {
+    let task = Task::Draw {
+        look: Look::Drawing,
+    };
+    let mut source = Counted::new(input.as_bytes());
+    let mut sink = Counted::new(Vec::new(alloc));
+    let run = answer_task(alloc, task, plan.as_bytes(), &mut source, &mut sink);
+    let ended = Ended::of_run(run, Some(FILE), source.failures());
+    let reasons = ended.reasons.as_deref().unwrap_or(b"no reasons");
+    check_ended(rt, alloc, &ended, reasons, wanted)?;
+    check_eq!(rt; sink.get_ref().len(), 0);
+    Ok(())
 }
 
 /// So do live calls by one marker of each kind.

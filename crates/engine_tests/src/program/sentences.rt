@@ -1,8 +1,8 @@
 //! The sentence on what is refused, in each kind of run: one on a plan, one on its input, and none where
 //! nothing is refused, or where the formats have none.
 
-use super::refused::{PLAN, Wanted, check_live, check_task};
-use crossbar5::{Look, Task, Telling};
+use super::refused::{PLAN, Wanted, check_live, check_not_drawn, check_task};
+use crossbar5::{Task, Telling};
 use std::test::Fail;
 use xbar_core::Kind;
 
@@ -11,7 +11,7 @@ const OTHER: &str = "version = 3\n";
 const REFUSED: Wanted<'static> = (
     "FAULT,P2\n",
     3,
-    "crossbar5: town.toml: version: 3 stands there; 1 or 2 is wanted (P2)",
+    "crossbar5: town.toml: version: expected 1 or 2, found 3 (P2)",
 );
 
 const NOTHING: Wanted<'static> = ("PATHS,0\nCLOSED,0\n", 0, "none");
@@ -25,15 +25,15 @@ const WALK: Task<'static> = Task::Walk {
     telling: Telling::Each,
 };
 
-const DRAW: Task<'static> = Task::Draw {
-    look: Look::Drawing,
-};
+/// Counts of an office that is not empty, with no record.
+const WRONG: &str = "PATHS,1\nCLOSED,4\n";
 
 #[test]
 fn of_plans(rt: HostRuntime) -> Result<(), Fail> {
-    for task in [REPLAY, WALK, Task::Audit, DRAW] {
+    for task in [REPLAY, WALK, Task::Audit] {
         check_task(&rt, rt.alloc(), OTHER, task, "", REFUSED)?;
     }
+    check_not_drawn(&rt, rt.alloc(), OTHER, "", REFUSED)?;
     check_live(&rt, rt.alloc(), OTHER, "", REFUSED)
 }
 
@@ -42,7 +42,7 @@ fn of_rows(rt: HostRuntime) -> Result<(), Fail> {
     let wanted = (
         "FAULT,T3,2\n",
         4,
-        r#"crossbar5: traffic line 3 (row 2), field 5 "x": an empty field is wanted (T3)"#,
+        r#"crossbar5: traffic line 3 (row 2), field 5 "x": expected an empty field (T3)"#,
     );
     for task in [REPLAY, WALK] {
         check_task(&rt, rt.alloc(), PLAN, task, "S,0,1,,\n\nS,0,1,,x\n", wanted)?;
@@ -50,7 +50,7 @@ fn of_rows(rt: HostRuntime) -> Result<(), Fail> {
     let wanted = (
         "FAULT,T6,1\n",
         4,
-        r#"crossbar5: traffic line 1 (row 1), field 1 "J": a row of a replay stands there; C is wanted (T6)"#,
+        r#"crossbar5: traffic line 1 (row 1), field 1 "J": this is a row of a replay; expected C (T6)"#,
     );
     check_live(&rt, rt.alloc(), PLAN, "J,0,1,D,3041", wanted)
 }
@@ -61,9 +61,23 @@ fn of_nothing(rt: HostRuntime) -> Result<(), Fail> {
     check_task(&rt, alloc, PLAN, REPLAY, "", NOTHING)?;
     check_live(&rt, alloc, PLAN, "", NOTHING)?;
     let wrong = ("AUDIT,COUNTS\nPATHS,0\nCLOSED,0\n", 7, "none");
-    for task in [Task::Audit, DRAW] {
-        check_task(&rt, alloc, PLAN, task, "x\n", ("FAULT,U1,1\n", 4, "none"))?;
-        check_task(&rt, alloc, PLAN, task, "PATHS,1\nCLOSED,4\n", wrong)?;
-    }
-    Ok(())
+    check_task(&rt, alloc, PLAN, Task::Audit, WRONG, wrong)
+}
+
+#[test]
+fn of_records(rt: HostRuntime) -> Result<(), Fail> {
+    let alloc = rt.alloc();
+    let refused = (
+        "FAULT,U1,1\n",
+        4,
+        r#"crossbar5: records line 1, "x": expected a record, and after all records their trouble cards and counts (U1)"#,
+    );
+    check_task(&rt, alloc, PLAN, Task::Audit, "x\n", refused)?;
+    check_not_drawn(&rt, alloc, PLAN, "x\n", refused)?;
+    let wrong = (
+        "AUDIT,COUNTS\nPATHS,0\nCLOSED,0\n",
+        7,
+        "crossbar5: nothing is drawn, since the records are wrong under this plan; if they were made with another, name it with --plan",
+    );
+    check_not_drawn(&rt, alloc, PLAN, WRONG, wrong)
 }

@@ -14,8 +14,7 @@ const STATUSES: &[(&str, u8)] = &[
     ("replay --help", 0),
     ("--version", 0),
     ("live --help", 0),
-    ("live --dial 0", 2),
-    ("live --dial 48", 2),
+    ("live --markers", 2),
     ("live --markers XX", 2),
     ("live --dial 30 --completing 30", 2),
     ("live --plan /dev/null", 3),
@@ -41,44 +40,63 @@ const SENTENCES: &[(&str, u8, &str)] = &[
     (
         "replay --plan missing.toml --markers DCY",
         2,
-        r#"crossbar5: --markers DCY: letter 3, "Y", is none of D, C, X"#,
+        r#"crossbar5: --markers DCY: letter 3 is "Y"; expected D, C or X"#,
     ),
     (
         "walk --plan missing.toml --markers Y",
         2,
-        r#"crossbar5: --markers Y: letter 1, "Y", is none of D, C, X"#,
+        r#"crossbar5: --markers Y: letter 1 is "Y"; expected D, C or X"#,
     ),
     (
         "replay --markers ",
         2,
-        "crossbar5: --markers : 0 letters stand there; 1 to 48 are wanted",
+        "crossbar5: --markers : expected 1 to 48 letters, found 0",
     ),
     (
         "live --dial 30 --completing 31 --plan missing.toml",
         2,
-        "crossbar5: --dial 30 --completing 31: 1 to 48 markers in all are wanted, at least one of each",
+        "crossbar5: --dial 30 --completing 31: expected at most 48 markers in all, at least one of each kind",
     ),
     (
         "replay --plan missing.toml",
         6,
-        "crossbar5: missing.toml: cannot be read",
+        "crossbar5: cannot read the plan missing.toml: No such file or directory (os error 2)",
     ),
     (
         "walk --plan missing.toml",
         6,
-        "crossbar5: missing.toml: cannot be read",
+        "crossbar5: cannot read the plan missing.toml: No such file or directory (os error 2)",
     ),
     (
         "live --plan missing.toml",
         6,
-        "crossbar5: missing.toml: cannot be read",
+        "crossbar5: cannot read the plan missing.toml: No such file or directory (os error 2)",
     ),
     (
         "audit --plan missing.toml",
         6,
-        "crossbar5: missing.toml: cannot be read",
+        "crossbar5: cannot read the plan missing.toml: No such file or directory (os error 2)",
     ),
-    ("audit --plan /", 6, "crossbar5: /: cannot be read"),
+    (
+        "live --dial 0",
+        2,
+        "crossbar5: expected a number of markers from 1 to 47",
+    ),
+    (
+        "live --completing x",
+        2,
+        "crossbar5: expected a number of markers from 1 to 47",
+    ),
+    (
+        "live --dial 48",
+        2,
+        "crossbar5: expected a number of markers from 1 to 47",
+    ),
+    (
+        "audit --plan /",
+        6,
+        "crossbar5: cannot read the plan /: Is a directory (os error 21)",
+    ),
 ];
 
 /// The status of a command line, and the sentence on it.
@@ -95,7 +113,7 @@ fn ending_of<T: Threads + Wait + Sync>(
     let asked = command(rt.alloc(), &words);
     let ended = match &asked {
         Ok(ask) => do_as_asked(rt, threads, ask),
-        Err(fault) => tell_fault(rt, fault),
+        Err(fault) => tell_fault(rt, fault, "a kit"),
     };
     Ok((ended.ending.status(), sentence_of(rt.alloc(), &ended)?))
 }

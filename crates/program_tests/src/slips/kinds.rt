@@ -7,28 +7,25 @@ use test_checks::check_eq;
 const KINDS: &[(&str, Option<&str>)] = &[
     (
         "DCY",
-        Some(r#"--markers DCY: letter 3, "Y", is none of D, C, X"#),
+        Some(r#"--markers DCY: letter 3 is "Y"; expected D, C or X"#),
     ),
     (
         "dC",
-        Some(r#"--markers dC: letter 1, "d", is none of D, C, X"#),
+        Some(r#"--markers dC: letter 1 is "d"; expected D, C or X"#),
     ),
     (
         "DÉX",
-        Some(r#"--markers DÉX: letter 2, "É", is none of D, C, X"#),
+        Some(r#"--markers DÉX: letter 2 is "É"; expected D, C or X"#),
     ),
     (
         "X\n",
-        Some(r#"--markers X\n: letter 2, "\n", is none of D, C, X"#),
+        Some(r#"--markers X\n: letter 2 is "\n"; expected D, C or X"#),
     ),
-    (
-        "",
-        Some("--markers : 0 letters stand there; 1 to 48 are wanted"),
-    ),
+    ("", Some("--markers : expected 1 to 48 letters, found 0")),
     (
         "XXXXXXXXXXXXXXXXXXXXXXXXXXXXXXXXXXXXXXXXXXXXXXXXX",
         Some(
-            "--markers XXXXXXXXXXXXXXXXXXXXXXXXXXXXXXXXXXXXXXXX..: 49 letters stand there; 1 to 48 are wanted",
+            "--markers XXXXXXXXXXXXXXXXXXXXXXXXXXXXXXXXXXXXXXXX..: expected 1 to 48 letters, found 49",
         ),
     ),
     ("X", None),

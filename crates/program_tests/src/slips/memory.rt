@@ -17,19 +17,19 @@ faults = ["JU340", "JX340"]
 const OF_THE_PLAN: &[(PlanFault, &str)] = &[
     (
         PlanFault::Malformed,
-        r#"faults, item 2 "JX340": LL, JU or TL and three digits are wanted (P5)"#,
+        r#"faults, item 2 "JX340": expected LL, JU or TL and three digits (P5)"#,
     ),
     (
         PlanFault::GroupTwice,
-        "groups, item 3: name OUTA stands already in item 2 (P7)",
+        "groups, item 3: duplicate name OUTA, first used in item 2 (P7)",
     ),
     (
         PlanFault::PlaceTwice,
-        "groups, item 3: place 418 stands already in item 1 (P9)",
+        "groups, item 3: duplicate place 418, first used in item 1 (P9)",
     ),
     (
         PlanFault::NumberTwice,
-        "numbers, item 3: number 0001 stands already in item 1 (P11)",
+        "numbers, item 3: duplicate number 0001, first used in item 1 (P11)",
     ),
     (
         PlanFault::UnknownGroup,
@@ -37,7 +37,7 @@ const OF_THE_PLAN: &[(PlanFault, &str)] = &[
     ),
     (
         PlanFault::MixedRoute,
-        "codes, item 2: REG has registers; intra groups or outgoing groups are wanted (P14)",
+        "codes, item 2: REG has registers; expected intra groups or outgoing groups (P14)",
     ),
 ];
 
@@ -75,11 +75,11 @@ const TRAFFIC: &[u8] = b"J,0,1,D,3041\n\nJ,0,1,D,3045\n";
 const OF_THE_TRAFFIC: &[(RowFault, &str)] = &[
     (
         RowFault::NumberTwice,
-        r#"traffic line 3 (row 2), field 3 "1": this number stands already on line 1 (row 1) (T4)"#,
+        r#"traffic line 3 (row 2), field 3 "1": duplicate number, first used on line 1 (row 1) (T4)"#,
     ),
     (
         RowFault::Malformed,
-        r#"traffic line 3 (row 2), field 5 "3045": a line of four digits, the third at most 5 and the fourth at most 4, is wanted (T3)"#,
+        r#"traffic line 3 (row 2), field 5 "3045": expected a line of four digits, the third at most 5 and the fourth at most 4 (T3)"#,
     ),
 ];
 

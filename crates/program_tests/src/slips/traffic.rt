@@ -9,33 +9,33 @@ type Told = &'static [(&'static [u8], &'static str)];
 
 const OF_A_REPLAY: Told = &[(
     b"\xFF\x1B,0,1,D,3041",
-    r#"traffic line 1 (row 1), field 1 "\xff\x1b": J or S is wanted (T2)"#,
+    r#"traffic line 1 (row 1), field 1 "\xff\x1b": expected J or S (T2)"#,
 )];
 
 const OF_CALLS: Told = &[
     (
         b"X,7,3041,5551234,R",
-        r#"traffic line 1 (row 1), field 1 "X": C is wanted (T2)"#,
+        r#"traffic line 1 (row 1), field 1 "X": expected C (T2)"#,
     ),
     (
         b"J,0,1,D,3041",
-        r#"traffic line 1 (row 1), field 1 "J": a row of a replay stands there; C is wanted (T6)"#,
+        r#"traffic line 1 (row 1), field 1 "J": this is a row of a replay; expected C (T6)"#,
     ),
     (
         b"C,7,3041,5551234,R\nC,8,304,5551234,R",
-        r#"traffic line 2 (row 2), field 3 "304": a line of four digits, the third at most 5 and the fourth at most 4, is wanted (T3)"#,
+        r#"traffic line 2 (row 2), field 3 "304": expected a line of four digits, the third at most 5 and the fourth at most 4 (T3)"#,
     ),
     (
         b"C,7,3041,555123,R",
-        r#"traffic line 1 (row 1), field 4 "555123": seven digits are wanted (T3)"#,
+        r#"traffic line 1 (row 1), field 4 "555123": expected seven digits (T3)"#,
     ),
     (
         b"C,7,3041,5551234,",
-        r#"traffic line 1 (row 1), field 5 "": K or R is wanted (T3)"#,
+        r#"traffic line 1 (row 1), field 5 "": expected K or R (T3)"#,
     ),
     (
         b"\nC,7,3041,5551234,R\nC,8,3041,5551234,R\nC,7,3052,5551234,K",
-        r#"traffic line 4 (row 3), field 2 "7": this number stands already on line 2 (row 1) (T4)"#,
+        r#"traffic line 4 (row 3), field 2 "7": duplicate number, first used on line 2 (row 1) (T4)"#,
     ),
 ];
 

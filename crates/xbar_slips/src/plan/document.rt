@@ -5,11 +5,11 @@ ghost use Rattle.toml.specs.View.{table_view};
 ghost use Rattle.xbar_plan.specs.Document.{document_of as document_of_bytes};
 ghost use Rattle.xbar_slips.specs.Lists.{TellsList, is_missing as is_missing_list, missing_list as missing_list_of};
 
+use super::form::{Found, PlanForm};
 use super::list::PlanList;
 use super::lists::value_at;
 use super::reason::PlanReason;
 use super::slip::{PlanPlace, PlanWrong};
-use super::wanted::{Found, PlanWanted};
 use std::alloc::{AllocError, Global};
 use toml::{Table, Value};
 use xbar_plan::{PlanFault, reading};
@@ -71,7 +71,7 @@ pub fn wrong_version(document: &Table) -> Option<PlanWrong> {
         place: PlanPlace::Version,
         reason: PlanReason::Instead {
             found: Found::of(document.get("version")),
-            wanted: PlanWanted::OneOrTwo,
+            expected: PlanForm::OneOrTwo,
         },
     })
 }
@@ -85,7 +85,7 @@ pub fn missing_list(document: &Table) -> Option<PlanWrong>
         place: PlanPlace::List(list),
         reason: PlanReason::Instead {
             found: Found::Nothing,
-            wanted: PlanWanted::ArrayOfTexts,
+            expected: PlanForm::ArrayOfTexts,
         },
     })
 }
@@ -120,7 +120,7 @@ fn wrong_value(list: PlanList, value: Option<&Value>) -> Option<PlanWrong> {
             place: PlanPlace::List(list),
             reason: PlanReason::Instead {
                 found: Found::of(value),
-                wanted: PlanWanted::ArrayOfTexts,
+                expected: PlanForm::ArrayOfTexts,
             },
         }),
     }
@@ -135,7 +135,7 @@ fn wrong_item(list: PlanList, items: &[Value]) -> Option<PlanWrong> {
         },
         reason: PlanReason::Instead {
             found: Found::of(items.get(index)),
-            wanted: PlanWanted::Text,
+            expected: PlanForm::Text,
         },
     })
 }

@@ -1,14 +1,14 @@
-//! The first item that hasn't the form that its list asks for, and what is wanted in it.
+//! The first item without the form that its list asks for, and what is expected in it.
 
 ghost use Rattle.std.specs.Prelude.{◌≡◌, IfOk, Some, map, not};
 ghost use Rattle.toml.specs.View.{table_view};
 ghost use Rattle.xbar_slips.specs.Lists.{TellsItem, has_form, item_of, malformed_in, malformed_of_document};
 
+use super::form::PlanForm;
 use super::list::PlanList;
 use super::lists::texts_in;
 use super::reason::PlanReason;
 use super::slip::{ItemText, PlanPlace, PlanWrong};
-use super::wanted::PlanWanted;
 use std::alloc::{AllocError, Global};
 use toml::Table;
 use xbar_equip::{DirNo, Len};
@@ -73,27 +73,27 @@ fn is_malformed(
     }
 }
 
-/// What is wanted in an item: of one of its parts, counted from 0, or of the whole text.
+/// The form that is expected of one of an item's parts, counted from 0, or of the whole text.
 #[derive(Clone, Copy)]
-struct Want {
+struct Expected {
     part: Option<usize>,
-    wanted: PlanWanted,
+    form: PlanForm,
 }
 
-impl Want {
-    fn whole(wanted: PlanWanted) -> Self {
-        Want { part: None, wanted }
+impl Expected {
+    fn whole(form: PlanForm) -> Self {
+        Expected { part: None, form }
     }
 
-    fn part(part: usize, wanted: PlanWanted) -> Self {
-        Want {
+    fn part(part: usize, form: PlanForm) -> Self {
+        Expected {
             part: Some(part),
-            wanted,
+            form,
         }
     }
 }
 
-/// What is wanted in an item of this number, counted from 1, which hasn't its form.
+/// What is wrong with the item of this number, counted from 1, which hasn't its form.
 fn wrong_item(
     alloc: Global,
     version: Version,
@@ -105,7 +105,7 @@ fn wrong_item(
         Some (record { list = list; number = number; text = text.now })) }
 {
     let parts = reading::split_parts(alloc, text)?;
-    let Want { part, wanted } = want_in(version, list, text, &parts);
+    let Expected { part, form } = expected_in(version, list, text, &parts);
     let item = ItemText {
         list,
         number,
@@ -121,74 +121,74 @@ fn wrong_item(
     };
     Ok(PlanWrong {
         place,
-        reason: PlanReason::Wanted(wanted),
+        reason: PlanReason::Expected(form),
     })
 }
 
-fn want_in(version: Version, list: PlanList, text: &[u8], parts: &[&[u8]]) -> Want {
+fn expected_in(version: Version, list: PlanList, text: &[u8], parts: &[&[u8]]) -> Expected {
     let form = form_of(version, list);
     if list == PlanList::Faults || text.is_empty() {
-        return Want::whole(form);
+        return Expected::whole(form);
     }
     if text.starts_with(b" ") || text.ends_with(b" ") {
-        return Want::whole(PlanWanted::NoSpace);
+        return Expected::whole(PlanForm::NoSpace);
     }
     if parts.iter().any(|part| part.is_empty()) {
-        return Want::whole(PlanWanted::OneSpace);
+        return Expected::whole(PlanForm::OneSpace);
     }
-    want_in_parts(list, parts).unwrap_or(Want::whole(form))
+    expected_in_parts(list, parts).unwrap_or(Expected::whole(form))
 }
 
-/// What is wanted in the first part that isn't what it has to be.
-fn want_in_parts(list: PlanList, parts: &[&[u8]]) -> Option<Want> {
+/// What is expected of the first part that has another form.
+fn expected_in_parts(list: PlanList, parts: &[&[u8]]) -> Option<Expected> {
     match (list, parts) {
-        (PlanList::Groups, [name, kind, members @ ..]) => want_in_group(name, kind, members),
-        (PlanList::Numbers, [number, lines @ ..]) => want_in_number(number, lines),
-        (PlanList::Codes, [code, names @ ..]) => want_in_code(code, names),
+        (PlanList::Groups, [name, kind, members @ ..]) => expected_in_group(name, kind, members),
+        (PlanList::Numbers, [number, lines @ ..]) => expected_in_number(number, lines),
+        (PlanList::Codes, [code, names @ ..]) => expected_in_code(code, names),
         _ => None,
     }
 }
 
 /// What an item of the list is as a whole.
-fn form_of(version: Version, list: PlanList) -> PlanWanted {
+fn form_of(version: Version, list: PlanList) -> PlanForm {
     match (list, version) {
-        (PlanList::Groups, _) => PlanWanted::Group,
-        (PlanList::Numbers, Version::One) => PlanWanted::NumberWithOneLine,
-        (PlanList::Numbers, Version::Two) => PlanWanted::NumberWithLines,
-        (PlanList::Codes, _) => PlanWanted::CodeWithGroups,
-        (PlanList::Faults, _) => PlanWanted::Link,
+        (PlanList::Groups, _) => PlanForm::Group,
+        (PlanList::Numbers, Version::One) => PlanForm::NumberWithOneLine,
+        (PlanList::Numbers, Version::Two) => PlanForm::NumberWithLines,
+        (PlanList::Codes, _) => PlanForm::CodeWithGroups,
+        (PlanList::Faults, _) => PlanForm::Link,
     }
 }
 
-fn want_in_group(name: &[u8], kind: &[u8], members: &[&[u8]]) -> Option<Want> {
+fn expected_in_group(name: &[u8], kind: &[u8], members: &[&[u8]]) -> Option<Expected> {
     if !reading::is_name(name) {
-        return Some(Want::part(0, PlanWanted::Name));
+        return Some(Expected::part(0, PlanForm::Name));
     }
     let Some(kind) = reading::read_kind(kind) else {
-        return Some(Want::part(1, PlanWanted::Kind));
+        return Some(Expected::part(1, PlanForm::Kind));
     };
     let index = members
         .iter()
         .position(|member| reading::read_member(kind, member).is_none())?;
-    let wanted = match kind {
-        GroupKind::Intra => PlanWanted::Pair,
-        GroupKind::Register | GroupKind::Outgoing => PlanWanted::Place,
+    let form = match kind {
+        GroupKind::Intra => PlanForm::Pair,
+        GroupKind::Register | GroupKind::Outgoing => PlanForm::Place,
     };
-    Some(Want::part(index.saturating_add(2), wanted))
+    Some(Expected::part(index.saturating_add(2), form))
 }
 
-fn want_in_number(number: &[u8], lines: &[&[u8]]) -> Option<Want> {
+fn expected_in_number(number: &[u8], lines: &[&[u8]]) -> Option<Expected> {
     if DirNo::parse(number).is_err() {
-        return Some(Want::part(0, PlanWanted::Number));
+        return Some(Expected::part(0, PlanForm::Number));
     }
     let index = lines.iter().position(|line| Len::parse(line).is_err())?;
-    Some(Want::part(index.saturating_add(1), PlanWanted::Line))
+    Some(Expected::part(index.saturating_add(1), PlanForm::Line))
 }
 
-fn want_in_code(code: &[u8], names: &[&[u8]]) -> Option<Want> {
+fn expected_in_code(code: &[u8], names: &[&[u8]]) -> Option<Expected> {
     if reading::read_code(code).is_none() {
-        return Some(Want::part(0, PlanWanted::Code));
+        return Some(Expected::part(0, PlanForm::Code));
     }
     let index = names.iter().position(|name| !reading::is_name(name))?;
-    Some(Want::part(index.saturating_add(1), PlanWanted::Name))
+    Some(Expected::part(index.saturating_add(1), PlanForm::Name))
 }

@@ -1,6 +1,7 @@
 //! Plans.
 
 mod document;
+mod form;
 mod groups;
 mod limits;
 mod list;
@@ -10,19 +11,18 @@ mod reason;
 mod repeats;
 mod routes;
 mod slip;
-mod wanted;
 
 ghost use Rattle.std.specs.Prelude.{◌≡◌, IfOk, IfSome, option_map};
 ghost use Rattle.toml.specs.View.{table_view};
 ghost use Rattle.xbar_slips.specs.Lists.{TellsItem, TellsList, missing_in, missing_list as missing_list_of, malformed_item as malformed_item_of, malformed_of_document};
 
+pub use form::{Found, PlanForm};
 pub use list::PlanList;
 use lists::Lists;
 pub use reason::{PlanReason, Repeat};
 pub use slip::{ItemText, PlanPlace, PlanSlip, PlanWrong};
 use std::alloc::{AllocError, Global};
 use toml::Table;
-pub use wanted::{Found, PlanWanted};
 use xbar_plan::{Group, PlanFault};
 
 /// What is wrong with a plan's text that was refused for this fault. Nothing is found for a fault

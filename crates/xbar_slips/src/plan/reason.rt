@@ -1,9 +1,9 @@
-use super::wanted::{Found, PlanWanted};
+use super::form::{Found, PlanForm};
 use crate::quoted::Bare;
 use std::fmt;
 use xbar_equip::Ten;
 
-/// What stands a second time.
+/// What an item repeats.
 #[derive(Debug, Drop)]
 pub enum Repeat {
     Name(Vec<u8>),
@@ -20,12 +20,12 @@ impl fmt::Display for Repeat {
             Repeat::Number(number) => write_bare(f, "number", number),
             Repeat::Code(code) => write_bare(f, "code", code),
             Repeat::Place(place) => write!(f, "place {place}"),
-            Repeat::Registers => f.write_str("a register group"),
+            Repeat::Registers => f.write_str("register group"),
         }
     }
 }
 
-/// Writes a text without quotes behind what it is.
+/// Writes what a text is, and then the text without quotes.
 fn write_bare<W: fmt::Write>(f: &mut fmt::Formatter<W>, noun: &str, text: &[u8]) -> fmt::Result {
     write!(f, "{noun} {}", Bare(text))
 }
@@ -35,25 +35,25 @@ fn write_bare<W: fmt::Write>(f: &mut fmt::Formatter<W>, noun: &str, text: &[u8])
 pub enum PlanReason {
     /// What the reader of TOML says.
     Toml(toml::de::Error),
-    /// This stands there, and something else is wanted.
+    /// A value of another kind than this was found.
     Instead {
         found: Found,
-        wanted: PlanWanted,
+        expected: PlanForm,
     },
-    /// The text isn't what is wanted.
-    Wanted(PlanWanted),
-    /// The list has so many items.
+    /// The text hasn't this form.
+    Expected(PlanForm),
+    /// The list has more items than it may have.
     Items {
         count: usize,
         most: usize,
     },
-    /// The item has so many members, lines or groups.
+    /// The item has too few or too many members, lines or groups.
     Parts {
         count: usize,
         noun: &'static str,
         most: usize,
     },
-    /// An earlier item has it too, which is counted from 1.
+    /// An earlier item, counted from 1, has it too.
     Already {
         repeat: Repeat,
         item: usize,
@@ -81,20 +81,20 @@ impl fmt::Display for PlanReason {
     fn fmt<W: fmt::Write>(&self, f: &mut fmt::Formatter<W>) -> fmt::Result {
         match self {
             PlanReason::Toml(error) => f.write_str(error.message()),
-            PlanReason::Instead { found, wanted } => write!(f, "{found} stands there; {wanted}"),
-            PlanReason::Wanted(wanted) => write!(f, "{wanted}"),
+            PlanReason::Instead { found, expected } => {
+                write!(f, "expected {expected}, found {found}")
+            }
+            PlanReason::Expected(form) => write!(f, "expected {form}"),
             PlanReason::Items { count, most } => write_limit(f, *count, "items", "at most", *most),
             PlanReason::Parts { count, noun, most } => write_limit(f, *count, noun, "1 to", *most),
             PlanReason::Already { repeat, item } => {
-                write!(f, "{repeat} stands already in item {item}")
+                write!(f, "duplicate {repeat}, first used in item {item}")
             }
-            PlanReason::Twice(repeat) => write!(f, "{repeat} stands there twice"),
-            PlanReason::NoRegisters => {
-                f.write_str("no register group stands there; one is wanted")
-            }
+            PlanReason::Twice(repeat) => write!(f, "duplicate {repeat} within this item"),
+            PlanReason::NoRegisters => f.write_str("expected one register group, found none"),
             PlanReason::Apart { first, second } => write!(
                 f,
-                "{first} and {second} are on two trunk link frames; one frame is wanted"
+                "{first} and {second} are on two trunk link frames; expected one frame"
             ),
             PlanReason::UnknownGroup(name) => write_bare(f, "no group has the name", name),
             PlanReason::RouteToRegisters(name) => write_registers(f, name),
@@ -103,7 +103,7 @@ impl fmt::Display for PlanReason {
     }
 }
 
-/// Writes how many of these stand there, and how many are wanted.
+/// Writes how many of these are expected, and how many there are.
 fn write_limit<W: fmt::Write>(
     f: &mut fmt::Formatter<W>,
     count: usize,
@@ -111,14 +111,14 @@ fn write_limit<W: fmt::Write>(
     bound: &str,
     most: usize,
 ) -> fmt::Result {
-    write!(f, "{count} {noun} stand there; {bound} {most} are wanted")
+    write!(f, "expected {bound} {most} {noun}, found {count}")
 }
 
 fn write_registers<W: fmt::Write>(f: &mut fmt::Formatter<W>, name: &[u8]) -> fmt::Result {
     let name = Bare(name);
     write!(
         f,
-        "{name} has registers; intra groups or outgoing groups are wanted"
+        "{name} has registers; expected intra groups or outgoing groups"
     )
 }
 
@@ -130,6 +130,6 @@ fn write_mixed<W: fmt::Write>(
     let (intra, outgoing) = (Bare(intra), Bare(outgoing));
     write!(
         f,
-        "{intra} is intra and {outgoing} is outgoing; groups of one kind are wanted"
+        "{intra} is intra and {outgoing} is outgoing; expected groups of one kind"
     )
 }

@@ -3,7 +3,7 @@ use std::fmt;
 use xbar_equip::{Dialled, Len};
 use xbar_traffic::{MARKER_LIMIT, Mode, NUMBER_LIMIT, read_job, read_number};
 
-/// What a field of a row has to be.
+/// What is expected in a field of a row. Its text is what a sentence says after 'expected'.
 #[derive(Clone, Copy, Debug, PartialEq, Eq)]
 pub enum FieldForm {
     /// The letter of a row of this mode.
@@ -19,7 +19,7 @@ pub enum FieldForm {
 }
 
 impl FieldForm {
-    /// Whether a field is this.
+    /// Whether a field has this form.
     fn fits(self, field: &[u8]) -> bool {
         match self {
             FieldForm::RowLetter(Mode::Replay) => matches!(field, b"J" | b"S"),
@@ -39,30 +39,27 @@ impl FieldForm {
 impl fmt::Display for FieldForm {
     fn fmt<W: fmt::Write>(&self, f: &mut fmt::Formatter<W>) -> fmt::Result {
         f.write_str(match self {
-            FieldForm::RowLetter(Mode::Replay) => "J or S is wanted",
-            FieldForm::RowLetter(Mode::Live) => "C is wanted",
-            FieldForm::JobKind => "D, C or R is wanted",
-            FieldForm::Marker => return write_number_wanted(f, MARKER_LIMIT),
-            FieldForm::Number => return write_number_wanted(f, NUMBER_LIMIT),
+            FieldForm::RowLetter(Mode::Replay) => "J or S",
+            FieldForm::RowLetter(Mode::Live) => "C",
+            FieldForm::JobKind => "D, C or R",
+            FieldForm::Marker => return write_number(f, MARKER_LIMIT),
+            FieldForm::Number => return write_number(f, NUMBER_LIMIT),
             FieldForm::Line => {
-                "a line of four digits, the third at most 5 and the fourth at most 4, is wanted"
+                "a line of four digits, the third at most 5 and the fourth at most 4"
             }
-            FieldForm::LineAndDigits => "a line, a space and seven digits are wanted",
-            FieldForm::Digits => "seven digits are wanted",
-            FieldForm::Hold => "K or R is wanted",
-            FieldForm::Empty => "an empty field is wanted",
+            FieldForm::LineAndDigits => "a line, a space and seven digits",
+            FieldForm::Digits => "seven digits",
+            FieldForm::Hold => "K or R",
+            FieldForm::Empty => "an empty field",
         })
     }
 }
 
-fn write_number_wanted<W: fmt::Write>(f: &mut fmt::Formatter<W>, most: u32) -> fmt::Result {
-    write!(
-        f,
-        "a number from 0 to {most}, without leading zeros, is wanted"
-    )
+fn write_number<W: fmt::Write>(f: &mut fmt::Formatter<W>, most: u32) -> fmt::Result {
+    write!(f, "a number from 0 to {most} without leading zeros")
 }
 
-/// Which field of a row, counted from 0, has the number of a job or a call, which may stand once.
+/// The index, from 0, of the field with the number of a job or a call, which may be used once.
 pub fn number_index(letter: &[u8]) -> Option<usize> {
     match letter {
         b"J" => Some(2),
@@ -71,7 +68,7 @@ pub fn number_index(letter: &[u8]) -> Option<usize> {
     }
 }
 
-/// The field that names no row, or no kind of job.
+/// Finds the field that names no row, or no kind of job.
 pub fn unknown_kind(mode: Mode, record: &ByteRecord) -> Option<(usize, FieldForm)> {
     match record.get(0)? {
         b"J" => first_misfit(record, &[(3, FieldForm::JobKind)]),
@@ -80,7 +77,7 @@ pub fn unknown_kind(mode: Mode, record: &ByteRecord) -> Option<(usize, FieldForm
     }
 }
 
-/// Whether the letter of a row is that of the other mode.
+/// Whether a row with this letter belongs to the other mode.
 pub fn is_of_other_mode(mode: Mode, letter: &[u8]) -> bool {
     match mode {
         Mode::Replay => letter == b"C".as_slice(),
@@ -88,7 +85,7 @@ pub fn is_of_other_mode(mode: Mode, letter: &[u8]) -> bool {
     }
 }
 
-/// The first field that hasn't the form that it has in a row of its letter.
+/// Finds the first field without the form that its row's letter asks for.
 pub fn malformed_field(record: &ByteRecord) -> Option<(usize, FieldForm)> {
     use FieldForm::{Digits, Empty, Hold, Line, LineAndDigits, Marker, Number};
     match record.get(0)? {
@@ -106,7 +103,7 @@ pub fn malformed_field(record: &ByteRecord) -> Option<(usize, FieldForm)> {
     }
 }
 
-/// The first of these fields that isn't what it has to be.
+/// Finds the first of these fields that hasn't its form.
 fn first_misfit(record: &ByteRecord, forms: &[(usize, FieldForm)]) -> Option<(usize, FieldForm)> {
     forms
         .iter()

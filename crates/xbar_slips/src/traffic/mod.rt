@@ -67,7 +67,7 @@ fn wrong_with_record(
         RowFault::Unreadable => field_count(record).map(|reason| (None, reason)),
         RowFault::UnknownKind => {
             let (index, form) = field::unknown_kind(mode, record)?;
-            Some((Some(index), TrafficReason::Wanted(form)))
+            Some((Some(index), TrafficReason::Expected(form)))
         }
         RowFault::OtherMode if field::is_of_other_mode(mode, record.get(LETTER)?) => {
             Some((Some(LETTER), TrafficReason::OtherMode(mode)))
@@ -75,7 +75,7 @@ fn wrong_with_record(
         RowFault::OtherMode => None,
         RowFault::Malformed => {
             let (index, form) = field::malformed_field(record)?;
-            Some((Some(index), TrafficReason::Wanted(form)))
+            Some((Some(index), TrafficReason::Expected(form)))
         }
         RowFault::NumberTwice => number_twice(bytes, before, record),
         RowFault::Marker(why) => {

@@ -28,7 +28,7 @@ fn take_records(
     for _ in 0..count {
         match rows.next() {
             Some(Ok(record)) => records.push(record)?,
-            // A reader of bytes in memory fails for want of memory alone.
+            // A reader of bytes in memory fails only where memory is refused.
             Some(Err(_)) => return Err(AllocError),
             None => break,
         }

@@ -14,7 +14,7 @@ pub struct FieldPlace {
 }
 
 impl FieldPlace {
-    /// A record's field at an index counted from 0.
+    /// The field of a record at an index counted from 0.
     pub(crate) fn of(
         alloc: Global,
         record: &ByteRecord,
@@ -40,13 +40,13 @@ impl fmt::Display for FieldPlace {
 /// Why a row is wrong.
 #[derive(Clone, Copy, Debug, PartialEq, Eq)]
 pub enum TrafficReason {
-    /// It has so many fields.
+    /// It has this number of fields, and not 5.
     FieldCount(usize),
-    /// The field isn't what is wanted.
-    Wanted(FieldForm),
-    /// The traffic is of this mode, and the row of the other.
+    /// The field hasn't this form.
+    Expected(FieldForm),
+    /// The traffic has this mode, and the row belongs to the other.
     OtherMode(Mode),
-    /// The number of the job or call stands in an earlier row, counted from 1 as its line is.
+    /// An earlier row has the number of the job or call too. Row and line are counted from 1.
     NumberTwice { row: u64, line: u64 },
     /// The marker can't do what is asked of it.
     Marker(MarkerFault),
@@ -55,36 +55,33 @@ pub enum TrafficReason {
 impl fmt::Display for TrafficReason {
     fn fmt<W: fmt::Write>(&self, f: &mut fmt::Formatter<W>) -> fmt::Result {
         match self {
-            TrafficReason::FieldCount(1) => f.write_str("1 field stands there; 5 are wanted"),
-            TrafficReason::FieldCount(count) => {
-                write!(f, "{count} fields stand there; 5 are wanted")
-            }
-            TrafficReason::Wanted(form) => write!(f, "{form}"),
+            TrafficReason::FieldCount(count) => write!(f, "expected 5 fields, found {count}"),
+            TrafficReason::Expected(form) => write!(f, "expected {form}"),
             TrafficReason::OtherMode(mode) => {
                 let row = match mode {
                     Mode::Replay => "a call of a live office",
                     Mode::Live => "a row of a replay",
                 };
                 let form = FieldForm::RowLetter(*mode);
-                write!(f, "{row} stands there; {form}")
+                write!(f, "this is {row}; expected {form}")
             }
             TrafficReason::NumberTwice { row, line } => {
-                write!(f, "this number stands already on line {line} (row {row})")
+                write!(f, "duplicate number, first used on line {line} (row {row})")
             }
             TrafficReason::Marker(MarkerFault::NoMarker) => {
                 f.write_str("the office has no such marker")
             }
-            TrafficReason::Marker(MarkerFault::NotIdle) => f.write_str(
-                "this marker is still at its job; more steps of it are wanted before",
-            ),
+            TrafficReason::Marker(MarkerFault::NotIdle) => {
+                f.write_str("this marker is still at its job; give it more steps first")
+            }
             TrafficReason::Marker(MarkerFault::WrongKind) => {
-                f.write_str("the row's marker does no jobs of this kind")
+                f.write_str("this row's marker does no jobs of this kind")
             }
         }
     }
 }
 
-/// What is wrong with traffic that was refused. Its sentence begins with the row.
+/// What is wrong with refused traffic. Its sentence begins with the row.
 #[derive(Debug, Drop)]
 pub struct TrafficSlip {
     pub fault: TrafficFault,

@@ -1,7 +1,7 @@
 use std::fmt;
 use toml::Value;
 
-/// What stands in a document in the place of something else.
+/// What a document has where something else is expected.
 #[derive(Clone, Copy, Debug, PartialEq, Eq)]
 pub enum Found {
     Nothing,
@@ -33,7 +33,7 @@ impl fmt::Display for Found {
     fn fmt<W: fmt::Write>(&self, f: &mut fmt::Formatter<W>) -> fmt::Result {
         f.write_str(match self {
             Found::Nothing => "nothing",
-            Found::Text => "a text",
+            Found::Text => "a string",
             Found::WholeNumber(number) => return write!(f, "{number}"),
             Found::Float => "a float",
             Found::Boolean => "a boolean",
@@ -44,15 +44,15 @@ impl fmt::Display for Found {
     }
 }
 
-/// What is wanted at a place of a plan.
+/// What is expected at a place of a plan. Its text is what a sentence says after 'expected'.
 #[derive(Clone, Copy, Debug, PartialEq, Eq)]
-pub enum PlanWanted {
+pub enum PlanForm {
     OneOrTwo,
     ArrayOfTexts,
     Text,
     /// Between two parts.
     OneSpace,
-    /// Before the first part and behind the last.
+    /// Before the first part and after the last.
     NoSpace,
     Group,
     NumberWithOneLine,
@@ -68,28 +68,28 @@ pub enum PlanWanted {
     Code,
 }
 
-impl fmt::Display for PlanWanted {
+impl fmt::Display for PlanForm {
     fn fmt<W: fmt::Write>(&self, f: &mut fmt::Formatter<W>) -> fmt::Result {
         f.write_str(match self {
-            PlanWanted::OneOrTwo => "1 or 2 is wanted",
-            PlanWanted::ArrayOfTexts => "an array of texts is wanted",
-            PlanWanted::Text => "a text is wanted",
-            PlanWanted::OneSpace => "one space between parts is wanted",
-            PlanWanted::NoSpace => "no space before the first part or behind the last is wanted",
-            PlanWanted::Group => "a name, a kind and members are wanted",
-            PlanWanted::NumberWithOneLine => "a number and one line are wanted in version 1",
-            PlanWanted::NumberWithLines => "a number and its lines are wanted",
-            PlanWanted::CodeWithGroups => "a code and names of groups are wanted",
-            PlanWanted::Link => "LL, JU or TL and three digits are wanted",
-            PlanWanted::Name => "a name of 1 to 8 characters of A to Z and 0 to 9 is wanted",
-            PlanWanted::Kind => "register, intra or outgoing is wanted",
-            PlanWanted::Place => "three digits are wanted",
-            PlanWanted::Pair => "a pair of places, as 600-601, is wanted",
-            PlanWanted::Number => "four digits are wanted",
-            PlanWanted::Line => {
-                "a line of four digits, the third at most 5 and the fourth at most 4, is wanted"
+            PlanForm::OneOrTwo => "1 or 2",
+            PlanForm::ArrayOfTexts => "an array of strings",
+            PlanForm::Text => "a string",
+            PlanForm::OneSpace => "one space between parts",
+            PlanForm::NoSpace => "no space before the first part or after the last",
+            PlanForm::Group => "a name, a kind and members",
+            PlanForm::NumberWithOneLine => "a number and one line in version 1",
+            PlanForm::NumberWithLines => "a number and its lines",
+            PlanForm::CodeWithGroups => "a code and names of groups",
+            PlanForm::Link => "LL, JU or TL and three digits",
+            PlanForm::Name => "a name of 1 to 8 characters from A to Z and 0 to 9",
+            PlanForm::Kind => "register, intra or outgoing",
+            PlanForm::Place => "three digits",
+            PlanForm::Pair => "a pair of places, such as 600-601",
+            PlanForm::Number => "four digits",
+            PlanForm::Line => {
+                "a line of four digits, the third at most 5 and the fourth at most 4"
             }
-            PlanWanted::Code => "three digits are wanted",
+            PlanForm::Code => "three digits",
         })
     }
 }
