@@ -15,7 +15,7 @@ failures=0
 
 tell() {
     echo "$1: $2"
-    [[ $2 == as\ wanted ]] || failures=$((failures + 1))
+    [[ $2 == as\ expected ]] || failures=$((failures + 1))
 }
 
 # A replay of NAME.csv, by the words that follow.
@@ -23,7 +23,7 @@ replay() {
     local name=$1
     shift
     if "$program" replay "$@" <"$here/$name.csv" >"$folder/out" && cmp -s "$folder/out" "$here/$name.out"; then
-        tell "$name" "as wanted"
+        tell "$name" "as expected"
     else
         tell "$name" "differs from $name.out"
     fi
@@ -34,7 +34,7 @@ walk() {
     local name=$1 file=$2
     shift 2
     if "$program" walk "$@" <"$here/$name.csv" >"$folder/out" && cmp -s "$folder/out" "$here/$file"; then
-        tell "$file" "as wanted"
+        tell "$file" "as expected"
     else
         tell "$file" "differs"
     fi
@@ -45,7 +45,7 @@ draw() {
     local name=$1 file=$2
     shift 2
     if "$program" draw "$@" <"$here/$name.out" >"$folder/out" && cmp -s "$folder/out" "$here/$file"; then
-        tell "$file" "as wanted"
+        tell "$file" "as expected"
     else
         tell "$file" "differs"
     fi
@@ -56,7 +56,7 @@ page() {
     local name=$1
     shift
     if "$program" page "$@" <"$here/$name.out" >"$folder/out" && cmp -s "$folder/out" "$here/$name.html"; then
-        tell "$name.html" "as wanted"
+        tell "$name.html" "as expected"
     else
         tell "$name.html" "differs"
     fi
@@ -67,7 +67,7 @@ live() {
     local name=$1
     shift
     if "$program" live "$@" <"$here/$name.csv" | "$program" audit >"$folder/out"; then
-        tell "$name $*" "as wanted"
+        tell "$name $*" "as expected"
     else
         tell "$name $*" "not legal: $(head -n 1 "$folder/out")"
     fi
@@ -76,6 +76,7 @@ live() {
 replay three_dials
 replay calls
 replay inside_call
+page inside_call
 replay two_markers --markers XX
 replay meeting --markers XX
 walk meeting meeting.walk --markers XX
