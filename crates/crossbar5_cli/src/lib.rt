@@ -11,6 +11,7 @@ ghost use Rattle.crossbar5_cli.specs.Endings.{IsOfRun, exit_of};
 ghost use Rattle.clap.specs.Words.{kind_of};
 ghost use Rattle.crossbar5_cli.specs.Streams.{MayEndOf, MayEndOn, stream_of as stream_of_kind};
 
+use crate::answered::Answered;
 use crate::causes::ending_without_words;
 use crate::stream::{stream_of, told_on};
 use clap::error::ErrorKind;
@@ -24,13 +25,16 @@ use std::fs::File;
 use std::io::{IsTerminal, Read, Write};
 use std::process::ExitCode;
 use std::sync::Wait;
-use std::thread::Threads;
+use std::sync::atomic::{AtomicBool, Ordering};
+use std::thread::{Threads, join};
 use std::{env, io};
 
+mod answered;
 mod causes;
 mod ended;
 mod ending;
 mod plan_file;
+mod progress;
 mod sentence;
 mod stream;
 
@@ -83,41 +87,53 @@ pub fn do_as_asked<'w, T: Threads + Wait + Sync>(
     ensures { MayEndAsked ask.now result.ending }
 {
     match ask {
-        Ask::Replay { plan, kinds } => replay(rt, plan.as_deref(), kinds.as_str()),
+        Ask::Replay { plan, kinds } => replay(rt, threads, plan.as_deref(), kinds.as_str()),
         Ask::Live {
             plan,
             dial,
             completing,
         } => live(rt, threads, plan.as_deref(), *dial, *completing),
         Ask::Walk { plan, kinds, short } => {
-            walk(rt, plan.as_deref(), kinds.as_str(), telling_of(*short))
+            walk(
+                rt,
+                threads,
+                plan.as_deref(),
+                kinds.as_str(),
+                telling_of(*short),
+            )
         }
-        Ask::Audit { plan } => perform(rt, plan.as_deref(), Task::Audit),
+        Ask::Audit { plan } => perform(rt, threads, plan.as_deref(), Task::Audit),
         Ask::Draw { plan, text } => {
             let look = look_of(*text);
-            perform(rt, plan.as_deref(), Task::Draw { look })
+            perform(rt, threads, plan.as_deref(), Task::Draw { look })
         }
         Ask::Page { plan } => {
             let look = Look::Page;
-            perform(rt, plan.as_deref(), Task::Draw { look })
+            perform(rt, threads, plan.as_deref(), Task::Draw { look })
         }
     }
 }
 
 /// Kinds that are refused are so whatever the plan's file is.
-fn replay<'w>(rt: &HostRuntime, file: Option<&'w str>, kinds: &'w str) -> Ended<'w>
+fn replay<'w, T: Threads + Wait + Sync>(
+    rt: &HostRuntime,
+    threads: &T,
+    file: Option<&'w str>,
+    kinds: &'w str,
+) -> Ended<'w>
     ensures run { IsOfRun result.ending }
     ensures markers { (result.ending ≡ Ending.Failed EngineFault.Markers) ↔ NamesNone kinds.now }
 {
     match kinds_of(rt.alloc(), kinds) {
-        Ok(named) => perform(rt, file, Task::Replay { kinds: &named }),
+        Ok(named) => perform(rt, threads, file, Task::Replay { kinds: &named }),
         Err(fault) => Ended::of_kinds(fault, kinds),
     }
 }
 
 /// So they are where the steps are told.
-fn walk<'w>(
+fn walk<'w, T: Threads + Wait + Sync>(
     rt: &HostRuntime,
+    threads: &T,
     file: Option<&'w str>,
     letters: &'w str,
     telling: Telling,
@@ -128,6 +144,7 @@ fn walk<'w>(
     match kinds_of(rt.alloc(), letters) {
         Ok(kinds) => perform(
             rt,
+            threads,
             file,
             Task::Walk {
                 kinds: &kinds,
@@ -153,7 +170,12 @@ fn look_of(text: bool) -> Look
 }
 
 /// Does a task with the plan's file, standard input and output.
-fn perform<'w>(rt: &HostRuntime, file: Option<&'w str>, task: Task<'_>) -> Ended<'w>
+fn perform<'w, T: Threads + Wait + Sync>(
+    rt: &HostRuntime,
+    threads: &T,
+    file: Option<&'w str>,
+    task: Task<'_>,
+) -> Ended<'w>
     requires { HasItsMarkers task }
     ensures run { IsOfRun result.ending }
     ensures markers { result.ending ≢ Ending.Failed EngineFault.Markers }
@@ -163,10 +185,47 @@ fn perform<'w>(rt: &HostRuntime, file: Option<&'w str>, task: Task<'_>) -> Ended
         Err(fault) => return Ended::of_plan_file(fault, file, reason_of(rt, file, fault)),
     };
     hint_at_end(rt, input_of(task));
+    let Answered { run, failures, .. } = if progress::is_shown(rt) {
+        answer_with_progress(rt, threads, task, &plan)
+    } else {
+        answer(rt, task, &plan)
+    };
+    Ended::of_run(run, file, failures)
+}
+
+/// Has the engine answer a task between standard input and output.
+fn answer(rt: &HostRuntime, task: Task<'_>, plan: &[u8]) -> Answered
+    requires { HasItsMarkers task }
+{
     let mut source = Counted::new(rt.stdin());
     let mut sink = Counted::new(rt.stdout());
-    let run = answer_task(rt.alloc(), task, &plan, &mut source, &mut sink);
-    Ended::of_run(run, file, source.failures())
+    let run = answer_task(rt.alloc(), task, plan, &mut source, &mut sink);
+    let failures = source.failures();
+    Answered { run, failures }
+}
+
+/// The same, with its progress on standard error. Where no thread can be started, the answer comes first.
+fn answer_with_progress<T: Threads + Sync>(
+    rt: &HostRuntime,
+    threads: &T,
+    task: Task<'_>,
+    plan: &[u8],
+) -> Answered
+    requires { HasItsMarkers task }
+{
+    let done = AtomicBool::new(false);
+    let ((), answered) = join(
+        threads,
+        || progress::report_until(rt, &done),
+        || -> Answered
+            requires { HasItsMarkers task }
+        {
+            let answered = answer(rt, task, plan);
+            done.store(true, Ordering::SeqCst);
+            answered
+        },
+    );
+    answered
 }
 
 /// What a task reads, with an example.
