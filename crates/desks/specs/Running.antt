@@ -7,7 +7,7 @@ use Rattle.turns.specs.System.{System}
 use Rattle.turns.specs.World.{Actor, Does, Idle}
 use Rattle.desks.specs.Desks.{EndsIn, HasMade, IsSeated, seen_in}
 use Rattle.desks.specs.Kept.{HasEnded, PartOf}
-use Rattle.desks.specs.Outcomes.{IsPastTurn}
+use Rattle.turns.specs.Outcomes.{IsPastTurn}
 use Rattle.desks.specs.Views.{DeskView}
 
 -- the number of steps, where there is one or none
