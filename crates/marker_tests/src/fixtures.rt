@@ -7,6 +7,7 @@ use xbar_equip::{Dialled, Len};
 use xbar_match::{count_closed, count_paths};
 use xbar_office::{Job, Record, audit};
 use xbar_plan::Plan;
+use xbar_plan_text::PlanText;
 
 /// The example plan as a text.
 pub const EXAMPLE: &str = "version = 1
