@@ -10,7 +10,7 @@ pub use engine_fault::EngineFault;
 pub use gates::open_gates;
 pub use kinds::kinds_of;
 pub use look::Look;
-pub use runs::run_replay;
+pub use runs::{run_live, run_replay};
 pub use slip::Slip;
 pub use status::Status;
 pub use task::Task;

@@ -4,7 +4,6 @@ ghost use Rattle.std.specs.Prelude.{◌≡◌, IfOk, None, OnErr, slice_get};
 ghost use Rattle.xbar_core.specs.Moves.{assigned, refusal, steps};
 ghost use Rattle.xbar_traffic.specs.Row.{IsRow, mode_of};
 ghost use Rattle.xbar_traffic.specs.declared.mode.Mode.{Mode};
-ghost use Rattle.xbar_office.specs.Legal.{IsJob};
 ghost use Rattle.crossbar5.specs.Rows.{IsUnrefusedJob, done, missing, refused_as, row_fault};
 
 use std::alloc::AllocError;
@@ -19,7 +18,6 @@ pub fn assign(
     job_no: u32,
     job: Job,
 ) -> Result<Option<MarkerFault>, AllocError>
-    requires { IsJob job }
     ensures fault { IfOk result (λ fault. fault ≡
         refused_as (refusal office.old.exchange marker job)) }
     ensures done { IfOk result (λ fault. fault ≡ None →

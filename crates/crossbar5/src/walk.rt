@@ -3,7 +3,6 @@
 ghost use Rattle.std.specs.Prelude.{◌≡◌, All, IfOk, None, length, slice_get};
 ghost use Rattle.xbar_core.specs.Moves.{assigned, refusal, steps};
 ghost use Rattle.xbar_core.specs.Settling.{settled};
-ghost use Rattle.xbar_office.specs.Legal.{IsJob};
 ghost use Rattle.xbar_traffic.specs.Row.{IsRow, mode_of};
 ghost use Rattle.xbar_traffic.specs.declared.mode.Mode.{Mode};
 ghost use Rattle.xbar_traffic.specs.declared.row.Row.{Row as TheRow};
@@ -35,7 +34,6 @@ fn tell_assignment(
     job: Job,
     story: &mut Story,
 ) -> Result<Option<MarkerFault>, AllocError>
-    requires { IsJob job }
     ensures fault { IfOk result (λ fault. fault ≡
         refused_as (refusal office.old.exchange marker job)) }
     ensures done { IfOk result (λ fault. fault ≡ None →

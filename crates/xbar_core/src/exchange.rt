@@ -3,7 +3,6 @@
 ghost use Rattle.std.specs.Prelude.{◌≡◌, ◌↔◌, ◌<◌, ◌≤◌, ◌⊎◌, ◌^◌, ℕ, IfOk, IfErr, OnOk, OnErr, Ok, Err, Some, None, true, length, map, slice_get};
 ghost use Rattle.turns.specs.World.{Idle};
 ghost use Rattle.xbar_equip.specs.Word.{word_count};
-ghost use Rattle.xbar_office.specs.Legal.{IsJob};
 ghost use Rattle.xbar_core.specs.AtWork.{IsBackingAt, gives_up_at, is_turned, next_step_at};
 ghost use Rattle.xbar_core.specs.Ends.{Settles};
 ghost use Rattle.xbar_core.specs.Exchange.{IsLawfulExchange, Marker as TheMarker, is_idle as is_idle_work, fresh_exchange};
@@ -20,6 +19,7 @@ use std::alloc::{AllocError, Global};
 use std::marker::Model;
 use xbar_equip::WORD_COUNT;
 use xbar_jobs::Step;
+use xbar_office::laws::job_is_in_range;
 use xbar_office::{Job, Record};
 use xbar_plan::Plan;
 
@@ -187,7 +187,6 @@ impl<'p> Exchange<'p> {
     /// Assigns a job to a marker under a number, and takes the memory for the records of all turns
     /// that are to come. Where it is refused nothing changes.
     pub fn assign(&mut self, marker: u32, job_no: u32, job: Job) -> Result<(), AssignFault>
-        requires { IsJob job }
         ensures ok { OnOk result ((refusal self.old.exchange marker job ≡ None)
             × (self.new
             ≡ record self.old { exchange = assigned marker job_no job self.old.exchange })) }
@@ -198,8 +197,9 @@ impl<'p> Exchange<'p> {
         if let Some(fault) = self.refuses(marker, &job) {
             return Err(fault);
         }
-        // Called for its clauses alone.
+        // Called for their clauses alone.
         xbar_plan::laws::every_plan_is_lawful(self.plan);
+        job_is_in_range(&job);
         // Each marker has one turn to come at most.
         self.records.reserve(self.markers.len())?;
         self.markers[marker as usize].begin(job_no, job);

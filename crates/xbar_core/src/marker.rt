@@ -2,7 +2,6 @@ ghost use Rattle.std.specs.Prelude.{◌≡◌, ◌+◌, ◌<◌, ◌≤◌, ℕ,
 ghost use Rattle.turns.specs.Attempt.{begin_with};
 ghost use Rattle.turns.specs.World.{Idle, Does};
 ghost use Rattle.xbar_equip.specs.Word.{word_count};
-ghost use Rattle.xbar_office.specs.Legal.{IsJob};
 ghost use Rattle.xbar_office.specs.declared.reply.Record.{Record as TheRecord};
 ghost use Rattle.xbar_plan.specs.Tables.{Tables};
 ghost use Rattle.xbar_jobs.specs.Attempt.{Attempt, next_step};
@@ -121,7 +120,6 @@ impl Marker {
 
     /// It has this job from now on, under a number, and is at its beginning.
     pub fn begin(&mut self, job_no: u32, job: Job)
-        requires { IsJob job }
         ensures { self.new
             ≡ record self.old { work = Does job_no (begin_with (first_conn job) job) } }
     {

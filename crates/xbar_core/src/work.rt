@@ -4,7 +4,6 @@ ghost use Rattle.turns.specs.Runs.{is_rest};
 ghost use Rattle.turns.specs.declared.phase.Phase.{Phase};
 ghost use Rattle.attempts.specs.Live.{LeadsTo};
 ghost use Rattle.xbar_equip.specs.Word.{word_count};
-ghost use Rattle.xbar_office.specs.Legal.{IsJob};
 ghost use Rattle.xbar_plan.specs.Tables.{Tables};
 ghost use Rattle.xbar_jobs.specs.Attempt.{Attempt, counted, fresh, next_step, with_count};
 ghost use Rattle.xbar_jobs.specs.Office.{office};
@@ -62,7 +61,6 @@ fn asked_by(step: Step) -> Option<Conn>
 impl Work {
     /// The job at its beginning.
     pub fn begin(job_no: u32, job: Job) -> Self
-        requires { IsJob job }
         ensures { result ≡ record { job_no = job_no; program = fresh job } }
     {
         Work {

@@ -1,7 +1,6 @@
 ghost use Rattle.std.specs.Prelude.{◌≡◌, OnOk, OnErr, Some, None, MatchResult, true, false};
 ghost use Rattle.turns.specs.Attempt.{begin_with};
 ghost use Rattle.turns.specs.World.{Does};
-ghost use Rattle.xbar_office.specs.Legal.{IsJob};
 ghost use Rattle.xbar_jobs.specs.Jobs.{first_conn};
 ghost use Rattle.desks.specs.Desks.{gives_back};
 ghost use Rattle.xbar_core.specs.Exchange.{is_idle as is_idle_work};
@@ -14,6 +13,7 @@ use desk_attempts::turn;
 use std::marker::Model;
 use xbar_core::{AssignFault, Given, Kind};
 use xbar_office::Job;
+use xbar_office::laws::job_is_in_range;
 
 /// A marker, which a thread owns. It holds no borrow, and has a fixed size.
 #[derive(Drop)]
@@ -101,7 +101,6 @@ impl Desk {
     /// Assigns it a job under a number, or tells the first reason why not, `NotIdle` before
     /// `WrongKind`. It takes no memory.
     pub fn assign(&mut self, job_no: u32, job: Job) -> Result<(), AssignFault>
-        requires { IsJob job }
         ensures { MatchResult result
             (λ _. (refusal_of (marker_of self.old) job ≡ None) × (self.new
             ≡ record (self.old) { work = Does job_no (begin_with (first_conn job) job) }))
@@ -110,6 +109,8 @@ impl Desk {
         if let Some(fault) = self.refuses(&job) {
             return Err(fault);
         }
+        // Called for its clause alone.
+        job_is_in_range(&job);
         self.desk.assign(u64::from(job_no), job);
         Ok(())
     }

@@ -13,6 +13,7 @@ use attempts::{AttemptOf, begin, next, restart, run, take};
 use std::marker::Model;
 use turns::Answer;
 use xbar_equip::{Conn, WordNo};
+use xbar_office::laws::job_is_in_range;
 use xbar_office::{Job, Reply};
 use xbar_plan::Plan;
 
@@ -84,7 +85,6 @@ impl Program {
     ghost use Rattle.attempts.specs.Live.{LeadsTo};
     ghost use Rattle.attempts.specs.Running.{GoesFarEnough};
     ghost use Rattle.xbar_equip.specs.Word.{word_count};
-    ghost use Rattle.xbar_office.specs.Legal.{IsJob};
     ghost use Rattle.xbar_plan.specs.Lawful.{IsLawful};
     ghost use Rattle.xbar_plan.specs.Tables.{Tables};
     ghost use Rattle.xbar_jobs.specs.Attempt.{fresh, with_count};
@@ -97,10 +97,11 @@ impl Program {
 
     /// An attempt that has made no step, whatever the plan will be.
     pub fn new(job: Job) -> Self
-        requires { IsJob job }
         ensures begin { result ≡ fresh job }
         ensures plan { (plan : Tables) → IsLawful plan → Stands plan result.attempt }
     {
+        // Called for its clause alone.
+        job_is_in_range(&job);
         let attempt = begin::<Offices, 42, 19>(job);
         let next = step_of(&attempt);
         Program { attempt, next }

@@ -2,7 +2,6 @@
 
 ghost use Rattle.std.specs.Prelude.{◌≡◌, ℕ, Some, None, MatchResult, true, false};
 ghost use Rattle.std.specs.Thread.{IsSend, IsSync};
-ghost use Rattle.xbar_office.specs.Legal.{IsJob};
 ghost use Rattle.xbar_core.specs.Moves.{refusal_of};
 ghost use Rattle.xbar_fabric.specs.Views.{DeskView, IsDeskOf, marker_of};
 ghost use Rattle.xbar_markers.specs.Handing.{HasGiven, IsAtHand, IsBegun, IsHanded};
@@ -74,8 +73,7 @@ fn begin(
     job: Job,
     stop: u32,
 ) -> (Desk, Result<Option<Record>, AssignFault>)
-    requires desk { IsDeskOf desk fabric.now }
-    requires job { IsJob job }
+    requires { IsDeskOf desk fabric.now }
     ensures desk { IsDeskOf result.0 fabric.now }
     ensures begun { IsBegun desk job_no job result.0 result.1 }
 {
@@ -175,15 +173,14 @@ pub fn hand_over<R: Threads + Wait + Sync>(
     stop: u32,
     then: Then,
 ) -> Result<(Desk, Handed), HandFault>
-    requires desk { IsDeskOf desk fabric.now }
-    requires job { IsJob job }
+    requires { IsDeskOf desk fabric.now }
     ensures { MatchResult result
         (λ handed. (refusal_of (marker_of desk) job ≡ None)
         × IsHanded desk job_no job then handed.0 handed.1)
         (λ fault. (refusal_of (marker_of desk) job ≡ Some fault.why) × (fault.desk ≡ desk)) }
 {
     let first = |desk: Desk| -> (Desk, Result<Option<Record>, AssignFault>)
-        requires { IsDeskOf desk fabric.now × IsJob job }
+        requires { IsDeskOf desk fabric.now }
         ensures { IsDeskOf result.0 fabric.entry.now × IsBegun desk job_no job result.0 result.1 }
     { begin(fabric, desk, job_no, job, stop) };
     let (desk, begun) = on_thread(rt, &first, desk);

@@ -1,7 +1,6 @@
 //! A marker at work: it does whole jobs, one after another.
 
 ghost use Rattle.std.specs.Prelude.{◌≡◌, ℕ, true};
-ghost use Rattle.xbar_office.specs.Legal.{IsJob};
 ghost use Rattle.xbar_core.specs.Kinds.{takes};
 ghost use Rattle.xbar_fabric.specs.Views.{DeskView, IsDeskOf};
 ghost use Rattle.xbar_markers.specs.Work.{HasDone, IsDoing, IsReady};
@@ -61,7 +60,6 @@ impl<G: Gate + Drop> Worker<Desk, G> {
     /// Does a job, from its assignment to its end.
     pub fn do_job<R: Wait>(&mut self, rt: &R, fabric: &Fabric, job_no: u32, job: Job) -> Record
         requires ready { IsReady self.old.desk fabric.now }
-        requires job { IsJob job }
         requires takes { takes self.old.desk.kind job ≡ true }
         ensures { HasDone self.old.desk self.new.desk job_no job result }
     {

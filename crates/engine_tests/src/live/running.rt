@@ -1,7 +1,7 @@
 //! Live traffic from one device to another.
 
 use crossbar5::{
-    Counted, EngineFault, Sink, Source, Status, Task, answer_live, answer_task, open_gates,
+    Counted, EngineFault, Sink, Source, Status, Task, answer_task, open_gates, run_live,
 };
 use std::alloc::Global;
 use std::sync::Wait;
@@ -45,7 +45,7 @@ pub fn run<T: Threads + Wait + Sync, R: Source, W: Sink>(
         completing,
     } = staff;
     let gates = open_gates(alloc, dialling, completing)?;
-    let answer = answer_live(
+    run_live(
         rt,
         alloc,
         plan.as_bytes(),
@@ -54,8 +54,7 @@ pub fn run<T: Threads + Wait + Sync, R: Source, W: Sink>(
         gates,
         source,
         sink,
-    )?;
-    Ok(answer.status)
+    )
 }
 
 /// What is written for a plan and live traffic, and the status.

@@ -1,6 +1,5 @@
 //! A job that one worker begins and another goes on with, each on a thread of its own.
 
-ghost use Rattle.xbar_office.specs.Legal.{IsJob};
 ghost use Rattle.xbar_fabric.specs.Views.{AreDesksOf, IsDeskOf};
 
 use crate::fixtures::example;
@@ -91,8 +90,7 @@ fn refused<R: Threads + Wait + Sync>(
     desk: Desk,
     job: Job,
 ) -> Option<(AssignFault, u32, bool)>
-    requires desk { IsDeskOf desk fabric.now }
-    requires job { IsJob job }
+    requires { IsDeskOf desk fabric.now }
 {
     let fault = hand_over(rt, fabric, desk, 2, job, END, Then::Finish).err()?;
     Some((fault.why, fault.desk.marker(), fault.desk.is_idle()))

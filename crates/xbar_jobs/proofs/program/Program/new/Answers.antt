@@ -6,11 +6,11 @@ use Rattle.xbar_jobs.proofs.Programs.{attempt_begun, begun_is, knows_begun, no_p
 use Rattle.xbar_jobs.proofs.program.Program.new.Goals as goal
 
 pub step_of-next-requires : goal.step_of-next-requires
-step_of-next-requires c = subst (λ (a : Attempt). IsAttempt a) (sym (c.begin-attempt.ensures.begins no_plan)) (attempt_begun c.args.job c.requires)
+step_of-next-requires c = subst (λ (a : Attempt). IsAttempt a) (sym (c.begin-attempt.ensures.begins no_plan)) (attempt_begun c.args.job c.job_is_in_range.ensures)
 
 pub invariant_of-result : goal.invariant_of-result
 invariant_of-result c = record {
-  attempt = subst (λ (a : Attempt). IsAttempt a) (sym (c.begin-attempt.ensures.begins no_plan)) (attempt_begun c.args.job c.requires);
+  attempt = subst (λ (a : Attempt). IsAttempt a) (sym (c.begin-attempt.ensures.begins no_plan)) (attempt_begun c.args.job c.job_is_in_range.ensures);
   next_is = c.step_of-next.ensures;
   knows = knows_begun c.begin-attempt.result c.args.job (c.begin-attempt.ensures.begins no_plan) (λ seen. c.begin-attempt.ensures.point no_plan seen);
 }
@@ -19,4 +19,4 @@ pub returns-clause-begin : goal.returns-clause-begin
 returns-clause-begin c = begun_is c.begin-attempt.result c.args.job (c.begin-attempt.ensures.begins no_plan) c.begin-attempt.ensures.count
 
 pub returns-clause-plan : goal.returns-clause-plan
-returns-clause-plan c = λ plan laws. subst (λ (a : Attempt). Stands plan a) (sym (c.begin-attempt.ensures.begins plan)) (stands_begun plan c.args.job laws c.requires)
+returns-clause-plan c = λ plan laws. subst (λ (a : Attempt). Stands plan a) (sym (c.begin-attempt.ensures.begins plan)) (stands_begun plan c.args.job laws c.job_is_in_range.ensures)
