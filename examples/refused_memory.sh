@@ -92,7 +92,7 @@ try() {
         head -n 3 "$to/err" >&2
         exit 255
     fi
-    rm -r "$to"
+    rm -rf "$to"
 }
 export -f run is_right_text is_answer is_without_memory is_without_device is_beginning is_right try
 
