@@ -31,10 +31,14 @@ const THEIR_JOBS: u64 = 1 << 3 | 1 << 4 | 1 << 6 | 1 << 7;
 fn two_calls(share_a_frame: bool) -> [Call; 2]
     ensures { All HasCallNo result }
 {
-    let frame = if share_a_frame { 3 } else { 1 };
+    let other = if share_a_frame {
+        Len::new(3, 0, 27)
+    } else {
+        Len::new(1, 0, 0)
+    };
     [
         call_out(1, Len::new(3, 0, 21), false),
-        call_out(2, Len::new(frame, 0, 0), false),
+        call_out(2, other, false),
     ]
 }
 
