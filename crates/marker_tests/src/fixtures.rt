@@ -153,9 +153,9 @@ pub fn count_left(rt: &impl Abort, alloc: Global, plan: &Plan, log: &[Record]) -
 }
 
 /// The word of the first connector; the others follow, up to the word that counts turns.
-const CONNECTORS: usize = 416;
+pub const CONNECTORS: usize = 416;
 
-const TURNS: usize = 452;
+pub const TURNS: usize = 452;
 
 const ALL_FREE: &[u64] = &[0; 36];
 
