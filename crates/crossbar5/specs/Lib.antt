@@ -19,6 +19,5 @@ pub mod Run
 pub mod Audit
 pub mod Draw
 pub mod Task
-pub mod Live
 pub mod Input
 pub mod Walk

@@ -1,19 +1,21 @@
-//! The engine of the program `crossbar5`: a plan and traffic in, of a replay or of live calls on
-//! threads, and out the text of what came of it, or of a replay each step in words; or a plan and such a
-//! text in, and out what an audit finds, or a drawing of the office.
+//! The engine of the program `crossbar5`: a plan and traffic in, and out the text of what came of it, or
+//! each step in words; or a plan and such a text in, and out what an audit finds, or a drawing of the
+//! office.
 #![tactic(auto)]
 
 pub use answer::Answer;
 pub use counted_io::{Counted, Sink, Source};
-pub use engine::{answer_live, answer_task};
+pub use engine::answer_task;
 pub use engine_fault::EngineFault;
-pub use gates::open_gates;
+pub use input::{Input, read_input};
 pub use kinds::kinds_of;
 pub use look::Look;
-pub use runs::{run_live, run_replay};
+pub use run::refused;
+pub use runs::run_replay;
 pub use slip::Slip;
 pub use status::Status;
 pub use task::Task;
+pub use written::Written;
 pub use xbar_report::report;
 pub use xbar_walk::Telling;
 
@@ -23,10 +25,8 @@ mod draw;
 mod engine;
 mod engine_fault;
 mod finding;
-mod gates;
 mod input;
 mod kinds;
-mod live;
 mod look;
 mod rows;
 mod run;

@@ -9,5 +9,5 @@ pub struct Written {
     pub text: Vec<u8>,
     pub status: Status,
     pub slip: Option<Slip>,
-    ghost refusal: { TellsItsRefusal slip text.items status },
+    pub ghost refusal: { TellsItsRefusal slip text.items status },
 }

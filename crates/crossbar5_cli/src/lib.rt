@@ -15,11 +15,9 @@ use crate::answered::Answered;
 use crate::causes::ending_without_words;
 use crate::stream::{stream_of, told_on};
 use clap::error::ErrorKind;
-use crossbar5::{
-    Counted, EngineFault, Look, Source, Task, Telling, answer_live, answer_task, kinds_of,
-    open_gates,
-};
+use crossbar5::{Counted, EngineFault, Look, Source, Task, Telling, answer_task, kinds_of};
 use crossbar5_command::{Ask, CommandFault, command};
+use crossbar5_live::{answer_live, open_gates};
 use std::alloc::AllocError;
 use std::fs::File;
 use std::io::{IsTerminal, Read, Write};

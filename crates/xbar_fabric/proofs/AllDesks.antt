@@ -17,6 +17,7 @@ use Rattle.xbar_fabric.specs.Views.{AreBelow, DeskView, FabricView, IsDeskOf, Ro
 use Rattle.xbar_fabric.proofs.Meets.{after_entered, words_after}
 use Rattle.xbar_fabric.proofs.Offices.{Order, begins_entered, is_history, own_same}
 use Rattle.xbar_fabric.proofs.ToldSteps.{free_idle}
+use Rattle.xbar_fabric.proofs.UnusedWords.{unused_word}
 
 -- a desk below and one above stand at the same place
 abbrev pub IsPair : Option RoomDesk → Option DeskView → Type 0
@@ -84,7 +85,7 @@ module _ (plan : Tables) where
         history = is_history plan closed.order ended.legal;
         theirs = λ r within. subst (λ (n : ℕ). r.marker < n) (as_many below all are) (theirs_entered (length below) closed.order ended.theirs r within);
         each = λ k. each_at k closed.order (slice_get below k) (slice_get all k) (pair_at below all are k) (closed.each k);
-        words_are = words_after plan closed.order words ended.size ended.counted (λ _. ended.shows);
-        free = ended.free;
+        words_are = words_after plan closed.order words ended.size ended.are_words ended.counted (λ _. ended.shows);
+        unused = λ conn there. unused_word _ (ended.unused conn there);
         shows = subst (ShowsOffice plan words) (after_entered plan closed.order) ended.shows;
       }

@@ -7,6 +7,7 @@ pub mod GoneOn
 pub mod Running
 pub mod GivenBack
 pub mod NewDesks
+mod UnusedWords
 pub mod Meets
 pub mod AllDesks
 pub mod OwnRecords

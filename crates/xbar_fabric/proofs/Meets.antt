@@ -1,8 +1,10 @@
 -- what desks below have seen of a meeting and a shutting, as records, sets of paths and connectors
-use Rattle.std.proofs.Common.{◌≡◌, ℕ, ◌%◌, ◌^◌, List, [], length, map, sym, ◌∙◌, ap, subst}
+use Rattle.std.proofs.Common.{◌≡◌, ℕ, ◌%◌, ◌^◌, List, [], length, map, refl, sym, ◌∙◌, ap, subst}
 use Rattle.std.specs.Prelude.{slice_index}
 use Rattle.atomic_table.specs.Seated.{TableId}
+use Rattle.turns.specs.System.{AreWords}
 use Rattle.turns.specs.World as worlds
+use Rattle.turns.specs.World.{World}
 use Rattle.desks.specs.Met as desks
 use Rattle.xbar_equip.specs.Conn.{IsConn}
 use Rattle.xbar_equip.specs.Word.{TurnWord, word_number}
@@ -10,12 +12,12 @@ use Rattle.xbar_equip.specs.declared.conn.Conn.{Conn}
 use Rattle.xbar_plan.specs.Tables.{Tables}
 use Rattle.xbar_office.specs.Legal.{after}
 use Rattle.xbar_jobs.specs.Office.{ShowsOffice, office}
-use Rattle.xbar_core.specs.Exchange.{Work}
+use Rattle.xbar_core.specs.Exchange.{Exchange, Work}
 use Rattle.xbar_core.specs.declared.kind.Kind.{Kind}
 use Rattle.xbar_core.proofs.Records.{after_same}
 use Rattle.xbar_fabric.specs.Meetings.{AreWordsAfter, HaveMet, IsFree, IsShut}
 use Rattle.xbar_fabric.specs.Views.{entered}
-use Rattle.xbar_fabric.proofs.Offices.{Order, begins_entered, is_history, length-entered, own_same, turned_entered}
+use Rattle.xbar_fabric.proofs.Offices.{Order, begins_entered, is_history, is_lawful, length-entered, length-made, marker_made, office_of, own_same, turned_entered}
 use Rattle.xbar_fabric.proofs.Steps.{desk_at}
 
 module _ (plan : Tables) where
@@ -34,19 +36,34 @@ module _ (plan : Tables) where
     other_mine = own_same j other other_after met.other_own;
   }
 
-  pub words_after : (order : Order) (words : List ℕ) → length words ≡ 453 → slice_index words (word_number TurnWord) ≡ length order % 2 ^ 64
+  pub words_after : (order : Order) (words : List ℕ) → length words ≡ 453 → AreWords words → slice_index words (word_number TurnWord) ≡ length order % 2 ^ 64
       → (((conn : Conn) → IsConn conn → IsFree words conn) → ShowsOffice plan words (worlds.after (office plan) [] order)) → AreWordsAfter plan (map entered order) words
-  words_after order words size counted shows = record {
+  words_after order words size fit counted shows = record {
     count = size;
+    are_words = fit;
     counted = counted ∙ ap (λ (n : ℕ). n % 2 ^ 64) (sym (length-entered order));
     shows = λ free. subst (ShowsOffice plan words) (after_entered order) (shows free);
   }
 
-  pub is_shut : (t : TableId) (kind : Kind) (k : ℕ) (work : Work) (seen : Order) (words : List ℕ) → desks.IsShut (office plan) k seen words → IsShut (desk_at t plan kind k work seen) words
-  is_shut t kind k work seen words shut = record {
-    records = map entered shut.order;
-    history = is_history plan shut.order shut.legal;
-    begins = begins_entered seen shut.order shut.begins;
-    own_is = own_same k seen shut.order shut.own_is;
-    words_are = words_after shut.order words shut.size shut.counted shut.shows;
-  }
+  pub is_shut : (t : TableId) (kind : Kind) (count k : ℕ) (work : Work) (seen : Order) (words : List ℕ) → desks.IsShut (office plan) count k work seen words → IsShut count (desk_at t plan kind k work seen) words
+  is_shut t kind count k work seen words shut = record {
+    office = e;
+    amid = record {
+      lawful = is_lawful plan kind w shut.lawful;
+      there = marker_made plan kind shut.actors k work shut.actor_is;
+      begins = begins_entered seen shut.order shut.begins;
+      own_is = own_same k seen shut.order shut.own_is;
+    };
+    office_is = record {
+      lawful = is_lawful plan kind w shut.lawful;
+      words_are = refl;
+      count_is = length-made plan kind shut.actors ∙ shut.all;
+    };
+    history = is_history plan shut.order shut.lawful.legal;
+    words_are = words_after shut.order words shut.lawful.size shut.lawful.are_words shut.lawful.turn shut.shows;
+  } where
+    w : World (office plan)
+    w = record { words = words; actors = shut.actors; order = shut.order }
+
+    e : Exchange
+    e = office_of plan kind w

@@ -1,12 +1,12 @@
 use Rattle.std.specs.Prelude.{◌≡◌, ℕ, List, length}
-use Rattle.desks.specs.Kept.{IsKept, PartOf}
+use Rattle.desks.specs.Kept.{IsKept, KnownOf}
 use Rattle.xbar_plan.specs.Tables.{Tables}
 use Rattle.xbar_jobs.specs.Office.{office}
 use Rattle.xbar_core.specs.Exchange.{Exchange, IsLawfulExchange}
 
 -- what a desk knows of the markers, as the table of shared words has it
 abbrev pub Known : Tables → Type 0
-Known plan = List (PartOf (office plan))
+Known plan = KnownOf (office plan)
 
 -- the rule of the table of so many desks' shared words: what it keeps between any two steps
 abbrev pub Keeps : (plan : Tables) → ℕ → List ℕ → List (Known plan) → Type 0

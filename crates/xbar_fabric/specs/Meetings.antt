@@ -1,5 +1,6 @@
 use Rattle.std.specs.Prelude.{◌≡◌, ℕ, ◌<◌, ◌%◌, ◌^◌, List, length, slice_get, slice_index, IfSome, true}
 use Rattle.turns.specs.Among.{IsIn}
+use Rattle.turns.specs.System.{AreWords}
 use Rattle.desks.specs.Parts.{Begins}
 use Rattle.xbar_equip.specs.Conn.{IsConn}
 use Rattle.xbar_equip.specs.Word.{ConnWord, TurnWord, word_count, word_number}
@@ -8,9 +9,10 @@ use Rattle.xbar_plan.specs.Tables.{Tables}
 use Rattle.xbar_office.specs.Legal.{after}
 use Rattle.xbar_office.specs.declared.reply.Record.{Record}
 use Rattle.xbar_jobs.specs.Office.{ShowsOffice}
-use Rattle.xbar_core.specs.Exchange.{is_idle}
+use Rattle.xbar_core.specs.Exchange.{Exchange, is_idle}
+use Rattle.xbar_fabric.specs.Between.{IsOfficeOn}
 use Rattle.xbar_fabric.specs.Histories.{IsHistory}
-use Rattle.xbar_fabric.specs.Views.{DeskView, FabricView, IsDeskOf, mine, own}
+use Rattle.xbar_fabric.specs.Views.{DeskView, FabricView, IsAmid, IsDeskOf, mine, own}
 
 -- two desks have met: both have seen one history now, which begins with what each had seen, and in
 -- which each has no other records of its own
@@ -26,22 +28,28 @@ pub record HaveMet (one other one_after other_after : DeskView) : Type 0 where
 abbrev pub IsFree : List ℕ → Conn → Type 0
 IsFree words conn = slice_index words (word_number (ConnWord conn)) % 64 ≡ 0
 
--- the words of shared words that were shut, after these records: the turn word counts them, and
--- where no connector is held the words show the set after them
+-- no marker holds or requests the connector: its word is 0
+abbrev pub IsUnused : List ℕ → Conn → Type 0
+IsUnused words conn = slice_index words (word_number (ConnWord conn)) ≡ 0
+
+-- the words of shared words that were shut, after these records: each has 64 bits, the turn word
+-- counts the records, and where no connector is held the words show the set after them
 pub record AreWordsAfter (plan : Tables) (records : List Record) (words : List ℕ) : Type 0 where
   pub count : length words ≡ word_count
+  pub are_words : AreWords words
   pub counted : slice_index words (word_number TurnWord) ≡ length records % 2 ^ 64
   pub shows : ((conn : Conn) → IsConn conn → IsFree words conn)
       → ShowsOffice plan words (after plan records)
 
--- shared words were shut with this desk: the words are those after a history that begins with what
--- the desk had seen, and in which its marker has no other records
-pub record IsShut (desk : DeskView) (words : List ℕ) : Type 0 where
-  pub records : List Record
-  pub history : IsHistory desk.plan records
-  pub begins : Begins desk.seen records
-  pub own_is : own desk.marker records ≡ mine desk
-  pub words_are : AreWordsAfter desk.plan records words
+-- shared words of so many markers were shut with this desk, whatever the other desks were at: the
+-- words are those of an office that the markers can come to, amid which the desk stood, and those
+-- after the office's records, which are a history
+pub record IsShut (count : ℕ) (desk : DeskView) (words : List ℕ) : Type 0 where
+  pub office : Exchange
+  pub amid : IsAmid desk office
+  pub office_is : IsOfficeOn desk.plan count words office
+  pub history : IsHistory desk.plan office.records
+  pub words_are : AreWordsAfter desk.plan office.records words
 
 -- all desks of shared words, each idle and at the place of its marker
 pub record AreAllIdle (desks : List DeskView) (fabric : FabricView) : Type 0 where
@@ -49,9 +57,9 @@ pub record AreAllIdle (desks : List DeskView) (fabric : FabricView) : Type 0 whe
   pub each : (k : ℕ) → IfSome (slice_get desks k)
       (λ desk. IsDeskOf desk fabric × (desk.marker ≡ k) × (is_idle desk.work ≡ true))
 
--- shared words were shut with all their desks: no connector is held, the words show the set after a
--- history that begins with what each desk had seen, and its records are those of the desks' own
--- turns and no others
+-- shared words were shut with all their desks: each connector's word is 0, the words show the set
+-- after a history that begins with what each desk had seen, and its records are those of the desks'
+-- own turns and no others
 pub record HasClosed (plan : Tables) (desks : List DeskView) (words : List ℕ) : Type 0 where
   pub records : List Record
   pub history : IsHistory plan records
@@ -59,5 +67,5 @@ pub record HasClosed (plan : Tables) (desks : List DeskView) (words : List ℕ) 
   pub each : (k : ℕ) → IfSome (slice_get desks k)
       (λ desk. Begins desk.seen records × (own k records ≡ own k desk.seen))
   pub words_are : AreWordsAfter plan records words
-  pub free : (conn : Conn) → IsConn conn → IsFree words conn
+  pub unused : (conn : Conn) → IsConn conn → IsUnused words conn
   pub shows : ShowsOffice plan words (after plan records)

@@ -15,12 +15,12 @@ pub struct ShutFault<'p> {
     pub desk: Desk,
 }
 
-/// Shuts the shared words with one of their desks, and gives all 453, each at the place of its
-/// number.
+/// Shuts the shared words with one of their desks, whatever this and the others are at, and gives all
+/// 453, each at the place of its number: at every moment they are the words of an office.
 pub fn shut<'p>(alloc: Global, fabric: Fabric<'p>, desk: Desk) -> Result<Vec<u64>, ShutFault<'p>>
     requires { IsDeskOf desk fabric }
     ensures { MatchResult result
-        (λ words. IsShut desk words.items)
+        (λ words. IsShut fabric.entry.count desk words.items)
         (λ fault. (fault.fabric ≡ fabric.entry) × (fault.desk ≡ desk)) }
 {
     let Fabric { plan, room } = fabric;

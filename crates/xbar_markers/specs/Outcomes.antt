@@ -8,7 +8,7 @@ use Rattle.xbar_office.specs.declared.reply.Record.{Record}
 use Rattle.xbar_jobs.specs.Office.{ShowsOffice}
 use Rattle.xbar_core.specs.Kinds.{takes}
 use Rattle.xbar_core.specs.declared.kind.Kind.{Kind}
-use Rattle.xbar_fabric.specs.Meetings.{AreWordsAfter, IsFree}
+use Rattle.xbar_fabric.specs.Meetings.{AreWordsAfter, IsUnused}
 use Rattle.xbar_fabric.specs.Views.{own}
 use Rattle.xbar_markers.specs.Calls.{AreServed}
 use Rattle.xbar_markers.specs.Staff.{kinds_of}
@@ -22,7 +22,7 @@ pub record AreTaken (kinds : List Kind) (records : List Record) : Type 0 where
       (λ kind. All (λ r. takes kind r.job ≡ true) (own k records))
 
 -- what came of calls that so many markers did: a legal history of just these calls, the one-marker
--- office after it, and words that show it, with no connector held
+-- office after it, and words that show it, in which each connector's word is 0
 pub record IsOutcome (plan : Tables) (dialling completing : ℕ) (calls : List Call) (o : Outcome)
     : Type 0 where
   pub legal : IsLegal plan o.records.items
@@ -30,5 +30,5 @@ pub record IsOutcome (plan : Tables) (dialling completing : ℕ) (calls : List C
   pub taken : AreTaken (kinds_of dialling completing) o.records.items
   pub office : o.office ≡ record { plan = plan; paths = after plan o.records.items }
   pub words : AreWordsAfter plan o.records.items o.words.items
-  pub free : (conn : Conn) → IsConn conn → IsFree o.words.items conn
+  pub unused : (conn : Conn) → IsConn conn → IsUnused o.words.items conn
   pub shows : ShowsOffice plan o.words.items (after plan o.records.items)

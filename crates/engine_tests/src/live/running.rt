@@ -1,8 +1,7 @@
 //! Live traffic from one device to another.
 
-use crossbar5::{
-    Counted, EngineFault, Sink, Source, Status, Task, answer_task, open_gates, run_live,
-};
+use crossbar5::{Counted, EngineFault, Sink, Source, Status, Task, answer_task};
+use crossbar5_live::{open_gates, run_live};
 use std::alloc::Global;
 use std::sync::Wait;
 use std::thread::Threads;

@@ -1,7 +1,8 @@
 //! Runs between devices that tell their bytes.
 
-use crossbar5::{Counted, Look, Source, Task, answer_live, answer_task, open_gates};
+use crossbar5::{Counted, Look, Source, Task, answer_task};
 use crossbar5_cli::Ended;
+use crossbar5_live::{answer_live, open_gates};
 use std::alloc::Global;
 use std::process::Abort;
 use std::sync::Wait;

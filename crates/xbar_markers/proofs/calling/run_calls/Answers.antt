@@ -28,6 +28,6 @@ returns-clause-outcome g c =
       taken = taken fabric plan kinds befores desks records words laws.contained laws.length c.in_ok-fabric.ensures.desks ran.desks ran.order few closed;
       office = subst (λ (l : List Record). c.in-Ok-audit.office ≡ record { plan = plan; paths = after plan l }) c.as_slice.ensures.value c.in-Ok-audit.ensures.legal.1;
       words = words_after fabric plan kinds befores desks records words laws.contained laws.length c.in_ok-fabric.ensures.desks ran.desks ran.order few closed;
-      free = closed.free;
+      unused = closed.unused;
       shows = shows_after fabric plan kinds befores desks records words laws.contained laws.length c.in_ok-fabric.ensures.desks ran.desks ran.order few closed;
     }

@@ -8,11 +8,9 @@ ghost use Rattle.xbar_markers.specs.Calls.{HasCallNo};
 ghost use Rattle.xbar_markers.specs.Outcomes.{IsOutcome};
 ghost use Rattle.xbar_markers.specs.declared.call.Call.{Call as CallView};
 ghost use Rattle.crossbar5.specs.Faults.{IsStaffCount};
-ghost use Rattle.crossbar5.specs.Live.{IsLiveUnder, IsTextOfCalls, calls_in, calls_of};
+ghost use Rattle.crossbar5_live.specs.Live.{IsLiveUnder, IsTextOfCalls, calls_in, calls_of};
 
-use crate::run::refused;
-use crate::status::Status;
-use crate::written::Written;
+use crossbar5::{Status, Written, refused};
 use std::alloc::{AllocError, Global};
 use std::sync::Wait;
 use std::thread::Threads;

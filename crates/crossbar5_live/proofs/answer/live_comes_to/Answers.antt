@@ -1,6 +1,6 @@
-use Rattle.crossbar5.specs.Live.{IsLiveUnder}
+use Rattle.crossbar5_live.specs.Live.{IsLiveUnder}
 use Rattle.crossbar5.proofs.PlanRefusals.{refused_input}
-use Rattle.crossbar5.proofs.engine.live_comes_to.Goals as goal
+use Rattle.crossbar5_live.proofs.answer.live_comes_to.Goals as goal
 
 pub returns-in-Refused-clause-live : goal.returns-in-Refused-clause-live
 returns-in-Refused-clause-live g c =

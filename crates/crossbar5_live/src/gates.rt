@@ -1,7 +1,7 @@
 ghost use Rattle.std.specs.Prelude.{◌≡◌, ◌+◌, ◌↔◌, Err, IfOk, vec_len};
 ghost use Rattle.crossbar5.specs.Faults.{IsStaffCount};
 
-use crate::engine_fault::EngineFault;
+use crossbar5::EngineFault;
 use std::alloc::Global;
 use xbar_core::MOST_MARKERS;
 use xbar_markers::OpenGate;
