@@ -31,7 +31,7 @@ pub(crate) fn settle<S: Scripts<READINGS, HELD>, const READINGS: usize, const HE
     ensures knows { (setting : S.Setting) (seen : SeenView S.Lock) →
         S.Knows setting program.old.far.job program.new.far.point seen }
 {
-    let start = S::start(&program.far.job);
+    let start = S::start(program.far.job());
     if let Some(made) = program.sure {
         program.far.keep_readings(made);
     }

@@ -49,7 +49,7 @@ fn go_back<S: Scripts<READINGS, HELD>, const READINGS: usize, const HELD: usize>
     ensures walk { CanWalk S.Lock.eq S.reply_of S.effects_of (S.system _setting.now)
         (S.Knows _setting.now) far.new }
 {
-    let start = S::start(&far.job);
+    let start = S::start(far.job());
     far.go_back(readings, locks, start);
 }
 

@@ -1,18 +1,23 @@
 //! Desks that take slots and give them back.
 
-ghost use Rattle.std.specs.Prelude.{◌≡◌, ◌<◌, ◌+◌, IfSome, vec_capacity, vec_len};
+ghost use Rattle.std.specs.Prelude.{◌≡◌, ◌≤◌, ◌<◌, ◌+◌, ◌^◌, ◌%◌, ◌==◌, [], if◌then◌else◌, IfNone, IfSome, Some, length, option_to_list, vec_capacity, vec_len};
 ghost use Rattle.desks.specs.Met.{AreIdle, IsIdleDesk};
+ghost use Rattle.desks.specs.Parts.{Begins};
+ghost use Rattle.desks.specs.Reports.{HasWorked, job_of};
 ghost use Rattle.desks.specs.Views.{IsDeskOf, new_desk};
-ghost use Rattle.slot_desks.specs.Driving.{AreNewDesks};
+ghost use Rattle.slot_desks.specs.Driving.{AreNewDesks, IsAfter, IsLogOf, LogsGiving, LogsOne, records};
+ghost use Rattle.slot_desks.specs.Ended.{GivesOwn};
+ghost use Rattle.slots.specs.Few.{list_of};
+ghost use Rattle.slots.specs.declared.job.Job.TheVariants.{Give, Take, TakeBoth};
 ghost use Rattle.slots.specs.System.{IsJob, slots};
 
 use crate::jobs::SlotJobs;
-use desks::{Desk, Progress, Room, Told};
+use desks::{Desk, Note, Progress, Room, Told, laws};
 use slots::bank::SLOT_COUNT;
 use slots::{Job, Taken, UpToTwo};
 use std::thread;
 
-/// The desks of slots, and what they tell of jobs that have ended.
+/// The desks of slots, and the records that they report of jobs that have ended.
 pub type SlotRoom = Room<SlotJobs>;
 
 pub type SlotDesk = Desk<SlotJobs>;
@@ -22,7 +27,7 @@ pub type SlotTold = Told<Job, Taken>;
 /// How often a desk begins a job anew before it gives up.
 const TRIES: u32 = 100_000_000;
 
-/// A desk at work, and the records of the jobs that it has done.
+/// A desk at work, and the records of the jobs that it has ended.
 #[derive(Drop)]
 pub struct Shift {
     pub desk: SlotDesk,
@@ -34,7 +39,14 @@ pub fn finish(room: &SlotRoom, desk: &mut SlotDesk, most: u32) -> Option<SlotTol
     requires { IsDeskOf desk.old room.now tt }
     ensures desk { IsDeskOf desk.new room.now tt }
     ensures number { desk.new.number ≡ desk.old.number }
+    ensures worked { HasWorked slots desk.old.number desk.old.actor desk.new.actor desk.old.seen
+        desk.new.seen (records (option_to_list result)) }
+    ensures job { job_of slots desk.new.actor ≡ job_of slots desk.old.actor }
+    ensures its_job { IfSome result
+        (λ told. job_of slots desk.old.actor ≡ Some (told.number, told.job)) }
 {
+    laws::desks_report_their_records::<SlotJobs>();
+    laws::reports_are_of_assigned_jobs::<SlotJobs>();
     for _ in 0..most {
         match desk.advance(room, &()) {
             Progress::Idle => return None,
@@ -51,7 +63,14 @@ pub fn persist(room: &SlotRoom, desk: &mut SlotDesk) -> Option<SlotTold>
     requires { IsDeskOf desk.old room.now tt }
     ensures desk { IsDeskOf desk.new room.now tt }
     ensures number { desk.new.number ≡ desk.old.number }
+    ensures worked { HasWorked slots desk.old.number desk.old.actor desk.new.actor desk.old.seen
+        desk.new.seen (records (option_to_list result)) }
+    ensures job { job_of slots desk.new.actor ≡ job_of slots desk.old.actor }
+    ensures its_job { IfSome result
+        (λ told. job_of slots desk.old.actor ≡ Some (told.number, told.job)) }
 {
+    laws::desks_report_their_records::<SlotJobs>();
+    laws::reports_are_of_assigned_jobs::<SlotJobs>();
     // Each desk waits for a while of its own, lest two keep in step.
     let patience = 30 + 7 * (desk.number() % 8);
     for _ in 0..TRIES {
@@ -64,28 +83,76 @@ pub fn persist(room: &SlotRoom, desk: &mut SlotDesk) -> Option<SlotTold>
     None
 }
 
-/// Does one job, and logs its record.
+/// Learns a note and then does a job: its turn comes after all turns that the note has, whichever
+/// thread gave it.
+pub fn do_after(
+    room: &SlotRoom,
+    desk: &mut SlotDesk,
+    note: Note<SlotJobs>,
+    number: u64,
+    job: Job,
+) -> Option<SlotTold>
+    requires desk { IsDeskOf desk.old room.now tt }
+    requires note { note.table ≡ room.now.table }
+    requires job { IsJob job }
+    ensures desk { IsDeskOf desk.new room.now tt }
+    ensures number { desk.new.number ≡ desk.old.number }
+    ensures after { IfSome result (λ told. length desk.new.seen ≤ 2 ^ 64 → IsAfter note.seen told) }
+    ensures behind { IfSome result (λ told.
+        length desk.new.seen ≤ 2 ^ 64 → length note.seen ≤ told.turn) }
+    ensures its_job { IfSome result (λ told. (told.number ≡ number) × (told.job ≡ job)) }
+{
+    laws::desks_report_their_records::<SlotJobs>();
+    laws::reports_are_of_assigned_jobs::<SlotJobs>();
+    laws::jobs_come_after_all_that_was_seen::<SlotJobs>();
+    desk.learn(room, &(), note);
+    if !desk.assign(number, job) {
+        return None;
+    }
+    let told = persist(room, desk);
+    // Called for its clause that what the desk has seen is legal.
+    let _number = desk.number();
+    told
+}
+
+/// Does one job and logs its record. None if there is no room for a record, or the job has not ended.
 fn work(room: &SlotRoom, shift: &mut Shift, number: u64, job: Job) -> Option<UpToTwo<u32>>
     requires desk { IsDeskOf shift.old.desk room.now tt }
     requires job { IsJob job }
+    requires log { IsLogOf shift.old.desk shift.old.log.items }
     ensures desk { IsDeskOf shift.new.desk room.now tt }
     ensures number { shift.new.desk.number ≡ shift.old.desk.number }
+    ensures log { IsLogOf shift.new.desk shift.new.log.items }
+    ensures seen { Begins shift.old.desk.seen shift.new.desk.seen }
+    ensures done { IfSome result (λ taken.
+        LogsOne shift.old.log.items shift.new.log.items job (list_of taken)) }
+    ensures none { IfNone result (shift.new.log.items ≡ shift.old.log.items) }
 {
+    laws::desks_report_their_records::<SlotJobs>();
+    laws::reports_are_of_assigned_jobs::<SlotJobs>();
+    // No job is begun whose record there is no room for.
+    if shift.log.reserve(1).is_err() {
+        return None;
+    }
     if !shift.desk.assign(number, job) {
         return None;
     }
     let told = persist(room, &mut shift.desk)?;
     let taken = told.reply.slots();
-    match shift.log.push(told) {
-        Ok(()) => Some(taken),
-        Err(_) => None,
-    }
+    shift.log.push_reserved(told);
+    Some(taken)
 }
 
 fn give(room: &SlotRoom, shift: &mut Shift, number: u64, slot: u32) -> Option<UpToTwo<u32>>
-    requires { IsDeskOf shift.old.desk room.now tt }
+    requires desk { IsDeskOf shift.old.desk room.now tt }
+    requires log { IsLogOf shift.old.desk shift.old.log.items }
     ensures desk { IsDeskOf shift.new.desk room.now tt }
     ensures number { shift.new.desk.number ≡ shift.old.desk.number }
+    ensures log { IsLogOf shift.new.desk shift.new.log.items }
+    ensures seen { Begins shift.old.desk.seen shift.new.desk.seen }
+    ensures done { IfSome result (λ taken.
+        LogsOne shift.old.log.items shift.new.log.items (Give slot) (list_of taken)) }
+    ensures none { IfNone result (shift.new.log.items ≡ shift.old.log.items) }
 {
     if slot < SLOT_COUNT {
         work(room, shift, number, Job::Give(slot))
@@ -94,16 +161,20 @@ fn give(room: &SlotRoom, shift: &mut Shift, number: u64, slot: u32) -> Option<Up
     }
 }
 
-/// Gives back the slots that a job took.
+/// Gives back the slots that a job took, in their order, up to the first that it cannot.
 fn give_each(
     room: &SlotRoom,
     shift: &mut Shift,
     number: u64,
     taken: UpToTwo<u32>,
 ) -> Option<UpToTwo<u32>>
-    requires { IsDeskOf shift.old.desk room.now tt }
+    requires desk { IsDeskOf shift.old.desk room.now tt }
+    requires log { IsLogOf shift.old.desk shift.old.log.items }
     ensures desk { IsDeskOf shift.new.desk room.now tt }
     ensures number { shift.new.desk.number ≡ shift.old.desk.number }
+    ensures log { IsLogOf shift.new.desk shift.new.log.items }
+    ensures seen { Begins shift.old.desk.seen shift.new.desk.seen }
+    ensures given { LogsGiving shift.old.log.items shift.new.log.items (list_of taken) }
 {
     match taken {
         UpToTwo::Empty => None,
@@ -115,22 +186,45 @@ fn give_each(
     }
 }
 
-/// Takes slots and gives them back, so many times, and then takes a slot that it keeps. A desk that
-/// does not come to an end of a job stays at it.
+/// What a desk takes in a round: by turns one slot, or one of each bank.
+fn job_of_round(round: u64) -> Job
+    ensures { result ≡ (if round % 2 == 0 then Take else TakeBoth) }
+{
+    if round % 2 == 0 {
+        Job::Take
+    } else {
+        Job::TakeBoth
+    }
+}
+
+/// Takes slots and gives them back.
+fn take_and_give_once(room: &SlotRoom, shift: &mut Shift, round: u64)
+    requires desk { IsDeskOf shift.old.desk room.now tt }
+    requires log { IsLogOf shift.old.desk shift.old.log.items }
+    requires own { GivesOwn [] (records shift.old.log.items) }
+    ensures desk { IsDeskOf shift.new.desk room.now tt }
+    ensures number { shift.new.desk.number ≡ shift.old.desk.number }
+    ensures log { IsLogOf shift.new.desk shift.new.log.items }
+    ensures own { GivesOwn [] (records shift.new.log.items) }
+{
+    if let Some(taken) = work(room, shift, round, job_of_round(round)) {
+        give_each(room, shift, round, taken);
+    }
+}
+
+/// Takes slots and gives them back, so many times, and then takes a slot that it keeps. It gives back
+/// only slots that it has taken. A desk that does not come to the end of a job stays at it.
 pub fn take_and_give(room: &SlotRoom, mut shift: Shift, rounds: u64) -> Shift
-    requires { IsDeskOf shift.desk room.now tt }
+    requires desk { IsDeskOf shift.desk room.now tt }
+    requires log { IsLogOf shift.desk shift.log.items }
+    requires own { GivesOwn [] (records shift.log.items) }
     ensures desk { IsDeskOf result.desk room.now tt }
     ensures number { result.desk.number ≡ shift.desk.number }
+    ensures log { IsLogOf result.desk result.log.items }
+    ensures own { GivesOwn [] (records result.log.items) }
 {
     for round in 0..rounds {
-        let job = if round % 2 == 0 {
-            Job::Take
-        } else {
-            Job::TakeBoth
-        };
-        if let Some(taken) = work(room, &mut shift, round, job) {
-            give_each(room, &mut shift, round, taken);
-        }
+        take_and_give_once(room, &mut shift, round);
     }
     work(room, &mut shift, rounds, Job::Take);
     shift

@@ -1,14 +1,19 @@
 //! Desks at work at once.
 
 ghost use Rattle.std.specs.List.{list_all};
-ghost use Rattle.std.specs.Prelude.{◌≡◌, IfOk, IfSome, is_some, map, vec_len};
+ghost use Rattle.std.specs.Prelude.{◌≡◌, ◌<◌, [], IfOk, IfSome, is_some, map, vec_len};
 ghost use Rattle.desks.specs.Met.{AreIdle};
+ghost use Rattle.desks.specs.Reports.{HaveLogs};
 ghost use Rattle.desks.specs.Views.{AreNew, IsDeskOf};
-ghost use Rattle.slot_desks.specs.Driving.{AreAtWork};
+ghost use Rattle.slot_desks.specs.Driving.{AreAtWork, IsLogOf, records};
+ghost use Rattle.slot_desks.specs.Ended.{AllGiveOwn, GivesOwn, HaveEnded};
 ghost use Rattle.slots.specs.System.{slots};
 ghost use Rattle.turns.specs.Runs.{is_free};
 
 use crate::driving::{Shift, SlotDesk, SlotRoom, take_and_give};
+use crate::jobs::SlotJobs;
+use crate::laws::no_slot_is_taken_twice;
+use desks::{Jobs, laws, shut_all_into};
 use std::alloc::{AllocError, Global};
 use std::thread::{Threads, map_vec};
 
@@ -23,15 +28,22 @@ pub fn take_and_give_at_once<R: Threads + Sync>(
     requires { AreNew desks.items room.now }
     ensures desks { IfOk result (λ shifts.
         AreAtWork room.now (map (λ shift. shift.desk) shifts.items)) }
+    ensures logs { IfOk result (λ shifts. HaveLogs slots
+        (map (λ shift. shift.desk) shifts.items) (map (λ shift. records shift.log.items) shifts.items)) }
+    ensures own { IfOk result (λ shifts.
+        AllGiveOwn (map (λ shift. records shift.log.items) shifts.items)) }
     ensures len { IfOk result (λ shifts. vec_len shifts ≡ vec_len desks) }
 {
     let shifts = map_vec(
         rt,
         desks,
         &|desk: SlotDesk| -> Shift
-            requires { IsDeskOf desk room.now tt }
+            requires desk { IsDeskOf desk room.now tt }
+            requires log { IsLogOf desk [] }
             ensures desk { IsDeskOf result.desk room.entry.now tt }
             ensures number { result.desk.number ≡ desk.number }
+            ensures log { IsLogOf result.desk result.log.items }
+            ensures own { GivesOwn [] (records result.log.items) }
         {
             let shift = Shift {
                 desk,
@@ -41,6 +53,31 @@ pub fn take_and_give_at_once<R: Threads + Sync>(
         },
     )?;
     Ok(shifts)
+}
+
+/// Shuts the room with the desks of shifts and gives its words, or None where one is still at a job. No
+/// slot was taken twice unless it was given back in between, and the logs tell of each job.
+pub fn shut_shifts(
+    alloc: Global,
+    room: SlotRoom,
+    shifts: Vec<Shift>,
+) -> Result<Option<Vec<u64>>, AllocError>
+    requires work { AreAtWork room (map (λ shift. shift.desk) shifts.items) }
+    requires logs { HaveLogs slots (map (λ shift. shift.desk) shifts.items)
+        (map (λ shift. records shift.log.items) shifts.items) }
+    requires all { (vec_len shifts ≡ room.count) × (0 < vec_len shifts) }
+    ensures ended { IfOk result (λ ended. IfSome ended (λ words.
+        HaveEnded (map (λ shift. records shift.log.items) shifts.items) words.items)) }
+    ensures some { IfOk result (λ ended. is_some ended
+        ≡ list_all (λ shift. is_free slots shift.desk.actor) shifts.items) }
+{
+    no_slot_is_taken_twice();
+    laws::reports_make_up_the_order::<SlotJobs>();
+    let words = Vec::with_capacity(alloc, SlotJobs::size(&()))?;
+    let Some(desks) = idle_desks(alloc, &room, shifts)? else {
+        return Ok(None);
+    };
+    Ok(Some(shut_all_into(words, room, &(), desks)))
 }
 
 fn desks_of(alloc: Global, shifts: Vec<Shift>) -> Result<Vec<SlotDesk>, AllocError>

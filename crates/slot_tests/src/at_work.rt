@@ -1,9 +1,12 @@
-//! Eight desks on threads, and two in turn; the rule that judges their records is written anew here.
+//! Eight desks on threads, two in turn, a note, and a room shut amid a job. The rule that judges their
+//! records is written anew here.
 
-use desks::{Room, meet, shut_all};
+use desks::{Room, meet, shut, shut_all};
 use slot_desks::SlotJobs;
-use slot_desks::driving::{Shift, SlotDesk, SlotTold, finish, in_turn, last_desk, put_desk};
-use slot_desks::on_threads::{idle_desks, take_and_give_at_once};
+use slot_desks::driving::{
+    Shift, SlotDesk, SlotTold, do_after, finish, in_turn, last_desk, persist, put_desk,
+};
+use slot_desks::on_threads::{shut_shifts, take_and_give_at_once};
 use slots::{Job, UpToTwo};
 use std::alloc::Global;
 use std::test::Fail;
@@ -71,6 +74,25 @@ fn is_log_of(actor: usize, log: &[SlotTold]) -> bool {
     true
 }
 
+/// Whether a desk had each slot that it gave back, and has one slot in the end.
+fn keeps_one_slot(log: &[SlotTold]) -> bool {
+    let mut had = 0;
+    for told in log {
+        match (told.job, told.reply.slots()) {
+            (Job::Give(slot), _) => {
+                if with(had, slot) != had {
+                    return false;
+                }
+                had = without(had, slot);
+            }
+            (_, UpToTwo::Empty) => {}
+            (_, UpToTwo::One(slot)) => had = with(had, slot),
+            (_, UpToTwo::Two(slot, other)) => had = with(with(had, slot), other),
+        }
+    }
+    had.count_ones() == 1
+}
+
 /// The words of a room that was shut count so many turns, show just these slots as busy, and have no
 /// lock.
 fn words_agree(words: &[u64], turns: usize, busy: Option<u64>) -> bool {
@@ -102,13 +124,15 @@ fn eight_desks_take_and_give_slots_on_threads(rt: HostRuntime) -> Result<(), Fai
     let records = records_of(alloc, shifts.as_slice())?;
     let turns = records.len();
     let busy = after_all(records);
-    let Some(desks) = idle_desks(alloc, &room, shifts)? else {
+    for shift in shifts.iter() {
+        assert!(rt; keeps_one_slot(shift.log.as_slice()));
+    }
+    let Some(words) = shut_shifts(alloc, room, shifts)? else {
         return Err("each job has ended".into());
     };
-    let Ok(words) = shut_all::<SlotJobs>(alloc, room, &(), desks) else {
-        return Err("there is memory for five words".into());
-    };
-    assert!(rt; turns > 8_000);
+    // A round of each desk takes once and gives back once, or takes two slots and gives back each.
+    assert!(rt; turns >= 16_000);
+    assert!(rt; busy.is_some_and(|slots| slots.count_ones() == 8));
     assert!(rt; words_agree(words.as_slice(), turns, busy));
     Ok(())
 }
@@ -146,5 +170,56 @@ fn two_desks_take_and_give_slots_in_turn(rt: HostRuntime) -> Result<(), Fail> {
     assert!(rt; log.len() > 100);
     let busy = after_all(log.iter().collect(alloc)?);
     assert!(rt; words_agree(words.as_slice(), log.len(), busy));
+    Ok(())
+}
+
+#[test]
+fn a_job_comes_after_those_of_a_note(rt: HostRuntime) -> Result<(), Fail> {
+    let (room, mut desks) = Room::<SlotJobs>::open(rt.alloc(), &(), 2)?;
+    let Some(mut one) = last_desk(&room, &mut desks) else {
+        return Err("there is a desk 1".into());
+    };
+    let Some(mut zero) = last_desk(&room, &mut desks) else {
+        return Err("there is a desk 0".into());
+    };
+    if !one.assign(5, Job::Take) {
+        return Err("a new desk is idle".into());
+    }
+    let Some(first) = persist(&room, &mut one) else {
+        return Err("the first job ends".into());
+    };
+    let mut note = one.note(&room);
+    let copy = note.copy(&room);
+    drop(note);
+    let Some(then) = do_after(&room, &mut zero, copy, 6, Job::Take) else {
+        return Err("the second job ends".into());
+    };
+    assert!(rt; first.turn == 0 && first.actor == 1 && first.number == 5);
+    assert!(rt; first.reply.slots() == UpToTwo::One(0));
+    assert!(rt; then.turn == 1 && then.actor == 0 && then.number == 6);
+    assert!(rt; then.reply.slots() == UpToTwo::One(1));
+    Ok(())
+}
+
+#[test]
+fn a_room_is_shut_amid_a_job(rt: HostRuntime) -> Result<(), Fail> {
+    let (room, mut desks) = Room::<SlotJobs>::open(rt.alloc(), &(), 2)?;
+    let Some(mut one) = last_desk(&room, &mut desks) else {
+        return Err("there is a desk 1".into());
+    };
+    let Some(zero) = last_desk(&room, &mut desks) else {
+        return Err("there is a desk 0".into());
+    };
+    if !one.assign(0, Job::Take) {
+        return Err("a new desk is idle".into());
+    }
+    // Request and seize the bank's lock, test its word, turn, mark a slot; the lock is still held.
+    if finish(&room, &mut one, 5).is_some() {
+        return Err("the job has six steps".into());
+    }
+    let Ok(words) = shut::<SlotJobs>(rt.alloc(), room, &(), zero) else {
+        return Err("there is memory for five words".into());
+    };
+    assert!(rt; words.as_slice() == [1, 0, 2, 0, 1].as_slice());
     Ok(())
 }
