@@ -2,20 +2,21 @@
 # Refuses the built program memory, and lets its reads and writes fail, one call after another:
 # refused_memory.sh [PROGRAM]
 #
-# Each allocation is refused alone, and with all that follow; each read and each write fails so too. Then reads
-# and writes move one byte, or are interrupted. Prints for each case how many calls were refused, and ends with
-# status 1 at a wrong run, which it names. A run is right if it ends so:
+# Each allocation is refused alone, and with all that follow; each read and each write fails so too, is interrupted,
+# or moves one byte. Prints for each case how many calls it makes and how many runs that took, and ends with status 1
+# at a wrong run, which it names. A run is right if it ends so:
 #
-#   memory refused    with its answer; or with status 5, FAULT,MEMORY and nothing on standard output
-#   a read fails      with status 6, FAULT,DEVICE and nothing on standard output
-#   a write fails     with status 6, FAULT,DEVICE and a beginning of the answer; with its answer, if standard
-#                     error was written to
-#   short reads and writes, interrupted ones    with its answer
+#   memory refused             with its answer; or with status 5, FAULT,MEMORY and nothing on standard output
+#   a read fails               with status 6, FAULT,DEVICE and nothing on standard output
+#   a write fails              with status 6, FAULT,DEVICE and a beginning of the answer
+#   standard error fails       with its answer
+#   one byte is moved          with its answer
 #
-# The answer is what standard output and the status are when nothing is refused. The sentence on standard error
-# may be missing. Records of live calls may differ from run to run: an audit has to find them legal.
+# An interrupted call is one that fails. A flush makes no call, so none can fail. The answer is what standard output
+# and the status are when nothing is refused; the sentence on standard error may be missing. Records of live calls may
+# differ from run to run: an audit has to find them legal, with each call dialled once.
 #
-# Needs cc, which makes a library of refuse.c, and bash, xargs and timeout. Takes a few minutes on four processors.
+# Needs cc, which makes a library of refuse.c, and bash, awk, xargs and timeout. Takes two minutes on four processors.
 set -euo pipefail
 
 here=$(cd "$(dirname "$(readlink -f "${BASH_SOURCE[0]}")")" && pwd)
