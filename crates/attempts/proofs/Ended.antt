@@ -4,7 +4,7 @@ use Rattle.std.specs.Prelude.{Option, Some, None, option_map}
 use Rattle.turns.specs.Attempt.{turn_in}
 use Rattle.turns.specs.declared.phase.Phase.{Phase}
 use Rattle.turns.specs.declared.phase.Phase.TheVariants.{Requests, Seizes, Tests, Turns, Withdraws, GivesBack, Operates}
-use Rattle.desks.specs.Outcomes.{outcome_in}
+use Rattle.turns.specs.Outcomes.{outcome_in}
 use Rattle.attempts.specs.Standing.{Program}
 
 turned : {Lock Job Reply : Type 0} (phase : Phase Lock ℕ) (turn : ℕ) (job : Job) (reply : Reply) → Some turn ≡ turn_in phase → ◌≡◌ {A = Option (ℕ × Job × Reply)} (Some (turn, job, reply)) (outcome_in phase job (Some reply))

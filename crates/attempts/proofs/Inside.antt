@@ -5,7 +5,7 @@ use Rattle.turns.specs.Attempt.{Act, Attempt, Free, Rest, act_in, answer_to, ask
 use Rattle.turns.specs.Runs.{is_rest}
 use Rattle.turns.specs.declared.answer.Answer.{Answer}
 use Rattle.turns.specs.declared.answer.Answer.TheVariants.{Done}
-use Rattle.desks.specs.Outcomes.{is_given_up}
+use Rattle.turns.specs.Outcomes.{is_given_up}
 use Rattle.turns.specs.declared.phase.Phase.{Phase}
 use Rattle.turns.specs.declared.phase.Phase.TheVariants.{Requests, Seizes, Tests, Turns, Withdraws, GivesBack, Operates}
 use Rattle.attempts.specs.Counting.{has_made_none}

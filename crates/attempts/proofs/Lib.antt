@@ -13,11 +13,6 @@ pub mod Taken
 pub mod Counts
 pub mod SeenSteps
 pub mod LiveWalks
-pub mod LookingAhead
-pub mod AheadNow
-pub mod Confirmed
-mod Confirming
-pub mod Seeing
 pub mod TakenBack
 pub mod LiveSteps
 pub mod LiveStands

@@ -13,11 +13,6 @@ use Rattle.turns.specs.declared.reading.Reading.{Reading}
 use Rattle.turns.specs.declared.wanted.Wanted.TheVariants.{Test}
 use Rattle.turns.proofs.Room.{held_before, read_before}
 use Rattle.turns.proofs.Words.{read_more}
-use Rattle.desks.specs.declared.jobs.WordStep.{WordStep}
-use Rattle.desks.specs.WordSteps.{Makes}
-use Rattle.attempts.specs.declared.step.Step.{Step}
-use Rattle.attempts.specs.declared.step.Step.TheVariants as steps
-use Rattle.attempts.specs.Steps.{act_of}
 use Rattle.attempts.specs.Points.{Extends}
 use Rattle.attempts.specs.Standing.{AreScripts, Program, CanWalk, HasPlace, KnowsIn, Stands, attempt_of, begun_at}
 use Rattle.attempts.specs.SystemWith.{SystemWith, system_with}
@@ -102,22 +97,3 @@ module _ {Lock Job Reply Effect Decision Point : Type 0} (same : Lock → Lock �
   -- whatever its count
   pub stands_counted : (p new : Doing) (count : ℕ) → StandsHere p → new ≡ record p { count = count } → StandsHere new
   stands_counted p new count stands made = subst StandsHere (sym made) (record { place = stands.place; point = stands.point })
-
-  not_rest : (step : Step Lock Effect) → (step ≡ steps.Rest → ⊥) → act_of step ≢ Rest
-  not_rest steps.Rest not e = not refl
-  not_rest (steps.Ask lock) not e = absurd cc
-  not_rest (steps.Take lock expected) not e = absurd cc
-  not_rest (steps.Leave lock) not e = absurd cc
-  not_rest (steps.Free lock) not e = absurd cc
-  not_rest (steps.Look word) not e = absurd cc
-  not_rest steps.Turn not e = absurd cc
-  not_rest (steps.Make effect) not e = absurd cc
-
-  -- with its operation there a step is made, which is the next one
-  pub step_made : (a : AttemptOf O) (k : ℕ) (step : Step Lock Effect) (made : WordStep) → HasPlace O R H a → act_of step ≡ act a → (step ≡ steps.Rest → ⊥) → made.place ≡ place O (act_of step) → made.operation ≡ operation O k (act_of step) → Makes O k a made
-  step_made a k step made has_place next not at does = record {
-    goes_on = λ rests. not_rest step not (next ∙ rests);
-    place = at ∙ ap (place O) next;
-    there = subst (λ (n : ℕ). n < S.size) (sym (at ∙ ap (place O) next)) (place_there O are.is_system R H are.asks a has_place);
-    operation = does ∙ ap (operation O k) next;
-  }

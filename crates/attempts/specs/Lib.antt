@@ -4,7 +4,6 @@ pub mod Standing
 pub mod Taken
 pub mod Steps
 pub mod Counting
-pub mod Ahead
 pub mod Live
 pub mod Marks
 pub mod Running

@@ -1,7 +1,8 @@
-ghost use Rattle.std.specs.Prelude.{◌≡◌, ◌<◌, ◌^◌, ◌++◌, ◌∷◌, [], ℕ, Err, IfNone, IfSome, List, None, Ok, Some, is_some, length, option_copied, take};
+ghost use Rattle.std.specs.Prelude.{◌≡◌, ◌<◌, ◌^◌, ◌++◌, ◌∷◌, [], ℕ, Err, IfNone, IfSome, List, None, Ok, Some, drop, is_some, length, option_copied, slice_get, take};
 ghost use Rattle.turns.specs.Attempt.{asked_in, rest_of, turn_in};
 ghost use Rattle.turns.specs.Script.{value_read};
-ghost use Rattle.desks.specs.Outcomes.{is_given_up as is_given_up_in};
+ghost use Rattle.turns.specs.Seen.{AreReadWords};
+ghost use Rattle.turns.specs.Outcomes.{is_given_up as is_given_up_in};
 ghost use Rattle.attempts.specs.Counting.{count_in, counted, counted_by, has_made_none};
 ghost use Rattle.attempts.specs.Live.{WantsNext};
 ghost use Rattle.attempts.specs.Running.{GoesFarEnough};
@@ -154,7 +155,7 @@ impl<
     }
 
     /// Goes on with what its walk came to.
-    pub(crate) fn go_on(&mut self, found: Result<D, Wanted<L, usize>>)
+    pub fn go_on(&mut self, found: Result<D, Wanted<L, usize>>)
         ensures { self.new ≡ gone_on self.old found }
     {
         match found {
@@ -197,7 +198,7 @@ impl<
         }
     }
 
-    pub(crate) fn hold(&mut self, lock: L)
+    pub fn hold(&mut self, lock: L)
         requires { length self.old.held < HELD }
         ensures { self.new ≡ record self.old { held = self.old.held ++ lock ∷ [] } }
     {
@@ -213,7 +214,7 @@ impl<
     }
 
     /// How many words were read, and how many locks are held.
-    pub(crate) fn counts(&self) -> (usize, usize)
+    pub fn counts(&self) -> (usize, usize)
         ensures readings { result.0 ≡ length self.now.readings }
         ensures locks { result.1 ≡ length self.now.held }
     {
@@ -221,21 +222,21 @@ impl<
     }
 
     /// Whether it has decided.
-    pub(crate) fn has_decided(&self) -> bool
+    pub fn has_decided(&self) -> bool
         ensures { result ≡ is_some self.now.decision }
     {
         self.decision.is_some()
     }
 
     /// Takes back all but the first so many readings.
-    pub(crate) fn keep_readings(&mut self, kept: usize)
+    pub fn keep_readings(&mut self, kept: usize)
         ensures { self.new ≡ record self.old { readings = take kept self.old.readings } }
     {
         self.seen.keep_readings(kept);
     }
 
     /// Has come by so many readings and locks alone, and goes on from this point.
-    pub(crate) fn go_back(&mut self, readings: usize, locks: usize, start: P)
+    pub fn go_back(&mut self, readings: usize, locks: usize, start: P)
         ensures { self.new
             ≡ record self.old {
               readings = take readings self.old.readings;
@@ -249,19 +250,19 @@ impl<
     }
 
     /// It has decided nothing, and tests this word next; it goes on from this point.
-    pub(crate) fn wait_for(&mut self, word: usize, start: P)
+    pub fn wait_for(&mut self, word: usize, beginning: P)
         ensures { self.new
             ≡ record self.old {
               phase = Phase.Tests word;
               decision = None;
               made = 0;
-              point = start;
+              point = beginning;
             } }
     {
         self.phase = Phase::Tests(word);
         self.decision = None;
         self.made = 0;
-        self.point = start;
+        self.point = beginning;
     }
 
     /// Whether it has made no step yet.
@@ -291,7 +292,7 @@ impl<
     }
 
     /// So many steps more are counted.
-    pub(crate) fn count_steps(&mut self, made: u32)
+    pub fn count_steps(&mut self, made: u32)
         ensures { self.new ≡ record self.old { count = counted_by made self.old.count } }
     {
         self.count = self.count.saturating_add(made);
@@ -359,6 +360,30 @@ impl<
             | Phase::Turns
             | Phase::Operates(_) => false,
         }
+    }
+
+    /// Its phase: what its next step is for.
+    pub fn phase(&self) -> Phase<L, usize>
+        ensures { result ≡ self.now.phase }
+    {
+        self.phase
+    }
+
+    /// The reading at a place among those that it has made, from 0 on.
+    pub fn reading(&self, place: usize) -> Option<Reading<usize>>
+        ensures { result ≡ slice_get self.now.readings place }
+    {
+        self.seen.reading(place)
+    }
+
+    /// The readings from this place on.
+    pub fn readings_from(&self, place: usize) -> &[Reading<usize>]
+        ensures readings { result.now ≡ drop place self.now.readings }
+        ensures words { AreReadWords self.now.readings }
+    {
+        // Called for its clause alone.
+        self.seen.fits_words();
+        self.seen.readings_from(place)
     }
 
     /// The steps of this attempt so far. It stays at `u32::MAX` once there.

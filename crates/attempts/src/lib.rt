@@ -1,27 +1,19 @@
 //! An actor's attempt at a job, at run time, for any jobs of `turns` that are given by a walk.
 #![tactic(auto)]
 
-pub use ahead::{Ahead, AheadOf};
 pub use attempt::{Attempt, AttemptOf};
 pub use closing::take_close;
-pub use jobs::Attempts;
-pub use now::{asked, turn};
 pub use running::run;
-pub use scripts::{OnWords, Scripts};
+pub use scripts::Scripts;
 pub use seen::Seen;
-pub use showing::{is_done, next, next_effect, outcome};
-pub use starting::{begin, restart};
+pub use showing::{is_done, next, next_effect, next_past_turn, next_sure, outcome};
+pub use starting::{begin, begin_next, restart};
 pub use step::Step;
-pub use taking::take;
+pub use taking::{take, to_seize, walk_by_steps, walk_on};
 
-mod ahead;
 mod attempt;
 mod closing;
-mod guessing;
-mod jobs;
 pub mod laws;
-mod looking_ahead;
-mod now;
 mod readings;
 mod running;
 mod scripts;

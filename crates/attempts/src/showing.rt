@@ -3,7 +3,7 @@
 ghost use Rattle.std.specs.Prelude.{◌≡◌, ◌<◌, ◌+◌, ◌∷◌, ◌^◌, [], IfNone, IfSome, None};
 ghost use Rattle.turns.specs.Attempt.{act, asked_in, closing_act, free_act};
 ghost use Rattle.turns.specs.Runs.{is_rest};
-ghost use Rattle.desks.specs.Outcomes.{IsPastTurn, outcome_of};
+ghost use Rattle.turns.specs.Outcomes.{IsPastTurn, outcome_of};
 ghost use Rattle.attempts.specs.Standing.{attempt_of, effects_left};
 ghost use Rattle.attempts.specs.Steps.{act_of};
 
@@ -72,7 +72,7 @@ pub fn next<S: Scripts<READINGS, HELD>, const READINGS: usize, const HELD: usize
 
 /// The same, where its phase tells that this is a reading or its turn.
 #[inline(always)]
-pub(crate) fn next_sure<S: Scripts<READINGS, HELD>, const READINGS: usize, const HELD: usize>(
+pub fn next_sure<S: Scripts<READINGS, HELD>, const READINGS: usize, const HELD: usize>(
     program: &AttemptOf<S, READINGS, HELD>,
 ) -> Option<Step<S::Lock, S::Effect>>
     ensures next { IfSome result (λ step.
@@ -93,7 +93,7 @@ pub(crate) fn next_sure<S: Scripts<READINGS, HELD>, const READINGS: usize, const
 
 /// The same, past its turn.
 #[inline(always)]
-pub(crate) fn next_past_turn<S: Scripts<READINGS, HELD>, const READINGS: usize, const HELD: usize>(
+pub fn next_past_turn<S: Scripts<READINGS, HELD>, const READINGS: usize, const HELD: usize>(
     program: &AttemptOf<S, READINGS, HELD>,
 ) -> Option<Step<S::Lock, S::Effect>>
     ensures next { IfSome result (λ step.

@@ -33,7 +33,7 @@ pub fn begin<S: Scripts<READINGS, HELD>, const READINGS: usize, const HELD: usiz
 }
 
 /// The same, in the place of an attempt at another job.
-pub(crate) fn begin_next<S: Scripts<READINGS, HELD>, const READINGS: usize, const HELD: usize>(
+pub fn begin_next<S: Scripts<READINGS, HELD>, const READINGS: usize, const HELD: usize>(
     program: &mut AttemptOf<S, READINGS, HELD>,
     job: S::Job,
 )

@@ -39,7 +39,7 @@ fn walk_by<S: Scripts<READINGS, HELD>, const READINGS: usize, const HELD: usize>
 /// many steps as are left at most: fewer are left then. This is put into the word of a lock that it
 /// seizes.
 #[inline(always)]
-pub(crate) fn walk_by_steps<S: Scripts<READINGS, HELD>, const READINGS: usize, const HELD: usize>(
+pub fn walk_by_steps<S: Scripts<READINGS, HELD>, const READINGS: usize, const HELD: usize>(
     program: &mut AttemptOf<S, READINGS, HELD>,
     setting: &S::Setting,
     words: &mut [u64],
@@ -67,7 +67,7 @@ pub(crate) fn walk_by_steps<S: Scripts<READINGS, HELD>, const READINGS: usize, c
 /// Goes on through the job from where it stands, as far as it goes. Not inlined, so that a step that
 /// needs no walk pays for no walk's locals.
 #[inline(never)]
-pub(crate) fn walk_on<S: Scripts<READINGS, HELD>, const READINGS: usize, const HELD: usize>(
+pub fn walk_on<S: Scripts<READINGS, HELD>, const READINGS: usize, const HELD: usize>(
     program: &mut AttemptOf<S, READINGS, HELD>,
     setting: &S::Setting,
 )
@@ -178,7 +178,7 @@ fn take_refusal<S: Scripts<READINGS, HELD>, const READINGS: usize, const HELD: u
 }
 
 /// The lock that it seizes.
-pub(crate) fn to_seize<S: Scripts<READINGS, HELD>, const READINGS: usize, const HELD: usize>(
+pub fn to_seize<S: Scripts<READINGS, HELD>, const READINGS: usize, const HELD: usize>(
     program: &AttemptOf<S, READINGS, HELD>,
     setting: &S::Setting,
 ) -> Option<S::Lock>

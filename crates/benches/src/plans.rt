@@ -9,6 +9,7 @@ use std::io;
 use std::rt::Clock;
 use std::time::Instant;
 use xbar_plan::Plan;
+use xbar_plan_text::PlanText;
 
 pub const READINGS: u32 = 200;
 

@@ -2,7 +2,7 @@
 use Rattle.std.proofs.Common.{◌≡◌, [], refl, sym, subst}
 use Rattle.std.specs.Prelude.{List, Option, Some, None, Result, Err, IfSome, ℕ}
 use Rattle.xbar_plan.specs.Tables.{Tables}
-use Rattle.xbar_plan.specs.Document.{plan_of}
+use Rattle.xbar_plan_text.specs.Document.{plan_of}
 use Rattle.xbar_plan.specs.declared.fault.PlanFault.{PlanFault}
 use Rattle.crossbar5.specs.PlanRefusal.{Answer, IsAnswerOf, IsPlanRefusal}
 use Rattle.crossbar5.specs.Input.{IsInputOf}

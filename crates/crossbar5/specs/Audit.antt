@@ -1,5 +1,5 @@
 use Rattle.std.specs.Prelude.{◌≡◌, ℕ, ◌*◌, Option, Some, None, List, [], ◌∷◌, ◌++◌, codes, decimal, length, take, slice_get, ⊤}
-use Rattle.xbar_plan.specs.Document.{plan_of}
+use Rattle.xbar_plan_text.specs.Document.{plan_of}
 use Rattle.xbar_plan.specs.Tables.{Tables}
 use Rattle.xbar_office.specs.Audit.{IsFirstWrongReply}
 use Rattle.xbar_office.specs.Legal.{IsLegal, after}

@@ -1,6 +1,6 @@
 -- What a run is given.
 use Rattle.std.specs.Prelude.{◌≡◌, ℕ, List, Option, Ok, Err, IfSome}
-use Rattle.xbar_plan.specs.Document.{plan_of}
+use Rattle.xbar_plan_text.specs.Document.{plan_of}
 use Rattle.xbar_plan.specs.declared.fault.PlanFault.{PlanFault}
 use Rattle.crossbar5.specs.PlanRefusal.{IsPlanRefusal}
 use Rattle.crossbar5.specs.declared.input.Input.{Input}

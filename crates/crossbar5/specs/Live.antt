@@ -1,7 +1,7 @@
 -- What live traffic comes to.
 use Rattle.std.specs.Prelude.{◌≡◌, ◌⊎◌, ℕ, ◌+◌, ◌*◌, List, [], ◌∷◌, Option, Some, None, flat_map, length, ⊤}
 use Rattle.csv.specs.Reading.{default_config, records as csv_records, strip_bom}
-use Rattle.xbar_plan.specs.Document.{plan_of}
+use Rattle.xbar_plan_text.specs.Document.{plan_of}
 use Rattle.xbar_plan.specs.Tables.{Tables}
 use Rattle.xbar_office.specs.Legal.{IsLegal, after}
 use Rattle.xbar_office.specs.declared.reply.Record.{Record}

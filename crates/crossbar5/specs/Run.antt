@@ -1,7 +1,7 @@
 use Rattle.std.specs.Prelude.{◌≡◌, ◌⊎◌, ℕ, ◌+◌, ◌*◌, true, length, Option, Some, None, List, [], ◌∷◌, slice_get, ⊤}
 use Rattle.csv.specs.Reading.{default_config, records as csv_records, strip_bom}
 use Rattle.xbar_equip.specs.Word.{TurnWord}
-use Rattle.xbar_plan.specs.Document.{plan_of}
+use Rattle.xbar_plan_text.specs.Document.{plan_of}
 use Rattle.xbar_plan.specs.Tables.{Tables}
 use Rattle.xbar_match.specs.Switches.{word_of}
 use Rattle.xbar_match.specs.Counts.{closed_line_fields, closed_switch_fields}

@@ -1,5 +1,5 @@
 use Rattle.std.specs.Prelude.{◌⊎◌, [], ℕ, Bool, List, false, if◌then◌else◌, length, true}
-use Rattle.xbar_plan.specs.Document.{plan_of}
+use Rattle.xbar_plan_text.specs.Document.{plan_of}
 use Rattle.xbar_plan.specs.Tables.{Tables}
 use Rattle.crossbar5.specs.Audit.{IsAuditUnder}
 use Rattle.crossbar5.specs.Draw.{IsDrawUnder}

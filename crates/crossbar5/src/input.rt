@@ -14,6 +14,7 @@ use crate::written::Written;
 use counted_io::{Source, read_all};
 use std::alloc::Global;
 use xbar_plan::{Plan, PlanFault};
+use xbar_plan_text::PlanText;
 use xbar_slips::plan_slip;
 
 /// A plan with the input, or what is written for a plan that is refused.

@@ -1,6 +1,6 @@
 ghost use Rattle.std.specs.Prelude.{◌≡◌, ◌≢◌, Err, IfErr, IfOk, IfSome, MatchResult, None, Ok};
 ghost use Rattle.std.specs.IoError.{error_kind};
-ghost use Rattle.xbar_plan.specs.Document.{plan_of};
+ghost use Rattle.xbar_plan_text.specs.Document.{plan_of};
 ghost use Rattle.xbar_plan.specs.Example.{example};
 ghost use Rattle.crossbar5_cli.specs.Causes.{opening_fault};
 
@@ -11,6 +11,7 @@ use std::alloc::{AllocError, Global};
 use std::io;
 use std::io::Read;
 use xbar_plan::Plan;
+use xbar_plan_text::PlanText;
 
 /// The text of the plan: all that the file has that was asked for, or the example plan where none was.
 /// A file that can't be opened is a fault, and never the example plan.

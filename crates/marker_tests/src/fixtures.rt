@@ -7,6 +7,7 @@ use xbar_equip::{Dialled, Len};
 use xbar_match::{count_closed, count_paths};
 use xbar_office::{Job, Record, audit};
 use xbar_plan::Plan;
+use xbar_plan_text::PlanText;
 
 /// The example plan as a text.
 pub const EXAMPLE: &str = "version = 1
@@ -152,9 +153,9 @@ pub fn count_left(rt: &impl Abort, alloc: Global, plan: &Plan, log: &[Record]) -
 }
 
 /// The word of the first connector; the others follow, up to the word that counts turns.
-const CONNECTORS: usize = 416;
+pub const CONNECTORS: usize = 416;
 
-const TURNS: usize = 452;
+pub const TURNS: usize = 452;
 
 const ALL_FREE: &[u64] = &[0; 36];
 

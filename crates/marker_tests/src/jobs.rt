@@ -5,8 +5,8 @@ ghost use Rattle.xbar_equip.specs.Word.{word_count};
 ghost use Rattle.xbar_jobs.specs.Standing.{Stands};
 
 use crate::fixtures::{
-    EXAMPLE, MANY_REGISTERS, WITH_REGISTER, WITH_TRUNK, Words, check_words, example, job,
-    read_plan, some_job,
+    CONNECTORS, EXAMPLE, MANY_REGISTERS, TURNS, WITH_REGISTER, WITH_TRUNK, Words, check_words,
+    example, job, read_plan, some_job,
 };
 use std::alloc::Global;
 use std::process::Abort;

@@ -7,6 +7,7 @@ use test_checks::{check, check_eq};
 use xbar_equip::{Channel, DirNo, EquipFault, Len, Link, Path, Ten};
 use xbar_office::{End, Job, Record, Reply};
 use xbar_plan::Plan;
+use xbar_plan_text::PlanText;
 
 /// The path 3041-0-417: dial tone for line 3041 in the example office.
 pub fn near_path() -> Path {

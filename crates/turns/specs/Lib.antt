@@ -12,3 +12,4 @@ pub mod Sharings
 pub mod Bounds
 pub mod Ending
 pub mod PutOff
+pub mod Outcomes

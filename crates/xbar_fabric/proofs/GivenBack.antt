@@ -7,7 +7,7 @@ use Rattle.turns.specs.Runs.{is_rest}
 use Rattle.turns.specs.World.{Idle, Does}
 use Rattle.turns.specs.declared.phase.Phase.TheVariants.{Requests, Seizes, Tests, Turns, Withdraws, GivesBack, Operates}
 use Rattle.desks.specs.Desks as desks
-use Rattle.desks.specs.Outcomes.{begun_anew}
+use Rattle.turns.specs.Outcomes.{begun_anew}
 use Rattle.xbar_plan.specs.Tables.{Tables}
 use Rattle.xbar_jobs.specs.Attempt.{Attempt, Phase}
 use Rattle.xbar_jobs.specs.Jobs.{first_conn}

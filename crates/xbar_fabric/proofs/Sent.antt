@@ -3,10 +3,10 @@ use denote.Param as param
 use denote.Param.Send as send
 use denote.RattleType.{RattleType}
 use denote.Struct.Declared as declared
-use Rattle.attempts.proofs.ahead.Ahead.TheSendSync as attempt_sent
-use Rattle.attempts.specs.contracts.ahead.Ahead as attempt
-use Rattle.attempts.specs.contracts.jobs.Attempts as attempts
-use Rattle.attempts.specs.contracts.jobs.AttemptsJobs.TheImpl as jobs
+use Rattle.desk_attempts.proofs.ahead.Ahead.TheSendSync as attempt_sent
+use Rattle.desk_attempts.specs.contracts.ahead.Ahead as attempt
+use Rattle.desk_attempts.specs.contracts.jobs.Attempts as attempts
+use Rattle.desk_attempts.specs.contracts.jobs.AttemptsJobs.TheImpl as jobs
 use Rattle.atomic_table.below.core.specs.contracts.clone.Clone+copy.TheImpl as copies
 use Rattle.desks.proofs.desk.Desk.TheSendSync as below
 use Rattle.std.specs.contracts.snapshot.Snapshot as snapshot

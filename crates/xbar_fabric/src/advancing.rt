@@ -16,7 +16,7 @@ ghost use Rattle.xbar_fabric.specs.Views.{IsDeskOf, entered};
 use crate::desk::Desk;
 use crate::fabric::Fabric;
 use crate::office::SharedOffices;
-use attempts::asked;
+use desk_attempts::asked;
 use desks::{Told, Watch};
 use xbar_core::{Event, Given};
 use xbar_equip::Conn;

@@ -9,7 +9,7 @@ ghost use Rattle.xbar_fabric.specs.Histories.{IsHistory};
 ghost use Rattle.xbar_fabric.specs.Views.{marker_of};
 
 use crate::office::{Office, SharedOffices};
-use attempts::turn;
+use desk_attempts::turn;
 use std::marker::Model;
 use xbar_core::{AssignFault, Given, Kind};
 use xbar_office::Job;

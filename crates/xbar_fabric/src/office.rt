@@ -1,4 +1,5 @@
-use attempts::{Attempts, OnWords, Scripts, Seen};
+use attempts::{Scripts, Seen};
+use desk_attempts::{Attempts, OnWords};
 use std::alloc::{AllocError, Global};
 use std::ops::Range;
 use std::snapshot::Snapshot;

@@ -5,7 +5,7 @@ use Rattle.std.proofs.lemmas.List.{length-map, take_at}
 use Rattle.xbar_equip.specs.declared.path.Path.{Path}
 use Rattle.xbar_office.specs.Standing.{ends_at_register}
 use Rattle.xbar_office.specs.declared.reply.Record.{Record}
-use Rattle.xbar_picture.specs.Lines.{path_lines}
+use Rattle.xbar_office_text.specs.PathLines.{path_lines}
 use Rattle.xbar_plan.specs.Lawful.{IsLawful}
 use Rattle.xbar_plan.specs.Tables.{Tables}
 use Rattle.xbar_office_text.specs.Cards.{cards_of, title_row}

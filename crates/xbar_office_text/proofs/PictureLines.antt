@@ -6,7 +6,7 @@ use borrow.Author.Tests.{ne_eqb}
 use Rattle.xbar_equip.specs.Digits.{digit}
 use Rattle.xbar_equip.specs.Path.{path_text, line_link, junctor, trunk_link}
 use Rattle.xbar_equip.specs.declared.path.Path.{Path}
-use Rattle.xbar_picture.specs.Lines.{title_line, frames_line, links_line, edges_line, switch_text, switches_line, in_three, numbers_line, words_line, fields_line, values_line, path_lines}
+use Rattle.xbar_office_text.specs.PathLines.{title_line, frames_line, links_line, edges_line, switch_text, switches_line, in_three, numbers_line, words_line, fields_line, values_line, path_lines}
 use Rattle.xbar_office_text.specs.Titles.{is_title}
 use Rattle.xbar_office_text.proofs.OtherLines.{IsOther, HasNoTitle, none_append, none_line, none_nothing}
 use Rattle.xbar_office_text.proofs.PlainTexts.{plain_channel, plain_choice, plain_decimal, plain_line, plain_link, plain_place}

@@ -1,3 +1,4 @@
+pub mod PathLines
 pub mod Ends
 pub mod Glance
 pub mod Picture

@@ -1,7 +1,7 @@
 use Rattle.std.specs.Prelude.{ℕ, List, ◌++◌, codes, if◌then◌else◌}
 use Rattle.xbar_equip.specs.declared.path.Path.{Path}
 use Rattle.xbar_office.specs.Standing.{ends_at_register}
-use Rattle.xbar_picture.specs.Lines.{path_lines}
+use Rattle.xbar_office_text.specs.PathLines.{path_lines}
 use Rattle.xbar_plan.specs.Tables.{Tables}
 use Rattle.xbar_office_text.specs.Ends.{end_text}
 

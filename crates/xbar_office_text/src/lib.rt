@@ -3,6 +3,7 @@
 #![tactic(auto)]
 
 pub use ends::{ends_at_register, path_end};
+pub use path::add_path_lines;
 pub use text::office_text;
 
 mod card_rows;
@@ -11,5 +12,6 @@ mod ends;
 mod faults;
 mod glance;
 pub mod laws;
+mod path;
 mod picture;
 mod text;

@@ -2,9 +2,9 @@ ghost use Rattle.std.specs.Prelude.{◌≡◌, ◌++◌, OnOk, flat_map, string_
 ghost use Rattle.xbar_office_text.specs.Picture.{heading as heading_of, picture};
 
 use crate::ends::{ends_at_register, path_end};
+use crate::path::add_path_lines;
 use std::alloc::{AllocError, Global};
 use xbar_equip::Path;
-use xbar_picture::add_path_lines;
 use xbar_plan::Plan;
 
 /// Adds each path in its eight lines.

@@ -8,7 +8,4 @@ pub mod Lawful
 pub mod Numbered
 pub mod Directory
 pub mod TableSlices
-pub mod Texts
-pub mod Document
-pub mod Written
 pub mod Example

@@ -1,16 +1,13 @@
 //! What holds of every lawful plan, for the crates above. Each function does nothing: its contract
 //! is the law.
 
-ghost use Rattle.std.specs.Prelude.{◌↔◌, Ok, None, ◌≡◌, ◌≢◌, ◌<◌, ◌≤◌, ◌⊎◌, ℕ, List, true, Option, Some, is_some, slice_get, length};
+ghost use Rattle.std.specs.Prelude.{◌↔◌, None, ◌≡◌, ◌≢◌, ◌<◌, ◌≤◌, ◌⊎◌, ℕ, List, true, Option, Some, is_some, slice_get, length};
 ghost use Rattle.xbar_equip.specs.Len.{Line, IsLine};
 ghost use Rattle.xbar_equip.specs.Ten.{TrunkPlace, IsTrunkPlace};
 ghost use Rattle.xbar_equip.specs.Link.{Link, IsLink};
 ghost use Rattle.xbar_plan.specs.Group.{TrunkGroup, stands_at, other_place, is_register, is_intra, is_outgoing};
 ghost use Rattle.xbar_plan.specs.Tables.{Tables, member_at, register_group, lines_of, route_of, is_faulty, member_place, IsMemberPlace};
 ghost use Rattle.xbar_plan.specs.Lawful.{IsLawful, LeadsOnlyTo, fault_in};
-ghost use Rattle.toml.specs.Data.{Members};
-ghost use Rattle.xbar_plan.specs.Document.{DifferInVersion, plan_of_document};
-ghost use Rattle.xbar_plan.specs.Written.{document_in_version_2};
 ghost use Rattle.xbar_plan.specs.declared.group.Member.{Member};
 ghost use Rattle.xbar_plan.specs.declared.group.MemberPlace.{MemberPlace};
 
@@ -154,17 +151,4 @@ pub fn faults_are_links()
 /// Tables are lawful exactly where no test of tables tells a fault.
 pub fn lawful_tables_have_no_fault()
     ensures { (plan : Tables) → IsLawful plan ↔ (fault_in plan ≡ None) }
-{}
-
-/// Of two documents that differ in `version` alone, 1 and 2, the second is accepted where the first
-/// is, with the same tables.
-pub fn version_1_reads_the_same_as_version_2()
-    ensures { (one two : Members) (tables : Tables) → DifferInVersion one two →
-        plan_of_document one ≡ Ok tables → plan_of_document two ≡ Ok tables }
-{}
-
-/// Lawful tables are those of their own document in version 2.
-pub fn lawful_tables_read_back()
-    ensures { (plan : Tables) → IsLawful plan →
-        plan_of_document (document_in_version_2 plan) ≡ Ok plan }
 {}

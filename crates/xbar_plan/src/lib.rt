@@ -4,9 +4,11 @@
 
 pub use fault::PlanFault;
 pub use group::{Group, GroupKind, Member, MemberPlace};
+pub use lawful::is_name;
 pub use plan::Plan;
 pub use route::Route;
 pub use station::Station;
+pub use table_slices::TableSlices;
 
 mod directory;
 mod example;
@@ -16,9 +18,6 @@ mod lawful;
 pub mod laws;
 mod numbers;
 mod plan;
-mod read;
-pub mod reading;
 mod route;
 mod station;
 mod table_slices;
-mod write;

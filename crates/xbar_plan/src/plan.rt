@@ -7,7 +7,7 @@ use crate::group::{Group, MemberPlace};
 use crate::route::Route;
 use crate::station::Station;
 use crate::table_slices::TableSlices;
-use crate::{example, lawful, read, write};
+use crate::{example, lawful};
 use std::alloc::{AllocError, Global};
 use std::marker::Model;
 use xbar_equip::{DirNo, Len, Link, Ten};
@@ -45,13 +45,11 @@ impl Model for Plan {
 }
 
 impl Plan {
-    ghost use Rattle.std.specs.Prelude.{slice_get, Some, Ok};
+    ghost use Rattle.std.specs.Prelude.{slice_get, Some};
     ghost use Rattle.xbar_plan.specs.Tables.{Tables, lines_of, route_of, register_group as register_group_of, is_faulty, member_place};
     ghost use Rattle.xbar_plan.specs.TableSlices.{tables_of};
     ghost use Rattle.xbar_plan.specs.Lawful.{IsLawful, IsPlanOf};
-    ghost use Rattle.xbar_plan.specs.Document.{IsReading, plan_of, version_in};
     ghost use Rattle.xbar_plan.specs.Example.{example as the_example};
-    ghost use Rattle.xbar_plan.specs.declared.read.version.Version.TheVariants.{Two};
 
     /// Makes a plan of tables that are known to be lawful.
     pub fn new(
@@ -107,14 +105,6 @@ impl Plan {
         }
     }
 
-    /// The plan that a TOML text holds, in version 1 or 2 of its form, or the least fault that it has.
-    /// Want of memory may be told in place of a fault that would be found later.
-    pub fn read(alloc: Global, text: &[u8]) -> Result<Self, PlanFault>
-        ensures { IsReading (plan_of text.now) result }
-    {
-        read::read(alloc, text)
-    }
-
     /// A small plan with a group of each kind: registers 417, 418 and 509, two intra trunks, and two
     /// groups of outgoing ones.
     #[tactic(auto, unfolding(crate::specs::Lawful::fault_in))]
@@ -127,19 +117,12 @@ impl Plan {
         Ok(Plan::new(alloc, groups, stations, routes, Vec::new(alloc))?)
     }
 
-    fn slices(&self) -> TableSlices<'_>
+    /// Its tables. They are lawful.
+    pub fn tables(&self) -> TableSlices<'_>
         ensures tables { tables_of result ≡ self.now }
         ensures lawful { IsLawful (tables_of result) }
     {
         TableSlices::new(&self.groups, &self.stations, &self.routes, &self.faults)
-    }
-
-    /// A TOML text of the plan in version 2 of its form, which reads back as the same plan.
-    pub fn version_2(&self, alloc: Global) -> Result<Vec<u8>, AllocError>
-        ensures version { IfOk result (λ text. version_in text.items ≡ Some Two) }
-        ensures tables { IfOk result (λ text. plan_of text.items ≡ Ok self.now) }
-    {
-        write::version_2(alloc, &self.slices())
     }
 
     /// 1 to 16.

@@ -6,8 +6,8 @@ use Rattle.std.proofs.lemmas.List.Sums.{position_or_len_is}
 use Rattle.std.proofs.lemmas.Option.{slice_get-map, slice_get-get_or, get_or_from_slice_get}
 use Rattle.toml.specs.Data.{Members}
 use Rattle.xbar_plan.specs.Tables.{first_with}
-use Rattle.xbar_plan.specs.Document.{version_of}
-use Rattle.xbar_plan.specs.declared.read.version.Version.{Version}
+use Rattle.xbar_plan_text.specs.Document.{version_of}
+use Rattle.xbar_plan_text.specs.declared.read.version.Version.{Version}
 use Rattle.xbar_slips.specs.declared.plan.list.PlanList.{PlanList}
 use Rattle.xbar_slips.specs.Lists.{Item, has_form, malformed_in, texts_at, malformed_among, malformed_of_document, plan_lists, or_else, TellsItem}
 use Rattle.xbar_slips.specs.declared.plan.slip.PlanWrong.{PlanWrong}

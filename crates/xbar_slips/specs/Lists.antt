@@ -1,9 +1,9 @@
 use Rattle.std.specs.Prelude.{◌≡◌, ℕ, ◌+◌, not, Bool, Option, Some, None, option_map, option_and_then, is_some, is_none, find, List, [], ◌∷◌, codes}
 use Rattle.toml.specs.Data.{Members, get_member}
 use Rattle.xbar_plan.specs.Tables.{first_with}
-use Rattle.xbar_plan.specs.Texts.{group_of, station_of, code_entry_of, fault_of}
-use Rattle.xbar_plan.specs.Document.{document_of, version_of, texts_of}
-use Rattle.xbar_plan.specs.declared.read.version.Version.{Version}
+use Rattle.xbar_plan_text.specs.Texts.{group_of, station_of, code_entry_of, fault_of}
+use Rattle.xbar_plan_text.specs.Document.{document_of, version_of, texts_of}
+use Rattle.xbar_plan_text.specs.declared.read.version.Version.{Version}
 use Rattle.xbar_slips.specs.declared.plan.list.PlanList.{PlanList}
 use Rattle.xbar_slips.specs.declared.plan.list.PlanList.TheVariants.{Groups, Numbers, Codes, Faults}
 use Rattle.xbar_slips.specs.declared.plan.slip.PlanPlace.{PlanPlace}

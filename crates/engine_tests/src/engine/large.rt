@@ -1,4 +1,4 @@
-//! A replay that is large.
+//! A replay that is large, and a text of many records.
 
 use super::*;
 use test_checks::check;
@@ -56,5 +56,47 @@ fn more_than_a_hundred_paths(rt: HostRuntime) -> Result<(), Fail> {
     check_eq!(rt; text.lines().count(), 242);
     check_eq!(rt; text.matches(",DIALTONE,").count(), 120);
     check_eq!(rt; text.matches(",CONNECTED,").count(), 120);
+    Ok(())
+}
+
+/// More records than an office has registers, in more bytes than one read gives.
+const RECORDS: u32 = 150;
+
+/// Releases that find no call, so that no path is ever up.
+fn records(alloc: Global) -> Result<String, AllocError> {
+    let mut text = String::new(alloc);
+    for turn in 0..RECORDS {
+        write!(text, "{turn},{turn},0,R,3041,-,NOCALL,-,-,-\n")?;
+    }
+    Ok(text)
+}
+
+/// A task on these records, the end of what it comes to, and how many of the records that shows.
+const OF_MANY_RECORDS: &[(Task<'static>, &str, usize)] = &[
+    (Task::Audit, "AUDIT,LEGAL,150\nPATHS,0\nCLOSED,0\n", 0),
+    (DRAW, "No path is up.\n", 0),
+    (
+        Task::Draw {
+            look: Look::Drawing,
+        },
+        "</svg>\n",
+        0,
+    ),
+    (Task::Draw { look: Look::Page }, "</html>\n", 150),
+];
+
+#[test]
+fn many_records_are_audited_and_drawn(rt: HostRuntime) -> Result<(), Fail> {
+    let input = records(rt.alloc())?;
+    for (task, end, shown) in OF_MANY_RECORDS {
+        let mut source = Counted::new(input.as_bytes());
+        let mut sink = Counted::new(Vec::new(rt.alloc()));
+        let plan = EXAMPLE.as_bytes();
+        let answer = answer_task(rt.alloc(), *task, plan, &mut source, &mut sink)?;
+        let text = str::from_utf8(sink.get_ref()).unwrap_or("this is no text");
+        check_eq!(rt; answer.status, Status::Fine, end);
+        check!(rt; text.ends_with(*end), "{end}");
+        check_eq!(rt; text.matches(",NOCALL,").count(), *shown, end);
+    }
     Ok(())
 }

@@ -2,7 +2,7 @@
 
 use crate::live::running::{EXAMPLE, ONE_EACH, Staff, TWO_EACH, done, judged};
 use crossbar5::{EngineFault, Status};
-use std::alloc::Global;
+use std::alloc::{AllocError, Global};
 use std::process::Abort;
 use std::sync::Wait;
 use std::test::Fail;
@@ -107,14 +107,32 @@ fn calls_that_compete_leave_three_paths(rt: HostRuntime) -> Result<(), Fail> {
     Ok(())
 }
 
-/// The rows of examples/live_calls.csv: whoever comes first, the records are one legal history.
+/// The rows of examples/live_calls.csv.
+const EXAMPLE_CALLS: &str =
+    "C,1,3041,5551234,R\nC,2,1000,5551234,R\nC,3,2000,5551234,K\nC,4,3052,2340004,K\n";
+
+/// Calls of sixty lines to another office.
+fn sixty_calls(alloc: Global) -> Result<String, AllocError> {
+    let mut traffic = String::new(alloc);
+    for call in 0..60 {
+        let (frame, switch) = (call % 10, call / 10);
+        write!(traffic, "C,{call},{frame}{switch}00,5551234,R\n")?;
+    }
+    Ok(traffic)
+}
+
+/// Whoever comes first, the records are one legal history in which each call is dialled once.
 #[test]
-fn the_calls_of_the_example_are_one_legal_history(rt: HostRuntime) -> Result<(), Fail> {
-    let calls = "C,1,3041,5551234,R\nC,2,1000,5551234,R\nC,3,2000,5551234,K\nC,4,3052,2340004,K\n";
-    for staff in [ONE_EACH, TWO_EACH] {
-        let (written, status) = done(&rt, rt.alloc(), EXAMPLE, staff, calls)?;
-        assert_eq!(rt; status, Status::Fine);
-        assert_eq!(rt; judged(rt.alloc(), EXAMPLE, &written)?, Status::Fine);
+fn calls_are_one_legal_history(rt: HostRuntime) -> Result<(), Fail> {
+    let sixty = sixty_calls(rt.alloc())?;
+    for (calls, dialled) in [(EXAMPLE_CALLS, 4), (sixty.as_str(), 60)] {
+        for staff in [ONE_EACH, TWO_EACH] {
+            let (written, status) = done(&rt, rt.alloc(), EXAMPLE, staff, calls)?;
+            let text = str::from_utf8(&written).unwrap_or("this is no text");
+            assert_eq!(rt; status, Status::Fine);
+            assert_eq!(rt; text.matches(",D,").count(), dialled);
+            assert_eq!(rt; judged(rt.alloc(), EXAMPLE, &written)?, Status::Fine);
+        }
     }
     Ok(())
 }

@@ -9,6 +9,7 @@ use std::io;
 use std::test::Fail;
 use test_checks::{check, check_eq};
 use xbar_plan::Plan;
+use xbar_plan_text::PlanText;
 
 /// Endings that have a line, with it and their status.
 const LINES: &[(Ending, u8, &str)] = &[

@@ -44,14 +44,17 @@ pub struct Board {
     kept: AtomicU64,
     missed: AtomicU64,
     miscounted: AtomicU64,
+    jobs: AtomicU64,
 }
 
-/// How often markers met, how often one waited in vain, and how often a gate was told a wrong number.
+/// How often markers met, how often one waited in vain, how often a gate was told a wrong number, and the
+/// numbers of all jobs that gates were told of, as the bits of a word.
 #[derive(Debug, Drop, PartialEq)]
 pub struct Tally {
     pub kept: u64,
     pub missed: u64,
     pub miscounted: u64,
+    pub jobs: u64,
 }
 
 impl Board {
@@ -64,6 +67,7 @@ impl Board {
             kept: self.kept.load(Ordering::SeqCst),
             missed: self.missed.load(Ordering::SeqCst),
             miscounted: self.miscounted.load(Ordering::SeqCst),
+            jobs: self.jobs.load(Ordering::SeqCst),
         }
     }
 
@@ -120,13 +124,15 @@ impl Gate for MeetingGate<'_> {
         }
     }
 
-    fn finished(&mut self, marker: u32, _job_no: u32) {
+    fn finished(&mut self, marker: u32, job_no: u32) {
         let Some(own) = self.board.progress(marker) else {
             return self.count_mistake();
         };
         if marker != self.marker {
             self.count_mistake();
         }
+        let told = 1_u64.checked_shl(job_no).unwrap_or(0);
+        let _told = self.board.jobs.fetch_or(told, Ordering::SeqCst);
         let _jobs = own.jobs.fetch_add(1, Ordering::SeqCst);
     }
 }

@@ -24,12 +24,21 @@ const ONE_STEP_MADE: Point = Point { steps: 2, jobs: 0 };
 
 const ONE_JOB_ENDED: Point = Point { steps: 0, jobs: 1 };
 
-fn two_calls() -> [Call; 2]
+/// The numbers of the jobs of two calls, which dial and complete them, as bits.
+const THEIR_JOBS: u64 = 1 << 3 | 1 << 4 | 1 << 6 | 1 << 7;
+
+/// Calls 1 and 2, from one line link frame or from two.
+fn two_calls(share_a_frame: bool) -> [Call; 2]
     ensures { All HasCallNo result }
 {
+    let other = if share_a_frame {
+        Len::new(3, 0, 27)
+    } else {
+        Len::new(1, 0, 0)
+    };
     [
         call_out(1, Len::new(3, 0, 21), false),
-        call_out(2, Len::new(1, 0, 0), false),
+        call_out(2, other, false),
     ]
 }
 
@@ -54,6 +63,7 @@ fn gates<'a>(
 struct Case {
     name: &'static str,
     staff: Staff,
+    share_a_frame: bool,
     meetings: &'static [Option<Meeting>],
     kept: u64,
 }
@@ -66,6 +76,7 @@ const CASES: &[Case] = &[
             dialling: 2,
             completing: 1,
         },
+        share_a_frame: false,
         meetings: &[
             Some(Meeting {
                 at: ONE_STEP_MADE,
@@ -88,6 +99,7 @@ const CASES: &[Case] = &[
             dialling: 1,
             completing: 2,
         },
+        share_a_frame: false,
         meetings: &[
             None,
             Some(Meeting {
@@ -110,6 +122,7 @@ const CASES: &[Case] = &[
             dialling: 1,
             completing: 1,
         },
+        share_a_frame: false,
         meetings: &[
             Some(Meeting {
                 at: ONE_JOB_ENDED,
@@ -119,6 +132,30 @@ const CASES: &[Case] = &[
             None,
         ],
         kept: 1,
+    },
+    // Marker 1 begins once marker 0 has come to its first step, which waits until marker 1 has ended a job on
+    // the same frame. A request made before the wait would keep marker 1 away.
+    Case {
+        name: "a gate is passed before the step",
+        staff: Staff {
+            dialling: 2,
+            completing: 1,
+        },
+        share_a_frame: true,
+        meetings: &[
+            Some(Meeting {
+                at: FIRST_STEP,
+                other: 1,
+                until: ONE_JOB_ENDED,
+            }),
+            Some(Meeting {
+                at: FIRST_STEP,
+                other: 0,
+                until: FIRST_STEP,
+            }),
+            None,
+        ],
+        kept: 2,
     },
 ];
 
@@ -137,7 +174,8 @@ fn run_with_meetings<'p, R: Threads + Wait + Sync + Abort>(
     let Ok(gates) = gates(alloc, board, case.meetings) else {
         panic!(rt; "there is memory for gates");
     };
-    run(rt, alloc, by, plan, &two_calls(), staff, gates)
+    let calls = two_calls(case.share_a_frame);
+    run(rt, alloc, by, plan, &calls, staff, gates)
 }
 
 /// Two calls are done while markers meet so often, by either way.
@@ -154,6 +192,7 @@ fn check_meetings<R: Threads + Wait + Sync + Abort>(
         kept: case.kept,
         missed: 0,
         miscounted: 0,
+        jobs: THEIR_JOBS,
     };
     check_eq!(rt; board.tally(), met, case.name);
     let counts = (outcome.records.len(), outcome.office.paths().len());

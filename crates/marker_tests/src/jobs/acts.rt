@@ -21,6 +21,8 @@ pub enum Act {
     Next(&'static str),
     /// How many steps it has counted.
     Count(u32),
+    /// How many connectors it holds.
+    Holds(usize),
     /// The turn that it has taken, from which on its reply is known.
     Turned(Option<u64>),
     /// It does a job to its end, which is this, after so many steps where they are known.
@@ -103,6 +105,16 @@ fn check_turned(rt: &impl Abort, name: &str, program: &Program, turn: Option<u64
     check_eq!(rt; program.reply().is_some(), turn.is_some(), name);
 }
 
+/// How many connectors' words have the marker as their holder.
+fn held(words: &[u64], marker: u32) -> usize {
+    let connectors = words.get(CONNECTORS..TURNS).unwrap_or(&[]);
+    let holder = u64::from(marker) + 1;
+    connectors
+        .iter()
+        .filter(|word| **word % 64 == holder)
+        .count()
+}
+
 /// A job, its end, and how many steps it takes, where they are known.
 #[derive(Drop)]
 struct Done {
@@ -180,6 +192,7 @@ fn act_on(
         Act::Restart => restart(plan, program),
         Act::Next(wanted) => check_text(rt, alloc, name, &ToldStep(program.next()), wanted),
         Act::Count(count) => check_eq!(rt; program.count(), *count, name),
+        Act::Holds(count) => check_eq!(rt; held(words, marker), *count, name),
         Act::Turned(turn) => check_turned(rt, name, program, *turn),
         Act::Does(text, end, count) => {
             let done = Done {

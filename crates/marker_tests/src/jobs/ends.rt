@@ -222,6 +222,38 @@ const COURSES: &[Course] = &[
             ),
         )],
     },
+    // Of its 77 steps 14 make its effects and ten free its connectors, after the turn.
+    Course {
+        name: "the longest attempt on a number of one line, at its turn",
+        plan: FOUR_GROUPS,
+        words: BUSY_GROUPS,
+        acts: &[
+            (0, Act::Begin("C 3041 2340003")),
+            (0, Act::Steps(52)),
+            (0, Act::Next("turn")),
+            (0, Act::Holds(10)),
+            (0, Act::Steps(25)),
+            (0, Act::Next("finished")),
+            (0, Act::Holds(0)),
+            (0, Act::Count(77)),
+        ],
+    },
+    // Of its 110 steps 14 make its effects and 18 free its connectors.
+    Course {
+        name: "the longest attempt on a number of ten lines, at its turn",
+        plan: FOUR_GROUPS,
+        words: BUSY_GROUPS_AND_LINES,
+        acts: &[
+            (0, Act::Begin("C 3041 2340010")),
+            (0, Act::Steps(77)),
+            (0, Act::Next("turn")),
+            (0, Act::Holds(18)),
+            (0, Act::Steps(33)),
+            (0, Act::Next("finished")),
+            (0, Act::Holds(0)),
+            (0, Act::Count(110)),
+        ],
+    },
     Course {
         name: "the longest attempt on a number of ten lines",
         plan: FOUR_GROUPS,

@@ -7,6 +7,7 @@ use xbar_core::{Exchange, Kind};
 use xbar_equip::{Dialled, Len};
 use xbar_office::Job;
 use xbar_plan::Plan;
+use xbar_plan_text::PlanText;
 use xbar_walk::{Story, Telling, walk_settling, walk_step, walk_steps};
 
 /// An office as it is walked through.

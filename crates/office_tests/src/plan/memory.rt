@@ -4,6 +4,7 @@ use super::writing::answer_the_same;
 use std::alloc::Global;
 use test_checks::{check, check_eq};
 use xbar_plan::{Plan, PlanFault};
+use xbar_plan_text::PlanText;
 
 /// The text of `Plan::example`, as the formats have it.
 const EXAMPLE: &str = r#"version = 1

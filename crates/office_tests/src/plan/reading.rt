@@ -9,6 +9,7 @@ use std::process::Abort;
 use test_checks::{check, check_eq};
 use xbar_equip::{DirNo, Len};
 use xbar_plan::{Plan, PlanFault};
+use xbar_plan_text::PlanText;
 
 /// A small plan with a group of each kind, the same as `Plan::example`.
 const EXAMPLE: [&str; 5] = [

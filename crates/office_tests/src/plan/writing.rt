@@ -6,6 +6,7 @@ use std::process::Abort;
 use test_checks::check;
 use xbar_equip::DirNo;
 use xbar_plan::Plan;
+use xbar_plan_text::PlanText;
 
 /// The text of `Plan::example`.
 const EXAMPLE: &str = r#"codes = [

@@ -1,8 +1,9 @@
 //! Plans: what the rows of `worked_rows` can't have.
 
 use super::*;
+use std::test::Fail;
 use test_checks::check_eq;
-use xbar_plan::PlanFault;
+use xbar_plan::{Plan, PlanFault};
 
 /// A plan with a register group.
 const PLAN: &[u8] =
@@ -14,11 +15,72 @@ fn check_sentence(rt: &impl Abort, alloc: Global, text: &[u8], fault: PlanFault,
     check_eq!(rt; told(rt, alloc, slip).as_str(), wanted, fault);
 }
 
+/// A text is refused for this fault, with this sentence.
+fn check_refused(rt: &impl Abort, alloc: Global, text: &[u8], fault: PlanFault, wanted: &str) {
+    check_eq!(rt; Plan::read(alloc, text).err(), Some(fault), wanted);
+    check_sentence(rt, alloc, text, fault, wanted);
+}
+
+/// Bytes that are no text, and the sentence on them.
+const NO_TEXTS: &[(&[u8], &str)] = &[
+    (
+        b"version = 1\n# Stra\xDFe\n",
+        "line 2, column 7: invalid UTF-8 (P1)",
+    ),
+    (
+        b"version = 1\ngroups = ['REG register 417']\nnumbers = []\ncodes = []\nfaults = []\n\xFF",
+        "line 6, column 1: invalid UTF-8 (P1)",
+    ),
+];
+
 #[test]
 fn sentences_about_bytes_that_are_no_text(rt: HostRuntime) {
-    let text = b"version = 1\n# Stra\xDFe\n";
-    let wanted = "line 2, column 7: invalid UTF-8 (P1)";
-    check_sentence(&rt, rt.alloc(), text, PlanFault::NotToml, wanted);
+    for (text, wanted) in NO_TEXTS {
+        check_refused(&rt, rt.alloc(), text, PlanFault::NotToml, wanted);
+    }
+}
+
+/// Adds a list of so many items, each with its number in so many digits.
+fn add_items(
+    text: &mut String,
+    key: &str,
+    count: u32,
+    digits: usize,
+    behind: &str,
+) -> Result<(), AllocError> {
+    write!(text, "{key} = [")?;
+    for number in 0..count {
+        write!(text, "'{number:0digits$} {behind}',")?;
+    }
+    text.push_str("]\n")
+}
+
+/// A plan with so many numbers and codes.
+fn sized(alloc: Global, numbers: u32, codes: u32) -> Result<String, AllocError> {
+    let head = "version = 1\ngroups = ['REG register 417', 'OUT outgoing 800']\nfaults = []\n";
+    let mut text = String::from_str(alloc, head)?;
+    add_items(&mut text, "numbers", numbers, 4, "3041")?;
+    add_items(&mut text, "codes", codes, 3, "OUT")?;
+    Ok(text)
+}
+
+/// Numbers and codes of which one list is too long, and the sentence on it.
+const TOO_MANY: &[(u32, u32, &str)] = &[
+    (
+        3001,
+        64,
+        "numbers: expected at most 3000 items, found 3001 (P6)",
+    ),
+    (3000, 65, "codes: expected at most 64 items, found 65 (P6)"),
+];
+
+#[test]
+fn sentences_about_long_lists(rt: HostRuntime) -> Result<(), Fail> {
+    for (numbers, codes, wanted) in TOO_MANY {
+        let text = sized(rt.alloc(), *numbers, *codes)?;
+        check_refused(&rt, rt.alloc(), text.as_bytes(), PlanFault::Limit, wanted);
+    }
+    Ok(())
 }
 
 const ALL_FAULTS: &[PlanFault] = &[

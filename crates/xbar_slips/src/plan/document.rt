@@ -2,7 +2,7 @@
 
 ghost use Rattle.std.specs.Prelude.{◌≡◌, IfOk, find, option_copied, option_map};
 ghost use Rattle.toml.specs.View.{table_view};
-ghost use Rattle.xbar_plan.specs.Document.{document_of as document_of_bytes};
+ghost use Rattle.xbar_plan_text.specs.Document.{document_of as document_of_bytes};
 ghost use Rattle.xbar_slips.specs.Lists.{TellsList, is_missing as is_missing_list, missing_list as missing_list_of};
 
 use super::form::{Found, PlanForm};

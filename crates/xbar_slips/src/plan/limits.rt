@@ -5,7 +5,7 @@ use super::lists::Lists;
 use super::reason::PlanReason;
 use super::slip::{ItemText, PlanPlace, PlanWrong};
 use std::alloc::{AllocError, Global};
-use xbar_plan::reading;
+use xbar_plan_text::reading;
 
 /// How many items a list may have.
 fn most_items(list: PlanList) -> usize {

@@ -12,8 +12,8 @@ use super::slip::{ItemText, PlanPlace, PlanWrong};
 use std::alloc::{AllocError, Global};
 use toml::Table;
 use xbar_equip::{DirNo, Len};
-use xbar_plan::reading::{self, Version};
-use xbar_plan::{GroupKind, PlanFault};
+use xbar_plan::{GroupKind, PlanFault, is_name};
+use xbar_plan_text::reading::{self, Version};
 
 /// The first item of the first list that has one which hasn't its form.
 pub fn malformed_item(alloc: Global, document: &Table) -> Result<Option<PlanWrong>, AllocError>
@@ -161,7 +161,7 @@ fn form_of(version: Version, list: PlanList) -> PlanForm {
 }
 
 fn expected_in_group(name: &[u8], kind: &[u8], members: &[&[u8]]) -> Option<Expected> {
-    if !reading::is_name(name) {
+    if !is_name(name) {
         return Some(Expected::part(0, PlanForm::Name));
     }
     let Some(kind) = reading::read_kind(kind) else {
@@ -189,6 +189,6 @@ fn expected_in_code(code: &[u8], names: &[&[u8]]) -> Option<Expected> {
     if reading::read_code(code).is_none() {
         return Some(Expected::part(0, PlanForm::Code));
     }
-    let index = names.iter().position(|name| !reading::is_name(name))?;
+    let index = names.iter().position(|name| !is_name(name))?;
     Some(Expected::part(index.saturating_add(1), PlanForm::Name))
 }

@@ -5,7 +5,7 @@ use super::lists::Lists;
 use super::reason::{PlanReason, Repeat};
 use super::slip::{PlanPlace, PlanWrong};
 use std::alloc::{AllocError, Global};
-use xbar_plan::reading;
+use xbar_plan_text::reading;
 
 /// The place of the first item that an earlier one is equal to, and that of the earlier one.
 pub fn first_repeat<T: PartialEq>(items: &[T]) -> Option<(usize, usize)> {

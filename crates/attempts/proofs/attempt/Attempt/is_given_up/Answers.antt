@@ -1,6 +1,6 @@
 use Rattle.std.proofs.Common.{ap, ◌∙◌}
 use Rattle.turns.specs.declared.phase.Phase.TheVariants.{GivesBack, Withdraws}
-use Rattle.desks.specs.Outcomes.{is_given_up as is_given_up_in}
+use Rattle.turns.specs.Outcomes.{is_given_up as is_given_up_in}
 use Rattle.attempts.specs.Standing.{Program}
 use Rattle.attempts.proofs.Inside.{goes_ahead, in_phase}
 use Rattle.attempts.proofs.attempt.Attempt.is_given_up.Goals as goal

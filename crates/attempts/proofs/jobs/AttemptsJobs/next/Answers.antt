@@ -1,4 +1,0 @@
-use Rattle.attempts.proofs.jobs.AttemptsJobs.next.Goals as goal
-
-pub next_now-step-requires : goal.next_now-step-requires
-next_now-step-requires g c = search

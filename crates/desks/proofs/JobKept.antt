@@ -1,0 +1,77 @@
+-- whatever a desk does with its job, it is the job that was assigned to it
+use Rattle.std.proofs.Common.{◌≡◌, ℕ, zero, suc, List, [], ◌∷◌, ◌++◌, refl, sym, ◌∙◌, ap}
+use Rattle.std.specs.Prelude.{Option, Some, Result, Ok, Err}
+use Rattle.turns.specs.System.{System}
+use Rattle.turns.specs.Attempt.{AttemptOf, changed, freed, goes_on, operated, rest_of}
+use Rattle.turns.specs.World.{ActorOf, Idle, Does, RecordOf}
+use Rattle.turns.specs.declared.answer.Answer.{Answer}
+use Rattle.turns.specs.declared.answer.Answer.TheVariants.{Asked, Seized, Held, Preferred, Again, Value, Turn as TurnNumber, Done}
+use Rattle.turns.specs.declared.phase.Phase.{Phase}
+use Rattle.turns.specs.declared.phase.Phase.TheVariants.{Requests, Seizes, Tests, Turns, Withdraws, GivesBack, Operates}
+use Rattle.turns.specs.declared.wanted.Wanted.{Wanted}
+use Rattle.turns.specs.declared.wanted.Wanted.TheVariants.{Seize, Test}
+use Rattle.desks.specs.declared.progress.Progress.TheVariants as progress
+use Rattle.desks.specs.declared.progress.Told.{Told}
+use Rattle.desks.specs.Desks.{HasAdvanced, HasGivenBack, HasMade, HasStepped}
+use Rattle.turns.specs.Outcomes.{begun_anew}
+use Rattle.desks.specs.Reports.{job_of}
+
+module _ (O : System) where
+  open O use {Lock, Job, Effect, Decision}
+
+  freed_job : (a : AttemptOf O) (held : List Lock) → (freed O a held).job ≡ a.job
+  freed_job a [] = refl
+  freed_job a (lock ∷ held) = refl
+
+  goes_job : (a : AttemptOf O) (to : Result Decision (Wanted Lock ℕ)) → (goes_on O a to).job ≡ a.job
+  goes_job a (Ok decision) = refl
+  goes_job a (Err (Seize lock)) = refl
+  goes_job a (Err (Test word)) = refl
+
+  operated_job : (a : AttemptOf O) (effects : List Effect) → (operated a effects).job ≡ a.job
+  operated_job a [] = refl
+  operated_job a (effect ∷ effects) = refl
+
+  changed_job : (a : AttemptOf O) (phase : Phase Lock ℕ) (answer : Answer) → (changed O a phase answer).job ≡ a.job
+  changed_job a (Requests lock) (Asked word) = refl
+  changed_job a (Requests lock) (Held holder) = refl
+  changed_job a (Requests lock) (Preferred other) = refl
+  changed_job a (Seizes lock expected) Seized = goes_job (record a { held = a.held ++ lock ∷ [] }) _
+  changed_job a (Seizes lock expected) (Held holder) = refl
+  changed_job a (Seizes lock expected) (Preferred other) = refl
+  changed_job a (Seizes lock expected) (Again word) = refl
+  changed_job a (Tests word) (Value value) = goes_job (record a { readings = a.readings ++ record { word = word; value = value } ∷ [] }) _
+  changed_job a Turns (TurnNumber number) = refl
+  changed_job a (Withdraws lock) Done = freed_job a a.held
+  changed_job a GivesBack Done = freed_job a (rest_of a.held)
+  changed_job a (Operates turn) Done = operated_job a a.effects
+  changed_job a _ _ = refl
+
+  begun_job : (a : AttemptOf O) (phase : Phase Lock ℕ) → (begun_anew O phase a).job ≡ a.job
+  begun_job a (Requests lock) = refl
+  begun_job a (Seizes lock expected) = refl
+  begun_job a (Tests word) = refl
+  begun_job a Turns = refl
+  begun_job a (Withdraws lock) = refl
+  begun_job a GivesBack = refl
+  begun_job a (Operates turn) = refl
+
+  abbrev numbered : ℕ → Job → Option (ℕ × Job)
+  numbered number job = Some (number, job)
+
+  pub step_job : (k : ℕ) (before after : ActorOf O) (seen seen_after : List (RecordOf O)) (answer : Answer) → HasStepped O k before after seen seen_after answer → job_of O after ≡ job_of O before
+  step_job k before after seen seen_after answer step =
+      ap (job_of O) step.after_is ∙ ap (numbered step.number) (changed_job step.attempt step.attempt.phase _) ∙ ap (job_of O) (sym step.before_is)
+
+  pub steps_job : (k count : ℕ) (before after : ActorOf O) (seen seen_after : List (RecordOf O)) → HasMade O k count before after seen seen_after → job_of O after ≡ job_of O before
+  steps_job k zero before after seen seen_after same = ap (job_of O) same.0
+  steps_job k (suc count) before after seen seen_after (between, seen_between, answer, made, asks, step) =
+      step_job k between after seen_between seen_after answer step ∙ steps_job k count before between seen seen_between made
+
+  pub back_job : (k : ℕ) (before after : ActorOf O) (seen seen_after : List (RecordOf O)) → HasGivenBack O k before after seen seen_after → job_of O after ≡ job_of O before
+  back_job k Idle after seen seen_after same = ap (job_of O) same.0
+  back_job k (Does number a) after seen seen_after gave = ap (job_of O) gave.after_is ∙ ap (numbered number) (begun_job a a.phase)
+
+  pub told_job : (k : ℕ) (before after : ActorOf O) (seen seen_after : List (RecordOf O)) (told : Told O.Job O.Reply) → HasAdvanced O k before after seen seen_after (progress.Finished told) → job_of O before ≡ Some (told.number, told.job)
+  told_job k before after seen seen_after told (answer, step, free, is) =
+      sym (step_job k before after seen seen_after answer step) ∙ ap (job_of O) is.after_is ∙ ap (numbered told.number) is.job

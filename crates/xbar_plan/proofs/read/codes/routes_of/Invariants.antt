@@ -1,6 +1,0 @@
-use Rattle.std.proofs.Common.{◌≡◌, map, take}
-use Rattle.xbar_plan.specs.Texts.{capped_route}
-use Rattle.xbar_plan.proofs.read.codes.routes_of.Given as goal
-
-abbrev pub invariant-loop-entry : goal.invariant-loop-entry
-invariant-loop-entry l = l.routes.items ≡ map (capped_route l.groups) (take l.entry-index l.entries)

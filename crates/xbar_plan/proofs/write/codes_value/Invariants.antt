@@ -1,8 +1,0 @@
-use Rattle.std.proofs.Common.{◌≡◌, map, take}
-use Rattle.toml.specs.Data.{string}
-use Rattle.toml.specs.View.{view}
-use Rattle.xbar_plan.specs.Written.{route_text}
-use Rattle.xbar_plan.proofs.write.codes_value.Given as goal
-
-abbrev pub invariant-loop-route : goal.invariant-loop-route
-invariant-loop-route l = map view l.texts.items ≡ map (λ route. string (route_text l.groups route)) (take l.route-index l.routes)

@@ -1,8 +1,0 @@
-use Rattle.std.proofs.Common.{◌∙◌}
-use Rattle.xbar_plan.specs.Written.{group_text}
-use Rattle.xbar_plan.proofs.WrittenText.{array_listed}
-use Rattle.xbar_plan.proofs.write.groups_value.Goals as goal
-
-pub returns : goal.returns
-returns c =
-    c.from-2.ensures ∙ array_listed group_text c.loop-group.texts.items c.args.groups.now c.loop-group.group-index c.loop-group-test.false c.loop-group.invariant

@@ -1,8 +1,0 @@
-use Rattle.std.proofs.Common.{◌≡◌, map, take}
-use Rattle.toml.specs.Data.{string}
-use Rattle.toml.specs.View.{view}
-use Rattle.xbar_plan.specs.Written.{group_text}
-use Rattle.xbar_plan.proofs.write.groups_value.Given as goal
-
-abbrev pub invariant-loop-group : goal.invariant-loop-group
-invariant-loop-group l = map view l.texts.items ≡ map (λ group. string (group_text group)) (take l.group-index l.groups)

@@ -1,0 +1,14 @@
+pub mod ReadAll
+pub mod WhoseText
+pub mod Parts
+pub mod Names
+pub mod Items
+pub mod Documents
+pub mod Capped
+pub mod Stages
+pub mod FourLists
+pub mod Versions
+pub mod Written
+pub mod WrittenPlan
+pub mod Joined
+pub mod WrittenText

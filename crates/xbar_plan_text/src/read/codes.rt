@@ -1,0 +1,126 @@
+//! Codes from their texts, and the groups that their names stand for.
+
+ghost use Rattle.std.specs.Prelude.{◌≡◌, ◌∷◌, IfOk, map, position, string_bytes, bytes_eq};
+ghost use Rattle.xbar_plan_text.specs.Texts.{IsReadAs, read_all, name_of, code_entry_of_parts, code_entry_of, capped_number, capped_route};
+
+use super::groups::read_name;
+use super::text::{read_code, split_parts};
+use std::alloc::{AllocError, Global};
+use std::marker::Model;
+use xbar_plan::{Group, PlanFault, Route};
+
+/// A code and the names of the groups that it leads to.
+#[derive(Debug, Drop)]
+pub struct CodeEntry {
+    code: u16,
+    names: Vec<String>,
+}
+
+impl Model for CodeEntry {
+    ghost use Rattle.std.specs.Prelude.{map, string_bytes};
+    ghost use Rattle.xbar_plan_text.specs.Texts.{CodeEntry as TheEntry};
+
+    ghost Value = { TheEntry };
+
+    ghost view = { λ a. record { code = a.code; names = map string_bytes a.names.items } };
+}
+
+fn read_names(alloc: Global, parts: &[&[u8]]) -> Result<Vec<String>, PlanFault>
+    ensures { IsReadAs (λ names. map string_bytes names.items)
+        (read_all (λ part. name_of part.now) parts.now) result }
+{
+    let mut names = Vec::with_capacity(alloc, parts.len())?;
+    for part in parts {
+        let name = read_name(alloc, part)?;
+        names.push(name)?;
+    }
+    Ok(names)
+}
+
+fn read_coded(alloc: Global, code: &[u8], names: &[&[u8]]) -> Result<CodeEntry, PlanFault>
+    ensures { IsReadAs (λ entry. entry) (code_entry_of_parts
+        (code.now ∷ map (λ part. part.now) names.now)) result }
+{
+    let Some(code) = read_code(code) else {
+        return Err(PlanFault::Malformed);
+    };
+    let names = read_names(alloc, names)?;
+    Ok(CodeEntry { code, names })
+}
+
+fn read_entry_parts(alloc: Global, parts: &[&[u8]]) -> Result<CodeEntry, PlanFault>
+    ensures { IsReadAs (λ entry. entry) (code_entry_of_parts
+        (map (λ part. part.now) parts.now)) result }
+{
+    match parts.split_first() {
+        Some((code, names)) => read_coded(alloc, code, names),
+        None => Err(PlanFault::Malformed),
+    }
+}
+
+/// The code of an item of `codes`, with its names, be they groups' or not.
+pub fn read_entry(alloc: Global, text: &[u8]) -> Result<CodeEntry, PlanFault>
+    ensures { IsReadAs (λ entry. entry) (code_entry_of text.now) result }
+{
+    let parts = split_parts(alloc, text)?;
+    read_entry_parts(alloc, &parts)
+}
+
+pub fn read_entries(alloc: Global, texts: &[&[u8]]) -> Result<Vec<CodeEntry>, PlanFault>
+    ensures { IsReadAs (λ entries. entries.items)
+        (read_all (λ text. code_entry_of text.now) texts.now) result }
+{
+    let mut entries = Vec::with_capacity(alloc, texts.len())?;
+    for text in texts {
+        let entry = read_entry(alloc, text)?;
+        entries.push(entry)?;
+    }
+    Ok(entries)
+}
+
+fn position_of(groups: &[Group], name: &str) -> Option<usize>
+    ensures { result ≡ position (λ group. bytes_eq group.name name.now) groups.now }
+{
+    groups.iter().position(|group| group.name() == name)
+}
+
+/// No plan has 255 groups, so the highest number may stand for any above it.
+fn number_of(groups: &[Group], name: &str) -> u8
+    ensures { result ≡ capped_number groups.now name.now }
+{
+    let number = position_of(groups, name).unwrap_or(groups.len());
+    if number < 255 { number as u8 } else { 255 }
+}
+
+fn numbers_of(alloc: Global, groups: &[Group], names: &[String]) -> Result<Vec<u8>, AllocError>
+    ensures { IfOk result (λ numbers. numbers.items ≡
+        map (λ name. capped_number groups.now (string_bytes name)) names.now) }
+{
+    let mut numbers = Vec::with_capacity(alloc, names.len())?;
+    for name in names {
+        numbers.push(number_of(groups, name.as_str()))?;
+    }
+    Ok(numbers)
+}
+
+fn route_of(alloc: Global, groups: &[Group], entry: &CodeEntry) -> Result<Route, AllocError>
+    ensures { IfOk result (λ route. route ≡ capped_route groups.now entry.now) }
+{
+    let numbers = numbers_of(alloc, groups, &entry.names)?;
+    Ok(Route::new(entry.code, numbers))
+}
+
+/// The routes of codes, each with the numbers of its groups.
+pub fn routes_of(
+    alloc: Global,
+    groups: &[Group],
+    entries: &[CodeEntry],
+) -> Result<Vec<Route>, AllocError>
+    ensures { IfOk result (λ routes. routes.items ≡ map (capped_route groups.now) entries.now) }
+{
+    let mut routes = Vec::with_capacity(alloc, entries.len())?;
+    for entry in entries {
+        routes.push(route_of(alloc, groups, entry)?)?;
+    }
+    Ok(routes)
+}

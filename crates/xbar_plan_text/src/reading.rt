@@ -1,0 +1,6 @@
+//! The steps in which a plan's text is read, for whoever tells which of its items is wrong.
+
+pub use crate::read::{
+    CodeEntry, Version, parse, read_code, read_entry, read_group, read_kind, read_link,
+    read_member, read_station, split_parts, texts_of, version_of,
+};
