@@ -1,6 +1,6 @@
 use Rattle.std.proofs.Common.{All}
 use Rattle.fair_queue.specs.Tickets.{IsUsable}
-use Rattle.queue_tests.proofs.queues.hire.Given as goal
+use Rattle.law_tests.proofs.queues.hire.Given as goal
 
 abbrev pub invariant-loop-ticket : goal.invariant-loop-ticket
 invariant-loop-ticket l = record {

@@ -1,9 +1,9 @@
 use Rattle.std.proofs.Common.{IfOk, Result}
 use Rattle.std.proofs.lemmas.List.Elements.{All-head, All-push, All-tail}
 use Rattle.std.specs.declared.alloc.AllocError.{AllocError}
-use Rattle.queue_tests.specs.declared.queues.Worker.{Worker}
+use Rattle.law_tests.specs.declared.queues.Worker.{Worker}
 use Rattle.fair_queue.specs.Tickets.{IsTicketOf}
-use Rattle.queue_tests.proofs.queues.gather.Goals as goal
+use Rattle.law_tests.proofs.queues.gather.Goals as goal
 
 pub loop-worker-preserved : goal.loop-worker-preserved
 loop-worker-preserved c =

@@ -1,6 +1,6 @@
 use Rattle.std.proofs.Common.{All, IfOk}
 use Rattle.fair_queue.specs.Tickets.{IsTicketOf}
-use Rattle.queue_tests.proofs.queues.gather.Given as goal
+use Rattle.law_tests.proofs.queues.gather.Given as goal
 
 abbrev pub invariant-loop-worker : goal.invariant-loop-worker
 invariant-loop-worker l = record {

@@ -1,6 +1,6 @@
 use Rattle.std.proofs.lemmas.List.Elements.{All-head, All-push, All-tail}
 use Rattle.fair_queue.specs.Tickets.{IsUsable, TicketView}
-use Rattle.queue_tests.proofs.queues.hire.Goals as goal
+use Rattle.law_tests.proofs.queues.hire.Goals as goal
 
 pub loop-ticket-preserved : goal.loop-ticket-preserved
 loop-ticket-preserved c =

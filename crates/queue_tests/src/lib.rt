@@ -1,5 +1,0 @@
-//! Tests of queues among threads.
-#![tactic(auto)]
-
-#[cfg(test)]
-mod queues;
