@@ -7,7 +7,7 @@ use xbar_equip::Path;
 
 /// Adds the picture of a path for a terminal, in eight lines; `member` names what the path comes
 /// to, as `register REG 0`. Where memory runs out, a part of it may have been added.
-#[tactic(auto, unfolding(crate::specs::Lines::path_lines))]
+#[tactic(auto, unfolding(crate::specs::PathLines::path_lines))]
 pub fn add_path_lines(text: &mut String, path: &Path, member: &str) -> Result<(), AllocError>
     ensures { OnOk result (string_bytes text.new ≡ string_bytes text.old ++
         path_lines path.now member.now) }
@@ -23,7 +23,7 @@ pub fn add_path_lines(text: &mut String, path: &Path, member: &str) -> Result<()
     Ok(())
 }
 
-#[tactic(auto, unfolding(crate::specs::Lines::title_line))]
+#[tactic(auto, unfolding(crate::specs::PathLines::title_line))]
 fn add_title(text: &mut String, path: &Path, member: &str) -> Result<(), AllocError>
     ensures { OnOk result (string_bytes text.new ≡ string_bytes text.old ++
         title_line path.now member.now) }
@@ -33,7 +33,7 @@ fn add_title(text: &mut String, path: &Path, member: &str) -> Result<(), AllocEr
     Ok(())
 }
 
-#[tactic(auto, unfolding(crate::specs::Lines::frames_line))]
+#[tactic(auto, unfolding(crate::specs::PathLines::frames_line))]
 fn add_frames(text: &mut String, path: &Path) -> Result<(), AllocError>
     ensures { OnOk result (string_bytes text.new ≡ string_bytes text.old ++
         frames_line path.now) }
@@ -48,7 +48,7 @@ fn add_frames(text: &mut String, path: &Path) -> Result<(), AllocError>
     Ok(())
 }
 
-#[tactic(auto, unfolding(crate::specs::Lines::links_line))]
+#[tactic(auto, unfolding(crate::specs::PathLines::links_line))]
 fn add_links(text: &mut String, path: &Path) -> Result<(), AllocError>
     ensures { OnOk result (string_bytes text.new ≡ string_bytes text.old ++ links_line path.now) }
 {
@@ -64,7 +64,7 @@ fn add_links(text: &mut String, path: &Path) -> Result<(), AllocError>
     Ok(())
 }
 
-#[tactic(auto, unfolding(crate::specs::Lines::edges_line))]
+#[tactic(auto, unfolding(crate::specs::PathLines::edges_line))]
 fn add_edges(text: &mut String) -> Result<(), AllocError>
     ensures { OnOk result (string_bytes text.new ≡ string_bytes text.old ++ edges_line) }
 {

@@ -7,7 +7,7 @@ use std::alloc::AllocError;
 use xbar_equip::Path;
 
 /// Adds the row of the four switches.
-#[tactic(auto, unfolding(crate::specs::Lines::switches_line))]
+#[tactic(auto, unfolding(crate::specs::PathLines::switches_line))]
 pub fn add_switches(text: &mut String, path: &Path) -> Result<(), AllocError>
     ensures { OnOk result (string_bytes text.new ≡ string_bytes text.old ++
         switches_line path.now) }
@@ -73,7 +73,7 @@ pub fn add_values(text: &mut String, path: &Path) -> Result<(), AllocError>
     )
 }
 
-#[tactic(auto, unfolding(crate::specs::Lines::numbers_line))]
+#[tactic(auto, unfolding(crate::specs::PathLines::numbers_line))]
 fn add_numbers(
     text: &mut String,
     name: &str,

@@ -10,7 +10,7 @@ pub struct InThree(pub u16);
 impl fmt::Display for InThree {
     ghost output = { λ number. Some (in_three number.0) };
 
-    #[tactic(auto, unfolding(crate::specs::Lines::in_three))]
+    #[tactic(auto, unfolding(crate::specs::PathLines::in_three))]
     fn fmt<W: fmt::Write>(&self, f: &mut fmt::Formatter<W>) -> fmt::Result {
         let number = self.0;
         if number < 10 {
