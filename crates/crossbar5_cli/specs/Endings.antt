@@ -5,8 +5,6 @@ use Rattle.crossbar5.specs.declared.status.Status.TheVariants.{Fine, PlanRefused
 use Rattle.crossbar5.specs.declared.engine_fault.EngineFault.TheVariants.{Markers, Memory, Device, Long}
 use Rattle.crossbar5_cli.specs.declared.ending.Ending.{Ending}
 use Rattle.crossbar5_cli.specs.declared.ending.Ending.TheVariants.{Answered, Told, Refused, NotText, Failed}
-use Rattle.crossbar5_cli.specs.declared.stream.Stream.{Stream}
-use Rattle.crossbar5_cli.specs.declared.stream.Stream.TheVariants.{Errors}
 
 -- how a run of the engine ends
 abbrev pub ending_of_run : Result Answer EngineFault → Ending
@@ -34,14 +32,14 @@ exit_of (Failed Long) = 4
 exit_of (Failed Memory) = 5
 exit_of (Failed Device) = 6
 
--- the line that the program itself writes, and where. With the other endings the engine's text is
--- written by then, or clap's
-abbrev pub line_of : Ending → Option (Stream × List ℕ)
+-- the line that the program itself writes on standard error. With the other endings the engine's text
+-- is written by then, or clap's
+abbrev pub line_of : Ending → Option (List ℕ)
 line_of (Answered _) = None
 line_of Told = None
 line_of Refused = None
-line_of NotText = Some (Errors, codes "error: a word of the command line is not UTF-8 text")
-line_of (Failed Markers) = Some (Errors, codes "FAULT,MARKERS")
-line_of (Failed Long) = Some (Errors, codes "FAULT,LONG")
-line_of (Failed Memory) = Some (Errors, codes "FAULT,MEMORY")
-line_of (Failed Device) = Some (Errors, codes "FAULT,DEVICE")
+line_of NotText = Some (codes "error: a word of the command line is not UTF-8 text")
+line_of (Failed Markers) = Some (codes "FAULT,MARKERS")
+line_of (Failed Long) = Some (codes "FAULT,LONG")
+line_of (Failed Memory) = Some (codes "FAULT,MEMORY")
+line_of (Failed Device) = Some (codes "FAULT,DEVICE")

@@ -3,3 +3,7 @@ pub mod Streams
 pub mod Causes
 pub mod Sentences
 pub mod Asks
+pub mod Work
+pub mod Runs
+pub mod Told
+pub mod Program

@@ -1,11 +1,13 @@
 ghost use Rattle.std.specs.Prelude.{◌≡◌, None, Some, option_map};
 ghost use Rattle.crossbar5.specs.Refusal.{HasItsStatus, status_of};
 ghost use Rattle.crossbar5_cli.specs.Endings.{ending_of_run};
+ghost use Rattle.crossbar5_cli.specs.Runs.{sentence_on_markers};
 ghost use Rattle.crossbar5_cli.specs.Sentences as specs;
 ghost use Rattle.crossbar5_cli.specs.Sentences.{SpeaksOf, reasons_of_run};
 
 use crate::ending::Ending;
 use crate::sentence::Sentence;
+use crate::work::Work;
 use clap::error::ErrorKind;
 use crossbar5::{Answer, EngineFault, Slip, Status};
 use std::io;
@@ -81,6 +83,7 @@ impl<'w> Ended<'w> {
     /// Ends with a fault of the letters of the markers' kinds.
     pub fn of_kinds(fault: EngineFault, kinds: &'w str) -> Self
         ensures ending { result.ending ≡ Ending.Failed fault }
+        ensures reasons { result.reasons ≡ None }
         ensures sentence { result.sentence ≡ specs.sentence_on_kinds fault kinds.entry }
     {
         let ending = Ending::Failed(fault);
@@ -93,9 +96,25 @@ impl<'w> Ended<'w> {
         Ended::with(ending, Some(Sentence::Kinds(slip)))
     }
 
+    /// Ends with a fault of the markers that the work takes.
+    pub(crate) fn of_markers(fault: EngineFault, work: Work<'_>) -> Self
+        ensures ending { result.ending ≡ Ending.Failed fault }
+        ensures reasons { result.reasons ≡ None }
+        ensures sentence { result.sentence ≡ sentence_on_markers work.entry fault }
+    {
+        match work {
+            Work::Task(_) => Ended::plainly(Ending::Failed(fault)),
+            Work::Calls {
+                dialling,
+                completing,
+            } => Ended::of_staff(fault, dialling, completing),
+        }
+    }
+
     /// Ends with a fault of these numbers of markers.
     pub fn of_staff(fault: EngineFault, dialling: u32, completing: u32) -> Self
         ensures ending { result.ending ≡ Ending.Failed fault }
+        ensures reasons { result.reasons ≡ None }
         ensures sentence { result.sentence ≡ specs.sentence_on_staff fault dialling completing }
     {
         let ending = Ending::Failed(fault);
@@ -116,6 +135,7 @@ impl<'w> Ended<'w> {
         reason: Option<io::Error>,
     ) -> Self
         ensures ending { result.ending ≡ Ending.Failed fault }
+        ensures reasons { result.reasons ≡ None }
         ensures sentence { result.sentence ≡ specs.sentence_on_plan_file fault file.entry reason }
     {
         let sentence = sentence_on_plan_file(fault, file, reason);

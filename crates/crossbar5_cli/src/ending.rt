@@ -3,7 +3,6 @@ ghost use Rattle.crossbar5_cli.specs.Endings.{exit_of, line_of};
 ghost use Rattle.crossbar5.specs.declared.engine_fault.EngineFault.TheVariants.{Memory};
 ghost use Rattle.crossbar5_cli.specs.declared.ending.Ending.TheVariants.{Failed};
 
-use crate::stream::Stream;
 use crossbar5::{EngineFault, Status};
 use std::alloc::AllocError;
 
@@ -53,9 +52,9 @@ impl Ending {
         }
     }
 
-    /// The line that is still to be written, and where.
-    pub fn line(self) -> Option<(Stream, &'static str)>
-        ensures { option_map (λ told. (told.0, told.1.now)) result ≡ line_of self }
+    /// The line that is still to be written on standard error.
+    pub fn line(self) -> Option<&'static str>
+        ensures { option_map (λ line. line.now) result ≡ line_of self }
     {
         let line = match self {
             Ending::Answered(_) | Ending::Told | Ending::Refused => return None,
@@ -67,6 +66,6 @@ impl Ending {
                 EngineFault::Device => "FAULT,DEVICE",
             },
         };
-        Some((Stream::Errors, line))
+        Some(line)
     }
 }

@@ -37,6 +37,10 @@ pub enum Sentence<'w> {
 }
 
 impl fmt::Display for Sentence<'_> {
+    ghost use Rattle.crossbar5_cli.specs.Sentences.{text_of};
+
+    ghost output = { text_of };
+
     fn fmt<W: fmt::Write>(&self, f: &mut fmt::Formatter<W>) -> fmt::Result {
         f.write_str("crossbar5: ")?;
         match self {

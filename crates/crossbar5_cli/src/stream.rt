@@ -1,5 +1,4 @@
 ghost use Rattle.std.specs.Prelude.{◌≡◌};
-ghost use Rattle.clap.specs.Words.{kind_of};
 ghost use Rattle.crossbar5_cli.specs.Streams.{stream_of as stream_of_kind, told_on as ending_told_on};
 
 use crate::ending::Ending;
@@ -13,11 +12,11 @@ pub enum Stream {
     Errors,
 }
 
-/// Where clap's text goes: help and the version to standard output.
-pub fn stream_of(error: &clap::Error) -> Stream
-    ensures { result ≡ stream_of_kind (kind_of error.now) }
+/// Where clap's text of this kind goes: help and the version to standard output.
+pub fn stream_of(kind: ErrorKind) -> Stream
+    ensures { result ≡ stream_of_kind kind }
 {
-    match error.kind() {
+    match kind {
         ErrorKind::DisplayHelp | ErrorKind::DisplayVersion => Stream::Output,
         _ => Stream::Errors,
     }

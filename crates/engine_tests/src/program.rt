@@ -1,8 +1,7 @@
-//! The program around the engine: its statuses, and the sentences on what is wrong. Those on plans and
-//! rows are in the rows of `worked_rows`.
+//! The program around the engine, on devices that fail and on real files. Other command lines are in the
+//! rows of `command_rows`, and sentences on plans and rows in those of `worked_rows`.
 
-mod endings;
+mod devices;
+mod files;
 mod memory;
-mod refused;
-mod sentences;
-mod words;
+mod running;

@@ -1,12 +1,18 @@
 //! Where memory is refused. Each of these tests passes whichever allocation is refused: the fault line
 //! and the status stay, and the sentence is the right one or none.
 
-use super::refused::{FILE, PLAN};
 use crossbar5::{Counted, Source, Task, answer_task, kinds_of};
 use crossbar5_cli::{Ended, Ending};
 use std::alloc::Global;
 use std::process::Abort;
 use test_checks::check_eq;
+
+/// The file that a plan's text stood in.
+const FILE: &str = "town.toml";
+
+/// A plan with one register.
+const PLAN: &str =
+    "version = 1\ngroups = ['REG register 417']\nnumbers = []\ncodes = []\nfaults = []\n";
 
 /// A replay by two markers is refused with this output, status and sentence, or without the sentence,
 /// or is out of memory before all that.

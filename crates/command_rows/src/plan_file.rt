@@ -1,0 +1,26 @@
+use crossbar5_cli::{System, Work};
+use std::io;
+
+/// The error of the system for a file that isn't there.
+const NO_SUCH_FILE: i32 = 2;
+
+/// A system with one file, or none. Any name is that file's.
+#[derive(Drop)]
+pub struct PlanFile<'p> {
+    pub text: Option<&'p str>,
+}
+
+impl<'p> System for PlanFile<'p> {
+    type File = &'p [u8];
+
+    fn open(&self, _name: &str) -> io::Result<&'p [u8]> {
+        match self.text {
+            Some(text) => Ok(text.as_bytes()),
+            None => Err(io::Error::from_raw_os_error(NO_SUCH_FILE)),
+        }
+    }
+
+    fn begin(&self, _work: Work<'_>) {}
+
+    fn end(&self) {}
+}

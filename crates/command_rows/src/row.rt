@@ -1,0 +1,63 @@
+use toml::Value;
+
+/// What is expected on a stream.
+#[derive(Clone, Copy)]
+pub enum Expected<'a> {
+    /// This, and no more.
+    All(&'a str),
+    /// Something that ends with this.
+    End(&'a str),
+}
+
+impl Expected<'_> {
+    /// Whether some bytes are as expected.
+    pub fn is_met_by(&self, bytes: &[u8]) -> bool {
+        match self {
+            Expected::All(text) => bytes == text.as_bytes(),
+            Expected::End(text) => bytes.ends_with(text.as_bytes()),
+        }
+    }
+}
+
+/// What the program is given, and what is expected of it.
+#[derive(Drop)]
+pub struct Row<'a> {
+    pub name: &'a str,
+    /// The words behind the program's name, parted by spaces.
+    pub words: &'a str,
+    /// What is in the plan's file. Without it no file is there.
+    pub plan: Option<&'a str>,
+    pub input: &'a str,
+    pub output: Expected<'a>,
+    pub errors: Expected<'a>,
+    /// The exit status.
+    pub status: i64,
+}
+
+fn text_at<'a>(value: &'a Value, key: &str) -> Option<&'a str> {
+    value.get(key)?.as_str()
+}
+
+/// What is expected of a stream: all of it or its end, or nothing.
+fn expected_at<'a>(value: &'a Value, all: &str, end: &str) -> Expected<'a> {
+    match text_at(value, end) {
+        Some(text) => Expected::End(text),
+        None => Expected::All(text_at(value, all).unwrap_or("")),
+    }
+}
+
+/// A row by its keys. It has no words, no input, nothing on either stream and status 0, if it doesn't
+/// say otherwise.
+pub fn row_of(value: &Value) -> Option<Row<'_>> {
+    Some(Row {
+        name: text_at(value, "name")?,
+        words: text_at(value, "words").unwrap_or(""),
+        plan: text_at(value, "plan"),
+        input: text_at(value, "input").unwrap_or(""),
+        output: expected_at(value, "output", "output_end"),
+        errors: expected_at(value, "errors", "errors_end"),
+        status: value
+            .get("status")
+            .map_or(0, |status| status.as_integer().unwrap_or(-1)),
+    })
+}

@@ -1,0 +1,79 @@
+use crate::plan_file::PlanFile;
+use crate::row::Row;
+use crossbar5::Counted;
+use crossbar5_cli::run_words;
+use std::alloc::{AllocError, Global};
+use std::fmt;
+use std::sync::Wait;
+use std::thread::Threads;
+
+/// The last line of the version.
+const BUILD: &str = "a kit and a commit";
+
+/// What the program made of a row.
+#[derive(Drop)]
+pub struct Came {
+    output: Vec<u8>,
+    errors: Vec<u8>,
+    status: i64,
+}
+
+impl Came {
+    /// Whether it is exactly what the row expects.
+    pub fn is_as_expected(&self, row: &Row<'_>) -> bool {
+        row.output.is_met_by(&self.output)
+            && row.errors.is_met_by(&self.errors)
+            && self.status == row.status
+    }
+}
+
+impl fmt::Display for Came {
+    fn fmt<W: fmt::Write>(&self, f: &mut fmt::Formatter<W>) -> fmt::Result {
+        let output = str::from_utf8(&self.output).unwrap_or("no text");
+        let errors = str::from_utf8(&self.errors).unwrap_or("no text");
+        let status = self.status;
+        write!(
+            f,
+            "status {status}, on standard output:\n{output}and on standard error:\n{errors}"
+        )
+    }
+}
+
+/// Gives a row to the program.
+pub fn came_of<T: Threads + Wait + Sync>(
+    threads: &T,
+    alloc: Global,
+    row: &Row<'_>,
+) -> Result<Came, AllocError> {
+    let words = words_of(alloc, row.words)?;
+    let mut input = Counted::new(row.input.as_bytes());
+    let mut output = Counted::new(Vec::new(alloc));
+    let mut errors = Counted::new(Vec::new(alloc));
+    let exit = run_words(
+        threads,
+        alloc,
+        &PlanFile { text: row.plan },
+        &words,
+        BUILD,
+        &mut input,
+        &mut output,
+        &mut errors,
+    );
+    Ok(Came {
+        output: output.into_inner(),
+        errors: errors.into_inner(),
+        status: i64::from(exit.status()),
+    })
+}
+
+/// The program's name, and the words behind it.
+fn words_of<'a>(alloc: Global, line: &'a str) -> Result<Vec<&'a str>, AllocError> {
+    let mut words = Vec::new(alloc);
+    words.push("crossbar5")?;
+    if !line.is_empty() {
+        for word in line.split(' ') {
+            words.push(word)?;
+        }
+    }
+    Ok(words)
+}

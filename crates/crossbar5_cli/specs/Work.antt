@@ -1,0 +1,126 @@
+-- What is done of what is asked for.
+use Rattle.std.specs.Prelude.{◌≡◌, ◌⊎◌, [], ℕ, ◌+◌, Bool, List, Option, None, Some, IfSome, Ok, false, option_map, true, ⊤}
+use Rattle.std.specs.Borrow.{Bor}
+use Rattle.std.specs.Io.KnownBytes.{Appends}
+use Rattle.std.specs.String.{string_bytes}
+use Rattle.xbar_core.specs.declared.kind.Kind.{Kind}
+use Rattle.xbar_plan.specs.Document.{plan_of}
+use Rattle.xbar_plan.specs.Example.{example}
+use Rattle.xbar_walk.specs.declared.telling.Telling.{Telling}
+use Rattle.xbar_walk.specs.declared.telling.Telling.TheVariants.{Each, Short}
+use Rattle.crossbar5.specs.Faults.{IsStaffCount}
+use Rattle.crossbar5.specs.Kinds.{Names}
+use Rattle.crossbar5_live.specs.Live.{IsLive}
+use Rattle.crossbar5.specs.PlanRefusal.{IsRefusedPlan}
+use Rattle.crossbar5.specs.Refusal.{TellsItsRefusal}
+use Rattle.crossbar5.specs.Task.{HasItsMarkers, IsDone, output_of as task_output, reasons_of as task_reasons}
+use Rattle.crossbar5.specs.declared.look.Look.{Look}
+use Rattle.crossbar5.specs.declared.look.Look.TheVariants as look
+use Rattle.crossbar5.specs.declared.slip.Slip.{Slip}
+use Rattle.crossbar5.specs.declared.status.Status.{Status}
+use Rattle.crossbar5.specs.declared.task.Task.TheVariants as task
+use Rattle.crossbar5_command.specs.declared.ask.Ask.{Ask}
+use Rattle.crossbar5_command.specs.declared.ask.Ask.TheVariants.{Audit, Draw, Live, Page, Replay, Walk}
+use Rattle.crossbar5_cli.specs.declared.work.Work.{Work}
+use Rattle.crossbar5_cli.specs.declared.work.Work.TheVariants.{Calls, Task}
+
+-- the name of the plan's file, if one is named
+abbrev pub file_of : Ask → Option (List ℕ)
+file_of (Replay file letters) = option_map string_bytes file
+file_of (Walk file letters short) = option_map string_bytes file
+file_of (Live file dial completing) = option_map string_bytes file
+file_of (Audit file) = option_map string_bytes file
+file_of (Draw file text) = option_map string_bytes file
+file_of (Page file) = option_map string_bytes file
+
+-- the letters of the markers' kinds, where markers have kinds
+abbrev pub letters_of : Ask → Option (List ℕ)
+letters_of (Replay file letters) = Some (string_bytes letters)
+letters_of (Walk file letters short) = Some (string_bytes letters)
+letters_of (Live file dial completing) = None
+letters_of (Audit file) = None
+letters_of (Draw file text) = None
+letters_of (Page file) = None
+
+-- a walk is told in short, or each step of it
+abbrev pub telling_of : Bool → Telling
+telling_of true = Short
+telling_of false = Each
+
+-- an office is drawn for a terminal, or as a drawing
+abbrev pub look_of : Bool → Look
+look_of true = look.Text
+look_of false = look.Drawing
+
+-- what is to be done, by markers of these kinds where they have kinds
+abbrev pub work_of : Ask → Bor (List Kind) → Work
+work_of (Replay file letters) kinds = Task (task.Replay kinds)
+work_of (Walk file letters short) kinds = Task (task.Walk kinds (telling_of short))
+work_of (Live file dial completing) kinds = Calls dial completing
+work_of (Audit file) kinds = Task task.Audit
+work_of (Draw file text) kinds = Task (task.Draw (look_of text))
+work_of (Page file) kinds = Task (task.Draw look.Page)
+
+-- the letters name these kinds, if there are letters
+abbrev pub NamesKinds : Option (List ℕ) → List Kind → Type 0
+NamesKinds (Some letters) kinds = Names letters kinds
+NamesKinds None kinds = kinds ≡ []
+
+-- the work has markers, where it takes any
+abbrev pub HasMarkers : Work → Type 0
+HasMarkers (Task task) = HasItsMarkers task
+HasMarkers (Calls dialling completing) = IsStaffCount dialling completing
+
+-- a task has its markers. Those of live calls are still to be judged
+abbrev pub IsReady : Work → Type 0
+IsReady (Task task) = HasItsMarkers task
+IsReady (Calls dialling completing) = ⊤
+
+-- live calls have a gate for each marker
+abbrev pub HasGates : Work → ℕ → Type 0
+HasGates (Task task) gates = ⊤
+HasGates (Calls dialling completing) gates = gates ≡ dialling + completing
+
+-- with a plan's text, the work comes to this text and this status
+abbrev pub IsWorkDone : Work → List ℕ → List ℕ → List ℕ → Status → Type 0
+IsWorkDone (Task task) plan input text status = IsDone task plan input text status
+IsWorkDone (Calls dialling completing) plan input text status =
+    IsLive plan dialling completing input text status
+
+-- what refuses the work before any input is read
+abbrev pub IsUnread : Work → List ℕ → Type 0
+IsUnread work plan = ¬ HasMarkers work ⊎ IsRefusedPlan plan
+
+-- what is written of its text, and what says why nothing is drawn
+abbrev pub output_of : Work → Status → List ℕ → List ℕ
+output_of (Task task) status text = task_output task status text
+output_of (Calls dialling completing) status text = text
+
+abbrev pub reasons_of : Work → Status → List ℕ → List ℕ
+reasons_of (Task task) status text = task_reasons task status text
+reasons_of (Calls dialling completing) status text = []
+
+-- the plan's text is that of the file that is named, where that is known; else it is the example
+-- plan's
+abbrev pub IsPlanNamed : (List ℕ → Option (List ℕ)) → Option (List ℕ) → List ℕ → Type 0
+IsPlanNamed bytes_in None plan = plan_of plan ≡ Ok example
+IsPlanNamed bytes_in (Some name) plan = IfSome (bytes_in name) (λ all. plan ≡ all)
+
+-- the work with a plan's text, and what was left to read, comes to this status and these reasons why
+-- nothing is drawn, and what it writes is after what was written before
+pub record IsAnswer (work : Work) (plan : List ℕ) (unread before after : Option (List ℕ))
+    (status : Status) (reasons : List ℕ) : Type 0 where
+  pub input : List ℕ
+  pub text : List ℕ
+  pub all_read : IfSome unread (λ all. input ≡ all)
+  pub done : IsWorkDone work plan input text status
+  pub written : Appends before after (output_of work status text)
+  pub reasons_are : reasons ≡ reasons_of work status text
+
+-- a slip of such an answer is of the fault whose line is written
+pub record IsSlipOf (work : Work) (before after : Option (List ℕ)) (status : Status)
+    (reasons : List ℕ) (slip : Option Slip) : Type 0 where
+  pub text : List ℕ
+  pub written : Appends before after (output_of work status text)
+  pub reasons_are : reasons ≡ reasons_of work status text
+  pub tells : TellsItsRefusal slip text status

@@ -1,0 +1,129 @@
+//! The program on its real streams. All that it does is done by `run_words`.
+
+use crate::causes::ending_without_words;
+use crate::ended::Ended;
+use crate::exit::Exit;
+use crate::program::run_words;
+use crate::progress::Progress;
+use crate::system::System;
+use crate::told::finish;
+use crate::work::{Work, input_of};
+use crossbar5::Counted;
+use std::alloc::AllocError;
+use std::fs::File;
+use std::io::IsTerminal;
+use std::process::ExitCode;
+use std::sync::Wait;
+use std::thread::{Threads, join};
+use std::{env, io};
+
+/// Runs the program and returns its exit status. The second handle is for live calls: the runtime itself,
+/// where it may start threads and wait for them. `build` names the kit and the commit that the program was
+/// built with, as the last line of `--version`.
+pub fn run<T: Threads + Wait + Sync>(rt: &HostRuntime, threads: &T, build: &str) -> ExitCode {
+    let exit = match words(rt) {
+        Ok(words) => run_owned(rt, threads, &words, build),
+        Err(error) => end(rt, &Ended::plainly(ending_without_words(&error))),
+    };
+    exit.code()
+}
+
+/// The words of the command line, the program's name first.
+fn words(rt: &HostRuntime) -> io::Result<Vec<String>> {
+    Ok(env::args(rt)?.collect(rt.alloc())?)
+}
+
+/// Ends so, with what is to be said on standard error.
+fn end(rt: &HostRuntime, ended: &Ended<'_>) -> Exit {
+    finish(ended, &mut Counted::new(rt.stderr()))
+}
+
+fn run_owned<T: Threads + Wait + Sync>(
+    rt: &HostRuntime,
+    threads: &T,
+    words: &[String],
+    build: &str,
+) -> Exit {
+    let words: Result<Vec<&str>, AllocError> = words
+        .iter()
+        .map(|word| word.as_str())
+        .collect(rt.alloc());
+    match words {
+        Ok(words) if Progress::is_shown(rt) => run_with_progress(rt, threads, &words, build),
+        Ok(words) => run_between(rt, threads, &words, build, &Progress::new()),
+        Err(error) => end(rt, &Ended::plainly(error.into())),
+    }
+}
+
+/// Runs the words, with the progress of a task on standard error. Where no thread can be started, there
+/// is none.
+fn run_with_progress<T: Threads + Wait + Sync>(
+    rt: &HostRuntime,
+    threads: &T,
+    words: &[&str],
+    build: &str,
+) -> Exit {
+    let progress = Progress::new();
+    let ((), exit) = join(
+        threads,
+        || progress.report(rt),
+        || {
+            let exit = run_between(rt, threads, words, build, &progress);
+            progress.end(rt);
+            exit
+        },
+    );
+    exit
+}
+
+/// Runs the words between the standard streams.
+fn run_between<T: Threads + Wait + Sync>(
+    rt: &HostRuntime,
+    threads: &T,
+    words: &[&str],
+    build: &str,
+    progress: &Progress,
+) -> Exit {
+    run_words(
+        threads,
+        rt.alloc(),
+        &Host { rt, progress },
+        words,
+        build,
+        &mut Counted::new(rt.stdin()),
+        &mut Counted::new(rt.stdout()),
+        &mut Counted::new(rt.stderr()),
+    )
+}
+
+/// The system that the program runs on.
+#[derive(Drop)]
+struct Host<'h> {
+    rt: &'h HostRuntime,
+    progress: &'h Progress,
+}
+
+impl System for Host<'_> {
+    type File = File;
+
+    fn open(&self, name: &str) -> io::Result<File> {
+        File::open(self.rt, name)
+    }
+
+    /// Says on a terminal what to type and how to end it. A failure to write this changes nothing.
+    fn begin(&self, work: Work<'_>) {
+        if self.rt.stdin().is_terminal() {
+            let what = input_of(work);
+            let _told = eprintln!(self.rt;
+                "crossbar5: standard input is a terminal: type {what}; end with Ctrl-D"
+            );
+        }
+        if let Work::Task(_) = work {
+            self.progress.begin();
+        }
+    }
+
+    fn end(&self) {
+        self.progress.end(self.rt);
+    }
+}

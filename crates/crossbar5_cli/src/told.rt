@@ -1,0 +1,150 @@
+//! Writes what is to be said on standard error, and help and the version.
+
+ghost use Rattle.std.specs.Prelude.{◌≡◌, IfSome, IsTrue, None, false, option_map};
+ghost use Rattle.std.specs.Io.KnownBytes.{Appends};
+ghost use Rattle.clap.specs.Words.{kind_of};
+ghost use Rattle.counted_io.specs.Counts.{HasFailed};
+ghost use Rattle.crossbar5_cli.specs.Endings.{line_of};
+ghost use Rattle.crossbar5_cli.specs.Sentences.{sentence_on_telling, text_of};
+ghost use Rattle.crossbar5_cli.specs.Streams.{MayEndOf, MayEndOn, stream_of as stream_of_kind};
+ghost use Rattle.crossbar5_cli.specs.Told as specs;
+
+use crate::ended::Ended;
+use crate::ending::Ending;
+use crate::exit::Exit;
+use crate::stream::{Stream, stream_of, told_on};
+use clap::error::ErrorKind;
+use counted_io::write_all;
+use crossbar5::{EngineFault, Sink};
+use crossbar5_command::CommandFault;
+use std::fmt::Display;
+use std::io::Write;
+
+/// Writes the line of an ending, the reasons why nothing is drawn, and the sentence. A failure to write
+/// them changes nothing else.
+pub fn finish<E: Sink>(ended: &Ended<'_>, errors: &mut E) -> Exit
+    ensures ending { result.ending ≡ ended.now.ending }
+    ensures told { IsTrue result.is_told → IfSome (specs.said ended.now.ending
+        (option_map (λ lines. lines.items) ended.now.reasons)
+        (option_map text_of ended.now.sentence))
+        (Appends (E.contents errors.old) (E.contents errors.new)) }
+    ensures untold { result.is_told ≡ false → ended.now.sentence ≡ None
+        → HasFailed (E.failure_count errors.old) (E.failure_count errors.new) }
+{
+    let is_line_told = tell_line(ended.ending.line(), errors);
+    let reasons = ended.reasons.as_ref();
+    let are_reasons_told = is_line_told && tell_reasons(reasons, errors);
+    let is_sentence_told = tell_sentence(ended.sentence.as_ref(), errors);
+    Exit {
+        ending: ended.ending,
+        is_told: are_reasons_told && is_sentence_told,
+    }
+}
+
+/// Writes a line, if there is one. Whether it is written.
+fn tell_line<E: Sink>(line: Option<&str>, errors: &mut E) -> bool
+    ensures told { IsTrue result → Appends (E.contents errors.old) (E.contents errors.new)
+        (specs.line_text (option_map (λ line. line.now) line.entry)) }
+    ensures untold { result ≡ false
+        → HasFailed (E.failure_count errors.old) (E.failure_count errors.new) }
+    ensures counted { IsTrue result
+        → E.failure_count errors.new ≡ E.failure_count errors.old }
+{
+    match line {
+        Some(line) => {
+            write_all(errors, line.as_bytes()).is_ok() && write_all(errors, b"\n").is_ok()
+        }
+        None => true,
+    }
+}
+
+/// Writes the reasons why nothing is drawn, if there are any. Whether they are written.
+fn tell_reasons<E: Sink>(reasons: Option<&Vec<u8>>, errors: &mut E) -> bool
+    ensures told { IsTrue result → Appends (E.contents errors.old) (E.contents errors.new)
+        (specs.reasons_text (option_map (λ lines. lines.now.items) reasons.entry)) }
+    ensures untold { result ≡ false
+        → HasFailed (E.failure_count errors.old) (E.failure_count errors.new) }
+{
+    match reasons {
+        Some(lines) => write_all(errors, lines).is_ok(),
+        None => true,
+    }
+}
+
+/// Writes a sentence as a line, if there is one, whatever sentences are. Whether it is written.
+pub fn tell_sentence<D: Display, E: Sink>(sentence: Option<&D>, errors: &mut E) -> bool
+    ensures told { IsTrue result
+        → IfSome (specs.sentence_line (option_map (λ text. D.output text.now) sentence.entry))
+        (Appends (E.contents errors.old) (E.contents errors.new)) }
+    ensures none { sentence.entry ≡ None → IsTrue result × (errors.new ≡ errors.old) }
+{
+    match sentence {
+        Some(sentence) => errors.writeln(sentence).is_ok(),
+        None => true,
+    }
+}
+
+/// Prints help or the version on the output, and why the words are refused on standard error, and ends.
+pub fn tell_fault<W: Sink, E: Sink>(
+    fault: &CommandFault,
+    build: &str,
+    output: &mut W,
+    errors: &mut E,
+) -> Exit
+    ensures ending { MayEndOf fault.now result.ending }
+    ensures no_output { specs.HasNoOutput fault.now → output.new ≡ output.old }
+    ensures told { IsTrue result.is_told → IfSome (specs.said_of fault.now result.ending)
+        (Appends (E.contents errors.old) (E.contents errors.new)) }
+{
+    match fault {
+        CommandFault::Refused(error) => tell_text(error.kind(), error, build, output, errors),
+        CommandFault::Memory => {
+            let ended = Ended::plainly(Ending::Failed(EngineFault::Memory));
+            finish(&ended, errors)
+        }
+    }
+}
+
+/// Prints a text of clap's of this kind where it belongs, whatever such texts are, and ends.
+pub fn tell_text<D: Display, W: Sink, E: Sink>(
+    kind: ErrorKind,
+    text: &D,
+    build: &str,
+    output: &mut W,
+    errors: &mut E,
+) -> Exit
+    ensures ending { MayEndOn (stream_of_kind kind) result.ending }
+    ensures shown { result.ending ≡ Ending.Told → IfSome
+        (specs.shown kind (D.output text.now) build.now)
+        (Appends (W.contents output.old) (W.contents output.new)) }
+    ensures no_output { stream_of_kind kind ≡ Stream.Errors → output.new ≡ output.old }
+    ensures told { IsTrue result.is_told → IfSome
+        (specs.said_with (stream_of_kind kind) kind (D.output text.now) result.ending)
+        (Appends (E.contents errors.old) (E.contents errors.new)) }
+{
+    let stream = stream_of(kind);
+    let is_shown = match stream {
+        Stream::Output => show(kind, text, build, output),
+        Stream::Errors => errors.write_fmt(text).is_ok(),
+    };
+    let exit = finish(&Ended::of_telling(kind, told_on(stream, is_shown)), errors);
+    Exit {
+        is_told: exit.is_told && (is_shown || stream == Stream::Output),
+        ..exit
+    }
+}
+
+/// Writes help or the version, with the line on how the program was built. Whether it is written.
+fn show<D: Display, W: Sink>(kind: ErrorKind, text: &D, build: &str, output: &mut W) -> bool
+    ensures { IsTrue result → IfSome (specs.shown kind (D.output text.now) build.now)
+        (Appends (W.contents output.old) (W.contents output.new)) }
+{
+    let is_text_shown = output.write_fmt(text).is_ok();
+    match kind {
+        ErrorKind::DisplayVersion => {
+            let is_build_shown = output.writeln(build).is_ok();
+            is_text_shown && is_build_shown
+        }
+        _ => is_text_shown,
+    }
+}

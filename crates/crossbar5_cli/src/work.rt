@@ -1,0 +1,182 @@
+//! What is to be done of what is asked for, and doing it.
+
+ghost use Rattle.std.specs.Prelude.{◌≡◌, ◌≢◌, ◌+◌, ◌⊎◌, ◌↔◌, Err, IfErr, IfOk, OnOk, option_map, vec_len};
+ghost use Rattle.std.specs.String.{string_bytes};
+ghost use Rattle.std.specs.Io.KnownBytes.{IsAtEnd, Keeps};
+ghost use Rattle.counted_io.specs.Counts.{HasFailed, ReadsUsedUp};
+ghost use Rattle.crossbar5.specs.Faults.{ComesFirst};
+ghost use Rattle.crossbar5_cli.specs.Work as specs;
+ghost use Rattle.crossbar5_cli.specs.Work.{HasGates, HasMarkers, IsAnswer, IsReady, IsSlipOf, IsUnread, NamesKinds};
+
+use crossbar5::{Answer, EngineFault, Look, Sink, Source, Task, Telling, answer_task};
+use crossbar5_command::Ask;
+use crossbar5_live::{answer_live, open_gates};
+use std::alloc::Global;
+use std::sync::Wait;
+use std::thread::Threads;
+use xbar_core::Kind;
+use xbar_markers::OpenGate;
+
+/// What is to be done.
+#[derive(Clone, Copy)]
+pub enum Work<'k> {
+    /// A task of the engine.
+    Task(Task<'k>),
+    /// Live calls, by so many markers that dial and so many that complete calls.
+    Calls { dialling: u32, completing: u32 },
+}
+
+/// What is to be done, by markers of these kinds where they have kinds.
+pub fn work_of<'k>(ask: &Ask, kinds: &'k [Kind]) -> Work<'k>
+    ensures work { result ≡ specs.work_of ask.now kinds.entry }
+    ensures ready { NamesKinds (specs.letters_of ask.now) kinds.now → IsReady result }
+{
+    match ask {
+        Ask::Replay { .. } => Work::Task(Task::Replay { kinds }),
+        Ask::Walk { short, .. } => Work::Task(Task::Walk {
+            kinds,
+            telling: telling_of(*short),
+        }),
+        Ask::Live {
+            dial,
+            completing,
+            ..
+        } => Work::Calls {
+            dialling: *dial,
+            completing: *completing,
+        },
+        Ask::Audit { .. } => Work::Task(Task::Audit),
+        Ask::Draw { text, .. } => Work::Task(Task::Draw {
+            look: look_of(*text),
+        }),
+        Ask::Page { .. } => Work::Task(Task::Draw { look: Look::Page }),
+    }
+}
+
+/// How a walk is told, by whether it is to be short.
+fn telling_of(short: bool) -> Telling
+    ensures { result ≡ specs.telling_of short }
+{
+    if short { Telling::Short } else { Telling::Each }
+}
+
+/// How an office is drawn, by whether a text is wanted.
+fn look_of(text: bool) -> Look
+    ensures { result ≡ specs.look_of text }
+{
+    if text { Look::Text } else { Look::Drawing }
+}
+
+/// The name of the plan's file, if one is named.
+pub fn file_of(ask: &Ask) -> Option<&str>
+    ensures { option_map (λ name. name.now) result ≡ specs.file_of ask.now }
+{
+    match ask {
+        Ask::Replay { plan, .. } => name_of(plan),
+        Ask::Walk { plan, .. } => name_of(plan),
+        Ask::Live { plan, .. } => name_of(plan),
+        Ask::Audit { plan } => name_of(plan),
+        Ask::Draw { plan, .. } => name_of(plan),
+        Ask::Page { plan } => name_of(plan),
+    }
+}
+
+fn name_of(plan: &Option<String>) -> Option<&str>
+    ensures { option_map (λ name. name.now) result ≡ option_map string_bytes plan.now }
+{
+    match plan {
+        Some(name) => Some(name.as_str()),
+        None => None,
+    }
+}
+
+/// The letters of the markers' kinds, where markers have kinds.
+pub fn letters_of(ask: &Ask) -> Option<&str>
+    ensures { option_map (λ letters. letters.now) result ≡ specs.letters_of ask.now }
+{
+    match ask {
+        Ask::Replay { kinds, .. } => Some(kinds.as_str()),
+        Ask::Walk { kinds, .. } => Some(kinds.as_str()),
+        Ask::Live { .. } | Ask::Audit { .. } | Ask::Draw { .. } | Ask::Page { .. } => None,
+    }
+}
+
+/// What the work reads, with an example.
+pub fn input_of(work: Work<'_>) -> &'static str {
+    match work {
+        Work::Task(Task::Replay { .. } | Task::Walk { .. }) => {
+            "rows, such as J,0,1,D,3041 and S,0,128,,"
+        }
+        Work::Task(Task::Audit | Task::Draw { .. }) => "records, as a replay prints them",
+        Work::Calls { .. } => "calls, such as C,7,3041,5551234,R",
+    }
+}
+
+/// The gates of the markers that make calls on threads. A task has none.
+pub fn gates_of(alloc: Global, work: Work<'_>) -> Result<Vec<OpenGate>, EngineFault>
+    requires { IsReady work }
+    ensures gates { IfOk result (λ gates. HasGates work.entry (vec_len gates)) }
+    ensures markers { (result ≡ Err EngineFault.Markers) ↔ ¬ HasMarkers work.entry }
+    ensures why { IfErr result (λ fault. (fault ≡ EngineFault.Markers) ⊎ (fault ≡ EngineFault.Memory)) }
+{
+    match work {
+        Work::Task(_) => Ok(Vec::new(alloc)),
+        Work::Calls {
+            dialling,
+            completing,
+        } => match open_gates(alloc, dialling as usize, completing as usize) {
+            Ok(gates) => Ok(gates),
+            Err(EngineFault::Markers) => Err(EngineFault::Markers),
+            // The gates only want memory.
+            Err(_) => Err(EngineFault::Memory),
+        },
+    }
+}
+
+/// Has the engine do the work with a plan's text, between a reader and a writer.
+pub fn answer<T: Threads + Wait + Sync, R: Source, W: Sink>(
+    threads: &T,
+    alloc: Global,
+    work: Work<'_>,
+    gates: Vec<OpenGate>,
+    plan: &[u8],
+    input: &mut R,
+    output: &mut W,
+) -> Result<Answer, EngineFault>
+    requires { HasGates work (vec_len gates) }
+    ensures done { IfOk result (λ answer. IsAnswer work.entry plan.now (R.remaining input.old)
+        (W.contents output.old) (W.contents output.new) answer.status answer.reasons.items) }
+    ensures slip { IfOk result (λ answer. IsSlipOf work.entry (W.contents output.old)
+        (W.contents output.new) answer.status answer.reasons.items answer.slip) }
+    ensures markers { (result ≡ Err EngineFault.Markers) ↔ ¬ HasMarkers work.entry }
+    ensures device { result ≡ Err EngineFault.Device
+        → HasFailed (R.failure_count input.old) (R.failure_count input.new)
+        ⊎ HasFailed (W.failure_count output.old) (W.failure_count output.new) }
+    ensures no_failure { result ≢ Err EngineFault.Device
+        → (R.failure_count input.new ≡ R.failure_count input.old)
+        × (W.failure_count output.new ≡ W.failure_count output.old) }
+    ensures unread { IsUnread work.entry plan.now → input.new ≡ input.old }
+    ensures end { OnOk result
+        (¬ IsUnread work.entry plan.now → IsAtEnd (R.remaining input.new)) }
+    ensures long { result ≡ Err EngineFault.Long →
+        ReadsUsedUp (R.read_count input.old) (R.read_count input.new) }
+    ensures unwritten { IfErr result (λ fault. ComesFirst fault →
+        Keeps (W.contents output.old) (W.contents output.new)) }
+{
+    match work {
+        Work::Task(task) => answer_task(alloc, task, plan, input, output),
+        Work::Calls {
+            dialling,
+            completing,
+        } => answer_live(
+            threads,
+            alloc,
+            plan,
+            dialling as usize,
+            completing as usize,
+            gates,
+            input,
+            output,
+        ),
+    }
+}
