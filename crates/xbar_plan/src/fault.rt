@@ -2,12 +2,12 @@ ghost use Rattle.std.specs.Prelude.{◌≡◌};
 ghost use Rattle.xbar_plan.specs.declared.fault.PlanFault.TheVariants.{Memory};
 
 use std::alloc::{AllocError, AllocFailed};
-use std::error::Error;
 use std::fmt;
+use thiserror::Error;
 
 /// What is wrong with a plan, in the order in which faults are looked for: each one only where those
 /// before it are absent. Its text is its number, `P1` to `P14`, or `MEMORY`.
-#[derive(Clone, Copy, Debug, PartialEq, Eq)]
+#[derive(Clone, Copy, Debug, PartialEq, Eq, Error)]
 pub enum PlanFault {
     /// The bytes are no TOML document.
     NotToml,
@@ -68,8 +68,6 @@ impl fmt::Display for PlanFault {
         })
     }
 }
-
-impl Error for PlanFault {}
 
 impl From<AllocError> for PlanFault {
     ghost from_gives = { λ _ fault. fault ≡ Memory };
