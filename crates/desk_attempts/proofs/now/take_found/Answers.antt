@@ -1,8 +1,9 @@
-use Rattle.std.proofs.Common.{ap, ◌∙◌}
+use Rattle.std.proofs.Common.{ℕ, ap, refl, arith, ◌∙◌}
+use Rattle.turns.specs.declared.phase.Phase.{Phase}
+use Rattle.attempts.specs.Steps.{told_in}
 use Rattle.turns.specs.Attempt.{act, answer_to, change}
 use Rattle.desk_attempts.specs.Ahead.{now_of}
 use Rattle.attempts.specs.SystemWith.{system_with}
-use Rattle.desk_attempts.specs.declared.ahead.Ahead.TheInside.{Inside}
 use Rattle.desk_attempts.proofs.AheadNow.{seen_waiting, told_far}
 use Rattle.desk_attempts.proofs.now.take_found.Goals as goal
 
@@ -13,7 +14,10 @@ pub returns-in-Some-clause-answer : goal.returns-in-Some-clause-answer
 returns-in-Some-clause-answer g c = seen_waiting g.S.Scripts.reply_of g.S.Scripts.effects_of (λ a. answer_to (system_with g.S.Lock.PartialEq.eq g.S.Scripts.reply_of g.S.Scripts.effects_of (g.S.Scripts.system c.args.setting.now)) c.args.actor (act a) c.args.found) c.args.program.now c.in-Some.guess c.in-Some.ensures
 
 pub returns-in-None-clause-next : goal.returns-in-None-clause-next
-returns-in-None-clause-next g c = c.take_told.ensures.change ∙ ap (change (system_with g.S.Lock.PartialEq.eq g.S.Scripts.reply_of g.S.Scripts.effects_of (g.S.Scripts.system c.args.setting.now)) (now_of g.S.Scripts.reply_of g.S.Scripts.effects_of c.args.program.now)) (c.told-told.ensures ∙ told_far g.S.Lock.PartialEq.eq g.S.Scripts.reply_of g.S.Scripts.effects_of (g.S.Scripts.system c.args.setting.now) c.args.actor c.args.found _ _ c.program.inside.sure c.args.program.now (ap (λ (p : Inside _ _ _ _ _ _). p.far) c.program-inside.view_is) c.program.view_is c.in-None.ensures)
+returns-in-None-clause-next g c = c.take_told.ensures.change ∙ ap (change (system_with g.S.Lock.PartialEq.eq g.S.Scripts.reply_of g.S.Scripts.effects_of (g.S.Scripts.system c.args.setting.now)) (now_of g.S.Scripts.reply_of g.S.Scripts.effects_of c.args.program.now)) (c.told-told.ensures ∙ ap (λ (phase : Phase _ ℕ). told_in phase c.args.actor c.args.found) c.phase.ensures ∙ told_far g.S.Lock.PartialEq.eq g.S.Scripts.reply_of g.S.Scripts.effects_of (g.S.Scripts.system c.args.setting.now) c.args.actor c.args.found _ _ c.program.inside.sure c.args.program.now refl c.program.view_is c.in-None.ensures)
 
 pub returns-in-None-clause-answer : goal.returns-in-None-clause-answer
-returns-in-None-clause-answer g c = c.told-told.ensures ∙ told_far g.S.Lock.PartialEq.eq g.S.Scripts.reply_of g.S.Scripts.effects_of (g.S.Scripts.system c.args.setting.now) c.args.actor c.args.found _ _ c.program.inside.sure c.args.program.now (ap (λ (p : Inside _ _ _ _ _ _). p.far) c.program-inside.view_is) c.program.view_is c.in-None.ensures
+returns-in-None-clause-answer g c = c.told-told.ensures ∙ ap (λ (phase : Phase _ ℕ). told_in phase c.args.actor c.args.found) c.phase.ensures ∙ told_far g.S.Lock.PartialEq.eq g.S.Scripts.reply_of g.S.Scripts.effects_of (g.S.Scripts.system c.args.setting.now) c.args.actor c.args.found _ _ c.program.inside.sure c.args.program.now refl c.program.view_is c.in-None.ensures
+
+pub phase-requires : goal.phase-requires
+phase-requires g c = grind arith steps 60000000

@@ -4,7 +4,7 @@ use Rattle.desk_attempts.proofs.AheadNow.{guess_at}
 use Rattle.desk_attempts.proofs.ahead.Ahead.guess.Goals as goal
 
 pub returns : goal.returns
-returns g c = c.reading.ensures ∙ ap (λ x. slice_get x.far.readings c.in_ok-made.made) c.self-inside.view_is ∙ guess_at c.self.inside.far c.self.inside.sure c.args.self.now c.self.view_is c.in_ok-made.made (sym (ap (λ x. x.sure) c.self-inside.view_is) ∙ c.in_ok-made.was)
+returns g c = c.reading.ensures ∙ guess_at c.self.inside.far c.self.inside.sure c.args.self.now c.self.view_is c.in_ok-made.made c.in_ok-made.was
 
 pub reading-requires : goal.reading-requires
 reading-requires g c = grind arith steps 60000000
