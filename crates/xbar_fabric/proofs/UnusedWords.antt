@@ -27,7 +27,7 @@ unused_word word unused = elim (eq-zero-or-pos word) [ inl none ↦ none | inr s
   set_nowhere : zero < word → ⊥
   set_nowhere some =
       let place = trailing_zeros w64 word in
-      let set : bit_at word place ≡ 1 = (bit_at-trailing_zeros w64 word some unused.is_word.below).1.0 in
+      let set : bit_at word place ≡ 1 = (bit_at-trailing_zeros w64 word some unused.is_word.below).1 in
       elim (unused.is_word.bits place set) [
         | inl low ↦ omega (arith, set, holder_bit word place unused.free low)
         | inr high ↦ asked place set high
