@@ -8,7 +8,7 @@ use crossbar5::{
 use std::alloc::{AllocError, Global};
 use std::process::Abort;
 use std::test::Fail;
-use test_checks::check_eq;
+use test_tools::check_eq;
 use xbar_core::Kind;
 
 mod faults;

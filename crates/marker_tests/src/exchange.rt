@@ -7,7 +7,7 @@ use crate::offices::plain::open_exchange;
 use crate::offices::{Driven, TWO, assign, begin_both, go_on_for};
 use std::alloc::Global;
 use std::process::Abort;
-use test_checks::{check, check_eq};
+use test_tools::{check, check_eq};
 use xbar_core::{AssignFault, Event, Exchange, Kind, OpenFault};
 use xbar_office::Record;
 use xbar_plan::Plan;

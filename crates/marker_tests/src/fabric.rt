@@ -5,7 +5,7 @@ use crate::offices::two_desks::open_desks;
 use crate::offices::{Driven, TWO, assign};
 use std::alloc::Global;
 use std::process::Abort;
-use test_checks::{check, check_eq};
+use test_tools::{check, check_eq};
 use xbar_core::{Event, Kind};
 use xbar_fabric::{Fabric, shut_all};
 use xbar_office::Record;

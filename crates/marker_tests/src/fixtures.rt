@@ -2,7 +2,7 @@
 
 use std::alloc::{AllocError, Global};
 use std::process::Abort;
-use test_checks::check_eq;
+use test_tools::check_eq;
 use xbar_equip::{Dialled, Len};
 use xbar_match::{count_closed, count_paths};
 use xbar_office::{Job, Record, audit};

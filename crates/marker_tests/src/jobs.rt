@@ -10,7 +10,7 @@ use crate::fixtures::{
 };
 use std::alloc::Global;
 use std::process::Abort;
-use test_checks::check_eq;
+use test_tools::check_eq;
 use told::{ToldReply, ToldStep, check_text};
 use xbar_equip::{Conn, Path, WORD_COUNT, WordNo};
 use xbar_jobs::{Answer, Program, Step};

@@ -4,7 +4,7 @@ use crate::fixtures::{WITH_REGISTER, WITH_TRUNK, Words, check_shown, check_words
 use plain::open_exchange;
 use std::alloc::Global;
 use std::process::Abort;
-use test_checks::check_eq;
+use test_tools::check_eq;
 use two_desks::open_desks;
 use xbar_core::{AssignFault, Event, Given, Kind, OpenFault};
 use xbar_equip::Conn;

@@ -3,7 +3,7 @@
 use crate::fixtures::{check_all_printed, check_printed, far_path, near_path, path_of};
 use std::alloc::Global;
 use std::process::Abort;
-use test_checks::check_eq;
+use test_tools::check_eq;
 use xbar_equip::{
     Channel, Conn, Crosspoint, Dialled, DirNo, EquipFault, Len, Link, LinkKind, Path, Ten, WordNo,
     conn_word, group_word, laws, line_junctor, line_switch, protects, trunk_junctor, trunk_switch,

@@ -3,7 +3,7 @@
 use std::alloc::Global;
 use std::fmt::Display;
 use std::process::Abort;
-use test_checks::{check, check_eq};
+use test_tools::{check, check_eq};
 use xbar_equip::{Channel, DirNo, EquipFault, Len, Link, Path, Ten};
 use xbar_office::{End, Job, Record, Reply};
 use xbar_plan::Plan;

@@ -3,7 +3,7 @@
 use crate::fixtures::{far_path, text_of};
 use std::process::Abort;
 use std::test::Fail;
-use test_checks::check_eq;
+use test_tools::check_eq;
 use xbar_equip::{Channel, Crosspoint, EquipFault, Len, Path, Ten, WORD_COUNT};
 use xbar_match::{
     count_closed, count_paths, effects_of, find_line, find_number, idle_links, idle_trunk_links,

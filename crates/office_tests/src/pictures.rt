@@ -3,7 +3,7 @@
 use crate::fixtures::path_of;
 use std::alloc::Global;
 use std::process::Abort;
-use test_checks::check_eq;
+use test_tools::check_eq;
 use xbar_office_text::add_path_lines;
 
 /// A path by its line, its channel and its place, what it comes to, and its picture.

@@ -6,7 +6,7 @@ use std::test::Fail;
 use svg::{
     Point, Shape, add_circle, add_drawing, add_escaped, add_group, add_group_end, add_shape,
 };
-use test_checks::check_eq;
+use test_tools::check_eq;
 
 const SHAPES: &[(Shape<'static>, &str)] = &[
     (

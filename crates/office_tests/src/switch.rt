@@ -3,7 +3,7 @@
 use crate::fixtures::check_all_printed;
 use std::process::Abort;
 use std::test::Fail;
-use test_checks::check_eq;
+use test_tools::check_eq;
 use xbar_switch::{Shape, Switch, SwitchFault, close_bits, field, laws, open_mask};
 
 /// What is answered, and the word of the switch after it.

@@ -3,7 +3,7 @@
 use crossbar5_command::{Ask, CommandFault, command};
 use std::alloc::{AllocError, Global};
 use std::process::Abort;
-use test_checks::{check, check_eq};
+use test_tools::{check, check_eq};
 
 /// The subcommand, the plan's file, if one is asked for, and what else is asked for, in the order of
 /// the fields.

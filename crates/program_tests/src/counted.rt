@@ -2,8 +2,7 @@
 //! a device.
 
 use std::process::Abort;
-use test_checks::check_eq;
-use test_devices::{Call, Recorder};
+use test_tools::{Call, Recorder, check_eq};
 
 mod calls;
 mod devices;

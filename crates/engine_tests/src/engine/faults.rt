@@ -1,8 +1,7 @@
 //! Reads and writes that fail, and input without end.
 
 use super::*;
-use test_checks::check;
-use test_devices::{Call, Endless, FailAt, Recorder};
+use test_tools::{Call, Endless, FailAt, Recorder, check};
 
 /// One read gives bytes, and the next finds the end.
 #[test]

@@ -1,7 +1,7 @@
 //! The kinds of the markers, as a text and by their number.
 
 use super::*;
-use test_checks::check;
+use test_tools::check;
 
 const REFUSED: &[&str] = &["", "d", "XY", "X X", "X\n", "\u{e9}"];
 

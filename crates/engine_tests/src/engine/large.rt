@@ -1,7 +1,7 @@
 //! A replay that is large, and a text of many records.
 
 use super::*;
-use test_checks::check;
+use test_tools::check;
 
 const CALLS: u32 = 120;
 

@@ -1,7 +1,7 @@
 //! Where an allocation is refused, the engine says so with nothing written, or comes to what it comes to.
 
 use super::*;
-use test_checks::check;
+use test_tools::check;
 
 #[test]
 fn refused_memory_leaves_nothing_written(rt: HostRuntime) {

@@ -2,7 +2,7 @@
 
 use crate::live::running::{EXAMPLE, ONE_EACH, run};
 use crossbar5::{Counted, EngineFault, Sink, Source};
-use test_devices::{Endless, FailAt};
+use test_tools::{Endless, FailAt};
 
 const CALL: &str = "C,7,3041,5551234,R\n";
 

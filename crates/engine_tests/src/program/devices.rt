@@ -4,8 +4,7 @@ use super::running::run_line;
 use crossbar5::Counted;
 use crossbar5_cli::Ending;
 use std::test::Fail;
-use test_checks::{check, check_eq};
-use test_devices::FailAt;
+use test_tools::{FailAt, check, check_eq};
 
 const UNREADABLE: &str = "FAULT,DEVICE\ncrossbar5: cannot read standard input\n";
 

@@ -4,7 +4,7 @@
 use super::running::run_line;
 use crossbar5::Counted;
 use std::test::Fail;
-use test_checks::check_eq;
+use test_tools::check_eq;
 
 /// Words, with the status and what is on standard error.
 const LINES: &[(&str, u8, &str)] = &[

@@ -5,7 +5,7 @@ use crossbar5::{Counted, Source, Task, answer_task, kinds_of};
 use crossbar5_cli::{Ended, Ending};
 use std::alloc::Global;
 use std::process::Abort;
-use test_checks::check_eq;
+use test_tools::check_eq;
 
 /// The file that a plan's text stood in.
 const FILE: &str = "town.toml";

@@ -9,7 +9,7 @@ use std::alloc::Global;
 use std::process::Abort;
 use std::sync::Wait;
 use std::thread::Threads;
-use test_checks::{check, check_eq};
+use test_tools::{check, check_eq};
 use xbar_equip::Len;
 use xbar_markers::{Call, Outcome, RunFault, run_calls};
 use xbar_match::{count_closed, count_paths};

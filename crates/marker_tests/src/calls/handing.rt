@@ -7,7 +7,7 @@ use std::alloc::Global;
 use std::process::Abort;
 use std::sync::Wait;
 use std::thread::Threads;
-use test_checks::{check, check_eq};
+use test_tools::{check, check_eq};
 use xbar_equip::Len;
 use xbar_fabric::{AssignFault, Desk, Fabric, Kind, shut};
 use xbar_markers::{Handed, Then, hand_over};

@@ -9,7 +9,7 @@ use std::alloc::{AllocError, Global};
 use std::process::Abort;
 use std::sync::Wait;
 use std::thread::Threads;
-use test_checks::{check, check_eq};
+use test_tools::{check, check_eq};
 use xbar_equip::{Dialled, Len};
 use xbar_markers::{Call, Outcome};
 use xbar_office::{End, Record, audit};

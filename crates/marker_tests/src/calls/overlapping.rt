@@ -10,7 +10,7 @@ use std::alloc::{AllocError, Global};
 use std::process::Abort;
 use std::sync::Wait;
 use std::thread::Threads;
-use test_checks::check_eq;
+use test_tools::check_eq;
 use xbar_equip::Len;
 use xbar_markers::{Call, Outcome};
 use xbar_plan::Plan;

@@ -8,7 +8,7 @@ ghost use Rattle.marker_tests.specs.Shifts.{AreInOrder};
 use super::driving::Shift;
 use std::alloc::Global;
 use std::process::Abort;
-use test_checks::{check, check_eq};
+use test_tools::{check, check_eq};
 use xbar_equip::Crosspoint;
 use xbar_fabric::{Desk, Fabric, shut_all};
 use xbar_match::{count_closed, count_paths, shape_at};

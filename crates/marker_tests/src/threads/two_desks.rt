@@ -10,7 +10,7 @@ use crate::fixtures::example;
 use std::alloc::{AllocError, Global};
 use std::process::Abort;
 use std::thread::{Threads, map_vec};
-use test_checks::{check, check_eq};
+use test_tools::{check, check_eq};
 use xbar_equip::Len;
 use xbar_fabric::{Desk, Fabric, Given, Kind, meet, shut};
 use xbar_match::{count_closed, count_paths};

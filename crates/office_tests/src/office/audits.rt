@@ -4,7 +4,7 @@ use super::texts::reply_to;
 use crate::fixtures::{check_printed, example, near_path, record};
 use std::alloc::Global;
 use std::process::Abort;
-use test_checks::check_eq;
+use test_tools::check_eq;
 use xbar_equip::{Crosspoint, Dialled};
 use xbar_office::{AuditFault, End, Job, Office, Record, audit};
 use xbar_plan::Plan;

@@ -6,7 +6,7 @@ use crate::fixtures::example;
 use std::alloc::Global;
 use std::process::Abort;
 use std::test::Fail;
-use test_checks::check;
+use test_tools::check;
 use xbar_equip::Path;
 use xbar_office::{Office, Record};
 use xbar_office_drawing::{laws, office_drawing};

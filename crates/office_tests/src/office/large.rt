@@ -5,7 +5,7 @@ use super::texts::{Line, does};
 use crate::fixtures::{example, near_path, read_plan, record};
 use std::alloc::{AllocError, Global};
 use std::process::Abort;
-use test_checks::{check, check_eq};
+use test_tools::{check, check_eq};
 use xbar_equip::{Dialled, Len};
 use xbar_office::{AuditFault, End, Job, Office, Record, Reply, audit};
 use xbar_plan::Plan;

@@ -3,7 +3,7 @@
 use crate::fixtures::record;
 use std::alloc::Global;
 use std::process::Abort;
-use test_checks::{check, check_eq};
+use test_tools::{check, check_eq};
 use xbar_equip::{Channel, Dialled, Len, Path, Ten};
 use xbar_office::{AuditFault, End, Job, Office, Record, Reply, audit};
 use xbar_plan::Plan;

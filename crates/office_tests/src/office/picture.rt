@@ -6,7 +6,7 @@ use crate::fixtures::{path_of, read_plan};
 use std::alloc::{AllocError, Global};
 use std::process::Abort;
 use std::test::Fail;
-use test_checks::check_eq;
+use test_tools::check_eq;
 use xbar_equip::{Len, Link, LinkKind, Path};
 use xbar_office::{Card, Cards, End, Job, Office, Record, Reply};
 use xbar_office_text::{laws, office_text};

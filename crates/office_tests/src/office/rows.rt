@@ -4,7 +4,7 @@ use super::plans::plan;
 use super::texts::{Line, does};
 use std::alloc::Global;
 use std::process::Abort;
-use test_checks::check_eq;
+use test_tools::check_eq;
 use xbar_office::Office;
 
 /// A plan, jobs in it, in parts that cases share, and the paths that stand after them.

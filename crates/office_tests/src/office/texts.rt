@@ -2,7 +2,7 @@
 
 use std::alloc::{AllocError, Global};
 use std::process::Abort;
-use test_checks::check_eq;
+use test_tools::check_eq;
 use xbar_equip::{Dialled, EquipFault, Len, Path};
 use xbar_office::{Card, End, Job, Office, Reply};
 use xbar_report::name_of;

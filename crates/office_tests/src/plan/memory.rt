@@ -2,7 +2,7 @@
 
 use super::writing::answer_the_same;
 use std::alloc::Global;
-use test_checks::{check, check_eq};
+use test_tools::{check, check_eq};
 use xbar_plan::{Plan, PlanFault};
 use xbar_plan_text::PlanText;
 

@@ -6,7 +6,7 @@ use crate::fixtures::{
 };
 use std::alloc::{AllocError, Global};
 use std::process::Abort;
-use test_checks::{check, check_eq};
+use test_tools::{check, check_eq};
 use xbar_equip::{DirNo, Len};
 use xbar_plan::{Plan, PlanFault};
 use xbar_plan_text::PlanText;

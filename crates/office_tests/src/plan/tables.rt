@@ -6,7 +6,7 @@ use crate::fixtures::{
 };
 use std::alloc::Global;
 use std::process::Abort;
-use test_checks::{check, check_eq};
+use test_tools::{check, check_eq};
 use xbar_equip::{DirNo, EquipFault, Len, Link, Ten};
 use xbar_plan::{Group, GroupKind, Member, Plan, PlanFault, Route, Station};
 

@@ -3,7 +3,7 @@
 use crate::fixtures::{NumberLines, check_faulty, check_lines, check_routes, example, read_plan};
 use std::alloc::Global;
 use std::process::Abort;
-use test_checks::check;
+use test_tools::check;
 use xbar_equip::DirNo;
 use xbar_plan::Plan;
 use xbar_plan_text::PlanText;

@@ -7,8 +7,7 @@ use std::io;
 use std::io::{Read, Write};
 use std::process::Abort;
 use std::test::Fail;
-use test_checks::{check, check_eq};
-use test_devices::{Call, FailAt, Recorder};
+use test_tools::{Call, FailAt, Recorder, check, check_eq};
 
 /// A buffer's length, whether the failures of the call are counted, and how many bytes it gets.
 const READS: &[(usize, bool, usize)] = &[(5, false, 5), (3, true, 2), (0, false, 0), (5, true, 0)];

@@ -7,8 +7,7 @@ use std::io;
 use std::io::{Read, Write};
 use std::process::Abort;
 use std::test::Fail;
-use test_checks::{check, check_eq};
-use test_devices::{Endless, FailAt};
+use test_tools::{Endless, FailAt, check, check_eq};
 
 const READ_FAULTS: &[(ReadFault, &str)] = &[
     (ReadFault::Memory, "memory ran out"),

@@ -2,7 +2,7 @@
 
 use counted_io::{Counted, read_all, write_all};
 use std::test::Fail;
-use test_checks::{check, check_eq};
+use test_tools::{check, check_eq};
 
 const LARGE: usize = 2_200_000;
 

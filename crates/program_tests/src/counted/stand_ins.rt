@@ -4,8 +4,7 @@ use super::check_device;
 use std::io;
 use std::io::{Read, Write};
 use std::test::Fail;
-use test_checks::check_eq;
-use test_devices::{Call, Endless, FailAt, Recorder};
+use test_tools::{Call, Endless, FailAt, Recorder, check_eq};
 
 /// How many bytes three reads of two give, whether a read that comes second fails, and what the
 /// second of the three gives.

@@ -1,6 +1,6 @@
 //! Where memory is refused. This test passes whichever allocation is refused.
 
-use test_checks::check_eq;
+use test_tools::check_eq;
 use xbar_report::{ReadFault, read};
 
 /// A text of two records, with three cards and counts.

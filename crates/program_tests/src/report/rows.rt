@@ -3,7 +3,7 @@
 use std::alloc::Global;
 use std::process::Abort;
 use std::test::Fail;
-use test_checks::{check, check_eq};
+use test_tools::{check, check_eq};
 use xbar_report::{Counts, read, report};
 
 /// What replays of worked rows write.

@@ -2,7 +2,7 @@
 
 use std::alloc::Global;
 use std::process::Abort;
-use test_checks::check_eq;
+use test_tools::check_eq;
 use xbar_report::{ReadFault, read};
 
 /// A text of two records, the first with two cards, and counts.

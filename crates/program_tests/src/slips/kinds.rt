@@ -1,7 +1,7 @@
 //! Kinds of markers.
 
 use super::*;
-use test_checks::check_eq;
+use test_tools::check_eq;
 
 /// Kinds, and what is told of those that are none.
 const KINDS: &[(&str, Option<&str>)] = &[

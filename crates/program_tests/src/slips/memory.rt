@@ -2,7 +2,7 @@
 //! then, and never another one.
 
 use super::*;
-use test_checks::check;
+use test_tools::check;
 use xbar_plan::PlanFault;
 use xbar_traffic::{Mode, RowFault, TrafficFault};
 

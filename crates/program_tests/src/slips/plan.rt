@@ -2,7 +2,7 @@
 
 use super::*;
 use std::test::Fail;
-use test_checks::check_eq;
+use test_tools::check_eq;
 use xbar_plan::{Plan, PlanFault};
 
 /// A plan with a register group.

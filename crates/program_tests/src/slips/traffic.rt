@@ -1,7 +1,7 @@
 //! Traffic: what the rows of `worked_rows` can't have.
 
 use super::*;
-use test_checks::check_eq;
+use test_tools::check_eq;
 use xbar_traffic::{MarkerFault, Mode, RowFault, Traffic, TrafficFault};
 
 /// Traffic that is refused by its rows alone, and what is told of it.

@@ -2,7 +2,7 @@
 
 use super::*;
 use std::fmt::Display;
-use test_checks::check_eq;
+use test_tools::check_eq;
 
 /// Why a marker refuses a job, its code, and the line that is told of the job's row.
 const MARKER_FAULTS: &[(MarkerFault, &str, u64, &str)] = &[

@@ -1,6 +1,5 @@
 //! What tests assert. Each check is two calls, of a function that is proved here once for all tests and
 //! of `expect`, where `assert!` and `assert_eq!` write a branch into each test.
-#![tactic(auto)]
 
 ghost use Rattle.std.specs.Prelude.{◌≡◌, is_ok};
 

@@ -1,10 +1,12 @@
-//! Readers and writers that tests put in place of a device.
+//! What tests use: assertions, and readers and writers in place of a device.
 #![tactic(auto)]
 
+pub use checks::{Failed, check_equal, check_holds};
 pub use endless::Endless;
 pub use fail_at::FailAt;
 pub use recorder::{Call, Recorder};
 
+mod checks;
 mod endless;
 mod fail_at;
 mod recorder;
