@@ -1,5 +1,5 @@
 use Rattle.std.specs.Prelude.{◌≡◌, ◌∷◌, ℕ, ◌==◌, if◌then◌else◌, List, Option, Some, None}
-use Rattle.std.specs.Prelude.{Result, Ok, Err, ◌++◌, codes, decimal, option_map}
+use Rattle.std.specs.Prelude.{Result, Ok, Err, ◌++◌, codes, option_map}
 use Rattle.std.specs.Borrow.{Bor}
 use Rattle.std.specs.Option.{ForSome}
 use Rattle.std.specs.declared.io.Error.{Error}
@@ -99,13 +99,11 @@ sentence_on_telling kind (Failed Device) = Some OutputUnwritable
 sentence_on_telling ValueValidation Refused = Some NotMarkerCount
 sentence_on_telling _ _ = None
 
--- the text of a sentence, without its line end. Those of slips and of the system's reasons aren't
--- stated
+-- the text of a sentence, without its line end. Those of slips, of numbers of markers and of the
+-- system's reasons aren't stated
 abbrev pub text_of : Sentence → Option (List ℕ)
 text_of (Kinds slip) = None
-text_of (Staff dialling completing) = Some (codes "crossbar5: " ++ (codes "--dial "
-    ++ decimal dialling ++ codes " --completing " ++ decimal completing
-    ++ codes ": expected at most 48 markers in all, at least one of each kind"))
+text_of (Staff dialling completing) = None
 text_of NotMarkerCount =
     Some (codes "crossbar5: " ++ codes "expected a number of markers from 1 to 47")
 text_of (Plan file slip) = None

@@ -74,6 +74,8 @@ fn kinds_for<'w>(alloc: Global, ask: &'w Ask) -> Result<Vec<Kind>, Ended<'w>>
         (option_map (λ lines. lines.items) ended.reasons) ended.sentence) }
     ensures refused { IfErr result (λ ended.
         (ended.ending ≡ Ending.Failed EngineFault.Markers) ↔ RefusesMarkers ask.now) }
+    ensures why { IfErr result (λ ended. (ended.ending ≡ Ending.Failed EngineFault.Markers)
+        ⊎ (ended.ending ≡ Ending.Failed EngineFault.Memory)) }
 {
     let Some(letters) = letters_of(ask) else {
         return Ok(Vec::new(alloc));

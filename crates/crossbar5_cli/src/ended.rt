@@ -145,6 +145,7 @@ impl<'w> Ended<'w> {
     /// Ends so after a text of clap's of this kind: help, the version or a refusal of the words.
     pub fn of_telling(kind: ErrorKind, ending: Ending) -> Self
         ensures ending { result.ending ≡ ending }
+        ensures reasons { result.reasons ≡ None }
         ensures sentence { result.sentence ≡ specs.sentence_on_telling kind ending }
     {
         Ended::with(ending, sentence_on_telling(kind, ending))

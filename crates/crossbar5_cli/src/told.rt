@@ -122,14 +122,30 @@ pub fn tell_text<D: Display, W: Sink, E: Sink>(
         (specs.said_with (stream_of_kind kind) kind (D.output text.now) result.ending)
         (Appends (E.contents errors.old) (E.contents errors.new)) }
 {
-    let stream = stream_of(kind);
-    let is_shown = match stream {
-        Stream::Output => show(kind, text, build, output),
-        Stream::Errors => errors.write_fmt(text).is_ok(),
-    };
-    let exit = finish(&Ended::of_telling(kind, told_on(stream, is_shown)), errors);
+    match stream_of(kind) {
+        Stream::Output => {
+            let is_shown = show(kind, text, build, output);
+            finish(
+                &Ended::of_telling(kind, told_on(Stream::Output, is_shown)),
+                errors,
+            )
+        }
+        Stream::Errors => tell_refusal(kind, text, errors),
+    }
+}
+
+/// Prints on standard error why words are refused, and ends.
+#[tactic(auto, using(crate::proofs::Saying::put_behind))]
+fn tell_refusal<D: Display, E: Sink>(kind: ErrorKind, text: &D, errors: &mut E) -> Exit
+    ensures ending { result.ending ≡ Ending.Refused }
+    ensures told { IsTrue result.is_told → IfSome
+        (specs.said_with Stream.Errors kind (D.output text.now) Ending.Refused)
+        (Appends (E.contents errors.old) (E.contents errors.new)) }
+{
+    let is_text_told = errors.write_fmt(text).is_ok();
+    let exit = finish(&Ended::of_telling(kind, Ending::Refused), errors);
     Exit {
-        is_told: exit.is_told && (is_shown || stream == Stream::Output),
+        is_told: is_text_told && exit.is_told,
         ..exit
     }
 }

@@ -117,7 +117,8 @@ pub fn gates_of(alloc: Global, work: Work<'_>) -> Result<Vec<OpenGate>, EngineFa
     requires { IsReady work }
     ensures gates { IfOk result (λ gates. HasGates work.entry (vec_len gates)) }
     ensures markers { (result ≡ Err EngineFault.Markers) ↔ ¬ HasMarkers work.entry }
-    ensures why { IfErr result (λ fault. (fault ≡ EngineFault.Markers) ⊎ (fault ≡ EngineFault.Memory)) }
+    ensures why { IfErr result (λ fault. (fault ≡ EngineFault.Markers)
+        ⊎ (fault ≡ EngineFault.Memory)) }
 {
     match work {
         Work::Task(_) => Ok(Vec::new(alloc)),

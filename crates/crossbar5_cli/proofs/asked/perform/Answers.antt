@@ -1,0 +1,24 @@
+use Rattle.std.proofs.Common.{◌≡◌, ◌∙◌, ◌-◌, ℕ, List, Option, Result, Ok, Err, ap, option_map, rules, subst, sym}
+use Rattle.crossbar5.specs.declared.answer.Answer.{Answer}
+use Rattle.crossbar5.specs.declared.engine_fault.EngineFault.{EngineFault}
+use Rattle.crossbar5.specs.declared.engine_fault.EngineFault.TheVariants.{Device, Markers}
+use Rattle.crossbar5_cli.specs.Endings.{ending_of_run}
+use Rattle.crossbar5_cli.specs.Sentences.{sentence_on_run}
+use Rattle.crossbar5_cli.specs.declared.ending.Ending.TheVariants.{Failed}
+use Rattle.crossbar5_cli.proofs.Answering.{run_end}
+use Rattle.crossbar5_cli.proofs.asked.perform.Goals as goal
+
+pub returns-clause-ends : goal.returns-clause-ends
+returns-clause-ends g c =
+    let failures : ℕ = g.R.Source.failure_count c.answer-run.new.input - g.R.Source.failure_count c.args.input.now in
+    let sentence : c.of_run.result.sentence ≡ sentence_on_run c.answer-run.result c.args.file failures = search rules in
+    run_end c.args.work c.args.file (g.S.System.bytes_in c.args.system.now) failures
+    (g.R.Read.remaining c.args.input.now) (g.W.Write.contents c.args.output.now) (g.W.Write.contents c.answer-run.new.output)
+    c.answer-run.result c.of_run.result.ending (option_map (λ lines. lines.items) c.of_run.result.reasons)
+    c.of_run.result.sentence c.in-Ok-plan_named.plan.items c.in-Ok-plan_named.ensures.named
+    (search rules) c.answer-run.ensures.slip c.answer-run.ensures.unwritten (search rules)
+    c.of_run.ensures.ending c.of_run.ensures.reasons sentence
+
+pub returns-clause-no_failure : goal.returns-clause-no_failure
+returns-clause-no_failure g c =
+    λ other. c.answer-run.ensures.no_failure (λ is. other (c.of_run.ensures.ending ∙ ap ending_of_run is))
