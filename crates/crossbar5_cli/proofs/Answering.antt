@@ -2,7 +2,7 @@
 use Rattle.std.proofs.Common.{◌≡◌, ◌≢◌, [], ℕ, Bool, List, Option, None, Some, Result, Ok, Err, IfErr, IfOk, IfSome, IsTrue, inl, option_map, refl, subst, sym}
 use Rattle.std.specs.Io.KnownBytes.{Appends, Keeps}
 use Rattle.crossbar5.specs.Faults.{ComesFirst}
-use Rattle.crossbar5.specs.Live.{IsLive}
+use Rattle.crossbar5_live.specs.Live.{IsLive}
 use Rattle.crossbar5.specs.Refusal.{TellsItsRefusal}
 use Rattle.crossbar5.specs.Task.{IsDone, output_of as task_output, reasons_of as task_reasons}
 use Rattle.crossbar5.specs.declared.answer.Answer.{Answer}
