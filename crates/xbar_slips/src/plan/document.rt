@@ -12,7 +12,8 @@ use super::reason::PlanReason;
 use super::slip::{PlanPlace, PlanWrong};
 use std::alloc::{AllocError, Global};
 use toml::{Table, Value};
-use xbar_plan::{PlanFault, reading};
+use xbar_plan::PlanFault;
+use xbar_plan_text::reading;
 
 /// The document that a text is, if it is one.
 pub fn document_of(alloc: Global, text: &[u8]) -> Result<Option<Table>, AllocError>

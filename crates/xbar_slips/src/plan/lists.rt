@@ -6,7 +6,8 @@ ghost use Rattle.xbar_slips.specs.Lists.{texts_at};
 use super::list::PlanList;
 use std::alloc::{AllocError, Global};
 use toml::{Table, Value};
-use xbar_plan::{Group, PlanFault, reading};
+use xbar_plan::{Group, PlanFault};
+use xbar_plan_text::reading;
 
 /// The texts of a plan's four lists.
 #[derive(Drop)]

@@ -4,7 +4,8 @@ use super::list::PlanList;
 use super::reason::PlanReason;
 use super::slip::{PlanPlace, PlanWrong};
 use std::alloc::{AllocError, Global};
-use xbar_plan::{Group, GroupKind, reading};
+use xbar_plan::{Group, GroupKind};
+use xbar_plan_text::reading;
 
 /// The first name in a code that no group has.
 pub fn unknown_group(
