@@ -4,6 +4,7 @@ use super::*;
 use std::test::Fail;
 use test_tools::check_eq;
 use xbar_plan::{Plan, PlanFault};
+use xbar_plan_text::PlanText;
 
 /// A plan with a register group.
 const PLAN: &[u8] =
