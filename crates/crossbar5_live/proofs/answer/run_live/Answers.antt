@@ -6,4 +6,4 @@ pub returns-in_err-answer-clause-no_failure : goal.returns-in_err-answer-clause-
 returns-in_err-answer-clause-no_failure g c other =
     let told : c.from_residual.result ≡ Err c.in_err-answer.field-0.0 = search rules in
     c.in_err-answer.ensures.no_failure (λ is.
-        let same : c.in_err-answer.field-0.0 ≡ EngineFault.Device = cc in other (told ∙ ap Err same))
+    let same : c.in_err-answer.field-0.0 ≡ EngineFault.Device = cc in other (told ∙ ap Err same))
