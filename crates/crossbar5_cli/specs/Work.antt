@@ -4,7 +4,7 @@ use Rattle.std.specs.Borrow.{Bor}
 use Rattle.std.specs.Io.KnownBytes.{Appends}
 use Rattle.std.specs.String.{string_bytes}
 use Rattle.xbar_core.specs.declared.kind.Kind.{Kind}
-use Rattle.xbar_plan.specs.Document.{plan_of}
+use Rattle.xbar_plan_text.specs.Document.{plan_of}
 use Rattle.xbar_plan.specs.Example.{example}
 use Rattle.xbar_walk.specs.declared.telling.Telling.{Telling}
 use Rattle.xbar_walk.specs.declared.telling.Telling.TheVariants.{Each, Short}

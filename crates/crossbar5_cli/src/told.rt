@@ -125,10 +125,7 @@ pub fn tell_text<D: Display, W: Sink, E: Sink>(
     match stream_of(kind) {
         Stream::Output => {
             let is_shown = show(kind, text, build, output);
-            finish(
-                &Ended::of_telling(kind, told_on(Stream::Output, is_shown)),
-                errors,
-            )
+            finish_telling(kind, told_on(Stream::Output, is_shown), errors)
         }
         Stream::Errors => tell_refusal(kind, text, errors),
     }
@@ -143,11 +140,21 @@ fn tell_refusal<D: Display, E: Sink>(kind: ErrorKind, text: &D, errors: &mut E) 
         (Appends (E.contents errors.old) (E.contents errors.new)) }
 {
     let is_text_told = errors.write_fmt(text).is_ok();
-    let exit = finish(&Ended::of_telling(kind, Ending::Refused), errors);
+    let exit = finish_telling(kind, Ending::Refused, errors);
     Exit {
         is_told: is_text_told && exit.is_told,
         ..exit
     }
+}
+
+/// Ends so after a text of clap's of this kind.
+fn finish_telling<E: Sink>(kind: ErrorKind, ending: Ending, errors: &mut E) -> Exit
+    ensures ending { result.ending ≡ ending }
+    ensures told { IsTrue result.is_told
+        → IfSome (specs.said ending None (option_map text_of (sentence_on_telling kind ending)))
+        (Appends (E.contents errors.old) (E.contents errors.new)) }
+{
+    finish(&Ended::of_telling(kind, ending), errors)
 }
 
 /// Writes help or the version, with the line on how the program was built. Whether it is written.
