@@ -16,6 +16,7 @@ use Rattle.slots.specs.Taken.{Took}
 use Rattle.slots.specs.declared.job.Job.{Job}
 use Rattle.slots.specs.declared.job.Job.TheVariants.{Take, TakeBoth, Give}
 use Rattle.slots.proofs.FreeSlots.{AreFree, both_free, one_free}
+use Rattle.slots.proofs.TakenOnce.{more_taken, these_taken}
 use Rattle.slot_desks.specs.Ended.{AllGiveOwn, GivesIts, GivesOwn, has_after, without}
 
 abbrev Order : Type 0
@@ -66,20 +67,6 @@ are_distinct busy (s ∷ taken) free = (
   (λ within. true≢false (sym (ap (λ (b : Bool). b || busy s) (eq-eqb s s refl)) ∙ are_free (with_slot busy s) taken s free.2 within)),
   are_distinct (with_slot busy s) taken free.2,
 )
-
--- what is taken stays so when more is taken, and what a job took is taken
-or_true : (b : Bool) → (b || true) ≡ true
-or_true true = refl
-or_true false = refl
-
-more_taken : (busy : Busy) (taken : List ℕ) (slot : ℕ) → busy slot ≡ true → with_slots busy taken slot ≡ true
-more_taken busy [] slot e = e
-more_taken busy (first ∷ taken) slot e = more_taken (with_slot busy first) taken slot (ap (λ b. slot == first || b) e ∙ or_true (slot == first))
-
-these_taken : (busy : Busy) (taken : List ℕ) (slot : ℕ) → IsIn slot taken → with_slots busy taken slot ≡ true
-these_taken busy [] slot none = absurd none
-these_taken busy (first ∷ taken) slot (inl e) = more_taken (with_slot busy first) taken slot (ap (λ b. b || busy slot) (eq-eqb slot first e))
-these_taken busy (first ∷ taken) slot (inr later) = these_taken (with_slot busy first) taken slot later
 
 -- what desks have once one of them did a job
 abbrev had_if : Bool → List ℕ → Job → List ℕ → List ℕ

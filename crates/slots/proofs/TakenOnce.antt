@@ -19,11 +19,11 @@ or_true true = refl
 or_true false = refl
 
 -- what is taken stays so when more is taken, and what a job took is taken
-more_taken : (busy : Busy) (taken : List ℕ) (slot : ℕ) → busy slot ≡ true → with_slots busy taken slot ≡ true
+pub more_taken : (busy : Busy) (taken : List ℕ) (slot : ℕ) → busy slot ≡ true → with_slots busy taken slot ≡ true
 more_taken busy [] slot e = e
 more_taken busy (first ∷ taken) slot e = more_taken (with_slot busy first) taken slot (ap (λ b. slot == first || b) e ∙ or_true (slot == first))
 
-these_taken : (busy : Busy) (taken : List ℕ) (slot : ℕ) → IsIn slot taken → with_slots busy taken slot ≡ true
+pub these_taken : (busy : Busy) (taken : List ℕ) (slot : ℕ) → IsIn slot taken → with_slots busy taken slot ≡ true
 these_taken busy [] slot none = absurd none
 these_taken busy (first ∷ taken) slot (inl e) = more_taken (with_slot busy first) taken slot (ap (λ b. b || busy slot) (eq-eqb slot first e))
 these_taken busy (first ∷ taken) slot (inr later) = these_taken (with_slot busy first) taken slot later
