@@ -70,15 +70,8 @@ fn shown<T: Display, N: Debug>(value: &T, numbers: &N) -> Shown {
 }
 
 fn shown_line(line: Len) -> Shown {
-    let [frame, switch, x] = [line.frame(), line.switch(), line.x()];
-    let numbers = [
-        frame,
-        switch,
-        x,
-        line.vertical_group(),
-        line.vertical_file(),
-    ];
-    shown(&line, &numbers)
+    let (group, file) = (line.vertical_group(), line.vertical_file());
+    shown(&line, &[line.frame(), line.switch(), line.x(), group, file])
 }
 
 fn shown_place(place: Ten) -> Shown {
