@@ -1,196 +1,169 @@
 //! The equipment: texts of numbers, paths with their links and crosspoints, and words.
 
-use crate::fixtures::{check_all_printed, check_printed, far_path, near_path, path_of};
+use crate::fixtures::{check_printed, near_path, path_of};
 use std::alloc::Global;
+use std::fmt::{Debug, Display, InlineText};
 use std::process::Abort;
 use test_tools::check_eq;
 use xbar_equip::{
-    Channel, Conn, Crosspoint, Dialled, DirNo, EquipFault, Len, Link, LinkKind, Path, Ten, WordNo,
-    conn_word, group_word, laws, line_junctor, line_switch, protects, trunk_junctor, trunk_switch,
-    turn_word,
+    Channel, Conn, Crosspoint, Dialled, DirNo, EquipFault, Len, Link, Path, Ten, WordNo, conn_word,
+    group_word, laws, line_junctor, line_switch, protects, trunk_junctor, trunk_switch, turn_word,
 };
 
-/// Texts of lines, each with its frame, its switch, its place there, its vertical group and its
-/// vertical file, and the text that it prints.
-const LINES: &[(&str, Result<([u8; 5], [u8; 4]), EquipFault>)] = &[
-    ("3041", Ok(([3, 0, 21, 4, 1], *b"3041"))),
-    ("2954", Ok(([2, 9, 29, 5, 4], *b"2954"))),
-    ("0000", Ok(([0, 0, 0, 0, 0], *b"0000"))),
-    ("1000", Ok(([1, 0, 0, 0, 0], *b"1000"))),
-    ("304", Err(EquipFault::Length)),
-    ("3a5", Err(EquipFault::Length)),
-    ("30a1", Err(EquipFault::NotDigit)),
-    ("304:", Err(EquipFault::NotDigit)),
-    ("306a", Err(EquipFault::NotDigit)),
-    ("3045", Err(EquipFault::Range)),
-    ("3060", Err(EquipFault::Range)),
+/// What a text names.
+#[derive(Clone, Copy)]
+enum Kind {
+    /// Its frame, its switch, its place there, its vertical group and its vertical file.
+    Line,
+    /// Its frame, its switch and its appearance.
+    Place,
+    Channel,
+    DirectoryNumber,
+    /// All seven digits, and their code and number.
+    Dialled,
+    /// Its kind and its three digits.
+    Link,
+}
+
+/// A text, and how its value is printed, with its numbers; or the first fault.
+type Text = (Kind, &'static str, Result<&'static str, EquipFault>);
+
+const TEXTS: &[Text] = &[
+    (Kind::Line, "3041", Ok("3041: [3, 0, 21, 4, 1]")),
+    (Kind::Line, "2954", Ok("2954: [2, 9, 29, 5, 4]")),
+    (Kind::Line, "0000", Ok("0000: [0, 0, 0, 0, 0]")),
+    (Kind::Line, "1000", Ok("1000: [1, 0, 0, 0, 0]")),
+    (Kind::Line, "304", Err(EquipFault::Length)),
+    (Kind::Line, "3a5", Err(EquipFault::Length)),
+    (Kind::Line, "30a1", Err(EquipFault::NotDigit)),
+    (Kind::Line, "304:", Err(EquipFault::NotDigit)),
+    (Kind::Line, "306a", Err(EquipFault::NotDigit)),
+    (Kind::Line, "3045", Err(EquipFault::Range)),
+    (Kind::Line, "3060", Err(EquipFault::Range)),
+    (Kind::Place, "417", Ok("417: [4, 1, 7]")),
+    (Kind::Place, "4170", Err(EquipFault::Length)),
+    (Kind::Place, "41:", Err(EquipFault::NotDigit)),
+    (Kind::Channel, "9", Ok("9: 9")),
+    (Kind::Channel, "10", Err(EquipFault::Length)),
+    (Kind::Channel, "/", Err(EquipFault::NotDigit)),
+    (Kind::DirectoryNumber, "0042", Ok("0042: 42")),
+    (Kind::DirectoryNumber, "042", Err(EquipFault::Length)),
+    (Kind::DirectoryNumber, "00a2", Err(EquipFault::NotDigit)),
+    (Kind::Dialled, "0420007", Ok("0420007: (420007, 42, 7)")),
+    (Kind::Dialled, "555123", Err(EquipFault::Length)),
+    (Kind::Dialled, "555-123", Err(EquipFault::NotDigit)),
+    (Kind::Link, "LL000", Ok("LL000: (LineLink, 0, 0, 0)")),
+    (Kind::Link, "JU340", Ok("JU340: (Junctor, 3, 4, 0)")),
+    (Kind::Link, "TL999", Ok("TL999: (TrunkLink, 9, 9, 9)")),
+    (Kind::Link, "JX34", Err(EquipFault::Length)),
+    (Kind::Link, "JX340", Err(EquipFault::NotDigit)),
+    (Kind::Link, "JU34a", Err(EquipFault::NotDigit)),
+    (Kind::Link, "ju340", Err(EquipFault::NotDigit)),
+    (Kind::Link, "TT340", Err(EquipFault::NotDigit)),
 ];
 
-fn line_of(text: &str) -> Result<([u8; 5], [u8; 4]), EquipFault> {
-    let line = Len::parse(text.as_bytes())?;
-    let numbers = [
-        line.frame(),
-        line.switch(),
-        line.x(),
-        line.vertical_group(),
-        line.vertical_file(),
-    ];
-    Ok((numbers, line.text()))
+/// A value and its numbers.
+type Shown = InlineText<40>;
+
+fn shown<T: Display, N: Debug>(value: &T, numbers: &N) -> Shown {
+    InlineText::of(format_args!("{value}: {numbers:?}"))
 }
 
-#[test]
-fn lines_are_read(rt: HostRuntime) {
-    for (text, wanted) in LINES {
-        check_eq!(rt; line_of(text), *wanted, text);
-    }
+fn shown_line(line: Len) -> Shown {
+    let (group, file) = (line.vertical_group(), line.vertical_file());
+    shown(&line, &[line.frame(), line.switch(), line.x(), group, file])
 }
 
-/// Texts of trunk places, each with its frame, its switch and its appearance.
-const PLACES: &[(&str, Result<([u8; 3], [u8; 3]), EquipFault>)] = &[
-    ("417", Ok(([4, 1, 7], *b"417"))),
-    ("4170", Err(EquipFault::Length)),
-    ("41:", Err(EquipFault::NotDigit)),
-];
-
-fn place_of(text: &str) -> Result<([u8; 3], [u8; 3]), EquipFault> {
-    let place = Ten::parse(text.as_bytes())?;
-    let numbers = [place.frame(), place.switch(), place.appearance()];
-    Ok((numbers, place.text()))
+fn shown_place(place: Ten) -> Shown {
+    shown(&place, &[place.frame(), place.switch(), place.appearance()])
 }
 
-#[test]
-fn trunk_places_are_read(rt: HostRuntime) {
-    for (text, wanted) in PLACES {
-        check_eq!(rt; place_of(text), *wanted, text);
-    }
-}
-
-const CHANNELS: &[(&str, Result<(u8, [u8; 1]), EquipFault>)] = &[
-    ("9", Ok((9, *b"9"))),
-    ("10", Err(EquipFault::Length)),
-    ("/", Err(EquipFault::NotDigit)),
-];
-
-fn channel_of(text: &str) -> Result<(u8, [u8; 1]), EquipFault> {
-    let channel = Channel::parse(text.as_bytes())?;
-    Ok((channel.number(), channel.text()))
-}
-
-#[test]
-fn channels_are_read(rt: HostRuntime) {
-    for (text, wanted) in CHANNELS {
-        check_eq!(rt; channel_of(text), *wanted, text);
-    }
-}
-
-const DIRECTORY_NUMBERS: &[(&str, Result<(u16, [u8; 4]), EquipFault>)] = &[
-    ("0042", Ok((42, *b"0042"))),
-    ("042", Err(EquipFault::Length)),
-    ("00a2", Err(EquipFault::NotDigit)),
-];
-
-fn directory_number_of(text: &str) -> Result<(u16, [u8; 4]), EquipFault> {
-    let number = DirNo::parse(text.as_bytes())?;
-    Ok((number.number(), number.text()))
-}
-
-#[test]
-fn directory_numbers_are_read(rt: HostRuntime) {
-    for (text, wanted) in DIRECTORY_NUMBERS {
-        check_eq!(rt; directory_number_of(text), *wanted, text);
-    }
-}
-
-/// Dialled digits, each with their code and number.
-const DIALLED: &[(&str, Result<(u32, u16, u16, [u8; 7]), EquipFault>)] = &[
-    ("0420007", Ok((420_007, 42, 7, *b"0420007"))),
-    ("555123", Err(EquipFault::Length)),
-    ("555-123", Err(EquipFault::NotDigit)),
-];
-
-fn dialled_of(text: &str) -> Result<(u32, u16, u16, [u8; 7]), EquipFault> {
-    let dialled = Dialled::parse(text.as_bytes())?;
+fn shown_dialled(dialled: Dialled) -> Shown {
     let (code, number) = (dialled.code(), dialled.number());
-    Ok((dialled.value(), code, number.number(), dialled.text()))
+    shown(&dialled, &(dialled.value(), code, number.number()))
 }
 
-#[test]
-fn dialled_digits_are_read(rt: HostRuntime) {
-    for (text, wanted) in DIALLED {
-        check_eq!(rt; dialled_of(text), *wanted, text);
+fn shown_link(link: Link) -> Shown {
+    let (kind, frame, at) = (link.kind(), link.frame(), link.at());
+    shown(&link, &(kind, frame, at, link.channel()))
+}
+
+fn read(kind: Kind, text: &[u8]) -> Result<Shown, EquipFault> {
+    match kind {
+        Kind::Line => Ok(shown_line(Len::parse(text)?)),
+        Kind::Place => Ok(shown_place(Ten::parse(text)?)),
+        Kind::Channel => {
+            let channel = Channel::parse(text)?;
+            Ok(shown(&channel, &channel.number()))
+        }
+        Kind::DirectoryNumber => {
+            let number = DirNo::parse(text)?;
+            Ok(shown(&number, &number.number()))
+        }
+        Kind::Dialled => Ok(shown_dialled(Dialled::parse(text)?)),
+        Kind::Link => Ok(shown_link(Link::parse(text)?)),
     }
 }
 
-/// Texts of links, each with its kind and its three numbers.
-const LINKS: &[(&str, Result<(LinkKind, [u8; 3], [u8; 5]), EquipFault>)] = &[
-    ("LL000", Ok((LinkKind::LineLink, [0, 0, 0], *b"LL000"))),
-    ("JU340", Ok((LinkKind::Junctor, [3, 4, 0], *b"JU340"))),
-    ("TL999", Ok((LinkKind::TrunkLink, [9, 9, 9], *b"TL999"))),
-    ("JX34", Err(EquipFault::Length)),
-    ("JX340", Err(EquipFault::NotDigit)),
-    ("JU34a", Err(EquipFault::NotDigit)),
-    ("ju340", Err(EquipFault::NotDigit)),
-    ("TT340", Err(EquipFault::NotDigit)),
+fn check_text(rt: &impl Abort, text: &Text) {
+    let (kind, text, wanted) = *text;
+    match read(kind, text.as_bytes()) {
+        Ok(shown) => check_eq!(rt; Ok(shown.as_str()), wanted, text),
+        Err(fault) => check_eq!(rt; Err(fault), wanted, text),
+    }
+}
+
+#[test]
+fn texts_are_read_and_printed(rt: HostRuntime) {
+    for text in TEXTS {
+        check_text(&rt, text);
+    }
+    let line = near_path().line;
+    check_printed(&rt, rt.alloc(), &format_args!("[{line:>6}]"), "[  3041]");
+}
+
+/// A path by its line, its channel and its place.
+type PathTexts = (&'static str, &'static str, &'static str);
+
+/// A path, its links, and the word, the field and the value of each of its crosspoints.
+type PathParts = (PathTexts, [&'static str; 3], [(u16, u8, u8); 4]);
+
+const PATHS: &[PathParts] = &[
+    (
+        ("3041", "0", "417"),
+        ["LL300", "JU340", "TL410"],
+        [(60, 0, 22), (70, 4, 1), (290, 3, 2), (281, 0, 8)],
+    ),
+    (
+        ("2954", "9", "999"),
+        ["LL299", "JU299", "TL999"],
+        [(49, 9, 30), (59, 9, 10), (399, 2, 10), (389, 9, 10)],
+    ),
 ];
-
-fn link_of(text: &str) -> Result<(LinkKind, [u8; 3], [u8; 5]), EquipFault> {
-    let link = Link::parse(text.as_bytes())?;
-    let numbers = [link.frame(), link.at(), link.channel()];
-    Ok((link.kind(), numbers, link.text()))
-}
-
-#[test]
-fn links_are_read(rt: HostRuntime) {
-    for (text, wanted) in LINKS {
-        check_eq!(rt; link_of(text), *wanted, text);
-    }
-}
-
-/// The word, the field and the value of each crosspoint of a path, and its links.
-type PathParts = ([(u16, u8, u8); 4], [[u8; 5]; 3]);
-
-const FAR_PARTS: PathParts = (
-    [(49, 9, 30), (59, 9, 10), (399, 2, 10), (389, 9, 10)],
-    [*b"LL299", *b"JU299", *b"TL999"],
-);
-
-const NEAR_PARTS: PathParts = (
-    [(60, 0, 22), (70, 4, 1), (290, 3, 2), (281, 0, 8)],
-    [*b"LL300", *b"JU340", *b"TL410"],
-);
 
 fn crosspoints(path: &Path) -> [(u16, u8, u8); 4] {
     let numbers = |c: Crosspoint| (c.word.number(), c.field, c.value);
     path.crosspoints().map(numbers)
 }
 
-fn links(path: &Path) -> [[u8; 5]; 3] {
-    [
-        path.line_link().text(),
-        path.junctor().text(),
-        path.trunk_link().text(),
-    ]
+fn check_path(rt: &impl Abort, alloc: Global, parts: &PathParts) {
+    let ((line, channel, place), [line_link, junctor, trunk_link], wanted) = *parts;
+    let path = path_of(line, channel, place).expect(rt, "these are a path's texts");
+    check_printed(rt, alloc, &path.line_link(), line_link);
+    check_printed(rt, alloc, &path.junctor(), junctor);
+    check_printed(rt, alloc, &path.trunk_link(), trunk_link);
+    check_eq!(rt; crosspoints(&path), wanted, path);
 }
 
 #[test]
 fn paths_close_four_crosspoints_by_three_links(rt: HostRuntime) {
-    let path = far_path();
-    check_eq!(rt; (crosspoints(&path), links(&path)), FAR_PARTS, path);
-    let path = near_path();
-    check_eq!(rt; (crosspoints(&path), links(&path)), NEAR_PARTS, path);
+    for parts in PATHS {
+        check_path(&rt, rt.alloc(), parts);
+    }
 }
 
-/// Paths, each by its line, its channel and its place, in the order of their texts.
-const IN_ORDER: &[(&str, &str, &str)] = &[
-    ("2954", "9", "999"),
-    ("3041", "0", "417"),
-    ("3041", "0", "500"),
-    ("3041", "1", "417"),
-    ("3050", "0", "417"),
-];
-
-/// The same in another order.
-const SHUFFLED: &[(&str, &str, &str)] = &[
+/// Paths, and their texts in order.
+const SHUFFLED: &[PathTexts] = &[
     ("3041", "1", "417"),
     ("3050", "0", "417"),
     ("3041", "0", "500"),
@@ -198,7 +171,15 @@ const SHUFFLED: &[(&str, &str, &str)] = &[
     ("2954", "9", "999"),
 ];
 
-fn paths(rt: &impl Abort, alloc: Global, texts: &[(&str, &str, &str)]) -> Vec<Path> {
+const IN_ORDER: &[&str] = &[
+    "2954-9-999",
+    "3041-0-417",
+    "3041-0-500",
+    "3041-1-417",
+    "3050-0-417",
+];
+
+fn paths(rt: &impl Abort, alloc: Global, texts: &[PathTexts]) -> Vec<Path> {
     let mut paths = Vec::new(alloc);
     for (line, channel, place) in texts {
         let path = path_of(line, channel, place).expect(rt, "these are a path's texts");
@@ -209,62 +190,30 @@ fn paths(rt: &impl Abort, alloc: Global, texts: &[(&str, &str, &str)]) -> Vec<Pa
 
 #[test]
 fn paths_stand_in_the_order_of_their_texts(rt: HostRuntime) {
-    let mut sorted = paths(&rt, rt.alloc(), SHUFFLED);
-    sorted.sort_unstable();
-    let in_order = paths(&rt, rt.alloc(), IN_ORDER);
-    check_eq!(rt; sorted.as_slice(), in_order.as_slice());
+    let mut paths = paths(&rt, rt.alloc(), SHUFFLED);
+    paths.sort_unstable();
+    check_eq!(rt; paths.len(), IN_ORDER.len());
+    for (path, wanted) in paths.iter().zip(IN_ORDER) {
+        check_printed(&rt, rt.alloc(), path, wanted);
+    }
 }
 
-/// The word has this number, and protects this.
+/// The word has this number, and this connector protects it.
 fn check_word(rt: &impl Abort, word: WordNo, number: u16, protected: Option<Conn>) {
     check_eq!(rt; (word.number(), protects(word)), (number, protected));
 }
 
 #[test]
-fn words_of_switches_stand_in_their_order(rt: HostRuntime) {
+fn words_stand_in_their_order(rt: HostRuntime) {
     check_word(&rt, line_switch(3, 0), 60, Some(Conn::Llf(3)));
     check_word(&rt, line_junctor(9, 9), 199, Some(Conn::Llf(9)));
     check_word(&rt, trunk_switch(4, 1), 281, Some(Conn::Tlf(4)));
     check_word(&rt, trunk_junctor(4, 0), 290, Some(Conn::Tlf(4)));
-}
-
-#[test]
-fn other_words_stand_behind_them(rt: HostRuntime) {
     check_word(&rt, group_word(15), 415, Some(Conn::Group(15)));
     check_word(&rt, conn_word(Conn::Llf(0)), 416, None);
     check_word(&rt, conn_word(Conn::Tlf(9)), 435, None);
     check_word(&rt, conn_word(Conn::Group(15)), 451, None);
     check_word(&rt, turn_word(), 452, None);
-}
-
-#[test]
-fn numbers_are_printed(rt: HostRuntime) {
-    check_printed(&rt, rt.alloc(), &DirNo::new(42), "0042");
-    check_printed(&rt, rt.alloc(), &Dialled::new(420_007), "0420007");
-}
-
-#[test]
-fn paths_are_printed(rt: HostRuntime) {
-    let path = near_path();
-    check_printed(&rt, rt.alloc(), &path, "3041-0-417");
-    check_printed(&rt, rt.alloc(), &path.junctor(), "JU340");
-    check_printed(
-        &rt,
-        rt.alloc(),
-        &format_args!("[{:>6}]", path.line),
-        "[  3041]",
-    );
-}
-
-const FAULTS: &[(EquipFault, &str)] = &[
-    (EquipFault::Length, "wrong number of characters"),
-    (EquipFault::NotDigit, "a character that may not stand there"),
-    (EquipFault::Range, "a digit out of its range"),
-];
-
-#[test]
-fn faults_are_told(rt: HostRuntime) {
-    check_all_printed(&rt, rt.alloc(), FAULTS);
 }
 
 #[test]
@@ -280,10 +229,6 @@ fn laws_can_be_called() {
     laws::with_path_adds_the_path();
     laws::without_path_removes_the_path();
     laws::sets_with_the_same_paths_are_one();
-}
-
-#[test]
-fn laws_of_ranges_can_be_called() {
     let path = near_path();
     laws::path_is_in_range(&path);
     laws::link_is_in_range(path.junctor());

@@ -1,13 +1,8 @@
-//! The one-marker office: its jobs, its audits, and what memory it wants.
+//! The one-marker office: many paths, many records, and what memory it wants. Jobs with their replies, and
+//! audits, are rows of `worked_rows`.
 
-mod audits;
-mod drawing;
 mod large;
 mod memory;
-mod picture;
-mod plans;
-mod rows;
-mod texts;
 
 use crate::fixtures::near_path;
 use xbar_office::{Job, laws};

@@ -1,10 +1,12 @@
-//! Pictures of single paths, worked out by hand.
+//! Pictures of paths and cards that no row of `worked_rows` has, drawn by hand.
 
-use crate::fixtures::path_of;
-use std::alloc::Global;
+use crate::fixtures::{path_of, read_plan};
+use std::alloc::{AllocError, Global};
 use std::process::Abort;
 use test_tools::check_eq;
-use xbar_office_text::add_path_lines;
+use xbar_equip::{Len, Link, LinkKind};
+use xbar_office::{Card, Cards, End, Job, Record, Reply};
+use xbar_office_text::{add_path_lines, laws, office_text};
 
 /// A path by its line, its channel and its place, what it comes to, and its picture.
 struct Picture {
@@ -14,20 +16,6 @@ struct Picture {
 }
 
 const PICTURES: &[Picture] = &[
-    Picture {
-        path: ("3041", "0", "417"),
-        member: "register REG 0",
-        lines: "\
-3041-0-417: line 3041 to register REG 0, channel 0
-         +-- line link frame 3 --+         +- trunk link frame 4 --+
-3041 ----X-------- LL300 --------X--JU340--X-------- TL410 --------X---- 417
-         +-----------------------+         +-----------------------+
-switch  3,0                     3,0       4,0                     4,1
-word     60                      70       290                     281
-field     0                       4         3                       0
-holds    22                       1         2                       8
-",
-    },
     Picture {
         path: ("1000", "7", "902"),
         member: "trunk OUTB 1",
@@ -72,4 +60,80 @@ fn paths_are_drawn(rt: HostRuntime) {
     for picture in PICTURES {
         check_picture(&rt, rt.alloc(), picture);
     }
+}
+
+/// The text of a plan with the longest name and the highest number of a member: pair 39, at 278 and 279.
+fn wide_plan(alloc: Global) -> Result<String, AllocError> {
+    let mut text = String::new(alloc);
+    text.push_str("version = 2\ngroups = [\"REG register 417\", \"INTRA999 intra")?;
+    for pair in 0..40u32 {
+        let first = 200 + 2 * pair;
+        let second = 201 + 2 * pair;
+        write!(text, " {first}-{second}")?;
+    }
+    text.push_str("\"]\nnumbers = []\ncodes = []\nfaults = []\n")?;
+    Ok(text)
+}
+
+const WIDE: &str = "\
+PATHS AT A GLANCE
+2954 --[frame 2]-- channel 9 --[frame 2]-- 278   call: INTRA999 39, with 279
+
+A CALL'S PATH
+2954-9-278: line 2954 to trunk INTRA999 39, channel 9
+         +-- line link frame 2 --+         +- trunk link frame 2 --+
+2954 ----X-------- LL299 --------X--JU229--X-------- TL279 --------X---- 278
+         +-----------------------+         +-----------------------+
+switch  2,9                     2,9       2,9                     2,7
+word     49                      59       259                     247
+field     9                       2         2                       9
+holds    30                      10         8                       9
+
+   .---------------------------------------------.
+  /  TROUBLE CARD: TL999 is faulty               |
+ /   turn 18446744073709551615, job 4294967295   |
+|    marker 4294967295, trial 255                |
+|    . line link   . junctor   # trunk link      |
+|                       0 1 2 3 4 5 6 7 8 9      |
+|    trunk link frame   . . . . . . . . . #      |
+|    trunk switch       . . . . . . . . . #      |
+|    channel            . . . . . . . . . #      |
+'------------------------------------------------'
+";
+
+/// The record of a job with the highest numbers, and a card of the last link.
+fn highest_record() -> Record {
+    let card = Card {
+        trial: 255,
+        link: Link::new(LinkKind::TrunkLink, 9, 9, 9),
+    };
+    Record {
+        turn: u64::MAX,
+        marker: u32::MAX,
+        job_no: u32::MAX,
+        job: Job::Dial(Len::new(2, 9, 29)),
+        reply: Reply {
+            end: End::Trouble,
+            cards: Cards::one(card),
+        },
+    }
+}
+
+#[test]
+fn the_longest_texts(rt: HostRuntime) {
+    let path = path_of("2954", "9", "278").expect(&rt, "these are a path's texts");
+    let plan = wide_plan(rt.alloc()).expect(&rt, "there is memory for a text");
+    let plan = read_plan(&rt, rt.alloc(), &plan);
+    let text = office_text(rt.alloc(), &plan, &[path], &[highest_record()]).expect(
+        &rt,
+        "there is memory for a text",
+    );
+    check_eq!(rt; text.as_str(), WIDE);
+}
+
+#[test]
+fn laws_can_be_called() {
+    laws::each_path_has_one_line();
+    laws::each_card_is_drawn_once();
+    xbar_office_drawing::laws::each_crosspoint_and_each_card_is_drawn_once();
 }

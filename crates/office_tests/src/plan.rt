@@ -1,6 +1,6 @@
-//! Plans: their tables, how they are read and written, and what memory they want.
+//! Plans: their tables, how they are read and written, their limits, and what memory they want. Texts with
+//! a fault are rows of `worked_rows`.
 
+mod limits;
 mod memory;
-mod reading;
 mod tables;
-mod writing;

@@ -6,13 +6,14 @@
 mod row;
 mod work;
 
-use row::row_of;
+use row::{plan_of, row_of};
 use std::{fs, io};
 use toml::Value;
 use work::came_of;
 
-const FILES: [&str; 8] = [
+const FILES: [&str; 9] = [
     "calls.toml",
+    "replies.toml",
     "refusals.toml",
     "plans.toml",
     "slips.toml",
@@ -40,7 +41,8 @@ fn main(rt: HostRuntime) -> io::Result<()> {
 /// Prints for each row whether the engine did as expected.
 fn tell_all(rt: &HostRuntime, example: &str, rows: &[Value]) -> io::Result<()> {
     for value in rows {
-        match row_of(value, example) {
+        let plan = plan_of(rt.alloc(), value, example)?;
+        match row_of(value, &plan) {
             Some(row) => {
                 let came = came_of(rt.alloc(), &row)?;
                 if came.is_as_expected(&row) {

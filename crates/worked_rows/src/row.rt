@@ -1,4 +1,5 @@
 use crossbar5::{Look, Telling};
+use std::alloc::{AllocError, Global};
 use toml::Value;
 
 /// What the engine is to do.
@@ -48,15 +49,38 @@ fn verb_of(word: &str) -> Option<Verb> {
     }
 }
 
-/// A row by its keys. It has two markers for all jobs, the example plan and status 0, if it doesn't say
-/// otherwise.
-pub fn row_of<'a>(value: &'a Value, example: &'a str) -> Option<Row<'a>> {
+/// Adds a line of the example plan, or what the row has in its place: nothing, if that is empty.
+fn add_line(plan: &mut String, value: &Value, line: &str) -> Result<(), AllocError> {
+    let (key, _) = line.split_once(" = ").unwrap_or((line, ""));
+    match text_at(value, key) {
+        None => writeln!(plan, "{line}")?,
+        Some("") => {}
+        Some(changed) => writeln!(plan, "{key} = {changed}")?,
+    }
+    Ok(())
+}
+
+/// The row's plan: its own, or the example with the lines that the row replaces.
+pub fn plan_of(alloc: Global, value: &Value, example: &str) -> Result<String, AllocError> {
+    if let Some(plan) = text_at(value, "plan") {
+        return String::from_str(alloc, plan);
+    }
+    let mut plan = String::new(alloc);
+    for line in example.lines() {
+        add_line(&mut plan, value, line)?;
+    }
+    Ok(plan)
+}
+
+/// A row by its keys, under its plan. It is a replay by two markers for all jobs, without traffic and with
+/// status 0, if it doesn't say otherwise.
+pub fn row_of<'a>(value: &'a Value, plan: &'a str) -> Option<Row<'a>> {
     Some(Row {
         name: text_at(value, "name")?,
-        verb: verb_of(text_at(value, "verb")?)?,
+        verb: verb_of(text_at(value, "verb").unwrap_or("replay"))?,
         markers: text_at(value, "markers").unwrap_or("XX"),
-        plan: text_at(value, "plan").unwrap_or(example),
-        input: text_at(value, "input")?,
+        plan,
+        input: text_at(value, "input").unwrap_or(""),
         output: text_at(value, "output")?,
         reasons: text_at(value, "reasons").unwrap_or(""),
         status: value

@@ -1,17 +1,15 @@
 //! Offices with many paths, and audits of many records.
 
-use super::audits::check_refused;
-use super::texts::{Line, does};
-use crate::fixtures::{example, near_path, read_plan, record};
-use std::alloc::{AllocError, Global};
+use crate::fixtures::{check_printed, example, near_path, path_of, read_plan, record};
+use std::alloc::Global;
 use std::process::Abort;
 use test_tools::{check, check_eq};
-use xbar_equip::{Dialled, Len};
+use xbar_equip::{Channel, Dialled, Len, Path, Ten};
 use xbar_office::{AuditFault, End, Job, Office, Record, Reply, audit};
 use xbar_plan::Plan;
 
 /// How many calls stand in the large office: more than there are junctors of one channel.
-const CALLS: u32 = 120;
+const CALLS: u8 = 120;
 
 /// One register, and 120 trunks in three groups, which one code leads to. Trunk `i` has the last two
 /// digits of `i` as its frame and its switch, so the first hundred stand on a switch each.
@@ -30,33 +28,40 @@ codes = [\"555 OUT0 OUT1 OUT2\"]
 faults = []
 ";
 
+/// The office does this job, which ends so, without a trouble card.
+fn check_job(rt: &impl Abort, office: &mut Office<'_>, job: Job, end: End) {
+    let reply = office.whole(job).expect(rt, "there is memory for a job");
+    check_eq!(rt; reply, Reply::plain(end));
+}
+
 /// Call `i` takes trunk `i`. Its line stands on the frame that has the number of the trunk's switch,
 /// and on the switch that has the number of the trunk's frame. So no two of the first hundred calls
 /// share a switch or the junctors between two frames, and channel 0 is idle for each; it is busy for
 /// each of the others.
-fn calls(
-    rt: &impl Abort,
-    alloc: Global,
-    office: &mut Office<'_>,
-    call: u32,
-) -> Result<(), AllocError> {
+fn check_call(rt: &impl Abort, office: &mut Office<'_>, call: u8) {
     let (frame, switch, channel) = (call / 10 % 10, call % 10, call / 100);
-    let line = format!(in alloc; "{switch}{frame}0{channel}")?;
-    let reply = format!(in alloc; "DIALTONE,1,{line}-{channel}-999,-")?;
-    does(rt, alloc, office, &(b'D', line.as_bytes(), DIGITS, &reply));
-    let reply = format!(in alloc; "CONNECTED,1,{line}-{channel}-{frame}{switch}{channel},-")?;
-    does(rt, alloc, office, &(b'C', line.as_bytes(), DIGITS, &reply));
-    Ok(())
+    assert!(rt; frame < 10 && switch < 10 && channel < 10);
+    let dialled = Path {
+        line: Len::new(switch, frame, channel),
+        channel: Channel::new(channel),
+        place: Ten::new(9, 9, 9),
+    };
+    let end = End::DialTone {
+        path: dialled,
+        trial: 1,
+    };
+    check_job(rt, office, Job::Dial(dialled.line), end);
+    let end = End::Connected {
+        calling: Path {
+            place: Ten::new(frame, switch, channel),
+            ..dialled
+        },
+        called: None,
+        trial: 1,
+    };
+    let job = Job::Complete(dialled.line, Dialled::new(5_550_000));
+    check_job(rt, office, job, end);
 }
-
-const DIGITS: &[u8] = b"5550000";
-
-/// A line that has no call, and then two that have.
-const RELEASES: &[Line] = &[
-    (b'R', b"5401", DIGITS, "NOCALL,-,-,-"),
-    (b'R', b"5400", DIGITS, "RELEASED,-,5400-0-450,-"),
-    (b'R', b"9101", DIGITS, "RELEASED,-,9101-1-191,-"),
-];
 
 fn count_closed(rt: &impl Abort, alloc: Global, office: &Office<'_>) -> usize {
     let closed = office
@@ -67,22 +72,29 @@ fn count_closed(rt: &impl Abort, alloc: Global, office: &Office<'_>) -> usize {
 
 fn check_calls(rt: &impl Abort, alloc: Global, office: &mut Office<'_>) {
     for call in 0..CALLS {
-        calls(rt, alloc, office, call).expect(rt, "there is memory for texts");
+        check_call(rt, office, call);
     }
     let counts = (office.paths().len(), count_closed(rt, alloc, office));
     check_eq!(rt; counts, (120, 480));
 }
 
-fn check_releases(rt: &impl Abort, alloc: Global, office: &mut Office<'_>) {
-    for line in RELEASES {
-        does(rt, alloc, office, line);
+/// The paths of two calls that are released.
+const RELEASED: &[(&str, &str, &str)] = &[("5400", "0", "450"), ("9101", "1", "191")];
+
+/// A line that has no call is released, and then two that have.
+fn check_releases(rt: &impl Abort, office: &mut Office<'_>) {
+    check_job(rt, office, Job::Release(Len::new(5, 4, 1)), End::NoCall);
+    for (line, channel, place) in RELEASED {
+        let own = path_of(line, channel, place).expect(rt, "these are a path's texts");
+        let job = Job::Release(own.line);
+        check_job(rt, office, job, End::Released { own, other: None });
     }
     check_eq!(rt; office.paths().len(), 118);
 }
 
 fn check_calls_and_releases(rt: &impl Abort, alloc: Global, office: &mut Office<'_>) {
     check_calls(rt, alloc, office);
-    check_releases(rt, alloc, office);
+    check_releases(rt, office);
 }
 
 #[test]
@@ -117,8 +129,21 @@ fn many_records(rt: &impl Abort, alloc: Global) -> Vec<Record> {
     records
 }
 
+/// In the example office the audit tells this fault, which prints so.
+fn check_refused(
+    rt: &impl Abort,
+    alloc: Global,
+    records: &[Record],
+    wanted: AuditFault,
+    text: &str,
+) {
+    let plan = example(rt, alloc);
+    check_eq!(rt; audit(alloc, &plan, records).err(), Some(wanted));
+    check_printed(rt, alloc, &wanted, text);
+}
+
 /// One reply more is another one, and is told, since it comes before those that are.
-fn other_reply(
+fn check_other_reply(
     rt: &impl Abort,
     alloc: Global,
     records: &mut [Record],
@@ -129,16 +154,16 @@ fn other_reply(
     if let Some(record) = records.get_mut(turn) {
         record.reply = Reply::plain(end);
     }
-    let wanted = AuditFault::Reply { turn: turn as u64 };
-    check_refused(rt, alloc, records, wanted, text);
+    let turn = turn as u64;
+    check_refused(rt, alloc, records, AuditFault::Reply { turn }, text);
 }
 
-/// Each change of the records is told.
+/// Each change of the records is told, and that of a turn before those of replies.
 fn check_changes(rt: &impl Abort, alloc: Global, records: &mut [Record]) {
     let text = "the reply of turn 100400 is another";
-    other_reply(rt, alloc, records, 100_400, End::RegistersBusy, text);
+    check_other_reply(rt, alloc, records, 100_400, End::RegistersBusy, text);
     let text = "the reply of turn 70001 is another";
-    other_reply(rt, alloc, records, 70_001, End::NoCall, text);
+    check_other_reply(rt, alloc, records, 70_001, End::NoCall, text);
     if let Some(record) = records.get_mut(100_450) {
         record.turn = 100_451;
     }

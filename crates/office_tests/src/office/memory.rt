@@ -1,20 +1,19 @@
 //! Where memory is refused. Each of these tests passes whichever allocation is refused.
 
-use crate::fixtures::record;
+use crate::fixtures::{path_of, record};
 use std::alloc::Global;
 use std::process::Abort;
 use test_tools::{check, check_eq};
-use xbar_equip::{Channel, Dialled, Len, Path, Ten};
+use xbar_equip::{Dialled, Path};
 use xbar_office::{AuditFault, End, Job, Office, Record, Reply, audit};
 use xbar_plan::Plan;
 
-fn dialled(turn: u64, line: Len, channel: Channel, place: Ten) -> Record {
-    let path = Path {
-        line,
-        channel,
-        place,
-    };
-    record(turn, Job::Dial(line), End::DialTone { path, trial: 1 })
+fn path(rt: &impl Abort, line: &str, channel: &str, place: &str) -> Path {
+    path_of(line, channel, place).expect(rt, "these are a path's texts")
+}
+
+fn dialled(turn: u64, path: Path) -> Record {
+    record(turn, Job::Dial(path.line), End::DialTone { path, trial: 1 })
 }
 
 fn connected(turn: u64, digits: Dialled, calling: Path, called: Path) -> Record {
@@ -27,64 +26,26 @@ fn connected(turn: u64, digits: Dialled, calling: Path, called: Path) -> Record 
     record(turn, job, end)
 }
 
-/// The record of a call inside the example office by 3041, to 3100.
-fn first_call(turn: u64) -> Record {
-    let calling = Path {
-        line: Len::new(3, 0, 21),
-        channel: Channel::new(0),
-        place: Ten::new(6, 0, 0),
-    };
-    let called = Path {
-        line: Len::new(3, 1, 0),
-        channel: Channel::new(1),
-        place: Ten::new(6, 0, 1),
-    };
-    connected(turn, Dialled::new(2_340_004), calling, called)
-}
-
-/// And by 2000, to 1000.
-fn second_call(turn: u64) -> Record {
-    let calling = Path {
-        line: Len::new(2, 0, 0),
-        channel: Channel::new(0),
-        place: Ten::new(7, 0, 0),
-    };
-    let called = Path {
-        line: Len::new(1, 0, 0),
-        channel: Channel::new(0),
-        place: Ten::new(7, 1, 1),
-    };
-    connected(turn, Dialled::new(2_340_003), calling, called)
-}
-
-/// Three lines get all registers, and then two of them call. The first job asks for memory, and the
-/// last, which has given its register back by then.
-fn records() -> [Record; 5] {
-    let (zero, one) = (Channel::new(0), Channel::new(1));
+/// Three lines get all registers, and then two of them call inside the example office. The first job asks
+/// for memory, and the last, which has given its register back by then.
+fn records(rt: &impl Abort) -> [Record; 5] {
+    let calling = path(rt, "3041", "0", "600");
+    let called = path(rt, "3100", "1", "601");
+    let second_calling = path(rt, "2000", "0", "700");
+    let second_called = path(rt, "1000", "0", "711");
     [
-        dialled(0, Len::new(3, 0, 21), zero, Ten::new(4, 1, 7)),
-        dialled(1, Len::new(2, 0, 0), one, Ten::new(4, 1, 8)),
-        dialled(2, Len::new(5, 0, 0), zero, Ten::new(5, 0, 9)),
-        first_call(3),
-        second_call(4),
+        dialled(0, path(rt, "3041", "0", "417")),
+        dialled(1, path(rt, "2000", "1", "418")),
+        dialled(2, path(rt, "5000", "0", "509")),
+        connected(3, Dialled::new(2_340_004), calling, called),
+        connected(4, Dialled::new(2_340_003), second_calling, second_called),
     ]
 }
 
 /// The first five paths of an office, in memory that nobody refuses.
 fn first_paths(office: &Office<'_>) -> [Option<Path>; 5] {
     let paths = office.paths();
-    [
-        paths.first().copied(),
-        paths.get(1).copied(),
-        paths.get(2).copied(),
-        paths.get(3).copied(),
-        paths.get(4).copied(),
-    ]
-}
-
-fn has_paths(office: &Office<'_>, paths: &[Option<Path>]) -> bool {
-    let all = first_paths(office);
-    all.as_slice() == paths
+    [0usize, 1, 2, 3, 4].map(|place| paths.get(place).copied())
 }
 
 /// Does a job. Where memory is refused, the paths stay, and the job is done once more.
@@ -93,7 +54,7 @@ fn whole(rt: &impl Abort, office: &mut Office<'_>, job: &Job) -> Reply {
     if let Ok(reply) = office.whole(*job) {
         return reply;
     }
-    check!(rt; has_paths(office, &before));
+    check!(rt; first_paths(office) == before);
     office.whole(*job).expect(rt, "memory is refused once")
 }
 
@@ -103,7 +64,7 @@ fn check_job(rt: &impl Abort, office: &mut Office<'_>, record: &Record) {
 }
 
 fn check_jobs(rt: &impl Abort, office: &mut Office<'_>) {
-    for record in &records() {
+    for record in &records(rt) {
         check_job(rt, office, record);
     }
     check_eq!(rt; office.paths().len(), 5);
@@ -117,7 +78,7 @@ fn a_job_that_was_refused_memory_is_done_right_once_more(rt: HostRuntime) {
 }
 
 fn check_audit(rt: &impl Abort, alloc: Global, plan: &Plan) {
-    match audit(alloc, plan, &records()) {
+    match audit(alloc, plan, &records(rt)) {
         Err(fault) => check_eq!(rt; fault, AuditFault::Memory),
         Ok(office) => check_eq!(rt; office.paths().len(), 5),
     }

@@ -1,8 +1,7 @@
-//! Where memory is refused. Each of these tests passes whichever allocation is refused.
+//! Where memory is refused. This test passes whichever allocation is refused.
 
-use super::writing::answer_the_same;
-use std::alloc::Global;
-use test_tools::{check, check_eq};
+use super::tables::check_example;
+use test_tools::check_eq;
 use xbar_plan::{Plan, PlanFault};
 use xbar_plan_text::PlanText;
 
@@ -19,18 +18,10 @@ codes = ["234 INTRA", "555 OUTA OUTB"]
 faults = []
 "#;
 
-/// The plan is the example, unless memory for that is refused.
-fn is_example(alloc: Global, plan: &Plan) -> bool {
-    match Plan::example(alloc) {
-        Ok(example) => answer_the_same(plan, &example),
-        Err(_) => true,
-    }
-}
-
 #[test]
 fn a_plan_is_refused_for_memory_or_read_right(rt: HostRuntime) {
     match Plan::read(rt.alloc(), EXAMPLE.as_bytes()) {
         Err(fault) => check_eq!(rt; fault, PlanFault::Memory),
-        Ok(plan) => check!(rt; is_example(rt.alloc(), &plan)),
+        Ok(plan) => check_example(&rt, &plan),
     }
 }

@@ -1,17 +1,49 @@
-//! Plans made of tables, and what they answer.
+//! What plans answer, made of tables or read from texts.
 
-use crate::fixtures::{
-    EXAMPLE_LINES, EXAMPLE_ROUTES, NumberLines, check_all_printed, check_faulty, check_lines,
-    check_routes, example,
-};
+use crate::fixtures::{example, read_plan};
 use std::alloc::Global;
 use std::process::Abort;
 use test_tools::{check, check_eq};
 use xbar_equip::{DirNo, EquipFault, Len, Link, Ten};
-use xbar_plan::{Group, GroupKind, Member, Plan, PlanFault, Route, Station};
+use xbar_plan::{Group, GroupKind, Member, Plan, PlanFault, Route};
+use xbar_plan_text::PlanText;
 
-/// The groups of the example plan, each with its number, its name, its kind and how many members it
-/// has.
+/// What a plan answers: the lines of numbers, the groups of codes, and whether links are out of order.
+#[derive(Clone, Copy)]
+struct Answers {
+    numbers: &'static [(u16, &'static [&'static str])],
+    codes: &'static [(u16, Option<&'static [u8]>)],
+    links: &'static [(&'static str, bool)],
+}
+
+fn has_lines(plan: &Plan, number: DirNo, wanted: &[&str]) -> bool {
+    let lines = plan.stations(number).unwrap_or(&[]);
+    for (line, text) in lines.iter().zip(wanted) {
+        if line.text().as_slice() != text.as_bytes() {
+            return false;
+        }
+    }
+    lines.len() == wanted.len()
+}
+
+fn is_faulty(plan: &Plan, link: &str) -> Result<bool, EquipFault> {
+    Ok(plan.faulty(Link::parse(link.as_bytes())?))
+}
+
+fn check_answers(rt: &impl Abort, plan: &Plan, answers: &Answers) {
+    for (number, lines) in answers.numbers {
+        assert!(rt; *number < 10_000);
+        check!(rt; has_lines(plan, DirNo::new(*number), *lines), number);
+    }
+    for (code, groups) in answers.codes {
+        check!(rt; plan.route(*code) == *groups, code);
+    }
+    for (link, wanted) in answers.links {
+        check_eq!(rt; is_faulty(plan, link), Ok(*wanted), link);
+    }
+}
+
+/// The groups of the example plan, each with its number, its name, its kind and how many members it has.
 const GROUPS: &[(u8, &str, GroupKind, usize)] = &[
     (0, "REG", GroupKind::Register, 3),
     (1, "INTRA", GroupKind::Intra, 2),
@@ -28,355 +60,205 @@ fn has_group(plan: &Plan, number: u8, name: &str, kind: GroupKind, members: usiz
     group.name() == name && group.kind() == kind && group.members().len() == members
 }
 
-fn check_groups(rt: &impl Abort, plan: &Plan) {
-    check_eq!(rt; (plan.group_count(), plan.register_group()), (4, 0));
-    for (number, name, kind, members) in GROUPS {
-        check!(rt; has_group(plan, *number, name, *kind, *members), name);
-    }
-}
-
-#[test]
-fn example_has_its_groups(rt: HostRuntime) {
-    check_groups(&rt, &example(&rt, rt.alloc()));
-}
-
 /// The group of a member, its index there and its other place.
 type Found = Option<(u8, u8, Option<[u8; 3]>)>;
 
+/// All places of the example plan, and three at which nothing is.
 const MEMBERS: &[(&str, Found)] = &[
     ("417", Some((0, 0, None))),
+    ("418", Some((0, 1, None))),
     ("509", Some((0, 2, None))),
     ("600", Some((1, 0, Some(*b"601")))),
     ("601", Some((1, 0, Some(*b"600")))),
+    ("700", Some((1, 1, Some(*b"711")))),
     ("711", Some((1, 1, Some(*b"700")))),
     ("800", Some((2, 0, None))),
+    ("801", Some((3, 0, None))),
     ("902", Some((3, 1, None))),
     ("999", None),
     ("419", None),
     ("701", None),
 ];
 
-fn text_of(place: Option<Ten>) -> Option<[u8; 3]> {
-    let place = place?;
-    Some(place.text())
-}
-
 fn member_at(plan: &Plan, place: &str) -> Result<Found, EquipFault> {
     let place = Ten::parse(place.as_bytes())?;
     let Some(member) = plan.member_of(place) else {
         return Ok(None);
     };
-    Ok(Some((member.group, member.index, text_of(member.other))))
+    let other = member.other.map(|place| place.text());
+    Ok(Some((member.group, member.index, other)))
 }
 
-fn check_members(rt: &impl Abort, plan: &Plan) {
+const EXAMPLE: Answers = Answers {
+    numbers: &[
+        (1, &["3041"]),
+        (2, &["3052"]),
+        (3, &["1000"]),
+        (4, &["3100"]),
+        (0, &[]),
+        (5, &[]),
+        (9999, &[]),
+    ],
+    codes: &[
+        (234, Some(&[1])),
+        (555, Some(&[2, 3])),
+        (0, None),
+        (999, None),
+        (556, None),
+        (65535, None),
+    ],
+    links: &[("JU340", false)],
+};
+
+/// The plan is the example.
+pub fn check_example(rt: &impl Abort, plan: &Plan) {
+    check_eq!(rt; (plan.group_count(), plan.register_group()), (4, 0));
+    for (number, name, kind, members) in GROUPS {
+        check!(rt; has_group(plan, *number, name, *kind, *members), name);
+    }
     for (place, wanted) in MEMBERS {
         check_eq!(rt; member_at(plan, place), Ok(*wanted), place);
     }
+    check_answers(rt, plan, &EXAMPLE);
+}
+
+/// The text of `Plan::example`.
+const EXAMPLE_TEXT: &str = r#"codes = [
+    "234 INTRA",
+    "555 OUTA OUTB",
+]
+faults = []
+groups = [
+    "REG register 417 418 509",
+    "INTRA intra 600-601 700-711",
+    "OUTA outgoing 800",
+    "OUTB outgoing 801 902",
+]
+numbers = [
+    "0001 3041",
+    "0002 3052",
+    "0003 1000",
+    "0004 3100",
+]
+version = 2
+"#;
+
+fn text_of(rt: &impl Abort, alloc: Global, plan: &Plan) -> String {
+    let bytes = plan
+        .version_2(alloc)
+        .expect(rt, "there is memory for a text");
+    let text = str::from_utf8(&bytes).unwrap_or("");
+    String::from_str(alloc, text).expect(rt, "there is memory for a text")
 }
 
 #[test]
-fn members_are_found_by_their_places(rt: HostRuntime) {
-    check_members(&rt, &example(&rt, rt.alloc()));
-}
-
-const VACANT_CODES: &[(u16, Option<&[u8]>)] = &[(0, None), (999, None), (556, None), (65535, None)];
-
-const VACANT_NUMBERS: &[NumberLines] = &[(b"0000", None), (b"0005", None), (b"9999", None)];
-
-const NOT_FAULTY: &[(&str, bool)] = &[("JU340", false)];
-
-fn check_what_is_there(rt: &impl Abort, plan: &Plan) {
-    check_routes(rt, plan, EXAMPLE_ROUTES);
-    check_lines(rt, plan, EXAMPLE_LINES);
-}
-
-fn check_what_is_vacant(rt: &impl Abort, plan: &Plan) {
-    check_routes(rt, plan, VACANT_CODES);
-    check_lines(rt, plan, VACANT_NUMBERS);
-    check_faulty(rt, plan, NOT_FAULTY);
-}
-
-#[test]
-fn codes_and_numbers_are_looked_up(rt: HostRuntime) {
+fn example_is_written_and_read_again(rt: HostRuntime) {
     let plan = example(&rt, rt.alloc());
-    check_what_is_there(&rt, &plan);
-    check_what_is_vacant(&rt, &plan);
+    check_example(&rt, &plan);
+    check_eq!(rt; text_of(&rt, rt.alloc(), &plan).as_str(), EXAMPLE_TEXT);
+    check_example(&rt, &read_plan(&rt, rt.alloc(), EXAMPLE_TEXT));
 }
 
-/// What a plan is made of: registers 417, an intra pair of 600 and the called place, and a trunk out,
-/// in groups of these kinds; numbers with their lines, codes with their groups, and links out of order.
-#[derive(Drop)]
-struct Tables {
-    kinds: [GroupKind; 3],
-    called: &'static str,
-    out: &'static str,
-    numbers: &'static [(&'static str, &'static [&'static str])],
-    codes: &'static [(u16, &'static [u8])],
-    faults: &'static [&'static str],
+/// A plan in which numbers have two lines, a code has a group twice, and links are out of order.
+const HUNTING: &str = r#"
+version = 2
+groups = ["REG register 417 418 509", "INTRA intra 600-601 700-711", "OUTA outgoing 800", "OUTB outgoing 801 902"]
+numbers = ["0001 3041", "0002 3052 3100", "0007 3041 3052"]
+codes = ["007 OUTB OUTA", "100 OUTA OUTA", "234 INTRA"]
+faults = ["JU340", "LL000", "TL999", "JU345"]
+"#;
+
+const HUNTED: Answers = Answers {
+    numbers: &[
+        (1, &["3041"]),
+        (2, &["3052", "3100"]),
+        (7, &["3041", "3052"]),
+        (3, &[]),
+    ],
+    codes: &[
+        (7, Some(&[3, 2])),
+        (100, Some(&[2, 2])),
+        (234, Some(&[1])),
+        (555, None),
+    ],
+    links: &[
+        ("JU340", true),
+        ("JU345", true),
+        ("LL000", true),
+        ("TL999", true),
+        ("JU341", false),
+        ("LL340", false),
+        ("LL341", false),
+        ("LL345", false),
+    ],
+};
+
+#[test]
+fn second_lines_and_links_are_read_again(rt: HostRuntime) {
+    let plan = read_plan(&rt, rt.alloc(), HUNTING);
+    check_answers(&rt, &plan, &HUNTED);
+    let text = text_of(&rt, rt.alloc(), &plan);
+    check_answers(&rt, &read_plan(&rt, rt.alloc(), &text), &HUNTED);
 }
 
-/// Number 7 has two lines, 100 leads to the trunk out, twice, and two junctors are out of order.
-const LAWFUL: Tables = Tables {
-    numbers: &[("0007", &["3041", "3052"])],
-    codes: &[(100, &[2, 2])],
-    faults: &["JU340", "JU345"],
-    ..BARE
-};
-
-const BARE: Tables = Tables {
-    kinds: [GroupKind::Register, GroupKind::Intra, GroupKind::Outgoing],
-    called: "699",
-    out: "800",
-    numbers: &[],
-    codes: &[],
-    faults: &[],
-};
-
-/// A group of one member, which has a second place where that is a text of one.
+/// A group of one member, at one place or two.
 fn group(
     rt: &impl Abort,
     alloc: Global,
     name: &str,
     kind: GroupKind,
-    first: &str,
-    second: &str,
+    first: Ten,
+    second: Option<Ten>,
 ) -> Group {
-    let first = Ten::parse(first.as_bytes()).expect(rt, "the text of a place");
-    let second = Ten::parse(second.as_bytes()).ok();
     let members = vec![in alloc; Member { first, second }].expect(rt, "there is memory");
     let name = String::from_str(alloc, name).expect(rt, "there is memory");
     Group::new(name, kind, members)
 }
 
-fn groups(rt: &impl Abort, alloc: Global, tables: &Tables) -> Vec<Group> {
-    let [first, second, third] = tables.kinds;
+/// The place 417, the pair of 600 and 699, and the place 800, in groups of these kinds.
+fn groups(rt: &impl Abort, alloc: Global, kinds: [GroupKind; 3]) -> Vec<Group> {
+    let [register, pair, out] = kinds;
+    let called = Some(Ten::new(6, 9, 9));
     let groups = [
-        group(rt, alloc, "REG", first, "417", ""),
-        group(rt, alloc, "INTRA", second, "600", tables.called),
-        group(rt, alloc, "OUT2", third, tables.out, ""),
+        group(rt, alloc, "REG", register, Ten::new(4, 1, 7), None),
+        group(rt, alloc, "INTRA", pair, Ten::new(6, 0, 0), called),
+        group(rt, alloc, "OUT2", out, Ten::new(8, 0, 0), None),
     ];
     Vec::from_array(alloc, groups).expect(rt, "there is memory")
 }
 
-fn station(rt: &impl Abort, alloc: Global, number: &str, lines: &[&str]) -> Station {
-    let number = DirNo::parse(number.as_bytes()).expect(rt, "the text of a number");
-    let mut all = Vec::new(alloc);
-    for line in lines {
-        let line = Len::parse(line.as_bytes()).expect(rt, "the text of a line");
-        all.push(line).expect(rt, "there is memory");
-    }
-    Station::new(number, all)
+/// The fault of a plan of these groups, in which this code leads to the last one, twice.
+fn fault_of(rt: &impl Abort, alloc: Global, kinds: [GroupKind; 3], code: u16) -> Option<PlanFault> {
+    let groups = groups(rt, alloc, kinds);
+    let route = Route::new(code, vec![in alloc; 2, 2].expect(rt, "there is memory"));
+    let routes = Vec::from_array(alloc, [route]).expect(rt, "there is memory");
+    Plan::try_new(alloc, groups, Vec::new(alloc), routes, Vec::new(alloc)).err()
 }
 
-fn stations(rt: &impl Abort, alloc: Global, tables: &Tables) -> Vec<Station> {
-    let mut stations = Vec::new(alloc);
-    for (number, lines) in tables.numbers {
-        let station = station(rt, alloc, number, lines);
-        check!(rt; stations.push(station).is_ok(), "there is memory");
-    }
-    stations
-}
+const REG: GroupKind = GroupKind::Register;
 
-fn routes(rt: &impl Abort, alloc: Global, tables: &Tables) -> Vec<Route> {
-    let mut routes = Vec::new(alloc);
-    for (code, groups) in tables.codes {
-        let groups = groups.to_vec(alloc).expect(rt, "there is memory");
-        check!(rt; routes.push(Route::new(*code, groups)).is_ok(), "there is memory");
-    }
-    routes
-}
+const INTRA: GroupKind = GroupKind::Intra;
 
-fn faults(rt: &impl Abort, alloc: Global, tables: &Tables) -> Vec<Link> {
-    let mut faults = Vec::new(alloc);
-    for link in tables.faults {
-        let link = Link::parse(link.as_bytes()).expect(rt, "the text of a link");
-        faults.push(link).expect(rt, "there is memory");
-    }
-    faults
-}
+const OUT: GroupKind = GroupKind::Outgoing;
 
-/// The plan of these tables, or its fault.
-fn plan_of(rt: &impl Abort, alloc: Global, tables: &Tables) -> Result<Plan, PlanFault> {
-    let groups = groups(rt, alloc, tables);
-    let stations = stations(rt, alloc, tables);
-    let routes = routes(rt, alloc, tables);
-    let faults = faults(rt, alloc, tables);
-    Plan::try_new(alloc, groups, stations, routes, faults)
-}
+const MALFORMED: Option<PlanFault> = Some(PlanFault::Malformed);
 
-/// What that plan answers.
-const LINES: &[NumberLines] = &[(b"0007", Some(&[b"3041", b"3052"]))];
-
-const ROUTES: &[(u16, Option<&[u8]>)] = &[(100, Some(&[2, 2]))];
-
-const LINKS: &[(&str, bool)] = &[
-    ("JU340", true),
-    ("JU341", false),
-    ("JU345", true),
-    ("LL340", false),
-    ("LL341", false),
-    ("LL345", false),
-];
-
-#[test]
-fn lawful_tables_make_a_plan(rt: HostRuntime) {
-    let plan = plan_of(&rt, rt.alloc(), &LAWFUL).expect(&rt, "the tables are lawful");
-    check_faulty(&rt, &plan, LINKS);
-    check_lines(&rt, &plan, LINES);
-    check_routes(&rt, &plan, ROUTES);
-}
-
-/// Tables, and the fault that is told of them, if they have one.
-struct Told {
-    name: &'static str,
-    tables: Tables,
-    fault: Option<PlanFault>,
-}
-
-const TOLD: &[Told] = &[
-    Told {
-        name: "an intra pair in a group of registers",
-        tables: Tables {
-            kinds: [
-                GroupKind::Outgoing,
-                GroupKind::Register,
-                GroupKind::Outgoing,
-            ],
-            called: "690",
-            ..BARE
-        },
-        fault: Some(PlanFault::Malformed),
-    },
-    Told {
-        name: "a trunk out in a group of pairs",
-        tables: Tables {
-            kinds: [GroupKind::Register, GroupKind::Intra, GroupKind::Intra],
-            called: "690",
-            ..BARE
-        },
-        fault: Some(PlanFault::Malformed),
-    },
-    Told {
-        name: "no group of registers",
-        tables: Tables {
-            kinds: [GroupKind::Outgoing, GroupKind::Intra, GroupKind::Outgoing],
-            called: "690",
-            ..BARE
-        },
-        fault: Some(PlanFault::RegisterGroups),
-    },
-    Told {
-        name: "two groups of registers",
-        tables: Tables {
-            kinds: [GroupKind::Register, GroupKind::Intra, GroupKind::Register],
-            called: "690",
-            ..BARE
-        },
-        fault: Some(PlanFault::RegisterGroups),
-    },
-    Told {
-        name: "a pair of one place",
-        tables: Tables {
-            called: "600",
-            ..BARE
-        },
-        fault: Some(PlanFault::PlaceTwice),
-    },
-    Told {
-        name: "a trunk out at a place of the pair",
-        tables: Tables {
-            called: "690",
-            out: "690",
-            ..BARE
-        },
-        fault: Some(PlanFault::PlaceTwice),
-    },
-    Told {
-        name: "a pair on two frames",
-        tables: Tables {
-            called: "790",
-            ..BARE
-        },
-        fault: Some(PlanFault::PairApart),
-    },
-    Told {
-        name: "a code of four digits",
-        tables: Tables {
-            codes: &[(1000, &[2, 2])],
-            ..BARE
-        },
-        fault: Some(PlanFault::Malformed),
-    },
-    Told {
-        name: "a code that leads to trunks out and registers",
-        tables: Tables {
-            codes: &[(100, &[2, 0])],
-            ..BARE
-        },
-        fault: Some(PlanFault::MixedRoute),
-    },
-    Told {
-        name: "a code that leads to a group that isn't there",
-        tables: Tables {
-            codes: &[(100, &[3, 2])],
-            ..BARE
-        },
-        fault: Some(PlanFault::UnknownGroup),
-    },
-    Told {
-        name: "a code that leads to a pair and trunks out",
-        tables: Tables {
-            codes: &[(100, &[1, 2])],
-            ..BARE
-        },
-        fault: Some(PlanFault::MixedRoute),
-    },
-    Told {
-        name: "a line twice",
-        tables: Tables {
-            numbers: &[("0001", &["0000"]), ("0002", &["0000", "0000"])],
-            ..BARE
-        },
-        fault: None,
-    },
-    Told {
-        name: "a number twice",
-        tables: Tables {
-            numbers: &[("0001", &["0000"]), ("0001", &["0000", "0000"])],
-            ..BARE
-        },
-        fault: Some(PlanFault::NumberTwice),
-    },
+/// Lawful tables, and some that no text has.
+const TABLES: &[(&str, [GroupKind; 3], u16, Option<PlanFault>)] = &[
+    ("lawful", [REG, INTRA, OUT], 100, None),
+    ("a pair of registers", [OUT, REG, OUT], 100, MALFORMED),
+    (
+        "a trunk out in a group of pairs",
+        [REG, INTRA, INTRA],
+        100,
+        MALFORMED,
+    ),
+    ("a code of four digits", [REG, INTRA, OUT], 1000, MALFORMED),
 ];
 
 #[test]
 fn faults_of_tables_are_told(rt: HostRuntime) {
-    for told in TOLD {
-        let fault = plan_of(&rt, rt.alloc(), &told.tables).err();
-        check_eq!(rt; fault, told.fault, told.name);
+    for (name, kinds, code, wanted) in TABLES {
+        check_eq!(rt; fault_of(&rt, rt.alloc(), *kinds, *code), *wanted, name);
     }
-}
-
-const FAULTS: &[(PlanFault, &str)] = &[
-    (PlanFault::NotToml, "P1"),
-    (PlanFault::Version, "P2"),
-    (PlanFault::KeyMissing, "P3"),
-    (PlanFault::NotTexts, "P4"),
-    (PlanFault::Malformed, "P5"),
-    (PlanFault::Limit, "P6"),
-    (PlanFault::GroupTwice, "P7"),
-    (PlanFault::RegisterGroups, "P8"),
-    (PlanFault::PlaceTwice, "P9"),
-    (PlanFault::PairApart, "P10"),
-    (PlanFault::NumberTwice, "P11"),
-    (PlanFault::CodeTwice, "P12"),
-    (PlanFault::UnknownGroup, "P13"),
-    (PlanFault::MixedRoute, "P14"),
-    (PlanFault::Memory, "MEMORY"),
-];
-
-#[test]
-fn faults_are_told_by_their_numbers(rt: HostRuntime) {
-    check_all_printed(&rt, rt.alloc(), FAULTS);
 }
