@@ -1,62 +1,47 @@
 //! Calls by markers on threads: by `run_desks`, as they come and paced so that registers last, and beside
 //! it by as many workers of the core's office behind one lock.
 
-ghost use Rattle.std.specs.Prelude.{◌≤◌, All};
+ghost use Rattle.std.specs.Prelude.{◌≤◌, ◌<◌, All, IfOk};
 ghost use Rattle.xbar_markers.specs.Calls.{HasCallNo};
 
-mod load;
 mod locked;
 mod paced;
 mod pacing;
-mod traffic;
 
 use crate::timing::nanoseconds_each;
-use load::Load;
-use paced::Done;
-use std::alloc::Global;
+use std::alloc::{AllocError, Global};
 use std::io;
 use std::rt::Clock;
 use std::sync::Wait;
 use std::thread::Threads;
 use std::time::Instant;
+use xbar_equip::{Dialled, Len};
 use xbar_markers::Call;
 use xbar_plan::Plan;
 
-fn measure_markers<R: Eprint + Clock + Threads + Wait + Sync>(
-    rt: &R,
-    alloc: Global,
-    plan: &Plan,
-    load: &Load,
-) -> io::Result<()>
-    requires call_nos { All HasCallNo load.now.calls.now }
-    requires count { load.now.count ≤ 24 }
+/// A call out of the office, which is released again. The lines are 300 in turn.
+fn call_out(no: u32) -> Call
+    requires { no < 100000 }
+    ensures { HasCallNo result }
 {
-    let Load { count, most, .. } = *load;
-    let Done {
-        jobs,
-        working,
-        auditing,
-    } = paced::work(rt, alloc, plan, load)?;
-    let job = nanoseconds_each(working, jobs as u64);
-    let audit = nanoseconds_each(auditing, jobs as u64);
-    eprint!(rt; "{count} and {count} markers, {most} calls at once: ")?;
-    eprintln!(rt; "{job} ns a job of {jobs}, and {audit} for its audit")
+    Call {
+        call_no: no,
+        line: Len::new((no % 10) as u8, (no / 10 % 10) as u8, (no / 100 % 3) as u8),
+        digits: Dialled::new(5_551_234),
+        release: true,
+    }
 }
 
-/// The same by as many workers behind one lock, paced so that registers last.
-fn measure_locked<R: Eprint + Clock + Threads + Wait + Sync>(
-    rt: &R,
-    alloc: Global,
-    plan: &Plan,
-    calls: &[Call],
-    count: usize,
-) -> io::Result<()>
-    requires { count ≤ 24 }
+/// So many calls.
+fn calls(alloc: Global, count: u32) -> Result<Vec<Call>, AllocError>
+    requires { count ≤ 100000 }
+    ensures { IfOk result (λ calls. All HasCallNo calls.items) }
 {
-    let start = Instant::now(rt)?;
-    let jobs = locked::work(rt, alloc, plan, calls, count)?;
-    let job = nanoseconds_each(start.elapsed(rt)?, jobs as u64);
-    eprintln!(rt; "{count} and {count} workers, behind one lock: {job} ns a job of {jobs}")
+    let mut calls = Vec::new(alloc);
+    for no in 0..count {
+        calls.push(call_out(no))?;
+    }
+    Ok(calls)
 }
 
 /// Measures all of these, with so many hundred calls.
@@ -68,14 +53,16 @@ pub fn measure<R: Eprint + Clock + Threads + Wait + Sync>(
 ) -> io::Result<()>
     requires { hundreds ≤ 1000 }
 {
-    let calls = traffic::released(alloc, hundreds * 100)?;
+    let calls = calls(alloc, hundreds * 100)?;
     let calls = calls.as_slice();
     for count in [1_usize, 2, 4] {
         for most in [calls.len(), pacing::REGISTERS] {
-            let load = Load { calls, count, most };
-            measure_markers(rt, alloc, plan, &load)?;
+            paced::measure(rt, alloc, plan, calls, count, most)?;
         }
-        measure_locked(rt, alloc, plan, calls, count)?;
+        let start = Instant::now(rt)?;
+        let jobs = locked::work(rt, alloc, plan, calls, count)?;
+        let job = nanoseconds_each(start.elapsed(rt)?, 1, jobs as u64);
+        eprintln!(rt; "{count} and {count} workers, behind one lock: {job} ns a job of {jobs}")?;
     }
     Ok(())
 }

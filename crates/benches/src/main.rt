@@ -3,13 +3,8 @@
 //! the same counts. Counts go to standard output, and times to standard error.
 #![tactic(auto)]
 
-ghost use Rattle.std.specs.Prelude.{IfOk, IfSome};
-ghost use Rattle.benches.specs.Asked.{HasItsNumber};
+ghost use Rattle.std.specs.Prelude.{◌<◌, ◌≤◌, IfSome};
 
-mod asked;
-mod calls;
-mod counts;
-mod dials;
 mod live;
 mod lone_marker;
 mod markers;
@@ -18,10 +13,10 @@ mod slot_threads;
 mod threads;
 mod timing;
 
-use asked::Asked;
+use lone_marker::{CALLS, DIALS, Pace};
 use std::alloc::Global;
 use std::process::ExitCode;
-use std::rt::{Clock, Env};
+use std::rt::Clock;
 use std::sync::Wait;
 use std::thread::Threads;
 use std::{env, io};
@@ -30,43 +25,66 @@ use xbar_plan::Plan;
 const USAGE: &str = "usage: benches [dials | calls | core [MARKERS] | plans | slots [THOUSANDS] \
                      | threads [THOUSANDS] | live [HUNDREDS]]";
 
-/// What the words of the command line ask for, if they are words of `USAGE`.
-fn read_words(rt: &(impl Env + AllocGlobal)) -> io::Result<Option<Asked>>
-    ensures { IfOk result (λ asked. IfSome asked HasItsNumber) }
-{
-    let mut words = env::args(rt)?.skip(1);
-    let what = words.next();
-    let number = words.next();
-    Ok(Asked::from_words(what.as_deref(), number.as_deref()))
+/// Does a tenth of each work that always comes to the same counts, and prints these: two builds of the
+/// program can be compared by them.
+fn print_counts<R: Print>(rt: &R, alloc: Global, plan: &Plan) -> io::Result<()> {
+    for pace in [Pace::Steps, Pace::Runs] {
+        for drill in [DIALS, CALLS] {
+            drill.print(rt, drill.work(plan, drill.rounds / 10, pace), pace)?;
+        }
+    }
+    let done = markers::work(alloc, plan, 1, markers::JOBS / 10);
+    println!(rt; "core: {} jobs in {} steps", done.jobs, done.steps)?;
+    let text = plans::full_plan(alloc)?;
+    let plans = plans::work(alloc, text.as_str(), plans::READINGS / 10);
+    println!(rt; "plans: {plans} plans")
 }
 
-/// Measures what was asked for, under the example plan.
+/// Reads a number, of which only 1 to the most are taken. With no word it is the usual one.
+fn count(word: Option<&str>, usual: u32, most: u32) -> Option<u32>
+    requires { 0 < most }
+    ensures { IfSome result (λ count. (0 < count) × (count ≤ most)) }
+{
+    let count = match word {
+        None => usual,
+        Some(word) => word.parse::<u32>().ok()?,
+    };
+    Some(count.clamp(1, most))
+}
+
+/// Measures what these words ask for, under the example plan, if they are words of `USAGE`.
 fn measure<R: Print + Eprint + Clock + Threads + Wait + Sync>(
     rt: &R,
     alloc: Global,
     plan: &Plan,
-    asked: Asked,
-) -> io::Result<()>
-    requires { HasItsNumber asked }
-{
-    match asked {
-        Asked::Counts => counts::print(rt, alloc, plan),
-        Asked::Dials => dials::measure(rt, plan),
-        Asked::Calls => calls::measure(rt, plan),
-        Asked::Core { markers } => markers::measure(rt, alloc, plan, markers),
-        Asked::Plans => plans::measure(rt, alloc),
-        Asked::Slots { thousands } => slot_threads::measure(rt, alloc, thousands),
-        Asked::Threads { thousands } => threads::measure(rt, alloc, plan, thousands),
-        Asked::Live { hundreds } => live::measure(rt, alloc, plan, hundreds),
-    }
+    what: Option<&str>,
+    number: Option<&str>,
+) -> Option<io::Result<()>> {
+    let measured = match what {
+        None => print_counts(rt, alloc, plan),
+        Some("dials") => DIALS.measure(rt, plan),
+        Some("calls") => CALLS.measure(rt, plan),
+        Some("core") => markers::measure(rt, alloc, plan, count(number, 1, 10)?),
+        Some("plans") => plans::measure(rt, alloc),
+        Some("slots") => slot_threads::measure(rt, alloc, count(number, 100, 100_000)?),
+        Some("threads") => threads::measure(rt, alloc, plan, count(number, 100, 100_000)?),
+        Some("live") => live::measure(rt, alloc, plan, count(number, 3, 1000)?),
+        Some(_) => return None,
+    };
+    Some(measured)
 }
 
 fn main(rt: HostRuntime) -> io::Result<ExitCode> {
-    let Some(asked) = read_words(&rt)? else {
-        eprintln!(rt; "{USAGE}")?;
-        return Ok(ExitCode::FAILURE);
-    };
     let plan = Plan::example(rt.alloc())?;
-    measure(&rt, rt.alloc(), &plan, asked)?;
-    Ok(ExitCode::SUCCESS)
+    let mut words = env::args(&rt)?.skip(1);
+    let what = words.next();
+    let number = words.next();
+    let measured = measure(&rt, rt.alloc(), &plan, what.as_deref(), number.as_deref());
+    match measured {
+        Some(measured) => measured.map(|()| ExitCode::SUCCESS),
+        None => {
+            eprintln!(rt; "{USAGE}")?;
+            Ok(ExitCode::FAILURE)
+        }
+    }
 }

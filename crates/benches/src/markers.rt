@@ -3,7 +3,7 @@
 
 ghost use Rattle.std.specs.Prelude.{◌<◌, ◌≤◌};
 
-use crate::timing::nanoseconds_each;
+use crate::timing::Tally;
 use std::alloc::Global;
 use std::io;
 use std::rt::Clock;
@@ -13,7 +13,7 @@ use xbar_equip::{Dialled, Len};
 use xbar_office::Job;
 use xbar_plan::Plan;
 
-pub const JOBS: u32 = 90_000;
+pub const JOBS: u64 = 90_000;
 
 /// More turns of a marker than the jobs need.
 const TURNS: u32 = 100_000_000;
@@ -27,8 +27,7 @@ const STEPS: u32 = 5;
 struct Progress {
     /// How many jobs each marker was assigned.
     assigned: [u32; 10],
-    jobs: u32,
-    steps: u64,
+    done: Tally,
 }
 
 /// The marker's next job.
@@ -43,54 +42,48 @@ fn next_job(progress: &mut Progress, marker: u32) -> Job {
     }
 }
 
-/// The marker makes a step, or takes a job where it has none.
-fn step(office: &mut Exchange, progress: &mut Progress, marker: u32) {
-    if marker >= office.marker_count() {
-        return;
+/// The marker's next step, if the office has that marker and it has a job.
+#[inline(always)]
+pub fn step(office: &mut Exchange, marker: u32) -> Event {
+    if marker < office.marker_count() {
+        office.step(marker)
+    } else {
+        Event::Idle
     }
-    match office.step(marker) {
+}
+
+/// The marker makes a step, or takes a job where it has none.
+fn go_on(office: &mut Exchange, progress: &mut Progress, marker: u32) {
+    let has_ended = match step(office, marker) {
         Event::Idle => {
             let _assigned = office.assign(marker, 0, next_job(progress, marker));
             return;
         }
-        Event::Finished(_) => progress.jobs = progress.jobs.saturating_add(1),
-        Event::Moved | Event::Refused { .. } | Event::Preferred(_) => {}
-    }
-    progress.steps = progress.steps.saturating_add(1);
+        Event::Finished(_) => true,
+        Event::Moved | Event::Refused { .. } | Event::Preferred(_) => false,
+    };
+    progress.done.count(1, has_ended);
 }
 
-/// A turn of the marker.
-fn turn(office: &mut Exchange, progress: &mut Progress, marker: u32) {
-    for _made in 0..STEPS {
-        step(office, progress, marker);
-    }
-}
-
-/// So many markers take turns until they have done that many jobs.
-fn take_turns(office: &mut Exchange, markers: u32, jobs: u32) -> Progress
-    requires { 0 < markers }
-{
-    let mut progress = Progress::default();
-    for number in 0..TURNS {
-        if progress.jobs >= jobs {
-            break;
-        }
-        turn(office, &mut progress, number % markers);
-    }
-    progress
-}
-
-/// So many markers do so many jobs. Gives how many they did, none without memory for an office, and in how
-/// many steps.
-pub fn work(alloc: Global, plan: &Plan, markers: u32, jobs: u32) -> (u32, u64)
+/// So many markers take turns until they have done that many jobs. Gives how much they did, nothing without
+/// memory for an office.
+pub fn work(alloc: Global, plan: &Plan, markers: u32, jobs: u64) -> Tally
     requires { (0 < markers) × (markers ≤ 10) }
 {
     let kinds = [Kind::Combined; 10];
+    let mut progress = Progress::default();
     let Ok(mut office) = Exchange::open(alloc, plan, &kinds[..markers as usize]) else {
-        return (0, 0);
+        return progress.done;
     };
-    let progress = take_turns(&mut office, markers, jobs);
-    (progress.jobs, progress.steps)
+    for number in 0..TURNS {
+        if progress.done.jobs >= jobs {
+            break;
+        }
+        for _made in 0..STEPS {
+            go_on(&mut office, &mut progress, number % markers);
+        }
+    }
+    progress.done
 }
 
 /// Does the jobs, and prints what a step and a job took.
@@ -103,10 +96,8 @@ pub fn measure<R: Print + Eprint + Clock>(
     requires { (0 < markers) × (markers ≤ 10) }
 {
     let start = Instant::now(rt)?;
-    let (jobs, steps) = work(alloc, plan, markers, JOBS);
-    let time = start.elapsed(rt)?;
-    println!(rt; "core: {jobs} jobs in {steps} steps")?;
-    let step = nanoseconds_each(time, steps);
-    let job = nanoseconds_each(time, u64::from(jobs));
+    let done = work(alloc, plan, markers, JOBS);
+    let (step, job) = done.paces(start.elapsed(rt)?, 1);
+    println!(rt; "core: {} jobs in {} steps", done.jobs, done.steps)?;
     eprintln!(rt; "{step} ns a step, {job} ns a job")
 }

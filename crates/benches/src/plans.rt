@@ -26,44 +26,24 @@ fn push_group(text: &mut String, group: u32) -> Result<(), AllocError>
     text.push_str("\",")
 }
 
-fn push_groups(text: &mut String) -> Result<(), AllocError> {
-    for group in 0..16 {
-        push_group(text, group)?;
-    }
-    Ok(())
-}
-
-fn push_numbers(text: &mut String) -> Result<(), AllocError> {
-    for number in 0..3000 {
-        write!(text, "\"{number:04} 3041\",")?;
-    }
-    Ok(())
-}
-
-fn push_codes(text: &mut String) -> Result<(), AllocError> {
-    for code in 0..64 {
-        write!(text, "\"{code:03} G1 G2 G3 G4\",")?;
-    }
-    Ok(())
-}
-
-fn push_faults(text: &mut String) -> Result<(), AllocError> {
-    for fault in 0..100 {
-        write!(text, "\"JU{fault:03}\",")?;
-    }
-    Ok(())
-}
-
 /// The text of a plan with 16 groups of 40 members, 3,000 numbers, 64 codes and 100 faults.
 pub fn full_plan(alloc: Global) -> Result<String, AllocError> {
     let mut text = String::from_str(alloc, "version = 1\ngroups = [")?;
-    push_groups(&mut text)?;
+    for group in 0..16 {
+        push_group(&mut text, group)?;
+    }
     text.push_str("]\nnumbers = [")?;
-    push_numbers(&mut text)?;
+    for number in 0..3000 {
+        write!(text, "\"{number:04} 3041\",")?;
+    }
     text.push_str("]\ncodes = [")?;
-    push_codes(&mut text)?;
+    for code in 0..64 {
+        write!(text, "\"{code:03} G1 G2 G3 G4\",")?;
+    }
     text.push_str("]\nfaults = [")?;
-    push_faults(&mut text)?;
+    for fault in 0..100 {
+        write!(text, "\"JU{fault:03}\",")?;
+    }
     text.push_str("]\n")?;
     Ok(text)
 }
@@ -85,7 +65,9 @@ pub fn measure<R: Print + Eprint + Clock>(rt: &R, alloc: Global) -> io::Result<(
     let start = Instant::now(rt)?;
     let plans = work(alloc, text.as_str(), READINGS);
     let time = start.elapsed(rt)?;
-    let nanoseconds = nanoseconds_each(time, u64::from(plans));
     println!(rt; "plans: {plans} plans")?;
-    eprintln!(rt; "{} microseconds a plan", nanoseconds / 1000)
+    eprintln!(rt;
+        "{} microseconds a plan",
+        nanoseconds_each(time, 1, u64::from(plans)) / 1000
+    )
 }

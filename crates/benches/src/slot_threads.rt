@@ -2,49 +2,127 @@
 //! same allocator behind one lock.
 
 ghost use Rattle.std.specs.Prelude.{◌≤◌};
+ghost use Rattle.desks.specs.Views.{IsDeskOf};
+ghost use Rattle.slots.specs.System.{IsJob};
 
-mod hand;
-mod locked;
-mod on_desks;
+mod banks;
 
 use crate::timing::nanoseconds_each;
+use banks::Banks;
+use desks::Room;
+use slot_desks::SlotJobs;
+use slot_desks::driving::{SlotDesk, SlotRoom, persist};
+use slots::bank::SLOT_COUNT;
+use slots::{Job, UpToTwo};
 use std::alloc::Global;
-use std::io;
 use std::rt::Clock;
-use std::sync::Wait;
+use std::sync::{Mutex, Wait};
 use std::thread::Threads;
 use std::time::Instant;
+use std::{io, thread};
 
-/// How many jobs all threads have done.
+/// Who does jobs of the slots.
+trait Clerk {
+    /// Does a job, and tells which slots it took. None if it has not ended.
+    fn do_job(&mut self, number: u64, job: Job) -> Option<UpToTwo<u32>>
+        requires { IsJob job };
+}
+
+/// Gives back a slot that is held, if there is one, and otherwise takes one, or one of each bank.
+fn next_job(held: UpToTwo<u32>, takes_both: bool) -> Job
+    ensures { IsJob result }
+{
+    match held {
+        UpToTwo::One(slot) | UpToTwo::Two(slot, _) if slot < SLOT_COUNT => Job::Give(slot),
+        _ if takes_both => Job::TakeBoth,
+        _ => Job::Take,
+    }
+}
+
+/// The clerk in turn takes a slot, or one of each bank, and gives back what it took, in so many jobs. Gives
+/// how many were done.
+fn work(clerk: &mut impl Clerk, jobs: u32) -> u64 {
+    let mut held = UpToTwo::Empty;
+    let mut takes_both = false;
+    for number in 0..u64::from(jobs) {
+        let Some(taken) = clerk.do_job(number, next_job(held, takes_both)) else {
+            return number;
+        };
+        held = match held {
+            UpToTwo::Empty => {
+                takes_both = !takes_both;
+                taken
+            }
+            UpToTwo::One(_) => UpToTwo::Empty,
+            UpToTwo::Two(_, other) => UpToTwo::One(other),
+        };
+    }
+    u64::from(jobs)
+}
+
+/// A desk of the slots.
+#[derive(Drop)]
+struct AtDesk<'a> {
+    room: &'a SlotRoom,
+    desk: SlotDesk,
+    ghost theirs: { IsDeskOf desk room.now tt },
+}
+
+impl Clerk for AtDesk<'_> {
+    fn do_job(&mut self, number: u64, job: Job) -> Option<UpToTwo<u32>> {
+        self.desk.assign(number, job);
+        let told = persist(self.room, &mut self.desk)?;
+        Some(told.reply.slots())
+    }
+}
+
+/// One of those who share the banks behind a lock.
+impl<R: Wait> Clerk for (&R, &Mutex<Banks>) {
+    fn do_job(&mut self, _number: u64, job: Job) -> Option<UpToTwo<u32>> {
+        let (rt, banks) = *self;
+        Some(banks.lock(rt).do_job(job))
+    }
+}
+
+/// How many jobs all have done.
 fn all_of(done: &[u64]) -> u64 {
     done.iter()
         .fold(0, |all: u64, jobs| all.saturating_add(*jobs))
 }
 
-fn measure_desks<R: Eprint + Clock + Threads + Sync>(
-    rt: &R,
-    alloc: Global,
-    count: u32,
-    jobs: u32,
-) -> io::Result<()>
+/// So many desks do so many jobs each, on threads of their own. Gives how many all have done.
+fn at_desks<R: Threads + Sync>(rt: &R, alloc: Global, count: u32, jobs: u32) -> io::Result<u64>
     requires { count ≤ 8 }
 {
-    let start = Instant::now(rt)?;
-    let done = on_desks::work_all(rt, alloc, count, jobs)?;
-    let job = nanoseconds_each(start.elapsed(rt)?, done);
-    eprintln!(rt; "{count} desks: {job} ns a job of {done}")
+    let (room, desks) = Room::<SlotJobs>::open(alloc, &(), count)?;
+    let done = thread::map_vec(
+        rt,
+        desks,
+        &|desk: SlotDesk| -> u64
+            requires { IsDeskOf desk room tt }
+        {
+            let room = &room;
+            work(&mut AtDesk { room, desk }, jobs)
+        },
+    )?;
+    Ok(all_of(&done))
 }
 
-fn measure_locked<R: Eprint + Clock + Threads + Wait + Sync>(
+/// So many threads do so many jobs each, under one lock. Gives how many all have done.
+fn behind_lock<R: Threads + Wait + Sync>(
     rt: &R,
     alloc: Global,
     count: u32,
     jobs: u32,
-) -> io::Result<()> {
-    let start = Instant::now(rt)?;
-    let done = locked::work_all(rt, alloc, count, jobs)?;
-    let job = nanoseconds_each(start.elapsed(rt)?, done);
-    eprintln!(rt; "{count} threads behind one lock: {job} ns a job of {done}")
+) -> io::Result<u64> {
+    let banks = Mutex::new(Banks::default());
+    let done = thread::map_indices(
+        rt,
+        alloc,
+        count as usize,
+        &|_| -> u64 { work(&mut (rt, &banks), jobs) },
+    )?;
+    Ok(all_of(&done))
 }
 
 /// Measures both, where each thread does so many thousand jobs.
@@ -57,8 +135,14 @@ pub fn measure<R: Eprint + Clock + Threads + Wait + Sync>(
 {
     let jobs = thousands * 1000;
     for count in [1_u32, 2, 4, 8] {
-        measure_desks(rt, alloc, count, jobs)?;
-        measure_locked(rt, alloc, count, jobs)?;
+        let start = Instant::now(rt)?;
+        let done = at_desks(rt, alloc, count, jobs)?;
+        let job = nanoseconds_each(start.elapsed(rt)?, 1, done);
+        eprintln!(rt; "{count} desks: {job} ns a job of {done}")?;
+        let start = Instant::now(rt)?;
+        let done = behind_lock(rt, alloc, count, jobs)?;
+        let job = nanoseconds_each(start.elapsed(rt)?, 1, done);
+        eprintln!(rt; "{count} threads behind one lock: {job} ns a job of {done}")?;
     }
     Ok(())
 }

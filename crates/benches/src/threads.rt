@@ -1,88 +1,147 @@
 //! Desks of the office on threads of their own, one, two and four, and beside them as many markers of the
 //! core behind one lock, and as many plain atomic operations.
 
-ghost use Rattle.std.specs.Prelude.{◌≤◌, length};
+ghost use Rattle.std.specs.Prelude.{◌≤◌};
+ghost use Rattle.xbar_fabric.specs.Views.{IsDeskOf};
 
-mod crew;
-mod locked;
-mod office_work;
 mod plain;
-mod tally;
+mod state;
 
-use crew::Crew;
+use crate::markers::step;
+use crate::timing::{Tally, nanoseconds_each};
+use state::State;
 use std::alloc::Global;
-use std::io;
 use std::rt::Clock;
-use std::sync::Wait;
+use std::sync::{Mutex, Wait};
 use std::thread::Threads;
-use std::time::{Duration, Instant};
-use tally::Tally;
-use xbar_fabric::Kind;
+use std::time::Instant;
+use std::{io, thread};
+use xbar_core::{Event, Exchange};
+use xbar_fabric::{Desk, Fabric, Kind};
 use xbar_plan::Plan;
 
-/// What each of so many events took, in nanoseconds, where all threads together had that many.
-fn each(time: Duration, threads: u32, events: u64) -> u128 {
-    time.as_nanos().saturating_mul(u128::from(threads)) / u128::from(events.max(1))
-}
-
-/// Prints what a step and a job took, where threads did so much work.
-fn print_paces(
-    rt: &impl Eprint,
-    what: &str,
-    time: Duration,
-    threads: u32,
-    done: Tally,
-) -> io::Result<()> {
-    let step = each(time, threads, done.steps);
-    let job = each(time, threads, done.jobs);
-    eprintln!(rt; "{threads} {what}: {step} ns a step, {job} ns a job")
-}
-
-fn measure_office<R: Eprint + Clock + Threads + Sync>(
-    rt: &R,
-    alloc: Global,
-    crew: &Crew,
-) -> io::Result<()>
-    requires { length crew.now.kinds.now ≤ 4 }
-{
-    let threads = crew.kinds.len() as u32;
-    let start = Instant::now(rt)?;
-    let done = office_work::work_all(rt, alloc, crew)?;
-    print_paces(rt, "desks of the office", start.elapsed(rt)?, threads, done)
-}
-
-fn measure_locked<R: Eprint + Clock + Threads + Wait + Sync>(
-    rt: &R,
-    alloc: Global,
-    crew: &Crew,
-) -> io::Result<()>
-    requires { length crew.now.kinds.now ≤ 4 }
-{
-    let threads = crew.kinds.len() as u32;
-    let start = Instant::now(rt)?;
-    let done = locked::work_all(rt, alloc, crew)?;
-    print_paces(
-        rt,
-        "markers behind one lock",
-        start.elapsed(rt)?,
-        threads,
-        done,
-    )
-}
-
-fn measure_plain<R: Eprint + Clock + Threads + Sync>(
-    rt: &R,
-    alloc: Global,
-    count: u32,
+/// Markers of these kinds in an office under this plan, each on a thread of its own, on which it goes
+/// on so many times.
+#[derive(Drop)]
+struct Crew<'a> {
+    plan: &'a Plan,
+    kinds: &'a [Kind],
     times: u32,
-) -> io::Result<()>
-    requires { count ≤ 4 }
+}
+
+/// The desk's next step with those after it that ask for no connector, or its next job. A desk that has
+/// waited long gives back what it holds, and lets other threads run.
+fn go_on(fabric: &Fabric, desk: &mut Desk, state: &mut State)
+    requires { IsDeskOf desk.old fabric.now }
+    ensures { IsDeskOf desk.new fabric.now }
 {
-    let start = Instant::now(rt)?;
-    plain::operate(rt, alloc, count, times)?;
-    let time = start.elapsed(rt)?;
-    let step = each(time, count, u64::from(count) * u64::from(times));
-    eprintln!(rt; "{count} threads of plain operations: {step} ns each")
+    if desk.step(fabric).is_none() {
+        let job = state.next_job(desk.marker());
+        let _assigned = desk.assign(0, job);
+        return;
+    }
+    let more = desk.run(fabric, &mut ()) as u64;
+    let has_ended = desk.is_idle();
+    if has_ended {
+        let _record = desk.record();
+    }
+    if state.count(more.saturating_add(1), has_ended) {
+        let _given = desk.give_back(fabric);
+        thread::yield_now();
+    }
+}
+
+/// A desk goes on so many times, and then leaves no connector held, lest the others wait for it for ever.
+fn work(fabric: &Fabric, mut desk: Desk, times: u32) -> Tally
+    requires { IsDeskOf desk fabric.now }
+{
+    let mut state = State::default();
+    for _made in 0..times {
+        go_on(fabric, &mut desk, &mut state);
+    }
+    let _given = desk.give_back(fabric);
+    // Past its turn nothing puts it off.
+    let _made = desk.run(fabric, &mut ());
+    state.tally
+}
+
+/// The crew's markers work as desks. Gives how much all have done.
+fn work_at_desks<R: Threads + Sync>(rt: &R, alloc: Global, crew: &Crew) -> io::Result<Tally> {
+    let times = crew.times;
+    let Ok((fabric, desks)) = Fabric::open(alloc, crew.plan, crew.kinds) else {
+        return Ok(Tally::default());
+    };
+    let tallies = thread::map_vec(
+        rt,
+        desks,
+        &|desk: Desk| -> Tally
+            requires { IsDeskOf desk fabric }
+        { work(&fabric, desk, times) },
+    )?;
+    Ok(Tally::of_all(&tallies))
+}
+
+/// The marker's next step, or its next job. Tells whether it gave back.
+fn go_on_locked(office: &mut Exchange, marker: u32, state: &mut State) -> bool {
+    let has_ended = match step(office, marker) {
+        Event::Idle => {
+            let _assigned = office.assign(marker, 0, state.next_job(marker));
+            return false;
+        }
+        Event::Finished(_) => true,
+        Event::Moved | Event::Refused { .. } | Event::Preferred(_) => false,
+    };
+    let gives_up = state.count(1, has_ended) && marker < office.marker_count();
+    if gives_up {
+        let _given = office.give_back(marker);
+    }
+    gives_up
+}
+
+/// The marker leaves no connector held, lest the others wait for it for ever. Past its turn nothing puts
+/// it off.
+fn let_go(office: &mut Exchange, marker: u32) {
+    if marker >= office.marker_count() {
+        return;
+    }
+    if office.is_past_turn(marker) {
+        office.steps(marker, 128);
+    } else {
+        let _given = office.give_back(marker);
+    }
+}
+
+/// A marker goes on so many times, each time under the lock.
+fn work_locked<R: Wait>(rt: &R, office: &Mutex<Exchange>, marker: u32, times: u32) -> Tally {
+    let mut state = State::default();
+    for _made in 0..times {
+        let gave = go_on_locked(&mut office.lock(rt), marker, &mut state);
+        if gave {
+            thread::yield_now();
+        }
+    }
+    let_go(&mut office.lock(rt), marker);
+    state.tally
+}
+
+/// The crew's markers work in one office behind a lock. Gives how much all have done.
+fn work_behind_lock<R: Threads + Wait + Sync>(
+    rt: &R,
+    alloc: Global,
+    crew: &Crew,
+) -> io::Result<Tally> {
+    let times = crew.times;
+    let Ok(office) = Exchange::open(alloc, crew.plan, crew.kinds) else {
+        return Ok(Tally::default());
+    };
+    let office = Mutex::new(office);
+    let tallies = thread::map_indices(
+        rt,
+        alloc,
+        crew.kinds.len(),
+        &|marker: usize| -> Tally { work_locked(rt, &office, marker as u32, times) },
+    )?;
+    Ok(Tally::of_all(&tallies))
 }
 
 /// Measures all of these, where each thread makes so many thousand steps.
@@ -99,9 +158,18 @@ pub fn measure<R: Eprint + Clock + Threads + Wait + Sync>(
     for count in [1_u32, 2, 4] {
         let kinds = &kinds[..count as usize];
         let crew = Crew { plan, kinds, times };
-        measure_office(rt, alloc, &crew)?;
-        measure_locked(rt, alloc, &crew)?;
-        measure_plain(rt, alloc, count, times)?;
+        let start = Instant::now(rt)?;
+        let done = work_at_desks(rt, alloc, &crew)?;
+        let (step, job) = done.paces(start.elapsed(rt)?, count);
+        eprintln!(rt; "{count} desks of the office: {step} ns a step, {job} ns a job")?;
+        let start = Instant::now(rt)?;
+        let done = work_behind_lock(rt, alloc, &crew)?;
+        let (step, job) = done.paces(start.elapsed(rt)?, count);
+        eprintln!(rt; "{count} markers behind one lock: {step} ns a step, {job} ns a job")?;
+        let start = Instant::now(rt)?;
+        plain::operate(rt, alloc, count, times)?;
+        let step = nanoseconds_each(start.elapsed(rt)?, 1, u64::from(times));
+        eprintln!(rt; "{count} threads of plain operations: {step} ns each")?;
     }
     Ok(())
 }

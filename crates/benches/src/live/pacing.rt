@@ -4,8 +4,8 @@ use std::thread;
 /// How many registers the example plan has.
 pub const REGISTERS: usize = 3;
 
-/// How often who waits lets other threads run before it goes on all the same.
-const PATIENCE: u32 = 1_000_000;
+/// How often who waits lets other threads run before it goes on all the same. No job takes as many steps.
+pub const PATIENCE: u32 = 1_000_000;
 
 /// How many calls may have been dialled, or begun to be, and not yet completed.
 #[derive(Drop)]

@@ -4,7 +4,7 @@ use std::thread;
 use std::thread::Threads;
 
 /// The words of a lock, of what it guards, and of the turns.
-#[derive(Drop)]
+#[derive(Default, Drop)]
 struct Words {
     lock: AtomicU64,
     bank: AtomicU64,
@@ -20,8 +20,7 @@ fn make(words: &Words, step: u32, seen: u64) -> u64 {
             .lock
             .compare_exchange(seen, seen, Ordering::SeqCst, Ordering::SeqCst)
         {
-            Ok(found) => found,
-            Err(found) => found,
+            Ok(found) | Err(found) => found,
         },
         2 => words.bank.load(Ordering::SeqCst),
         3 => words.turns.fetch_add(1, Ordering::SeqCst),
@@ -45,11 +44,7 @@ pub fn operate<R: Threads + Sync>(
     count: u32,
     steps: u32,
 ) -> Result<(), AllocError> {
-    let words = Words {
-        lock: AtomicU64::new(0),
-        bank: AtomicU64::new(0),
-        turns: AtomicU64::new(0),
-    };
+    let words = Words::default();
     let _seen = thread::map_indices(rt, alloc, count as usize, &|_| make_all(&words, steps))?;
     Ok(())
 }

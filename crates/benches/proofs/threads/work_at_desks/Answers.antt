@@ -4,7 +4,7 @@ use Rattle.std.specs.Prelude.{IfSome, Option}
 use denote.Param.Send.{sendable}
 use Rattle.xbar_fabric.specs.Views.{DeskView, IsDeskOf}
 use Rattle.xbar_fabric.proofs.Sent.{desk_send}
-use Rattle.benches.proofs.threads.office_work.work_all.Goals as goal
+use Rattle.benches.proofs.threads.work_at_desks.Goals as goal
 
 pub map_vec-requires-send-J : goal.map_vec-requires-send-J
 map_vec-requires-send-J g c κs within = search (sendable, desk_send)

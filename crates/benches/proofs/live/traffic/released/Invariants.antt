@@ -1,6 +1,0 @@
-use Rattle.std.proofs.Common.{All}
-use Rattle.xbar_markers.specs.Calls.{HasCallNo}
-use Rattle.benches.proofs.live.traffic.released.Given as goal
-
-abbrev pub invariant-loop-place : goal.invariant-loop-place
-invariant-loop-place l = All HasCallNo l.calls.items
