@@ -1,9 +1,9 @@
 //! Paths, traced from switch to switch as far as an attempt has come with them.
 
-ghost use Rattle.std.specs.Prelude.{◌≡◌, []};
+ghost use Rattle.std.specs.Prelude.{◌≡◌, ◌<◌, IfSome, []};
 ghost use Rattle.xbar_jobs.specs.Keeping.{AreEffects};
 ghost use Rattle.xbar_jobs.specs.Script.{live};
-ghost use Rattle.xbar_jobs.specs.Tracing.{approach as approach_script, trace as trace_script, trace_back as trace_back_script};
+ghost use Rattle.xbar_jobs.specs.Tracing.{approach as approach_script, trace as trace_script, trace_back as trace_back_script, trace_back_to as trace_back_to_script, trace_to as trace_to_script};
 
 use crate::effect::Effect;
 use crate::kinds::{Seen, Wanted};
@@ -33,19 +33,20 @@ pub fn approach(
     Ok(Party { line, word })
 }
 
-/// Traces a line's path from switch to switch. One that breaks off, which no lawful office shows, counts
-/// as none.
-#[tactic(auto, using(attempts::proofs::LiveWalks::live_bind, attempts::proofs::LiveWalks::live_end), unfolding(crate::specs::Tracing::trace, crate::specs::Tracing::trace_by, crate::specs::Tracing::trace_to, crate::specs::Tracing::trace_at))]
-pub fn trace(seen: &mut Seen, words: &mut [u64], party: &Party) -> Result<Option<Path>, Wanted>
+#[tactic(auto, using(attempts::proofs::LiveWalks::live_bind, attempts::proofs::LiveWalks::live_end), unfolding(crate::specs::Tracing::trace_to, crate::specs::Tracing::trace_at))]
+fn trace_to(
+    seen: &mut Seen,
+    words: &mut [u64],
+    line: Len,
+    channel: u8,
+    frame: Option<u8>,
+) -> Result<Option<Path>, Wanted>
+    requires channel { channel < 10 }
+    requires frame { IfSome frame (λ f. f < 10) }
     ensures { record { found = result; course = seen.new; words = words.new }
-        ≡ live [] (trace_script party.now) seen.old words.old }
+        ≡ live [] (trace_to_script line channel frame) seen.old words.old }
 {
-    let line = party.line;
-    let Some(channel) = party.channel() else {
-        return Ok(None);
-    };
-    let word = read(seen, words, line_junctor(line.frame(), channel))?;
-    let Some(frame) = find_number(word, line.switch()) else {
+    let Some(frame) = frame else {
         return Ok(None);
     };
     require_held(seen, words, Conn::Tlf(frame))?;
@@ -64,18 +65,35 @@ pub fn trace(seen: &mut Seen, words: &mut [u64], party: &Party) -> Result<Option
     }
 }
 
-/// Traces the path of a trunk place, whose frame is held, from switch to switch.
-#[tactic(auto, using(attempts::proofs::LiveWalks::live_bind, attempts::proofs::LiveWalks::live_end), unfolding(crate::specs::Tracing::trace_back, crate::specs::Tracing::trace_back_by, crate::specs::Tracing::trace_back_to, crate::specs::Tracing::trace_back_at))]
-pub fn trace_back(seen: &mut Seen, words: &mut [u64], place: Ten) -> Result<Option<Path>, Wanted>
+/// Traces a line's path from switch to switch. One that breaks off, which no lawful office shows, counts
+/// as none.
+#[tactic(auto, using(attempts::proofs::LiveWalks::live_bind, attempts::proofs::LiveWalks::live_end), unfolding(crate::specs::Tracing::trace, crate::specs::Tracing::trace_by))]
+pub fn trace(seen: &mut Seen, words: &mut [u64], party: &Party) -> Result<Option<Path>, Wanted>
     ensures { record { found = result; course = seen.new; words = words.new }
-        ≡ live [] (trace_back_script place) seen.old words.old }
+        ≡ live [] (trace_script party.now) seen.old words.old }
 {
-    let word = read(seen, words, trunk_switch(place.frame(), place.switch()))?;
-    let Some(channel) = find_number(word, place.appearance()) else {
+    let line = party.line;
+    let Some(channel) = party.channel() else {
         return Ok(None);
     };
-    let word = read(seen, words, trunk_junctor(place.frame(), channel))?;
-    let Some(frame) = find_number(word, place.switch()) else {
+    let word = read(seen, words, line_junctor(line.frame(), channel))?;
+    trace_to(seen, words, line, channel, find_number(word, line.switch()))
+}
+
+#[tactic(auto, using(attempts::proofs::LiveWalks::live_bind, attempts::proofs::LiveWalks::live_end), unfolding(crate::specs::Tracing::trace_back_to, crate::specs::Tracing::trace_back_at))]
+fn trace_back_to(
+    seen: &mut Seen,
+    words: &mut [u64],
+    place: Ten,
+    channel: u8,
+    frame: Option<u8>,
+) -> Result<Option<Path>, Wanted>
+    requires channel { channel < 10 }
+    requires frame { IfSome frame (λ f. f < 10) }
+    ensures { record { found = result; course = seen.new; words = words.new }
+        ≡ live [] (trace_back_to_script place channel frame) seen.old words.old }
+{
+    let Some(frame) = frame else {
         return Ok(None);
     };
     require_held(seen, words, Conn::Llf(frame))?;
@@ -92,4 +110,24 @@ pub fn trace_back(seen: &mut Seen, words: &mut [u64], place: Ten) -> Result<Opti
             place,
         })),
     }
+}
+
+/// Traces the path of a trunk place, whose frame is held, from switch to switch.
+#[tactic(auto, using(attempts::proofs::LiveWalks::live_bind, attempts::proofs::LiveWalks::live_end), unfolding(crate::specs::Tracing::trace_back, crate::specs::Tracing::trace_back_by))]
+pub fn trace_back(seen: &mut Seen, words: &mut [u64], place: Ten) -> Result<Option<Path>, Wanted>
+    ensures { record { found = result; course = seen.new; words = words.new }
+        ≡ live [] (trace_back_script place) seen.old words.old }
+{
+    let word = read(seen, words, trunk_switch(place.frame(), place.switch()))?;
+    let Some(channel) = find_number(word, place.appearance()) else {
+        return Ok(None);
+    };
+    let word = read(seen, words, trunk_junctor(place.frame(), channel))?;
+    trace_back_to(
+        seen,
+        words,
+        place,
+        channel,
+        find_number(word, place.switch()),
+    )
 }
