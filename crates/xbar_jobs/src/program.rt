@@ -158,13 +158,8 @@ impl Program {
             ≡ reply_in self.now.attempt.phase self.now.attempt.reply }
         ensures known { is_some result ≡ is_some (turn_in self.now.attempt.phase) }
     {
-        match self.attempt.turn() {
-            None => None,
-            Some(_) => match self.attempt.decision() {
-                Some(decided) => Some(decided.reply()),
-                None => None,
-            },
-        }
+        self.attempt.turn()?;
+        Some(self.attempt.decision()?.reply())
     }
 
     /// The atomic steps of this attempt so far. It stays at `u32::MAX` once there.
