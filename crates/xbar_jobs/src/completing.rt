@@ -3,7 +3,7 @@
 ghost use Rattle.std.specs.Prelude.{◌≡◌, ◌<◌, IfSome, []};
 ghost use Rattle.xbar_office.specs.Trunks.{AreGroups};
 ghost use Rattle.xbar_plan.specs.Tables.{lines_of, route_of};
-ghost use Rattle.xbar_jobs.specs.Completing.{call as call_script, call_number as call_number_script, call_without as call_without_script, complete_from as complete_from_script, complete_steps, hunt as hunt_script, register_at as register_at_of};
+ghost use Rattle.xbar_jobs.specs.Completing.{call as call_script, call_number as call_number_script, call_without as call_without_script, complete_steps, hunt as hunt_script, register_at as register_at_of};
 ghost use Rattle.xbar_jobs.specs.Keeping.{AreEffects};
 ghost use Rattle.xbar_jobs.specs.Script.{live};
 ghost use Rattle.xbar_jobs.specs.Tracing.{Knows};
@@ -148,31 +148,8 @@ fn register_at(plan: &Plan, own: &Path) -> Option<MemberPlace>
     }
 }
 
-/// Goes on from the calling line's own path, where that ends at a register.
-#[tactic(auto, using(attempts::proofs::LiveWalks::live_end), unfolding(crate::specs::Completing::complete_from, crate::specs::Completing::call_from))]
-fn complete_from(
-    plan: &Plan,
-    seen: &mut Seen,
-    words: &mut [u64],
-    calling: &Party,
-    dialled: Dialled,
-    own: &Option<Path>,
-) -> Result<Decision, Wanted>
-    ensures { record { found = result; course = seen.new; words = words.new }
-        ≡ live [] (complete_from_script plan.now calling.now dialled own.now) seen.old words.old }
-{
-    let Some(own) = own else {
-        return Ok(Decision::refused(End::NoRegister));
-    };
-    let Some(found) = register_at(plan, own) else {
-        return Ok(Decision::refused(End::NoRegister));
-    };
-    let leave = Leave::of(own, &None, &found);
-    call_without(plan, seen, words, calling, dialled, leave)
-}
-
 /// Goes through a completing job, from where the walks before have come to.
-#[tactic(auto, using(attempts::proofs::LiveWalks::live_bind), unfolding(crate::specs::Completing::complete_steps))]
+#[tactic(auto, using(attempts::proofs::LiveWalks::live_bind, attempts::proofs::LiveWalks::live_end), unfolding(crate::specs::Completing::complete_steps, crate::specs::Completing::complete_from, crate::specs::Completing::call_from))]
 // Not inlined into every walk: a dial tone job would pay for its locals.
 #[inline(never)]
 pub fn complete(
@@ -189,6 +166,12 @@ pub fn complete(
     ensures knows { Knows line way.new seen.new.seen }
 {
     let calling = way.approach(seen, words, line)?;
-    let own = way.trace(seen, words, line, &calling)?;
-    complete_from(plan, seen, words, &calling, dialled, &own)
+    let Some(own) = way.trace(seen, words, line, &calling)? else {
+        return Ok(Decision::refused(End::NoRegister));
+    };
+    let Some(found) = register_at(plan, &own) else {
+        return Ok(Decision::refused(End::NoRegister));
+    };
+    let leave = Leave::of(&own, &None, &found);
+    call_without(plan, seen, words, &calling, dialled, leave)
 }
