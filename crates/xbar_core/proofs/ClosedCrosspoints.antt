@@ -7,14 +7,11 @@ use Rattle.turns.specs.Attempt.{left_in}
 use Rattle.turns.specs.Law as law
 use Rattle.turns.specs.System.{IsUnder}
 use Rattle.turns.specs.World.{Does}
-use Rattle.turns.specs.declared.phase.Phase.TheVariants.{Requests, Seizes, Tests, Turns, Withdraws, GivesBack, Operates}
+use Rattle.turns.specs.declared.phase.Phase.TheVariants.{Operates}
 use Rattle.turns.proofs.Completed.{perform_index}
 use Rattle.turns.proofs.Consequences.{free_word, held_word}
-use Rattle.xbar_equip.specs.Word.{Word, IsWord, ConnWord, GroupWord, LineJunctor, LineSwitch, TrunkJunctor, TrunkSwitch, TurnWord, word_number}
 use Rattle.xbar_equip.specs.declared.conn.Conn.{Conn}
-use Rattle.xbar_equip.specs.declared.conn.Conn.TheVariants.{Llf, Tlf}
 use Rattle.xbar_equip.specs.declared.crosspoint.Crosspoint.{Crosspoint}
-use Rattle.xbar_equip.proofs.WordNumbers.{conn_range, each_named}
 use Rattle.xbar_switch.specs.Field.{field_of}
 use Rattle.xbar_match.specs.Switches.{held_at, shape_at}
 use Rattle.xbar_plan.specs.Lawful.{IsLawful}
@@ -24,37 +21,15 @@ use Rattle.xbar_jobs.specs.Closing.{effect_word, value_after as made_of}
 use Rattle.xbar_jobs.specs.Office.{Protects, office}
 use Rattle.xbar_jobs.specs.declared.effect.Effect.{Effect}
 use Rattle.xbar_jobs.specs.declared.effect.Effect.TheVariants.{Open}
-use Rattle.xbar_jobs.proofs.OfficeSystem.{office_is}
+use Rattle.xbar_jobs.proofs.OfficeSystem.{office_is, word_protected}
 use Rattle.xbar_core.specs.Exchange.{Exchange, IsLawfulExchange, Work, world}
 use Rattle.xbar_core.specs.Holding.{IsAt, completed}
 use Rattle.xbar_core.specs.Links.{IsClosed}
 use Rattle.xbar_core.proofs.Actors.{actor_at, marker_at}
 use Rattle.xbar_core.proofs.LeftEffects.{opens_or_stays}
+use Rattle.xbar_core.proofs.MadeEffects.{past_or_not}
 use Rattle.xbar_core.proofs.Markers.{works}
 use Rattle.xbar_core.proofs.TurnedJobs.{decided}
-
--- the connector that protects the word of a switch
-protected_at : (n : ℕ) (word : Word) → IsWord word → word_number word ≡ n → n < 400 → (conn : Conn) × Protects conn n
-protected_at n (LineSwitch frame switch) is e below = (Llf frame, record { word = LineSwitch frame switch; there = is; named = e; protects = refl })
-protected_at n (LineJunctor frame channel) is e below = (Llf frame, record { word = LineJunctor frame channel; there = is; named = e; protects = refl })
-protected_at n (TrunkSwitch frame switch) is e below = (Tlf frame, record { word = TrunkSwitch frame switch; there = is; named = e; protects = refl })
-protected_at n (TrunkJunctor frame channel) is e below = (Tlf frame, record { word = TrunkJunctor frame channel; there = is; named = e; protects = refl })
-protected_at n (GroupWord group) is e below = absurd (omega arith)
-protected_at n (ConnWord conn) is e below = absurd (omega (arith, conn_range conn is))
-protected_at n TurnWord is e below = absurd (omega arith)
-
-switch_protected : (n : ℕ) → n < 400 → (conn : Conn) × Protects conn n
-switch_protected n below = let named = each_named n (omega arith) in protected_at n named.word named.is_word named.number below
-
--- a phase is past the turn, or no effect is left in it
-past_or_not : (phase : Phase) (effects : List Effect) → ((turn : ℕ) × (phase ≡ Operates turn)) ⊎ ((left_in phase effects ≡ []) × ((turn : ℕ) → phase ≢ Operates turn))
-past_or_not (Operates turn) effects = inl (turn, refl)
-past_or_not (Requests conn) effects = inr (refl, λ turn same. cc)
-past_or_not (Seizes conn expected) effects = inr (refl, λ turn same. cc)
-past_or_not (Tests word) effects = inr (refl, λ turn same. cc)
-past_or_not Turns effects = inr (refl, λ turn same. cc)
-past_or_not (Withdraws conn) effects = inr (refl, λ turn same. cc)
-past_or_not GivesBack effects = inr (refl, λ turn same. cc)
 
 -- a marker past its turn has this crosspoint left to open
 pub record HasLeft (e : Exchange) (c : Crosspoint) : Type 0 where
@@ -139,5 +114,5 @@ module _ (plan : Tables) (laws : IsLawful plan) (e : Exchange) (lawful : IsLawfu
   -- a closed crosspoint is left to be opened, or nobody has it left and it is closed in the completed words
   pub left_or_stays : (c : Crosspoint) → IsClosed e.words c → HasLeft e c ⊎ (¬ HasLeft e c × (held_at (completed plan e) c.word c.field ≡ c.value))
   left_or_stays c closed =
-      let protected = switch_protected c.word closed.word in
+      let protected = word_protected c.word (omega (arith, closed.word)) in
       by_word c closed protected.0 protected.1 (law.holder_at (office plan) e.words protected.0) refl

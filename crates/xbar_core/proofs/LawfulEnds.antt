@@ -1,10 +1,5 @@
 -- in a lawful office a marker past its turn has little left, and one that no other is in the way of comes to its end
-use Rattle.std.proofs.Common.{◌≡◌, ℕ, zero, suc, ◌-◌, ◌<◌, ◌≤◌, Bool, true, false, List, [], ◌∷◌, ◌++◌, length, length-append, map, inl, inr, refl, sym, ◌∙◌, ap, subst, arith, eqb}
-use Rattle.std.specs.List.{AllByRecursion, IsDistinct, list_any}
-use Rattle.std.specs.Prelude.{◌||◌}
-use Rattle.std.proofs.lemmas.Bool.{eqb-true}
-use Rattle.std.proofs.lemmas.List.{length-map}
-use Rattle.std.proofs.lemmas.Map.Steps.{length-le_from_distinct_below}
+use Rattle.std.proofs.Common.{◌≡◌, ℕ, zero, suc, ◌-◌, ◌≤◌, Bool, true, false, List, [], ◌++◌, length, length-append, refl, sym, ◌∙◌, ap, subst, arith}
 use mathlib.Core.Option.{some}
 use lib.ListN.{get_elem?}
 use Rattle.turns.specs.Among.{AreDistinct, IsIn}
@@ -31,6 +26,7 @@ use Rattle.xbar_jobs.specs.Office.{office}
 use Rattle.xbar_jobs.specs.Standing.{most_effects, most_readings, most_seizings}
 use Rattle.xbar_jobs.specs.declared.decision.Decision.{Decision}
 use Rattle.xbar_jobs.specs.declared.effect.Effect.{Effect}
+use Rattle.xbar_jobs.proofs.FewConns.{few_distinct}
 use Rattle.xbar_jobs.proofs.JobBounds.{jobs_bounded}
 use Rattle.xbar_jobs.proofs.OfficeSystem.{office_is}
 use Rattle.xbar_core.specs.Exchange.{Exchange, IsLawfulExchange, is_idle, world}
@@ -52,32 +48,11 @@ place_of conn = word_number (ConnWord conn) - 416
 one_place : (a b : Conn) → IsConn a → IsConn b → place_of a ≡ place_of b → a ≡ b
 one_place a b range other same = let this = conn_range a range in let that = conn_range b other in distinct_conns a b range other (omega (arith, this, that, same))
 
--- connectors of which none stands twice have places of which none does
-apart_places : (conn : Conn) (conns : List Conn) → IsConn conn → ((c : Conn) → IsIn c conns → IsConn c) → ¬ IsIn conn conns → AllByRecursion (λ n. eqb (place_of conn) n ≡ false) (map place_of conns)
-apart_places conn [] range all apart = tt
-apart_places conn (first ∷ conns) range all apart = (by (eqb (place_of conn) (place_of first)) refl, apart_places conn conns range (λ c within. all c (inr within)) (λ within. apart (inr within))) where
-  by : (same : Bool) → eqb (place_of conn) (place_of first) ≡ same → eqb (place_of conn) (place_of first) ≡ false
-  by false is = is
-  by true is = absurd (apart (inl (one_place conn first range (all first (inl refl)) (eqb-true _ _ is))))
-
-distinct_places : (conns : List Conn) → ((c : Conn) → IsIn c conns → IsConn c) → AreDistinct conns → IsDistinct eqb (map place_of conns)
-unfolding IsDistinct
-distinct_places [] all apart = tt
-distinct_places (conn ∷ conns) all apart = (apart_places conn conns (all conn (inl refl)) (λ c within. all c (inr within)) apart.0, distinct_places conns (λ c within. all c (inr within)) apart.1)
-
-places_below : (conns : List Conn) (n : ℕ) → ((c : Conn) → IsIn c conns → IsConn c) → list_any (eqb n) (map place_of conns) ≡ true → n < 36
-places_below [] n all among = absurd cc
-places_below (conn ∷ conns) n all among = by (eqb n (place_of conn)) refl among (λ later. places_below conns n (λ c within. all c (inr within)) later) where
-  by : (here : Bool) → eqb n (place_of conn) ≡ here → (here || list_any (eqb n) (map place_of conns)) ≡ true → (list_any (eqb n) (map place_of conns) ≡ true → n < 36) → n < 36
-  by true is found later = let range = conn_range conn (all conn (inl refl)) in let same = eqb-true n (place_of conn) is in omega (arith, range, same)
-  by false is found later = later found
-
 -- so there are no more than there are connectors
 few_conns : (conns : List Conn) → ((c : Conn) → IsIn c conns → IsConn c) → AreDistinct conns → length conns ≤ 36
 few_conns conns all apart =
-    let few = length-le_from_distinct_below (map place_of conns) 36 (distinct_places conns all apart) (λ n among. places_below conns n all among) in
-    let size = length-map conns place_of in
-    omega (arith, few, size)
+    few_distinct place_of conns 36 (λ one other here there. one_place one other (all one here) (all other there))
+    (λ conn within. let range = conn_range conn (all conn within) in omega (arith, range)) apart
 
 module _ (plan : Tables) (laws : IsLawful plan) (e : Exchange) (lawful : IsLawfulExchange plan e) (k number : ℕ) (a : Attempt) (at : IsAt e k number a) where
   sound : IsSound (office plan) (world plan e) k number a

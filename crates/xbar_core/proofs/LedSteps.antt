@@ -12,13 +12,14 @@ use Rattle.xbar_office.specs.declared.reply.Record.{Record}
 use Rattle.xbar_jobs.specs.Attempt.{Act, Attempt, next_step}
 use Rattle.xbar_jobs.specs.Office.{office}
 use Rattle.xbar_jobs.specs.OnWords.{words_after}
-use Rattle.xbar_jobs.proofs.PastTurn.{told_led, words_led}
+use Rattle.xbar_jobs.proofs.PastTurn.{words_led}
 use Rattle.xbar_core.specs.Exchange.{Exchange, Marker, Work}
 use Rattle.xbar_core.specs.Holding.{IsAt}
 use Rattle.xbar_core.specs.declared.kind.Kind.{Kind}
 use Rattle.xbar_core.specs.Moves.{added_record, after_step, steps}
 use Rattle.xbar_core.proofs.Markers.{marker_same, marker_set}
 use Rattle.xbar_core.proofs.StepCases.{step_made}
+use Rattle.xbar_core.proofs.Worlds.{answer_is}
 
 -- a marker that is set twice is what it is set to last
 set_again : (markers : List Marker) (k : ℕ) (first last : Marker) → slice_set (slice_set markers k first) k last ≡ slice_set markers k last
@@ -69,7 +70,7 @@ module _ (plan : Tables) (k : ℕ) where
         let a : Attempt = x.attempt in
         let here : Marker = record m { work = Does number a } in
         step_made plan (with_moment e m number x) k number a (at_moment x) (not_rest (act a) goes)
-        ∙ ap (λ (t : Answer). record { words = words_after k (next_step a) x.words; markers = slice_set (slice_set e.markers k here) k (record m { work = Does number (change (office plan) a t) }); records = e.records ++ added_record k number a t }) (told_led plan k a x.words)
+        ∙ ap (λ (t : Answer). record { words = words_after k (next_step a) x.words; markers = slice_set (slice_set e.markers k here) k (record m { work = Does number (change (office plan) a t) }); records = e.records ++ added_record k number a t }) (answer_is plan k x.words a)
         ∙ ap (λ (all : List Record). record { words = words_after k (next_step a) x.words; markers = slice_set (slice_set e.markers k here) k (record m { work = Does number (change (office plan) a (told (office plan) k x)) }); records = all }) (ap (λ (more : List Record). e.records ++ more) (no_record number a (act a) (told (office plan) k x) goes answers) ∙ append-nil e.records)
         ∙ ap (λ (all : List Marker). record { words = words_after k (next_step a) x.words; markers = all; records = e.records }) (set_again e.markers k here (record m { work = Does number (change (office plan) a (told (office plan) k x)) }))
         ∙ ap (λ (all : List ℕ). record { words = all; markers = slice_set e.markers k (record m { work = Does number (change (office plan) a (told (office plan) k x)) }); records = e.records }) (words_led plan k a x.words)

@@ -1,5 +1,5 @@
 -- what each job's decision lets go: nothing, or paths of the set that the job takes out
-use Rattle.std.proofs.Common.{◌≡◌, ◌≢◌, ℕ, Bool, true, false, List, refl, sym, ◌∙◌, ap, subst}
+use Rattle.std.proofs.Common.{◌≡◌, ◌≢◌, ◌≤◌, ℕ, length, Bool, true, false, List, refl, sym, ◌∙◌, ap, subst}
 use Rattle.std.specs.Prelude.{Option, Some, None, ◌==◌, option_and_then, if◌then◌else◌}
 use Rattle.std.specs.Option.{option_map_or}
 use Rattle.turns.specs.Script.{◌>>=◌, run}
@@ -18,27 +18,21 @@ use Rattle.xbar_office.specs.Legal.{IsJob}
 use Rattle.xbar_office.specs.Release.{release, release_from, without_other}
 use Rattle.xbar_office.specs.Standing.{if_register as path_if_register, path_of, register_path}
 use Rattle.xbar_office.specs.Whole.{whole}
-use Rattle.xbar_office.specs.declared.aim.Aim.{Aim}
 use Rattle.xbar_office.specs.declared.job.Job.{Job}
 use Rattle.xbar_office.specs.declared.job.Job.TheVariants.{Dial, Complete, Release}
 use Rattle.xbar_office.proofs.EndsOfJobs.{left_in}
 use Rattle.xbar_jobs.specs.Closing.{leave_effects, leave_of}
 use Rattle.xbar_jobs.specs.Completing.{call, call_from, call_without, complete_from, complete_steps, if_register}
-use Rattle.xbar_jobs.specs.Connecting.{connect, try_trunk}
-use Rattle.xbar_jobs.specs.Jobs.{dial_steps, script, serve_idle_line}
+use Rattle.xbar_jobs.specs.Jobs.{script}
 use Rattle.xbar_jobs.specs.Office.{ShowsOffice}
 use Rattle.xbar_jobs.specs.Releasing.{release_steps}
 use Rattle.xbar_jobs.specs.Script.{as_if_made}
 use Rattle.xbar_jobs.specs.Sides.{party_after}
-use Rattle.xbar_jobs.specs.Tracing.{approach}
-use Rattle.xbar_jobs.specs.Trials.{two_trials_steps}
-use Rattle.xbar_jobs.specs.Trunks.{find_trunk, trunks_of}
 use Rattle.xbar_jobs.specs.declared.decision.Decision.{Decision}
 use Rattle.xbar_jobs.specs.declared.leave.Leave.{Leave}
-use Rattle.xbar_jobs.specs.declared.party.CallParties.{CallParties}
 use Rattle.xbar_jobs.specs.declared.party.Party.{Party}
-use Rattle.xbar_jobs.specs.declared.trunks.IdleGroup.{IdleGroup}
 use Rattle.xbar_jobs.proofs.CompleteDecides.{complete_runs}
+use Rattle.xbar_jobs.proofs.DialDecides.{dial_takes}
 use Rattle.xbar_jobs.proofs.FreedMembers.{other_stays}
 use Rattle.xbar_jobs.proofs.LeaveEffects.{IsLeave}
 use Rattle.xbar_jobs.proofs.ReleaseDecides.{ComesTo, HasNone, LetsGo as CallGoes, release_comes}
@@ -61,27 +55,6 @@ pub data LetsGo (plan : Tables) (paths : List Path) (job : Job) (decision : Deci
   Paths : (leave : Leave) → decision.leave ≡ Some leave → AreGone plan paths job leave → LetsGo plan paths job decision
 
 module _ (plan : Tables) (words : List ℕ) where
-  try_stays : (aim : Aim) (parties : CallParties) (found : Option IdleGroup) → (run words (try_trunk plan aim parties found)).leave ≡ None
-  unfolding run try_trunk ◌>>=◌
-  try_stays aim parties None = refl
-  try_stays aim parties (Some idle) = ap (λ (d : Decision). d.leave) (run_bind words (two_trials_steps plan parties (trunks_of plan idle.group idle.word) idle.first) _)
-
-  -- to join parties lets nothing go
-  connect_stays : (aim : Aim) (parties : CallParties) (groups : List ℕ) → (run words (connect plan aim parties groups)).leave ≡ None
-  unfolding connect
-  connect_stays aim parties groups =
-      ap (λ (d : Decision). d.leave) (run_bind words (find_trunk plan groups) _) ∙ try_stays aim parties (run words (find_trunk plan groups))
-
-  serve_stays : (calling : Party) (channel : Option ℕ) → (run words (serve_idle_line plan calling channel)).leave ≡ None
-  unfolding run serve_idle_line
-  serve_stays calling None = connect_stays _ _ _
-  serve_stays calling (Some channel) = refl
-
-  -- nor does a dial tone job
-  dial_stays : (line : Line) → (run words (dial_steps plan line)).leave ≡ None
-  unfolding dial_steps
-  dial_stays line = ap (λ (d : Decision). d.leave) (run_bind words (approach line) _) ∙ serve_stays (run words (approach line)) _
-
   -- once its register is let go, a completing job lets no more go
   without_leaves : (calling : Party) (dialled : ℕ) (leave : Leave) → (run words (call_without plan calling dialled leave)).leave ≡ Some leave
   unfolding run call_without ◌>>=◌
@@ -142,8 +115,8 @@ module _ (plan : Tables) (words : List ℕ) (paths : List Path) (laws : IsLawful
     by (CallGoes leave path is comes) = Paths leave (ap (λ (d : Decision). d.leave) comes) (call_gone leave path is)
 
 -- what a job's decision lets go, on words that show a set
-pub job_lets_go : (plan : Tables) (words : List ℕ) (paths : List Path) (job : Job) → IsLawful plan → ShowsOffice plan words paths → IsJob job → LetsGo plan paths job (run words (script plan job))
+pub job_lets_go : (plan : Tables) (words : List ℕ) (paths : List Path) (job : Job) → IsLawful plan → 453 ≤ length words → ShowsOffice plan words paths → IsJob job → LetsGo plan paths job (run words (script plan job))
 unfolding script
-job_lets_go plan words paths (Dial line) laws shows in_range = Nothing (dial_stays plan words line)
-job_lets_go plan words paths (Complete line dialled) laws shows in_range = complete_lets_go plan words paths laws shows line in_range.0 dialled
-job_lets_go plan words paths (Release line) laws shows in_range = release_lets_go plan words paths laws shows line in_range
+job_lets_go plan words paths (Dial line) laws size shows in_range = Nothing (dial_takes plan words paths laws size shows line in_range).leaves
+job_lets_go plan words paths (Complete line dialled) laws size shows in_range = complete_lets_go plan words paths laws shows line in_range.0 dialled
+job_lets_go plan words paths (Release line) laws size shows in_range = release_lets_go plan words paths laws shows line in_range

@@ -90,10 +90,6 @@ one_changed change keeps first now next made so_far is =
           ∙ ap (λ (n : ℕ). for_each (change first.plan) n first.exchange) more;
     }
 
-pub all_changed : (change : Tables → ℕ → Exchange → Exchange) (first now : OfPlan) (count made : ℕ) → made ≡ count → AreChanged change first now made → now ≡ record first { exchange = for_each (change first.plan) count first.exchange }
-all_changed change first now count made all so_far =
-    same_end first now (for_each (change first.plan) count first.exchange) so_far.plan (ap (λ (n : ℕ). for_each (change first.plan) n first.exchange) (sym all) ∙ sym so_far.is)
-
 -- steps to the end, ends past the turn and give backs do
 pub end_counts : KeepsCount ended
 end_counts plan k e = count_end plan k e

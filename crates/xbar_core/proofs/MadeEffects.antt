@@ -1,5 +1,5 @@
 -- where markers past their turns have no effect left, the words show the set after the records as they are
-use Rattle.std.proofs.Common.{◌≡◌, ℕ, suc, List, [], ◌∷◌, ◌∙◌, ap, refl, subst}
+use Rattle.std.proofs.Common.{◌≡◌, ◌≢◌, ◌⊎◌, ℕ, suc, List, [], ◌∷◌, inl, inr, ◌∙◌, ap, refl, subst}
 use mathlib.Core.Option.{some}
 use lib.ListN.{get_elem?}
 use Rattle.turns.specs.Attempt.{left_in}
@@ -21,15 +21,21 @@ use Rattle.xbar_core.proofs.Records.{completed_shows}
 abbrev pub AreMade : Exchange → Type 0
 AreMade e = (k number turn : ℕ) (a : Attempt) → IsAt e k number a → a.phase ≡ Operates turn → a.effects ≡ []
 
--- before the turn none is left in any case
+-- a phase is past the turn, or no effect is left in it
+pub past_or_not : (phase : Phase) (effects : List Effect) → ((turn : ℕ) × (phase ≡ Operates turn)) ⊎ ((left_in phase effects ≡ []) × ((turn : ℕ) → phase ≢ Operates turn))
+past_or_not (Operates turn) effects = inl (turn, refl)
+past_or_not (Requests conn) effects = inr (refl, λ turn same. cc)
+past_or_not (Seizes conn expected) effects = inr (refl, λ turn same. cc)
+past_or_not (Tests word) effects = inr (refl, λ turn same. cc)
+past_or_not Turns effects = inr (refl, λ turn same. cc)
+past_or_not (Withdraws conn) effects = inr (refl, λ turn same. cc)
+past_or_not GivesBack effects = inr (refl, λ turn same. cc)
+
 none_in : (phase : Phase) (effects : List Effect) → ((turn : ℕ) → phase ≡ Operates turn → effects ≡ []) → left_in phase effects ≡ []
-none_in (Operates turn) effects none = none turn refl
-none_in (Requests conn) effects none = refl
-none_in (Seizes conn expected) effects none = refl
-none_in (Tests word) effects none = refl
-none_in Turns effects none = refl
-none_in (Withdraws conn) effects none = refl
-none_in GivesBack effects none = refl
+none_in phase effects none = elim (past_or_not phase effects) [
+  | inl past ↦ ap (λ (phase : Phase). left_in phase effects) past.1 ∙ none past.0 past.1
+  | inr waits ↦ waits.0
+]
 
 module _ (plan : Tables) where
   abbrev NoneLeft : List Work → Type 0

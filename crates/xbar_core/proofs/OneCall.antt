@@ -67,7 +67,7 @@ module _ (plan : Tables) (laws : IsLawful plan) (e : Exchange) (lawful : IsLawfu
     decision = run did.words (script plan a.job)
 
     goes : LetsGo plan paths a.job decision
-    goes = job_lets_go plan did.words paths a.job laws did.shows did.job
+    goes = job_lets_go plan did.words paths a.job laws (omega (arith, did.size)) did.shows did.job
 
     -- what it has made, and what it has left, is of its decision
     among_made : (d : Crosspoint) → IsIn (Open d) did.made → IsOpened plan paths a.job decision d

@@ -2,7 +2,7 @@
 use Rattle.std.proofs.Common.{◌≡◌, ℕ, ◌≤◌, Bool, true, false, List, [], ◌∷◌, ◌++◌, length, map, replicate, slice_index, inl, inr, refl, sym, ◌∙◌, ap, subst}
 use Rattle.std.specs.Prelude.{Option, Some, None, ◌==◌, if◌then◌else◌, slice_get, slice_set}
 use Rattle.turns.specs.Attempt as generic
-use Rattle.turns.specs.Attempt.{act, act_in, begin_with, change, closing_act, free_act, request_in, restarted, unless_put_off as told_by}
+use Rattle.turns.specs.Attempt.{act, act_in, change, closing_act, free_act, unless_put_off as told_by}
 use Rattle.turns.specs.Law.{IsFree, Lawful}
 use Rattle.turns.specs.World as worlds
 use Rattle.turns.specs.World.{Idle, Does, added_in, becomes, moved, place, with_actor}
@@ -24,12 +24,11 @@ use Rattle.xbar_office.specs.declared.reply.Reply.{Reply}
 use Rattle.xbar_jobs.specs.Attempt.{Attempt, Phase, next_step}
 use Rattle.xbar_jobs.specs.Office.{office}
 use Rattle.xbar_jobs.specs.OnWords as steps
-use Rattle.turns.specs.Operations.{applied}
-use Rattle.turns.specs.declared.operation.Operation.{Operation}
-use Rattle.xbar_jobs.specs.OnWords.{answer_of, words_after, operation}
+use Rattle.xbar_jobs.specs.OnWords.{answer_of, words_after}
 use Rattle.xbar_jobs.specs.declared.effect.Effect.{Effect}
 use Rattle.xbar_jobs.proofs.OfficeSystem.{office_is}
-use Rattle.xbar_jobs.proofs.StepActs.{act_answer, act_operation, act_word}
+use Rattle.xbar_jobs.proofs.PastTurn.{words_led}
+use Rattle.xbar_jobs.proofs.StepActs.{act_answer, act_word}
 use Rattle.xbar_core.specs.Exchange.{Exchange, IsLawfulExchange, Marker, Work, is_idle, fresh_exchange, turned, world}
 use Rattle.xbar_core.specs.Kinds.{takes}
 use Rattle.xbar_core.specs.Moves.{after_answer, assigned, begun_anew, given_back, record_of, added_record, refusal, refusal_of, after_step, with_work}
@@ -90,9 +89,7 @@ module _ (plan : Tables) where
   answer_is k words a = ap (λ (n : ℕ). steps.step_answer k (next_step a) (slice_index words n)) (act_word plan (act a)) ∙ act_answer plan k (act a) (found_by words a)
 
   pub words_are : (k : ℕ) (words : List ℕ) (a : Attempt) → words_after k (next_step a) words ≡ slice_set words (place (office plan) (act a)) (becomes (office plan) k (act a) (found_by words a))
-  words_are k words a =
-      ap (λ (n : ℕ). slice_set words n (applied (operation k (next_step a)) (slice_index words n))) (act_word plan (act a))
-      ∙ ap (λ (op : Operation). slice_set words (place (office plan) (act a)) (applied op (found_by words a))) (act_operation plan k (act a))
+  words_are k words a = words_led plan k a words
 
   -- marker k's step is actor k's
   pub moved_is : (e : Exchange) (k n : ℕ) (m : Marker) (a : Attempt) → moved (office plan) k n a (world plan e) ≡ world plan (after_answer plan k m n a (answer_of k (next_step a) e.words) e)

@@ -22,7 +22,7 @@ use Rattle.xbar_jobs.specs.Script.{Script}
 use Rattle.xbar_jobs.specs.Tracing.{approach, channel_of}
 use Rattle.xbar_jobs.specs.declared.decision.Decision.{Decision}
 use Rattle.xbar_jobs.specs.declared.party.Party.{Party}
-use Rattle.xbar_jobs.proofs.DialDecides.{DecidesOn, TakesOn, connect_takes, refused_takes}
+use Rattle.xbar_jobs.proofs.DialDecides.{TakesOn, connect_takes, refused_takes}
 use Rattle.xbar_jobs.proofs.LineChannels.{busy_channel, idle_channel}
 use Rattle.xbar_jobs.proofs.TestedParties.{AreTestedOn, TestedOn, party_of, party_of-tested}
 use Rattle.xbar_jobs.proofs.TracedRuns.{approach_runs}
@@ -95,7 +95,3 @@ module _ (plan : Tables) (words : List ℕ) (paths : List Path) (laws : IsLawful
       at : (found : Option (List ℕ)) → route_of plan (code_of dialled) ≡ found → TakesOn plan words (run words (call plan calling dialled found)) (whole.call plan paths calling.line dialled found)
       at None found = refused_takes plan words paths laws size shows VacantCode
       at (Some groups) found = route_takes dialled (code_of dialled) groups found (leads_inside plan groups) refl
-
-    -- so it decides as that office does
-    pub call_decides : (dialled : ℕ) → DecidesOn plan words (run words (call plan calling dialled (route_of plan (code_of dialled)))) (whole.call plan paths calling.line dialled (route_of plan (code_of dialled)))
-    call_decides dialled = (call_takes dialled).decides

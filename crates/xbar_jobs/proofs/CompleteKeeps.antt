@@ -31,6 +31,7 @@ use Rattle.xbar_jobs.proofs.ConnectKeeps.{connect_keeps}
 use Rattle.xbar_jobs.proofs.FittingEffects.{leave_words}
 use Rattle.xbar_jobs.proofs.HeldEffects.{IsHeldIfAny, IsHeldLeave, IsHeldPath, IsTaking, IsWellCovered, leave_held, leaving_covered, line_held, path_held, refused_takes, taking_covered}
 use Rattle.xbar_jobs.proofs.HeldWords.{keeps_then, one_more}
+use Rattle.xbar_jobs.proofs.Items.{if_found}
 use Rattle.xbar_jobs.proofs.TracingKeeps.{HoldsLine, approach_keeps, trace_keeps}
 
 -- the line of a party that was found is held
@@ -81,15 +82,11 @@ module _ (plan : Tables) (laws : IsLawful plan) where
         keeps_then plan HoldsFound IsTaking held (hunt calling.line lines) _ (hunt_keeps plan calling.line lines ranges held)
         (λ conns called among found. call_line_keeps conns called (line_held held conns among calling.line own) found)
 
-    dialled_lines : (number : ℕ) → IfSome (lines_of plan number) (λ lines. AreLines lines)
-    dialled_lines number = of (lines_of plan number) refl where
-      of : (found : Option (List Line)) → lines_of plan number ≡ found → IfSome found (λ lines. AreLines lines)
-      of None is = tt
-      of (Some lines) is = lines_of-range plan laws number lines is
-
     call_by_keeps : (held : List Conn) (dialled : ℕ) (inside : Bool) → HoldsLine held calling → KeepsTo (office plan) IsTaking held (call_by plan calling dialled groups inside)
     unfolding call_by
-    call_by_keeps held dialled true own = call_number_keeps held (lines_of plan (number_of dialled)) own (dialled_lines (number_of dialled))
+    call_by_keeps held dialled true own =
+        let lines = lines_of plan (number_of dialled) in
+        call_number_keeps held lines own (if_found lines (λ found is. lines_of-range plan laws (number_of dialled) found is))
     call_by_keeps held dialled false own = connect_keeps plan laws held Connected (alone calling) groups (record { calling = own; called = tt }) there
 
   -- with the calling line held, a call may be made to what was dialled
@@ -98,20 +95,15 @@ module _ (plan : Tables) (laws : IsLawful plan) where
   call_keeps held calling dialled None own there = refused_takes held VacantCode
   call_keeps held calling dialled (Some groups) own there = call_by_keeps calling groups there held dialled (leads_inside plan groups) own
 
-  route_there : (code : ℕ) → IfSome (route_of plan code) (λ groups. AreGroups plan groups)
-  route_there code = of (route_of plan code) refl where
-    of : (found : Option (List ℕ)) → route_of plan code ≡ found → IfSome found (λ groups. AreGroups plan groups)
-    of None is = tt
-    of (Some groups) is = route_of-range plan laws code groups is
-
   -- a call made as if a member were let go, which is decided then
   leaving_keeps : (held : List Conn) (calling : Party) (dialled : ℕ) (leave : Leave) → leave.other ≡ None → HoldsLine held calling → IsHeldLeave held leave
       → KeepsTo (office plan) (IsWellCovered plan) held (as_if_made (leave_effects leave) (call plan (party_after (leave_effects leave) calling) dialled (route_of plan (code_of dialled))) >>= λ decision. Ends (leaving leave decision))
   unfolding KeepsTo
   leaving_keeps held calling dialled leave alone line let_go =
       let after : Party = party_after (leave_effects leave) calling in
+      let groups : Option (List ℕ) = route_of plan (code_of dialled) in
       keeps_then plan IsTaking (IsWellCovered plan) held _ _
-      (keeps_read_with (office plan) IsTaking held (value_after (leave_effects leave)) _ (leave_words plan leave) (call_keeps held after dialled (route_of plan (code_of dialled)) line (route_there (code_of dialled))))
+      (keeps_read_with (office plan) IsTaking held (value_after (leave_effects leave)) _ (leave_words plan leave) (call_keeps held after dialled groups line (if_found groups (λ found is. route_of-range plan laws (code_of dialled) found is))))
       (λ conns decision still taking. leaving_covered plan conns leave decision alone (leave_held held conns still leave let_go) taking)
 
   -- the register's group is seized first

@@ -33,6 +33,7 @@ use Rattle.xbar_jobs.specs.declared.leave.Leave.{Leave}
 use Rattle.xbar_jobs.specs.declared.party.Party.{Party}
 use Rattle.xbar_jobs.specs.declared.way.Way.{Way}
 use Rattle.xbar_jobs.specs.declared.way.Way.TheVariants.{Begun, Approached, Traced}
+use Rattle.xbar_jobs.proofs.Items.{if_found}
 use Rattle.xbar_jobs.proofs.JunctorRows.{BeginsWith, KeepsRows, connect_rows, dial_rows, row_goes_on, rows_bind}
 
 begins_read_with : {A : Type 0} (number : ℕ) (change : ℕ → ℕ → ℕ) (script : Script A) → BeginsWith number script → BeginsWith number (read_with change script)
@@ -103,15 +104,11 @@ module _ (plan : Tables) (laws : IsLawful plan) where
   call_number_rows calling groups None ranges = tt
   call_number_rows calling groups (Some lines) ranges = rows_bind (hunt calling.line lines) _ (hunt_rows calling.line lines ranges) (λ called. call_line_rows calling groups called)
 
-  dialled_lines : (number : ℕ) → IfSome (lines_of plan number) (λ lines. AreLines lines)
-  dialled_lines number = of (lines_of plan number) refl where
-    of : (found : Option (List Line)) → lines_of plan number ≡ found → IfSome found (λ lines. AreLines lines)
-    of None is = tt
-    of (Some lines) is = lines_of-range plan laws number lines is
-
   call_by_rows : (calling : Party) (dialled : ℕ) (groups : List ℕ) (inside : Bool) → KeepsRows (call_by plan calling dialled groups inside)
   unfolding call_by
-  call_by_rows calling dialled groups true = call_number_rows calling groups (lines_of plan (number_of dialled)) (dialled_lines (number_of dialled))
+  call_by_rows calling dialled groups true =
+      let lines = lines_of plan (number_of dialled) in
+      call_number_rows calling groups lines (if_found lines (λ found is. lines_of-range plan laws (number_of dialled) found is))
   call_by_rows calling dialled groups false = connect_rows plan Connected (alone calling) groups
 
   call_rows : (calling : Party) (dialled : ℕ) (groups : Option (List ℕ)) → KeepsRows (call plan calling dialled groups)

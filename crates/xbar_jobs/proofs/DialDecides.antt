@@ -98,10 +98,6 @@ module _ (plan : Tables) (words : List ℕ) (paths : List Path) (laws : IsLawful
     pub connect_takes : TakesOn plan words (run words (connect plan Connected parties groups)) (office_connect plan paths (lines_of_parties parties) groups)
     connect_takes = subst (TakesOn plan words (run words (connect plan Connected parties groups))) (call_done (idle_trunk plan paths groups)) (connecting_takes Connected)
 
-    -- and its decision is that office's
-    pub connect_decides : DecidesOn plan words (run words (connect plan Connected parties groups)) (office_connect plan paths (lines_of_parties parties) groups)
-    connect_decides = connect_takes.decides
-
   module _ (line : Line) (in_range : IsLine line) where
     abbrev calling : Party
     calling = party_of words line
@@ -117,26 +113,26 @@ module _ (plan : Tables) (words : List ℕ) (paths : List Path) (laws : IsLawful
     registers_done (Some first) = refl
 
     -- an idle line gets what the one-marker office gives it
-    idle_line_decides : is_idle (has_line line) paths ≡ true
-        → DecidesOn plan words (run words (connect plan DialTone (alone calling) (register_group plan ∷ []))) (dial_register plan paths line (members_of plan (register_group plan)) (first_idle paths (members_of plan (register_group plan))))
-    idle_line_decides idle =
-        subst (DecidesOn plan words (run words (connect plan DialTone (alone calling) (register_group plan ∷ [])))) (registers_done (first_idle paths (members_of plan (register_group plan))))
-        (connecting_takes (alone calling) alone_tested (register_group plan ∷ []) suits DialTone).decides where
+    idle_line_takes : is_idle (has_line line) paths ≡ true
+        → TakesOn plan words (run words (connect plan DialTone (alone calling) (register_group plan ∷ []))) (dial_register plan paths line (members_of plan (register_group plan)) (first_idle paths (members_of plan (register_group plan))))
+    idle_line_takes idle =
+        subst (TakesOn plan words (run words (connect plan DialTone (alone calling) (register_group plan ∷ [])))) (registers_done (first_idle paths (members_of plan (register_group plan))))
+        (connecting_takes (alone calling) alone_tested (register_group plan ∷ []) suits DialTone) where
           suits : (group : ℕ) → IsIn group (register_group plan ∷ []) → AreParties plan paths group (lines_of_parties (alone calling))
           suits group (inl same) = subst (λ (number : ℕ). AreParties plan paths number (lines_of_parties (alone calling))) (sym same) (are_parties plan paths line laws in_range idle)
           suits group (inr none) = absurd none
 
-    -- so a dial tone job decides as the one-marker office does
-    pub dial_decides : DecidesOn plan words (run words (dial_steps plan line)) (dial plan paths line)
+    -- so a dial tone job decides as the one-marker office does, and lets nothing go
+    pub dial_takes : TakesOn plan words (run words (dial_steps plan line)) (dial plan paths line)
     unfolding run dial_steps serve_idle_line approach ◌>>=◌
-    dial_decides = at (is_idle (has_line line) paths) refl where
+    dial_takes = at (is_idle (has_line line) paths) refl where
       registers : Done
       registers = dial_register plan paths line (members_of plan (register_group plan)) (first_idle paths (members_of plan (register_group plan)))
 
-      at : (b : Bool) → is_idle (has_line line) paths ≡ b → DecidesOn plan words (run words (serve_idle_line plan calling (channel_of calling))) (if b then registers else office_refused paths LineBusy)
+      at : (b : Bool) → is_idle (has_line line) paths ≡ b → TakesOn plan words (run words (serve_idle_line plan calling (channel_of calling))) (if b then registers else office_refused paths LineBusy)
       at false busy =
-          subst (λ (channel : Option ℕ). DecidesOn plan words (run words (serve_idle_line plan calling channel)) (office_refused paths LineBusy)) (sym (busy_channel plan words paths shows calling tested busy).1)
-          (refused_takes LineBusy).decides
+          subst (λ (channel : Option ℕ). TakesOn plan words (run words (serve_idle_line plan calling channel)) (office_refused paths LineBusy)) (sym (busy_channel plan words paths shows calling tested busy).1)
+          (refused_takes LineBusy)
       at true idle =
-          subst (λ (channel : Option ℕ). DecidesOn plan words (run words (serve_idle_line plan calling channel)) registers) (sym (idle_channel plan words paths shows calling tested idle))
-          (idle_line_decides idle)
+          subst (λ (channel : Option ℕ). TakesOn plan words (run words (serve_idle_line plan calling channel)) registers) (sym (idle_channel plan words paths shows calling tested idle))
+          (idle_line_takes idle)

@@ -29,9 +29,9 @@ use Rattle.xbar_jobs.specs.Standing.{AreConns, HoldsFew, HoldsFewIn, most_held, 
 use Rattle.xbar_jobs.specs.declared.decision.Decision.{Decision}
 use Rattle.xbar_jobs.specs.declared.effect.Effect.{Effect}
 use Rattle.xbar_jobs.proofs.FewConns.{few_conns, others_with}
-use Rattle.xbar_jobs.proofs.JobOthers.{job_seizes}
+use Rattle.xbar_jobs.proofs.JobBounds.{job_seizes}
 use Rattle.xbar_jobs.proofs.OfficeSystem.{office_is}
-use Rattle.xbar_jobs.proofs.OtherBounds.{others_more}
+use Rattle.xbar_jobs.proofs.AskBounds.{others_more}
 use Rattle.xbar_jobs.proofs.Wanting.{wants_free}
 
 -- a connector more among connectors of the office

@@ -22,11 +22,6 @@ module _ (made : List Effect) (calling : Line) (lines : List Line) (at : ℕ) (l
   unfolding hunt
   turn = at_drop_more (λ (left : List Line). live made (hunt calling left) course words) lines at line below ∙ ap (λ (l : Line). live made (unless_calling l rest (line_eq l calling)) course words) (sym is)
 
-  -- the calling line is passed over
-  pub calling_passed : line_eq line calling ≡ true → live made (hunt calling (drop at lines)) course words ≡ live made rest course words
-  unfolding unless_calling
-  calling_passed same = turn ∙ ap (λ (b : Bool). live made (unless_calling line rest b) course words) same
-
   module _ (other : line_eq line calling ≡ false) where
     approached : live made (hunt calling (drop at lines)) course words ≡ live made (approach line >>= λ party. unless_busy party rest (channel_of party)) course words
     unfolding unless_calling

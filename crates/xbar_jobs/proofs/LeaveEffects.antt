@@ -1,5 +1,5 @@
 -- what the effects that let a call go make of words that show a set with it
-use Rattle.std.proofs.Common.{◌≡◌, ◌≢◌, ℕ, ◌+◌, ◌-◌, ◌^◌, ◌<◌, ◌≤◌, false, List, [], ◌∷◌, ◌++◌, length, inl, inr, refl, sym, ◌∙◌, ap, subst, arith, bit_and, get_or-set_same, get_or-set_other}
+use Rattle.std.proofs.Common.{◌≡◌, ℕ, ◌+◌, ◌-◌, ◌^◌, ◌<◌, ◌≤◌, false, List, [], ◌∷◌, ◌++◌, length, inl, inr, refl, sym, ◌∙◌, ap, subst, arith, bit_and}
 use Rattle.std.specs.Prelude.{Option, Some, None, is_some, option_and_then, slice_index, if◌then◌else◌}
 use Rattle.std.specs.Int.{bit_at}
 use Rattle.std.proofs.lemmas.Bool.{cases_eq, cases_lt}
@@ -17,7 +17,6 @@ use Rattle.xbar_plan.specs.declared.group.MemberPlace.{MemberPlace}
 use Rattle.xbar_plan.proofs.LawfulPlans.{member-numbers}
 use Rattle.xbar_plan.proofs.MemberPlaces.{member_place-member, member_place-numbers}
 use Rattle.xbar_plan.proofs.OtherPlaces.{other-paired}
-use Rattle.xbar_match.specs.Shows.{WordShows, IsClosedIn}
 use Rattle.xbar_match.specs.Switches.{word_of}
 use Rattle.xbar_office.specs.Release.{without_other}
 use Rattle.xbar_office.specs.Standing.{path_at, other_path}
@@ -33,7 +32,7 @@ use Rattle.xbar_jobs.proofs.BusyMembers.{busy_of}
 use Rattle.xbar_jobs.proofs.ClearedBits.{bit-cleared, bit-uncleared, bit-past}
 use Rattle.xbar_jobs.proofs.FreedMembers.{busy_before, freed_after, other_stays, others_as_before}
 use Rattle.xbar_jobs.proofs.OpenedPaths.{one_opened, other_opened}
-use Rattle.xbar_jobs.proofs.TakenMembers.{Adds as LeadsTo, more_added as both_opened, due-append, perform_all-append}
+use Rattle.xbar_jobs.proofs.TakenMembers.{Adds as LeadsTo, group_kept, member_shows, more_added as both_opened, due-append, perform_all-append}
 
 -- a call of the set that is let go: its own path, the member at whose place that ends, and the other party's path
 pub record IsLeave (plan : Tables) (paths : List Path) (leave : Leave) : Type 0 where
@@ -87,15 +86,10 @@ module _ (plan : Tables) (words : List ℕ) (paths : List Path) (own : Path) (fo
 
   -- a group's word is as it was so far
   group_before : (number : ℕ) → number < 16 → GroupShows plan paths number (word_of opened (GroupWord number))
-  group_before number below at = ap (λ word. bit_at word at) (call_opened.behind (400 + number) (omega arith)) ∙ shows.groups number below at
+  group_before = group_kept plan words paths rest opens long shows call_opened
 
   as_before : (number at : ℕ) → (number ≡ found.group → at ≡ found.index → ⊥) → is_busy_at plan rest number at ≡ is_busy_at plan paths number at
   as_before = others_as_before plan paths own found laws shows.lawful within here
-
-  -- a group's word other than the member's
-  other_group : (number : ℕ) → number < 16 → number ≢ found.group → GroupShows plan rest number (word_of opened (GroupWord number))
-  other_group number below apart at =
-      group_before number below at ∙ ap (λ b. if b then 1 else 0) (sym (as_before number at (λ same same'. apart same)))
 
   abbrev group_word : ℕ
   group_word = word_of opened (GroupWord found.group)
@@ -119,33 +113,10 @@ module _ (plan : Tables) (words : List ℕ) (paths : List Path) (own : Path) (fo
         ]
   ]
 
-  group_shows : (number : ℕ) → number < 16 → GroupShows plan rest number (word_of freed (GroupWord number))
-  group_shows number below = elim (cases_eq number found.group) [
-    | inl same ↦
-        subst (λ (n : ℕ). GroupShows plan rest n (word_of freed (GroupWord n))) (sym same)
-        (
-        subst (λ (word : ℕ). GroupShows plan rest found.group word)
-        (sym (get_or-set_same opened (400 + found.group) _ 0 (omega (arith, call_opened.size, numbers.0))))
-        own_group
-        )
-    | inr apart ↦
-        subst (λ (word : ℕ). GroupShows plan rest number word)
-        (sym (get_or-set_other opened (400 + found.group) (400 + number) _ 0 (λ same. apart (omega arith))))
-        (other_group number below apart)
-  ]
-
-  switch_shows : (n : ℕ) → n < 400 → WordShows (IsClosedIn rest) n (slice_index freed n)
-  switch_shows n below =
-      subst (λ (word : ℕ). WordShows (IsClosedIn rest) n word)
-      (sym (get_or-set_other opened (400 + found.group) n _ 0 (λ same. omega arith)))
-      (call_opened.switches.switch n below)
-
   freed_shows : ShowsOffice plan freed rest
-  freed_shows = record {
-    lawful = lawful-released plan paths own laws shows.lawful within;
-    switches = record { switch = switch_shows };
-    groups = group_shows;
-  }
+  freed_shows =
+      member_shows plan words paths rest opens long shows call_opened found.group found.index (bit_and group_word (2 ^ 64 - 1 - 2 ^ found.index)) numbers.0
+      (lawful-released plan paths own laws shows.lawful within) as_before own_group
 
   freed_words : perform_all (office plan) words (leave_effects (leave_of own other found)) ≡ freed
   unfolding perform_all

@@ -21,8 +21,6 @@ pub mod TracingBounds
 pub mod TrialBounds
 pub mod CompleteBounds
 pub mod JobBounds
-pub mod OtherBounds
-pub mod JobOthers
 pub mod Covered
 pub mod Wanting
 pub mod FewConns

@@ -32,7 +32,7 @@ use Rattle.xbar_jobs.specs.Releasing.{release_steps}
 use Rattle.xbar_jobs.specs.Tracing.{approach}
 use Rattle.xbar_jobs.proofs.CompleteDecides.{complete_decides}
 use Rattle.xbar_jobs.proofs.Covered.{protected_below}
-use Rattle.xbar_jobs.proofs.DialDecides.{DecidesOn, dial_decides}
+use Rattle.xbar_jobs.proofs.DialDecides.{DecidesOn, dial_takes}
 use Rattle.xbar_jobs.proofs.FittingEffects.{may_make}
 use Rattle.xbar_jobs.proofs.JobKeeps.{script_keeps}
 use Rattle.xbar_jobs.proofs.ReleaseDecides.{release_decides}
@@ -79,10 +79,12 @@ protected_at n (GroupWord group) is e below = (Group group, record { word = Grou
 protected_at n (ConnWord c) is e below = absurd (omega (arith, conn_range c is))
 protected_at n TurnWord is e below = absurd (omega arith)
 
+pub word_protected : (n : ℕ) → n < 416 → (conn : Conn) × Protects conn n
+word_protected n below = let named = each_named n (omega arith) in protected_at n named.word named.is_word named.number below
+
 same_below : (plan : Tables) (words other : List ℕ) → AreAlike (office plan) words other → (n : ℕ) → n < 416 → slice_index words n ≡ slice_index other n
 same_below plan words other alike n below =
-    let named = each_named n (omega arith) in
-    let p = protected_at n named.word named.is_word named.number below in
+    let p = word_protected n below in
     alike.under n p.0 p.1
 
 looks : (plan : Tables) (words other : List ℕ) (paths : List Path) → AreAlike (office plan) words other → ShowsOffice plan words paths → ShowsOffice plan other paths
@@ -103,7 +105,7 @@ first_seized plan (Release line) = refl
 pub script_decides : (plan : Tables) (words : List ℕ) (paths : List Path) (job : Job) → IsLawful plan → 453 ≤ length words → ShowsOffice plan words paths → IsJob job
     → DecidesOn plan words (run words (script plan job)) (whole plan paths job)
 unfolding script
-script_decides plan words paths (Dial line) laws size shows in_range = dial_decides plan words paths laws size shows line in_range
+script_decides plan words paths (Dial line) laws size shows in_range = (dial_takes plan words paths laws size shows line in_range).decides
 script_decides plan words paths (Complete line dialled) laws size shows in_range = complete_decides plan words paths laws size shows line in_range.0 dialled
 script_decides plan words paths (Release line) laws size shows in_range = release_decides plan words paths laws size shows line in_range
 

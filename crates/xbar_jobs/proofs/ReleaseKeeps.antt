@@ -22,6 +22,7 @@ use Rattle.xbar_jobs.specs.Releasing.{release_from, release_member, release_step
 use Rattle.xbar_jobs.specs.Tracing.{approach, trace}
 use Rattle.xbar_jobs.proofs.HeldEffects.{IsHeldIfAny, IsHeldMember, IsHeldPath, IsHeldPlace, IsWellCovered, member_held, path_held, refused_takes, released_covered, taking_covered}
 use Rattle.xbar_jobs.proofs.HeldWords.{keeps_then, one_more}
+use Rattle.xbar_jobs.proofs.Items.{if_found}
 use Rattle.xbar_jobs.proofs.TracingKeeps.{HoldsLine, approach_keeps, trace_back_keeps, trace_keeps}
 
 module _ (plan : Tables) where
@@ -33,16 +34,15 @@ module _ (plan : Tables) where
 module _ (plan : Tables) (laws : IsLawful plan) where
   -- the other place of a pair is on the frame of the path's own place
   other_place_held : (held : List Conn) (own : Path) (found : MemberPlace) → IsHeldPath held own → member_place plan own.place ≡ Some found → IfSome found.other (λ place. IsHeldPlace held place)
-  other_place_held held own found path here = of found.other refl where
-    of : (other : Option TrunkPlace) → found.other ≡ other → IfSome other (λ place. IsHeldPlace held place)
-    of None is = tt
-    of (Some place) is =
-        let named = member_place-member plan own.place found here in
-        let apart = others plan laws found.group found.index named.member own.place place named.here named.stands (sym named.other ∙ is) in
-        record {
-          range = member_place-other plan laws own.place place found here is;
-          own = subst (λ (frame : ℕ). IsIn (Tlf frame) held) (sym apart.frame) path.place.own;
-        }
+  other_place_held held own found path here = if_found found.other (
+      λ place is.
+      let named = member_place-member plan own.place found here in
+      let apart = others plan laws found.group found.index named.member own.place place named.here named.stands (sym named.other ∙ is) in
+      record {
+        range = member_place-other plan laws own.place place found here is;
+        own = subst (λ (frame : ℕ). IsIn (Tlf frame) held) (sym apart.frame) path.place.own;
+      }
+      )
 
   -- the other party's path is traced, and both are let go with their member
   found_keeps : (held : List Conn) (own : Path) (found : MemberPlace) → IsHeldPath held own → IsHeldMember held found.group found.index → member_place plan own.place ≡ Some found

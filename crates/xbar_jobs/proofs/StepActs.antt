@@ -9,7 +9,6 @@ use Rattle.xbar_jobs.specs.Attempt.{Act, step_of}
 use Rattle.xbar_jobs.specs.Office.{office}
 use Rattle.xbar_jobs.specs.OnWords.{step_answer, operation, step_word}
 use Rattle.xbar_jobs.specs.declared.effect.Effect.TheVariants.{Close, Open, SetBit, ClearBit}
-use Rattle.xbar_jobs.specs.declared.step.Step.TheVariants as step
 
 pub act_word : (plan : Tables) (act : Act) → step_word (step_of act) ≡ place (office plan) act
 act_word plan Rest = refl
@@ -49,17 +48,3 @@ act_answer plan marker (Make (Close c)) found = refl
 act_answer plan marker (Make (Open c)) found = refl
 act_answer plan marker (Make (SetBit number index)) found = refl
 act_answer plan marker (Make (ClearBit number index)) found = refl
-
--- there is no step only where there is no act
-pub no_act : (act : Act) → step_of act ≡ step.Finished → act ≡ Rest
-no_act Rest e = refl
-no_act (Ask conn) e = absurd cc
-no_act (Take conn expected) e = absurd cc
-no_act (Leave conn) e = absurd cc
-no_act (Free conn) e = absurd cc
-no_act (Look word) e = absurd cc
-no_act Turn e = absurd cc
-no_act (Make (Close c)) e = absurd cc
-no_act (Make (Open c)) e = absurd cc
-no_act (Make (SetBit number index)) e = absurd cc
-no_act (Make (ClearBit number index)) e = absurd cc

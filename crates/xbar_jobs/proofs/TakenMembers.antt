@@ -1,6 +1,6 @@
 -- what the effects of a member that was taken make of words that show a set of paths
 use Rattle.std.proofs.Common.{◌≡◌, ◌≢◌, ℕ, ◌+◌, ◌^◌, ◌<◌, ◌≤◌, List, [], ◌∷◌, ◌++◌, length, get_or, inl, inr, refl, sym, ◌∙◌, ap, subst, arith, get_or-set_same, get_or-set_other, length-set}
-use Rattle.std.specs.Prelude.{Option, Some, None, bit_or, slice_index, if◌then◌else◌, map, fold}
+use Rattle.std.specs.Prelude.{Option, Some, None, bit_or, slice_index, slice_set, if◌then◌else◌, map, fold}
 use Rattle.std.specs.Int.{bit_at}
 use Rattle.std.proofs.lemmas.Bool.{cases_eq}
 use Rattle.std.proofs.lemmas.Nat.Bits.{bit_at_or, bit_at-pow_same, bit_at-pow_other, bit_at-lt}
@@ -23,7 +23,7 @@ use Rattle.xbar_match.specs.Switches.{word_of}
 use Rattle.xbar_match.proofs.PathEffects.{crosspoint, four_closed, close_path-shows, with_path-adds}
 use Rattle.xbar_office.specs.Chosen.{with_chosen}
 use Rattle.xbar_office.specs.Done.{with_call_paths}
-use Rattle.xbar_office.specs.LawfulSet.{IsOrderlySet}
+use Rattle.xbar_office.specs.LawfulSet.{IsLawfulSet, IsOrderlySet}
 use Rattle.xbar_office.specs.declared.trial.CallPaths.{CallPaths}
 use Rattle.xbar_office.proofs.StandingPaths.{CanStand, orderly-with}
 use Rattle.xbar_office.proofs.TakenMembers.{CalledCanStand, CanTake, lawful-take}
@@ -126,6 +126,44 @@ module _ (plan : Tables) where
         due = due-append words first others before.due after.due;
       }
 
+  -- such effects leave the groups' words as they were
+  module _ (words : List ℕ) (paths more : List Path) (effects : List Effect) (long : 453 ≤ length words) (shows : ShowsOffice plan words paths) (added : Adds words effects more) where
+    abbrev between : List ℕ
+    between = perform_all (office plan) words effects
+
+    pub group_kept : (number : ℕ) → number < 16 → GroupShows plan paths number (word_of between (GroupWord number))
+    group_kept number below at = ap (λ word. bit_at word at) (added.behind (400 + number) (omega arith)) ∙ shows.groups number below at
+
+    -- so once the word of a member's group shows its bit too, the words show the set that the effects lead to
+    module _ (group index word : ℕ) (in_range : group < 16) (lawful : IsLawfulSet plan more)
+        (apart : (number at : ℕ) → (number ≡ group → at ≡ index → ⊥) → is_busy_at plan more number at ≡ is_busy_at plan paths number at) (own : GroupShows plan more group word) where
+      abbrev after : List ℕ
+      after = slice_set between (400 + group) word
+
+      group_shows : (number : ℕ) → number < 16 → GroupShows plan more number (word_of after (GroupWord number))
+      group_shows number below = elim (cases_eq number group) [
+        | inl same ↦
+            subst (λ (n : ℕ). GroupShows plan more n (word_of after (GroupWord n))) (sym same)
+            (
+            subst (λ (found : ℕ). GroupShows plan more group found)
+            (sym (get_or-set_same between (400 + group) word 0 (omega (arith, added.size, in_range))))
+            own
+            )
+        | inr other ↦
+            subst (λ (found : ℕ). GroupShows plan more number found)
+            (sym (get_or-set_other between (400 + group) (400 + number) word 0 (λ same. other (omega arith))))
+            (λ at. group_kept number below at ∙ ap (λ b. if b then 1 else 0) (sym (apart number at (λ same same'. other same))))
+      ]
+
+      switch_shows : (n : ℕ) → n < 400 → WordShows (IsClosedIn more) n (slice_index after n)
+      switch_shows n below =
+          subst (λ (found : ℕ). WordShows (IsClosedIn more) n found)
+          (sym (get_or-set_other between (400 + group) n word 0 (λ same. omega arith)))
+          (added.switches.switch n below)
+
+      pub member_shows : ShowsOffice plan after more
+      member_shows = record { lawful = lawful; switches = record { switch = switch_shows }; groups = group_shows }
+
   called_added : (words : List ℕ) (paths : List Path) (second : Option TrunkPlace) (called : Option Path) → 400 ≤ length words → ShowsPaths words paths → IsOrderlySet plan paths → CalledCanStand plan paths second called → Adds words (called_closes called) (with_chosen paths called)
   called_added words paths None None long shows orderly can = nothing_added words paths shows
   called_added words paths None (Some called) long shows orderly can = absurd can
@@ -152,12 +190,8 @@ module _ (plan : Tables) where
     group_range : group < 16
     group_range = (member-numbers plan laws group index can.member can.listed).0
 
-    -- a group's word other than the member's
-    other_group : (number : ℕ) → number < 16 → number ≢ group → GroupShows plan more number (word_of closed (GroupWord number))
-    other_group number below other at =
-        ap (λ word. bit_at word at) (call_added.behind (400 + number) (omega arith))
-        ∙ shows.groups number below at
-        ∙ ap (λ b. if b then 1 else 0) (sym (others_after plan paths group index call can laws number at (λ same same'. other same)))
+    group_before : (number : ℕ) → number < 16 → GroupShows plan paths number (word_of closed (GroupWord number))
+    group_before = group_kept words paths more closes long shows call_added
 
     -- the word of the member's group, with its bit set
     own_group : GroupShows plan more group (bit_or (word_of closed (GroupWord group)) (2 ^ index))
@@ -168,41 +202,17 @@ module _ (plan : Tables) where
           ∙ sym (ap (λ b. if b then 1 else 0) (ap (is_busy_at plan more group) same ∙ busy_after plan paths group index call can))
       | inr other ↦
           bit-kept (word_of closed (GroupWord group)) index at other
-          ∙ ap (λ word. bit_at word at) (call_added.behind (400 + group) (omega arith))
-          ∙ shows.groups group group_range at
+          ∙ group_before group group_range at
           ∙ ap (λ b. if b then 1 else 0) (sym (others_after plan paths group index call can laws group at (λ same same'. other same')))
     ]
 
     abbrev taken : List ℕ
     taken = perform (office plan) closed (SetBit group index)
 
-    group_shows : (number : ℕ) → number < 16 → GroupShows plan more number (word_of taken (GroupWord number))
-    group_shows number below = elim (cases_eq number group) [
-      | inl same ↦
-          subst (λ (n : ℕ). GroupShows plan more n (word_of taken (GroupWord n))) (sym same)
-          (
-          subst (λ (word : ℕ). GroupShows plan more group word)
-          (sym (get_or-set_same closed (400 + group) _ 0 (omega (arith, call_added.size, group_range))))
-          own_group
-          )
-      | inr other ↦
-          subst (λ (word : ℕ). GroupShows plan more number word)
-          (sym (get_or-set_other closed (400 + group) (400 + number) _ 0 (λ same. other (omega arith))))
-          (other_group number below other)
-    ]
-
-    switch_shows : (n : ℕ) → n < 400 → WordShows (IsClosedIn more) n (slice_index taken n)
-    switch_shows n below =
-        subst (λ (word : ℕ). WordShows (IsClosedIn more) n word)
-        (sym (get_or-set_other closed (400 + group) n _ 0 (λ same. omega arith)))
-        (call_added.switches.switch n below)
-
     taken_shows : ShowsOffice plan taken more
-    taken_shows = record {
-      lawful = lawful-take plan paths group index call can laws shows.lawful;
-      switches = record { switch = switch_shows };
-      groups = group_shows;
-    }
+    taken_shows =
+        member_shows words paths more closes long shows call_added group index (bit_or (word_of closed (GroupWord group)) (2 ^ index)) group_range
+        (lawful-take plan paths group index call can laws shows.lawful) (others_after plan paths group index call can laws) own_group
 
     taken_words : perform_all (office plan) words (closes ++ SetBit group index ∷ []) ≡ taken
     unfolding perform_all
@@ -214,10 +224,7 @@ module _ (plan : Tables) where
 
     -- the bit was 0 when its turn came
     bit_was_clear : IsDue (SetBit group index) (slice_index closed (400 + group))
-    bit_was_clear =
-        ap (λ word. bit_at word index) (call_added.behind (400 + group) (omega arith))
-        ∙ shows.groups group group_range index
-        ∙ ap (λ b. if b then 1 else 0) (idle_before plan paths group index call can)
+    bit_was_clear = group_before group group_range index ∙ ap (λ b. if b then 1 else 0) (idle_before plan paths group index call can)
 
     -- and each of the effects is due when its turn comes
     pub take_due : AreDue (office plan) words (take_effects (record { group = group; index = index; paths = call }))

@@ -1,8 +1,8 @@
 -- how much it takes to find an idle member, and to try one
-use Rattle.std.proofs.Common.{◌≡◌, ℕ, zero, suc, ◌+◌, ◌≤◌, List, [], ◌∷◌, length, refl, arith}
+use Rattle.std.proofs.Common.{ℕ, zero, suc, ◌+◌, ◌-◌, ◌≤◌, List, [], ◌∷◌, length, arith}
 use Rattle.std.specs.Prelude.{Option, Some, None, slice_get}
 use Rattle.std.specs.Option.{option_map_or}
-use Rattle.turns.specs.Script.{AsksAtMost, Ends, ◌>>=◌}
+use Rattle.turns.specs.Script.{Ends, ◌>>=◌}
 use Rattle.xbar_equip.specs.Ten.{TrunkPlace}
 use Rattle.xbar_plan.specs.Tables.{Tables}
 use Rattle.xbar_plan.specs.declared.group.Member.{Member}
@@ -19,103 +19,110 @@ use Rattle.xbar_jobs.specs.Trunks.{Trunks, find_trunk, first_clear, idle_or, tru
 use Rattle.xbar_jobs.specs.declared.party.CallParties.{CallParties}
 use Rattle.xbar_jobs.specs.declared.party.Party.{Party}
 use Rattle.xbar_jobs.specs.declared.trunks.IdleGroup.{IdleGroup}
-use Rattle.xbar_jobs.proofs.AskBounds.{asks_bind, asks_more}
+use Rattle.xbar_jobs.proofs.AskBounds.{Asks, asks_end, asks_more, asks_then}
 
 -- the tests of line junctor switches are as many as are counted
-junctors_ask : (frame channel count : ℕ) → AsksAtMost count 0 (test_junctors frame channel count)
-unfolding AsksAtMost test_junctors ◌>>=◌
+junctors_ask : (frame channel count : ℕ) → Asks count 0 0 (test_junctors frame channel count)
+unfolding Asks test_junctors ◌>>=◌
 junctors_ask frame channel zero = tt
 junctors_ask frame channel (suc count) =
-    λ word fits. asks_bind count 0 0 0 count 0 (test_junctors frame (channel + 1) count) (λ words. Ends (word ∷ words)) (omega arith) refl (junctors_ask frame (channel + 1) count) (λ words. tt)
+    λ word. asks_end count 0 0 (test_junctors frame (channel + 1) count) (λ words. Ends (word ∷ words)) (junctors_ask frame (channel + 1) count) (λ words. tt)
 
 -- a side has ten of them
-side_asks : (party : Party) → AsksAtMost 10 0 (test_side party)
-unfolding AsksAtMost test_side
-side_asks party = asks_bind 10 0 0 0 10 0 (test_junctors party.line.frame 0 10) _ refl refl (junctors_ask party.line.frame 0 10) (λ words. tt)
+side_asks : (party : Party) → Asks 10 0 0 (test_side party)
+unfolding Asks test_side
+side_asks party = asks_end 10 0 0 (test_junctors party.line.frame 0 10) _ (junctors_ask party.line.frame 0 10) (λ words. tt)
 
-called_asks : (called : Option Party) → AsksAtMost 10 0 (test_called called)
-unfolding AsksAtMost test_called
+called_asks : (called : Option Party) → Asks 10 0 0 (test_called called)
+unfolding Asks test_called
 called_asks None = tt
-called_asks (Some party) = asks_bind 10 0 0 0 10 0 (test_side party) _ refl refl (side_asks party) (λ side. tt)
+called_asks (Some party) = asks_end 10 0 0 (test_side party) _ (side_asks party) (λ side. tt)
 
-sides_ask : (parties : CallParties) → AsksAtMost 20 0 (test_sides parties)
-unfolding AsksAtMost test_sides
+sides_ask : (parties : CallParties) → Asks 20 0 0 (test_sides parties)
+unfolding Asks test_sides
 sides_ask parties =
-    asks_bind 10 0 10 0 20 0 (test_side parties.calling) _ refl refl (side_asks parties.calling)
-    (λ calling. asks_bind 10 0 0 0 10 0 (test_called parties.called) _ refl refl (called_asks parties.called) (λ called. tt))
+    asks_then 10 0 0 10 0 0 (test_side parties.calling) _ (side_asks parties.calling)
+    (λ calling. asks_end 10 0 0 (test_called parties.called) _ (called_asks parties.called) (λ called. tt))
 
--- a member is reached with two tests and one seizing
-place_asks : (place : TrunkPlace) → AsksAtMost 1 0 (test_place place)
-unfolding AsksAtMost test_place ◌>>=◌
-place_asks place = λ word fits. tt
+-- a member is reached with two tests and one seizing, of a trunk link frame
+place_asks : (place : TrunkPlace) → Asks 1 0 0 (test_place place)
+unfolding Asks test_place ◌>>=◌
+place_asks place = λ word. tt
 
-second_asks : (second : Option TrunkPlace) → AsksAtMost 1 0 (test_second second)
-unfolding AsksAtMost test_second
+second_asks : (second : Option TrunkPlace) → Asks 1 0 0 (test_second second)
+unfolding Asks test_second
 second_asks None = tt
-second_asks (Some place) = asks_bind 1 0 0 0 1 0 (test_place place) _ refl refl (place_asks place) (λ reached. tt)
+second_asks (Some place) = asks_end 1 0 0 (test_place place) _ (place_asks place) (λ reached. tt)
 
-reach_asks : (member : Member) → AsksAtMost 2 1 (reach member)
-unfolding AsksAtMost reach ◌>>=◌
-reach_asks member =
-    asks_bind 1 0 1 0 2 0 (test_place member.first) _ refl refl (place_asks member.first)
-    (λ first. asks_bind 1 0 0 0 1 0 (test_second member.second) _ refl refl (second_asks member.second) (λ second. tt))
+reach_asks : (member : Member) → Asks 2 1 1 (reach member)
+unfolding Asks reach ◌>>=◌
+reach_asks member = (
+  omega arith,
+  asks_then 1 0 0 1 0 0 (test_place member.first) _ (place_asks member.first)
+      (λ first. asks_end 1 0 0 (test_second member.second) _ (second_asks member.second) (λ second. tt)),
+)
 
 -- the second trial has no more
-second_trial_asks : (plan : Tables) (sides : Sides) (cards : List Card) (index : ℕ) (member : Member) → AsksAtMost 2 1 (second_trial_steps plan sides cards index member)
-unfolding AsksAtMost second_trial_steps
-second_trial_asks plan sides cards index member = asks_bind 2 1 0 0 2 1 (reach member) _ refl refl (reach_asks member) (λ trunk. tt)
+second_trial_asks : (plan : Tables) (sides : Sides) (cards : List Card) (index : ℕ) (member : Member) → Asks 2 1 1 (second_trial_steps plan sides cards index member)
+unfolding Asks second_trial_steps
+second_trial_asks plan sides cards index member = asks_end 2 1 1 (reach member) _ (reach_asks member) (λ trunk. tt)
 
 -- where no member is listed it has none
-second_trial_at_asks : (plan : Tables) (sides : Sides) (trunks : Trunks) (cards : List Card) (index : ℕ) → AsksAtMost 2 1 (second_trial_at plan sides trunks cards index)
-unfolding AsksAtMost second_trial_at
+second_trial_at_asks : (plan : Tables) (sides : Sides) (trunks : Trunks) (cards : List Card) (index : ℕ) → Asks 2 1 1 (second_trial_at plan sides trunks cards index)
+unfolding Asks second_trial_at
 second_trial_at_asks plan sides trunks cards index = at (slice_get trunks.members index) where
-  at : (o : Option Member) → AsksAtMost 2 1 (option_map_or (second_trial_steps plan sides cards index) o (Ends (second_decides cards index NoChannel)))
+  at : (o : Option Member) → Asks 2 1 1 (option_map_or (second_trial_steps plan sides cards index) o (Ends (second_decides cards index NoChannel)))
   at None = tt
   at (Some member) = second_trial_asks plan sides cards index member
 
 -- nor has what follows the first one
-after_trial_asks : (plan : Tables) (sides : Sides) (trunks : Trunks) (first : ℕ) (end : TrialEnd) → AsksAtMost 2 1 (after_first_trial plan sides trunks first end)
-unfolding AsksAtMost after_first_trial
+after_trial_asks : (plan : Tables) (sides : Sides) (trunks : Trunks) (first : ℕ) (end : TrialEnd) → Asks 2 1 1 (after_first_trial plan sides trunks first end)
+unfolding Asks after_first_trial
 after_trial_asks plan sides trunks first (Chosen call) = tt
 after_trial_asks plan sides trunks first (Faulty link) = second_trial_at_asks plan sides trunks (cards_of 1 (Faulty link)) (next_clear trunks first)
 after_trial_asks plan sides trunks first NoChannel = second_trial_at_asks plan sides trunks [] (next_clear trunks first)
 
 -- the first trial has the tests of the line junctor switches besides
-first_trial_asks : (plan : Tables) (parties : CallParties) (trunks : Trunks) (first : ℕ) (member : Member) → AsksAtMost 24 2 (first_trial_steps plan parties trunks first member)
+first_trial_asks : (plan : Tables) (parties : CallParties) (trunks : Trunks) (first : ℕ) (member : Member) → Asks 24 2 2 (first_trial_steps plan parties trunks first member)
 unfolding first_trial_steps
 first_trial_asks plan parties trunks first member =
-    asks_bind 2 1 22 1 24 2 (reach member) _ refl refl (reach_asks member)
-    (λ trunk. asks_bind 20 0 2 1 22 1 (test_sides parties) _ refl refl (sides_ask parties) (λ sides. after_trial_asks plan sides trunks first (trial_end plan sides 0 trunk)))
+    asks_then 2 1 1 22 1 1 (reach member) _ (reach_asks member)
+    (λ trunk. asks_then 20 0 0 2 1 1 (test_sides parties) _ (sides_ask parties) (λ sides. after_trial_asks plan sides trunks first (trial_end plan sides 0 trunk)))
 
 -- so two trials have 24 tests and two seizings
-two_trials_ask : (plan : Tables) (parties : CallParties) (trunks : Trunks) (first : ℕ) → AsksAtMost 24 2 (two_trials_steps plan parties trunks first)
-unfolding AsksAtMost two_trials_steps
+two_trials_ask : (plan : Tables) (parties : CallParties) (trunks : Trunks) (first : ℕ) → Asks 24 2 2 (two_trials_steps plan parties trunks first)
+unfolding Asks two_trials_steps
 two_trials_ask plan parties trunks first = at (slice_get trunks.members first) where
-  at : (o : Option Member) → AsksAtMost 24 2 (option_map_or (first_trial_steps plan parties trunks first) o (Ends (second_decides [] first NoChannel)))
+  at : (o : Option Member) → Asks 24 2 2 (option_map_or (first_trial_steps plan parties trunks first) o (Ends (second_decides [] first NoChannel)))
   at None = tt
   at (Some member) = first_trial_asks plan parties trunks first member
 
 -- a group that is looked at has a test and a seizing
-idle_asks : (group word count : ℕ) (next : Script (Option IdleGroup)) (found : Option ℕ) → AsksAtMost count count next → AsksAtMost count count (idle_or group word next found)
-unfolding AsksAtMost idle_or
-idle_asks group word count next None asks = asks
-idle_asks group word count next (Some first) asks = tt
+idle_asks : (group word tests seizings most : ℕ) (next : Script (Option IdleGroup)) (found : Option ℕ) → Asks tests seizings most next → Asks tests seizings most (idle_or group word next found)
+unfolding Asks idle_or
+idle_asks group word tests seizings most next None asks = asks
+idle_asks group word tests seizings most next (Some first) asks = tt
 
-find_asks : (plan : Tables) (groups : List ℕ) → AsksAtMost (length groups) (length groups) (find_trunk plan groups)
-unfolding AsksAtMost find_trunk ◌>>=◌
+find_asks : (plan : Tables) (groups : List ℕ) → Asks (length groups) (length groups) (length groups) (find_trunk plan groups)
+unfolding Asks find_trunk ◌>>=◌
 find_asks plan [] = tt
-find_asks plan (group ∷ groups) = λ word fits. idle_asks group word (length groups) (find_trunk plan groups) (first_clear (trunks_of plan group word)) (find_asks plan groups)
+find_asks plan (group ∷ groups) =
+    let count = length groups in
+    let left = suc (length groups) - 1 in
+    let later = asks_more count count count count count left (find_trunk plan groups) (omega arith) (omega arith) (omega arith) (find_asks plan groups) in
+    (omega arith, λ word. idle_asks group word count count left (find_trunk plan groups) (first_clear (trunks_of plan group word)) later)
 
-try_asks : (plan : Tables) (aim : Aim) (parties : CallParties) (idle : Option IdleGroup) → AsksAtMost 24 2 (try_trunk plan aim parties idle)
-unfolding AsksAtMost try_trunk
+try_asks : (plan : Tables) (aim : Aim) (parties : CallParties) (idle : Option IdleGroup) → Asks 24 2 2 (try_trunk plan aim parties idle)
+unfolding Asks try_trunk
 try_asks plan aim parties None = tt
 try_asks plan aim parties (Some idle) =
-    asks_bind 24 2 0 0 24 2 (two_trials_steps plan parties (trunks_of plan idle.group idle.word) idle.first) _ refl refl (two_trials_ask plan parties (trunks_of plan idle.group idle.word) idle.first) (λ trials. tt)
+    let trunks = trunks_of plan idle.group idle.word in
+    asks_end 24 2 2 (two_trials_steps plan parties trunks idle.first) _ (two_trials_ask plan parties trunks idle.first) (λ trials. tt)
 
 -- parties are connected by one of so many groups with a test and a seizing for each, and two trials
-pub connect_asks : (plan : Tables) (aim : Aim) (parties : CallParties) (groups : List ℕ) (count tests seizings : ℕ) → length groups ≤ count → tests ≡ count + 24 → seizings ≡ count + 2 → AsksAtMost tests seizings (connect plan aim parties groups)
+pub connect_asks : (plan : Tables) (aim : Aim) (parties : CallParties) (groups : List ℕ) (count : ℕ) → length groups ≤ count → Asks (count + 24) (count + 2) (count + 2) (connect plan aim parties groups)
 unfolding connect
-connect_asks plan aim parties groups count tests seizings few sum sum_seizings =
-    asks_bind count count 24 2 tests seizings (find_trunk plan groups) _ sum sum_seizings
-    (asks_more (length groups) (length groups) count count (find_trunk plan groups) few few (find_asks plan groups))
+connect_asks plan aim parties groups count few =
+    asks_then count count count 24 2 2 (find_trunk plan groups) _
+    (asks_more (length groups) (length groups) (length groups) count count count (find_trunk plan groups) few few few (find_asks plan groups))
     (λ idle. try_asks plan aim parties idle)

@@ -42,6 +42,7 @@ use Rattle.xbar_jobs.specs.declared.party.Party.{Party}
 use Rattle.xbar_jobs.specs.declared.trunk.Reached.{Reached}
 use Rattle.xbar_jobs.specs.declared.trunk.Trunk.{Trunk}
 use Rattle.xbar_jobs.proofs.HeldEffects.{IsHeldCall, IsHeldIfAny, IsHeldLine, IsHeldPath, IsHeldPlace, line_held, place_held}
+use Rattle.xbar_jobs.proofs.Items.{if_found}
 use Rattle.xbar_jobs.proofs.HeldWords.{keeps_then, line_junctor_under, trunk_switch_under}
 
 -- the lines of the parties, of both sides of a call, and the places of a member that was reached are held
@@ -217,14 +218,13 @@ module _ (plan : Tables) (laws : IsLawful plan) (number : ℕ) where
   each_on_frame : (index : ℕ) (member : Member) → slice_get members index ≡ Some member → AreOnFrame member
   each_on_frame index member here = record {
     first = place_at-range plan laws number index member member.first (listed index member here) (inl refl);
-    second = of member.second refl;
-  } where
-    of : (second : Option TrunkPlace) → member.second ≡ second → IfSome second (λ place. IsTrunkPlace place × (place.frame ≡ member.first.frame))
-    of None is = tt
-    of (Some place) is = (
-      place_at-range plan laws number index member place (listed index member here) (second-has member place is),
-      pair-frame plan laws number index member place (listed index member here) is,
-    )
+    second = if_found member.second (
+        λ place is. (
+          place_at-range plan laws number index member place (listed index member here) (second-has member place is),
+          pair-frame plan laws number index member place (listed index member here) is,
+        )
+        );
+  }
 
   index_below : (index : ℕ) (member : Member) → slice_get members index ≡ Some member → index < 40
   index_below index member here = (member-numbers plan laws number index member (listed index member here)).1

@@ -3,7 +3,7 @@
 ghost use Rattle.std.specs.Prelude.{◌≡◌, ◌<◌, IfSome, []};
 ghost use Rattle.xbar_office.specs.Trunks.{AreGroups};
 ghost use Rattle.xbar_plan.specs.Tables.{lines_of, route_of};
-ghost use Rattle.xbar_jobs.specs.Completing.{call as call_script, call_line as call_line_script, call_number as call_number_script, call_without as call_without_script, complete_from as complete_from_script, complete_steps, hunt as hunt_script, register_at as register_at_of};
+ghost use Rattle.xbar_jobs.specs.Completing.{call as call_script, call_number as call_number_script, call_without as call_without_script, complete_steps, hunt as hunt_script, register_at as register_at_of};
 ghost use Rattle.xbar_jobs.specs.Keeping.{AreEffects};
 ghost use Rattle.xbar_jobs.specs.Script.{live};
 ghost use Rattle.xbar_jobs.specs.Tracing.{Knows};
@@ -49,35 +49,8 @@ fn hunt(
     Ok(None)
 }
 
-/// A call to a line of the office, where its number has an idle one.
-#[tactic(auto, using(attempts::proofs::LiveWalks::live_end), unfolding(crate::specs::Completing::call_line))]
-fn call_line(
-    plan: &Plan,
-    seen: &mut Seen,
-    words: &mut [u64],
-    made: &[Effect],
-    calling: &Party,
-    groups: &[u8],
-    called: &Option<Party>,
-) -> Result<Decision, Wanted>
-    requires made { AreEffects made.now }
-    requires groups { AreGroups plan.now groups.now }
-    ensures { record { found = result; course = seen.new; words = words.new }
-        ≡ live made.now (call_line_script plan.now calling.now groups.now called.now)
-        seen.old words.old }
-{
-    let Some(called) = called else {
-        return Ok(Decision::refused(End::CalledBusy));
-    };
-    let parties = CallParties {
-        calling: *calling,
-        called: Some(*called),
-    };
-    connect(plan, seen, words, made, Aim::Connected, &parties, groups)
-}
-
 /// A call to a number of the office, by the lines that it has.
-#[tactic(auto, using(attempts::proofs::LiveWalks::live_bind, attempts::proofs::LiveWalks::live_end), unfolding(crate::specs::Completing::call_number))]
+#[tactic(auto, using(attempts::proofs::LiveWalks::live_bind, attempts::proofs::LiveWalks::live_end), unfolding(crate::specs::Completing::call_number, crate::specs::Completing::call_line))]
 fn call_number(
     plan: &Plan,
     seen: &mut Seen,
@@ -97,8 +70,14 @@ fn call_number(
     let Some(lines) = plan.stations(number) else {
         return Ok(Decision::refused(End::VacantNumber));
     };
-    let called = hunt(seen, words, made, calling.line, lines)?;
-    call_line(plan, seen, words, made, calling, groups, &called)
+    let Some(called) = hunt(seen, words, made, calling.line, lines)? else {
+        return Ok(Decision::refused(End::CalledBusy));
+    };
+    let parties = CallParties {
+        calling: *calling,
+        called: Some(called),
+    };
+    connect(plan, seen, words, made, Aim::Connected, &parties, groups)
 }
 
 /// A call by the groups that the dialled code leads to: inside the office its number counts too.
@@ -169,31 +148,8 @@ fn register_at(plan: &Plan, own: &Path) -> Option<MemberPlace>
     }
 }
 
-/// Goes on from the calling line's own path, where that ends at a register.
-#[tactic(auto, using(attempts::proofs::LiveWalks::live_end), unfolding(crate::specs::Completing::complete_from, crate::specs::Completing::call_from))]
-fn complete_from(
-    plan: &Plan,
-    seen: &mut Seen,
-    words: &mut [u64],
-    calling: &Party,
-    dialled: Dialled,
-    own: &Option<Path>,
-) -> Result<Decision, Wanted>
-    ensures { record { found = result; course = seen.new; words = words.new }
-        ≡ live [] (complete_from_script plan.now calling.now dialled own.now) seen.old words.old }
-{
-    let Some(own) = own else {
-        return Ok(Decision::refused(End::NoRegister));
-    };
-    let Some(found) = register_at(plan, own) else {
-        return Ok(Decision::refused(End::NoRegister));
-    };
-    let leave = Leave::of(own, &None, &found);
-    call_without(plan, seen, words, calling, dialled, leave)
-}
-
 /// Goes through a completing job, from where the walks before have come to.
-#[tactic(auto, using(attempts::proofs::LiveWalks::live_bind), unfolding(crate::specs::Completing::complete_steps))]
+#[tactic(auto, using(attempts::proofs::LiveWalks::live_bind, attempts::proofs::LiveWalks::live_end), unfolding(crate::specs::Completing::complete_steps, crate::specs::Completing::complete_from, crate::specs::Completing::call_from))]
 // Not inlined into every walk: a dial tone job would pay for its locals.
 #[inline(never)]
 pub fn complete(
@@ -210,6 +166,12 @@ pub fn complete(
     ensures knows { Knows line way.new seen.new.seen }
 {
     let calling = way.approach(seen, words, line)?;
-    let own = way.trace(seen, words, line, &calling)?;
-    complete_from(plan, seen, words, &calling, dialled, &own)
+    let Some(own) = way.trace(seen, words, line, &calling)? else {
+        return Ok(Decision::refused(End::NoRegister));
+    };
+    let Some(found) = register_at(plan, &own) else {
+        return Ok(Decision::refused(End::NoRegister));
+    };
+    let leave = Leave::of(&own, &None, &found);
+    call_without(plan, seen, words, &calling, dialled, leave)
 }

@@ -1,18 +1,17 @@
 //! The joining of parties, as far as an attempt has come with it.
 
-ghost use Rattle.std.specs.Prelude.{◌≡◌, IfSome};
+ghost use Rattle.std.specs.Prelude.{◌≡◌};
 ghost use Rattle.xbar_office.specs.Trunks.{AreGroups};
-ghost use Rattle.xbar_jobs.specs.Connecting.{busy_end as busy_end_of, connect as connect_script, try_trunk as try_trunk_script};
+ghost use Rattle.xbar_jobs.specs.Connecting.{busy_end as busy_end_of, connect as connect_script};
 ghost use Rattle.xbar_jobs.specs.Keeping.{AreEffects};
 ghost use Rattle.xbar_jobs.specs.Script.{live};
-ghost use Rattle.xbar_jobs.specs.Trunks.{IsOfPlan};
 
 use crate::decision::Decision;
 use crate::effect::Effect;
 use crate::kinds::{Seen, Wanted};
 use crate::party::CallParties;
 use crate::trials::two_trials;
-use crate::trunks::{IdleGroup, find_trunk, trunks_of};
+use crate::trunks::{find_trunk, trunks_of};
 use xbar_office::{Aim, End};
 use xbar_plan::Plan;
 
@@ -25,39 +24,8 @@ fn busy_end(aim: Aim) -> End
     }
 }
 
-#[tactic(auto, using(attempts::proofs::LiveWalks::live_bind, attempts::proofs::LiveWalks::live_end), unfolding(crate::specs::Connecting::try_trunk))]
-fn try_trunk(
-    plan: &Plan,
-    seen: &mut Seen,
-    words: &mut [u64],
-    made: &[Effect],
-    aim: Aim,
-    parties: &CallParties,
-    idle: &Option<IdleGroup>,
-) -> Result<Decision, Wanted>
-    requires made { AreEffects made.now }
-    requires idle { IfSome idle.now (λ there. IsOfPlan plan.now there) }
-    ensures { record { found = result; course = seen.new; words = words.new }
-        ≡ live made.now (try_trunk_script plan.now aim parties.now idle.now) seen.old words.old }
-{
-    let Some(idle) = idle else {
-        return Ok(Decision::refused(busy_end(aim)));
-    };
-    let trunks = trunks_of(plan, idle.group, idle.word);
-    let trials = two_trials(
-        plan,
-        seen,
-        words,
-        made,
-        parties,
-        &trunks,
-        usize::from(idle.first),
-    )?;
-    Ok(Decision::tried(aim, idle.group, trials))
-}
-
 /// Joins the parties by a member of the first of these groups that has an idle one.
-#[tactic(auto, using(attempts::proofs::LiveWalks::live_bind), unfolding(crate::specs::Connecting::connect))]
+#[tactic(auto, using(attempts::proofs::LiveWalks::live_bind, attempts::proofs::LiveWalks::live_end), unfolding(crate::specs::Connecting::connect, crate::specs::Connecting::try_trunk))]
 pub fn connect(
     plan: &Plan,
     seen: &mut Seen,
@@ -72,6 +40,11 @@ pub fn connect(
     ensures { record { found = result; course = seen.new; words = words.new }
         ≡ live made.now (connect_script plan.now aim parties.now groups.now) seen.old words.old }
 {
-    let idle = find_trunk(plan, seen, words, made, groups)?;
-    try_trunk(plan, seen, words, made, aim, parties, &idle)
+    let Some(idle) = find_trunk(plan, seen, words, made, groups)? else {
+        return Ok(Decision::refused(busy_end(aim)));
+    };
+    let trunks = trunks_of(plan, idle.group, idle.word);
+    let first = usize::from(idle.first);
+    let trials = two_trials(plan, seen, words, made, parties, &trunks, first)?;
+    Ok(Decision::tried(aim, idle.group, trials))
 }

@@ -7,7 +7,7 @@ use xbar_equip::Path;
 use xbar_plan::MemberPlace;
 
 /// A member of a trunk group that a job lets go, with the paths that led to it.
-#[derive(Clone, Copy, Debug, PartialEq, Eq)]
+#[derive(Clone, Copy, Debug)]
 pub struct Leave {
     pub group: u8,
     pub index: u8,

@@ -7,7 +7,7 @@ use xbar_equip::{Len, line_switch};
 use xbar_match::find_line;
 
 /// A party to a call: its line, with what the line's switch was.
-#[derive(Clone, Copy, Debug, PartialEq, Eq)]
+#[derive(Clone, Copy, Debug)]
 pub struct Party {
     pub line: Len,
     pub word: u64,
@@ -40,7 +40,7 @@ impl Party {
 }
 
 /// The parties to a call: the calling one, and the called one where it is a line of the office.
-#[derive(Clone, Copy, Debug, PartialEq, Eq)]
+#[derive(Clone, Copy)]
 pub struct CallParties {
     pub calling: Party,
     pub called: Option<Party>,

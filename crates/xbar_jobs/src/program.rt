@@ -1,8 +1,16 @@
 ghost use Rattle.std.specs.Prelude.{◌≡◌, ◌<◌, ◌≤◌, ◌⊎◌, is_some, length, option_copied, true};
+ghost use Rattle.attempts.specs.Standing.{AreScripts, KnowsIn, Stands as StandsIn};
 ghost use Rattle.attempts.specs.Steps.{act_of};
+ghost use Rattle.attempts.specs.SystemWith.{with};
+ghost use Rattle.xbar_equip.specs.Conn.{conn_eq};
+ghost use Rattle.xbar_plan.specs.Lawful.{IsLawful};
 ghost use Rattle.xbar_jobs.specs.Attempt.{next_step, step_of as step_of_act};
+ghost use Rattle.xbar_jobs.specs.Closing.{effects as effects_of};
+ghost use Rattle.xbar_jobs.specs.Jobs.{job_line};
 ghost use Rattle.xbar_jobs.specs.Keeping.{AreEffects};
-ghost use Rattle.xbar_jobs.specs.Standing.{IsAttempt, IsNextStep, attempt_at};
+ghost use Rattle.xbar_jobs.specs.Office.{office_over};
+ghost use Rattle.xbar_jobs.specs.Standing.{IsAttempt, IsNextStep, Stands, attempt_at, most_readings, most_seizings, reply_of};
+ghost use Rattle.xbar_jobs.specs.Tracing.{Knows};
 ghost use Rattle.xbar_jobs.specs.Turning.{IsAct, IsStep};
 
 use crate::closing::close;
@@ -47,6 +55,21 @@ fn effects_are(attempt: &AttemptOf<Offices, 42, 19>)
     }
 }
 
+/// What the attempt needs to go on by its job's script. Called for its clauses alone.
+fn may_go_on(attempt: &AttemptOf<Offices, 42, 19>, plan: &Plan)
+    requires stands { Stands plan.now (attempt_at attempt.now) }
+    requires knows { KnowsIn (λ job way seen. Knows (job_line job) way seen)
+        (attempt_at attempt.now) attempt.now.point attempt.now.phase }
+    ensures lawful { IsLawful plan.now }
+    ensures scripts { AreScripts conn_eq reply_of effects_of (with (office_over plan.now))
+        (λ job way seen. Knows (job_line job) way seen) most_readings most_seizings }
+    ensures stands { StandsIn conn_eq reply_of effects_of (with (office_over plan.now))
+        (λ job way seen. Knows (job_line job) way seen) most_readings most_seizings attempt.now }
+{
+    let _ = attempt;
+    xbar_plan::laws::every_plan_is_lawful(plan);
+}
+
 /// The step that makes what an attempt does next.
 #[tactic(auto, using(crate::proofs::Programs::act_step))]
 #[inline(always)]
@@ -85,14 +108,12 @@ impl Program {
     ghost use Rattle.attempts.specs.Live.{LeadsTo};
     ghost use Rattle.attempts.specs.Running.{GoesFarEnough};
     ghost use Rattle.xbar_equip.specs.Word.{word_count};
-    ghost use Rattle.xbar_plan.specs.Lawful.{IsLawful};
     ghost use Rattle.xbar_plan.specs.Tables.{Tables};
     ghost use Rattle.xbar_jobs.specs.Attempt.{fresh, with_count};
     ghost use Rattle.xbar_jobs.specs.Counting.{after_answer};
     ghost use Rattle.xbar_jobs.specs.Office.{office};
     ghost use Rattle.xbar_jobs.specs.OnWords.{step_word};
     ghost use Rattle.xbar_jobs.specs.Running.{GoesFar, RunsOn};
-    ghost use Rattle.xbar_jobs.specs.Standing.{Stands};
     ghost use Rattle.xbar_jobs.specs.Turning.{DoesAsOffice};
 
     /// An attempt that has made no step, whatever the plan will be.
@@ -137,13 +158,8 @@ impl Program {
             ≡ reply_in self.now.attempt.phase self.now.attempt.reply }
         ensures known { is_some result ≡ is_some (turn_in self.now.attempt.phase) }
     {
-        match self.attempt.turn() {
-            None => None,
-            Some(_) => match self.attempt.decision() {
-                Some(decided) => Some(decided.reply()),
-                None => None,
-            },
-        }
+        self.attempt.turn()?;
+        Some(self.attempt.decision()?.reply())
     }
 
     /// The atomic steps of this attempt so far. It stays at `u32::MAX` once there.
@@ -162,8 +178,7 @@ impl Program {
         ensures turn { (number : ℕ) → answer ≡ Answer.Turn number
             → DoesAsOffice plan.now self.new.attempt }
     {
-        // Called for its clauses alone.
-        xbar_plan::laws::every_plan_is_lawful(plan);
+        may_go_on(&self.attempt, plan);
         take::<Offices, 42, 19>(&mut self.attempt, plan, answer);
         effects_are(&self.attempt);
         self.next = step_of(&self.attempt);
@@ -177,8 +192,7 @@ impl Program {
         ensures far { GoesFarEnough (office plan.now).lock_word words.new most result
             self.old.attempt.phase self.new.attempt.phase }
     {
-        // Called for its clauses alone.
-        xbar_plan::laws::every_plan_is_lawful(plan);
+        may_go_on(&self.attempt, plan);
         let made = run::<Offices, 42, 19>(&mut self.attempt, plan, marker, words, most);
         effects_are(&self.attempt);
         self.next = step_of(&self.attempt);

@@ -17,7 +17,7 @@ use xbar_match::match_channel;
 use xbar_office::CallPaths;
 
 /// One side of a call: the party, with what the ten line junctor switches of its frame were.
-#[derive(Debug, Drop)]
+#[derive(Drop)]
 pub struct Side {
     party: Party,
     junctors: [u64; 10],
@@ -32,7 +32,7 @@ impl Model for Side {
 }
 
 /// Both sides of a call, or the calling one alone.
-#[derive(Debug, Drop)]
+#[derive(Drop)]
 pub struct Sides {
     calling: Side,
     called: Option<Side>,

@@ -6,7 +6,7 @@ use crate::effects::{Effects, close_path};
 use xbar_office::CallPaths;
 
 /// A member of a trunk group that a job takes, with the paths that lead to it.
-#[derive(Clone, Copy, Debug, PartialEq, Eq)]
+#[derive(Clone, Copy, Debug)]
 pub struct Take {
     pub group: u8,
     pub index: u8,

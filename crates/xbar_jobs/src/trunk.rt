@@ -11,7 +11,7 @@ use xbar_equip::{Conn, Ten, trunk_switch};
 use xbar_plan::Member;
 
 /// A trunk place, with what the place's switch was.
-#[derive(Clone, Copy, Debug, PartialEq, Eq)]
+#[derive(Clone, Copy)]
 pub struct Reached {
     pub place: Ten,
     pub word: u64,
@@ -35,7 +35,7 @@ impl Reached {
 }
 
 /// A member of a trunk group that was reached: its place, or of a pair both of its places.
-#[derive(Clone, Copy, Debug, PartialEq, Eq)]
+#[derive(Clone, Copy)]
 pub struct Trunk {
     pub first: Reached,
     pub second: Option<Reached>,

@@ -15,7 +15,7 @@ use xbar_equip::{Conn, group_word};
 use xbar_plan::{Member, Plan};
 
 /// A group that has an idle member: what its word was, and its first idle member.
-#[derive(Clone, Copy, Debug, PartialEq, Eq)]
+#[derive(Clone, Copy)]
 pub struct IdleGroup {
     pub group: u8,
     pub word: u64,
@@ -23,7 +23,7 @@ pub struct IdleGroup {
 }
 
 /// The members of a trunk group, with what the group's word was.
-#[derive(Debug, Drop)]
+#[derive(Drop)]
 pub struct Trunks<'p> {
     pub members: &'p [Member],
     pub word: u64,

@@ -10,7 +10,7 @@ use crate::tracing::{approach, trace};
 use xbar_equip::{Len, Path};
 
 /// How far a job's walks have come: the next one goes on from there.
-#[derive(Clone, Copy, Debug, PartialEq, Eq)]
+#[derive(Clone, Copy, Debug)]
 pub enum Way {
     /// From the job's beginning.
     Begun,

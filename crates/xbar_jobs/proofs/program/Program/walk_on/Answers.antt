@@ -1,39 +1,36 @@
-use Rattle.std.proofs.Common.{arith, ap, subst, sym, ◌∙◌}
+use Rattle.std.proofs.Common.{ap, subst, sym, ◌∙◌}
 use Rattle.attempts.specs.Counting.{counted_by}
 use Rattle.attempts.specs.Live.{LeadsTo}
 use Rattle.attempts.specs.Running.{GoesFarEnough}
 use Rattle.xbar_jobs.specs.Attempt.{Attempt, Counted}
 use Rattle.xbar_jobs.specs.Office.{office}
 use Rattle.xbar_jobs.specs.Standing.{Stands, attempt_at}
-use Rattle.xbar_jobs.proofs.Programs.{is_attempt, ran, scripts_are, stands_here}
+use Rattle.xbar_jobs.proofs.Programs.{is_attempt, ran}
 use Rattle.xbar_jobs.proofs.program.Program.walk_on.Goals as goal
 
 abbrev the_attempt : Counted → Attempt
 the_attempt p = p.attempt
 
-pub run-made-requires : goal.run-made-requires
-run-made-requires c =
-    let plan = c.args.plan.now in
-    let stands = subst (Stands plan) (ap the_attempt (sym c.self.view_is)) c.requires.plan in
-    (omega arith, (c.every_plan_is_lawful.ensures, (scripts_are plan c.every_plan_is_lawful.ensures, (stands_here plan c.self.inside.attempt stands c.self.invariant.knows, c.requires.marker))))
+pub may_go_on-requires-clause-stands : goal.may_go_on-requires-clause-stands
+may_go_on-requires-clause-stands c = subst (Stands c.args.plan.now) (ap the_attempt (sym c.self.view_is)) c.requires.plan
 
 pub step_of-self-inside-requires : goal.step_of-self-inside-requires
 step_of-self-inside-requires c =
-    let it = ran c.args.plan.now c.every_plan_is_lawful.ensures c.args.marker c.run-made.result c.self.inside.attempt c.run-made.new.program c.args.words.now c.run-made.new.words _ (ap the_attempt c.self.view_is) c.requires.plan c.run-made.ensures.steps in
-    is_attempt c.args.plan.now c.every_plan_is_lawful.ensures (attempt_at c.run-made.new.program) it.stands c.effects_are.ensures
+    let it = ran c.args.plan.now c.may_go_on.ensures.lawful c.args.marker c.run-made.result c.self.inside.attempt c.run-made.new.program c.args.words.now c.run-made.new.words _ (ap the_attempt c.self.view_is) c.requires.plan c.run-made.ensures.steps in
+    is_attempt c.args.plan.now c.may_go_on.ensures.lawful (attempt_at c.run-made.new.program) it.stands c.effects_are.ensures
 
 pub invariant_of-self : goal.invariant_of-self
 invariant_of-self c =
-    let it = ran c.args.plan.now c.every_plan_is_lawful.ensures c.args.marker c.run-made.result c.self.inside.attempt c.run-made.new.program c.args.words.now c.run-made.new.words _ (ap the_attempt c.self.view_is) c.requires.plan c.run-made.ensures.steps in
+    let it = ran c.args.plan.now c.may_go_on.ensures.lawful c.args.marker c.run-made.result c.self.inside.attempt c.run-made.new.program c.args.words.now c.run-made.new.words _ (ap the_attempt c.self.view_is) c.requires.plan c.run-made.ensures.steps in
     record {
-      attempt = is_attempt c.args.plan.now c.every_plan_is_lawful.ensures (attempt_at c.run-made.new.program) it.stands c.effects_are.ensures;
+      attempt = is_attempt c.args.plan.now c.may_go_on.ensures.lawful (attempt_at c.run-made.new.program) it.stands c.effects_are.ensures;
       next_is = c.step_of-self-inside.ensures;
       knows = c.run-made.ensures.stands.point;
     }
 
 pub returns : goal.returns
 returns c =
-    let it = ran c.args.plan.now c.every_plan_is_lawful.ensures c.args.marker c.run-made.result c.self.inside.attempt c.run-made.new.program c.args.words.now c.run-made.new.words _ (ap the_attempt c.self.view_is) c.requires.plan c.run-made.ensures.steps in
+    let it = ran c.args.plan.now c.may_go_on.ensures.lawful c.args.marker c.run-made.result c.self.inside.attempt c.run-made.new.program c.args.words.now c.run-made.new.words _ (ap the_attempt c.self.view_is) c.requires.plan c.run-made.ensures.steps in
     record {
       runs = record {
         fits = c.run-made.ensures.most;
