@@ -16,12 +16,10 @@ use Rattle.attempts.specs.Counting.{CountedOf, after_answer, after_answers, coun
 -- while steady answers come, an attempt that has made a step seizes, holds something or has decided
 abbrev HasBegun : {Lock : Type 0} → Phase Lock ℕ → List Lock → Type 0
 HasBegun (Requests lock) held = ¬ (held ≡ [])
-HasBegun (Seizes lock expected) held = ⊤
 HasBegun (Tests word) held = ¬ (held ≡ [])
-HasBegun Turns held = ⊤
 HasBegun (Withdraws lock) held = ⊥
 HasBegun GivesBack held = ⊥
-HasBegun (Operates turn) held = ⊤
+HasBegun phase held = ⊤
 
 none_held : {Lock : Type 0} (held : List Lock) → length held ≡ 0 → held ≡ []
 none_held [] e = refl
@@ -33,12 +31,9 @@ counts_on (Requests lock) held count begun = at (length held == 0) refl where
   at : (b : Bool) → (length held == 0) ≡ b → (if b then 0 else count) ≡ count
   at true e = absurd (begun (none_held held (eqb-true (length held) 0 e)))
   at false e = refl
-counts_on (Seizes lock expected) held count begun = refl
-counts_on (Tests word) held count begun = refl
-counts_on Turns held count begun = refl
 counts_on (Withdraws lock) held count begun = absurd begun
 counts_on GivesBack held count begun = absurd begun
-counts_on (Operates turn) held count begun = refl
+counts_on phase held count begun = refl
 
 -- nor does it stay, below what 32 bits count
 counted_on : (count : ℕ) → count + 1 < 2 ^ 32 → counted count ≡ count + 1

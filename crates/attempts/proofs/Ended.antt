@@ -3,36 +3,21 @@ use Rattle.std.proofs.Common.{◌≡◌, ℕ, refl, sym, ◌∙◌, ap}
 use Rattle.std.specs.Prelude.{Option, Some, None, option_map}
 use Rattle.turns.specs.Attempt.{turn_in}
 use Rattle.turns.specs.declared.phase.Phase.{Phase}
-use Rattle.turns.specs.declared.phase.Phase.TheVariants.{Requests, Seizes, Tests, Turns, Withdraws, GivesBack, Operates}
+use Rattle.turns.specs.declared.phase.Phase.TheVariants.{Operates}
 use Rattle.turns.specs.Outcomes.{outcome_in}
 use Rattle.attempts.specs.Standing.{Program}
 
 turned : {Lock Job Reply : Type 0} (phase : Phase Lock ℕ) (turn : ℕ) (job : Job) (reply : Reply) → Some turn ≡ turn_in phase → ◌≡◌ {A = Option (ℕ × Job × Reply)} (Some (turn, job, reply)) (outcome_in phase job (Some reply))
 turned {Lock} {Job} {Reply} (Operates own) turn job reply e = let same : turn ≡ own = cc in let with : ℕ → Option (ℕ × Job × Reply) = λ t. Some (t, job, reply) in ap with same
-turned (Requests lock) turn job reply e = absurd cc
-turned (Seizes lock expected) turn job reply e = absurd cc
-turned (Tests word) turn job reply e = absurd cc
-turned Turns turn job reply e = absurd cc
-turned (Withdraws lock) turn job reply e = absurd cc
-turned GivesBack turn job reply e = absurd cc
+turned phase turn job reply e = absurd cc
 
 not_decided : {Lock Job Reply : Type 0} (phase : Phase Lock ℕ) (job : Job) → ◌≡◌ {A = Option (ℕ × Job × Reply)} None (outcome_in phase job None)
 not_decided (Operates own) job = refl
-not_decided (Requests lock) job = refl
-not_decided (Seizes lock expected) job = refl
-not_decided (Tests word) job = refl
-not_decided Turns job = refl
-not_decided (Withdraws lock) job = refl
-not_decided GivesBack job = refl
+not_decided phase job = refl
 
 pub before_turn : {Lock Job Reply : Type 0} (phase : Phase Lock ℕ) (job : Job) (reply : Option Reply) → None ≡ turn_in phase → ◌≡◌ {A = Option (ℕ × Job × Reply)} None (outcome_in phase job reply)
 before_turn (Operates own) job reply e = absurd cc
-before_turn (Requests lock) job reply e = refl
-before_turn (Seizes lock expected) job reply e = refl
-before_turn (Tests word) job reply e = refl
-before_turn Turns job reply e = refl
-before_turn (Withdraws lock) job reply e = refl
-before_turn GivesBack job reply e = refl
+before_turn phase job reply e = refl
 
 module _ {Lock Job Decision Point Reply : Type 0} (reply_of : Decision → Reply) (p now : Program Lock Job Decision Point) (inside : p ≡ now) where
   abbrev Outcome : Type 0

@@ -48,38 +48,22 @@ module _ (O : System) where
   pub held_off : (a : AttemptOf O) (phase : Phase Lock ℕ) (lock : Lock) (holder : ℕ) → Some lock ≡ asked_in phase → put_off a lock ≡ changed O a phase (Held holder)
   held_off a (Requests own) lock holder e = let same : lock ≡ own = cc in ap (put_off a) same
   held_off a (Seizes own expected) lock holder e = let same : lock ≡ own = cc in ap (put_off a) same
-  held_off a (Tests word) lock holder e = absurd cc
-  held_off a Turns lock holder e = absurd cc
-  held_off a (Withdraws own) lock holder e = absurd cc
-  held_off a GivesBack lock holder e = absurd cc
-  held_off a (Operates turn) lock holder e = absurd cc
+  held_off a phase lock holder e = absurd cc
 
   pub preferred_off : (a : AttemptOf O) (phase : Phase Lock ℕ) (lock : Lock) (other : ℕ) → Some lock ≡ asked_in phase → put_off a lock ≡ changed O a phase (Preferred other)
   preferred_off a (Requests own) lock other e = let same : lock ≡ own = cc in ap (put_off a) same
   preferred_off a (Seizes own expected) lock other e = let same : lock ≡ own = cc in ap (put_off a) same
-  preferred_off a (Tests word) lock other e = absurd cc
-  preferred_off a Turns lock other e = absurd cc
-  preferred_off a (Withdraws own) lock other e = absurd cc
-  preferred_off a GivesBack lock other e = absurd cc
-  preferred_off a (Operates turn) lock other e = absurd cc
+  preferred_off a phase lock other e = absurd cc
 
   pub held_stays : (a : AttemptOf O) (phase : Phase Lock ℕ) (holder : ℕ) → asked_in phase ≡ None → a ≡ changed O a phase (Held holder)
   held_stays a (Requests lock) holder e = absurd cc
   held_stays a (Seizes lock expected) holder e = absurd cc
-  held_stays a (Tests word) holder e = refl
-  held_stays a Turns holder e = refl
-  held_stays a (Withdraws lock) holder e = refl
-  held_stays a GivesBack holder e = refl
-  held_stays a (Operates turn) holder e = refl
+  held_stays a phase holder e = refl
 
   pub preferred_stays : (a : AttemptOf O) (phase : Phase Lock ℕ) (other : ℕ) → asked_in phase ≡ None → a ≡ changed O a phase (Preferred other)
   preferred_stays a (Requests lock) other e = absurd cc
   preferred_stays a (Seizes lock expected) other e = absurd cc
-  preferred_stays a (Tests word) other e = refl
-  preferred_stays a Turns other e = refl
-  preferred_stays a (Withdraws lock) other e = refl
-  preferred_stays a GivesBack other e = refl
-  preferred_stays a (Operates turn) other e = refl
+  preferred_stays a phase other e = refl
 
 module _ {Lock Job Reply Effect Decision : Type 0} (same : Lock → Lock → Bool) (reply_of : Decision → Reply) (effects_of : Decision → List Effect) (S : SystemWith Lock Job Reply Effect Decision) where
   abbrev O : System

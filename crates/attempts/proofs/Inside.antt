@@ -1,16 +1,16 @@
 -- an attempt from inside, as its methods have it, and from outside
-use Rattle.std.proofs.Common.{◌≡◌, ℕ, suc, arith, ne_eqb, ◌<◌, ◌+◌, ◌^◌, Bool, true, false, List, [], ◌∷◌, length, refl, sym, ◌∙◌, ap, subst, inl, inr}
-use Rattle.std.specs.Prelude.{◌⊎◌, ◌==◌, if◌then◌else◌, Option, Some, None, IfSome, slice_get}
-use Rattle.turns.specs.Attempt.{Act, Attempt, Free, Rest, act_in, answer_to, asked_in, closing_act, free_act, turn_in}
+use Rattle.std.proofs.Common.{◌≡◌, ℕ, suc, arith, ne_eqb, ◌<◌, ◌+◌, ◌^◌, Bool, true, false, List, [], ◌∷◌, length, refl, sym, ◌∙◌, ap, subst}
+use Rattle.std.specs.Prelude.{◌==◌, if◌then◌else◌, Option, Some, None, IfSome, slice_get}
+use Rattle.turns.specs.Attempt.{Act, Attempt, Free, Rest, act, act_in, answer_to, asked_in, closing_act, free_act, turn_in}
 use Rattle.turns.specs.Runs.{is_rest}
 use Rattle.turns.specs.declared.answer.Answer.{Answer}
 use Rattle.turns.specs.declared.answer.Answer.TheVariants.{Done}
 use Rattle.turns.specs.Outcomes.{is_given_up}
 use Rattle.turns.specs.declared.phase.Phase.{Phase}
-use Rattle.turns.specs.declared.phase.Phase.TheVariants.{Requests, Seizes, Tests, Turns, Withdraws, GivesBack, Operates}
+use Rattle.turns.specs.declared.phase.Phase.TheVariants.{Requests, Seizes, Withdraws, GivesBack, Operates}
 use Rattle.attempts.specs.Counting.{has_made_none}
 use Rattle.attempts.specs.Live.{Course}
-use Rattle.attempts.specs.Standing.{Program, begun_at, effects_left}
+use Rattle.attempts.specs.Standing.{Program, attempt_of, begun_at, effects_left}
 use Rattle.attempts.specs.Steps.{told_in}
 use Rattle.attempts.specs.SystemWith.{SystemWith, system_with}
 
@@ -45,37 +45,30 @@ is_new {Lock} {Job} {Decision} {Point} job point first course is = ap made is wh
 
 -- a phase that is no other's has no turn, and is no beginning
 pub no_turn : {Lock : Type 0} (phase : Phase Lock ℕ) → ((turn : ℕ) → phase ≡ Operates turn → ⊥) → None ≡ turn_in phase
-no_turn (Requests lock) not = refl
-no_turn (Seizes lock expected) not = refl
-no_turn (Tests word) not = refl
-no_turn Turns not = refl
-no_turn (Withdraws lock) not = refl
-no_turn GivesBack not = refl
 no_turn (Operates turn) not = absurd (not turn refl)
+no_turn phase not = refl
 
 pub has_begun : {Lock : Type 0} (phase : Phase Lock ℕ) (held : List Lock) → ((lock : Lock) → phase ≡ Requests lock → ⊥) → false ≡ has_made_none phase held
 has_begun (Requests lock) held not = absurd (not lock refl)
-has_begun (Seizes lock expected) held not = refl
-has_begun (Tests word) held not = refl
-has_begun Turns held not = refl
-has_begun (Withdraws lock) held not = refl
-has_begun GivesBack held not = refl
-has_begun (Operates turn) held not = refl
+has_begun phase held not = refl
 
--- nor does any other but these ask for a lock, or give one up
-pub asks_none : {Lock : Type 0} (phase : Phase Lock ℕ) → ((word : ℕ) × (phase ≡ Tests word)) ⊎ ((phase ≡ Turns) ⊎ (((lock : Lock) × (phase ≡ Withdraws lock)) ⊎ ((phase ≡ GivesBack) ⊎ ((turn : ℕ) × (phase ≡ Operates turn))))) → None ≡ asked_in phase
-asks_none phase (inl (word, e)) = ap asked_in (sym e)
-asks_none phase (inr (inl e)) = ap asked_in (sym e)
-asks_none phase (inr (inr (inl (lock, e)))) = ap asked_in (sym e)
-asks_none phase (inr (inr (inr (inl e)))) = ap asked_in (sym e)
-asks_none phase (inr (inr (inr (inr (turn, e))))) = ap asked_in (sym e)
+-- nor does it ask for a lock, or give one up, and there is a step to make
+pub asks_none : {Lock : Type 0} (phase : Phase Lock ℕ) → ((lock : Lock) → phase ≡ Requests lock → ⊥) → ((lock : Lock) (expected : ℕ) → phase ≡ Seizes lock expected → ⊥) → None ≡ asked_in phase
+asks_none (Requests lock) neither not = absurd (neither lock refl)
+asks_none (Seizes lock expected) neither not = absurd (not lock expected refl)
+asks_none phase neither not = refl
 
-pub goes_ahead : {Lock : Type 0} (phase : Phase Lock ℕ) → ((lock : Lock) × (phase ≡ Requests lock)) ⊎ (((lock : Lock) × (expected : ℕ) × (phase ≡ Seizes lock expected)) ⊎ (((word : ℕ) × (phase ≡ Tests word)) ⊎ ((phase ≡ Turns) ⊎ ((turn : ℕ) × (phase ≡ Operates turn))))) → false ≡ is_given_up phase
-goes_ahead phase (inl (lock, e)) = ap is_given_up (sym e)
-goes_ahead phase (inr (inl (lock, expected, e))) = ap is_given_up (sym e)
-goes_ahead phase (inr (inr (inl (word, e)))) = ap is_given_up (sym e)
-goes_ahead phase (inr (inr (inr (inl e)))) = ap is_given_up (sym e)
-goes_ahead phase (inr (inr (inr (inr (turn, e))))) = ap is_given_up (sym e)
+pub goes_ahead : {Lock : Type 0} (phase : Phase Lock ℕ) → ((lock : Lock) → phase ≡ Withdraws lock → ⊥) → (phase ≡ GivesBack → ⊥) → false ≡ is_given_up phase
+goes_ahead (Withdraws lock) neither not = absurd (neither lock refl)
+goes_ahead GivesBack neither not = absurd (not refl)
+goes_ahead phase neither not = refl
+
+pub is_busy : {Lock Job Reply Effect Decision Point : Type 0} (reply_of : Decision → Reply) (effects_of : Decision → List Effect) (p now : Program Lock Job Decision Point) → p ≡ now → (p.phase ≡ GivesBack → ⊥) → ((turn : ℕ) → p.phase ≡ Operates turn → ⊥) → false ≡ is_rest (act (attempt_of reply_of effects_of now))
+is_busy {Lock} reply_of effects_of p now inside neither not = at p.phase neither not ∙ ap (λ (x : Program _ _ _ _). is_rest (act (attempt_of reply_of effects_of x))) inside where
+  at : (phase : Phase Lock ℕ) → (phase ≡ GivesBack → ⊥) → ((turn : ℕ) → phase ≡ Operates turn → ⊥) → false ≡ is_rest (act_in phase (attempt_of reply_of effects_of p))
+  at GivesBack neither not = absurd (neither refl)
+  at (Operates turn) neither not = absurd (not turn refl)
+  at phase neither not = refl
 
 -- it has room from inside where it has it from outside
 pub has_room : {Lock Job Decision Point : Type 0} (p now : Program Lock Job Decision Point) (most : ℕ) → p ≡ now → length now.held < most → length p.held < most
@@ -125,10 +118,6 @@ module _ {Lock Job Reply Effect Decision : Type 0} (same : Lock → Lock → Boo
   closing_done (effect ∷ effects) held = refl
 
   pub told_by : (phase : Phase Lock ℕ) (a : Attempt Lock Job Reply Effect) → told_in phase k found ≡ answered (act_in phase a)
-  told_by (Requests lock) a = refl
-  told_by (Seizes lock expected) a = refl
-  told_by (Tests word) a = refl
-  told_by Turns a = refl
-  told_by (Withdraws lock) a = refl
   told_by GivesBack a = freeing_done a.held
   told_by (Operates turn) a = closing_done a.effects a.held
+  told_by phase a = refl

@@ -5,7 +5,7 @@ use Rattle.turns.specs.Attempt.{AttemptOf, seen_of}
 use Rattle.turns.specs.Seen.{Seen}
 use Rattle.turns.specs.System.{AreWords, System}
 use Rattle.turns.specs.declared.phase.Phase.{Phase}
-use Rattle.turns.specs.declared.phase.Phase.TheVariants.{Requests, Seizes, Tests, Turns, Withdraws, GivesBack, Operates}
+use Rattle.turns.specs.declared.phase.Phase.TheVariants.{Requests, Tests}
 use Rattle.turns.specs.declared.wanted.Wanted.{Wanted}
 use Rattle.turns.specs.declared.wanted.Wanted.TheVariants.{Seize, Test}
 use Rattle.turns.proofs.Preferring.{zero_unused}
@@ -24,21 +24,13 @@ use Rattle.attempts.proofs.Taken.{went, went_count, went_point}
 knows_next : {Lock Job Reply Effect Decision Point : Type 0} (reply_of : Decision → Reply) (effects_of : Decision → List Effect) (Knows : Job → Point → Seen Lock → Type 0) (p : Program Lock Job Decision Point) (phase : Phase Lock ℕ) → WantsNext phase → KnowsIn Knows (attempt_of reply_of effects_of p) p.point phase → Knows p.job p.point (seen_of (attempt_of reply_of effects_of p))
 knows_next reply_of effects_of Knows p (Requests lock) wants knows = knows
 knows_next reply_of effects_of Knows p (Tests word) wants knows = knows
-knows_next reply_of effects_of Knows p (Seizes lock expected) wants knows = absurd wants
-knows_next reply_of effects_of Knows p Turns wants knows = absurd wants
-knows_next reply_of effects_of Knows p (Withdraws lock) wants knows = absurd wants
-knows_next reply_of effects_of Knows p GivesBack wants knows = absurd wants
-knows_next reply_of effects_of Knows p (Operates turn) wants knows = absurd wants
+knows_next reply_of effects_of Knows p phase wants knows = absurd wants
 
 -- where something was wanted to begin with, it goes as far as it can
 goes_far : {Lock : Type 0} (lock_word : Lock → ℕ) (words : List ℕ) (most made : ℕ) (old new : Phase Lock ℕ) → WantsNext old → GoesNoFurther lock_word words (most - made) new → GoesFarEnough lock_word words most made old new
 goes_far lock_word words most made (Requests lock) new wants ends = ends
 goes_far lock_word words most made (Tests word) new wants ends = ends
-goes_far lock_word words most made (Seizes lock expected) new wants ends = absurd wants
-goes_far lock_word words most made Turns new wants ends = absurd wants
-goes_far lock_word words most made (Withdraws lock) new wants ends = absurd wants
-goes_far lock_word words most made GivesBack new wants ends = absurd wants
-goes_far lock_word words most made (Operates turn) new wants ends = absurd wants
+goes_far lock_word words most made phase new wants ends = absurd wants
 
 module _ {Lock Job Reply Effect Decision Point : Type 0} (same : Lock → Lock → Bool) (reply_of : Decision → Reply) (effects_of : Decision → List Effect) (S : SystemWith Lock Job Reply Effect Decision) (Knows : Job → Point → Seen Lock → Type 0) (reads seizes : ℕ) (are : AreScripts same reply_of effects_of S Knows reads seizes) (k : ℕ) (few : k < 48) where
   abbrev O : System
@@ -141,14 +133,12 @@ pub made_none : (O : System) (k : ℕ) (m : Moment O) → LeadsTo O k 0 m m
 unfolding LeadsTo
 made_none O k m = refl
 
-pub goes_nowhere : {Lock Job Decision Point : Type 0} (lock_word : Lock → ℕ) (words : List ℕ) (most : ℕ) (p now : Program Lock Job Decision Point) → p ≡ now → ((lock : Lock) × (expected : ℕ) × (p.phase ≡ Seizes lock expected)) ⊎ ((p.phase ≡ Turns) ⊎ (((lock : Lock) × (p.phase ≡ Withdraws lock)) ⊎ ((p.phase ≡ GivesBack) ⊎ ((turn : ℕ) × (p.phase ≡ Operates turn))))) → GoesFarEnough lock_word words most 0 now.phase now.phase
-goes_nowhere {Lock} {Job} {Decision} {Point} lock_word words most p now inside is = subst (λ (x : Program Lock Job Decision Point). GoesFarEnough lock_word words most 0 x.phase x.phase) inside (at p.phase is) where
-  at : (phase : Phase Lock ℕ) → ((lock : Lock) × (expected : ℕ) × (phase ≡ Seizes lock expected)) ⊎ ((phase ≡ Turns) ⊎ (((lock : Lock) × (phase ≡ Withdraws lock)) ⊎ ((phase ≡ GivesBack) ⊎ ((turn : ℕ) × (phase ≡ Operates turn))))) → GoesFarEnough lock_word words most 0 phase phase
-  at phase (inl (lock, expected, e)) = subst (λ (x : Phase Lock ℕ). GoesFarEnough lock_word words most 0 x x) (sym e) refl
-  at phase (inr (inl e)) = subst (λ (x : Phase Lock ℕ). GoesFarEnough lock_word words most 0 x x) (sym e) refl
-  at phase (inr (inr (inl (lock, e)))) = subst (λ (x : Phase Lock ℕ). GoesFarEnough lock_word words most 0 x x) (sym e) refl
-  at phase (inr (inr (inr (inl e)))) = subst (λ (x : Phase Lock ℕ). GoesFarEnough lock_word words most 0 x x) (sym e) refl
-  at phase (inr (inr (inr (inr (turn, e))))) = subst (λ (x : Phase Lock ℕ). GoesFarEnough lock_word words most 0 x x) (sym e) refl
+pub goes_nowhere : {Lock Job Decision Point : Type 0} (lock_word : Lock → ℕ) (words : List ℕ) (most : ℕ) (p now : Program Lock Job Decision Point) → p ≡ now → ((lock : Lock) → p.phase ≡ Requests lock → ⊥) → ((word : ℕ) → p.phase ≡ Tests word → ⊥) → GoesFarEnough lock_word words most 0 now.phase now.phase
+goes_nowhere {Lock} lock_word words most p now inside neither not = subst (λ (x : Program _ _ _ _). GoesFarEnough lock_word words most 0 x.phase x.phase) inside (at p.phase neither not) where
+  at : (phase : Phase Lock ℕ) → ((lock : Lock) → phase ≡ Requests lock → ⊥) → ((word : ℕ) → phase ≡ Tests word → ⊥) → GoesFarEnough lock_word words most 0 phase phase
+  at (Requests lock) neither not = absurd (neither lock refl)
+  at (Tests word) neither not = absurd (not word refl)
+  at phase neither not = refl
 
 pub wants_lock_or_word : {Lock Job Decision Point : Type 0} (p now : Program Lock Job Decision Point) → p ≡ now → ((lock : Lock) × (p.phase ≡ Requests lock)) ⊎ ((word : ℕ) × (p.phase ≡ Tests word)) → WantsNext now.phase
 wants_lock_or_word p now inside (inl (lock, e)) = subst (λ (x : Program _ _ _ _). WantsNext x.phase) inside (subst (λ (phase : Phase _ ℕ). WantsNext phase) (sym e) tt)

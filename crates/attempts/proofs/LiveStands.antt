@@ -1,14 +1,14 @@
 -- attempts that make steps by their walks stand where their jobs bring them
 use Rattle.std.proofs.Common.{◌≡◌, ℕ, zero, suc, ◌+◌, ◌<◌, ◌^◌, List, refl, sym, ◌∙◌, ap, subst, true}
-use Rattle.turns.specs.Attempt.{Act, Ask, AttemptOf, Free, IsAnswerTo, Leave, Look, Make, Rest, StandsIn, Take, Turn, act, come_to, goes_on, seen_of}
+use Rattle.turns.specs.Attempt.{Act, AttemptOf, IsAnswerTo, Look, StandsIn, act, come_to, goes_on, seen_of}
 use Rattle.turns.specs.Script.{AsksAtMost, walk}
 use Rattle.turns.specs.Sharing.{IsUnused}
 use Rattle.turns.specs.System.{AreWords, IsSystem, System}
 use Rattle.turns.specs.declared.answer.Answer.{Answer}
-use Rattle.turns.specs.declared.answer.Answer.TheVariants.{Asked, Seized, Held, Preferred, Again, Value, Done}
+use Rattle.turns.specs.declared.answer.Answer.TheVariants.{Value}
 use Rattle.turns.specs.declared.answer.Answer.TheVariants as answer
 use Rattle.turns.specs.declared.phase.Phase.{Phase}
-use Rattle.turns.specs.declared.phase.Phase.TheVariants.{Requests, Seizes, Tests, Turns, Withdraws, GivesBack, Operates}
+use Rattle.turns.specs.declared.phase.Phase.TheVariants.{Requests, Tests}
 use Rattle.attempts.specs.Standing.{HasPlace}
 use Rattle.attempts.proofs.Places.{FitsValue, place_change}
 use Rattle.attempts.specs.Live.{Course, Comes, IsMade, LeadsTo, Moment, gone_on_by, live, stepped, told, WantsNext}
@@ -19,21 +19,9 @@ module _ (O : System) (is : IsSystem O) (R H : ℕ) (asks : (job : O.Job) → O.
 
   -- a value that is told of a test fits a word
   answer_fits : (step : Act Lock O.Effect) (told : Answer) → IsAnswerTo step told → FitsValue told
-  answer_fits step (Asked word) is = tt
-  answer_fits step Seized is = tt
-  answer_fits step (Held holder) is = tt
-  answer_fits step (Preferred other) is = tt
-  answer_fits step (Again word) is = tt
-  answer_fits step (answer.Turn number) is = tt
-  answer_fits step Done is = tt
   answer_fits (Look word) (Value value) is = is
-  answer_fits Rest (Value value) is = absurd is
-  answer_fits (Ask lock) (Value value) is = absurd is
-  answer_fits (Take lock expected) (Value value) is = absurd is
-  answer_fits (Leave lock) (Value value) is = absurd is
-  answer_fits (Free lock) (Value value) is = absurd is
-  answer_fits Turn (Value value) is = absurd is
-  answer_fits (Make effect) (Value value) is = absurd is
+  answer_fits step (Value value) is = absurd is
+  answer_fits step told is = tt
 
   -- after such steps an attempt stands, with room for what it will come by
   pub leads_place : (k count : ℕ) (m last : Moment O) → LeadsTo O k count m last → HasPlace O R H m.attempt → HasPlace O R H last.attempt
@@ -46,11 +34,7 @@ module _ (O : System) (is : IsSystem O) (R H : ℕ) (asks : (job : O.Job) → O.
   stands_at : (a : AttemptOf O) (phase : Phase Lock ℕ) → a.phase ≡ phase → WantsNext phase → StandsIn O a phase → goes_on O a (come_to O a) ≡ a
   stands_at a (Requests lock) e wants stands = ap (goes_on O a) stands ∙ ap (λ (p : Phase Lock ℕ). record a { phase = p }) (sym e)
   stands_at a (Tests word) e wants stands = ap (goes_on O a) stands ∙ ap (λ (p : Phase Lock ℕ). record a { phase = p }) (sym e)
-  stands_at a (Seizes lock expected) e wants stands = absurd wants
-  stands_at a Turns e wants stands = absurd wants
-  stands_at a (Withdraws lock) e wants stands = absurd wants
-  stands_at a GivesBack e wants stands = absurd wants
-  stands_at a (Operates turn) e wants stands = absurd wants
+  stands_at a phase e wants stands = absurd wants
 
   pub self : (lock : Lock) → O.same lock lock ≡ true
   self lock = (is.same lock lock).1 refl

@@ -36,13 +36,10 @@ none_read = λ r none. absurd none
 
 -- of what was read what counts fits its words too
 read_still : {Lock : Type 0} (phase : Phase Lock ℕ) (readings : List (Reading ℕ)) → AreReadWords readings → AreReadWords (read_in phase readings)
-read_still (Requests lock) readings read = read
-read_still (Seizes lock expected) readings read = read
-read_still (Tests word) readings read = read
-read_still Turns readings read = read
 read_still (Withdraws lock) readings read = none_read
 read_still GivesBack readings read = none_read
 read_still (Operates turn) readings read = none_read
+read_still phase readings read = read
 
 module _ (O : System) (is : IsSystem O) (most_readings most_held : ℕ) (asks : (job : O.Job) → O.IsJob job → AsksAtMost most_readings most_held (O.script job)) where
   open O use {Lock, Job, Effect, Decision}
@@ -118,9 +115,9 @@ module _ (O : System) (is : IsSystem O) (most_readings most_held : ℕ) (asks : 
   room_changed a (Seizes lock expected) Seized fits right read at all stands room =
       let more : AttemptOf O = record a { held = a.held ++ lock ∷ [] } in
       room_on more (come_to O more) (room_seized a lock read stands room).room
+  room_changed a (Seizes lock expected) (Again told) fits right read at all stands room = room
   room_changed a (Seizes lock expected) (Held holder) fits right read at all stands room = tt
   room_changed a (Seizes lock expected) (Preferred other) fits right read at all stands room = tt
-  room_changed a (Seizes lock expected) (Again told) fits right read at all stands room = room
   room_changed a (Tests word) (Value value) fits right read at all stands room =
       let more : AttemptOf O = record a { readings = a.readings ++ record { word = word; value = value } ∷ [] } in
       room_on more (come_to O more) (room_read a (record { word = word; value = value }) read fits stands room).room
@@ -132,13 +129,11 @@ module _ (O : System) (is : IsSystem O) (most_readings most_held : ℕ) (asks : 
 
   -- and so has one that restarts
   room_restarted : (a : AttemptOf O) (phase : Phase Lock ℕ) → O.IsJob a.job → RoomIn a a.phase → RoomIn (restarted_in O phase a) (restarted_in O phase a).phase
-  room_restarted a (Requests lock) right all = room_freed (forgotten a) a.held right
   room_restarted a (Seizes lock expected) right all = tt
-  room_restarted a (Tests word) right all = room_freed (forgotten a) a.held right
-  room_restarted a Turns right all = room_freed (forgotten a) a.held right
   room_restarted a (Withdraws lock) right all = all
   room_restarted a GivesBack right all = all
   room_restarted a (Operates turn) right all = all
+  room_restarted a phase right all = room_freed (forgotten a) a.held right
 
   -- whatever its phase: it holds locks of the system, its readings fit words, and its effects are on words that there are
   pub record Keeps (a : AttemptOf O) : Type 0 where
@@ -200,9 +195,9 @@ module _ (O : System) (is : IsSystem O) (most_readings most_held : ℕ) (asks : 
   keeps_changed a (Seizes lock expected) Seized fits right stands keeps =
       let more : AttemptOf O = record a { held = a.held ++ lock ∷ [] } in
       keeps_on more (come_to O more) right refl (keeps_seized a lock (wanted_lock O is a lock right keeps.read stands) keeps)
+  keeps_changed a (Seizes lock expected) (Again word) fits right stands keeps = keeps_in a (Seizes lock word) keeps
   keeps_changed a (Seizes lock expected) (Held holder) fits right stands keeps = keeps_in (forgotten a) (Withdraws lock) (keeps_put_off a keeps)
   keeps_changed a (Seizes lock expected) (Preferred other) fits right stands keeps = keeps_in (forgotten a) (Withdraws lock) (keeps_put_off a keeps)
-  keeps_changed a (Seizes lock expected) (Again word) fits right stands keeps = keeps_in a (Seizes lock word) keeps
   keeps_changed a (Tests word) (Value value) fits right stands keeps =
       let reading : Reading ℕ = record { word = word; value = value } in
       let more : AttemptOf O = record a { readings = a.readings ++ reading ∷ [] } in
@@ -217,13 +212,11 @@ module _ (O : System) (is : IsSystem O) (most_readings most_held : ℕ) (asks : 
   keeps_given_up a keeps = keeps_freed (forgotten a) a.held keeps.held none_read (λ effect none. absurd none)
 
   keeps_restarted : (a : AttemptOf O) (phase : Phase Lock ℕ) → Keeps a → Keeps (restarted_in O phase a)
-  keeps_restarted a (Requests lock) keeps = keeps_given_up a keeps
   keeps_restarted a (Seizes lock expected) keeps = keeps_in (forgotten a) (Withdraws lock) (keeps_put_off a keeps)
-  keeps_restarted a (Tests word) keeps = keeps_given_up a keeps
-  keeps_restarted a Turns keeps = keeps_given_up a keeps
   keeps_restarted a (Withdraws lock) keeps = keeps
   keeps_restarted a GivesBack keeps = keeps
   keeps_restarted a (Operates turn) keeps = keeps
+  keeps_restarted a phase keeps = keeps_given_up a keeps
 
   -- its job stays
   job_freed : (a : AttemptOf O) (held : List Lock) → (freed O a held).job ≡ a.job
@@ -232,12 +225,9 @@ module _ (O : System) (is : IsSystem O) (most_readings most_held : ℕ) (asks : 
 
   job_restarted : (a : AttemptOf O) (phase : Phase Lock ℕ) → (restarted_in O phase a).job ≡ a.job
   job_restarted a (Requests lock) = job_freed (forgotten a) a.held
-  job_restarted a (Seizes lock expected) = refl
   job_restarted a (Tests word) = job_freed (forgotten a) a.held
   job_restarted a Turns = job_freed (forgotten a) a.held
-  job_restarted a (Withdraws lock) = refl
-  job_restarted a GivesBack = refl
-  job_restarted a (Operates turn) = refl
+  job_restarted a phase = refl
 
   abbrev Placed : AttemptOf O → Type 0
   Placed a = HasPlace O most_readings most_held a

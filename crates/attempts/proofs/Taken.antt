@@ -1,5 +1,5 @@
 -- what attempts make of answers, as the code has it
-use Rattle.std.proofs.Common.{◌≡◌, ℕ, Bool, List, [], ◌∷◌, ◌++◌, ◌+◌, ◌⊎◌, inl, inr, refl, sym, ◌∙◌, ap, subst}
+use Rattle.std.proofs.Common.{◌≡◌, ℕ, Bool, List, [], ◌∷◌, ◌++◌, ◌+◌, refl, sym, ◌∙◌, ap, subst}
 use Rattle.std.specs.Prelude.{Some, None, Result, Ok, Err}
 use Rattle.turns.specs.Attempt.{AttemptOf, asked_in, changed, goes_on, operated, rest_of, seen_of, walks_on}
 use Rattle.turns.specs.Script.{walk}
@@ -22,64 +22,35 @@ use Rattle.attempts.proofs.Giving.{held_off, held_stays, preferred_off, preferre
 use Rattle.attempts.proofs.Inside.{phase_now}
 use Rattle.attempts.proofs.LiveWalks.{walk_none}
 
--- a phase before its turn is taken and what it holds is given back
-abbrev IsEarly : {Lock : Type 0} → Phase Lock ℕ → Type 0
-IsEarly {Lock} phase = ((lock : Lock) × (phase ≡ Requests lock)) ⊎ (((lock : Lock) × (expected : ℕ) × (phase ≡ Seizes lock expected)) ⊎ (((word : ℕ) × (phase ≡ Tests word)) ⊎ (phase ≡ Turns)))
-
 -- an answer that does not come in a phase changes nothing
 module _ (O : System) where
   open O use {Lock}
 
   idle_asked : (a : AttemptOf O) (phase : Phase Lock ℕ) (word : ℕ) → ((lock : Lock) → phase ≡ Requests lock → ⊥) → a ≡ changed O a phase (Asked word)
   idle_asked a (Requests lock) word not = absurd (not lock refl)
-  idle_asked a (Seizes lock expected) word not = refl
-  idle_asked a (Tests other) word not = refl
-  idle_asked a Turns word not = refl
-  idle_asked a (Withdraws lock) word not = refl
-  idle_asked a GivesBack word not = refl
-  idle_asked a (Operates turn) word not = refl
+  idle_asked a phase word not = refl
 
   idle_again : (a : AttemptOf O) (phase : Phase Lock ℕ) (word : ℕ) → ((lock : Lock) (expected : ℕ) → phase ≡ Seizes lock expected → ⊥) → a ≡ changed O a phase (Again word)
-  idle_again a (Requests lock) word not = refl
   idle_again a (Seizes lock expected) word not = absurd (not lock expected refl)
-  idle_again a (Tests other) word not = refl
-  idle_again a Turns word not = refl
-  idle_again a (Withdraws lock) word not = refl
-  idle_again a GivesBack word not = refl
-  idle_again a (Operates turn) word not = refl
+  idle_again a phase word not = refl
 
   idle_seized : (a : AttemptOf O) (phase : Phase Lock ℕ) → ((lock : Lock) (expected : ℕ) → phase ≡ Seizes lock expected → ⊥) → a ≡ changed O a phase Seized
-  idle_seized a (Requests lock) not = refl
   idle_seized a (Seizes lock expected) not = absurd (not lock expected refl)
-  idle_seized a (Tests word) not = refl
-  idle_seized a Turns not = refl
-  idle_seized a (Withdraws lock) not = refl
-  idle_seized a GivesBack not = refl
-  idle_seized a (Operates turn) not = refl
+  idle_seized a phase not = refl
 
   idle_value : (a : AttemptOf O) (phase : Phase Lock ℕ) (value : ℕ) → ((word : ℕ) → phase ≡ Tests word → ⊥) → a ≡ changed O a phase (Value value)
-  idle_value a (Requests lock) value not = refl
-  idle_value a (Seizes lock expected) value not = refl
   idle_value a (Tests word) value not = absurd (not word refl)
-  idle_value a Turns value not = refl
-  idle_value a (Withdraws lock) value not = refl
-  idle_value a GivesBack value not = refl
-  idle_value a (Operates turn) value not = refl
+  idle_value a phase value not = refl
 
   idle_turn : (a : AttemptOf O) (phase : Phase Lock ℕ) (number : ℕ) → (phase ≡ Turns → ⊥) → a ≡ changed O a phase (Turn number)
-  idle_turn a (Requests lock) number not = refl
-  idle_turn a (Seizes lock expected) number not = refl
-  idle_turn a (Tests word) number not = refl
   idle_turn a Turns number not = absurd (not refl)
-  idle_turn a (Withdraws lock) number not = refl
-  idle_turn a GivesBack number not = refl
-  idle_turn a (Operates turn) number not = refl
+  idle_turn a phase number not = refl
 
-  idle_done : (a : AttemptOf O) (phase : Phase Lock ℕ) → IsEarly phase → a ≡ changed O a phase Done
-  idle_done a phase (inl (lock, e)) = ap (λ (at : Phase Lock ℕ). changed O a at Done) (sym e)
-  idle_done a phase (inr (inl (lock, expected, e))) = ap (λ (at : Phase Lock ℕ). changed O a at Done) (sym e)
-  idle_done a phase (inr (inr (inl (word, e)))) = ap (λ (at : Phase Lock ℕ). changed O a at Done) (sym e)
-  idle_done a phase (inr (inr (inr e))) = ap (λ (at : Phase Lock ℕ). changed O a at Done) (sym e)
+  idle_done : (a : AttemptOf O) (phase : Phase Lock ℕ) → ((lock : Lock) → phase ≡ Withdraws lock → ⊥) → (phase ≡ GivesBack → ⊥) → ((turn : ℕ) → phase ≡ Operates turn → ⊥) → a ≡ changed O a phase Done
+  idle_done a (Withdraws lock) withdraws gives_back operates = absurd (withdraws lock refl)
+  idle_done a GivesBack withdraws gives_back operates = absurd (gives_back refl)
+  idle_done a (Operates turn) withdraws gives_back operates = absurd (operates turn refl)
+  idle_done a phase withdraws gives_back operates = refl
 
 -- an effect is made, or the first lock is freed
 module _ {Lock Job Reply Effect Decision Point : Type 0} (reply_of : Decision → Reply) (effects_of : Decision → List Effect) where
@@ -159,8 +130,8 @@ module _ {Lock Job Reply Effect Decision Point : Type 0} (same : Lock → Lock �
     pub not_turned : (number : ℕ) → (p.phase ≡ Turns → ⊥) → Took (Turn number) now now
     not_turned number not = idle now (Turn number) tt point (idle_turn O (outside now) now.phase number (λ e. not (phases ∙ e)))
 
-    pub not_done : IsEarly p.phase → Took Done now now
-    not_done early = idle now Done tt point (idle_done O (outside now) now.phase (subst IsEarly phases early))
+    pub not_done : ((lock : Lock) → p.phase ≡ Withdraws lock → ⊥) → (p.phase ≡ GivesBack → ⊥) → ((turn : ℕ) → p.phase ≡ Operates turn → ⊥) → Took Done now now
+    not_done withdraws gives_back operates = idle now Done tt point (idle_done O (outside now) now.phase (λ lock e. withdraws lock (phases ∙ e)) (λ e. gives_back (phases ∙ e)) (λ turn e. operates turn (phases ∙ e)))
 
   -- put off, or nothing to put off
   module _ (now : Doing) where

@@ -3,7 +3,7 @@ use Rattle.turns.specs.Attempt.{Attempt, begin, change}
 use Rattle.turns.specs.System.{System}
 use Rattle.turns.specs.declared.answer.Answer.{Answer}
 use Rattle.turns.specs.declared.phase.Phase.{Phase}
-use Rattle.turns.specs.declared.phase.Phase.TheVariants.{Requests, Seizes, Tests, Turns, Withdraws, GivesBack, Operates}
+use Rattle.turns.specs.declared.phase.Phase.TheVariants.{Requests}
 
 -- one step more is counted, as far as 32 bits count
 abbrev pub counted : ℕ → ℕ
@@ -16,12 +16,7 @@ counted_by made count = min (count + made) (2 ^ 32 - 1)
 -- what is to request a lock while it holds none has made no step
 abbrev pub has_made_none : {Lock : Type 0} → Phase Lock ℕ → List Lock → Bool
 has_made_none (Requests lock) held = length held == 0
-has_made_none (Seizes lock expected) held = false
-has_made_none (Tests word) held = false
-has_made_none Turns held = false
-has_made_none (Withdraws lock) held = false
-has_made_none GivesBack held = false
-has_made_none (Operates turn) held = false
+has_made_none phase held = false
 
 -- what begins anew counts from 0
 abbrev pub count_in : {Lock : Type 0} → Phase Lock ℕ → List Lock → ℕ → ℕ

@@ -5,5 +5,6 @@ pub mod Taken
 pub mod Steps
 pub mod Counting
 pub mod Live
+pub mod Of
 pub mod Marks
 pub mod Running

@@ -7,7 +7,7 @@ use Rattle.turns.specs.System.{System}
 use Rattle.turns.specs.World.{becomes, place}
 use Rattle.turns.specs.declared.answer.Answer.{Answer}
 use Rattle.turns.specs.declared.phase.Phase.{Phase}
-use Rattle.turns.specs.declared.phase.Phase.TheVariants.{Requests, Seizes, Tests, Turns, Withdraws, GivesBack, Operates}
+use Rattle.turns.specs.declared.phase.Phase.TheVariants.{Requests, Tests}
 use Rattle.turns.specs.declared.wanted.Wanted.{Wanted}
 use Rattle.turns.specs.declared.wanted.Wanted.TheVariants.{Seize, Test}
 
@@ -66,11 +66,7 @@ may_seize (suc (suc left)) (suc room) word = is_free word
 abbrev pub WantsNext : {Lock : Type 0} → Phase Lock ℕ → Type 0
 WantsNext (Requests lock) = ⊤
 WantsNext (Tests word) = ⊤
-WantsNext (Seizes lock expected) = ⊥
-WantsNext Turns = ⊥
-WantsNext (Withdraws lock) = ⊥
-WantsNext GivesBack = ⊥
-WantsNext (Operates turn) = ⊥
+WantsNext phase = ⊥
 
 module _ {Lock : Type 0} (same : Lock → Lock → Bool) (lock_word : Lock → ℕ) (reads seizes : ℕ)
     (change : ℕ → ℕ → ℕ) where

@@ -2,7 +2,7 @@
 use Rattle.std.specs.Prelude.{◌≡◌, ◌<◌, ◌≤◌, ◌-◌, ◌⊎◌, ℕ, Bool, false, None, List, Result, slice_get, ⊤}
 use Rattle.turns.specs.Seen.{Seen}
 use Rattle.turns.specs.declared.phase.Phase.{Phase}
-use Rattle.turns.specs.declared.phase.Phase.TheVariants.{Requests, Seizes, Tests, Turns, Withdraws, GivesBack, Operates}
+use Rattle.turns.specs.declared.phase.Phase.TheVariants.{Requests, Tests, Turns}
 use Rattle.turns.specs.declared.wanted.Wanted.{Wanted}
 use Rattle.attempts.specs.Live.{LeadsTo, Moment, is_free, live}
 use Rattle.attempts.specs.Standing.{Program, Stands, attempt_of}
@@ -16,21 +16,14 @@ module _ {Lock : Type 0} (lock_word : Lock → ℕ) (words : List ℕ) where
       (left < 2) ⊎ (is_free (slice_get words (lock_word lock)) ≡ false)
   GoesNoFurther left (Tests word) = (left ≡ 0) ⊎ (slice_get words word ≡ None)
   GoesNoFurther left Turns = ⊤
-  GoesNoFurther left (Seizes lock expected) = ⊥
-  GoesNoFurther left (Withdraws lock) = ⊥
-  GoesNoFurther left GivesBack = ⊥
-  GoesNoFurther left (Operates turn) = ⊥
+  GoesNoFurther left phase = ⊥
 
   -- where it wants a lock or a word next it goes on as far as it can,
   -- and elsewhere it makes no step
   abbrev pub GoesFarEnough : ℕ → ℕ → Phase Lock ℕ → Phase Lock ℕ → Type 0
   GoesFarEnough most made (Requests lock) new = GoesNoFurther (most - made) new
   GoesFarEnough most made (Tests word) new = GoesNoFurther (most - made) new
-  GoesFarEnough most made (Seizes lock expected) new = made ≡ 0
-  GoesFarEnough most made Turns new = made ≡ 0
-  GoesFarEnough most made (Withdraws lock) new = made ≡ 0
-  GoesFarEnough most made GivesBack new = made ≡ 0
-  GoesFarEnough most made (Operates turn) new = made ≡ 0
+  GoesFarEnough most made phase new = made ≡ 0
 
 module _ {Lock Job Reply Effect Decision Point : Type 0} (same : Lock → Lock → Bool)
     (reply_of : Decision → Reply) (effects_of : Decision → List Effect)

@@ -5,7 +5,7 @@ use Rattle.turns.specs.Script.{AsksAtMost, left}
 use Rattle.turns.specs.Seen.{Seen, AreReadWords}
 use Rattle.turns.specs.System.{System, IsSystem}
 use Rattle.turns.specs.declared.phase.Phase.{Phase}
-use Rattle.turns.specs.declared.phase.Phase.TheVariants.{Requests, Seizes, Tests, Turns, Withdraws, GivesBack, Operates}
+use Rattle.turns.specs.declared.phase.Phase.TheVariants.{Requests, Seizes, Tests}
 use Rattle.turns.specs.declared.reading.Reading.{Reading}
 use Rattle.turns.specs.declared.wanted.Wanted.{Wanted}
 use Rattle.turns.specs.declared.wanted.Wanted.TheVariants.{Seize, Test}
@@ -78,10 +78,7 @@ module _ (O : System) (most_readings most_held : ℕ) where
   HasRoomIn a (Requests lock) = HasRoom a
   HasRoomIn a (Seizes lock expected) = HasRoom a
   HasRoomIn a (Tests word) = HasRoom a
-  HasRoomIn a Turns = ⊤
-  HasRoomIn a (Withdraws lock) = ⊤
-  HasRoomIn a GivesBack = ⊤
-  HasRoomIn a (Operates turn) = ⊤
+  HasRoomIn a phase = ⊤
 
   abbrev pub AreLocks : List Lock → Type 0
   AreLocks held = (lock : Lock) → IsIn lock held → O.IsLock lock
@@ -105,10 +102,7 @@ abbrev pub KnowsIn : {Lock Job Reply Effect Point : Type 0} → (Job → Point �
 KnowsIn Knows a point (Requests lock) = Knows a.job point (generic.seen_of a)
 KnowsIn Knows a point (Seizes lock expected) = Knows a.job point (generic.seen_of a)
 KnowsIn Knows a point (Tests word) = Knows a.job point (generic.seen_of a)
-KnowsIn Knows a point Turns = ⊤
-KnowsIn Knows a point (Withdraws lock) = ⊤
-KnowsIn Knows a point GivesBack = ⊤
-KnowsIn Knows a point (Operates turn) = ⊤
+KnowsIn Knows a point phase = ⊤
 
 module _ {Lock Job Reply Effect Decision Point : Type 0} (same : Lock → Lock → Bool)
     (reply_of : Decision → Reply) (effects_of : Decision → List Effect)

@@ -3,7 +3,7 @@ use Rattle.turns.specs.Attempt as turns
 use Rattle.turns.specs.Script.{value_read, walk}
 use Rattle.turns.specs.Seen.{AreReadWords, Seen}
 use Rattle.turns.specs.declared.answer.Answer.{Answer}
-use Rattle.turns.specs.declared.answer.Answer.TheVariants.{Asked, Seized, Held, Preferred, Again, Value, Turn, Done}
+use Rattle.turns.specs.declared.answer.Answer.TheVariants.{Value}
 use Rattle.turns.specs.declared.phase.Phase.{Phase}
 use Rattle.turns.specs.declared.phase.Phase.TheVariants.{Seizes, Tests, Turns}
 use Rattle.turns.specs.declared.reading.Reading.{Reading}
@@ -14,14 +14,8 @@ use Rattle.attempts.specs.SystemWith.{SystemWith, system_with}
 
 -- a value that was tested fits a word
 abbrev pub FitsValue : Answer → Type 0
-FitsValue (Asked word) = ⊤
-FitsValue Seized = ⊤
-FitsValue (Held holder) = ⊤
-FitsValue (Preferred other) = ⊤
-FitsValue (Again word) = ⊤
 FitsValue (Value value) = value < 2 ^ 64
-FitsValue (Turn number) = ⊤
-FitsValue Done = ⊤
+FitsValue answer = ⊤
 
 -- the lock is seized next, whatever its word is expected to be
 abbrev pub SeizesLock : {Lock : Type 0} → Phase Lock ℕ → Lock → Type 0

@@ -172,11 +172,7 @@ impl<
         match phase {
             Phase::Requests(lock) => Some(lock),
             Phase::Seizes(lock, _) => Some(lock),
-            Phase::Tests(_)
-            | Phase::Turns
-            | Phase::Withdraws(_)
-            | Phase::GivesBack
-            | Phase::Operates(_) => None,
+            _ => None,
         }
     }
 
@@ -190,11 +186,7 @@ impl<
         match phase {
             Phase::Requests(lock) => Some(Wanted::Seize(lock)),
             Phase::Tests(word) => Some(Wanted::Test(word)),
-            Phase::Seizes(_, _)
-            | Phase::Turns
-            | Phase::Withdraws(_)
-            | Phase::GivesBack
-            | Phase::Operates(_) => None,
+            _ => None,
         }
     }
 
@@ -354,11 +346,7 @@ impl<
         match phase {
             Phase::Withdraws(_) => true,
             Phase::GivesBack => true,
-            Phase::Requests(_)
-            | Phase::Seizes(_, _)
-            | Phase::Tests(_)
-            | Phase::Turns
-            | Phase::Operates(_) => false,
+            _ => false,
         }
     }
 

@@ -3,7 +3,7 @@
 ghost use Rattle.std.specs.Prelude.{◌≡◌};
 ghost use Rattle.turns.specs.Attempt.{operated};
 ghost use Rattle.attempts.specs.Counting.{counted_by};
-ghost use Rattle.attempts.specs.Standing.{attempt_of};
+ghost use Rattle.attempts.specs.Of.{attempt_of};
 
 use crate::attempt::AttemptOf;
 use crate::scripts::Scripts;
@@ -14,9 +14,8 @@ use crate::taking::operate;
 pub fn take_close<S: Scripts<READINGS, HELD>, const READINGS: usize, const HELD: usize>(
     program: &mut AttemptOf<S, READINGS, HELD>,
 )
-    ensures operates { attempt_of S.reply_of S.effects_of program.new
-        ≡ operated (attempt_of S.reply_of S.effects_of program.old)
-        (attempt_of S.reply_of S.effects_of program.old).effects }
+    ensures operates { attempt_of S.Scripts program.new
+        ≡ operated (attempt_of S.Scripts program.old) (attempt_of S.Scripts program.old).effects }
     ensures phase { program.new.phase ≡ program.old.phase }
     ensures count { program.new.count ≡ counted_by 1 program.old.count }
 {

@@ -5,8 +5,7 @@ ghost use Rattle.turns.specs.Attempt.{begin};
 ghost use Rattle.turns.specs.Bounds.{AreSteady, EndsIn};
 ghost use Rattle.turns.specs.declared.answer.Answer.{Answer};
 ghost use Rattle.attempts.specs.Counting.{after_answers, fresh};
-ghost use Rattle.attempts.specs.Standing.{AreScripts};
-ghost use Rattle.attempts.specs.SystemWith.{system_with};
+ghost use Rattle.attempts.specs.Of.{AreScripts, system_of};
 
 use crate::scripts::Scripts;
 
@@ -20,15 +19,13 @@ pub fn steady_attempts_are_short<
     const HELD: usize,
 >()
     ensures short { (setting : S.Setting) (effects : ℕ) (job : S.Job) (answers : List Answer) →
-        let O = system_with S.Lock.eq S.reply_of S.effects_of (S.system setting) in
-        AreScripts S.Lock.eq S.reply_of S.effects_of (S.system setting) (S.Knows setting) READINGS
-        HELD
-        → ((other : S.Job) → O.IsJob other
+        let O = system_of S.Lock.eq S.Scripts setting in
+        AreScripts S.Lock.eq S.Scripts setting → ((other : S.Job) → O.IsJob other
         → EndsIn (λ decision. length (S.effects_of decision) ≤ effects) (O.script other))
         → O.IsJob job → AreSteady O (begin O job) answers
         → length answers ≤ 3 * HELD + READINGS + effects + 1 }
     ensures count { (setting : S.Setting) (job : S.Job) (answers : List Answer) →
-        let O = system_with S.Lock.eq S.reply_of S.effects_of (S.system setting) in
+        let O = system_of S.Lock.eq S.Scripts setting in
         AreSteady O (begin O job) answers → length answers < 2 ^ 32
         → (after_answers O (fresh O job) answers).count ≡ length answers }
 {}

@@ -7,8 +7,7 @@ ghost use Rattle.turns.specs.System.{AreWords};
 ghost use Rattle.attempts.specs.Counting.{counted_by};
 ghost use Rattle.attempts.specs.Live.{LeadsTo, WantsNext};
 ghost use Rattle.attempts.specs.Running.{GoesFarEnough, Runs};
-ghost use Rattle.attempts.specs.Standing.{AreScripts, CanWalk, MayGoOn, Stands, attempt_of};
-ghost use Rattle.attempts.specs.SystemWith.{system_with};
+ghost use Rattle.attempts.specs.Of.{AreScripts, CanWalk, MayGoOn, Stands, attempt_of, system_of};
 
 use crate::attempt::AttemptOf;
 use crate::scripts::Scripts;
@@ -35,10 +34,8 @@ fn to_walk<S: Scripts<READINGS, HELD>, const READINGS: usize, const HELD: usize>
     program: &AttemptOf<S, READINGS, HELD>,
     _setting: &S::Setting,
 ) -> Option<Wanted<S::Lock, usize>>
-    requires may { MayGoOn (S.IsSetting _setting.now) S.Lock.eq S.reply_of S.effects_of
-        (S.system _setting.now) (S.Knows _setting.now) READINGS HELD program.now }
-    ensures walk { IfSome result (λ wanted. CanWalk S.Lock.eq S.reply_of S.effects_of
-        (S.system _setting.now) (S.Knows _setting.now) program.now) }
+    requires may { MayGoOn S.Lock.eq S.Scripts _setting.now program.now }
+    ensures walk { IfSome result (λ wanted. CanWalk S.Lock.eq S.Scripts _setting.now program.now) }
     ensures wants { IfSome result (λ wanted. WantsNext program.now.phase) }
     ensures none { IfNone result ((lock_word : S.Lock → ℕ) (words : List ℕ) (most : ℕ) →
         GoesFarEnough lock_word words most 0 program.now.phase program.now.phase) }
@@ -55,8 +52,7 @@ fn make_steps<S: Scripts<READINGS, HELD>, const READINGS: usize, const HELD: usi
     words: &mut [u64],
     most: u32,
 ) -> u32
-    requires may { MayGoOn (S.IsSetting setting.now) S.Lock.eq S.reply_of S.effects_of
-        (S.system setting.now) (S.Knows setting.now) READINGS HELD program.old }
+    requires may { MayGoOn S.Lock.eq S.Scripts setting.now program.old }
     requires actor { actor < 48 }
     ensures { Runs S.Lock.eq S.reply_of S.effects_of (S.system setting.now) (S.Knows setting.now)
         READINGS HELD actor most result program.old words.old program.new words.new }
@@ -85,21 +81,18 @@ pub fn run<S: Scripts<READINGS, HELD>, const READINGS: usize, const HELD: usize>
     most: u32,
 ) -> u32
     requires setting { S.IsSetting setting.now }
-    requires scripts { AreScripts S.Lock.eq S.reply_of S.effects_of (S.system setting.now)
-        (S.Knows setting.now) READINGS HELD }
-    requires stands { Stands S.Lock.eq S.reply_of S.effects_of (S.system setting.now)
-        (S.Knows setting.now) READINGS HELD program.old }
+    requires scripts { AreScripts S.Lock.eq S.Scripts setting.now }
+    requires stands { Stands S.Lock.eq S.Scripts setting.now program.old }
     requires actor { actor < 48 }
-    ensures steps { let O = system_with S.Lock.eq S.reply_of S.effects_of (S.system setting.now) in
+    ensures steps { let O = system_of S.Lock.eq S.Scripts setting.now in
         LeadsTo O actor result
-        (record { attempt = attempt_of S.reply_of S.effects_of program.old; words = words.old })
-        (record { attempt = attempt_of S.reply_of S.effects_of program.new; words = words.new }) }
+        (record { attempt = attempt_of S.Scripts program.old; words = words.old })
+        (record { attempt = attempt_of S.Scripts program.new; words = words.new }) }
     ensures most { result ≤ most }
     ensures far { GoesFarEnough (S.system setting.now).lock_word words.new most result
         program.old.phase program.new.phase }
     ensures count { program.new.count ≡ counted_by result program.old.count }
-    ensures stands { Stands S.Lock.eq S.reply_of S.effects_of (S.system setting.now)
-        (S.Knows setting.now) READINGS HELD program.new }
+    ensures stands { Stands S.Lock.eq S.Scripts setting.now program.new }
 {
     let made = make_steps::<S, READINGS, HELD>(program, setting, actor, words, most);
     program.count_steps(made);

@@ -4,8 +4,9 @@ ghost use Rattle.std.specs.Prelude.{◌≡◌, ◌<◌, ◌+◌, ◌∷◌, ◌^
 ghost use Rattle.turns.specs.Attempt.{act, asked_in, closing_act, free_act};
 ghost use Rattle.turns.specs.Runs.{is_rest};
 ghost use Rattle.turns.specs.Outcomes.{IsPastTurn, outcome_of};
-ghost use Rattle.attempts.specs.Standing.{attempt_of, effects_left};
+ghost use Rattle.attempts.specs.Standing.{effects_left};
 ghost use Rattle.attempts.specs.Steps.{act_of};
+ghost use Rattle.attempts.specs.Of.{attempt_of};
 
 use crate::attempt::AttemptOf;
 use crate::scripts::Scripts;
@@ -44,7 +45,7 @@ fn next_closing<S: Scripts<READINGS, HELD>, const READINGS: usize, const HELD: u
     program: &AttemptOf<S, READINGS, HELD>,
 ) -> Step<S::Lock, S::Effect>
     ensures { act_of result
-        ≡ closing_act (attempt_of S.reply_of S.effects_of program.now).effects program.now.held }
+        ≡ closing_act (attempt_of S.Scripts program.now).effects program.now.held }
 {
     match next_effect::<S, READINGS, HELD>(program) {
         Some(effect) => Step::Make(effect),
@@ -56,7 +57,7 @@ fn next_closing<S: Scripts<READINGS, HELD>, const READINGS: usize, const HELD: u
 pub fn next<S: Scripts<READINGS, HELD>, const READINGS: usize, const HELD: usize>(
     program: &AttemptOf<S, READINGS, HELD>,
 ) -> Step<S::Lock, S::Effect>
-    ensures { act_of result ≡ act (attempt_of S.reply_of S.effects_of program.now) }
+    ensures { act_of result ≡ act (attempt_of S.Scripts program.now) }
 {
     let phase = program.phase;
     match phase {
@@ -75,19 +76,14 @@ pub fn next<S: Scripts<READINGS, HELD>, const READINGS: usize, const HELD: usize
 pub fn next_sure<S: Scripts<READINGS, HELD>, const READINGS: usize, const HELD: usize>(
     program: &AttemptOf<S, READINGS, HELD>,
 ) -> Option<Step<S::Lock, S::Effect>>
-    ensures next { IfSome result (λ step.
-        act_of step ≡ act (attempt_of S.reply_of S.effects_of program.now)) }
+    ensures next { IfSome result (λ step. act_of step ≡ act (attempt_of S.Scripts program.now)) }
     ensures asks_none { IfSome result (λ step. asked_in program.now.phase ≡ None) }
 {
     let phase = program.phase;
     match phase {
         Phase::Tests(word) => Some(Step::Look(word)),
         Phase::Turns => Some(Step::Turn),
-        Phase::Requests(_)
-        | Phase::Seizes(_, _)
-        | Phase::Withdraws(_)
-        | Phase::GivesBack
-        | Phase::Operates(_) => None,
+        _ => None,
     }
 }
 
@@ -96,8 +92,7 @@ pub fn next_sure<S: Scripts<READINGS, HELD>, const READINGS: usize, const HELD: 
 pub fn next_past_turn<S: Scripts<READINGS, HELD>, const READINGS: usize, const HELD: usize>(
     program: &AttemptOf<S, READINGS, HELD>,
 ) -> Option<Step<S::Lock, S::Effect>>
-    ensures next { IfSome result (λ step.
-        act_of step ≡ act (attempt_of S.reply_of S.effects_of program.now)) }
+    ensures next { IfSome result (λ step. act_of step ≡ act (attempt_of S.Scripts program.now)) }
     ensures turned { IfSome result (λ step. IsPastTurn program.now.phase) }
     ensures none { IfNone result (¬ IsPastTurn program.now.phase) }
 {
@@ -122,7 +117,7 @@ fn is_closed<S: Scripts<READINGS, HELD>, const READINGS: usize, const HELD: usiz
     program: &AttemptOf<S, READINGS, HELD>,
 ) -> bool
     ensures { result ≡ is_rest
-        (closing_act (attempt_of S.reply_of S.effects_of program.now).effects program.now.held) }
+        (closing_act (attempt_of S.Scripts program.now).effects program.now.held) }
 {
     match next_effect::<S, READINGS, HELD>(program) {
         Some(_) => false,
@@ -136,17 +131,13 @@ fn is_closed<S: Scripts<READINGS, HELD>, const READINGS: usize, const HELD: usiz
 pub fn is_done<S: Scripts<READINGS, HELD>, const READINGS: usize, const HELD: usize>(
     program: &AttemptOf<S, READINGS, HELD>,
 ) -> bool
-    ensures { result ≡ is_rest (act (attempt_of S.reply_of S.effects_of program.now)) }
+    ensures { result ≡ is_rest (act (attempt_of S.Scripts program.now)) }
 {
     let phase = program.phase;
     match phase {
-        Phase::Requests(_) => false,
-        Phase::Seizes(_, _) => false,
-        Phase::Tests(_) => false,
-        Phase::Turns => false,
-        Phase::Withdraws(_) => false,
         Phase::GivesBack => holds_none::<S, READINGS, HELD>(program),
         Phase::Operates(_) => is_closed::<S, READINGS, HELD>(program),
+        _ => false,
     }
 }
 
@@ -154,7 +145,7 @@ pub fn is_done<S: Scripts<READINGS, HELD>, const READINGS: usize, const HELD: us
 pub fn outcome<S: Scripts<READINGS, HELD>, const READINGS: usize, const HELD: usize>(
     program: &AttemptOf<S, READINGS, HELD>,
 ) -> Option<(u64, S::Job, S::Reply)>
-    ensures { result ≡ outcome_of (attempt_of S.reply_of S.effects_of program.now) }
+    ensures { result ≡ outcome_of (attempt_of S.Scripts program.now) }
 {
     let turn = program.turn()?;
     match &program.decision {

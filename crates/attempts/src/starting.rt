@@ -4,8 +4,7 @@ ghost use Rattle.std.specs.Prelude.{◌≡◌};
 ghost use Rattle.turns.specs.Attempt.{begin as begin_of, forgotten, freed, restarted};
 ghost use Rattle.turns.specs.Seen.{Seen};
 ghost use Rattle.attempts.specs.Counting.{count_in};
-ghost use Rattle.attempts.specs.Standing.{AreScripts, KnowsIn, Stands, attempt_of};
-ghost use Rattle.attempts.specs.SystemWith.{system_with};
+ghost use Rattle.attempts.specs.Of.{AreScripts, PointHolds, Stands, attempt_of, system_of};
 
 use crate::attempt::{Attempt, AttemptOf};
 use crate::scripts::Scripts;
@@ -15,15 +14,12 @@ use turns::Phase;
 pub fn begin<S: Scripts<READINGS, HELD>, const READINGS: usize, const HELD: usize>(
     job: S::Job,
 ) -> AttemptOf<S, READINGS, HELD>
-    ensures begins { (setting : S.Setting) →
-        attempt_of S.reply_of S.effects_of result
-        ≡ begin_of (system_with S.Lock.eq S.reply_of S.effects_of (S.system setting)) job }
+    ensures begins { (setting : S.Setting) → attempt_of S.Scripts result
+        ≡ begin_of (system_of S.Lock.eq S.Scripts setting) job }
     ensures count { result.count ≡ 0 }
     ensures stands { (setting : S.Setting) →
-        AreScripts S.Lock.eq S.reply_of S.effects_of (S.system setting) (S.Knows setting) READINGS
-        HELD → (S.system setting).IsJob job →
-        Stands S.Lock.eq S.reply_of S.effects_of (S.system setting) (S.Knows setting) READINGS HELD
-        result }
+        AreScripts S.Lock.eq S.Scripts setting → (S.system setting).IsJob job →
+        Stands S.Lock.eq S.Scripts setting result }
     ensures point { (setting : S.Setting) (seen : Seen S.Lock) →
         S.Knows setting job result.point seen }
 {
@@ -37,15 +33,12 @@ pub fn begin_next<S: Scripts<READINGS, HELD>, const READINGS: usize, const HELD:
     program: &mut AttemptOf<S, READINGS, HELD>,
     job: S::Job,
 )
-    ensures begins { (setting : S.Setting) →
-        attempt_of S.reply_of S.effects_of program.new
-        ≡ begin_of (system_with S.Lock.eq S.reply_of S.effects_of (S.system setting)) job }
+    ensures begins { (setting : S.Setting) → attempt_of S.Scripts program.new
+        ≡ begin_of (system_of S.Lock.eq S.Scripts setting) job }
     ensures count { program.new.count ≡ 0 }
     ensures stands { (setting : S.Setting) →
-        AreScripts S.Lock.eq S.reply_of S.effects_of (S.system setting) (S.Knows setting) READINGS
-        HELD → (S.system setting).IsJob job →
-        Stands S.Lock.eq S.reply_of S.effects_of (S.system setting) (S.Knows setting) READINGS HELD
-        program.new }
+        AreScripts S.Lock.eq S.Scripts setting → (S.system setting).IsJob job →
+        Stands S.Lock.eq S.Scripts setting program.new }
 {
     let lock = S::first(&job);
     let point = S::start(&job);
@@ -55,9 +48,8 @@ pub fn begin_next<S: Scripts<READINGS, HELD>, const READINGS: usize, const HELD:
 fn begin_again<S: Scripts<READINGS, HELD>, const READINGS: usize, const HELD: usize>(
     program: &mut AttemptOf<S, READINGS, HELD>,
 )
-    ensures begins { (setting : S.Setting) →
-        let O = system_with S.Lock.eq S.reply_of S.effects_of (S.system setting) in
-        attempt_of S.reply_of S.effects_of program.new ≡ begin_of O program.old.job }
+    ensures begins { (setting : S.Setting) → let O = system_of S.Lock.eq S.Scripts setting in
+        attempt_of S.Scripts program.new ≡ begin_of O program.old.job }
     ensures point { (setting : S.Setting) (seen : Seen S.Lock) →
         S.Knows setting program.new.job program.new.point seen }
     ensures count { program.new.count ≡ program.old.count }
@@ -71,13 +63,10 @@ fn begin_again<S: Scripts<READINGS, HELD>, const READINGS: usize, const HELD: us
 pub(crate) fn give_back<S: Scripts<READINGS, HELD>, const READINGS: usize, const HELD: usize>(
     program: &mut AttemptOf<S, READINGS, HELD>,
 )
-    ensures frees { (setting : S.Setting) →
-        let O = system_with S.Lock.eq S.reply_of S.effects_of (S.system setting) in
-        attempt_of S.reply_of S.effects_of program.new
-        ≡ freed O (attempt_of S.reply_of S.effects_of program.old) program.old.held }
-    ensures point { (setting : S.Setting) →
-        KnowsIn (S.Knows setting) (attempt_of S.reply_of S.effects_of program.new)
-        program.new.point program.new.phase }
+    ensures frees { (setting : S.Setting) → let O = system_of S.Lock.eq S.Scripts setting in
+        attempt_of S.Scripts program.new
+        ≡ freed O (attempt_of S.Scripts program.old) program.old.held }
+    ensures point { (setting : S.Setting) → PointHolds S.Scripts setting program.new }
     ensures count { program.new.count ≡ program.old.count }
 {
     if program.seen.holds_none() {
@@ -91,13 +80,10 @@ pub(crate) fn give_back<S: Scripts<READINGS, HELD>, const READINGS: usize, const
 fn give_up<S: Scripts<READINGS, HELD>, const READINGS: usize, const HELD: usize>(
     program: &mut AttemptOf<S, READINGS, HELD>,
 )
-    ensures frees { (setting : S.Setting) →
-        let O = system_with S.Lock.eq S.reply_of S.effects_of (S.system setting) in
-        attempt_of S.reply_of S.effects_of program.new
-        ≡ freed O (forgotten (attempt_of S.reply_of S.effects_of program.old)) program.old.held }
-    ensures point { (setting : S.Setting) →
-        KnowsIn (S.Knows setting) (attempt_of S.reply_of S.effects_of program.new)
-        program.new.point program.new.phase }
+    ensures frees { (setting : S.Setting) → let O = system_of S.Lock.eq S.Scripts setting in
+        attempt_of S.Scripts program.new
+        ≡ freed O (forgotten (attempt_of S.Scripts program.old)) program.old.held }
+    ensures point { (setting : S.Setting) → PointHolds S.Scripts setting program.new }
     ensures count { program.new.count ≡ program.old.count }
 {
     program.forget();
@@ -108,15 +94,10 @@ fn give_up<S: Scripts<READINGS, HELD>, const READINGS: usize, const HELD: usize>
 fn go_back<S: Scripts<READINGS, HELD>, const READINGS: usize, const HELD: usize>(
     program: &mut AttemptOf<S, READINGS, HELD>,
 )
-    ensures restarts { (setting : S.Setting) →
-        let O = system_with S.Lock.eq S.reply_of S.effects_of (S.system setting) in
-        attempt_of S.reply_of S.effects_of program.new
-        ≡ restarted O (attempt_of S.reply_of S.effects_of program.old) }
-    ensures point { (setting : S.Setting) →
-        KnowsIn (S.Knows setting) (attempt_of S.reply_of S.effects_of program.old)
-        program.old.point program.old.phase →
-        KnowsIn (S.Knows setting) (attempt_of S.reply_of S.effects_of program.new)
-        program.new.point program.new.phase }
+    ensures restarts { (setting : S.Setting) → let O = system_of S.Lock.eq S.Scripts setting in
+        attempt_of S.Scripts program.new ≡ restarted O (attempt_of S.Scripts program.old) }
+    ensures point { (setting : S.Setting) → PointHolds S.Scripts setting program.old →
+        PointHolds S.Scripts setting program.new }
     ensures count { program.new.count ≡ program.old.count }
 {
     let phase = program.phase;
@@ -133,23 +114,14 @@ fn go_back<S: Scripts<READINGS, HELD>, const READINGS: usize, const HELD: usize>
 pub fn restart<S: Scripts<READINGS, HELD>, const READINGS: usize, const HELD: usize>(
     program: &mut AttemptOf<S, READINGS, HELD>,
 )
-    ensures restarts { (setting : S.Setting) →
-        let O = system_with S.Lock.eq S.reply_of S.effects_of (S.system setting) in
-        attempt_of S.reply_of S.effects_of program.new
-        ≡ restarted O (attempt_of S.reply_of S.effects_of program.old) }
+    ensures restarts { (setting : S.Setting) → let O = system_of S.Lock.eq S.Scripts setting in
+        attempt_of S.Scripts program.new ≡ restarted O (attempt_of S.Scripts program.old) }
     ensures count { program.new.count
         ≡ count_in program.new.phase program.new.held program.old.count }
-    ensures point { (setting : S.Setting) →
-        KnowsIn (S.Knows setting) (attempt_of S.reply_of S.effects_of program.old)
-        program.old.point program.old.phase →
-        KnowsIn (S.Knows setting) (attempt_of S.reply_of S.effects_of program.new)
-        program.new.point program.new.phase }
-    ensures stands { (setting : S.Setting) →
-        AreScripts S.Lock.eq S.reply_of S.effects_of (S.system setting) (S.Knows setting) READINGS
-        HELD →
-        Stands S.Lock.eq S.reply_of S.effects_of (S.system setting) (S.Knows setting) READINGS HELD
-        program.old →
-        Stands S.Lock.eq S.reply_of S.effects_of (S.system setting) (S.Knows setting) READINGS HELD
+    ensures point { (setting : S.Setting) → PointHolds S.Scripts setting program.old →
+        PointHolds S.Scripts setting program.new }
+    ensures stands { (setting : S.Setting) → AreScripts S.Lock.eq S.Scripts setting →
+        Stands S.Lock.eq S.Scripts setting program.old → Stands S.Lock.eq S.Scripts setting
         program.new }
 {
     go_back::<S, READINGS, HELD>(program);

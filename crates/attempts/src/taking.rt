@@ -6,9 +6,8 @@ ghost use Rattle.attempts.specs.Counting.{count_in, counted};
 ghost use Rattle.attempts.specs.Live.{live};
 ghost use Rattle.attempts.specs.Points.{GoesOnTo};
 ghost use Rattle.attempts.specs.Running.{WalksBySteps};
-ghost use Rattle.attempts.specs.Standing.{AreScripts, CanWalk, KnowsIn, Stands, attempt_of};
-ghost use Rattle.attempts.specs.SystemWith.{system_with};
-ghost use Rattle.attempts.specs.Taken.{MayAskNext, MayRead, MayWalk, SeizesLock, Takes, WalksOn};
+ghost use Rattle.attempts.specs.Taken.{MayAskNext, MayWalk, SeizesLock};
+ghost use Rattle.attempts.specs.Of.{AreScripts, CanWalk, MayGoOn, MayRead, PointHolds, Stands, Takes, WalksOn, attempt_of, system_of};
 
 use crate::attempt::AttemptOf;
 use crate::scripts::Scripts;
@@ -47,8 +46,7 @@ pub fn walk_by_steps<S: Scripts<READINGS, HELD>, const READINGS: usize, const HE
     hold_word: u64,
 ) -> Result<S::Decision, Wanted<S::Lock, usize>>
     requires setting { S.IsSetting setting.now }
-    requires walk { CanWalk S.Lock.eq S.reply_of S.effects_of (S.system setting.now)
-        (S.Knows setting.now) program.old }
+    requires walk { CanWalk S.Lock.eq S.Scripts setting.now program.old }
     ensures { WalksBySteps S.Lock.eq (S.system setting.now) (S.Knows setting.now) READINGS HELD
         left.old hold_word program.old words.old program.new words.new result left.new }
 {
@@ -72,10 +70,8 @@ pub fn walk_on<S: Scripts<READINGS, HELD>, const READINGS: usize, const HELD: us
     setting: &S::Setting,
 )
     requires setting { S.IsSetting setting.now }
-    requires walk { CanWalk S.Lock.eq S.reply_of S.effects_of (S.system setting.now)
-        (S.Knows setting.now) program.old }
-    ensures { WalksOn S.Lock.eq S.reply_of S.effects_of (S.system setting.now) (S.Knows setting.now)
-        program.old program.new }
+    requires walk { CanWalk S.Lock.eq S.Scripts setting.now program.old }
+    ensures { WalksOn S.Lock.eq S.Scripts setting.now program.old program.new }
 {
     // With no words it makes no step itself. Matched here, so that a walk that stops early hands on
     // what it wants alone.
@@ -94,8 +90,7 @@ fn to_follow<'a, S: Scripts<READINGS, HELD>, const READINGS: usize, const HELD: 
     _word: usize,
 ) -> (&'a S::Job, &'a S::Point, &'a Seen<S::Lock, READINGS, HELD>)
     requires setting { S.IsSetting _setting.now }
-    requires stands { Stands S.Lock.eq S.reply_of S.effects_of (S.system _setting.now)
-        (S.Knows _setting.now) READINGS HELD program.now }
+    requires stands { Stands S.Lock.eq S.Scripts _setting.now program.now }
     requires tests { program.now.phase ≡ Phase.Tests _word }
     ensures may { MayAskNext (S.IsSetting _setting.now) S.Lock.eq (S.system _setting.now)
         (S.Knows _setting.now) result.0.now result.1.now result.2.now.seen _word }
@@ -113,8 +108,7 @@ fn following<S: Scripts<READINGS, HELD>, const READINGS: usize, const HELD: usiz
     word: usize,
 ) -> Option<usize>
     requires setting { S.IsSetting setting.now }
-    requires stands { Stands S.Lock.eq S.reply_of S.effects_of (S.system setting.now)
-        (S.Knows setting.now) READINGS HELD program.now }
+    requires stands { Stands S.Lock.eq S.Scripts setting.now program.now }
     requires tests { program.now.phase ≡ Phase.Tests word }
     ensures { IfSome result
         (GoesOnTo S.Lock.eq (record { held = program.now.held; readings = program.now.readings })
@@ -130,10 +124,8 @@ fn take_request<S: Scripts<READINGS, HELD>, const READINGS: usize, const HELD: u
     setting: &S::Setting,
     word: u64,
 )
-    requires stands { Stands S.Lock.eq S.reply_of S.effects_of (S.system setting.now)
-        (S.Knows setting.now) READINGS HELD program.old }
-    ensures { Takes S.Lock.eq S.reply_of S.effects_of (S.system setting.now) (S.Knows setting.now)
-        (Answer.Asked word) program.old program.new }
+    requires stands { Stands S.Lock.eq S.Scripts setting.now program.old }
+    ensures { Takes S.Lock.eq S.Scripts setting.now (Answer.Asked word) program.old program.new }
 {
     let phase = program.phase;
     if let Phase::Requests(lock) = phase {
@@ -147,10 +139,8 @@ fn take_again<S: Scripts<READINGS, HELD>, const READINGS: usize, const HELD: usi
     setting: &S::Setting,
     word: u64,
 )
-    requires stands { Stands S.Lock.eq S.reply_of S.effects_of (S.system setting.now)
-        (S.Knows setting.now) READINGS HELD program.old }
-    ensures { Takes S.Lock.eq S.reply_of S.effects_of (S.system setting.now) (S.Knows setting.now)
-        (Answer.Again word) program.old program.new }
+    requires stands { Stands S.Lock.eq S.Scripts setting.now program.old }
+    ensures { Takes S.Lock.eq S.Scripts setting.now (Answer.Again word) program.old program.new }
 {
     let phase = program.phase;
     if let Phase::Seizes(lock, _) = phase {
@@ -163,13 +153,10 @@ fn take_refusal<S: Scripts<READINGS, HELD>, const READINGS: usize, const HELD: u
     program: &mut AttemptOf<S, READINGS, HELD>,
     setting: &S::Setting,
 )
-    requires stands { Stands S.Lock.eq S.reply_of S.effects_of (S.system setting.now)
-        (S.Knows setting.now) READINGS HELD program.old }
-    ensures held { (holder : ℕ) →
-        Takes S.Lock.eq S.reply_of S.effects_of (S.system setting.now) (S.Knows setting.now)
+    requires stands { Stands S.Lock.eq S.Scripts setting.now program.old }
+    ensures held { (holder : ℕ) → Takes S.Lock.eq S.Scripts setting.now
         (Answer.Held holder) program.old program.new }
-    ensures preferred { (other : ℕ) →
-        Takes S.Lock.eq S.reply_of S.effects_of (S.system setting.now) (S.Knows setting.now)
+    ensures preferred { (other : ℕ) → Takes S.Lock.eq S.Scripts setting.now
         (Answer.Preferred other) program.old program.new }
 {
     if let Some(lock) = program.to_ask() {
@@ -182,14 +169,11 @@ pub fn to_seize<S: Scripts<READINGS, HELD>, const READINGS: usize, const HELD: u
     program: &AttemptOf<S, READINGS, HELD>,
     setting: &S::Setting,
 ) -> Option<S::Lock>
-    requires scripts { AreScripts S.Lock.eq S.reply_of S.effects_of (S.system setting.now)
-        (S.Knows setting.now) READINGS HELD }
-    requires stands { Stands S.Lock.eq S.reply_of S.effects_of (S.system setting.now)
-        (S.Knows setting.now) READINGS HELD program.now }
+    requires scripts { AreScripts S.Lock.eq S.Scripts setting.now }
+    requires stands { Stands S.Lock.eq S.Scripts setting.now program.now }
     ensures seizes { IfSome result (SeizesLock program.now.phase) }
     ensures room { IfSome result (λ lock. length program.now.held < HELD) }
-    ensures walk { IfSome result (λ lock.
-        CanWalk S.Lock.eq S.reply_of S.effects_of (S.system setting.now) (S.Knows setting.now)
+    ensures walk { IfSome result (λ lock. CanWalk S.Lock.eq S.Scripts setting.now
         (record program.now { held = program.now.held ++ lock ∷ [] })) }
     ensures none { IfNone result ((lock : S.Lock) → SeizesLock program.now.phase lock → ⊥) }
 {
@@ -206,13 +190,8 @@ fn take_lock<S: Scripts<READINGS, HELD>, const READINGS: usize, const HELD: usiz
     program: &mut AttemptOf<S, READINGS, HELD>,
     setting: &S::Setting,
 )
-    requires setting { S.IsSetting setting.now }
-    requires scripts { AreScripts S.Lock.eq S.reply_of S.effects_of (S.system setting.now)
-        (S.Knows setting.now) READINGS HELD }
-    requires stands { Stands S.Lock.eq S.reply_of S.effects_of (S.system setting.now)
-        (S.Knows setting.now) READINGS HELD program.old }
-    ensures { Takes S.Lock.eq S.reply_of S.effects_of (S.system setting.now) (S.Knows setting.now)
-        Answer.Seized program.old program.new }
+    requires { MayGoOn S.Lock.eq S.Scripts setting.now program.old }
+    ensures { Takes S.Lock.eq S.Scripts setting.now Answer.Seized program.old program.new }
 {
     if let Some(lock) = to_seize::<S, READINGS, HELD>(program, setting) {
         program.hold(lock);
@@ -226,13 +205,9 @@ pub(crate) fn to_test<S: Scripts<READINGS, HELD>, const READINGS: usize, const H
     setting: &S::Setting,
     value: u64,
 ) -> Option<usize>
-    requires scripts { AreScripts S.Lock.eq S.reply_of S.effects_of (S.system setting.now)
-        (S.Knows setting.now) READINGS HELD }
-    requires stands { Stands S.Lock.eq S.reply_of S.effects_of (S.system setting.now)
-        (S.Knows setting.now) READINGS HELD program.now }
+    requires { MayGoOn S.Lock.eq S.Scripts setting.now program.now }
     ensures reads { IfSome result (λ word.
-        MayRead S.Lock.eq S.reply_of S.effects_of (S.system setting.now) (S.Knows setting.now)
-        READINGS (record { word = word; value = value }) program.now) }
+        MayRead S.Lock.eq S.Scripts setting.now (record { word = word; value = value }) program.now) }
     ensures none { IfNone result ((word : ℕ) → program.now.phase ≡ Phase.Tests word → ⊥) }
 {
     let phase = program.phase;
@@ -250,9 +225,8 @@ fn read_on<S: Scripts<READINGS, HELD>, const READINGS: usize, const HELD: usize>
     reading: Reading<usize>,
 )
     requires setting { S.IsSetting setting.now }
-    requires reads { MayRead S.Lock.eq S.reply_of S.effects_of (S.system setting.now)
-        (S.Knows setting.now) READINGS reading program.old }
-    ensures { WalksOn S.Lock.eq S.reply_of S.effects_of (S.system setting.now) (S.Knows setting.now)
+    requires reads { MayRead S.Lock.eq S.Scripts setting.now reading program.old }
+    ensures { WalksOn S.Lock.eq S.Scripts setting.now
         (record program.old { readings = program.old.readings ++ reading ∷ [] }) program.new }
 {
     program.note(reading);
@@ -266,8 +240,7 @@ pub(crate) fn read_up_to<S: Scripts<READINGS, HELD>, const READINGS: usize, cons
     reading: Reading<usize>,
     next: usize,
 )
-    requires reads { MayRead S.Lock.eq S.reply_of S.effects_of (S.system setting.now)
-        (S.Knows setting.now) READINGS reading program.old }
+    requires reads { MayRead S.Lock.eq S.Scripts setting.now reading program.old }
     ensures { program.new
         ≡ record program.old {
           readings = program.old.readings ++ reading ∷ [];
@@ -284,12 +257,9 @@ pub(crate) fn read<S: Scripts<READINGS, HELD>, const READINGS: usize, const HELD
     setting: &S::Setting,
     reading: Reading<usize>,
 )
-    requires setting { S.IsSetting setting.now }
-    requires stands { Stands S.Lock.eq S.reply_of S.effects_of (S.system setting.now)
-        (S.Knows setting.now) READINGS HELD program.old }
-    requires reads { MayRead S.Lock.eq S.reply_of S.effects_of (S.system setting.now)
-        (S.Knows setting.now) READINGS reading program.old }
-    ensures { Takes S.Lock.eq S.reply_of S.effects_of (S.system setting.now) (S.Knows setting.now)
+    requires may { MayGoOn S.Lock.eq S.Scripts setting.now program.old }
+    requires reads { MayRead S.Lock.eq S.Scripts setting.now reading program.old }
+    ensures { Takes S.Lock.eq S.Scripts setting.now
         (Answer.Value reading.value) program.old program.new }
 {
     match following::<S, READINGS, HELD>(program, setting, reading.word) {
@@ -304,13 +274,8 @@ fn take_reading<S: Scripts<READINGS, HELD>, const READINGS: usize, const HELD: u
     setting: &S::Setting,
     value: u64,
 )
-    requires setting { S.IsSetting setting.now }
-    requires scripts { AreScripts S.Lock.eq S.reply_of S.effects_of (S.system setting.now)
-        (S.Knows setting.now) READINGS HELD }
-    requires stands { Stands S.Lock.eq S.reply_of S.effects_of (S.system setting.now)
-        (S.Knows setting.now) READINGS HELD program.old }
-    ensures { Takes S.Lock.eq S.reply_of S.effects_of (S.system setting.now) (S.Knows setting.now)
-        (Answer.Value value) program.old program.new }
+    requires { MayGoOn S.Lock.eq S.Scripts setting.now program.old }
+    ensures { Takes S.Lock.eq S.Scripts setting.now (Answer.Value value) program.old program.new }
 {
     if let Some(word) = to_test::<S, READINGS, HELD>(program, setting, value) {
         read::<S, READINGS, HELD>(program, setting, Reading { word, value });
@@ -323,10 +288,8 @@ fn take_turn<S: Scripts<READINGS, HELD>, const READINGS: usize, const HELD: usiz
     setting: &S::Setting,
     number: u64,
 )
-    requires stands { Stands S.Lock.eq S.reply_of S.effects_of (S.system setting.now)
-        (S.Knows setting.now) READINGS HELD program.old }
-    ensures { Takes S.Lock.eq S.reply_of S.effects_of (S.system setting.now) (S.Knows setting.now)
-        (Answer.Turn number) program.old program.new }
+    requires stands { Stands S.Lock.eq S.Scripts setting.now program.old }
+    ensures { Takes S.Lock.eq S.Scripts setting.now (Answer.Turn number) program.old program.new }
 {
     let phase = program.phase;
     if let Phase::Turns = phase {
@@ -338,9 +301,8 @@ fn take_turn<S: Scripts<READINGS, HELD>, const READINGS: usize, const HELD: usiz
 pub(crate) fn operate<S: Scripts<READINGS, HELD>, const READINGS: usize, const HELD: usize>(
     program: &mut AttemptOf<S, READINGS, HELD>,
 )
-    ensures operates { attempt_of S.reply_of S.effects_of program.new
-        ≡ operated (attempt_of S.reply_of S.effects_of program.old)
-        (attempt_of S.reply_of S.effects_of program.old).effects }
+    ensures operates { attempt_of S.Scripts program.new
+        ≡ operated (attempt_of S.Scripts program.old) (attempt_of S.Scripts program.old).effects }
     ensures phase { program.new.phase ≡ program.old.phase }
     ensures count { program.new.count ≡ program.old.count }
 {
@@ -354,13 +316,10 @@ pub(crate) fn operate<S: Scripts<READINGS, HELD>, const READINGS: usize, const H
 fn free_on<S: Scripts<READINGS, HELD>, const READINGS: usize, const HELD: usize>(
     program: &mut AttemptOf<S, READINGS, HELD>,
 )
-    ensures frees { (setting : S.Setting) →
-        let O = system_with S.Lock.eq S.reply_of S.effects_of (S.system setting) in
-        attempt_of S.reply_of S.effects_of program.new
-        ≡ freed O (attempt_of S.reply_of S.effects_of program.old) (rest_of program.old.held) }
-    ensures point { (setting : S.Setting) →
-        KnowsIn (S.Knows setting) (attempt_of S.reply_of S.effects_of program.new)
-        program.new.point program.new.phase }
+    ensures frees { (setting : S.Setting) → let O = system_of S.Lock.eq S.Scripts setting in
+        attempt_of S.Scripts program.new
+        ≡ freed O (attempt_of S.Scripts program.old) (rest_of program.old.held) }
+    ensures point { (setting : S.Setting) → PointHolds S.Scripts setting program.new }
     ensures count { program.new.count ≡ program.old.count }
 {
     program.free_first();
@@ -372,17 +331,15 @@ fn take_done<S: Scripts<READINGS, HELD>, const READINGS: usize, const HELD: usiz
     program: &mut AttemptOf<S, READINGS, HELD>,
     setting: &S::Setting,
 )
-    requires stands { Stands S.Lock.eq S.reply_of S.effects_of (S.system setting.now)
-        (S.Knows setting.now) READINGS HELD program.old }
-    ensures { Takes S.Lock.eq S.reply_of S.effects_of (S.system setting.now) (S.Knows setting.now)
-        Answer.Done program.old program.new }
+    requires stands { Stands S.Lock.eq S.Scripts setting.now program.old }
+    ensures { Takes S.Lock.eq S.Scripts setting.now Answer.Done program.old program.new }
 {
     let phase = program.phase;
     match phase {
         Phase::Withdraws(_) => give_back::<S, READINGS, HELD>(program),
         Phase::GivesBack => free_on::<S, READINGS, HELD>(program),
         Phase::Operates(_) => operate::<S, READINGS, HELD>(program),
-        Phase::Requests(_) | Phase::Seizes(_, _) | Phase::Tests(_) | Phase::Turns => {}
+        _ => {}
     }
 }
 
@@ -393,13 +350,8 @@ pub(crate) fn take_answer<S: Scripts<READINGS, HELD>, const READINGS: usize, con
     setting: &S::Setting,
     told: Answer,
 )
-    requires setting { S.IsSetting setting.now }
-    requires scripts { AreScripts S.Lock.eq S.reply_of S.effects_of (S.system setting.now)
-        (S.Knows setting.now) READINGS HELD }
-    requires stands { Stands S.Lock.eq S.reply_of S.effects_of (S.system setting.now)
-        (S.Knows setting.now) READINGS HELD program.old }
-    ensures { Takes S.Lock.eq S.reply_of S.effects_of (S.system setting.now) (S.Knows setting.now)
-        told program.old program.new }
+    requires { MayGoOn S.Lock.eq S.Scripts setting.now program.old }
+    ensures { Takes S.Lock.eq S.Scripts setting.now told program.old program.new }
 {
     match told {
         Answer::Asked(word) => take_request::<S, READINGS, HELD>(program, setting, word),
@@ -420,17 +372,13 @@ pub fn take<S: Scripts<READINGS, HELD>, const READINGS: usize, const HELD: usize
     answer: Answer,
 )
     requires setting { S.IsSetting setting.now }
-    requires scripts { AreScripts S.Lock.eq S.reply_of S.effects_of (S.system setting.now)
-        (S.Knows setting.now) READINGS HELD }
-    requires stands { Stands S.Lock.eq S.reply_of S.effects_of (S.system setting.now)
-        (S.Knows setting.now) READINGS HELD program.old }
-    ensures change { let O = system_with S.Lock.eq S.reply_of S.effects_of (S.system setting.now) in
-        attempt_of S.reply_of S.effects_of program.new
-        ≡ change O (attempt_of S.reply_of S.effects_of program.old) answer }
+    requires scripts { AreScripts S.Lock.eq S.Scripts setting.now }
+    requires stands { Stands S.Lock.eq S.Scripts setting.now program.old }
+    ensures change { let O = system_of S.Lock.eq S.Scripts setting.now in
+        attempt_of S.Scripts program.new ≡ change O (attempt_of S.Scripts program.old) answer }
     ensures count { program.new.count
         ≡ count_in program.new.phase program.new.held (counted program.old.count) }
-    ensures stands { Stands S.Lock.eq S.reply_of S.effects_of (S.system setting.now)
-        (S.Knows setting.now) READINGS HELD program.new }
+    ensures stands { Stands S.Lock.eq S.Scripts setting.now program.new }
 {
     take_answer::<S, READINGS, HELD>(program, setting, answer);
     program.count_step();

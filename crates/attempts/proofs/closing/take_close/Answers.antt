@@ -14,3 +14,6 @@ returns-clause-count g c = ap (λ (p : Program _ _ _ _). p.count) c.count_steps.
 
 pub count_steps-requires : goal.count_steps-requires
 count_steps-requires g c = search
+
+pub operate-requires : goal.operate-requires
+operate-requires g c = search

@@ -8,3 +8,9 @@ returns-in-Some g c = ap (λ effects. is_rest (closing_act effects c.args.progra
 
 pub returns-in-None : goal.returns-in-None
 returns-in-None g c = c.holds_none.ensures ∙ ap (λ effects. is_rest (closing_act effects c.args.program.now.held)) (sym c.in-None.ensures.none)
+
+pub next_effect-requires : goal.next_effect-requires
+next_effect-requires g c = search
+
+pub holds_none-requires : goal.holds_none-requires
+holds_none-requires g c = search

@@ -25,3 +25,9 @@ returns-in-GivesBack g c = c.next_free.ensures ∙ ap (λ phase. act_in phase (a
 
 pub returns-in-Operates : goal.returns-in-Operates
 returns-in-Operates g c = c.next_closing.ensures ∙ ap (λ phase. act_in phase (attempt_of g.S.Scripts.reply_of g.S.Scripts.effects_of c.args.program.now)) (sym (phase_now _ c.args.program.now (Operates c.in-Operates.field-0) c.program.view_is c.in-Operates.is))
+
+pub next_free-requires : goal.next_free-requires
+next_free-requires g c = search
+
+pub next_closing-requires : goal.next_closing-requires
+next_closing-requires g c = search

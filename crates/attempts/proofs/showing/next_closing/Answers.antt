@@ -7,3 +7,9 @@ returns-in-Some g c = ap (λ effects. closing_act effects c.args.program.now.hel
 
 pub returns-in-None : goal.returns-in-None
 returns-in-None g c = c.next_free.ensures ∙ ap (λ effects. closing_act effects c.args.program.now.held) (sym c.in-None.ensures.none)
+
+pub next_effect-requires : goal.next_effect-requires
+next_effect-requires g c = search
+
+pub next_free-requires : goal.next_free-requires
+next_free-requires g c = search

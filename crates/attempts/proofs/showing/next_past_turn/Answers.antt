@@ -10,3 +10,6 @@ returns-in-Operates-clause-next g c = c.next_closing.ensures ∙ ap (λ phase. a
 
 pub returns-in-Operates-clause-turned : goal.returns-in-Operates-clause-turned
 returns-in-Operates-clause-turned g c = (c.in-Operates.field-0, phase_now _ c.args.program.now (Operates c.in-Operates.field-0) c.program.view_is c.in-Operates.is)
+
+pub next_closing-requires : goal.next_closing-requires
+next_closing-requires g c = search

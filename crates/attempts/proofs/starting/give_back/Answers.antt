@@ -21,3 +21,6 @@ returns-else-holds_none-clause-point g c = λ setting. tt
 
 pub returns-else-holds_none-clause-count : goal.returns-else-holds_none-clause-count
 returns-else-holds_none-clause-count g c = ap (λ (p : Program _ _ _ _). p.count) c.program.view_is
+
+pub begin_again-requires : goal.begin_again-requires
+begin_again-requires g c = search

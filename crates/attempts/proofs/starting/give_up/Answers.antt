@@ -15,3 +15,6 @@ returns-clause-point g c = c.give_back.ensures.point
 
 pub returns-clause-count : goal.returns-clause-count
 returns-clause-count g c = c.give_back.ensures.count ∙ ap (λ (p : Program _ _ _ _). p.count) c.forget.ensures
+
+pub give_back-requires : goal.give_back-requires
+give_back-requires g c = search

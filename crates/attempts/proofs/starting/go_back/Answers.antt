@@ -32,3 +32,6 @@ returns-in-Withdraws-clause-point g c = λ setting known. known
 
 pub returns-in-Withdraws-clause-count : goal.returns-in-Withdraws-clause-count
 returns-in-Withdraws-clause-count g c = refl
+
+pub give_up-requires : goal.give_up-requires
+give_up-requires g c = search

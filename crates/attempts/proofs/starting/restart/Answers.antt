@@ -19,3 +19,6 @@ returns-clause-point g c = λ setting known. known_counted g.S.Scripts.reply_of 
 
 pub returns-clause-stands : goal.returns-clause-stands
 returns-clause-stands g c = λ setting right stands. stands_counted g.S.Lock.PartialEq.eq g.S.Scripts.reply_of g.S.Scripts.effects_of (g.S.Scripts.system setting) (g.S.Scripts.Knows setting) _ _ right c.go_back.new.program _ _ (stands_back g.S.Lock.PartialEq.eq g.S.Scripts.reply_of g.S.Scripts.effects_of (g.S.Scripts.system setting) (g.S.Scripts.Knows setting) _ _ right c.args.program.now c.go_back.new.program stands (c.go_back.ensures.restarts setting) (c.go_back.ensures.point setting stands.point)) c.count_beginning.ensures
+
+pub go_back-requires : goal.go_back-requires
+go_back-requires g c = search

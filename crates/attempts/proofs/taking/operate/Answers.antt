@@ -20,3 +20,9 @@ returns-in-None-clause-phase g c = ap (λ (p : Program _ _ _ _). p.phase) c.free
 
 pub returns-in-None-clause-count : goal.returns-in-None-clause-count
 returns-in-None-clause-count g c = ap (λ (p : Program _ _ _ _). p.count) c.free_first.ensures
+
+pub next_effect-requires : goal.next_effect-requires
+next_effect-requires g c = search
+
+pub free_first-requires : goal.free_first-requires
+free_first-requires g c = search

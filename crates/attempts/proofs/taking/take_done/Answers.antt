@@ -14,5 +14,14 @@ returns-in-GivesBack g c = took g.S.Lock.PartialEq.eq g.S.Scripts.reply_of g.S.S
 pub returns-in-Operates : goal.returns-in-Operates
 returns-in-Operates g c = took g.S.Lock.PartialEq.eq g.S.Scripts.reply_of g.S.Scripts.effects_of (g.S.Scripts.system c.args.setting.now) (g.S.Scripts.Knows c.args.setting.now) c.args.program.now c.operate.new.program (Operates c.in-Operates.field-0) Done (phase_now _ c.args.program.now (Operates c.in-Operates.field-0) c.program.view_is c.in-Operates.is) tt c.operate.ensures.operates (operates_point g.S.Lock.PartialEq.eq g.S.Scripts.reply_of g.S.Scripts.effects_of (g.S.Scripts.system c.args.setting.now) (g.S.Scripts.Knows c.args.setting.now) c.operate.new.program c.in-Operates.field-0 (c.operate.ensures.phase ∙ (phase_now _ c.args.program.now (Operates c.in-Operates.field-0) c.program.view_is c.in-Operates.is))) c.operate.ensures.count
 
-pub returns-in-Requests : goal.returns-in-Requests
-returns-in-Requests g c = not_done g.S.Lock.PartialEq.eq g.S.Scripts.reply_of g.S.Scripts.effects_of (g.S.Scripts.system c.args.setting.now) (g.S.Scripts.Knows c.args.setting.now) _ c.args.program.now c.program.view_is c.requires.stands.point c.in-Requests.is
+pub returns-in_default : goal.returns-in_default
+returns-in_default g c = not_done g.S.Lock.PartialEq.eq g.S.Scripts.reply_of g.S.Scripts.effects_of (g.S.Scripts.system c.args.setting.now) (g.S.Scripts.Knows c.args.setting.now) _ c.args.program.now c.program.view_is c.requires.stands.point c.in_default.not-Withdraws c.in_default.not-GivesBack c.in_default.not-Operates
+
+pub give_back-requires : goal.give_back-requires
+give_back-requires g c = search
+
+pub free_on-requires : goal.free_on-requires
+free_on-requires g c = search
+
+pub operate-requires : goal.operate-requires
+operate-requires g c = search

@@ -11,5 +11,5 @@ returns-in-Withdraws g c = in_phase (λ p phase. is_given_up_in phase) _ c.args.
 pub returns-in-GivesBack : goal.returns-in-GivesBack
 returns-in-GivesBack g c = in_phase (λ p phase. is_given_up_in phase) _ c.args.self.now GivesBack c.self.view_is c.in-GivesBack.is
 
-pub returns-in-Requests : goal.returns-in-Requests
-returns-in-Requests g c = goes_ahead _ c.in-Requests.is ∙ ap (λ (p : Program _ _ _ _). is_given_up_in p.phase) c.self.view_is
+pub returns-in_default : goal.returns-in_default
+returns-in_default g c = goes_ahead _ c.in_default.not-Withdraws c.in_default.not-GivesBack ∙ ap (λ (p : Program _ _ _ _). is_given_up_in p.phase) c.self.view_is

@@ -11,5 +11,5 @@ returns-in-Requests g c = in_phase (λ p phase. asked_in phase) _ c.args.self.no
 pub returns-in-Seizes : goal.returns-in-Seizes
 returns-in-Seizes g c = in_phase (λ p phase. asked_in phase) _ c.args.self.now (Seizes c.in-Seizes.lock c.in-Seizes.field-1) c.self.view_is c.in-Seizes.is
 
-pub returns-in-Tests : goal.returns-in-Tests
-returns-in-Tests g c = asks_none _ c.in-Tests.is ∙ ap (λ (p : Program _ _ _ _). asked_in p.phase) c.self.view_is
+pub returns-in_default : goal.returns-in_default
+returns-in_default g c = asks_none _ c.in_default.not-Requests c.in_default.not-Seizes ∙ ap (λ (p : Program _ _ _ _). asked_in p.phase) c.self.view_is
