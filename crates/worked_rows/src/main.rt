@@ -11,12 +11,14 @@ use std::{fs, io};
 use toml::Value;
 use work::came_of;
 
-const FILES: [&str; 8] = [
+const FILES: [&str; 10] = [
+    "forms.toml",
     "calls.toml",
     "refusals.toml",
     "plans.toml",
     "slips.toml",
     "audits.toml",
+    "records.toml",
     "walks.toml",
     "drawings.toml",
     "pages.toml",
