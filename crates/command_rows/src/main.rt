@@ -15,7 +15,14 @@ use std::thread::Threads;
 use std::{fs, io};
 use toml::Value;
 
-const FILES: [&str; 4] = ["tasks.toml", "drawings.toml", "refusals.toml", "told.toml"];
+const FILES: [&str; 6] = [
+    "tasks.toml",
+    "live.toml",
+    "drawings.toml",
+    "refusals.toml",
+    "words.toml",
+    "told.toml",
+];
 
 fn main(rt: HostRuntime) -> io::Result<()> {
     for file in FILES {

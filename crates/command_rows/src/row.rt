@@ -5,6 +5,8 @@ use toml::Value;
 pub enum Expected<'a> {
     /// This, and no more.
     All(&'a str),
+    /// Something that begins with this.
+    Start(&'a str),
     /// Something that ends with this.
     End(&'a str),
 }
@@ -14,6 +16,7 @@ impl Expected<'_> {
     pub fn is_met_by(&self, bytes: &[u8]) -> bool {
         match self {
             Expected::All(text) => bytes == text.as_bytes(),
+            Expected::Start(text) => bytes.starts_with(text.as_bytes()),
             Expected::End(text) => bytes.ends_with(text.as_bytes()),
         }
     }
@@ -23,7 +26,9 @@ impl Expected<'_> {
 #[derive(Drop)]
 pub struct Row<'a> {
     pub name: &'a str,
-    /// The words behind the program's name, parted by spaces.
+    /// The program's name.
+    pub program: &'a str,
+    /// The words behind it, parted by spaces.
     pub words: &'a str,
     /// What is in the plan's file. Without it no file is there.
     pub plan: Option<&'a str>,
@@ -38,24 +43,26 @@ fn text_at<'a>(value: &'a Value, key: &str) -> Option<&'a str> {
     value.get(key)?.as_str()
 }
 
-/// What is expected of a stream: all of it or its end, or nothing.
-fn expected_at<'a>(value: &'a Value, all: &str, end: &str) -> Expected<'a> {
-    match text_at(value, end) {
-        Some(text) => Expected::End(text),
-        None => Expected::All(text_at(value, all).unwrap_or("")),
+/// What is expected of a stream: all of it, its start or its end, or nothing.
+fn expected_at<'a>(value: &'a Value, all: &str, start: &str, end: &str) -> Expected<'a> {
+    match (text_at(value, start), text_at(value, end)) {
+        (Some(text), _) => Expected::Start(text),
+        (None, Some(text)) => Expected::End(text),
+        (None, None) => Expected::All(text_at(value, all).unwrap_or("")),
     }
 }
 
-/// A row by its keys. It has no words, no input, nothing on either stream and status 0, if it doesn't
-/// say otherwise.
+/// A row by its keys. The program's name is `crossbar5`, and it has no words, no input, nothing on either
+/// stream and status 0, if it doesn't say otherwise.
 pub fn row_of(value: &Value) -> Option<Row<'_>> {
     Some(Row {
         name: text_at(value, "name")?,
+        program: text_at(value, "program").unwrap_or("crossbar5"),
         words: text_at(value, "words").unwrap_or(""),
         plan: text_at(value, "plan"),
         input: text_at(value, "input").unwrap_or(""),
-        output: expected_at(value, "output", "output_end"),
-        errors: expected_at(value, "errors", "errors_end"),
+        output: expected_at(value, "output", "output_start", "output_end"),
+        errors: expected_at(value, "errors", "errors_start", "errors_end"),
         status: value
             .get("status")
             .map_or(0, |status| status.as_integer().unwrap_or(-1)),

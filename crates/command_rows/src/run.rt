@@ -45,7 +45,7 @@ pub fn came_of<T: Threads + Wait + Sync>(
     alloc: Global,
     row: &Row<'_>,
 ) -> Result<Came, AllocError> {
-    let words = words_of(alloc, row.words)?;
+    let words = words_of(alloc, row)?;
     let mut input = Counted::new(row.input.as_bytes());
     let mut output = Counted::new(Vec::new(alloc));
     let mut errors = Counted::new(Vec::new(alloc));
@@ -67,11 +67,11 @@ pub fn came_of<T: Threads + Wait + Sync>(
 }
 
 /// The program's name, and the words behind it.
-fn words_of<'a>(alloc: Global, line: &'a str) -> Result<Vec<&'a str>, AllocError> {
+fn words_of<'a>(alloc: Global, row: &Row<'a>) -> Result<Vec<&'a str>, AllocError> {
     let mut words = Vec::new(alloc);
-    words.push("crossbar5")?;
-    if !line.is_empty() {
-        for word in line.split(' ') {
+    words.push(row.program)?;
+    if !row.words.is_empty() {
+        for word in row.words.split(' ') {
             words.push(word)?;
         }
     }

@@ -1,11 +1,11 @@
-//! Tests of the command line, of counted reads and writes, of the rows of traffic, of slips, and of the
-//! text of a run, by texts that were worked out outside.
+//! Tests of what rows of `worked_rows` and `command_rows` can't have: devices that fail or never end,
+//! refused memory, large texts, bytes that are no text, real files, and calls that compete.
 #![tactic(auto)]
 
 #[cfg(test)]
-mod command_line;
-#[cfg(test)]
 mod counted;
+#[cfg(test)]
+mod program;
 #[cfg(test)]
 mod report;
 #[cfg(test)]

@@ -11,13 +11,15 @@ use std::{fs, io};
 use toml::Value;
 use work::came_of;
 
-const FILES: [&str; 9] = [
+const FILES: [&str; 11] = [
+    "forms.toml",
     "calls.toml",
     "replies.toml",
     "refusals.toml",
     "plans.toml",
     "slips.toml",
     "audits.toml",
+    "records.toml",
     "walks.toml",
     "drawings.toml",
     "pages.toml",

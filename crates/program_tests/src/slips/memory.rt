@@ -3,8 +3,6 @@
 
 use super::*;
 use test_tools::check;
-use xbar_plan::PlanFault;
-use xbar_traffic::{Mode, RowFault, TrafficFault};
 
 /// A plan with a fault of many a kind.
 const PLAN: &str = r#"version = 1

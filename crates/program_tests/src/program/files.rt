@@ -1,8 +1,7 @@
 //! Plans in real files, with the system's reason where one can't be read. What is no file can be opened,
 //! but not read.
 
-use super::running::run_line;
-use crossbar5::Counted;
+use super::*;
 use std::test::Fail;
 use test_tools::check_eq;
 
@@ -33,12 +32,9 @@ const LINES: &[(&str, u8, &str)] = &[
 #[test]
 fn plans_are_read_from_files(rt: HostRuntime) -> Result<(), Fail> {
     for (line, status, said) in LINES {
-        let mut input = Counted::new(b"".as_slice());
-        let mut output = Counted::new(Vec::new(rt.alloc()));
-        let mut errors = Counted::new(Vec::new(rt.alloc()));
-        let exit = run_line(&rt, &rt, line, &mut input, &mut output, &mut errors)?;
-        let found = str::from_utf8(errors.get_ref()).unwrap_or("this is no text");
-        check_eq!(rt; (exit.status(), found), (*status, *said), line);
+        let mut streams = Streams::new(rt.alloc(), "", Fails::Nothing);
+        let exit = streams.run(&rt, rt.alloc(), &RealFiles { rt: &rt }, line)?;
+        check_eq!(rt; (exit.status(), streams.said()), (*status, *said), line);
     }
     Ok(())
 }

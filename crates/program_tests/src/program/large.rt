@@ -1,7 +1,10 @@
 //! A replay that is large, and a text of many records.
 
 use super::*;
-use test_tools::check;
+use crossbar5::{Look, Status, Task, answer_task, run_replay};
+use std::test::Fail;
+use test_tools::{check, check_eq};
+use xbar_core::Kind;
 
 const CALLS: u32 = 120;
 
@@ -45,7 +48,7 @@ fn more_than_a_hundred_paths(rt: HostRuntime) -> Result<(), Fail> {
     let status = run_replay(
         rt.alloc(),
         WIDE_PLAN.as_bytes(),
-        &TWO,
+        &[Kind::Combined; 2],
         &mut source,
         &mut sink,
     )?;
@@ -74,7 +77,7 @@ fn records(alloc: Global) -> Result<String, AllocError> {
 /// A task on these records, the end of what it comes to, and how many of the records that shows.
 const OF_MANY_RECORDS: &[(Task<'static>, &str, usize)] = &[
     (Task::Audit, "AUDIT,LEGAL,150\nPATHS,0\nCLOSED,0\n", 0),
-    (DRAW, "No path is up.\n", 0),
+    (Task::Draw { look: Look::Text }, "No path is up.\n", 0),
     (
         Task::Draw {
             look: Look::Drawing,

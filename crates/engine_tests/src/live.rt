@@ -1,5 +1,0 @@
-//! Live traffic, whose calls are done on threads.
-
-mod devices;
-mod running;
-mod traffic;

@@ -1,0 +1,183 @@
+//! Standard streams that fail, and an input without end.
+
+use super::*;
+use crossbar5::EngineFault;
+use crossbar5_cli::Ending;
+use std::process::Abort;
+use std::test::Fail;
+use test_tools::{Call, Endless, Recorder, check, check_eq};
+
+/// Words, with an input that they take.
+const TASKS: &[(&str, &str)] = &[
+    ("replay", FIRST),
+    ("walk", "J,0,7,R,3041\nS,0,9,,\n"),
+    ("live", "C,7,3041,5551234,R\n"),
+    ("audit", FIRST_TEXT),
+    // The record is wrong.
+    ("audit", "0,1,0,D,3041,-,NOPATH,-,-,-\n"),
+    ("draw --text", FIRST_TEXT),
+    ("draw", "PATHS,0\nCLOSED,0\n"),
+    ("page", "PATHS,0\nCLOSED,0\n"),
+];
+
+const UNREADABLE: &str = "FAULT,DEVICE\ncrossbar5: cannot read standard input\n";
+
+const UNWRITABLE: &str = "FAULT,DEVICE\ncrossbar5: cannot write standard output\n";
+
+const TOO_LONG: &str = "FAULT,LONG\ncrossbar5: standard input is too long\n";
+
+/// One read gives bytes, and the next finds the end.
+#[test]
+fn a_failed_read_leaves_nothing_written(rt: HostRuntime) -> Result<(), Fail> {
+    for (line, input) in TASKS {
+        for calls in 0..2 {
+            let mut streams = Streams::new(rt.alloc(), input, Fails::Input(calls));
+            let exit = streams.run(&rt, rt.alloc(), &RealFiles { rt: &rt }, line)?;
+            check_eq!(rt; (exit.status(), streams.said()), (6, UNREADABLE), line);
+            check_eq!(rt; (streams.input.failures(), streams.written()), (1, ""), line);
+        }
+    }
+    Ok(())
+}
+
+/// Words without an input, and a call of the output that fails: a write or the flush. Help is not flushed.
+const TOLD: &[(&str, u32)] = &[("--help", 0), ("--version", 0), ("--version", 1)];
+
+fn check_unwritable<T: Threads + Wait + Sync + Abort>(
+    rt: &T,
+    alloc: Global,
+    files: &RealFiles<'_>,
+    task: (&str, &str),
+    calls: u32,
+) -> Result<(), Fail> {
+    let (line, input) = task;
+    let mut streams = Streams::new(alloc, input, Fails::Output(calls));
+    let exit = streams.run(rt, alloc, files, line)?;
+    check_eq!(rt; (exit.status(), streams.said()), (6, UNWRITABLE), line);
+    check_eq!(rt; (streams.output.failures(), exit.is_told), (1, true), line);
+    Ok(())
+}
+
+#[test]
+fn a_failed_write_or_flush_is_told(rt: HostRuntime) -> Result<(), Fail> {
+    let files = RealFiles { rt: &rt };
+    for task in TASKS {
+        for calls in 0..2 {
+            check_unwritable(&rt, rt.alloc(), &files, *task, calls)?;
+        }
+    }
+    for (line, calls) in TOLD {
+        check_unwritable(&rt, rt.alloc(), &files, (*line, ""), *calls)?;
+    }
+    Ok(())
+}
+
+/// Words that something is said of, with their status.
+const SAID: &[(&str, u8)] = &[
+    ("call", 2),
+    ("live --dial 0", 2),
+    ("replay --markers Y", 2),
+    ("replay --plan missing.toml", 6),
+    ("draw --plan /dev/null", 3),
+];
+
+#[test]
+fn a_failed_message_changes_no_status(rt: HostRuntime) -> Result<(), Fail> {
+    for (line, status) in SAID {
+        let mut streams = Streams::new(rt.alloc(), "", Fails::Errors(0));
+        let exit = streams.run(&rt, rt.alloc(), &RealFiles { rt: &rt }, line)?;
+        check_eq!(rt; (exit.status(), exit.is_told), (*status, false), line);
+        check!(rt; exit.ending != Ending::Told, line);
+    }
+    Ok(())
+}
+
+/// The first call of a stream fails, and so many failures are counted of each.
+const EARLIER: &[(Fails, [u64; 3])] = &[
+    (Fails::Input(0), [1, 0, 0]),
+    (Fails::Output(0), [0, 1, 0]),
+    (Fails::Errors(0), [0, 0, 1]),
+];
+
+/// What failed at a stream before a run is no failure of the run.
+#[test]
+fn an_earlier_failure_is_none_of_the_run(rt: HostRuntime) -> Result<(), Fail> {
+    for (fails, wanted) in EARLIER {
+        let mut streams = Streams::new(rt.alloc(), FIRST, *fails);
+        let _read = streams.input.read_and_count(&mut []);
+        let _flushed = streams.output.flush_and_count();
+        let _told = streams.errors.flush_and_count();
+        let failures = [
+            streams.input.failures(),
+            streams.output.failures(),
+            streams.errors.failures(),
+        ];
+        check_eq!(rt; failures, *wanted);
+        let exit = streams.run(&rt, rt.alloc(), &RealFiles { rt: &rt }, "replay")?;
+        check_eq!(rt; (exit.status(), streams.written()), (0, FIRST_TEXT));
+    }
+    Ok(())
+}
+
+#[test]
+fn output_goes_out_in_one_write_and_one_flush(rt: HostRuntime) -> Result<(), Fail> {
+    let alloc = rt.alloc();
+    let mut input = Counted::new(Recorder::new(alloc, FIRST.as_bytes()));
+    let mut output = Counted::new(Recorder::new(alloc, Vec::new(alloc)));
+    let mut errors = counted(Vec::new(alloc), None);
+    let files = RealFiles { rt: &rt };
+    run_line(
+        &rt,
+        alloc,
+        &files,
+        "replay",
+        &mut input,
+        &mut output,
+        &mut errors,
+    )?;
+    // The second read finds the end.
+    let reads = [Call::Read(4096); 2];
+    check_eq!(rt; input.get_ref().calls.as_slice(), reads.as_slice());
+    let writes = [Call::Write(FIRST_TEXT.len()), Call::Flush];
+    check_eq!(rt; output.get_ref().calls.as_slice(), writes.as_slice());
+    check_eq!(rt; text_in(&errors), "");
+    Ok(())
+}
+
+#[test]
+fn input_without_end_is_too_long(rt: HostRuntime) -> Result<(), Fail> {
+    let alloc = rt.alloc();
+    for line in ["replay", "live"] {
+        let mut input = Counted::new(Endless);
+        let mut output = counted(Vec::new(alloc), None);
+        let mut errors = counted(Vec::new(alloc), None);
+        let files = RealFiles { rt: &rt };
+        let exit = run_line(
+            &rt,
+            alloc,
+            &files,
+            line,
+            &mut input,
+            &mut output,
+            &mut errors,
+        )?;
+        check_eq!(rt; (exit.status(), text_in(&errors)), (4, TOO_LONG), line);
+        check_eq!(rt; (input.reads(), text_in(&output)), (1_048_576, ""), line);
+    }
+    Ok(())
+}
+
+const TEXTS: &[(EngineFault, &str)] = &[
+    (EngineFault::Markers, "Markers"),
+    (EngineFault::Memory, "Memory"),
+    (EngineFault::Device, "Device"),
+    (EngineFault::Long, "Long"),
+];
+
+#[test]
+fn texts_of_faults(rt: HostRuntime) -> Result<(), Fail> {
+    for (fault, text) in TEXTS {
+        check_eq!(rt; fault.to_string(rt.alloc())?.as_str(), *text);
+    }
+    Ok(())
+}

@@ -1,0 +1,188 @@
+//! Where an allocation is refused: whichever it is, the program says so with nothing written, or comes to
+//! what it comes to.
+
+use super::*;
+use crossbar5::EngineFault;
+use crossbar5_cli::Ending;
+use std::process::Abort;
+use test_tools::{check, check_eq};
+
+/// The plan of each file: the example plan with a faulty junctor.
+const FAULTY: PlanText = PlanText {
+    text: r#"version = 1
+groups = ["REG register 417 418 509", "INTRA intra 600-601 700-711", "OUTA outgoing 800", "OUTB outgoing 801 902"]
+numbers = ["0001 3041", "0002 3052", "0003 1000", "0004 3100"]
+codes = ["234 INTRA", "555 OUTA OUTB"]
+faults = ["JU340"]
+"#,
+};
+
+/// A plan that is refused.
+const REFUSED: PlanText = PlanText {
+    text: "version = 3\n",
+};
+
+/// A system whose every file has this text.
+#[derive(Drop)]
+struct PlanText {
+    text: &'static str,
+}
+
+impl System for PlanText {
+    type File = &'static [u8];
+
+    fn open(&self, _name: &str) -> io::Result<&'static [u8]> {
+        Ok(self.text.as_bytes())
+    }
+
+    fn begin(&self, _work: Work<'_>) {}
+
+    fn end(&self) {}
+}
+
+/// Words and an input, with the output that they come to.
+const DONE: &[(&str, &str, &str)] = &[
+    ("replay", FIRST, FIRST_TEXT),
+    (
+        "replay --plan town.toml",
+        FIRST,
+        "0,1,0,D,3041,-,DIALTONE,2,3041-5-418,-\nTROUBLE,0,1,1,JU340\nPATHS,1\nCLOSED,4\n",
+    ),
+    (
+        "replay",
+        "J,0,1,D,3041\nS,0,96,,\nJ,0,2,C,3041 2340004\nS,0,96,,\n",
+        "0,1,0,D,3041,-,DIALTONE,1,3041-0-417,-\n\
+1,2,0,C,3041,2340004,CONNECTED,1,3041-0-600,3100-1-601\nPATHS,2\nCLOSED,8\n",
+    ),
+    ("walk", "J,0,7,R,3041\nS,0,9,,\n", WALK),
+    ("audit", FIRST_TEXT, "AUDIT,LEGAL,1\nPATHS,1\nCLOSED,4\n"),
+    ("draw --text", "PATHS,0\nCLOSED,0\n", "No path is up.\n"),
+    (
+        "draw --text --plan town.toml",
+        "0,7,1,D,3052,-,DIALTONE,2,3052-5-418,-\nTROUBLE,0,7,1,JU340\n",
+        FAULTY_DRAWING,
+    ),
+    ("--version", "", "crossbar5 0.1.0\na kit\n"),
+];
+
+/// Words and an input, with the output, the messages and the status that they come to.
+type Wanted = (&'static str, &'static str, &'static str, &'static str, u8);
+
+const TOLD: &[Wanted] = &[
+    (
+        "audit",
+        "0,1,0,D,3041,-,NOPATH,-,-,-\n",
+        "AUDIT,REPLY,0\n0,1,0,D,3041,-,NOPATH,-,-,-\n0,1,0,D,3041,-,DIALTONE,1,3041-0-417,-\n",
+        "",
+        7,
+    ),
+    (
+        "replay",
+        "S,0,1,,\n\nJ,0,1,D,3045\n",
+        "FAULT,T3,2\n",
+        "crossbar5: traffic line 3 (row 2), field 5 \"3045\": expected a line of four digits, \
+the third at most 5 and the fourth at most 4 (T3)\n",
+        4,
+    ),
+    (
+        "replay --plan",
+        "",
+        "",
+        "error: a value is required for '--plan <FILE>' but none was supplied\n\n\
+For more information, try '--help'.\n",
+        2,
+    ),
+];
+
+const TOLD_OF_A_REFUSED_PLAN: &[Wanted] = &[
+    (
+        "replay --plan town.toml",
+        "",
+        "FAULT,P2\n",
+        "crossbar5: town.toml: version: expected 1 or 2, found 3 (P2)\n",
+        3,
+    ),
+    (
+        "draw --plan town.toml",
+        "",
+        "",
+        "FAULT,P2\ncrossbar5: town.toml: version: expected 1 or 2, found 3 (P2)\n",
+        3,
+    ),
+];
+
+const WALK: &str = "      marker 0  is given job 7: release of line 3041
+   1  marker 0  requests line link frame 3
+   2  marker 0  seizes line link frame 3
+   3  marker 0  tests line switch 3,0: nothing closed
+   4  marker 0  takes turn 0: job 7 ends NOCALL
+   5  marker 0  frees line link frame 3, and has done job 7
+      the rows are done, and the office settles
+";
+
+const FAULTY_DRAWING: &str = "\
+PATHS AT A GLANCE
+3052 --[frame 3]-- channel 5 --[frame 4]-- 418   register's path: REG 1
+
+A REGISTER'S PATH
+3052-5-418: line 3052 to register REG 1, channel 5
+         +-- line link frame 3 --+         +- trunk link frame 4 --+
+3052 ----X-------- LL305 --------X--JU345--X-------- TL415 --------X---- 418
+         +-----------------------+         +-----------------------+
+switch  3,0                     3,5       4,5                     4,1
+word     60                      75       295                     281
+field     5                       4         3                       5
+holds    28                       1         2                       9
+
+LINKS OUT OF ORDER
+JU340: channel 0, from line link frame 3 to trunk link frame 4
+
+   .---------------------------------------------.
+  /  TROUBLE CARD: JU340 is faulty               |
+ /   turn 0, job 7                               |
+|    marker 1, trial 1                           |
+|    . line link   # junctor   . trunk link      |
+|                       0 1 2 3 4 5 6 7 8 9      |
+|    line link frame    . . . # . . . . . .      |
+|    trunk link frame   . . . . # . . . . .      |
+|    channel            # . . . . . . . . .      |
+'------------------------------------------------'
+";
+
+/// The words come to this, with this plan in each file, or memory is refused and nothing is written. The
+/// streams grow too: where one can't, what went out before is a beginning. A sentence may be missing.
+fn comes_to_it_or_memory<T: Threads + Wait + Sync + Abort>(
+    rt: &T,
+    alloc: Global,
+    plan: &PlanText,
+    told: Wanted,
+) {
+    let (line, input, output, errors, status) = told;
+    let mut streams = Streams::new(alloc, input, Fails::Nothing);
+    let Ok(exit) = streams.run(rt, alloc, plan, line) else {
+        return;
+    };
+    let written = streams.written();
+    match exit.ending {
+        Ending::Failed(EngineFault::Memory) => check_eq!(rt; written, "", line),
+        Ending::Failed(EngineFault::Device) => check!(rt; output.starts_with(written), line),
+        _ => {
+            check_eq!(rt; (written, exit.status()), (output, status), line);
+            check!(rt; errors.starts_with(streams.said()), line);
+        }
+    }
+}
+
+#[test]
+fn refused_memory_leaves_nothing_written(rt: HostRuntime) {
+    for (line, input, output) in DONE {
+        let told = (*line, *input, *output, "", 0);
+        comes_to_it_or_memory(&rt, rt.alloc(), &FAULTY, told);
+    }
+    for told in TOLD {
+        comes_to_it_or_memory(&rt, rt.alloc(), &FAULTY, *told);
+    }
+    for told in TOLD_OF_A_REFUSED_PLAN {
+        comes_to_it_or_memory(&rt, rt.alloc(), &REFUSED, *told);
+    }
+}
