@@ -3,16 +3,16 @@
 #![tactic(auto)]
 
 pub use kinds::{KindsSlip, KindsWrong, kinds_slip};
-pub use plan::{
-    Found, ItemText, PlanForm, PlanList, PlanPlace, PlanReason, PlanSlip, PlanWrong, Repeat,
-    plan_slip,
-};
-pub use quoted::Quoted;
-pub use report::{ReportReason, ReportSlip, report_slip};
-pub use traffic::{FieldForm, FieldPlace, TrafficReason, TrafficSlip, traffic_slip};
+pub use plan::{ItemText, PlanList, PlanPlace, PlanSlip, PlanWrong, plan_slip};
+pub use report::{ReportSlip, report_slip};
+pub use traffic::{TrafficReason, TrafficSlip, traffic_slip};
 
 mod kinds;
 mod plan;
 mod quoted;
 mod report;
 mod traffic;
+
+/// What is said of a text that is to be a line, in a plan or in traffic.
+const EXPECTED_LINE: &str =
+    "expected a line of four digits, the third at most 5 and the fourth at most 4";

@@ -12,12 +12,8 @@ pub struct Quoted<'t>(pub &'t [u8]);
 impl fmt::Display for Quoted<'_> {
     fn fmt<W: fmt::Write>(&self, f: &mut fmt::Formatter<W>) -> fmt::Result {
         f.write_str("\"")?;
-        let count = write_start(f, self.0)?;
-        f.write_str(if count > MOST_CHARACTERS {
-            "\".."
-        } else {
-            "\""
-        })
+        let dots = write_start(f, self.0)?;
+        write!(f, "\"{dots}")
     }
 }
 
@@ -27,42 +23,34 @@ pub struct Bare<'t>(pub &'t [u8]);
 
 impl fmt::Display for Bare<'_> {
     fn fmt<W: fmt::Write>(&self, f: &mut fmt::Formatter<W>) -> fmt::Result {
-        let count = write_start(f, self.0)?;
-        f.write_str(if count > MOST_CHARACTERS { ".." } else { "" })
+        let dots = write_start(f, self.0)?;
+        f.write_str(dots)
     }
 }
 
-/// Writes as many characters as are shown, and answers how many there are.
-fn write_start<W: fmt::Write>(f: &mut fmt::Formatter<W>, text: &[u8]) -> Result<usize, fmt::Error> {
-    let mut count = 0;
+/// Writes as many characters as are shown, and answers the two dots if there are more.
+fn write_start<W: fmt::Write>(
+    f: &mut fmt::Formatter<W>,
+    text: &[u8],
+) -> Result<&'static str, fmt::Error> {
+    let mut left = MOST_CHARACTERS;
     for chunk in text.utf8_chunks() {
-        count = write_characters(f, chunk.valid(), count)?;
-        count = write_bytes(f, chunk.invalid(), count)?;
+        for character in chunk.valid().chars() {
+            if left == 0 {
+                return Ok("..");
+            }
+            left -= 1;
+            write_character(f, character)?;
+        }
+        for byte in chunk.invalid() {
+            if left == 0 {
+                return Ok("..");
+            }
+            left -= 1;
+            write!(f, "{}", byte.escape_ascii())?;
+        }
     }
-    Ok(count)
-}
-
-/// Writes those that are shown where so many stood before, and answers the new count.
-fn write_characters<W: fmt::Write>(
-    f: &mut fmt::Formatter<W>,
-    text: &str,
-    before: usize,
-) -> Result<usize, fmt::Error> {
-    for character in text.chars().take(MOST_CHARACTERS.saturating_sub(before)) {
-        write_character(f, character)?;
-    }
-    Ok(before.saturating_add(text.chars().count()))
-}
-
-fn write_bytes<W: fmt::Write>(
-    f: &mut fmt::Formatter<W>,
-    bytes: &[u8],
-    before: usize,
-) -> Result<usize, fmt::Error> {
-    for byte in bytes.iter().take(MOST_CHARACTERS.saturating_sub(before)) {
-        write!(f, "{}", byte.escape_ascii())?;
-    }
-    Ok(before.saturating_add(bytes.len()))
+    Ok("")
 }
 
 fn write_character<W: fmt::Write>(f: &mut fmt::Formatter<W>, character: char) -> fmt::Result {

@@ -11,39 +11,8 @@ use std::fmt;
 pub struct ReportSlip {
     /// The first line that is wrong, counted from 1.
     pub line: usize,
-    pub reason: ReportReason,
-}
-
-/// Why a line is no line of records at its place.
-#[derive(Debug, Drop)]
-pub enum ReportReason {
-    /// The text ends before this line.
-    EndsEarly,
-    /// The text ends within this line.
-    NoLineEnd,
-    /// The line ends with CR LF, where records end with LF.
-    CarriageReturn,
-    /// The line is another than may follow here.
-    Other(Vec<u8>),
-}
-
-impl fmt::Display for ReportReason {
-    fn fmt<W: fmt::Write>(&self, f: &mut fmt::Formatter<W>) -> fmt::Result {
-        match self {
-            ReportReason::EndsEarly => f.write_str(": the text ends before this line"),
-            ReportReason::NoLineEnd => f.write_str(": the text ends within this line"),
-            ReportReason::CarriageReturn => {
-                f.write_str(": this line ends with CR LF, expected LF alone")
-            }
-            ReportReason::Other(line) => {
-                let line = Quoted(line);
-                write!(
-                    f,
-                    ", {line}: expected a record, and after all records their trouble cards and counts"
-                )
-            }
-        }
-    }
+    /// What the sentence says behind the line's number.
+    pub reason: String,
 }
 
 impl fmt::Display for ReportSlip {
@@ -58,14 +27,21 @@ pub fn report_slip(alloc: Global, text: &[u8], line: usize) -> Result<ReportSlip
     ensures { IfOk result (λ slip. slip.line ≡ line) }
 {
     let reason = match line_of_number(text, line) {
-        None => ReportReason::EndsEarly,
-        Some(found) => match found.split_last() {
-            Some((b'\n', [.., b'\r'])) => ReportReason::CarriageReturn,
-            Some((b'\n', line)) => ReportReason::Other(line.to_vec(alloc)?),
-            _ => ReportReason::NoLineEnd,
-        },
+        None => format!(in alloc; ": the text ends before this line")?,
+        Some([.., b'\r', b'\n']) => {
+            format!(in alloc; ": this line ends with CR LF, expected LF alone")?
+        }
+        Some([found @ .., b'\n']) => reason_of_other(alloc, found)?,
+        Some(_) => format!(in alloc; ": the text ends within this line")?,
     };
     Ok(ReportSlip { line, reason })
+}
+
+fn reason_of_other(alloc: Global, found: &[u8]) -> Result<String, AllocError> {
+    let found = Quoted(found);
+    format!(in alloc;
+        ", {found}: expected a record, and after all records their trouble cards and counts"
+    )
 }
 
 /// The line of this number, counted from 1, with its line end. None after the last line.

@@ -1,15 +1,14 @@
-//! What is wrong with a plan's text as a document: bytes that are none, and values of a wrong kind.
+//! A plan's document with the texts of its lists, and what is wrong with it: bytes that are no
+//! document, and values of a wrong kind.
 
-ghost use Rattle.std.specs.Prelude.{◌≡◌, IfOk, find, option_copied, option_map};
-ghost use Rattle.toml.specs.View.{table_view};
+ghost use Rattle.std.specs.Prelude.{◌≡◌, IfOk, Some, find, map, option_copied, option_map};
+ghost use Rattle.toml.specs.Data.{get_member};
+ghost use Rattle.toml.specs.View.{view, table_view};
 ghost use Rattle.xbar_plan_text.specs.Document.{document_of as document_of_bytes};
-ghost use Rattle.xbar_slips.specs.Lists.{TellsList, is_missing as is_missing_list, missing_list as missing_list_of};
+ghost use Rattle.xbar_slips.specs.Lists.{TellsList, texts_at, is_missing as is_missing_list, missing_list as missing_list_of};
 
-use super::form::{Found, PlanForm};
 use super::list::PlanList;
-use super::lists::value_at;
-use super::reason::PlanReason;
-use super::slip::{PlanPlace, PlanWrong};
+use super::slip::{Found, PlanPlace, PlanWrong};
 use std::alloc::{AllocError, Global};
 use toml::{Table, Value};
 use xbar_plan::PlanFault;
@@ -27,8 +26,47 @@ pub fn document_of(alloc: Global, text: &[u8]) -> Result<Option<Table>, AllocErr
     }
 }
 
+/// The value at a key.
+fn value_at<'d>(document: &'d Table, key: &str) -> Option<&'d Value>
+    ensures { option_map (λ value. view value.now) result ≡
+        get_member key.now (table_view document.now) }
+{
+    document.get(key)
+}
+
+/// The texts of one list, if they are all texts.
+pub fn texts_in(
+    alloc: Global,
+    document: &Table,
+    list: PlanList,
+) -> Result<Option<Vec<&[u8]>>, AllocError>
+    ensures { IfOk result (λ texts. option_map (λ found. map (λ text. text.now) found.items) texts ≡
+        texts_at (table_view document.now) list) }
+{
+    let Some(value) = value_at(document, list.key()) else {
+        return Ok(None);
+    };
+    match reading::texts_of(alloc, value) {
+        Ok(texts) => Ok(Some(texts)),
+        Err(PlanFault::Memory) => Err(AllocError),
+        Err(_) => Ok(None),
+    }
+}
+
+/// The texts of all four lists, if they are all texts.
+pub fn lists_of(alloc: Global, document: &Table) -> Result<Option<Vec<Vec<&[u8]>>>, AllocError> {
+    let mut lists = Vec::new(alloc);
+    for list in PlanList::ALL {
+        let Some(texts) = texts_in(alloc, document, list)? else {
+            return Ok(None);
+        };
+        lists.push(texts)?;
+    }
+    Ok(Some(lists))
+}
+
 /// Where a text stops being a document.
-pub fn not_toml(alloc: Global, text: &[u8]) -> Result<Option<PlanWrong>, AllocError> {
+pub fn not_toml(alloc: Global, text: &[u8]) -> Found {
     let Err(error) = toml::table_from_slice(alloc, text) else {
         return Ok(None);
     };
@@ -38,105 +76,89 @@ pub fn not_toml(alloc: Global, text: &[u8]) -> Result<Option<PlanWrong>, AllocEr
     let (line, column) = line_and_column(text.get(..span.start).unwrap_or(text));
     Ok(Some(PlanWrong {
         place: PlanPlace::Text { line, column },
-        reason: PlanReason::Toml(error),
+        reason: String::from_str(alloc, error.message())?,
     }))
 }
 
-/// The line and the column, both from 1, of the place after these bytes. A column counts
-/// characters.
+/// The line and the column, both from 1, of the place after these bytes. A column counts characters.
 fn line_and_column(before: &[u8]) -> (usize, usize) {
-    let mut line = 1usize;
-    let mut column = 1usize;
-    for byte in before {
-        if *byte == b'\n' {
-            line = line.saturating_add(1);
-            column = 1;
-        } else if !continues_character(*byte) {
-            column = column.saturating_add(1);
-        }
-    }
-    (line, column)
+    let lines = before.iter().filter(|byte| **byte == b'\n').count();
+    let last = before
+        .rsplit(|byte| *byte == b'\n')
+        .next()
+        .unwrap_or(before);
+    let begun = last
+        .iter()
+        .filter(|byte| !(0x80..0xc0).contains(*byte))
+        .count();
+    (lines.saturating_add(1), begun.saturating_add(1))
 }
 
-/// Whether a byte of UTF-8 is none that begins a character.
-fn continues_character(byte: u8) -> bool {
-    (0x80..0xc0).contains(&byte)
+/// What a sentence calls the values that lists must have.
+const TEXTS: &str = "an array of strings";
+
+/// What is wrong at a place where a document has this value, and not what is expected.
+fn found_instead(alloc: Global, place: PlanPlace, expected: &str, value: Option<&Value>) -> Found
+    ensures { IfOk result (λ wrong. option_map (λ wrong. wrong.place) wrong ≡ Some place) }
+{
+    let found = match value {
+        None => "nothing",
+        Some(Value::String(_)) => "a string",
+        Some(Value::Integer(number)) => {
+            let reason = format!(in alloc; "expected {expected}, found {number}")?;
+            return Ok(Some(PlanWrong { place, reason }));
+        }
+        Some(Value::Float(_)) => "a float",
+        Some(Value::Boolean(_)) => "a boolean",
+        Some(Value::Datetime(_)) => "a date or time",
+        Some(Value::Array(_)) => "an array",
+        Some(Value::Table(_)) => "a table",
+    };
+    let reason = format!(in alloc; "expected {expected}, found {found}")?;
+    Ok(Some(PlanWrong { place, reason }))
 }
 
 /// The version, if it is none.
-pub fn wrong_version(document: &Table) -> Option<PlanWrong> {
-    if reading::version_of(document).is_some() {
-        return None;
+pub fn wrong_version(alloc: Global, document: &Table) -> Found {
+    match reading::version_of(document) {
+        Some(_) => Ok(None),
+        None => {
+            let value = document.get("version");
+            found_instead(alloc, PlanPlace::Version, "1 or 2", value)
+        }
     }
-    Some(PlanWrong {
-        place: PlanPlace::Version,
-        reason: PlanReason::Instead {
-            found: Found::of(document.get("version")),
-            expected: PlanForm::OneOrTwo,
-        },
-    })
 }
 
 /// The first list that isn't there.
-pub fn missing_list(document: &Table) -> Option<PlanWrong>
-    ensures { TellsList result (missing_list_of (table_view document.now)) }
+pub fn missing_list(alloc: Global, document: &Table) -> Found
+    ensures { IfOk result (λ wrong. TellsList wrong (missing_list_of (table_view document.now))) }
 {
-    let list = *first_missing(document, &PlanList::ALL)?;
-    Some(PlanWrong {
-        place: PlanPlace::List(list),
-        reason: PlanReason::Instead {
-            found: Found::Nothing,
-            expected: PlanForm::ArrayOfTexts,
-        },
-    })
+    match first_missing(document, &PlanList::ALL) {
+        Some(list) => found_instead(alloc, PlanPlace::List(*list), TEXTS, None),
+        None => Ok(None),
+    }
 }
 
 fn first_missing<'l>(document: &Table, lists: &'l [PlanList]) -> Option<&'l PlanList>
     ensures { option_copied result ≡ find (is_missing_list (table_view document.now)) lists.now }
 {
-    lists.iter().find(|list| is_missing(document, **list))
-}
-
-fn is_missing(document: &Table, list: PlanList) -> bool
-    ensures { result ≡ is_missing_list (table_view document.now) list }
-{
-    value_at(document, list.key()).is_none()
+    lists
+        .iter()
+        .find(|list| value_at(document, list.key()).is_none())
 }
 
 /// The first value that is no array of texts, or its first item that is no text.
-pub fn list_of_others(document: &Table) -> Option<PlanWrong> {
+pub fn list_of_others(alloc: Global, document: &Table) -> Found {
     for list in PlanList::ALL {
-        let wrong = wrong_value(list, document.get(list.key()));
-        if wrong.is_some() {
-            return wrong;
+        let value = document.get(list.key());
+        let Some(items) = value.and_then(|value| value.as_array()) else {
+            return found_instead(alloc, PlanPlace::List(list), TEXTS, value);
+        };
+        if let Some(index) = items.iter().position(|item| item.as_str().is_none()) {
+            let number = index + 1;
+            let place = PlanPlace::Item { list, number };
+            return found_instead(alloc, place, "a string", items.get(index));
         }
     }
-    None
-}
-
-fn wrong_value(list: PlanList, value: Option<&Value>) -> Option<PlanWrong> {
-    match value.and_then(|value| value.as_array()) {
-        Some(items) => wrong_item(list, items),
-        None => Some(PlanWrong {
-            place: PlanPlace::List(list),
-            reason: PlanReason::Instead {
-                found: Found::of(value),
-                expected: PlanForm::ArrayOfTexts,
-            },
-        }),
-    }
-}
-
-fn wrong_item(list: PlanList, items: &[Value]) -> Option<PlanWrong> {
-    let index = items.iter().position(|item| item.as_str().is_none())?;
-    Some(PlanWrong {
-        place: PlanPlace::Item {
-            list,
-            number: index + 1,
-        },
-        reason: PlanReason::Instead {
-            found: Found::of(items.get(index)),
-            expected: PlanForm::Text,
-        },
-    })
+    Ok(None)
 }

@@ -1,71 +1,57 @@
-//! What is wrong with groups: their kinds, and the places of their members.
+//! What is wrong with groups, and with the groups that codes lead to.
 
 use super::list::PlanList;
-use super::reason::{PlanReason, Repeat};
-use super::repeats::{first_repeat, repeated_item};
-use super::slip::{PlanPlace, PlanWrong};
+use super::slip::{Found, PlanPlace, PlanWrong};
+use crate::quoted::Bare;
 use std::alloc::{AllocError, Global};
 use xbar_equip::Ten;
-use xbar_plan::{Group, Member};
+use xbar_plan::{Group, GroupKind, Member, PlanFault};
+use xbar_plan_text::reading;
 
-/// The second group of registers, or that there is none.
-pub fn wrong_registers(groups: &[Group]) -> Option<PlanWrong> {
-    let Some(first) = groups.iter().position(|group| group.is_register()) else {
-        return Some(PlanWrong {
-            place: PlanPlace::List(PlanList::Groups),
-            reason: PlanReason::NoRegisters,
-        });
-    };
-    let (second, _) = groups
-        .iter()
-        .enumerate()
-        .find(|(index, group)| *index > first && group.is_register())?;
-    Some(repeated_item(PlanList::Groups, second, first, Repeat::Registers))
-}
-
-/// The first place that stood before, in the same group or in another.
-pub fn repeated_place(alloc: Global, groups: &[Group]) -> Result<Option<PlanWrong>, AllocError> {
-    let mut places = Vec::new(alloc);
-    let mut items = Vec::new(alloc);
-    for (index, group) in groups.iter().enumerate() {
-        push_places(&mut places, group)?;
-        items.resize(places.len(), index)?;
-    }
-    Ok(repeated_among(&places, &items))
-}
-
-/// The first of these places that stood before, where each has the item that it stands in.
-fn repeated_among(places: &[Ten], items: &[usize]) -> Option<PlanWrong> {
-    let (place, earlier) = first_repeat(places)?;
-    let (item, earlier) = (*items.get(place)?, *items.get(earlier)?);
-    let repeat = Repeat::Place(*places.get(place)?);
-    Some(repeated_item(PlanList::Groups, item, earlier, repeat))
-}
-
-fn push_places(places: &mut Vec<Ten>, group: &Group) -> Result<(), AllocError> {
-    for member in group.members() {
-        places.push(member.first)?;
-        if let Some(second) = member.second {
-            places.push(second)?;
+/// The groups, if all of them can be read.
+pub fn read_groups(alloc: Global, texts: &[&[u8]]) -> Result<Option<Vec<Group>>, AllocError> {
+    let mut groups = Vec::new(alloc);
+    for text in texts {
+        match reading::read_group(alloc, text) {
+            Ok(group) => groups.push(group)?,
+            Err(PlanFault::Memory) => return Err(AllocError),
+            Err(_) => return Ok(None),
         }
     }
-    Ok(())
+    Ok(Some(groups))
+}
+
+/// The second group of registers, or that there is none.
+pub fn wrong_registers(alloc: Global, groups: &[Group]) -> Found {
+    let Some(first) = groups.iter().position(|group| group.is_register()) else {
+        return Ok(Some(PlanWrong {
+            place: PlanPlace::List(PlanList::Groups),
+            reason: format!(in alloc; "expected one register group, found none")?,
+        }));
+    };
+    let item = first + 1;
+    let Some(between) = groups
+        .iter()
+        .skip(item)
+        .position(|group| group.is_register())
+    else {
+        return Ok(None);
+    };
+    let reason = format!(in alloc; "duplicate register group, first used in item {item}")?;
+    PlanWrong::of_item(PlanList::Groups, item.saturating_add(between), reason)
 }
 
 /// The first pair whose places are on two trunk link frames.
-pub fn pair_apart(groups: &[Group]) -> Option<PlanWrong> {
+pub fn pair_apart(alloc: Global, groups: &[Group]) -> Found {
     for (index, group) in groups.iter().enumerate() {
         if let Some((first, second)) = group.members().iter().find_map(|pair| places_apart(*pair)) {
-            return Some(PlanWrong {
-                place: PlanPlace::Item {
-                    list: PlanList::Groups,
-                    number: index.saturating_add(1),
-                },
-                reason: PlanReason::Apart { first, second },
-            });
+            let reason = format!(in alloc;
+                "{first} and {second} are on two trunk link frames; expected one frame"
+            )?;
+            return PlanWrong::of_item(PlanList::Groups, index, reason);
         }
     }
-    None
+    Ok(None)
 }
 
 fn places_apart(member: Member) -> Option<(Ten, Ten)> {
@@ -75,4 +61,58 @@ fn places_apart(member: Member) -> Option<(Ten, Ten)> {
     } else {
         Some((first, second))
     }
+}
+
+/// The first code with this fault: it has a name that no group has, or else it leads to registers or
+/// to groups of two kinds.
+pub fn wrong_route(alloc: Global, groups: &[Group], codes: &[&[u8]], fault: PlanFault) -> Found {
+    for (index, text) in codes.iter().enumerate() {
+        let parts = reading::split_parts(alloc, text)?;
+        let names = parts.get(1..).unwrap_or(&[]);
+        let reason = match fault {
+            PlanFault::UnknownGroup => unknown_name(alloc, groups, names)?,
+            _ => mixed_names(alloc, groups, names)?,
+        };
+        if let Some(reason) = reason {
+            return PlanWrong::of_item(PlanList::Codes, index, reason);
+        }
+    }
+    Ok(None)
+}
+
+/// Why names are wrong, if they are.
+type Reason = Result<Option<String>, AllocError>;
+
+fn unknown_name(alloc: Global, groups: &[Group], names: &[&[u8]]) -> Reason {
+    let Some(name) = name_of(groups, None, names) else {
+        return Ok(None);
+    };
+    Ok(Some(format!(in alloc; "no group has the name {name}")?))
+}
+
+fn mixed_names(alloc: Global, groups: &[Group], names: &[&[u8]]) -> Reason {
+    let registers = name_of(groups, Some(GroupKind::Register), names);
+    let intra = name_of(groups, Some(GroupKind::Intra), names);
+    let outgoing = name_of(groups, Some(GroupKind::Outgoing), names);
+    let reason = match (registers, intra, outgoing) {
+        (Some(name), _, _) => format!(in alloc;
+            "{name} has registers; expected intra groups or outgoing groups"
+        )?,
+        (None, Some(intra), Some(outgoing)) => format!(in alloc;
+            "{intra} is intra and {outgoing} is outgoing; expected groups of one kind"
+        )?,
+        _ => return Ok(None),
+    };
+    Ok(Some(reason))
+}
+
+/// The first of these names whose group is of this kind, or that no group has.
+fn name_of<'t>(groups: &[Group], kind: Option<GroupKind>, names: &[&'t [u8]]) -> Option<Bare<'t>> {
+    let name = names.iter().find(|name| kind_of(groups, name) == kind)?;
+    Some(Bare(*name))
+}
+
+fn kind_of(groups: &[Group], name: &[u8]) -> Option<GroupKind> {
+    let mut groups = groups.iter();
+    Some(groups.find(|group| group.name().as_bytes() == name)?.kind())
 }

@@ -1,7 +1,5 @@
 ghost use Rattle.std.specs.Prelude.{◌≡◌};
 
-use std::fmt;
-
 /// The four lists of a plan, in the order in which they are looked through.
 #[derive(Clone, Copy, Debug, PartialEq, Eq)]
 pub enum PlanList {
@@ -31,11 +29,5 @@ impl PlanList {
             PlanList::Codes => "codes",
             PlanList::Faults => "faults",
         }
-    }
-}
-
-impl fmt::Display for PlanList {
-    fn fmt<W: fmt::Write>(&self, f: &mut fmt::Formatter<W>) -> fmt::Result {
-        f.write_str(self.key())
     }
 }

@@ -4,11 +4,10 @@ ghost use Rattle.std.specs.Prelude.{◌≡◌, IfOk, Some, map, not};
 ghost use Rattle.toml.specs.View.{table_view};
 ghost use Rattle.xbar_slips.specs.Lists.{TellsItem, has_form, item_of, malformed_in, malformed_of_document};
 
-use super::form::PlanForm;
+use super::document::texts_in;
 use super::list::PlanList;
-use super::lists::texts_in;
-use super::reason::PlanReason;
-use super::slip::{ItemText, PlanPlace, PlanWrong};
+use super::slip::{Found, ItemText, PlanPlace, PlanWrong};
+use crate::EXPECTED_LINE;
 use std::alloc::{AllocError, Global};
 use toml::Table;
 use xbar_equip::{DirNo, Len};
@@ -16,7 +15,7 @@ use xbar_plan::{GroupKind, PlanFault, is_name};
 use xbar_plan_text::reading::{self, Version};
 
 /// The first item of the first list that has one which hasn't its form.
-pub fn malformed_item(alloc: Global, document: &Table) -> Result<Option<PlanWrong>, AllocError>
+pub fn malformed_item(alloc: Global, document: &Table) -> Found
     ensures { IfOk result (λ wrong. TellsItem wrong (malformed_of_document
         (table_view document.now))) }
 {
@@ -35,12 +34,7 @@ pub fn malformed_item(alloc: Global, document: &Table) -> Result<Option<PlanWron
 }
 
 /// The first item of a list that hasn't its form.
-fn malformed_item_in(
-    alloc: Global,
-    version: Version,
-    list: PlanList,
-    texts: &[&[u8]],
-) -> Result<Option<PlanWrong>, AllocError>
+fn malformed_item_in(alloc: Global, version: Version, list: PlanList, texts: &[&[u8]]) -> Found
     ensures { IfOk result (λ wrong. TellsItem wrong (malformed_in version list
         (map (λ text. text.now) texts.now))) }
 {
@@ -73,26 +67,6 @@ fn is_malformed(
     }
 }
 
-/// The form that is expected of one of an item's parts, counted from 0, or of the whole text.
-#[derive(Clone, Copy)]
-struct Expected {
-    part: Option<usize>,
-    form: PlanForm,
-}
-
-impl Expected {
-    fn whole(form: PlanForm) -> Self {
-        Expected { part: None, form }
-    }
-
-    fn part(part: usize, form: PlanForm) -> Self {
-        Expected {
-            part: Some(part),
-            form,
-        }
-    }
-}
-
 /// What is wrong with the item of this number, counted from 1, which hasn't its form.
 fn wrong_item(
     alloc: Global,
@@ -105,90 +79,87 @@ fn wrong_item(
         Some (record { list = list; number = number; text = text.now })) }
 {
     let parts = reading::split_parts(alloc, text)?;
-    let Expected { part, form } = expected_in(version, list, text, &parts);
+    let (part, words) = expected_in(version, list, text, &parts);
     let item = ItemText {
         list,
         number,
         text: text.to_vec(alloc)?,
     };
-    let place = match part.and_then(|part| Some((part, *parts.get(part)?))) {
-        Some((part, text)) => PlanPlace::Part {
+    let place = match parts.get(part) {
+        Some(text) => PlanPlace::Part {
             item,
             number: part.saturating_add(1),
             text: text.to_vec(alloc)?,
         },
         None => PlanPlace::ItemText(item),
     };
-    Ok(PlanWrong {
-        place,
-        reason: PlanReason::Expected(form),
-    })
+    let reason = String::from_str(alloc, words)?;
+    Ok(PlanWrong { place, reason })
 }
 
-fn expected_in(version: Version, list: PlanList, text: &[u8], parts: &[&[u8]]) -> Expected {
-    let form = form_of(version, list);
-    if list == PlanList::Faults || text.is_empty() {
-        return Expected::whole(form);
+/// What is said of one of an item's parts, counted from 0; past the last one, of the whole text.
+fn expected_in(
+    version: Version,
+    list: PlanList,
+    text: &[u8],
+    parts: &[&[u8]],
+) -> (usize, &'static str) {
+    let whole = parts.len();
+    if list != PlanList::Faults && !text.is_empty() {
+        if text.starts_with(b" ") || text.ends_with(b" ") {
+            return (
+                whole,
+                "expected no space before the first part or after the last",
+            );
+        }
+        if parts.iter().any(|part| part.is_empty()) {
+            return (whole, "expected one space between parts");
+        }
+        for index in 0..whole {
+            if let Some(words) = expected_in_part(list, parts, index) {
+                return (index, words);
+            }
+        }
     }
-    if text.starts_with(b" ") || text.ends_with(b" ") {
-        return Expected::whole(PlanForm::NoSpace);
-    }
-    if parts.iter().any(|part| part.is_empty()) {
-        return Expected::whole(PlanForm::OneSpace);
-    }
-    expected_in_parts(list, parts).unwrap_or(Expected::whole(form))
+    (whole, expected_of(version, list))
 }
 
-/// What is expected of the first part that has another form.
-fn expected_in_parts(list: PlanList, parts: &[&[u8]]) -> Option<Expected> {
-    match (list, parts) {
-        (PlanList::Groups, [name, kind, members @ ..]) => expected_in_group(name, kind, members),
-        (PlanList::Numbers, [number, lines @ ..]) => expected_in_number(number, lines),
-        (PlanList::Codes, [code, names @ ..]) => expected_in_code(code, names),
-        _ => None,
-    }
-}
-
-/// What an item of the list is as a whole.
-fn form_of(version: Version, list: PlanList) -> PlanForm {
+/// What is said of an item of the list as a whole.
+fn expected_of(version: Version, list: PlanList) -> &'static str {
     match (list, version) {
-        (PlanList::Groups, _) => PlanForm::Group,
-        (PlanList::Numbers, Version::One) => PlanForm::NumberWithOneLine,
-        (PlanList::Numbers, Version::Two) => PlanForm::NumberWithLines,
-        (PlanList::Codes, _) => PlanForm::CodeWithGroups,
-        (PlanList::Faults, _) => PlanForm::Link,
+        (PlanList::Groups, _) => "expected a name, a kind and members",
+        (PlanList::Numbers, Version::One) => "expected a number and one line in version 1",
+        (PlanList::Numbers, Version::Two) => "expected a number and its lines",
+        (PlanList::Codes, _) => "expected a code and names of groups",
+        (PlanList::Faults, _) => "expected LL, JU or TL and three digits",
     }
 }
 
-fn expected_in_group(name: &[u8], kind: &[u8], members: &[&[u8]]) -> Option<Expected> {
-    if !is_name(name) {
-        return Some(Expected::part(0, PlanForm::Name));
-    }
-    let Some(kind) = reading::read_kind(kind) else {
-        return Some(Expected::part(1, PlanForm::Kind));
+/// What is said of a text that is to be a group's name.
+const EXPECTED_NAME: &str = "expected a name of 1 to 8 characters from A to Z and 0 to 9";
+
+/// What is said of the part at this index, unless it has its form.
+fn expected_in_part(list: PlanList, parts: &[&[u8]], index: usize) -> Option<&'static str> {
+    let part = *parts.get(index)?;
+    let (fits, words) = match (list, index) {
+        (PlanList::Groups, 0) => (parts.len() == 1 || is_name(part), EXPECTED_NAME),
+        (PlanList::Groups, 1) => (
+            reading::read_kind(part).is_some(),
+            "expected register, intra or outgoing",
+        ),
+        (PlanList::Groups, _) => {
+            let kind = reading::read_kind(parts.get(1)?)?;
+            let words = match kind {
+                GroupKind::Intra => "expected a pair of places, such as 600-601",
+                GroupKind::Register | GroupKind::Outgoing => "expected three digits",
+            };
+            (reading::read_member(kind, part).is_some(), words)
+        }
+        (PlanList::Numbers, 0) => (DirNo::parse(part).is_ok(), "expected four digits"),
+        (PlanList::Numbers, _) => (Len::parse(part).is_ok(), EXPECTED_LINE),
+        (PlanList::Codes, 0) => (reading::read_code(part).is_some(), "expected three digits"),
+        (PlanList::Codes, _) => (is_name(part), EXPECTED_NAME),
+        (PlanList::Faults, _) => return None,
     };
-    let index = members
-        .iter()
-        .position(|member| reading::read_member(kind, member).is_none())?;
-    let form = match kind {
-        GroupKind::Intra => PlanForm::Pair,
-        GroupKind::Register | GroupKind::Outgoing => PlanForm::Place,
-    };
-    Some(Expected::part(index.saturating_add(2), form))
-}
-
-fn expected_in_number(number: &[u8], lines: &[&[u8]]) -> Option<Expected> {
-    if DirNo::parse(number).is_err() {
-        return Some(Expected::part(0, PlanForm::Number));
-    }
-    let index = lines.iter().position(|line| Len::parse(line).is_err())?;
-    Some(Expected::part(index.saturating_add(1), PlanForm::Line))
-}
-
-fn expected_in_code(code: &[u8], names: &[&[u8]]) -> Option<Expected> {
-    if reading::read_code(code).is_none() {
-        return Some(Expected::part(0, PlanForm::Code));
-    }
-    let index = names.iter().position(|name| !is_name(name))?;
-    Some(Expected::part(index.saturating_add(1), PlanForm::Name))
+    if fits { None } else { Some(words) }
 }

@@ -1,71 +1,57 @@
-//! What stands twice.
+//! What stands twice. Each name, number, code and place has one text.
 
 use super::list::PlanList;
-use super::lists::Lists;
-use super::reason::{PlanReason, Repeat};
-use super::slip::{PlanPlace, PlanWrong};
+use super::slip::{Found, PlanWrong};
+use crate::quoted::Bare;
 use std::alloc::{AllocError, Global};
 use xbar_plan_text::reading;
 
-/// The place of the first item that an earlier one is equal to, and that of the earlier one.
-pub fn first_repeat<T: PartialEq>(items: &[T]) -> Option<(usize, usize)> {
+/// The first item whose name, number or code, its first part, stood before.
+pub fn repeated_first_part(alloc: Global, list: PlanList, noun: &str, items: &[&[u8]]) -> Found {
+    let mut texts = Vec::new(alloc);
     for (index, item) in items.iter().enumerate() {
-        if let Some(earlier) = items.iter().position(|other| other == item) {
-            if earlier < index {
-                return Some((index, earlier));
+        let parts = reading::split_parts(alloc, item)?;
+        texts.push((index, parts.first().copied().unwrap_or(item)))?;
+    }
+    repeated(alloc, list, noun, &texts)
+}
+
+/// The first group with a trunk place that stood before, in the same group or in another.
+pub fn repeated_place(alloc: Global, groups: &[&[u8]]) -> Found {
+    let mut places = Vec::new(alloc);
+    for (index, group) in groups.iter().enumerate() {
+        let parts = reading::split_parts(alloc, group)?;
+        for member in parts.iter().skip(2) {
+            for place in member.split(|byte| *byte == b'-') {
+                places.push((index, place))?;
             }
         }
     }
+    repeated(alloc, PlanList::Groups, "place", &places)
+}
+
+/// The first of these texts that stood before, each with the index of its item.
+fn repeated(alloc: Global, list: PlanList, noun: &str, texts: &[(usize, &[u8])]) -> Found {
+    let Some((text, index, earlier)) = first_repeat(texts) else {
+        return Ok(None);
+    };
+    let text = Bare(text);
+    let reason = if earlier == index {
+        format!(in alloc; "duplicate {noun} {text} within this item")?
+    } else {
+        let item = earlier.saturating_add(1);
+        format!(in alloc; "duplicate {noun} {text}, first used in item {item}")?
+    };
+    PlanWrong::of_item(list, index, reason)
+}
+
+/// The first text that an earlier one is equal to, the index of its item and that of the earlier's.
+fn first_repeat<'t>(texts: &[(usize, &'t [u8])]) -> Option<(&'t [u8], usize, usize)> {
+    for (place, (index, text)) in texts.iter().enumerate() {
+        let first = texts.iter().position(|(_, other)| other == text)?;
+        if first < place {
+            return Some((*text, *index, texts.get(first)?.0));
+        }
+    }
     None
-}
-
-/// An item, by its place counted from 0, with what an earlier item has too.
-pub fn repeated_item(list: PlanList, index: usize, earlier: usize, repeat: Repeat) -> PlanWrong {
-    let item = earlier.saturating_add(1);
-    PlanWrong {
-        place: PlanPlace::Item {
-            list,
-            number: index.saturating_add(1),
-        },
-        reason: if earlier == index {
-            PlanReason::Twice(repeat)
-        } else {
-            PlanReason::Already { repeat, item }
-        },
-    }
-}
-
-/// The first item whose name, number or code, its first part, stood before.
-pub fn repeated_first_part(
-    alloc: Global,
-    lists: &Lists<'_>,
-    list: PlanList,
-) -> Result<Option<PlanWrong>, AllocError> {
-    let firsts = first_parts(alloc, lists.texts(list))?;
-    let Some((index, earlier)) = first_repeat(&firsts) else {
-        return Ok(None);
-    };
-    let Some(part) = firsts.get(index) else {
-        return Ok(None);
-    };
-    let part = part.to_vec(alloc)?;
-    let repeat = match list {
-        PlanList::Groups => Repeat::Name(part),
-        PlanList::Numbers => Repeat::Number(part),
-        PlanList::Codes | PlanList::Faults => Repeat::Code(part),
-    };
-    Ok(Some(repeated_item(list, index, earlier, repeat)))
-}
-
-fn first_parts<'t>(alloc: Global, texts: &[&'t [u8]]) -> Result<Vec<&'t [u8]>, AllocError> {
-    let mut firsts = Vec::new(alloc);
-    for text in texts {
-        firsts.push(first_part(alloc, text)?)?;
-    }
-    Ok(firsts)
-}
-
-fn first_part(alloc: Global, text: &[u8]) -> Result<&[u8], AllocError> {
-    let parts = reading::split_parts(alloc, text)?;
-    Ok(parts.first().copied().unwrap_or(text))
 }

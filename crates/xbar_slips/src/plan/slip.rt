@@ -1,6 +1,6 @@
 use super::list::PlanList;
-use super::reason::PlanReason;
 use crate::quoted::Quoted;
+use std::alloc::AllocError;
 use std::fmt;
 use xbar_plan::PlanFault;
 
@@ -15,8 +15,7 @@ pub struct ItemText {
 
 impl fmt::Display for ItemText {
     fn fmt<W: fmt::Write>(&self, f: &mut fmt::Formatter<W>) -> fmt::Result {
-        let ItemText { list, number, text } = self;
-        let text = Quoted(text);
+        let (list, number, text) = (self.list.key(), self.number, Quoted(&self.text));
         write!(f, "{list}, item {number} {text}")
     }
 }
@@ -53,8 +52,11 @@ impl fmt::Display for PlanPlace {
         match self {
             PlanPlace::Text { line, column } => write!(f, "line {line}, column {column}"),
             PlanPlace::Version => f.write_str("version"),
-            PlanPlace::List(list) => write!(f, "{list}"),
-            PlanPlace::Item { list, number } => write!(f, "{list}, item {number}"),
+            PlanPlace::List(list) => f.write_str(list.key()),
+            PlanPlace::Item { list, number } => {
+                let list = list.key();
+                write!(f, "{list}, item {number}")
+            }
             PlanPlace::ItemText(item) => write!(f, "{item}"),
             PlanPlace::Part { item, number, text } => {
                 let text = Quoted(text);
@@ -68,7 +70,20 @@ impl fmt::Display for PlanPlace {
 #[derive(Debug, Drop)]
 pub struct PlanWrong {
     pub place: PlanPlace,
-    pub reason: PlanReason,
+    /// What was expected and found there.
+    pub reason: String,
+}
+
+/// What is found wrong with a plan, if anything is.
+pub type Found = Result<Option<PlanWrong>, AllocError>;
+
+impl PlanWrong {
+    /// What is wrong with an item, by its index, counted from 0.
+    pub(super) fn of_item(list: PlanList, index: usize, reason: String) -> Found {
+        let number = index.saturating_add(1);
+        let place = PlanPlace::Item { list, number };
+        Ok(Some(PlanWrong { place, reason }))
+    }
 }
 
 /// What is wrong with a plan that was refused. Its sentence begins with the place.

@@ -7,19 +7,10 @@ mod slip;
 ghost use Rattle.std.specs.Prelude.{◌≡◌, IfOk, IfSome};
 
 use csv::ByteRecord;
-pub use field::FieldForm;
 use records::{line_of, records_up_to};
-pub use slip::{FieldPlace, TrafficReason, TrafficSlip};
+pub use slip::{TrafficReason, TrafficSlip};
 use std::alloc::{AllocError, Global};
 use xbar_traffic::{MarkerFault, Mode, RowFault, TrafficFault};
-
-/// The place of the field that has the letter of a row, and of those of a J row that have its marker
-/// and the kind of its job. All are counted from 0.
-const LETTER: usize = 0;
-
-const MARKER: usize = 1;
-
-const JOB_KIND: usize = 3;
 
 /// What is wrong with traffic of this mode that was refused for this fault. Nothing is found where
 /// there is no such row, nor where it hasn't the fault; but what a marker refuses (T5) is taken at
@@ -39,11 +30,11 @@ pub fn traffic_slip(
     if records.len() as u64 != fault.row {
         return Ok(None);
     }
-    let Some((field, reason)) = wrong_with_record(mode, bytes, before, record, fault.fault) else {
+    let Some((index, reason)) = wrong_with_record(mode, bytes, before, record, fault.fault) else {
         return Ok(None);
     };
-    let field = match field {
-        Some(index) => FieldPlace::of(alloc, record, index)?,
+    let field = match record.get(index) {
+        Some(text) => Some((index.saturating_add(1), text.to_vec(alloc)?)),
         None => None,
     };
     Ok(Some(TrafficSlip {
@@ -54,44 +45,43 @@ pub fn traffic_slip(
     }))
 }
 
-/// The field, counted from 0, in which a record has this fault, and why; no field if it is wrong as
-/// a whole.
+/// The field, counted from 0, in which a record has this fault, and why; past its last field if it is
+/// wrong as a whole.
 fn wrong_with_record(
     mode: Mode,
     bytes: &[u8],
     before: &[ByteRecord],
     record: &ByteRecord,
     fault: RowFault,
-) -> Option<(Option<usize>, TrafficReason)> {
-    match fault {
-        RowFault::Unreadable => field_count(record).map(|reason| (None, reason)),
-        RowFault::UnknownKind => {
-            let (index, form) = field::unknown_kind(mode, record)?;
-            Some((Some(index), TrafficReason::Expected(form)))
-        }
-        RowFault::OtherMode if field::is_of_other_mode(mode, record.get(LETTER)?) => {
-            Some((Some(LETTER), TrafficReason::OtherMode(mode)))
-        }
-        RowFault::OtherMode => None,
-        RowFault::Malformed => {
-            let (index, form) = field::malformed_field(record)?;
-            Some((Some(index), TrafficReason::Expected(form)))
-        }
-        RowFault::NumberTwice => number_twice(bytes, before, record),
-        RowFault::Marker(why) => {
-            let index = match why {
-                MarkerFault::NoMarker | MarkerFault::NotIdle => MARKER,
-                MarkerFault::WrongKind => JOB_KIND,
-            };
-            Some((Some(index), TrafficReason::Marker(why)))
-        }
+) -> Option<(usize, TrafficReason)> {
+    let (index, words) = match fault {
+        RowFault::Unreadable => return wrong_count(record.len()),
+        RowFault::UnknownKind => field::unknown_kind(mode, record)?,
+        RowFault::OtherMode => field::other_mode(mode, record)?,
+        RowFault::Malformed => return field::malformed_field(record),
+        RowFault::NumberTwice => return number_twice(bytes, before, record),
+        RowFault::Marker(why) => refused_by_marker(why),
+    };
+    Some((index, TrafficReason::Said(words)))
+}
+
+fn wrong_count(count: usize) -> Option<(usize, TrafficReason)> {
+    if count == 5 {
+        None
+    } else {
+        Some((count, TrafficReason::FieldCount(count)))
     }
 }
 
-fn field_count(record: &ByteRecord) -> Option<TrafficReason> {
-    match record.len() {
-        5 => None,
-        count => Some(TrafficReason::FieldCount(count)),
+/// The field that a marker doesn't take, and why.
+fn refused_by_marker(why: MarkerFault) -> (usize, &'static str) {
+    match why {
+        MarkerFault::NoMarker => (1, "the office has no such marker"),
+        MarkerFault::NotIdle => (
+            1,
+            "this marker is still at its job; give it more steps first",
+        ),
+        MarkerFault::WrongKind => (3, "this row's marker does no jobs of this kind"),
     }
 }
 
@@ -100,16 +90,19 @@ fn number_twice(
     bytes: &[u8],
     before: &[ByteRecord],
     record: &ByteRecord,
-) -> Option<(Option<usize>, TrafficReason)> {
-    let letter = record.get(LETTER)?;
-    let index = field::number_index(letter)?;
+) -> Option<(usize, TrafficReason)> {
+    let letter = record.get(0)?;
+    let index = match letter {
+        b"J" => 2,
+        b"C" => 1,
+        _ => return None,
+    };
     let number = record.get(index)?;
-    let earlier = before.iter().position(|row| row.get(LETTER) == Some(letter)
+    let earlier = before.iter().position(|row| row.get(0) == Some(letter)
         && row.get(index) == Some(number))?;
-    let line = line_of(bytes, before.get(earlier)?);
     let reason = TrafficReason::NumberTwice {
         row: (earlier as u64).saturating_add(1),
-        line,
+        line: line_of(bytes, before.get(earlier)?),
     };
-    Some((Some(index), reason))
+    Some((index, reason))
 }

@@ -1,6 +1,6 @@
 //! The records of traffic, and the lines on which they begin.
 
-use csv::{ByteRecord, ByteRecordsIntoIter, ReaderBuilder};
+use csv::{ByteRecord, ReaderBuilder};
 use std::alloc::{AllocError, Global};
 
 /// The mark that may begin a text, which is no part of its first record.
@@ -16,14 +16,7 @@ pub fn records_up_to(
         .has_headers(false)
         .flexible(true)
         .from_reader(alloc, bytes);
-    take_records(alloc, &mut reader.into_byte_records(), count)
-}
-
-fn take_records(
-    alloc: Global,
-    rows: &mut ByteRecordsIntoIter<&[u8]>,
-    count: u64,
-) -> Result<Vec<ByteRecord>, AllocError> {
+    let mut rows = reader.into_byte_records();
     let mut records = Vec::new(alloc);
     for _ in 0..count {
         match rows.next() {
