@@ -1,6 +1,6 @@
 -- What a test leaves of lists that are made of parts.
-use Rattle.std.proofs.Common.{◌≡◌, Bool, false, List, [], ◌∷◌, ◌++◌, refl, ap, ◌∙◌}
-use Rattle.std.specs.Prelude.{filter, flat_map, map}
+use Rattle.std.proofs.Common.{◌≡◌, Bool, List, [], ◌∷◌, ◌++◌, refl, ap, ◌∙◌}
+use Rattle.std.specs.Prelude.{filter, flat_map}
 use Rattle.std.proofs.lemmas.List.Elements.{filter-append}
 
 module _ {X : Type 0} (p : X → Bool) where
@@ -13,12 +13,3 @@ module _ {X : Type 0} (p : X → Bool) where
   pub none_flat : {A : Type 0} (f : A → List X) (xs : List A) → ((x : A) → filter p (f x) ≡ []) → filter p (flat_map f xs) ≡ []
   none_flat f [] none = refl
   none_flat f (x ∷ xs) none = none_in_both (f x) (flat_map f xs) (none x) (none_flat f xs none)
-
-  pub none_map : {A : Type 0} (f : A → X) (xs : List A) → ((x : A) → p (f x) ≡ false) → filter p (map f xs) ≡ []
-  none_map f [] none = refl
-  none_map f (x ∷ xs) none = rw (none x) (none_map f xs none)
-
-  -- and what it leaves of each
-  pub each_flat : {A : Type 0} (f g : A → List X) (xs : List A) → ((x : A) → filter p (f x) ≡ g x) → filter p (flat_map f xs) ≡ flat_map g xs
-  each_flat f g [] each = refl
-  each_flat f g (x ∷ xs) each = filter-append p (f x) (flat_map f xs) ∙ ap (λ t. t ++ filter p (flat_map f xs)) (each x) ∙ ap (λ t. g x ++ t) (each_flat f g xs each)

@@ -19,13 +19,9 @@ use Rattle.xbar_office_drawing.proofs.ToldPath.{path_told}
 
 -- ---- the map tells nothing
 
-no_title : (count : ℕ) → filter is_telling (sheet map_height ∷ map_title count ∷ map_key) ≡ []
-unfolding map_key
-no_title count = refl
-
-no_two_frames : (number : ℕ) → filter is_telling (two_frames number) ≡ []
-unfolding two_frames frame_box
-no_two_frames number = refl
+no_frames : (count : ℕ) → filter is_telling (sheet map_height ∷ map_title count ∷ map_key ++ flat_map two_frames (range_with_len 0 10)) ≡ []
+unfolding map_key two_frames frame_box
+no_frames count = refl
 
 no_path_on_map : (plan : Tables) (path : Path) → filter is_telling (path_on_map plan path) ≡ []
 unfolding path_on_map
@@ -34,10 +30,8 @@ no_path_on_map plan path = refl
 nothing_on_map : (plan : Tables) (paths : List Path) → filter is_telling (office_map plan paths) ≡ []
 unfolding office_map
 nothing_on_map plan paths =
-    let title = sheet map_height ∷ map_title (length paths) ∷ map_key in
-    let frames = flat_map two_frames (range_with_len 0 10) in
-    let drawn = flat_map (path_on_map plan) paths in
-    none_in_both is_telling (title ++ frames) (drawn) (none_in_both is_telling (title) (frames) (no_title (length paths)) (none_flat is_telling two_frames (range_with_len 0 10) no_two_frames)) (none_flat is_telling (path_on_map plan) paths (no_path_on_map plan))
+    let frames = sheet map_height ∷ map_title (length paths) ∷ map_key ++ flat_map two_frames (range_with_len 0 10) in
+    none_in_both is_telling frames (flat_map (path_on_map plan) paths) (no_frames (length paths)) (none_flat is_telling (path_on_map plan) paths (no_path_on_map plan))
 
 -- ---- the parts below it
 

@@ -1,5 +1,6 @@
 pub mod Splits
 pub mod LineFields
+pub mod FieldsRead
 pub mod LineKinds
 pub mod Lines
 pub mod Sheets

@@ -17,93 +17,45 @@ use Rattle.xbar_report.specs.Sheet.{Sheet, sheet_text, IsSheet, IsReport}
 use Rattle.xbar_report.specs.Text.{record_line, trouble_line, card_lines, count_lines, records_text, trouble_of, troubles_of}
 use Rattle.xbar_report.specs.declared.counts.Counts.{Counts}
 use Rattle.xbar_report.specs.declared.line.Line.{Line}
-use Rattle.xbar_report.specs.declared.line.Line.TheVariants.{Record, Trouble, Paths, Closed}
+use Rattle.xbar_report.specs.declared.line.Line.TheVariants.{Record, Trouble}
 use Rattle.xbar_report.specs.declared.trouble_line.TroubleLine.{TroubleLine}
 use Rattle.xbar_report.proofs.Reports.{own_belongs}
 use Rattle.xbar_report.proofs.Sheets.{all_append, lines_of_text, sheet_range, texts_only}
 
--- the records among lines, the cards, the counts
-
-abbrev records_in : List Line → List TheRecord
-records_in [] = []
-records_in (Record r ∷ ls) = r ∷ records_in ls
-records_in (Trouble t ∷ ls) = records_in ls
-records_in (Paths n ∷ ls) = records_in ls
-records_in (Closed n ∷ ls) = records_in ls
-
-abbrev cards_in : List Line → List TroubleLine
-cards_in [] = []
-cards_in (Record r ∷ ls) = cards_in ls
-cards_in (Trouble t ∷ ls) = t ∷ cards_in ls
-cards_in (Paths n ∷ ls) = cards_in ls
-cards_in (Closed n ∷ ls) = cards_in ls
-
-abbrev numbers_in : List Line → List ℕ
-numbers_in [] = []
-numbers_in (Record r ∷ ls) = numbers_in ls
-numbers_in (Trouble t ∷ ls) = numbers_in ls
-numbers_in (Paths n ∷ ls) = n ∷ numbers_in ls
-numbers_in (Closed n ∷ ls) = n ∷ numbers_in ls
-
-records_in-bare : (ls : List Line) → records_in (map bare_line ls) ≡ map bare_record (records_in ls)
-records_in-bare [] = refl
-records_in-bare (Record r ∷ ls) = ap (λ (rs : List TheRecord). bare_record r ∷ rs) (records_in-bare ls)
-records_in-bare (Trouble t ∷ ls) = records_in-bare ls
-records_in-bare (Paths n ∷ ls) = records_in-bare ls
-records_in-bare (Closed n ∷ ls) = records_in-bare ls
-
-cards_in-bare : (ls : List Line) → cards_in (map bare_line ls) ≡ cards_in ls
-cards_in-bare [] = refl
-cards_in-bare (Record r ∷ ls) = cards_in-bare ls
-cards_in-bare (Trouble t ∷ ls) = ap (λ (cs : List TroubleLine). t ∷ cs) (cards_in-bare ls)
-cards_in-bare (Paths n ∷ ls) = cards_in-bare ls
-cards_in-bare (Closed n ∷ ls) = cards_in-bare ls
-
-numbers_in-bare : (ls : List Line) → numbers_in (map bare_line ls) ≡ numbers_in ls
-numbers_in-bare [] = refl
-numbers_in-bare (Record r ∷ ls) = numbers_in-bare ls
-numbers_in-bare (Trouble t ∷ ls) = numbers_in-bare ls
-numbers_in-bare (Paths n ∷ ls) = ap (λ (ns : List ℕ). n ∷ ns) (numbers_in-bare ls)
-numbers_in-bare (Closed n ∷ ls) = ap (λ (ns : List ℕ). n ∷ ns) (numbers_in-bare ls)
-
-no_records : (cs : List TroubleLine) (counts : Option Counts) → records_in (map Trouble cs ++ lines_of_counts counts) ≡ []
-no_records [] None = refl
-no_records [] (Some counts) = refl
-no_records (t ∷ cs) counts = no_records cs counts
-
-records_of_lines : (rs : List TheRecord) (cs : List TroubleLine) (counts : Option Counts) → records_in (map Record rs ++ (map Trouble cs ++ lines_of_counts counts)) ≡ rs
-records_of_lines [] cs counts = no_records cs counts
-records_of_lines (r ∷ rs) cs counts = ap (λ (more : List TheRecord). r ∷ more) (records_of_lines rs cs counts)
-
-no_cards : (counts : Option Counts) → cards_in (lines_of_counts counts) ≡ []
-no_cards None = refl
-no_cards (Some counts) = refl
-
-cards_behind : (cs : List TroubleLine) (counts : Option Counts) → cards_in (map Trouble cs ++ lines_of_counts counts) ≡ cs
-cards_behind [] counts = no_cards counts
-cards_behind (t ∷ cs) counts = ap (λ (more : List TroubleLine). t ∷ more) (cards_behind cs counts)
-
-cards_of_lines : (rs : List TheRecord) (cs : List TroubleLine) (counts : Option Counts) → cards_in (map Record rs ++ (map Trouble cs ++ lines_of_counts counts)) ≡ cs
-cards_of_lines [] cs counts = cards_behind cs counts
-cards_of_lines (r ∷ rs) cs counts = cards_of_lines rs cs counts
-
-numbers_behind : (cs : List TroubleLine) (counts : Option Counts) → numbers_in (map Trouble cs ++ lines_of_counts counts) ≡ numbers_in (lines_of_counts counts)
-numbers_behind [] counts = refl
-numbers_behind (t ∷ cs) counts = numbers_behind cs counts
-
-numbers_of_lines : (rs : List TheRecord) (cs : List TroubleLine) (counts : Option Counts)
-    → numbers_in (map Record rs ++ (map Trouble cs ++ lines_of_counts counts)) ≡ numbers_in (lines_of_counts counts)
-numbers_of_lines [] cs counts = numbers_behind cs counts
-numbers_of_lines (r ∷ rs) cs counts = numbers_of_lines rs cs counts
-
-same_counts : (a b : Option Counts) → numbers_in (lines_of_counts a) ≡ numbers_in (lines_of_counts b) → a ≡ b
-same_counts None None e = refl
-same_counts None (Some b) e = cc
-same_counts (Some a) None e = cc
-same_counts (Some a) (Some b) e =
+-- lines that are the same, but for cards of records, are those of the same cards and counts
+behind_same : (cs cs' : List TroubleLine) (n n' : Option Counts) → map bare_line (map Trouble cs' ++ lines_of_counts n') ≡ map Trouble cs ++ lines_of_counts n → (cs ≡ cs') × (n ≡ n')
+behind_same [] [] None None e = (refl, refl)
+behind_same [] [] None (Some b) e = absurd cc
+behind_same [] [] (Some a) None e = absurd cc
+behind_same [] [] (Some a) (Some b) e =
     let paths : a.paths ≡ b.paths = cc in
     let closed : a.closed ≡ b.closed = cc in
-    λ i. Some (record { paths = paths i; closed = closed i })
+    (refl, λ i. Some (record { paths = paths i; closed = closed i }))
+behind_same [] (t ∷ cs') None n' e = absurd cc
+behind_same [] (t ∷ cs') (Some a) n' e = absurd cc
+behind_same (t ∷ cs) [] n None e = absurd cc
+behind_same (t ∷ cs) [] n (Some b) e = absurd cc
+behind_same (t ∷ cs) (t' ∷ cs') n n' e =
+    let rest : (cs ≡ cs') × (n ≡ n') = behind_same cs cs' n n' cc in
+    let here : t' ≡ t = cc in
+    let cards = rest.0 in
+    (cc, rest.1)
+
+-- and of the same records
+lines_same : (rs rs' : List TheRecord) (cs cs' : List TroubleLine) (n n' : Option Counts)
+    → map bare_line (map Record rs' ++ (map Trouble cs' ++ lines_of_counts n')) ≡ map Record rs ++ (map Trouble cs ++ lines_of_counts n) → (rs ≡ map bare_record rs') × (cs ≡ cs') × (n ≡ n')
+lines_same [] [] cs cs' n n' e = let same = behind_same cs cs' n n' e in (refl, same.0, same.1)
+lines_same [] (r ∷ rs') [] cs' None n' e = absurd cc
+lines_same [] (r ∷ rs') [] cs' (Some a) n' e = absurd cc
+lines_same [] (r ∷ rs') (t ∷ cs) cs' n n' e = absurd cc
+lines_same (r ∷ rs) [] cs [] n None e = absurd cc
+lines_same (r ∷ rs) [] cs [] n (Some b) e = absurd cc
+lines_same (r ∷ rs) [] cs (t ∷ cs') n n' e = absurd cc
+lines_same (r ∷ rs) (r' ∷ rs') cs cs' n n' e =
+    let rest : (rs ≡ map bare_record rs') × (cs ≡ cs') × (n ≡ n') = lines_same rs rs' cs cs' n n' cc in
+    let here : bare_record r' ≡ r = cc in
+    let records = rest.0 in
+    (cc, rest.1, rest.2)
 
 pub regrouped_lines : (s : Sheet) → lines_of_sheet s ≡ map Record s.records ++ (map Trouble s.cards ++ lines_of_counts s.counts)
 regrouped_lines s = append_assoc (map Record s.records) (map Trouble s.cards) (lines_of_counts s.counts)
@@ -116,15 +68,8 @@ pub record IsSameSheet (s s' : Sheet) : Type 0 where
 
 same_sheet : (s s' : Sheet) → map bare_line (lines_of_sheet s') ≡ lines_of_sheet s → IsSameSheet s s'
 same_sheet s s' e =
-    let theirs : List Line = map Record s'.records ++ (map Trouble s'.cards ++ lines_of_counts s'.counts) in
-    let all : map bare_line theirs ≡ map Record s.records ++ (map Trouble s.cards ++ lines_of_counts s.counts) =
-    sym (ap (map bare_line) (regrouped_lines s')) ∙ e ∙ regrouped_lines s in
-    record {
-      records = sym (records_of_lines s.records s.cards s.counts) ∙ sym (ap records_in all) ∙ records_in-bare theirs ∙ ap (map bare_record) (records_of_lines s'.records s'.cards s'.counts);
-      cards = sym (cards_of_lines s.records s.cards s.counts) ∙ sym (ap cards_in all) ∙ cards_in-bare theirs ∙ cards_of_lines s'.records s'.cards s'.counts;
-      counts = same_counts s.counts s'.counts
-          (sym (numbers_of_lines s.records s.cards s.counts) ∙ sym (ap numbers_in all) ∙ numbers_in-bare theirs ∙ numbers_of_lines s'.records s'.cards s'.counts);
-    }
+    let same = lines_same s.records s'.records s.cards s'.cards s.counts s'.counts (sym (ap (map bare_line) (regrouped_lines s')) ∙ e ∙ regrouped_lines s) in
+    record { records = same.0; cards = same.1; counts = same.2 }
 
 -- a text was read as the only sheet that has it, but for cards of records
 pub only_sheet : (text : List ℕ) (s s' : Sheet) → IsReadAs text s → IsSheet s' → text ≡ sheet_text s' → IsSameSheet s s'

@@ -20,7 +20,7 @@ ghost use Rattle.xbar_report.specs.declared.trouble_line.TroubleLine.{TroubleLin
 
 use crate::end_fields::name_of;
 use crate::number::{number, number_u8, number_u16, number_u32};
-use crate::split::split_at_byte;
+use crate::split::{split_at_byte, three_fields};
 use crate::trouble_line::TroubleLine;
 use xbar_equip::{Channel, Dialled, Len, Link, Path, Ten};
 use xbar_office::{Card, End, Job, Record, Reply};
@@ -31,12 +31,8 @@ pub fn record_of(text: &[u8]) -> Option<Record>
         result ≡ Some (bare_record r) }
     ensures bare { IfSome result (λ r. r ≡ bare_record r) }
 {
-    let (turn, rest) = split_at_byte(text, b',')?;
-    let (job_no, rest) = split_at_byte(rest, b',')?;
-    let (marker, rest) = split_at_byte(rest, b',')?;
-    let (kind, rest) = split_at_byte(rest, b',')?;
-    let (line, rest) = split_at_byte(rest, b',')?;
-    let (dialled, rest) = split_at_byte(rest, b',')?;
+    let (turn, job_no, marker, rest) = three_fields(text)?;
+    let (kind, line, dialled, rest) = three_fields(rest)?;
     Some(Record {
         turn: number(turn)?,
         marker: number_u32(marker)?,
@@ -50,9 +46,7 @@ pub fn record_of(text: &[u8]) -> Option<Record>
 pub fn trouble_of(text: &[u8]) -> Option<TroubleLine>
     ensures { (t : TheTroubleLine) → IsTroubleLine t → text.now ≡ trouble_line t → result ≡ Some t }
 {
-    let (_name, rest) = split_at_byte(text, b',')?;
-    let (turn, rest) = split_at_byte(rest, b',')?;
-    let (job_no, rest) = split_at_byte(rest, b',')?;
+    let (_name, turn, job_no, rest) = three_fields(text)?;
     let (trial, rest) = split_at_byte(rest, b',')?;
     let (link, _behind) = split_at_byte(rest, b'\n')?;
     Some(TroubleLine {
@@ -102,9 +96,7 @@ fn end_of(text: &[u8]) -> Option<End>
     ensures { (end : TheEnd) → IsEnd end → text.now ≡ end_fields end ++ codes "\n" →
         result ≡ Some end }
 {
-    let (name, rest) = split_at_byte(text, b',')?;
-    let (trial, rest) = split_at_byte(rest, b',')?;
-    let (first, rest) = split_at_byte(rest, b',')?;
+    let (name, trial, first, rest) = three_fields(text)?;
     let (second, _behind) = split_at_byte(rest, b'\n')?;
     named_end(name, trial, first, second)
 }

@@ -16,6 +16,18 @@ pub fn split_at_byte(text: &[u8], end: u8) -> Option<(&[u8], &[u8])>
     Some((front, rest))
 }
 
+/// The first three fields of a text, each of which ends with a comma, and what stands behind them.
+pub fn three_fields(text: &[u8]) -> Option<(&[u8], &[u8], &[u8], &[u8])>
+    ensures { (one two three rest : List ℕ) → Lacks 44 one → Lacks 44 two → Lacks 44 three →
+        text.now ≡ one ++ 44 ∷ (two ++ 44 ∷ (three ++ 44 ∷ rest)) → IsSomeAnd result (λ found.
+        (found.0.now ≡ one) × (found.1.now ≡ two) × (found.2.now ≡ three) × (found.3.now ≡ rest)) }
+{
+    let (one, rest) = split_at_byte(text, b',')?;
+    let (two, rest) = split_at_byte(rest, b',')?;
+    let (three, rest) = split_at_byte(rest, b',')?;
+    Some((one, two, three, rest))
+}
+
 fn place_of(text: &[u8], byte: u8) -> Option<usize>
     ensures { result ≡ position (λ b. b == byte) text.now }
 {

@@ -18,7 +18,10 @@ use Rattle.xbar_core.proofs.Markers.{none_within}
 use Rattle.xbar_walk.specs.Walks.{Walk, after_told_step, is_past_turn_in, to_begin_anew, told_back_as, told_end, told_end_past_turn, told_for_each, told_give_back, told_settling, told_steps}
 use Rattle.xbar_walk.specs.Items.{Says}
 use Rattle.xbar_walk.specs.Lines.{settling_line}
+use Rattle.xbar_walk.specs.Parts.{told_part}
 use Rattle.xbar_walk.specs.Stories.{Adds, Stands, Tells}
+use Rattle.xbar_walk.specs.declared.settling.Part.{Part}
+use Rattle.xbar_walk.specs.declared.settling.Part.TheVariants.{EndPastTurn, GiveBack, End}
 use Rattle.xbar_walk.specs.declared.story.Story.{Story}
 use Rattle.xbar_walk.proofs.Reaching.{Reaches, own_stands, own_walk}
 use Rattle.xbar_walk.proofs.ToldSteps.{told_count, told_office}
@@ -215,14 +218,19 @@ each_makes change part makes (suc k) w = makes k (told_for_each part k w) ∙ ap
 abbrev pub KeepsSize : (ℕ → Walk → Walk) → Type 0
 KeepsSize part = (k : ℕ) (w : Walk) → length (part k w).office.exchange.markers ≡ length w.office.exchange.markers
 
-pub end_size : KeepsSize told_end
+end_size : KeepsSize told_end
 end_size k w = ap (λ (o : OfPlan). length o.exchange.markers) (end_makes k w) ∙ count_end w.office.plan k w.office.exchange
 
-pub past_size : KeepsSize told_end_past_turn
+past_size : KeepsSize told_end_past_turn
 past_size k w = ap (λ (o : OfPlan). length o.exchange.markers) (past_makes k w) ∙ count_past w.office.plan k w.office.exchange
 
-pub back_size : KeepsSize told_give_back
+back_size : KeepsSize told_give_back
 back_size k w = ap (λ (o : OfPlan). length o.exchange.markers) (back_makes k w) ∙ count_back w.office.plan k w.office.exchange
+
+pub part_size : (part : Part) → KeepsSize (told_part part)
+part_size EndPastTurn = past_size
+part_size GiveBack = back_size
+part_size End = end_size
 
 each_size : (part : ℕ → Walk → Walk) → KeepsSize part → (count : ℕ) (w : Walk) → length (told_for_each part count w).office.exchange.markers ≡ length w.office.exchange.markers
 unfolding told_for_each

@@ -1,5 +1,5 @@
 -- what a story tells, item by item
-use Rattle.std.proofs.Common.{◌≡◌, ℕ, true, false, List, [], ◌∷◌, ◌++◌, append_assoc, append-nil, refl, sym, ◌∙◌, ap}
+use Rattle.std.proofs.Common.{◌≡◌, ℕ, true, false, List, [], ◌∷◌, ◌++◌, append_assoc, append-nil, refl, sym, subst, ◌∙◌, ap}
 use Rattle.std.specs.Prelude.{map, string_bytes}
 use Rattle.std.proofs.lemmas.List.{map-append}
 use Rattle.xbar_walk.specs.Items.{Item, Says, Tests, told_text}
@@ -78,6 +78,10 @@ module _ (story next : Story) (same : next.telling ≡ story.telling) where
             ∙ ap (λ (t : List ℕ). t ++ told_text telling later) (sym text)
             ∙ ap (λ (these : List Tested). string_bytes next.text ++ told_text telling (map Tests these ++ later)) (sym tests);
       }
+
+  pub item_added : (lines : List ℕ) (item : Item) → Says lines ≡ item → are_joined story.telling story.tests.items ≡ true
+      → next.number ≡ story.number → string_bytes next.text ≡ (string_bytes story.text ++ tests_text story.tests.items) ++ lines → next.tests.items ≡ [] → Adds item story next
+  item_added lines item is joined number text tests = subst (λ (item : Item). Adds item story next) is (lines_added lines joined number text tests)
 
 -- the text of it all
 pub ends : (story : Story) (text : List ℕ) → are_joined story.telling story.tests.items ≡ true → text ≡ string_bytes story.text ++ tests_text story.tests.items

@@ -14,7 +14,7 @@ use Rattle.xbar_core.specs.Moves.{added_record}
 use Rattle.xbar_core.specs.declared.event.Event.{Event}
 use Rattle.xbar_core.proofs.StepCases.{step_cases}
 use Rattle.xbar_walk.specs.Items.{item_lines, step_item}
-use Rattle.xbar_walk.specs.Lines.{step_line, step_lines}
+use Rattle.xbar_walk.specs.Lines.{marker_line, step_lines}
 use Rattle.xbar_walk.specs.Rows.{test_line}
 use Rattle.xbar_walk.specs.Walks.{added_by, next_of, told_of}
 use Rattle.xbar_walk.specs.Words.{step_words}
@@ -35,18 +35,11 @@ test_adds_none plan k e word tests = elim (step_cases plan e k) [
 
 lines_of : (number k found : ℕ) (event : Event) (next made : Step) (records : List Record) → ((word : ℕ) → made ≡ step.Test word → records ≡ [])
     → item_lines (step_item number k (record { step = made; found = found; event = event; next = next }) records) ≡ step_lines number k (record { step = made; found = found; event = event; next = next }) records
-unfolding item_lines step_item step_lines step_line test_line step_words
+unfolding item_lines step_item step_lines test_line step_words
 lines_of number k found event next (step.Test word) records none =
     sym (ap (λ (rs : List Record). step_lines number k (record { step = step.Test word; found = found; event = event; next = next }) rs) (none word refl)
-    ∙ append-nil (step_line number k (record { step = step.Test word; found = found; event = event; next = next }) []))
-lines_of number k found event next (step.Request conn) records none = refl
-lines_of number k found event next (step.Seize conn expected) records none = refl
-lines_of number k found event next (step.Withdraw conn) records none = refl
-lines_of number k found event next step.Turn records none = refl
-lines_of number k found event next (step.Close word bits) records none = refl
-lines_of number k found event next (step.Open word mask) records none = refl
-lines_of number k found event next (step.Free conn) records none = refl
-lines_of number k found event next step.Finished records none = refl
+    ∙ append-nil (marker_line number k (step_words (record { step = step.Test word; found = found; event = event; next = next }) [])))
+lines_of number k found event next _ records none = refl
 
 pub step_item_lines : (plan : Tables) (k : ℕ) (e : Exchange) (number : ℕ) → item_lines (step_item number k (told_of plan k e) (added_by plan k e)) ≡ step_lines number k (told_of plan k e) (added_by plan k e)
 step_item_lines plan k e number =

@@ -1,10 +1,10 @@
 pub mod Places
-pub mod Groups
 pub mod Shown
 pub mod Words
 pub mod Lines
 pub mod Rows
 pub mod Items
 pub mod Walks
+pub mod Parts
 pub mod Runs
 pub mod Stories

@@ -18,10 +18,10 @@ in_four number =
 abbrev pub one_more : ℕ → ℕ
 one_more number = (number + 1) % 2 ^ 64
 
--- what is told of a marker
-unfoldable pub marker_line : List ℕ → ℕ → List ℕ → List ℕ
+-- what is told of a marker's step of a number
+unfoldable pub marker_line : ℕ → ℕ → List ℕ → List ℕ
 marker_line number marker words =
-    concat (number ∷ codes "  marker " ∷ decimal marker ∷ codes "  " ∷ words ∷ codes "\n" ∷ [])
+    concat (in_four number ∷ codes "  marker " ∷ decimal marker ∷ codes "  " ∷ words ∷ codes "\n" ∷ [])
 
 -- a job is assigned to a marker: no step, so it has no number
 unfoldable pub assignment_line : ℕ → ℕ → Job → List ℕ
@@ -39,11 +39,9 @@ abbrev pub card_lines : List Record → List ℕ
 card_lines records = flat_map (λ r. flat_map card_line r.reply.cards) records
 
 -- a marker's step of a number, and the records that it added
-unfoldable pub step_line : ℕ → ℕ → Told → List Record → List ℕ
-step_line number marker told records = marker_line (in_four number) marker (step_words told records)
-
 unfoldable pub step_lines : ℕ → ℕ → Told → List Record → List ℕ
-step_lines number marker told records = step_line number marker told records ++ card_lines records
+step_lines number marker told records =
+    marker_line number marker (step_words told records) ++ card_lines records
 
 -- said once, when no row is left
 unfoldable pub settling_line : List ℕ

@@ -24,19 +24,30 @@ place_of word =
     else (if nat_lt word 400 then on_trunk_frame ((word - 200) / 20) ((word - 200) % 20)
     else (if nat_lt word 416 then Group (word - 400) else Other word))
 
--- a switch, by its frame and its own number there
-unfoldable pub switch_name : List ℕ → ℕ → ℕ → List ℕ
-switch_name kind frame switch =
-    concat (kind ∷ codes " " ∷ decimal frame ∷ codes "," ∷ decimal switch ∷ [])
+-- what the office calls a place of its kind
+abbrev pub kind_name : Place → List ℕ
+kind_name (LineSwitch frame switch) = codes "line switch"
+kind_name (LineJunctor frame channel) = codes "line junctor switch"
+kind_name (TrunkSwitch frame switch) = codes "trunk switch"
+kind_name (TrunkJunctor frame channel) = codes "trunk junctor switch"
+kind_name (Group group) = codes "group"
+kind_name (Other word) = codes "word"
+
+abbrev two_numbers : ℕ → ℕ → List ℕ
+two_numbers frame switch = concat (decimal frame ∷ codes "," ∷ decimal switch ∷ [])
+
+-- a place by its numbers: a switch, by its frame and its own number there
+unfoldable pub place_numbers : Place → List ℕ
+place_numbers (LineSwitch frame switch) = two_numbers frame switch
+place_numbers (LineJunctor frame channel) = two_numbers frame channel
+place_numbers (TrunkSwitch frame switch) = two_numbers frame switch
+place_numbers (TrunkJunctor frame channel) = two_numbers frame channel
+place_numbers (Group group) = decimal group
+place_numbers (Other word) = decimal word
 
 -- what the office calls it
 unfoldable pub place_name : Place → List ℕ
-place_name (LineSwitch frame switch) = switch_name (codes "line switch") frame switch
-place_name (LineJunctor frame channel) = switch_name (codes "line junctor switch") frame channel
-place_name (TrunkSwitch frame switch) = switch_name (codes "trunk switch") frame switch
-place_name (TrunkJunctor frame channel) = switch_name (codes "trunk junctor switch") frame channel
-place_name (Group group) = concat (codes "group " ∷ decimal group ∷ [])
-place_name (Other word) = concat (codes "word " ∷ decimal word ∷ [])
+place_name place = concat (kind_name place ∷ codes " " ∷ place_numbers place ∷ [])
 
 -- a connector, by what it leads to
 unfoldable pub conn_name : Conn → List ℕ

@@ -1,68 +1,25 @@
 -- Tests that are told in one line: those of a row of switches, one after another.
 use Rattle.std.specs.Prelude.{ℕ, ◌+◌, ◌==◌, ◌&&◌, Bool, true, false, List, [], ◌∷◌, codes, decimal, flat_map}
 use Rattle.std.specs.List.{concat}
-use Rattle.xbar_walk.specs.Lines.{in_four, marker_line}
-use Rattle.xbar_walk.specs.Places.{place_name, switch_name}
+use Rattle.xbar_walk.specs.Lines.{marker_line}
+use Rattle.xbar_walk.specs.Places.{kind_name, place_numbers}
 use Rattle.xbar_walk.specs.Shown.{listed, shown}
 use Rattle.xbar_walk.specs.Words.{test_words}
 use Rattle.xbar_walk.specs.declared.place.Place.{Place}
-use Rattle.xbar_walk.specs.declared.place.Place.TheVariants.{LineSwitch, LineJunctor, TrunkSwitch, TrunkJunctor, Group, Other}
+use Rattle.xbar_walk.specs.declared.place.Place.TheVariants.{LineJunctor, TrunkJunctor}
 use Rattle.xbar_walk.specs.declared.telling.Telling.{Telling}
 use Rattle.xbar_walk.specs.declared.telling.Telling.TheVariants.{Each, Short}
 use Rattle.xbar_walk.specs.declared.tested.Tested.{Tested}
 
--- whether a place is this junctor switch
-abbrev pub is_line_junctor : ℕ → ℕ → Place → Bool
-is_line_junctor frame channel (LineJunctor its_frame its_channel) =
-    (its_frame == frame) && (its_channel == channel)
-is_line_junctor frame channel (LineSwitch _ _) = false
-is_line_junctor frame channel (TrunkSwitch _ _) = false
-is_line_junctor frame channel (TrunkJunctor _ _) = false
-is_line_junctor frame channel (Group _) = false
-is_line_junctor frame channel (Other _) = false
-
-abbrev pub is_trunk_junctor : ℕ → ℕ → Place → Bool
-is_trunk_junctor frame channel (TrunkJunctor its_frame its_channel) =
-    (its_frame == frame) && (its_channel == channel)
-is_trunk_junctor frame channel (LineSwitch _ _) = false
-is_trunk_junctor frame channel (LineJunctor _ _) = false
-is_trunk_junctor frame channel (TrunkSwitch _ _) = false
-is_trunk_junctor frame channel (Group _) = false
-is_trunk_junctor frame channel (Other _) = false
-
 -- whether a place is the switch behind another in a row: a row is the junctor switches of one frame
 abbrev pub is_next : Place → Place → Bool
-is_next (LineJunctor frame channel) next = is_line_junctor frame (channel + 1) next
-is_next (TrunkJunctor frame channel) next = is_trunk_junctor frame (channel + 1) next
-is_next (LineSwitch _ _) next = false
-is_next (TrunkSwitch _ _) next = false
-is_next (Group _) next = false
-is_next (Other _) next = false
+is_next (LineJunctor frame channel) (LineJunctor own at) = (own == frame) && (at == channel + 1)
+is_next (TrunkJunctor frame channel) (TrunkJunctor own at) = (own == frame) && (at == channel + 1)
+is_next _ _ = false
 
 -- whether a test goes on with a row: the marker that made the test before it tests the next switch
 abbrev pub goes_on : Tested → Tested → Bool
 goes_on before tested = (before.marker == tested.marker) && is_next before.place tested.place
-
--- the switches of a row, by the first of them
-unfoldable pub row_name : Place → List ℕ
-row_name (LineJunctor frame channel) = switch_name (codes "line junctor switches") frame channel
-row_name (TrunkJunctor frame channel) = switch_name (codes "trunk junctor switches") frame channel
-row_name (LineSwitch frame switch) = place_name (LineSwitch frame switch)
-row_name (TrunkSwitch frame switch) = place_name (TrunkSwitch frame switch)
-row_name (Group group) = place_name (Group group)
-row_name (Other word) = place_name (Other word)
-
-abbrev two_numbers : ℕ → ℕ → List ℕ
-two_numbers frame switch = concat (decimal frame ∷ codes "," ∷ decimal switch ∷ [])
-
--- a switch by its numbers alone
-unfoldable pub place_numbers : Place → List ℕ
-place_numbers (LineSwitch frame switch) = two_numbers frame switch
-place_numbers (LineJunctor frame channel) = two_numbers frame channel
-place_numbers (TrunkSwitch frame switch) = two_numbers frame switch
-place_numbers (TrunkJunctor frame channel) = two_numbers frame channel
-place_numbers (Group group) = decimal group
-place_numbers (Other word) = decimal word
 
 -- all that tests find
 abbrev pub finds : List Tested → List (List ℕ)
@@ -80,17 +37,17 @@ last_of first (next ∷ later) = last_of next later
 -- steps, and all that they find
 unfoldable pub row_words : Tested → Tested → List Tested → List ℕ
 row_words first last tests =
-    concat (codes "tests " ∷ row_name first.place ∷ codes " to " ∷ place_numbers last.place
-    ∷ codes " (steps " ∷ decimal first.number ∷ codes " to " ∷ decimal last.number ∷ codes "): "
-    ∷ row_found tests ∷ [])
+    concat (codes "tests " ∷ kind_name first.place ∷ codes "es " ∷ place_numbers first.place
+    ∷ codes " to " ∷ place_numbers last.place ∷ codes " (steps " ∷ decimal first.number
+    ∷ codes " to " ∷ decimal last.number ∷ codes "): " ∷ row_found tests ∷ [])
 
 unfoldable pub row_line : Tested → Tested → List Tested → List ℕ
 row_line first last tests =
-    marker_line (in_four first.number) first.marker (row_words first last tests)
+    marker_line first.number first.marker (row_words first last tests)
 
 unfoldable pub test_line : Tested → List ℕ
 test_line tested =
-    marker_line (in_four tested.number) tested.marker (test_words tested.place tested.word)
+    marker_line tested.number tested.marker (test_words tested.place tested.word)
 
 -- one test has its own line, and several tests of a row have one, which begins
 -- with the number of the first

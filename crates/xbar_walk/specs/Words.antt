@@ -36,24 +36,16 @@ put_off (event.Preferred other) =
     concat (codes ": marker " ∷ decimal other ∷ codes " is preferred" ∷ [])
 put_off _ = []
 
-unfoldable pub request_words : Conn → Event → List ℕ
-request_words conn came = concat (codes "requests " ∷ conn_name conn ∷ put_off came ∷ [])
-
 -- a marker whose next step is to seize once more has found another word than it expected
-unfoldable pub seized_words : Conn → Step → List ℕ
-seized_words conn (step.Seize same expected) =
-    concat (codes "would seize " ∷ conn_name conn ∷ codes ": its word has changed, it tries again"
-    ∷ [])
-seized_words conn _ = concat (codes "seizes " ∷ conn_name conn ∷ [])
-
-unfoldable pub not_seized_words : Conn → Event → List ℕ
-not_seized_words conn came = concat (codes "would seize " ∷ conn_name conn ∷ put_off came ∷ [])
-
 unfoldable pub seize_words : Conn → Event → Step → List ℕ
 seize_words conn (event.Refused asked holder) next =
-    not_seized_words conn (event.Refused asked holder)
-seize_words conn (event.Preferred other) next = not_seized_words conn (event.Preferred other)
-seize_words conn _ next = seized_words conn next
+    concat (codes "would seize " ∷ conn_name conn ∷ put_off (event.Refused asked holder) ∷ [])
+seize_words conn (event.Preferred other) next =
+    concat (codes "would seize " ∷ conn_name conn ∷ put_off (event.Preferred other) ∷ [])
+seize_words conn _ (step.Seize same expected) =
+    concat (codes "would seize " ∷ conn_name conn ∷ codes ": its word has changed, it tries again"
+    ∷ [])
+seize_words conn _ _ = concat (codes "seizes " ∷ conn_name conn ∷ [])
 
 -- what a test finds
 unfoldable pub found_words : Place → ℕ → List ℕ
@@ -98,9 +90,6 @@ close_of (event.Finished r) next = concat (codes ", and has done job " ∷ decim
 close_of _ (step.Request conn) = codes ", and begins anew"
 close_of _ _ = []
 
-unfoldable pub given_words : List ℕ → Conn → Event → Step → List ℕ
-given_words verb conn came next = concat (verb ∷ conn_name conn ∷ close_of came next ∷ [])
-
 -- a second path, if there is one
 unfoldable pub and_path : Option Path → List ℕ
 and_path None = []
@@ -128,13 +117,16 @@ turn_words (r ∷ records) =
 unfoldable pub step_words : Told → List Record → List ℕ
 step_words told records = of_step told.step where
   of_step : Step → List ℕ
-  of_step (step.Request conn) = request_words conn told.event
+  of_step (step.Request conn) =
+      concat (codes "requests " ∷ conn_name conn ∷ put_off told.event ∷ [])
   of_step (step.Seize conn expected) = seize_words conn told.event told.next
   of_step (step.Withdraw conn) =
-      given_words (codes "withdraws its request for ") conn told.event told.next
+      concat (codes "withdraws its request for " ∷ conn_name conn ∷ close_of told.event told.next
+      ∷ [])
   of_step (step.Test word) = test_words (place_of word) told.found
   of_step step.Turn = turn_words records
   of_step (step.Close word bits) = close_words (place_of word) bits
   of_step (step.Open word mask) = open_words (place_of word) (cleared_by told.found mask)
-  of_step (step.Free conn) = given_words (codes "frees ") conn told.event told.next
+  of_step (step.Free conn) =
+      concat (codes "frees " ∷ conn_name conn ∷ close_of told.event told.next ∷ [])
   of_step step.Finished = []

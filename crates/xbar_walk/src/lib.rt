@@ -7,7 +7,6 @@ pub use telling::Telling;
 pub use told::Told;
 pub use walk::{walk_step, walk_steps};
 
-mod given_words;
 pub mod laws;
 mod lines;
 mod names;

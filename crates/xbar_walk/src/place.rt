@@ -1,7 +1,6 @@
 ghost use Rattle.std.specs.Prelude.{◌≡◌, Some};
-ghost use Rattle.xbar_walk.specs.Groups.{is_group as is_group_of};
-ghost use Rattle.xbar_walk.specs.Places.{place_name, place_of};
-ghost use Rattle.xbar_walk.specs.Rows.{is_line_junctor as is_line_junctor_of, is_next, is_trunk_junctor as is_trunk_junctor_of, place_numbers, row_name};
+ghost use Rattle.xbar_walk.specs.Places.{kind_name, place_name, place_numbers, place_of};
+ghost use Rattle.xbar_walk.specs.Rows.{is_next};
 
 use std::fmt;
 use xbar_equip::WordNo;
@@ -48,43 +47,17 @@ impl Place {
         }
     }
 
-    /// Whether it has busy bits of a group, and no fields of a switch.
-    pub fn is_group(self) -> bool
-        ensures { result ≡ is_group_of self }
+    /// What a place of its kind is called.
+    pub fn kind(self) -> &'static str
+        ensures { result.now ≡ kind_name self }
     {
         match self {
-            Place::LineSwitch(_, _)
-            | Place::LineJunctor(_, _)
-            | Place::TrunkSwitch(_, _)
-            | Place::TrunkJunctor(_, _)
-            | Place::Other(_) => false,
-            Place::Group(_) => true,
-        }
-    }
-
-    fn is_line_junctor(self, frame: u8, channel: u16) -> bool
-        ensures { result ≡ is_line_junctor_of frame channel self }
-    {
-        match self {
-            Place::LineJunctor(own, at) => own == frame && u16::from(at) == channel,
-            Place::LineSwitch(_, _)
-            | Place::TrunkSwitch(_, _)
-            | Place::TrunkJunctor(_, _)
-            | Place::Group(_)
-            | Place::Other(_) => false,
-        }
-    }
-
-    fn is_trunk_junctor(self, frame: u8, channel: u16) -> bool
-        ensures { result ≡ is_trunk_junctor_of frame channel self }
-    {
-        match self {
-            Place::TrunkJunctor(own, at) => own == frame && u16::from(at) == channel,
-            Place::LineSwitch(_, _)
-            | Place::LineJunctor(_, _)
-            | Place::TrunkSwitch(_, _)
-            | Place::Group(_)
-            | Place::Other(_) => false,
+            Place::LineSwitch(_, _) => "line switch",
+            Place::LineJunctor(_, _) => "line junctor switch",
+            Place::TrunkSwitch(_, _) => "trunk switch",
+            Place::TrunkJunctor(_, _) => "trunk junctor switch",
+            Place::Group(_) => "group",
+            Place::Other(_) => "word",
         }
     }
 
@@ -92,17 +65,12 @@ impl Place {
     pub fn is_behind(self, other: Place) -> bool
         ensures { result ≡ is_next other self }
     {
-        match other {
-            Place::LineJunctor(frame, channel) => {
-                self.is_line_junctor(frame, u16::from(channel) + 1)
+        match (other, self) {
+            (Place::LineJunctor(frame, channel), Place::LineJunctor(own, at))
+            | (Place::TrunkJunctor(frame, channel), Place::TrunkJunctor(own, at)) => {
+                own == frame && u16::from(at) == u16::from(channel) + 1
             }
-            Place::TrunkJunctor(frame, channel) => {
-                self.is_trunk_junctor(frame, u16::from(channel) + 1)
-            }
-            Place::LineSwitch(_, _)
-            | Place::TrunkSwitch(_, _)
-            | Place::Group(_)
-            | Place::Other(_) => false,
+            _ => false,
         }
     }
 }
@@ -110,56 +78,20 @@ impl Place {
 impl fmt::Display for Place {
     ghost output = { λ place. Some (place_name place) };
 
-    #[tactic(auto, unfolding(crate::specs::Places::place_name, crate::specs::Places::switch_name))]
+    #[tactic(auto, unfolding(crate::specs::Places::place_name))]
     fn fmt<W: fmt::Write>(&self, f: &mut fmt::Formatter<W>) -> fmt::Result {
-        match self {
-            Place::LineSwitch(frame, switch) => write!(f, "line switch {frame},{switch}"),
-            Place::LineJunctor(frame, channel) => {
-                write!(f, "line junctor switch {frame},{channel}")
-            }
-            Place::TrunkSwitch(frame, switch) => write!(f, "trunk switch {frame},{switch}"),
-            Place::TrunkJunctor(frame, channel) => {
-                write!(f, "trunk junctor switch {frame},{channel}")
-            }
-            Place::Group(group) => write!(f, "group {group}"),
-            Place::Other(word) => write!(f, "word {word}"),
-        }
+        write!(f, "{} {}", self.kind(), PlaceNumbers(*self))
     }
 }
 
-/// The switches of a row, by the first of them.
-#[derive(Clone, Copy)]
-pub struct RowName(pub Place);
-
-impl fmt::Display for RowName {
-    ghost output = { λ name. Some (row_name name.0) };
-
-    #[tactic(auto, unfolding(crate::specs::Rows::row_name, crate::specs::Places::switch_name))]
-    fn fmt<W: fmt::Write>(&self, f: &mut fmt::Formatter<W>) -> fmt::Result {
-        let place = self.0;
-        match place {
-            Place::LineJunctor(frame, channel) => {
-                write!(f, "line junctor switches {frame},{channel}")
-            }
-            Place::TrunkJunctor(frame, channel) => {
-                write!(f, "trunk junctor switches {frame},{channel}")
-            }
-            Place::LineSwitch(_, _)
-            | Place::TrunkSwitch(_, _)
-            | Place::Group(_)
-            | Place::Other(_) => write!(f, "{place}"),
-        }
-    }
-}
-
-/// A switch by its numbers alone.
+/// A place by its numbers alone.
 #[derive(Clone, Copy)]
 pub struct PlaceNumbers(pub Place);
 
 impl fmt::Display for PlaceNumbers {
     ghost output = { λ numbers. Some (place_numbers numbers.0) };
 
-    #[tactic(auto, unfolding(crate::specs::Rows::place_numbers))]
+    #[tactic(auto, unfolding(crate::specs::Places::place_numbers))]
     fn fmt<W: fmt::Write>(&self, f: &mut fmt::Formatter<W>) -> fmt::Result {
         match self.0 {
             Place::LineSwitch(frame, switch)

@@ -4,7 +4,7 @@ ghost use Rattle.std.specs.Prelude.{◌≡◌, ◌++◌, OnOk, string_bytes};
 ghost use Rattle.xbar_walk.specs.Rows.{row_found, row_line, test_line, tests_text};
 
 use crate::lines::InFour;
-use crate::place::{PlaceNumbers, RowName};
+use crate::place::PlaceNumbers;
 use crate::shown::{add_items, lead};
 use crate::tested::Tested;
 use crate::words::add_test;
@@ -38,16 +38,18 @@ fn add_row(
     ensures { OnOk result (string_bytes text.new ≡ string_bytes text.old ++
         row_line first.now last.now tests.now) }
 {
-    let number = InFour(first.number);
-    let marker = first.marker;
-    let row = RowName(first.place);
-    let end = PlaceNumbers(last.place);
-    let from = first.number;
-    let to = last.number;
+    let (number, marker, last_number) = (first.number, first.marker, last.number);
+    let (kind, from, to) = (
+        first.place.kind(),
+        PlaceNumbers(first.place),
+        PlaceNumbers(last.place),
+    );
+    let step = InFour(number);
     write!(
         text,
-        "{number}  marker {marker}  tests {row} to {end} (steps {from} to {to}): "
+        "{step}  marker {marker}  tests {kind}es {from} to {to}"
     )?;
+    write!(text, " (steps {number} to {last_number}): ")?;
     add_finds(text, tests)?;
     text.push_str("\n")?;
     Ok(())

@@ -4,6 +4,7 @@ ghost use Rattle.std.specs.Prelude.{◌≡◌, ◌<◌, OnOk, length, slice_get}
 ghost use Rattle.xbar_core.specs.AtWork.{IsBackingAt};
 ghost use Rattle.xbar_core.specs.Moves.{frees_left};
 ghost use Rattle.xbar_core.specs.Settling.{settled};
+ghost use Rattle.xbar_walk.specs.Parts.{told_part};
 ghost use Rattle.xbar_walk.specs.Stories.{Tells};
 ghost use Rattle.xbar_walk.specs.Walks.{told_end, told_end_past_turn, told_for_each, told_give_back, told_settling, told_steps};
 
@@ -11,6 +12,17 @@ use crate::story::Story;
 use crate::walk::{walk_step, walk_steps};
 use std::alloc::AllocError;
 use xbar_core::Exchange;
+
+/// What an office that settles has one marker after another do.
+#[derive(Clone, Copy)]
+enum Part {
+    /// End its job, if it is past its turn.
+    EndPastTurn,
+    /// Give back all that it holds, if it is not.
+    GiveBack,
+    /// End its job.
+    End,
+}
 
 /// As many steps as a marker has to its end at most that no other is in the way of.
 const MOST_STEPS_ALONE: u32 = 134;
@@ -72,35 +84,30 @@ fn walk_give_back(
     Ok(())
 }
 
-fn walk_all_past_turn(exchange: &mut Exchange<'_>, story: &mut Story) -> Result<(), AllocError>
-    ensures { OnOk result (Tells
-        (told_for_each told_end_past_turn (length exchange.old.exchange.markers))
-        exchange.old story.old exchange.new story.new) }
+fn walk_part(
+    exchange: &mut Exchange<'_>,
+    part: Part,
+    marker: u32,
+    story: &mut Story,
+) -> Result<(), AllocError>
+    requires { marker < length exchange.old.exchange.markers }
+    ensures { OnOk result
+        (Tells (told_part part marker) exchange.old story.old exchange.new story.new) }
 {
-    for marker in 0..exchange.marker_count() {
-        walk_end_past_turn(exchange, marker, story)?;
+    match part {
+        Part::EndPastTurn => walk_end_past_turn(exchange, marker, story),
+        Part::GiveBack => walk_give_back(exchange, marker, story),
+        Part::End => walk_end(exchange, marker, story),
     }
-    Ok(())
 }
 
-fn walk_all_back(exchange: &mut Exchange<'_>, story: &mut Story) -> Result<(), AllocError>
+fn walk_each(exchange: &mut Exchange<'_>, part: Part, story: &mut Story) -> Result<(), AllocError>
     ensures { OnOk result (Tells
-        (told_for_each told_give_back (length exchange.old.exchange.markers))
+        (told_for_each (told_part part) (length exchange.old.exchange.markers))
         exchange.old story.old exchange.new story.new) }
 {
     for marker in 0..exchange.marker_count() {
-        walk_give_back(exchange, marker, story)?;
-    }
-    Ok(())
-}
-
-fn walk_all_to_end(exchange: &mut Exchange<'_>, story: &mut Story) -> Result<(), AllocError>
-    ensures { OnOk result (Tells
-        (told_for_each told_end (length exchange.old.exchange.markers))
-        exchange.old story.old exchange.new story.new) }
-{
-    for marker in 0..exchange.marker_count() {
-        walk_end(exchange, marker, story)?;
+        walk_part(exchange, part, marker, story)?;
     }
     Ok(())
 }
@@ -114,8 +121,8 @@ pub fn walk_settling(exchange: &mut Exchange<'_>, story: &mut Story) -> Result<(
         (Tells told_settling exchange.old story.old exchange.new story.new) }
 {
     story.add_settling()?;
-    walk_all_past_turn(exchange, story)?;
-    walk_all_back(exchange, story)?;
-    walk_all_to_end(exchange, story)?;
+    walk_each(exchange, Part::EndPastTurn, story)?;
+    walk_each(exchange, Part::GiveBack, story)?;
+    walk_each(exchange, Part::End, story)?;
     Ok(())
 }

@@ -17,12 +17,9 @@ fn positions(place: Place) -> u8
     ensures range { result < 65 }
 {
     match place {
-        Place::LineSwitch(_, _)
-        | Place::LineJunctor(_, _)
-        | Place::TrunkSwitch(_, _)
-        | Place::TrunkJunctor(_, _) => 10,
         Place::Group(_) => 64,
         Place::Other(_) => 0,
+        _ => 10,
     }
 }
 
@@ -34,11 +31,9 @@ fn held_at(place: Place, word: u64, position: u8) -> u8
 {
     match place {
         Place::LineSwitch(_, _) => field(Shape::Line, word, position),
-        Place::LineJunctor(_, _) | Place::TrunkSwitch(_, _) | Place::TrunkJunctor(_, _) => {
-            field(Shape::Other, word, position)
-        }
         Place::Group(_) => (word >> position & 1) as u8,
         Place::Other(_) => 0,
+        _ => field(Shape::Other, word, position),
     }
 }
 

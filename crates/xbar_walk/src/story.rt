@@ -1,12 +1,13 @@
 ghost use Rattle.std.specs.Prelude.{◌≡◌, ◌++◌, IfOk, OnOk, [], string_bytes, true};
 ghost use Rattle.xbar_walk.specs.Rows.{are_joined, leads_on, tests_text};
 
-use crate::lines::{add_assignment, add_settling, add_step};
+use crate::lines::add_step;
 use crate::place::Place;
 use crate::rows::add_tests;
 use crate::telling::Telling;
 use crate::tested::Tested;
 use crate::told::Told;
+use crate::turn_words::JobWords;
 use std::alloc::{AllocError, Global};
 use xbar_jobs::Step;
 use xbar_office::{Job, Record};
@@ -26,7 +27,7 @@ pub struct Story {
 impl Story {
     ghost use Rattle.std.specs.Prelude.{ℕ, List};
     ghost use Rattle.xbar_walk.specs.Items.{Item, Says, Tests, step_item, told_text};
-    ghost use Rattle.xbar_walk.specs.Lines.{assignment_line, settling_line, step_lines};
+    ghost use Rattle.xbar_walk.specs.Lines.{assignment_line, settling_line};
     ghost use Rattle.xbar_walk.specs.Stories.{Adds, AddsStep, IsStory};
     ghost use Rattle.xbar_walk.specs.declared.telling.Telling.{Telling as TheTelling};
 
@@ -84,7 +85,11 @@ impl Story {
             self.old self.new) }
     {
         self.end_tests()?;
-        add_assignment(&mut self.text, marker, job_no, job)?;
+        let job = JobWords(job);
+        writeln!(
+            self.text,
+            "      marker {marker}  is given job {job_no}: {job}"
+        )?;
         Ok(())
     }
 
@@ -93,23 +98,8 @@ impl Story {
         ensures { OnOk result (Adds (Says settling_line) self.old self.new) }
     {
         self.end_tests()?;
-        add_settling(&mut self.text)?;
-        Ok(())
-    }
-
-    /// Adds the lines of a step that is no test.
-    fn add_lines(
-        &mut self,
-        number: u64,
-        marker: u32,
-        told: &Told,
-        records: &[Record],
-    ) -> Result<(), AllocError>
-        ensures { OnOk result (Adds (Says (step_lines number marker told.now records.now))
-            self.old self.new) }
-    {
-        self.end_tests()?;
-        add_step(&mut self.text, number, marker, told, records)?;
+        self.text
+            .push_str("      the rows are done, and the office settles\n")?;
         Ok(())
     }
 
@@ -124,28 +114,19 @@ impl Story {
         ensures { OnOk result (Adds (step_item number marker told.now records.now)
             self.old self.new) }
     {
-        match told.step {
-            Step::Test(word) => {
-                self.add_test(Tested {
-                    number,
-                    marker,
-                    place: Place::of(word),
-                    word: told.found,
-                })?;
-                Ok(())
-            }
-            Step::Request(_)
-            | Step::Seize(_, _)
-            | Step::Withdraw(_)
-            | Step::Turn
-            | Step::Close(_, _)
-            | Step::Open(_, _)
-            | Step::Free(_)
-            | Step::Finished => {
-                self.add_lines(number, marker, told, records)?;
-                Ok(())
-            }
+        if let Step::Test(word) = told.step {
+            let (place, word) = (Place::of(word), told.found);
+            self.add_test(Tested {
+                number,
+                marker,
+                place,
+                word,
+            })?;
+            return Ok(());
         }
+        self.end_tests()?;
+        add_step(&mut self.text, number, marker, told, records)?;
+        Ok(())
     }
 
     /// Adds a marker's step under the number that follows, and the trouble cards of its turn, if it

@@ -1,16 +1,77 @@
 //! A step in words.
 
-ghost use Rattle.std.specs.Prelude.{◌≡◌, ◌++◌, OnOk, string_bytes};
-ghost use Rattle.xbar_walk.specs.Words.{cleared_by, close_words, found_words, marked_words, open_words, step_words, switched_words, test_words};
+ghost use Rattle.std.specs.Prelude.{◌≡◌, ◌++◌, OnOk, Some, string_bytes};
+ghost use Rattle.xbar_walk.specs.Words.{cleared_by, close_of, close_words, found_words, marked_words, open_words, put_off, seize_words, step_words, switched_words, test_words};
 
-use crate::given_words::{add_given, add_request, add_seize};
+use crate::names::ConnName;
 use crate::place::Place;
 use crate::shown::add_shown;
 use crate::told::Told;
 use crate::turn_words::add_turn;
 use std::alloc::AllocError;
+use std::fmt;
+use xbar_core::Event;
+use xbar_equip::Conn;
 use xbar_jobs::Step;
 use xbar_office::Record;
+
+/// Why a marker does not get what it asks for, if it does not.
+#[derive(Clone, Copy)]
+struct PutOff<'e>(&'e Event);
+
+impl fmt::Display for PutOff<'_> {
+    ghost output = { λ came. Some (put_off came.0.now) };
+
+    #[tactic(auto, unfolding(crate::specs::Words::put_off))]
+    fn fmt<W: fmt::Write>(&self, f: &mut fmt::Formatter<W>) -> fmt::Result {
+        match self.0 {
+            Event::Refused { holder, .. } => write!(f, ": marker {holder} holds it"),
+            Event::Preferred(other) => write!(f, ": marker {other} is preferred"),
+            Event::Idle | Event::Moved | Event::Finished(_) => Ok(()),
+        }
+    }
+}
+
+/// What is told of the last step of a job, or of a marker's way back to its beginning.
+#[derive(Clone, Copy)]
+struct CloseOf<'e> {
+    event: &'e Event,
+    next: Step,
+}
+
+impl fmt::Display for CloseOf<'_> {
+    ghost output = { λ came. Some (close_of came.event.now came.next) };
+
+    #[tactic(auto, unfolding(crate::specs::Words::close_of))]
+    fn fmt<W: fmt::Write>(&self, f: &mut fmt::Formatter<W>) -> fmt::Result {
+        match (self.event, self.next) {
+            (Event::Finished(record), _) => write!(f, ", and has done job {}", record.job_no),
+            (_, Step::Request(_)) => f.write_str(", and begins anew"),
+            _ => Ok(()),
+        }
+    }
+}
+
+#[tactic(auto, unfolding(crate::specs::Words::seize_words))]
+fn add_seize(text: &mut String, conn: Conn, event: &Event, next: Step) -> Result<(), AllocError>
+    ensures { OnOk result (string_bytes text.new ≡ string_bytes text.old ++
+        seize_words conn event.now next) }
+{
+    let conn = ConnName(conn);
+    let put_off = PutOff(event);
+    match (event, next) {
+        (Event::Refused { .. } | Event::Preferred(_), _) => {
+            write!(text, "would seize {conn}{put_off}")
+        }
+        (_, Step::Seize(_, _)) => {
+            write!(
+                text,
+                "would seize {conn}: its word has changed, it tries again"
+            )
+        }
+        _ => write!(text, "seizes {conn}"),
+    }
+}
 
 #[tactic(auto, unfolding(crate::specs::Words::found_words))]
 fn add_found(text: &mut String, place: Place, word: u64) -> Result<(), AllocError>
@@ -73,24 +134,24 @@ fn add_marked(text: &mut String, state: &str, place: Place, bits: u64) -> Result
     Ok(())
 }
 
+#[tactic(auto, unfolding(crate::specs::Words::close_words))]
 fn add_close(text: &mut String, place: Place, bits: u64) -> Result<(), AllocError>
     ensures { OnOk result (string_bytes text.new ≡ string_bytes text.old ++
         close_words place bits) }
 {
-    if place.is_group() {
-        add_marked(text, " busy", place, bits)
-    } else {
-        add_switched(text, "closes ", " are joined", place, bits)
+    match place {
+        Place::Group(_) => add_marked(text, " busy", place, bits),
+        _ => add_switched(text, "closes ", " are joined", place, bits),
     }
 }
 
+#[tactic(auto, unfolding(crate::specs::Words::open_words))]
 fn add_open(text: &mut String, place: Place, bits: u64) -> Result<(), AllocError>
     ensures { OnOk result (string_bytes text.new ≡ string_bytes text.old ++ open_words place bits) }
 {
-    if place.is_group() {
-        add_marked(text, " idle", place, bits)
-    } else {
-        add_switched(text, "opens ", " are parted", place, bits)
+    match place {
+        Place::Group(_) => add_marked(text, " idle", place, bits),
+        _ => add_switched(text, "opens ", " are parted", place, bits),
     }
 }
 
@@ -107,17 +168,27 @@ pub fn add_words(text: &mut String, told: &Told, records: &[Record]) -> Result<(
     ensures { OnOk result (string_bytes text.new ≡ string_bytes text.old ++
         step_words told.now records.now) }
 {
-    let event = &told.event;
-    let next = told.next;
     match told.step {
-        Step::Request(conn) => add_request(text, conn, event),
-        Step::Seize(conn, _) => add_seize(text, conn, event, next),
-        Step::Withdraw(conn) => add_given(text, "withdraws its request for ", conn, event, next),
+        Step::Request(conn) => write!(text, "requests {}{}", ConnName(conn), PutOff(&told.event)),
+        Step::Seize(conn, _) => add_seize(text, conn, &told.event, told.next),
+        Step::Withdraw(conn) => {
+            let close = CloseOf {
+                event: &told.event,
+                next: told.next,
+            };
+            write!(text, "withdraws its request for {}{close}", ConnName(conn))
+        }
         Step::Test(word) => add_test(text, Place::of(word), told.found),
         Step::Turn => add_turn(text, records),
         Step::Close(word, bits) => add_close(text, Place::of(word), bits),
         Step::Open(word, mask) => add_open(text, Place::of(word), cleared(told.found, mask)),
-        Step::Free(conn) => add_given(text, "frees ", conn, event, next),
+        Step::Free(conn) => {
+            let close = CloseOf {
+                event: &told.event,
+                next: told.next,
+            };
+            write!(text, "frees {}{close}", ConnName(conn))
+        }
         Step::Finished => Ok(()),
     }
 }

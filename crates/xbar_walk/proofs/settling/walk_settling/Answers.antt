@@ -7,7 +7,7 @@ use Rattle.xbar_walk.proofs.settling.walk_settling.Goals as goal
 pub returns-clause-told : goal.returns-clause-told
 returns-clause-told c =
     settling_tells c.args.exchange.now _ _ _ c.args.story.now _ _ _ _ c.in_ok-add_settling.ensures
-    c.in_ok-walk_all_past_turn.ensures c.in_ok-walk_all_back.ensures c.in_ok-walk_all_to_end.ensures
+    c.in_ok-walk_each.ensures c.in_ok-walk_each-2.ensures c.in_ok-walk_each-3.ensures
 
 pub returns-clause-settled : goal.returns-clause-settled
 returns-clause-settled c =
