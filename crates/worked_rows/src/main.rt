@@ -11,13 +11,14 @@ use std::{fs, io};
 use toml::Value;
 use work::came_of;
 
-const FILES: [&str; 8] = [
+const FILES: [&str; 9] = [
     "calls.toml",
     "refusals.toml",
     "plans.toml",
     "slips.toml",
     "audits.toml",
     "walks.toml",
+    "steps.toml",
     "drawings.toml",
     "pages.toml",
 ];
