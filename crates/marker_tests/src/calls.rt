@@ -1,8 +1,54 @@
 //! Calls done by markers on threads of their own, and a job that goes from one worker to another.
 
-mod competing;
+ghost use Rattle.std.specs.Prelude.{◌≡◌, ◌+◌, ◌<◌, All, IfOk, vec_len};
+ghost use Rattle.xbar_markers.specs.Calls.{HasCallNo};
+
+use crate::fixtures::example;
+use std::alloc::{AllocError, Global};
+use std::process::Abort;
+use std::sync::Wait;
+use std::thread::Threads;
+use xbar_equip::{Dialled, Len};
+use xbar_markers::{Call, Gate, OpenGate, Outcome, run_calls};
+use xbar_plan::Plan;
+
+mod doing;
 mod gates;
 mod handing;
-mod many_markers;
 mod overlapping;
-mod running;
+
+/// How many markers dial, and how many complete calls.
+#[derive(Clone, Copy, Debug)]
+struct Staff {
+    dialling: usize,
+    completing: usize,
+}
+
+/// A call to another office.
+fn call_out(call_no: u32, line: Len, release: bool) -> Call
+    requires { call_no < 10000 }
+    ensures { HasCallNo result }
+{
+    Call {
+        call_no,
+        line,
+        digits: Dialled::new(5_551_234),
+        release,
+    }
+}
+
+fn run<'p, G: Gate + Send + Drop, R: Threads + Wait + Sync + Abort>(
+    rt: &R,
+    alloc: Global,
+    plan: &'p Plan,
+    calls: &[Call],
+    staff: Staff,
+    gates: Vec<G>,
+) -> Outcome<'p>
+    requires call_nos { All HasCallNo calls.now }
+    requires gates { vec_len gates ≡ staff.dialling + staff.completing }
+{
+    let (dialling, completing) = (staff.dialling, staff.completing);
+    let outcome = run_calls(rt, alloc, plan, calls, dialling, completing, gates);
+    outcome.expect(rt, "the calls are done")
+}

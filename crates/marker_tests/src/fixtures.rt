@@ -1,29 +1,21 @@
-//! What the tests of jobs and of offices share: plans, jobs, and a look at words.
+//! What the tests share: plans, jobs, shared words with their desks, and what words show.
 
+ghost use Rattle.std.specs.Prelude.{◌≡◌, length, vec_len};
+ghost use Rattle.xbar_fabric.specs.Views.{AreDesksOf, IsDeskOf};
+
+use rand::RngExt;
+use rand_pcg::Pcg32;
 use std::alloc::{AllocError, Global};
 use std::process::Abort;
 use test_tools::check_eq;
-use xbar_equip::{Dialled, Len};
-use xbar_match::{count_closed, count_paths};
-use xbar_office::{Job, Record, audit};
+use xbar_equip::{Dialled, Len, WORD_COUNT};
+use xbar_fabric::{Desk, Fabric, Kind};
+use xbar_office::{Job, Office, Record, audit};
 use xbar_plan::Plan;
 use xbar_plan_text::PlanText;
 
-/// The example plan as a text.
-pub const EXAMPLE: &str = "version = 1
-groups = [
-  \"REG register 417 418 509\",
-  \"INTRA intra 600-601 700-711\",
-  \"OUTA outgoing 800\",
-  \"OUTB outgoing 801 902\",
-]
-numbers = [\"0001 3041\", \"0002 3052\", \"0003 1000\", \"0004 3100\"]
-codes = [\"234 INTRA\", \"555 OUTA OUTB\"]
-faults = []
-";
-
 /// Twelve registers on two trunk link frames, and two trunks to another office.
-pub const MANY_REGISTERS: &str = "version = 1
+const MANY_REGISTERS: &str = "version = 1
 groups = [
   \"REG register 410 411 412 413 414 415 416 417 418 419 420 500\",
   \"INTRA intra 600-601 700-711\",
@@ -40,10 +32,10 @@ pub fn example(rt: &impl Abort, alloc: Global) -> Plan {
     Plan::example(alloc).expect(rt, "there is memory for a plan")
 }
 
-/// The plan that a text holds.
-pub fn read_plan(rt: &impl Abort, alloc: Global, text: &str) -> Plan {
-    let Ok(plan) = Plan::read(alloc, text.as_bytes()) else {
-        panic!(rt; "no plan: {text}");
+/// The plan with many registers.
+pub fn many_registers(rt: &impl Abort, alloc: Global) -> Plan {
+    let Ok(plan) = Plan::read(alloc, MANY_REGISTERS.as_bytes()) else {
+        panic!(rt; "the plan is read");
     };
     plan
 }
@@ -69,41 +61,65 @@ pub fn job(rt: &impl Abort, text: &str) -> Job {
     job
 }
 
-/// A line of a number of the plan, or another one.
-fn some_line(choice: u32) -> Len {
-    match choice % 7 {
+/// One of twelve lines, most of them on two frames: few enough for markers to meet.
+fn some_line(numbers: &mut Pcg32) -> Len {
+    let choice = numbers.random_range(0..12u8);
+    match choice {
         0 => Len::new(3, 0, 21),
         1 => Len::new(3, 0, 27),
         2 => Len::new(1, 0, 0),
         3 => Len::new(3, 1, 0),
         4 => Len::new(2, 0, 0),
-        5 => Len::new(3, 0, 10),
-        _ => Len::new(3, 0, 6),
+        _ if choice % 2 == 0 => Len::new(3, 0, choice),
+        _ => Len::new(1, 2, choice),
     }
 }
 
 /// Digits that lead to another office, to a line of this one, or nowhere.
-fn some_digits(choice: u32) -> Dialled {
-    match choice % 7 {
-        0 => Dialled::new(5_551_234),
-        1 => Dialled::new(2_340_001),
-        2 => Dialled::new(2_340_002),
-        3 => Dialled::new(2_340_003),
-        4 => Dialled::new(2_340_004),
-        5 => Dialled::new(9_990_000),
+fn some_digits(numbers: &mut Pcg32) -> Dialled {
+    match numbers.random_range(0..8u32) {
+        0 | 1 => Dialled::new(5_551_234),
+        2 => Dialled::new(2_340_001),
+        3 => Dialled::new(2_340_002),
+        4 => Dialled::new(2_340_003),
+        5 => Dialled::new(2_340_004),
+        6 => Dialled::new(9_990_000),
         _ => Dialled::new(2_349_999),
     }
 }
 
-/// A job of any kind, as three numbers choose it, each counted round. Completing jobs are the most
-/// frequent, since many of them end early.
-pub fn some_job(kind: u32, line: u32, digits: u32) -> Job {
-    let line = some_line(line);
-    match kind % 4 {
-        0 => Job::Dial(line),
-        1 => Job::Release(line),
-        _ => Job::Complete(line, some_digits(digits)),
+/// A job of any kind. Completing jobs are the most frequent, since many of them end early.
+pub fn some_job(numbers: &mut Pcg32) -> Job {
+    let line = some_line(numbers);
+    match numbers.random_range(0..8u32) {
+        0 | 1 | 2 => Job::Dial(line),
+        3 => Job::Release(line),
+        _ => Job::Complete(line, some_digits(numbers)),
     }
+}
+
+/// Shared words with a desk of each of these kinds.
+pub fn open_fabric<'p>(
+    rt: &impl Abort,
+    alloc: Global,
+    plan: &'p Plan,
+    kinds: &[Kind],
+) -> (Fabric<'p>, Vec<Desk>)
+    ensures count { (result.0.count ≡ length kinds.now) × (vec_len result.1 ≡ length kinds.now) }
+    ensures desks { AreDesksOf result.1.items result.0 }
+{
+    let Ok(opened) = Fabric::open(alloc, plan, kinds) else {
+        panic!(rt; "an office is opened");
+    };
+    opened
+}
+
+pub fn last_desk(rt: &impl Abort, _fabric: &Fabric, desks: &mut Vec<Desk>) -> Desk
+    requires { AreDesksOf desks.old.items _fabric.now }
+    ensures rest { AreDesksOf desks.new.items _fabric.now }
+    ensures desk { IsDeskOf result _fabric.now }
+{
+    desks.pop().expect(rt, "there is a desk")
 }
 
 /// Words that are not 0, by their numbers in order.
@@ -141,32 +157,45 @@ fn closed_words(alloc: Global, words: &[u64]) -> Result<Vec<(usize, u64)>, Alloc
 
 /// Of all 453 words just these are not 0.
 pub fn check_words(rt: &impl Abort, alloc: Global, name: &str, words: &[u64], wanted: Words<'_>) {
-    check_eq!(rt; words.len(), 453, name);
+    check_eq!(rt; words.len(), WORD_COUNT, name);
     let closed = closed_words(alloc, words).expect(rt, "there is memory for a list");
     check_eq!(rt; closed.as_slice(), wanted, name);
 }
 
-/// How many paths the records leave, if they are one legal history.
-pub fn count_left(rt: &impl Abort, alloc: Global, plan: &Plan, log: &[Record]) -> usize {
-    let after = audit(alloc, plan, log).expect(rt, "the records are legal");
-    after.paths().len()
+/// The words that show the office's crosspoints.
+fn crosspoint_words(rt: &impl Abort, alloc: Global, office: &Office) -> [u64; WORD_COUNT] {
+    let crosspoints = office.crosspoints(alloc);
+    let crosspoints = crosspoints.expect(rt, "there is memory for crosspoints");
+    let mut words = [0; WORD_COUNT];
+    for crosspoint in crosspoints.iter() {
+        let number = usize::from(crosspoint.word.number());
+        let is_line_switch = number < 200 && number % 20 < 10;
+        let width = if is_line_switch { 6 } else { 4 };
+        if number < WORD_COUNT && crosspoint.field < 10 {
+            words[number] |= u64::from(crosspoint.value) << (width * u32::from(crosspoint.field));
+        }
+    }
+    words
 }
 
-/// The word of the first connector; the others follow, up to the word that counts turns.
-pub const CONNECTORS: usize = 416;
-
-pub const TURNS: usize = 452;
-
-const ALL_FREE: &[u64] = &[0; 36];
-
-/// The words show so many paths after so many turns, and no connector is held or asked for.
-pub fn check_shown(rt: &impl Abort, name: &str, words: &[u64], paths: usize, turns: usize) {
-    assert!(rt; words.len() == 453);
-    let counted = (
-        usize::from(count_paths(words)),
-        usize::from(count_closed(words)),
-        words[TURNS],
-    );
-    check_eq!(rt; counted, (paths, paths.saturating_mul(4), turns as u64), name);
-    check_eq!(rt; &words[CONNECTORS..TURNS], ALL_FREE, name);
+/// The records are one legal history, and the words those of the office after it: each crosspoint, each
+/// busy member, the turns, and nothing else. So no connector is held or asked for.
+pub fn check_history(
+    rt: &impl Abort,
+    alloc: Global,
+    plan: &Plan,
+    name: &str,
+    records: &[Record],
+    words: &[u64],
+) {
+    let office = audit(alloc, plan, records).expect(rt, "the records are legal");
+    let mut wanted = crosspoint_words(rt, alloc, &office);
+    for path in office.paths() {
+        if let Some(found) = plan.member_of(path.place) {
+            wanted[400 + usize::from(found.group % 16)] |= 1 << (found.index % 64);
+        }
+    }
+    wanted[452] = records.len() as u64;
+    let wanted = closed_words(alloc, &wanted).expect(rt, "there is memory for a list");
+    check_words(rt, alloc, name, words, &wanted);
 }

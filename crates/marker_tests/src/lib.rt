@@ -8,8 +8,6 @@ mod calls;
 #[cfg(test)]
 mod exchange;
 #[cfg(test)]
-mod fabric;
-#[cfg(test)]
 mod fixtures;
 #[cfg(test)]
 mod jobs;
@@ -18,4 +16,4 @@ mod offices;
 #[cfg(test)]
 mod threads;
 #[cfg(test)]
-mod walks;
+mod told;

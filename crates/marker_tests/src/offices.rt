@@ -1,32 +1,32 @@
 //! Offices that are driven move by move, as plain data and as desks on shared words: both come to the same.
 
-use crate::fixtures::{WITH_REGISTER, WITH_TRUNK, Words, check_shown, check_words, example, job};
+use crate::fixtures::{WITH_REGISTER, WITH_TRUNK, Words, check_words, example, job};
 use plain::open_exchange;
 use std::alloc::Global;
 use std::process::Abort;
 use test_tools::check_eq;
 use two_desks::open_desks;
-use xbar_core::{AssignFault, Event, Given, Kind, OpenFault};
+use xbar_core::{AssignFault, Event, Given, Kind};
 use xbar_equip::Conn;
 use xbar_office::Job;
 use xbar_plan::Plan;
 
-mod assigning;
 mod giving_back;
 pub mod plain;
 mod put_off;
 mod stories;
-pub mod two_desks;
+mod told_records;
+mod two_desks;
 
 /// Two markers that take all jobs.
 pub const TWO: &[Kind] = &[Kind::Combined; 2];
 
 /// More steps than a job takes that nobody puts off.
-const MOST_STEPS_ALONE: u32 = 128;
+pub const MOST_STEPS_ALONE: u32 = 128;
 
 /// What came of a step, in few words.
 #[derive(Clone, Copy, Debug, PartialEq)]
-pub enum Told {
+enum Told {
     Idle,
     Moved,
     /// The connector that was asked for is held by the marker of this number.
@@ -45,8 +45,6 @@ pub trait Driven: Sized + Drop {
 
     /// Asks the marker to give back what it holds.
     fn ask_back(&mut self, marker: u32) -> Given;
-
-    fn kind_of(&self, marker: u32) -> Option<Kind>;
 
     fn has_no_job(&self, marker: u32) -> bool;
 

@@ -3,5 +3,4 @@
 mod driving;
 mod ending;
 mod many_desks;
-mod opening;
 mod two_desks;

@@ -11,7 +11,7 @@ use std::{fs, io};
 use toml::Value;
 use work::came_of;
 
-const FILES: [&str; 11] = [
+const FILES: [&str; 12] = [
     "forms.toml",
     "calls.toml",
     "replies.toml",
@@ -21,6 +21,7 @@ const FILES: [&str; 11] = [
     "audits.toml",
     "records.toml",
     "walks.toml",
+    "steps.toml",
     "drawings.toml",
     "pages.toml",
 ];

@@ -15,13 +15,9 @@ pub struct Point {
     pub jobs: u64,
 }
 
-/// A marker waits, once it has come to a point, until another has come to one.
+/// A marker waits, once it has come to a point, until another, of this number, has come to one.
 #[derive(Clone, Copy)]
-pub struct Meeting {
-    pub at: Point,
-    pub other: u32,
-    pub until: Point,
-}
+pub struct Meeting(pub Point, pub u32, pub Point);
 
 /// How far one marker is, for the gates of the others to see.
 #[derive(Default, Drop)]
@@ -71,11 +67,11 @@ impl Board {
         }
     }
 
-    fn wait(&self, meeting: Meeting) {
+    fn wait(&self, other: u32, until: Point) {
         for _turn in 0..PATIENCE {
             if self
-                .progress(meeting.other)
-                .is_some_and(|other| other.has_come_to(meeting.until))
+                .progress(other)
+                .is_some_and(|other| other.has_come_to(until))
             {
                 let _kept = self.kept.fetch_add(1, Ordering::SeqCst);
                 return;
@@ -116,10 +112,10 @@ impl Gate for MeetingGate<'_> {
         if marker != self.marker || own.steps.fetch_add(1, Ordering::SeqCst) != step {
             self.count_mistake();
         }
-        if let Some(meeting) = self.meeting {
-            if own.has_come_to(meeting.at) {
+        if let Some(Meeting(at, other, until)) = self.meeting {
+            if own.has_come_to(at) {
                 self.meeting = None;
-                self.board.wait(meeting);
+                self.board.wait(other, until);
             }
         }
     }

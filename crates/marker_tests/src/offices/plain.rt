@@ -32,10 +32,6 @@ impl Driven for Exchange<'_> {
         }
     }
 
-    fn kind_of(&self, marker: u32) -> Option<Kind> {
-        (marker < self.marker_count()).then(|| self.kind(marker))
-    }
-
     fn has_no_job(&self, marker: u32) -> bool {
         marker < self.marker_count() && self.is_idle(marker)
     }

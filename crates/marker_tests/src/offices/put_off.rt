@@ -2,39 +2,13 @@
 
 use super::*;
 
-/// After each of these numbers of steps of marker 0, marker 1 is first put off so.
-struct PutOff {
-    least: u32,
-    most: u32,
-    first: Option<Told>,
-}
-
-const PUT_OFF: &[PutOff] = &[
-    PutOff {
-        least: 0,
-        most: 3,
-        first: None,
-    },
-    PutOff {
-        least: 4,
-        most: 4,
-        first: Some(Told::Preferred(0)),
-    },
-    PutOff {
-        least: 5,
-        most: 26,
-        first: Some(Told::Refused(Conn::Group(0), 0)),
-    },
-    PutOff {
-        least: 27,
-        most: 27,
-        first: Some(Told::Refused(Conn::Tlf(4), 0)),
-    },
-    PutOff {
-        least: 28,
-        most: 28,
-        first: None,
-    },
+/// After marker 0 has made at least and at most so many steps, marker 1 is first put off so.
+const PUT_OFF: &[(u32, u32, Option<Told>)] = &[
+    (0, 3, None),
+    (4, 4, Some(Told::Preferred(0))),
+    (5, 26, Some(Told::Refused(Conn::Group(0), 0))),
+    (27, 27, Some(Told::Refused(Conn::Tlf(4), 0))),
+    (28, 28, None),
 ];
 
 /// The first time that marker 1 is put off on its way to its end.
@@ -51,20 +25,17 @@ fn first_put_off<O: Driven>(rt: &impl Abort, office: &mut O) -> Option<Told> {
 
 fn is_put_off<O: Driven>(rt: &impl Abort, mut office: O, count: u32, wanted: &Option<Told>) {
     begin_both(rt, &mut office, count, 0);
-    let found = first_put_off(rt, &mut office);
-    check_eq!(rt; found, *wanted, "after {count} steps");
-}
-
-fn are_put_off(rt: &impl Abort, alloc: Global, plan: &Plan) {
-    for case in PUT_OFF {
-        for count in case.least..=case.most {
-            is_put_off(rt, open_exchange(rt, alloc, plan, TWO), count, &case.first);
-            is_put_off(rt, open_desks(rt, alloc, plan, TWO), count, &case.first);
-        }
-    }
+    check_eq!(rt; first_put_off(rt, &mut office), *wanted, "after {count} steps");
 }
 
 #[test]
 fn another_marker_is_put_off(rt: HostRuntime) {
-    are_put_off(&rt, rt.alloc(), &example(&rt, rt.alloc()));
+    let alloc = rt.alloc();
+    let plan = example(&rt, alloc);
+    for (least, most, first) in PUT_OFF {
+        for count in *least..=*most {
+            is_put_off(&rt, open_exchange(&rt, alloc, &plan, TWO), count, first);
+            is_put_off(&rt, open_desks(&rt, alloc, &plan, TWO), count, first);
+        }
+    }
 }

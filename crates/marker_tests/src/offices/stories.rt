@@ -6,8 +6,8 @@ use super::*;
 enum Move {
     /// It is assigned a job under a number.
     Begin(u32, u32, &'static str),
-    /// It makes so many steps, whatever comes of them.
-    GoOn(u32, u32),
+    /// It is refused a job.
+    Refuse(u32, &'static str, AssignFault),
     /// So many steps are made.
     Moved(u32, u32),
     /// A step comes to this.
@@ -25,8 +25,6 @@ struct Story {
     looks: &'static [(usize, Words<'static>)],
 }
 
-const FORTY_EIGHT: &[Kind] = &[Kind::Combined; 48];
-
 const STORIES: &[Story] = &[
     Story {
         name: "the lower marker is preferred",
@@ -34,13 +32,13 @@ const STORIES: &[Story] = &[
         moves: &[
             Move::Begin(0, 1, "D 3041"),
             Move::Begin(1, 2, "D 3052"),
-            Move::Step(0, Told::Moved),
+            Move::Moved(0, 1),
             Move::Step(1, Told::Preferred(0)),
-            Move::Step(0, Told::Moved),
-            Move::Step(0, Told::Moved),
-            Move::Step(1, Told::Moved),
+            Move::Moved(0, 1),
+            Move::Moved(0, 1),
+            Move::Moved(1, 1),
             Move::Step(1, Told::Refused(Conn::Llf(3), 0)),
-            Move::Step(1, Told::Moved),
+            Move::Moved(1, 1),
         ],
         looks: &[
             (3, &[(419, 256)]),
@@ -58,10 +56,10 @@ const STORIES: &[Story] = &[
         moves: &[
             Move::Begin(0, 1, "D 3041"),
             Move::Begin(1, 2, "D 3052"),
-            Move::Step(1, Told::Moved),
-            Move::Step(0, Told::Moved),
+            Move::Moved(1, 1),
+            Move::Moved(0, 1),
             Move::Step(1, Told::Preferred(0)),
-            Move::Step(0, Told::Moved),
+            Move::Moved(0, 1),
         ],
         looks: &[
             (3, &[(419, 512)]),
@@ -72,9 +70,9 @@ const STORIES: &[Story] = &[
     },
     Story {
         name: "the last marker has the highest request",
-        kinds: FORTY_EIGHT,
-        moves: &[Move::Begin(47, 1, "D 3041"), Move::Step(47, Told::Moved)],
-        looks: &[(2, &[(419, 36_028_797_018_963_968)])],
+        kinds: &[Kind::Combined; 48],
+        moves: &[Move::Begin(47, 1, "D 3041"), Move::Moved(47, 1)],
+        looks: &[(2, &[(419, 1 << 55)])],
     },
     Story {
         name: "a held connector puts a marker off, and both give back",
@@ -99,7 +97,7 @@ const STORIES: &[Story] = &[
         moves: &[
             Move::Begin(0, 1, "D 3041"),
             Move::Begin(1, 2, "D 3052"),
-            Move::GoOn(1, 1),
+            Move::Moved(1, 1),
             Move::GiveBack(1, Given::Given),
             Move::HasNoJob(1, false),
         ],
@@ -110,26 +108,43 @@ const STORIES: &[Story] = &[
         kinds: TWO,
         moves: &[
             Move::Begin(0, 1, "D 3041"),
-            Move::GoOn(0, 27),
+            Move::Moved(0, 27),
             Move::Step(0, Told::Finished(1)),
             Move::Step(0, Told::Idle),
             Move::HasNoJob(0, true),
         ],
         looks: &[(5, WITH_REGISTER)],
     },
+    Story {
+        name: "a busy marker is told before the kind of its job",
+        kinds: &[Kind::Dial, Kind::Completing],
+        moves: &[
+            Move::Refuse(0, "R 3041", AssignFault::WrongKind),
+            Move::HasNoJob(0, true),
+            Move::GiveBack(0, Given::Idle),
+            Move::Begin(0, 1, "D 3041"),
+            Move::Refuse(0, "D 3052", AssignFault::NotIdle),
+            Move::Refuse(0, "R 3041", AssignFault::NotIdle),
+            Move::HasNoJob(0, false),
+            Move::Refuse(1, "D 3041", AssignFault::WrongKind),
+            Move::HasNoJob(1, true),
+            Move::GiveBack(1, Given::Idle),
+        ],
+        looks: &[(10, &[])],
+    },
 ];
-
-fn move_so<O: Driven>(rt: &impl Abort, office: &mut O, name: &str, marker: u32, count: u32) {
-    for _made in 0..count {
-        check_eq!(rt; told_of(&office.go_on(marker)), Told::Moved, name);
-    }
-}
 
 fn make<O: Driven>(rt: &impl Abort, office: &mut O, name: &str, next: &Move) {
     match next {
         Move::Begin(marker, job_no, text) => assign(rt, office, *marker, *job_no, text),
-        Move::GoOn(marker, count) => go_on_for(office, *marker, *count),
-        Move::Moved(marker, count) => move_so(rt, office, name, *marker, *count),
+        Move::Refuse(marker, text, fault) => {
+            check_eq!(rt; office.assign_to(*marker, 9, job(rt, text)), Err(*fault), name);
+        }
+        Move::Moved(marker, count) => {
+            for _made in 0..*count {
+                check_eq!(rt; told_of(&office.go_on(*marker)), Told::Moved, name);
+            }
+        }
         Move::Step(marker, wanted) => check_eq!(rt; told_of(&office.go_on(*marker)), *wanted, name),
         Move::GiveBack(marker, given) => check_eq!(rt; office.ask_back(*marker), *given, name),
         Move::HasNoJob(marker, is_so) => check_eq!(rt; office.has_no_job(*marker), *is_so, name),
@@ -152,18 +167,16 @@ fn look<O: Driven>(
     check_shut(rt, alloc, story.name, office, wanted);
 }
 
-fn tell_all(rt: &impl Abort, alloc: Global, plan: &Plan) {
-    for story in STORIES {
-        for (made, words) in story.looks {
-            let exchange = open_exchange(rt, alloc, plan, story.kinds);
-            look(rt, alloc, exchange, story, *made, words);
-            let desks = open_desks(rt, alloc, plan, story.kinds);
-            look(rt, alloc, desks, story, *made, words);
-        }
-    }
-}
-
 #[test]
 fn markers_do_as_in_the_stories(rt: HostRuntime) {
-    tell_all(&rt, rt.alloc(), &example(&rt, rt.alloc()));
+    let alloc = rt.alloc();
+    let plan = example(&rt, alloc);
+    for story in STORIES {
+        for (made, words) in story.looks {
+            let exchange = open_exchange(&rt, alloc, &plan, story.kinds);
+            look(&rt, alloc, exchange, story, *made, words);
+            let desks = open_desks(&rt, alloc, &plan, story.kinds);
+            look(&rt, alloc, desks, story, *made, words);
+        }
+    }
 }

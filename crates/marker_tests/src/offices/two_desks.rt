@@ -1,7 +1,5 @@
-ghost use Rattle.std.specs.Prelude.{◌≡◌, length};
-ghost use Rattle.xbar_fabric.specs.Views.{AreDesksOf, IsDeskOf};
-
 use super::*;
+use crate::fixtures::{last_desk, open_fabric};
 use std::marker::Model;
 use xbar_fabric::{Desk, Fabric, meet, shut};
 
@@ -23,14 +21,6 @@ impl<'p> Model for TwoDesks<'p> {
     ghost invariant = { λ o. IsDeskOf o.last_but_one o.fabric × IsDeskOf o.last o.fabric };
 }
 
-fn last_desk(rt: &impl Abort, _fabric: &Fabric, desks: &mut Vec<Desk>) -> Desk
-    requires { AreDesksOf desks.old.items _fabric.now }
-    ensures rest { AreDesksOf desks.new.items _fabric.now }
-    ensures desk { IsDeskOf result _fabric.now }
-{
-    desks.pop().expect(rt, "there are two desks")
-}
-
 /// Shared words with a desk of each of these kinds.
 pub fn open_desks<'p>(
     rt: &impl Abort,
@@ -38,7 +28,7 @@ pub fn open_desks<'p>(
     plan: &'p Plan,
     kinds: &[Kind],
 ) -> TwoDesks<'p> {
-    let (fabric, mut desks) = Fabric::open(alloc, plan, kinds).expect(rt, "an office is opened");
+    let (fabric, mut desks) = open_fabric(rt, alloc, plan, kinds);
     let last = last_desk(rt, &fabric, &mut desks);
     let last_but_one = last_desk(rt, &fabric, &mut desks);
     check_eq!(rt; last.marker() as usize + 1, kinds.len(), "the last desk");
@@ -52,14 +42,6 @@ pub fn open_desks<'p>(
 impl TwoDesks<'_> {
     fn is_last(&self, marker: u32) -> bool {
         marker == self.last.marker()
-    }
-
-    fn desk(&self, marker: u32) -> &Desk {
-        if self.is_last(marker) {
-            &self.last
-        } else {
-            &self.last_but_one
-        }
     }
 }
 
@@ -88,12 +70,12 @@ impl Driven for TwoDesks<'_> {
         }
     }
 
-    fn kind_of(&self, marker: u32) -> Option<Kind> {
-        Some(self.desk(marker).kind())
-    }
-
     fn has_no_job(&self, marker: u32) -> bool {
-        self.desk(marker).is_idle()
+        if self.is_last(marker) {
+            self.last.is_idle()
+        } else {
+            self.last_but_one.is_idle()
+        }
     }
 
     fn meet(&mut self) {

@@ -1,20 +1,20 @@
 //! Desks at work, each on a thread that owns it.
 
-ghost use Rattle.std.specs.Prelude.{◌<◌};
-ghost use Rattle.xbar_fabric.specs.Views.{IsDeskOf};
+ghost use Rattle.std.specs.Prelude.{◌≡◌, All, vec_len};
+ghost use Rattle.xbar_fabric.specs.Views.{AreDesksOf, IsDeskOf};
 
-use rand::RngExt;
+use crate::fixtures::some_job;
+use crate::offices::MOST_STEPS_ALONE;
 use rand_pcg::Pcg32;
-use std::thread;
-use xbar_equip::{Dialled, Len};
+use std::alloc::Global;
+use std::process::Abort;
+use std::thread::{self, Threads, map_vec};
+use xbar_equip::Len;
 use xbar_fabric::{Desk, Fabric, Progress};
 use xbar_office::{Job, Record};
 
 /// How often a desk gives back and begins its job anew before it leaves the job undone.
 const TRIES: u32 = 100_000_000;
-
-/// More steps than a job takes that nobody puts off.
-pub const MOST_STEPS_ALONE: u32 = 128;
 
 /// A desk at work, and the records that it was told. That it may go to another thread is derived
 /// where the desk may.
@@ -25,6 +25,15 @@ pub struct AtWork<D: Drop> {
 }
 
 pub type Shift = AtWork<Desk>;
+
+/// What each desk does on its thread.
+#[derive(Clone, Copy)]
+pub enum Task {
+    /// It dials, with so many steps at most: desk 0 from line 3041, any other from line 1000.
+    Dial(u32),
+    /// It does so many jobs to their ends, which a generator with this seed chooses.
+    Jobs(u32, u64),
+}
 
 /// Makes the desk's steps until its job has ended, or so many of them, and tells whether it has
 /// ended.
@@ -59,50 +68,23 @@ fn persist(fabric: &Fabric, shift: &mut Shift, patience: u32) -> bool
     false
 }
 
-/// A number below this one.
-fn some_number(numbers: &mut Pcg32, below: u32) -> u32
-    requires { 0 < below }
-    ensures { result < below }
+fn dial(fabric: &Fabric, shift: &mut Shift, most: u32)
+    requires { IsDeskOf shift.old.desk fabric.now }
+    ensures { IsDeskOf shift.new.desk fabric.now }
 {
-    numbers.random_range(0..below)
-}
-
-/// One of twelve lines, on two frames: few enough for desks to meet.
-fn some_line(numbers: &mut Pcg32) -> Len {
-    match some_number(numbers, 12) {
+    let line = match shift.desk.marker() {
         0 => Len::new(3, 0, 21),
-        1 => Len::new(3, 0, 27),
-        2 => Len::new(1, 0, 0),
-        3 => Len::new(3, 1, 0),
-        choice if choice % 2 == 0 => Len::new(3, 2, choice as u8),
-        choice => Len::new(1, 2, choice as u8),
+        _ => Len::new(1, 0, 0),
+    };
+    if shift.desk.assign(1, Job::Dial(line)).is_ok() {
+        let _ended = run_on(fabric, shift, most);
     }
 }
 
-/// Digits that lead to another office, to a line of this one, or nowhere.
-fn some_digits(numbers: &mut Pcg32) -> Dialled {
-    match some_number(numbers, 6) {
-        0 | 1 => Dialled::new(5_551_234),
-        2 => Dialled::new(2_340_001),
-        3 => Dialled::new(2_340_003),
-        4 => Dialled::new(2_340_004),
-        _ => Dialled::new(9_990_000),
-    }
-}
-
-fn some_job(numbers: &mut Pcg32) -> Job {
-    let line = some_line(numbers);
-    match some_number(numbers, 5) {
-        0 | 1 => Job::Dial(line),
-        2 => Job::Release(line),
-        _ => Job::Complete(line, some_digits(numbers)),
-    }
-}
-
-/// Does so many jobs, which a generator with this seed chooses, one after another to its end.
-pub fn do_jobs(fabric: &Fabric, mut shift: Shift, jobs: u32, seed: u64) -> Shift
-    requires { IsDeskOf shift.desk fabric.now }
-    ensures { IsDeskOf result.desk fabric.now }
+/// Does so many jobs, one after another to its end.
+fn do_jobs(fabric: &Fabric, shift: &mut Shift, jobs: u32, seed: u64)
+    requires { IsDeskOf shift.old.desk fabric.now }
+    ensures { IsDeskOf shift.new.desk fabric.now }
 {
     let marker = shift.desk.marker();
     let mut numbers = Pcg32::new(seed, u64::from(marker));
@@ -110,9 +92,46 @@ pub fn do_jobs(fabric: &Fabric, mut shift: Shift, jobs: u32, seed: u64) -> Shift
     let patience = MOST_STEPS_ALONE + 7 * (marker % 64);
     for job_no in 0..jobs {
         let job = some_job(&mut numbers);
-        if shift.desk.assign(job_no, job).is_err() || !persist(fabric, &mut shift, patience) {
+        if shift.desk.assign(job_no, job).is_err() || !persist(fabric, shift, patience) {
             break;
         }
     }
+}
+
+fn work(fabric: &Fabric, desk: Desk, log: Vec<Record>, task: Task) -> Shift
+    requires { IsDeskOf desk fabric.now }
+    ensures { IsDeskOf result.desk fabric.now }
+{
+    let mut shift = AtWork { desk, log };
+    match task {
+        Task::Dial(most) => dial(fabric, &mut shift, most),
+        Task::Jobs(jobs, seed) => do_jobs(fabric, &mut shift, jobs, seed),
+    }
     shift
+}
+
+/// Each desk does the task, on a thread of its own.
+pub fn on_threads<R: Threads + Sync + Abort>(
+    rt: &R,
+    alloc: Global,
+    fabric: &Fabric,
+    desks: Vec<Desk>,
+    task: Task,
+) -> Vec<Shift>
+    requires { AreDesksOf desks.items fabric.now }
+    ensures desks { All (λ shift. IsDeskOf shift.desk fabric.now) result.items }
+    ensures count { vec_len result ≡ vec_len desks }
+{
+    let worked = map_vec(
+        rt,
+        desks,
+        &|desk: Desk| -> Shift
+            requires { IsDeskOf desk fabric.now }
+            ensures { IsDeskOf result.desk fabric.entry.now }
+        { work(fabric, desk, Vec::new(alloc), task) },
+    );
+    let Ok(shifts) = worked else {
+        panic!(rt; "there is memory for threads");
+    };
+    shifts
 }
