@@ -3,27 +3,20 @@ ghost use Rattle.fair_queue.specs.Tickets.{IsTicketOf, IsUsable, with_put};
 
 use fair_queue::{Inlet, Item, Outlet, Ticket, bounded};
 use std::alloc::{AllocError, Global};
-use std::sync::Wait;
+use std::sync::atomic::{AtomicU64, Ordering};
+use std::sync::{Mutex, Wait};
 use std::test::Fail;
 use std::thread;
 use std::thread::Threads;
 
 #[derive(Clone, Copy, Debug, Drop, PartialEq)]
 struct Slip {
-    by: usize,
+    by: u64,
     number: u32,
 }
 
 impl Item for Slip {
     ghost sound = { λ slip. slip.number < 200 };
-}
-
-/// Who puts slips and takes slips, and what was taken so far.
-#[derive(Drop)]
-struct Worker {
-    number: usize,
-    ticket: Ticket<Slip>,
-    taken: Vec<Slip>,
 }
 
 fn may_be_moved<T: Send>() {}
@@ -56,108 +49,64 @@ fn put_at_last<R: Wait>(rt: &R, inlet: &Inlet<Slip>, ticket: &mut Ticket<Slip>, 
     unreachable!()
 }
 
-/// Puts a slip and takes one, by turns.
+/// Puts 200 slips and takes one after each, if there is one. Gives the ticket back.
 fn put_and_take<R: Wait>(
     rt: &R,
     inlet: &Inlet<Slip>,
     outlet: &Outlet<Slip>,
-    mut worker: Worker,
-) -> Result<Worker, AllocError>
+    mut ticket: Ticket<Slip>,
+    by: u64,
+    taken: &mut Vec<Slip>,
+) -> Ticket<Slip>
     requires ends { outlet.now ≡ inlet.now }
-    requires queue { IsTicketOf worker.ticket inlet.now }
-    requires part { 0 < worker.ticket.parts }
-    ensures { IfOk result (λ after. IsTicketOf after.ticket inlet.now) }
+    requires queue { IsTicketOf ticket inlet.now }
+    requires part { 0 < ticket.parts }
+    ensures { IsTicketOf result inlet.now }
 {
     for number in 0..200 {
-        let slip = Slip {
-            by: worker.number,
-            number,
-        };
-        put_at_last(rt, inlet, &mut worker.ticket, slip);
-        if let Some(slip) = outlet.take(rt, &mut worker.ticket) {
-            worker.taken.push(slip)?;
+        put_at_last(rt, inlet, &mut ticket, Slip { by, number });
+        if let Some(slip) = outlet.take(rt, &mut ticket) {
+            let _ = taken.push(slip);
         }
     }
-    Ok(worker)
+    ticket
 }
 
-/// The workers, each in a thread of its own.
+/// A thread for each of the tickets puts and takes slips. Gives the tickets back, and what was taken.
 fn at_once<R: Threads + Wait + Sync>(
     rt: &R,
+    alloc: Global,
     inlet: &Inlet<Slip>,
     outlet: &Outlet<Slip>,
-    workers: Vec<Worker>,
-) -> Result<Vec<Result<Worker, AllocError>>, AllocError>
-    requires ends { outlet.now ≡ inlet.now }
-    requires workers { All (λ worker. IsUsable worker.ticket inlet.now) workers.items }
-    ensures { IfOk result (λ after. All
-        (λ one. IfOk one (λ worker. IsTicketOf worker.ticket inlet.now)) after.items) }
-{
-    let work = |worker: Worker| -> Result<Worker, AllocError>
-        requires ends { outlet.now ≡ inlet.now }
-        requires worker { IsUsable worker.ticket inlet.now }
-        ensures { IfOk result (λ after. IsTicketOf after.ticket inlet.entry.now) }
-    { put_and_take(rt, inlet, outlet, worker) };
-    let after = thread::map_vec(rt, workers, &work)?;
-    Ok(after)
-}
-
-/// A worker for each of the tickets.
-fn hire(
-    alloc: Global,
-    inlet: &Inlet<Slip>,
     tickets: Vec<Ticket<Slip>>,
-) -> Result<Vec<Worker>, AllocError>
-    requires { All (λ ticket. IsUsable ticket inlet.now) tickets.items }
-    ensures { IfOk result
-        (λ workers. All (λ worker. IsUsable worker.ticket inlet.now) workers.items) }
-{
-    let _ = inlet;
-    let mut workers = Vec::new(alloc);
-    for ticket in tickets {
-        let number = workers.len();
-        workers.push(Worker {
-            number,
-            ticket,
-            taken: Vec::new(alloc),
-        })?;
-    }
-    Ok(workers)
-}
-
-/// The workers' tickets, and the slips that they took.
-fn gather(
-    alloc: Global,
-    inlet: &Inlet<Slip>,
-    workers: Vec<Result<Worker, AllocError>>,
 ) -> Result<(Vec<Ticket<Slip>>, Vec<Slip>), AllocError>
-    requires { All (λ one. IfOk one (λ worker. IsTicketOf worker.ticket inlet.now)) workers.items }
-    ensures { IfOk result (λ all. All (λ ticket. IsTicketOf ticket inlet.now) all.0.items) }
+    requires ends { outlet.now ≡ inlet.now }
+    requires tickets { All (λ ticket. IsUsable ticket inlet.now) tickets.items }
+    ensures { IfOk result (λ after. All (λ ticket. IsTicketOf ticket inlet.now) after.0.items) }
 {
-    let _ = inlet;
-    let mut tickets = Vec::new(alloc);
-    let mut slips = Vec::new(alloc);
-    for worker in workers {
-        let Worker {
-            number: _,
-            ticket,
-            mut taken,
-        } = worker?;
-        tickets.push(ticket)?;
-        slips.append(&mut taken)?;
-    }
-    Ok((tickets, slips))
+    let number = AtomicU64::new(0);
+    let all = Mutex::new(Vec::new(alloc));
+    let work = |ticket: Ticket<Slip>| -> Ticket<Slip>
+        requires ends { outlet.now ≡ inlet.now }
+        requires ticket { IsUsable ticket inlet.now }
+        ensures { IsTicketOf result inlet.entry.now }
+    {
+        let by = number.fetch_add(1, Ordering::SeqCst);
+        let mut taken = Vec::new(alloc);
+        let ticket = put_and_take(rt, inlet, outlet, ticket, by, &mut taken);
+        let _ = all.lock(rt).append(&mut taken);
+        ticket
+    };
+    let tickets = thread::map_vec(rt, tickets, &work)?;
+    Ok((tickets, all.into_inner()))
 }
 
 #[test]
 fn a_full_queue_hands_back_and_an_empty_one_has_nothing(rt: HostRuntime) -> Result<(), Fail> {
     let (inlet, outlet, mut ticket) = bounded::<Slip>(rt.alloc(), 2)?;
     let ticket = &mut ticket;
-    let (one, two, three) = (
-        Slip { by: 0, number: 1 },
-        Slip { by: 0, number: 2 },
-        Slip { by: 0, number: 3 },
-    );
+    let slip = |number| Slip { by: 0, number };
+    let (one, two, three) = (slip(1), slip(2), slip(3));
     assert_eq!(rt; inlet.put(&rt, ticket, one), Ok(()));
     assert_eq!(rt; inlet.put(&rt, ticket, two), Ok(()));
     assert_eq!(rt; inlet.put(&rt, ticket, three), Err(three));
@@ -199,9 +148,7 @@ fn what_four_threads_put_is_what_they_take(rt: HostRuntime) -> Result<(), Fail> 
     let alloc = rt.alloc();
     let (inlet, outlet, mut ticket) = bounded::<Slip>(alloc, 8)?;
     let tickets = ticket.cut_many(alloc, &inlet, 4)?;
-    let workers = hire(alloc, &inlet, tickets)?;
-    let after = at_once(&rt, &inlet, &outlet, workers)?;
-    let (tickets, mut taken) = gather(alloc, &inlet, after)?;
+    let (tickets, mut taken) = at_once(&rt, alloc, &inlet, &outlet, tickets)?;
     ticket.join_all(&inlet, tickets);
     assert_eq!(rt; outlet.try_take(&rt, &mut ticket), None);
     taken
@@ -209,7 +156,8 @@ fn what_four_threads_put_is_what_they_take(rt: HostRuntime) -> Result<(), Fail> 
         .sort_unstable_by_key(|slip| (slip.by, slip.number));
     assert_eq!(rt; taken.len(), 800);
     for (place, slip) in taken.iter().enumerate() {
-        assert_eq!(rt; (slip.by, slip.number), (place / 200, place as u32 % 200));
+        let want = (place as u64 / 200, place as u32 % 200);
+        assert_eq!(rt; (slip.by, slip.number), want);
     }
     Ok(())
 }

@@ -1,47 +1,41 @@
 //! Eight desks on threads, two in turn, a note, and a room shut amid a job. The rule that judges their
 //! records is written anew here.
 
+ghost use Rattle.std.specs.Prelude.{◌≡◌, IfOk};
+ghost use Rattle.desks.specs.Views.{new_desk};
+
 use desks::{Room, meet, shut, shut_all};
 use slot_desks::SlotJobs;
 use slot_desks::driving::{
-    Shift, SlotDesk, SlotTold, do_after, finish, in_turn, last_desk, persist, put_desk,
+    SlotDesk, SlotRoom, SlotTold, do_after, finish, in_turn, last_desk, persist, put_desk,
 };
 use slot_desks::on_threads::{shut_shifts, take_and_give_at_once};
 use slots::{Job, UpToTwo};
 use std::alloc::Global;
+use std::ops::Range;
 use std::test::Fail;
 
-fn lowest(busy: u64, from: u32, until: u32) -> Option<u32> {
-    for slot in 0..64_u32 {
-        if slot >= from && slot < until && busy >> slot & 1 == 0 {
-            return Some(slot);
-        }
-    }
-    None
+/// The bit of a slot, if there is such a slot.
+fn bit(slot: u32) -> u64 {
+    1_u64.checked_shl(slot).unwrap_or(0)
 }
 
-fn with(busy: u64, slot: u32) -> u64 {
-    if slot < 64 { busy | 1 << slot } else { busy }
-}
-
-fn without(busy: u64, slot: u32) -> u64 {
-    if slot < 64 { busy & !(1 << slot) } else { busy }
+fn lowest(busy: u64, mut slots: Range<u32>) -> Option<u32> {
+    slots.find(|slot| busy & bit(*slot) == 0)
 }
 
 /// What a job takes of 64 slots, and the slots that are busy after it.
 fn done(busy: u64, job: Job) -> (UpToTwo<u32>, u64) {
     match job {
-        Job::Take => match lowest(busy, 0, 64) {
-            Some(slot) => (UpToTwo::One(slot), with(busy, slot)),
+        Job::Take => match lowest(busy, 0..64) {
+            Some(slot) => (UpToTwo::One(slot), busy | bit(slot)),
             None => (UpToTwo::Empty, busy),
         },
-        Job::TakeBoth => match (lowest(busy, 0, 32), lowest(busy, 32, 64)) {
-            (Some(slot), Some(other)) => {
-                (UpToTwo::Two(slot, other), with(with(busy, slot), other))
-            }
+        Job::TakeBoth => match (lowest(busy, 0..32), lowest(busy, 32..64)) {
+            (Some(slot), Some(other)) => (UpToTwo::Two(slot, other), busy | bit(slot) | bit(other)),
             _ => (UpToTwo::Empty, busy),
         },
-        Job::Give(slot) => (UpToTwo::Empty, without(busy, slot)),
+        Job::Give(slot) => (UpToTwo::Empty, busy & !bit(slot)),
     }
 }
 
@@ -80,14 +74,14 @@ fn keeps_one_slot(log: &[SlotTold]) -> bool {
     for told in log {
         match (told.job, told.reply.slots()) {
             (Job::Give(slot), _) => {
-                if with(had, slot) != had {
+                if had & bit(slot) == 0 {
                     return false;
                 }
-                had = without(had, slot);
+                had &= !bit(slot);
             }
             (_, UpToTwo::Empty) => {}
-            (_, UpToTwo::One(slot)) => had = with(had, slot),
-            (_, UpToTwo::Two(slot, other)) => had = with(with(had, slot), other),
+            (_, UpToTwo::One(slot)) => had |= bit(slot),
+            (_, UpToTwo::Two(slot, other)) => had |= bit(slot) | bit(other),
         }
     }
     had.count_ones() == 1
@@ -103,17 +97,16 @@ fn words_agree(words: &[u64], turns: usize, busy: Option<u64>) -> bool {
         && busy == Some(words[0] | words[1] << 32)
 }
 
-/// The records of all shifts, if those of each are its desk's own, in the order of their turns.
-fn records_of<'a>(alloc: Global, shifts: &'a [Shift]) -> Result<Vec<&'a SlotTold>, Fail> {
-    let mut records = Vec::new(alloc);
-    for (number, shift) in shifts.iter().enumerate() {
-        if !is_log_of(number, shift.log.as_slice()) {
-            return Err("each desk logs its own records in their order".into());
-        }
-        let log: Vec<&SlotTold> = shift.log.iter().collect(alloc)?;
-        records.extend_from_slice(log.as_slice())?;
-    }
-    Ok(records)
+/// A room with its desks 0 and 1.
+fn room_of_two(alloc: Global) -> Result<(SlotRoom, SlotDesk, SlotDesk), Fail>
+    ensures count { IfOk result (λ opened. opened.0.count ≡ 2) }
+    ensures zero { IfOk result (λ opened. opened.1 ≡ new_desk opened.0 0) }
+    ensures one { IfOk result (λ opened. opened.2 ≡ new_desk opened.0 1) }
+{
+    let (room, mut desks) = Room::<SlotJobs>::open(alloc, &(), 2)?;
+    let one = last_desk(&room, &mut desks).ok_or("there is a desk 1")?;
+    let zero = last_desk(&room, &mut desks).ok_or("there is a desk 0")?;
+    Ok((room, zero, one))
 }
 
 #[test]
@@ -121,15 +114,15 @@ fn eight_desks_take_and_give_slots_on_threads(rt: HostRuntime) -> Result<(), Fai
     let alloc = rt.alloc();
     let (room, desks) = Room::<SlotJobs>::open(alloc, &(), 8)?;
     let shifts = take_and_give_at_once(&rt, alloc, &room, desks, 1_000)?;
-    let records = records_of(alloc, shifts.as_slice())?;
-    let turns = records.len();
-    let busy = after_all(records);
-    for shift in shifts.iter() {
+    for (number, shift) in shifts.iter().enumerate() {
+        assert!(rt; is_log_of(number, shift.log.as_slice()));
         assert!(rt; keeps_one_slot(shift.log.as_slice()));
     }
-    let Some(words) = shut_shifts(alloc, room, shifts)? else {
-        return Err("each job has ended".into());
-    };
+    let logs = shifts.iter().flat_map(|shift| shift.log.iter());
+    let records: Vec<&SlotTold> = logs.collect(alloc)?;
+    let turns = records.len();
+    let busy = after_all(records);
+    let words = shut_shifts(alloc, room, shifts)?.ok_or("each job has ended")?;
     // A round of each desk takes once and gives back once, or takes two slots and gives back each.
     assert!(rt; turns >= 16_000);
     assert!(rt; busy.is_some_and(|slots| slots.count_ones() == 8));
@@ -140,13 +133,7 @@ fn eight_desks_take_and_give_slots_on_threads(rt: HostRuntime) -> Result<(), Fai
 #[test]
 fn two_desks_take_and_give_slots_in_turn(rt: HostRuntime) -> Result<(), Fail> {
     let alloc = rt.alloc();
-    let (room, mut desks) = Room::<SlotJobs>::open(alloc, &(), 2)?;
-    let Some(mut one) = last_desk(&room, &mut desks) else {
-        return Err("there is a desk 1".into());
-    };
-    let Some(mut zero) = last_desk(&room, &mut desks) else {
-        return Err("there is a desk 0".into());
-    };
+    let (room, mut zero, mut one) = room_of_two(alloc)?;
     let mut log = Vec::new(alloc);
     in_turn(&room, &mut zero, &mut one, 2_000, &mut log);
     meet(&room, &(), &mut zero, &mut one);
@@ -158,9 +145,7 @@ fn two_desks_take_and_give_slots_in_turn(rt: HostRuntime) -> Result<(), Fail> {
     if let Some(told) = finish(&room, &mut one, 100) {
         log.push(told)?;
     }
-    if !(zero.is_idle() && one.is_idle()) {
-        return Err("each job has ended".into());
-    }
+    assert!(rt; zero.is_idle() && one.is_idle());
     let mut all: Vec<SlotDesk> = Vec::with_capacity(alloc, 2)?;
     put_desk(&room, &mut all, zero);
     put_desk(&room, &mut all, one);
@@ -175,25 +160,13 @@ fn two_desks_take_and_give_slots_in_turn(rt: HostRuntime) -> Result<(), Fail> {
 
 #[test]
 fn a_job_comes_after_those_of_a_note(rt: HostRuntime) -> Result<(), Fail> {
-    let (room, mut desks) = Room::<SlotJobs>::open(rt.alloc(), &(), 2)?;
-    let Some(mut one) = last_desk(&room, &mut desks) else {
-        return Err("there is a desk 1".into());
-    };
-    let Some(mut zero) = last_desk(&room, &mut desks) else {
-        return Err("there is a desk 0".into());
-    };
-    if !one.assign(5, Job::Take) {
-        return Err("a new desk is idle".into());
-    }
-    let Some(first) = persist(&room, &mut one) else {
-        return Err("the first job ends".into());
-    };
+    let (room, mut zero, mut one) = room_of_two(rt.alloc())?;
+    assert!(rt; one.assign(5, Job::Take));
+    let first = persist(&room, &mut one).ok_or("the first job ends")?;
     let mut note = one.note(&room);
     let copy = note.copy(&room);
     drop(note);
-    let Some(then) = do_after(&room, &mut zero, copy, 6, Job::Take) else {
-        return Err("the second job ends".into());
-    };
+    let then = do_after(&room, &mut zero, copy, 6, Job::Take).ok_or("the second job ends")?;
     assert!(rt; first.turn == 0 && first.actor == 1 && first.number == 5);
     assert!(rt; first.reply.slots() == UpToTwo::One(0));
     assert!(rt; then.turn == 1 && then.actor == 0 && then.number == 6);
@@ -203,20 +176,10 @@ fn a_job_comes_after_those_of_a_note(rt: HostRuntime) -> Result<(), Fail> {
 
 #[test]
 fn a_room_is_shut_amid_a_job(rt: HostRuntime) -> Result<(), Fail> {
-    let (room, mut desks) = Room::<SlotJobs>::open(rt.alloc(), &(), 2)?;
-    let Some(mut one) = last_desk(&room, &mut desks) else {
-        return Err("there is a desk 1".into());
-    };
-    let Some(zero) = last_desk(&room, &mut desks) else {
-        return Err("there is a desk 0".into());
-    };
-    if !one.assign(0, Job::Take) {
-        return Err("a new desk is idle".into());
-    }
+    let (room, zero, mut one) = room_of_two(rt.alloc())?;
+    assert!(rt; one.assign(0, Job::Take));
     // Request and seize the bank's lock, test its word, turn, mark a slot; the lock is still held.
-    if finish(&room, &mut one, 5).is_some() {
-        return Err("the job has six steps".into());
-    }
+    assert!(rt; finish(&room, &mut one, 5).is_none());
     let Ok(words) = shut::<SlotJobs>(rt.alloc(), room, &(), zero) else {
         return Err("there is memory for five words".into());
     };
