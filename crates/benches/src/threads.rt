@@ -105,6 +105,7 @@ fn let_go(office: &mut Exchange, marker: u32) {
         return;
     }
     if office.is_past_turn(marker) {
+        // More steps than a job has left that is past its turn.
         office.steps(marker, 128);
     } else {
         let _given = office.give_back(marker);

@@ -206,6 +206,22 @@ impl<'p> Exchange<'p> {
         Ok(())
     }
 
+    /// Makes the marker's next step, if it isn't idle.
+    fn advance(&mut self, marker: u32)
+        requires { marker < length self.old.exchange.markers }
+        ensures { self.new
+            ≡ record self.old { exchange = after_step self.old.plan marker self.old.exchange } }
+    {
+        // Called for its clauses alone.
+        xbar_plan::laws::every_plan_is_lawful(self.plan);
+        self.markers[marker as usize].advance(
+            self.plan,
+            marker,
+            self.words.as_mut_slice(),
+            &mut self.records,
+        );
+    }
+
     /// Makes the marker's next step, and tells what came of it. An idle marker makes none.
     pub fn step(&mut self, marker: u32) -> Event
         requires { marker < length self.old.exchange.markers }
@@ -244,7 +260,7 @@ impl<'p> Exchange<'p> {
         } }
     {
         while self.marker(marker).is_giving_up() {
-            self.step(marker);
+            self.advance(marker);
         }
     }
 
@@ -291,7 +307,7 @@ impl<'p> Exchange<'p> {
         if made > 0 {
             return made;
         }
-        self.step(marker);
+        self.advance(marker);
         1
     }
 

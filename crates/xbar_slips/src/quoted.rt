@@ -18,7 +18,7 @@ impl fmt::Display for Quoted<'_> {
 }
 
 /// The same without the quotes, for a text that is a word.
-#[derive(Clone, Copy)]
+#[derive(Clone, Copy, PartialEq)]
 pub struct Bare<'t>(pub &'t [u8]);
 
 impl fmt::Display for Bare<'_> {

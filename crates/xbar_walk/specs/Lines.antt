@@ -18,7 +18,7 @@ in_four number =
 abbrev pub one_more : ℕ → ℕ
 one_more number = (number + 1) % 2 ^ 64
 
--- what is told of a marker's step of a number
+-- the line of a marker's step, by its number, the marker and what is told of it
 unfoldable pub marker_line : ℕ → ℕ → List ℕ → List ℕ
 marker_line number marker words =
     concat (in_four number ∷ codes "  marker " ∷ decimal marker ∷ codes "  " ∷ words ∷ codes "\n" ∷ [])

@@ -34,7 +34,7 @@ last_of first [] = first
 last_of first (next ∷ later) = last_of next later
 
 -- tests of a row in words: its first and its last switch, the numbers of these
--- steps, and all that they find
+-- steps, and all that they find. Only switches stand in a row, so the plural ends in 'es'
 unfoldable pub row_words : Tested → Tested → List Tested → List ℕ
 row_words first last tests =
     concat (codes "tests " ∷ kind_name first.place ∷ codes "es " ∷ place_numbers first.place

@@ -36,7 +36,8 @@ put_off (event.Preferred other) =
     concat (codes ": marker " ∷ decimal other ∷ codes " is preferred" ∷ [])
 put_off _ = []
 
--- a marker whose next step is to seize once more has found another word than it expected
+-- what came of a seizing; if the next step is to seize once more, the word was another
+-- than the marker expected
 unfoldable pub seize_words : Conn → Event → Step → List ℕ
 seize_words conn (event.Refused asked holder) next =
     concat (codes "would seize " ∷ conn_name conn ∷ put_off (event.Refused asked holder) ∷ [])

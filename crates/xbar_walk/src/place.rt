@@ -48,7 +48,7 @@ impl Place {
     }
 
     /// What a place of its kind is called.
-    pub fn kind(self) -> &'static str
+    pub fn kind_name(self) -> &'static str
         ensures { result.now ≡ kind_name self }
     {
         match self {
@@ -80,7 +80,7 @@ impl fmt::Display for Place {
 
     #[tactic(auto, unfolding(crate::specs::Places::place_name))]
     fn fmt<W: fmt::Write>(&self, f: &mut fmt::Formatter<W>) -> fmt::Result {
-        write!(f, "{} {}", self.kind(), PlaceNumbers(*self))
+        write!(f, "{} {}", self.kind_name(), PlaceNumbers(*self))
     }
 }
 

@@ -40,7 +40,7 @@ fn add_row(
 {
     let (number, marker, last_number) = (first.number, first.marker, last.number);
     let (kind, from, to) = (
-        first.place.kind(),
+        first.place.kind_name(),
         PlaceNumbers(first.place),
         PlaceNumbers(last.place),
     );

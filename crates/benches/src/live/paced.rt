@@ -19,7 +19,7 @@ struct PacedGate<'a> {
     pace: &'a Pace,
     /// Markers below this one dial.
     dialling: u32,
-    /// Whether the next step begins a job.
+    /// Whether the next step begins a job to dial, if the marker dials.
     begins: bool,
 }
 
@@ -43,8 +43,8 @@ impl Gate for PacedGate<'_> {
 }
 
 /// So many who dial and as many who complete calls do these, each on a thread of its own, with at most so
-/// many under way at once. A job is timed from the opening of the words to the records in turn order, and
-/// their audit by itself.
+/// many under way at once. The jobs are timed from the opening of the words to the records in turn order;
+/// the audit is timed by itself.
 pub fn measure<R: Eprint + Clock + Threads + Wait + Sync>(
     rt: &R,
     alloc: Global,

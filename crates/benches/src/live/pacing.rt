@@ -4,7 +4,8 @@ use std::thread;
 /// How many registers the example plan has.
 pub const REGISTERS: usize = 3;
 
-/// How often who waits lets other threads run before it goes on all the same. No job takes as many steps.
+/// How often a thread that waits lets others run before it goes on all the same; also how many steps a
+/// marker is given for a job.
 pub const PATIENCE: u32 = 1_000_000;
 
 /// How many calls may have been dialled, or begun to be, and not yet completed.

@@ -8,7 +8,7 @@ ghost use Rattle.xbar_plan_text.specs.Document.{document_of as document_of_bytes
 ghost use Rattle.xbar_slips.specs.Lists.{TellsList, texts_at, is_missing as is_missing_list, missing_list as missing_list_of};
 
 use super::list::PlanList;
-use super::slip::{Found, PlanPlace, PlanWrong};
+use super::slip::{Finding, PlanPlace, PlanWrong};
 use std::alloc::{AllocError, Global};
 use toml::{Table, Value};
 use xbar_plan::PlanFault;
@@ -66,7 +66,7 @@ pub fn lists_of(alloc: Global, document: &Table) -> Result<Option<Vec<Vec<&[u8]>
 }
 
 /// Where a text stops being a document.
-pub fn not_toml(alloc: Global, text: &[u8]) -> Found {
+pub fn not_toml(alloc: Global, text: &[u8]) -> Finding {
     let Err(error) = toml::table_from_slice(alloc, text) else {
         return Ok(None);
     };
@@ -98,7 +98,7 @@ fn line_and_column(before: &[u8]) -> (usize, usize) {
 const TEXTS: &str = "an array of strings";
 
 /// What is wrong at a place where a document has this value, and not what is expected.
-fn found_instead(alloc: Global, place: PlanPlace, expected: &str, value: Option<&Value>) -> Found
+fn found_instead(alloc: Global, place: PlanPlace, expected: &str, value: Option<&Value>) -> Finding
     ensures { IfOk result (λ wrong. option_map (λ wrong. wrong.place) wrong ≡ Some place) }
 {
     let found = match value {
@@ -119,7 +119,7 @@ fn found_instead(alloc: Global, place: PlanPlace, expected: &str, value: Option<
 }
 
 /// The version, if it is none.
-pub fn wrong_version(alloc: Global, document: &Table) -> Found {
+pub fn wrong_version(alloc: Global, document: &Table) -> Finding {
     match reading::version_of(document) {
         Some(_) => Ok(None),
         None => {
@@ -130,7 +130,7 @@ pub fn wrong_version(alloc: Global, document: &Table) -> Found {
 }
 
 /// The first list that isn't there.
-pub fn missing_list(alloc: Global, document: &Table) -> Found
+pub fn missing_list(alloc: Global, document: &Table) -> Finding
     ensures { IfOk result (λ wrong. TellsList wrong (missing_list_of (table_view document.now))) }
 {
     match first_missing(document, &PlanList::ALL) {
@@ -148,7 +148,7 @@ fn first_missing<'l>(document: &Table, lists: &'l [PlanList]) -> Option<&'l Plan
 }
 
 /// The first value that is no array of texts, or its first item that is no text.
-pub fn list_of_others(alloc: Global, document: &Table) -> Found {
+pub fn list_of_others(alloc: Global, document: &Table) -> Finding {
     for list in PlanList::ALL {
         let value = document.get(list.key());
         let Some(items) = value.and_then(|value| value.as_array()) else {

@@ -1,7 +1,7 @@
 //! What is wrong with groups, and with the groups that codes lead to.
 
 use super::list::PlanList;
-use super::slip::{Found, PlanPlace, PlanWrong};
+use super::slip::{Finding, PlanPlace, PlanWrong};
 use crate::quoted::Bare;
 use std::alloc::{AllocError, Global};
 use xbar_equip::Ten;
@@ -22,7 +22,7 @@ pub fn read_groups(alloc: Global, texts: &[&[u8]]) -> Result<Option<Vec<Group>>,
 }
 
 /// The second group of registers, or that there is none.
-pub fn wrong_registers(alloc: Global, groups: &[Group]) -> Found {
+pub fn wrong_registers(alloc: Global, groups: &[Group]) -> Finding {
     let Some(first) = groups.iter().position(|group| group.is_register()) else {
         return Ok(Some(PlanWrong {
             place: PlanPlace::List(PlanList::Groups),
@@ -42,7 +42,7 @@ pub fn wrong_registers(alloc: Global, groups: &[Group]) -> Found {
 }
 
 /// The first pair whose places are on two trunk link frames.
-pub fn pair_apart(alloc: Global, groups: &[Group]) -> Found {
+pub fn pair_apart(alloc: Global, groups: &[Group]) -> Finding {
     for (index, group) in groups.iter().enumerate() {
         if let Some((first, second)) = group.members().iter().find_map(|pair| places_apart(*pair)) {
             let reason = format!(in alloc;
@@ -63,9 +63,9 @@ fn places_apart(member: Member) -> Option<(Ten, Ten)> {
     }
 }
 
-/// The first code with this fault: it has a name that no group has, or else it leads to registers or
-/// to groups of two kinds.
-pub fn wrong_route(alloc: Global, groups: &[Group], codes: &[&[u8]], fault: PlanFault) -> Found {
+/// The first code with this fault. With `UnknownGroup` it has a name that no group has; with
+/// `MixedRoute` it leads to registers, or to groups of two kinds.
+pub fn wrong_route(alloc: Global, groups: &[Group], codes: &[&[u8]], fault: PlanFault) -> Finding {
     for (index, text) in codes.iter().enumerate() {
         let parts = reading::split_parts(alloc, text)?;
         let names = parts.get(1..).unwrap_or(&[]);
@@ -106,7 +106,7 @@ fn mixed_names(alloc: Global, groups: &[Group], names: &[&[u8]]) -> Reason {
     Ok(Some(reason))
 }
 
-/// The first of these names whose group is of this kind, or that no group has.
+/// The first of these names whose group is of this kind; without a kind, the first that no group has.
 fn name_of<'t>(groups: &[Group], kind: Option<GroupKind>, names: &[&'t [u8]]) -> Option<Bare<'t>> {
     let name = names.iter().find(|name| kind_of(groups, name) == kind)?;
     Some(Bare(*name))

@@ -1,23 +1,23 @@
 //! The first limit that is passed.
 
 use super::list::PlanList;
-use super::slip::{Found, ItemText, PlanPlace, PlanWrong};
+use super::slip::{Finding, ItemText, PlanPlace, PlanWrong};
 use std::alloc::Global;
 use xbar_plan_text::reading;
 
-/// How many items a list may have, and how many of what an item, of which there is one at least: the
-/// parts behind so many others.
-fn limits_of(list: PlanList) -> (usize, usize, &'static str, usize) {
+/// How many items a list may have. Then, if an item's parts are counted: how many other parts stand
+/// before them, how many there may be, and what they are called.
+fn limits_of(list: PlanList) -> (usize, Option<(usize, usize, &'static str)>) {
     match list {
-        PlanList::Groups => (16, 40, "members", 2),
-        PlanList::Numbers => (3000, 10, "lines", 1),
-        PlanList::Codes => (64, 4, "groups", 1),
-        PlanList::Faults => (100, 1, "links", 0),
+        PlanList::Groups => (16, Some((2, 40, "members"))),
+        PlanList::Numbers => (3000, Some((1, 10, "lines"))),
+        PlanList::Codes => (64, Some((1, 4, "groups"))),
+        PlanList::Faults => (100, None),
     }
 }
 
 /// The first list with too many items, or with an item that has too few parts or too many.
-pub fn passed_limit(alloc: Global, lists: &[Vec<&[u8]>]) -> Found {
+pub fn passed_limit(alloc: Global, lists: &[Vec<&[u8]>]) -> Finding {
     for (list, texts) in PlanList::ALL.iter().zip(lists) {
         let wrong = passed_limit_in(alloc, *list, texts)?;
         if wrong.is_some() {
@@ -27,8 +27,8 @@ pub fn passed_limit(alloc: Global, lists: &[Vec<&[u8]>]) -> Found {
     Ok(None)
 }
 
-fn passed_limit_in(alloc: Global, list: PlanList, texts: &[&[u8]]) -> Found {
-    let (most_items, most, noun, behind) = limits_of(list);
+fn passed_limit_in(alloc: Global, list: PlanList, texts: &[&[u8]]) -> Finding {
+    let (most_items, parts) = limits_of(list);
     let count = texts.len();
     if count > most_items {
         return Ok(Some(PlanWrong {
@@ -36,9 +36,12 @@ fn passed_limit_in(alloc: Global, list: PlanList, texts: &[&[u8]]) -> Found {
             reason: format!(in alloc; "expected at most {most_items} items, found {count}")?,
         }));
     }
+    let Some((before, most, noun)) = parts else {
+        return Ok(None);
+    };
     for (index, text) in texts.iter().enumerate() {
         let parts = reading::split_parts(alloc, text)?;
-        let count = parts.len().saturating_sub(behind);
+        let count = parts.len().saturating_sub(before);
         if count == 0 || count > most {
             let item = ItemText {
                 list,

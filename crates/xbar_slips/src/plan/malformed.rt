@@ -6,7 +6,7 @@ ghost use Rattle.xbar_slips.specs.Lists.{TellsItem, has_form, item_of, malformed
 
 use super::document::texts_in;
 use super::list::PlanList;
-use super::slip::{Found, ItemText, PlanPlace, PlanWrong};
+use super::slip::{Finding, ItemText, PlanPlace, PlanWrong};
 use crate::EXPECTED_LINE;
 use std::alloc::{AllocError, Global};
 use toml::Table;
@@ -15,7 +15,7 @@ use xbar_plan::{GroupKind, PlanFault, is_name};
 use xbar_plan_text::reading::{self, Version};
 
 /// The first item of the first list that has one which hasn't its form.
-pub fn malformed_item(alloc: Global, document: &Table) -> Found
+pub fn malformed_item(alloc: Global, document: &Table) -> Finding
     ensures { IfOk result (λ wrong. TellsItem wrong (malformed_of_document
         (table_view document.now))) }
 {
@@ -34,7 +34,7 @@ pub fn malformed_item(alloc: Global, document: &Table) -> Found
 }
 
 /// The first item of a list that hasn't its form.
-fn malformed_item_in(alloc: Global, version: Version, list: PlanList, texts: &[&[u8]]) -> Found
+fn malformed_item_in(alloc: Global, version: Version, list: PlanList, texts: &[&[u8]]) -> Finding
     ensures { IfOk result (λ wrong. TellsItem wrong (malformed_in version list
         (map (λ text. text.now) texts.now))) }
 {
@@ -97,7 +97,8 @@ fn wrong_item(
     Ok(PlanWrong { place, reason })
 }
 
-/// What is said of one of an item's parts, counted from 0; past the last one, of the whole text.
+/// The index of the part that is wrong, and what is said of it. If the text is wrong as a whole, the
+/// index is past the last part.
 fn expected_in(
     version: Version,
     list: PlanList,
@@ -142,6 +143,7 @@ const EXPECTED_NAME: &str = "expected a name of 1 to 8 characters from A to Z an
 fn expected_in_part(list: PlanList, parts: &[&[u8]], index: usize) -> Option<&'static str> {
     let part = *parts.get(index)?;
     let (fits, words) = match (list, index) {
+        // A name alone lacks its other parts, which is said of the whole.
         (PlanList::Groups, 0) => (parts.len() == 1 || is_name(part), EXPECTED_NAME),
         (PlanList::Groups, 1) => (
             reading::read_kind(part).is_some(),

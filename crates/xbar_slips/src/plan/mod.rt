@@ -14,7 +14,7 @@ ghost use Rattle.xbar_slips.specs.Lists.{TellsItem, TellsList, missing_in, missi
 
 pub use list::PlanList;
 use repeats::{repeated_first_part, repeated_place};
-use slip::Found;
+use slip::Finding;
 pub use slip::{ItemText, PlanPlace, PlanSlip, PlanWrong};
 use std::alloc::{AllocError, Global};
 use toml::Table;
@@ -44,7 +44,7 @@ pub fn plan_slip(
     Ok(wrong.map(|wrong| PlanSlip { fault, wrong }))
 }
 
-fn wrong_with_document(alloc: Global, document: &Table, fault: PlanFault) -> Found
+fn wrong_with_document(alloc: Global, document: &Table, fault: PlanFault) -> Finding
     ensures missing { fault ≡ PlanFault.KeyMissing → IfOk result (λ wrong.
         TellsList wrong (missing_list_of (table_view document.now))) }
     ensures malformed { fault ≡ PlanFault.Malformed → IfOk result (λ wrong.
@@ -62,7 +62,7 @@ fn wrong_with_document(alloc: Global, document: &Table, fault: PlanFault) -> Fou
     }
 }
 
-fn wrong_with_lists(alloc: Global, lists: &[Vec<&[u8]>], fault: PlanFault) -> Found {
+fn wrong_with_lists(alloc: Global, lists: &[Vec<&[u8]>], fault: PlanFault) -> Finding {
     let [groups, numbers, codes, _] = lists else {
         return Ok(None);
     };
@@ -71,18 +71,23 @@ fn wrong_with_lists(alloc: Global, lists: &[Vec<&[u8]>], fault: PlanFault) -> Fo
         PlanFault::GroupTwice => repeated_first_part(alloc, PlanList::Groups, "name", groups),
         PlanFault::NumberTwice => repeated_first_part(alloc, PlanList::Numbers, "number", numbers),
         PlanFault::CodeTwice => repeated_first_part(alloc, PlanList::Codes, "code", codes),
-        PlanFault::PlaceTwice => repeated_place(alloc, groups),
         _ => wrong_with_groups(alloc, groups, codes, fault),
     }
 }
 
-fn wrong_with_groups(alloc: Global, groups: &[&[u8]], codes: &[&[u8]], fault: PlanFault) -> Found {
+fn wrong_with_groups(
+    alloc: Global,
+    groups: &[&[u8]],
+    codes: &[&[u8]],
+    fault: PlanFault,
+) -> Finding {
     let Some(groups) = groups::read_groups(alloc, groups)? else {
         return Ok(None);
     };
     match fault {
         PlanFault::RegisterGroups => groups::wrong_registers(alloc, &groups),
         PlanFault::PairApart => groups::pair_apart(alloc, &groups),
+        PlanFault::PlaceTwice => repeated_place(alloc, &groups),
         PlanFault::UnknownGroup | PlanFault::MixedRoute => {
             groups::wrong_route(alloc, &groups, codes, fault)
         }

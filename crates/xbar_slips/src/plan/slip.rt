@@ -70,16 +70,16 @@ impl fmt::Display for PlanPlace {
 #[derive(Debug, Drop)]
 pub struct PlanWrong {
     pub place: PlanPlace,
-    /// What was expected and found there.
+    /// What the sentence says behind the place.
     pub reason: String,
 }
 
 /// What is found wrong with a plan, if anything is.
-pub type Found = Result<Option<PlanWrong>, AllocError>;
+pub type Finding = Result<Option<PlanWrong>, AllocError>;
 
 impl PlanWrong {
     /// What is wrong with an item, by its index, counted from 0.
-    pub(super) fn of_item(list: PlanList, index: usize, reason: String) -> Found {
+    pub(super) fn of_item(list: PlanList, index: usize, reason: String) -> Finding {
         let number = index.saturating_add(1);
         let place = PlanPlace::Item { list, number };
         Ok(Some(PlanWrong { place, reason }))

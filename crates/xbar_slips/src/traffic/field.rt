@@ -17,7 +17,7 @@ pub fn unknown_kind(mode: Mode, record: &ByteRecord) -> Option<(usize, &'static 
     }
 }
 
-/// The letter of a row that belongs to the other mode.
+/// The index of the letter of a row that belongs to the other mode, and what is said of it.
 pub fn other_mode(mode: Mode, record: &ByteRecord) -> Option<(usize, &'static str)> {
     match (record.get(0)?, mode) {
         (b"C", Mode::Replay) => Some((0, "this is a call of a live office; expected J or S")),
@@ -34,6 +34,7 @@ pub fn malformed_field(record: &ByteRecord) -> Option<(usize, TrafficReason)> {
         b"J" => [
             unless_number(second, MARKER_LIMIT),
             unless_number(third, NUMBER_LIMIT),
+            // The kind of job was judged before (T2).
             None,
             unless(read_job(fourth, fifth).is_ok(), words_on_job(fourth)),
         ],

@@ -6,10 +6,10 @@ pub loop-self-init : goal.loop-self-init
 loop-self-init c = none_given c.args.self.now c.args.marker c.requires.backs
 
 pub loop-self-smaller : goal.loop-self-smaller
-loop-self-smaller c = less_given c.args.self.now c.loop-self.self c.step.new.self c.args.marker c.marker.result.now c.marker.ensures c.loop-self.invariant (sym c.loop-self-test.ensures) c.step.ensures.step
+loop-self-smaller c = less_given c.args.self.now c.loop-self.self c.advance.new.self c.args.marker c.marker.result.now c.marker.ensures c.loop-self.invariant (sym c.loop-self-test.ensures) c.advance.ensures
 
 pub loop-self-preserved : goal.loop-self-preserved
-loop-self-preserved c = one_given c.args.self.now c.loop-self.self c.step.new.self c.args.marker c.marker.result.now c.marker.ensures c.loop-self.invariant (sym c.loop-self-test.ensures) c.step.ensures.step
+loop-self-preserved c = one_given c.args.self.now c.loop-self.self c.advance.new.self c.args.marker c.marker.result.now c.marker.ensures c.loop-self.invariant (sym c.loop-self-test.ensures) c.advance.ensures
 
 pub returns : goal.returns
 returns c = all_given c.args.self.now c.loop-self.self c.loop-self.self c.args.marker c.marker.result.now c.marker.ensures c.loop-self.invariant (sym c.loop-self-test.ensures)
