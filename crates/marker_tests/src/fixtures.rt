@@ -145,6 +145,19 @@ pub const WITH_TRUNK: Words<'static> = &[
     (452, 2),
 ];
 
+/// What a call of line 3041 to line 3100 leaves, after that job.
+pub const WITH_BOTH: Words<'static> = &[
+    (60, 22),
+    (61, 64),
+    (70, 16777216),
+    (71, 33554432),
+    (320, 33),
+    (330, 4096),
+    (331, 4096),
+    (401, 1),
+    (452, 2),
+];
+
 fn closed_words(alloc: Global, words: &[u64]) -> Result<Vec<(usize, u64)>, AllocError> {
     let mut closed = Vec::new(alloc);
     for (number, word) in words.iter().enumerate() {

@@ -1,6 +1,6 @@
 //! Offices that are driven move by move, as plain data and as desks on shared words: both come to the same.
 
-use crate::fixtures::{WITH_REGISTER, WITH_TRUNK, Words, check_words, example, job};
+use crate::fixtures::{WITH_BOTH, WITH_REGISTER, WITH_TRUNK, Words, check_words, example, job};
 use plain::open_exchange;
 use std::alloc::Global;
 use std::process::Abort;

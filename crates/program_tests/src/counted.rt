@@ -9,6 +9,7 @@ use test_tools::{Call, Endless, FailAt, Recorder, check, check_eq};
 
 mod stand_ins;
 mod still;
+mod stuck;
 
 const READS: &[Call] = &[Call::Read(5), Call::Read(3), Call::Read(0), Call::Read(5)];
 

@@ -28,6 +28,34 @@ const FIRST: &str = "J,0,1,D,3041\nS,0,96,,\n";
 
 const FIRST_TEXT: &str = "0,1,0,D,3041,-,DIALTONE,1,3041-0-417,-\nPATHS,1\nCLOSED,4\n";
 
+/// The plan of each file: the example plan with a faulty junctor.
+const FAULTY: PlanText = PlanText {
+    text: r#"version = 1
+groups = ["REG register 417 418 509", "INTRA intra 600-601 700-711", "OUTA outgoing 800", "OUTB outgoing 801 902"]
+numbers = ["0001 3041", "0002 3052", "0003 1000", "0004 3100"]
+codes = ["234 INTRA", "555 OUTA OUTB"]
+faults = ["JU340"]
+"#,
+};
+
+/// A system whose every file has this text.
+#[derive(Drop)]
+struct PlanText {
+    text: &'static str,
+}
+
+impl System for PlanText {
+    type File = &'static [u8];
+
+    fn open(&self, _name: &str) -> io::Result<&'static [u8]> {
+        Ok(self.text.as_bytes())
+    }
+
+    fn begin(&self, _work: Work<'_>) {}
+
+    fn end(&self) {}
+}
+
 /// A system with real files.
 #[derive(Drop)]
 struct RealFiles<'h> {

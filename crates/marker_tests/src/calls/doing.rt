@@ -9,7 +9,7 @@ use super::*;
 use crate::fixtures::check_history;
 use test_tools::{check, check_eq};
 use xbar_fabric::{Desk, Fabric, shut_all};
-use xbar_markers::{open_staff, run_desks};
+use xbar_markers::{RunFault, open_staff, run_calls, run_desks};
 use xbar_office::{End, Job, Record};
 
 fn open_gates(rt: &impl Abort, alloc: Global, count: usize) -> Vec<OpenGate>
@@ -226,5 +226,27 @@ fn markers_do_many_calls(rt: HostRuntime) {
             let outcome = do_calls(&rt, rt.alloc(), &plan, &calls, staff);
             check!(rt; ends_of(&outcome.records).1[1] > 0, "{staff:?}: one is connected");
         }
+    }
+}
+
+/// Numbers of markers that dial and of markers that complete calls, and why no calls are done by them.
+const STAFFS: &[(usize, usize, Option<RunFault>)] = &[
+    (0, 0, Some(RunFault::Markers)),
+    (0, 1, Some(RunFault::Markers)),
+    (1, 0, Some(RunFault::Markers)),
+    (0, 48, Some(RunFault::Markers)),
+    (48, 1, Some(RunFault::Markers)),
+    (24, 25, Some(RunFault::Markers)),
+    (1, 47, None),
+];
+
+#[test]
+fn each_kind_of_marker_is_wanted(rt: HostRuntime) {
+    let plan = example(&rt, rt.alloc());
+    for (dialling, completing, wanted) in STAFFS {
+        assert!(rt; *dialling < 50 && *completing < 50);
+        let gates = open_gates(&rt, rt.alloc(), *dialling + *completing);
+        let fault = run_calls(&rt, rt.alloc(), &plan, &[], *dialling, *completing, gates).err();
+        check_eq!(rt; fault, *wanted, "{dialling} {completing}");
     }
 }

@@ -31,6 +31,22 @@ const CASES: &[Case] = &[
         found: WITH_REGISTER,
         done: WITH_TRUNK,
     },
+    Case {
+        before: &["D 3041"],
+        job: "C 3041 2340004",
+        turn: 27,
+        end: 46,
+        found: WITH_REGISTER,
+        done: WITH_BOTH,
+    },
+    Case {
+        before: &["D 3041", "C 3041 5551234"],
+        job: "R 3041",
+        turn: 11,
+        end: 19,
+        found: WITH_TRUNK,
+        done: &[(452, 3)],
+    },
 ];
 
 impl Case {

@@ -172,6 +172,24 @@ fn check_changes(rt: &impl Abort, alloc: Global, records: &mut [Record]) {
     check_refused(rt, alloc, records, turns, text);
 }
 
+/// One record with a wrong turn, and one with a wrong reply.
+fn check_one_record(rt: &impl Abort, alloc: Global) {
+    let path = near_path();
+    let job = Job::Dial(path.line);
+    let later = [record(1, job, End::DialTone { path, trial: 1 })];
+    let turns = AuditFault::Turns { place: 0 };
+    check_refused(
+        rt,
+        alloc,
+        &later,
+        turns,
+        "the record at place 0 hasn't turn 0",
+    );
+    let busy = [record(0, job, End::LineBusy)];
+    let reply = AuditFault::Reply { turn: 0 };
+    check_refused(rt, alloc, &busy, reply, "the reply of turn 0 is another");
+}
+
 /// How many paths legal records leave.
 fn count_left(rt: &impl Abort, alloc: Global, plan: &Plan, records: &[Record]) -> usize {
     let office = audit(alloc, plan, records).expect(rt, "the records are legal");
@@ -184,4 +202,5 @@ fn a_hundred_thousand_records_are_audited(rt: HostRuntime) {
     let mut records = many_records(&rt, rt.alloc());
     check_eq!(rt; count_left(&rt, rt.alloc(), &plan, &records), 1);
     check_changes(&rt, rt.alloc(), &mut records);
+    check_one_record(&rt, rt.alloc());
 }

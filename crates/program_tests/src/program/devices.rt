@@ -17,8 +17,30 @@ const TASKS: &[(&str, &str)] = &[
     ("audit", "0,1,0,D,3041,-,NOPATH,-,-,-\n"),
     ("draw --text", FIRST_TEXT),
     ("draw", "PATHS,0\nCLOSED,0\n"),
+    ("draw --text", "PATHS,0\nCLOSED,0\n"),
     ("page", "PATHS,0\nCLOSED,0\n"),
+    (
+        "replay",
+        "J,0,1,D,3041\nS,0,96,,\nJ,0,2,C,3041 2340004\nS,0,96,,\n",
+    ),
+    // These lack a line.
+    ("replay", "PATHS,0\n"),
+    ("walk", "PATHS,0\n"),
+    ("live", "PATHS,0\n"),
+    ("audit", "PATHS,0\n"),
 ];
+
+/// The same with a plan in a file.
+const PLANNED: &[(&str, &str)] = &[
+    ("replay --plan town.toml", FIRST),
+    (
+        "draw --text --plan town.toml",
+        "0,7,1,D,3052,-,DIALTONE,2,3052-5-418,-\nTROUBLE,0,7,1,JU340\n",
+    ),
+];
+
+/// Words whose input is no text of records, so nothing is drawn.
+const UNDRAWN: &[(&str, &str)] = &[("draw", "PATHS,0\n"), ("page", "PATHS,0\n")];
 
 const UNREADABLE: &str = "FAULT,DEVICE\ncrossbar5: cannot read standard input\n";
 
@@ -26,16 +48,26 @@ const UNWRITABLE: &str = "FAULT,DEVICE\ncrossbar5: cannot write standard output\
 
 const TOO_LONG: &str = "FAULT,LONG\ncrossbar5: standard input is too long\n";
 
-/// One read gives bytes, and the next finds the end.
+/// One read gives bytes, and the next finds the end. Each of the two fails.
+fn check_unreadable<T: Threads + Wait + Sync + Abort>(
+    rt: &T,
+    alloc: Global,
+    task: (&str, &str),
+) -> Result<(), Fail> {
+    let (line, input) = task;
+    for calls in 0..2 {
+        let mut streams = Streams::new(alloc, input, Fails::Input(calls));
+        let exit = streams.run(rt, alloc, &FAULTY, line)?;
+        check_eq!(rt; (exit.status(), streams.said()), (6, UNREADABLE), line);
+        check_eq!(rt; (streams.input.failures(), streams.written()), (1, ""), line);
+    }
+    Ok(())
+}
+
 #[test]
 fn a_failed_read_leaves_nothing_written(rt: HostRuntime) -> Result<(), Fail> {
-    for (line, input) in TASKS {
-        for calls in 0..2 {
-            let mut streams = Streams::new(rt.alloc(), input, Fails::Input(calls));
-            let exit = streams.run(&rt, rt.alloc(), &RealFiles { rt: &rt }, line)?;
-            check_eq!(rt; (exit.status(), streams.said()), (6, UNREADABLE), line);
-            check_eq!(rt; (streams.input.failures(), streams.written()), (1, ""), line);
-        }
+    for task in TASKS.iter().chain(PLANNED).chain(UNDRAWN) {
+        check_unreadable(&rt, rt.alloc(), *task)?;
     }
     Ok(())
 }
@@ -46,13 +78,12 @@ const TOLD: &[(&str, u32)] = &[("--help", 0), ("--version", 0), ("--version", 1)
 fn check_unwritable<T: Threads + Wait + Sync + Abort>(
     rt: &T,
     alloc: Global,
-    files: &RealFiles<'_>,
     task: (&str, &str),
     calls: u32,
 ) -> Result<(), Fail> {
     let (line, input) = task;
     let mut streams = Streams::new(alloc, input, Fails::Output(calls));
-    let exit = streams.run(rt, alloc, files, line)?;
+    let exit = streams.run(rt, alloc, &FAULTY, line)?;
     check_eq!(rt; (exit.status(), streams.said()), (6, UNWRITABLE), line);
     check_eq!(rt; (streams.output.failures(), exit.is_told), (1, true), line);
     Ok(())
@@ -60,14 +91,13 @@ fn check_unwritable<T: Threads + Wait + Sync + Abort>(
 
 #[test]
 fn a_failed_write_or_flush_is_told(rt: HostRuntime) -> Result<(), Fail> {
-    let files = RealFiles { rt: &rt };
-    for task in TASKS {
+    for task in TASKS.iter().chain(PLANNED) {
         for calls in 0..2 {
-            check_unwritable(&rt, rt.alloc(), &files, *task, calls)?;
+            check_unwritable(&rt, rt.alloc(), *task, calls)?;
         }
     }
     for (line, calls) in TOLD {
-        check_unwritable(&rt, rt.alloc(), &files, (*line, ""), *calls)?;
+        check_unwritable(&rt, rt.alloc(), (*line, ""), *calls)?;
     }
     Ok(())
 }

@@ -1,5 +1,5 @@
 //! Plans in real files, with the system's reason where one can't be read. What is no file can be opened,
-//! but not read.
+//! but not read. One empty word is here too, which no row can have.
 
 use super::*;
 use std::test::Fail;
@@ -26,6 +26,16 @@ const LINES: &[(&str, u8, &str)] = &[
         "walk --plan /dev/null",
         3,
         "crossbar5: /dev/null: version: expected 1 or 2, found nothing (P2)\n",
+    ),
+    (
+        "",
+        2,
+        "error: unrecognized subcommand ''\n\n\
+Usage: crossbar5 [COMMAND]\n       crossbar5 replay [--plan <FILE>] [--markers <KINDS>]\n       \
+crossbar5 walk [--plan <FILE>] [--markers <KINDS>] [--short]\n       \
+crossbar5 live [--plan <FILE>] [--dial <N>] [--completing <N>]\n       \
+crossbar5 audit [--plan <FILE>]\n       crossbar5 draw [--plan <FILE>] [--text]\n       \
+crossbar5 page [--plan <FILE>]\n\nFor more information, try '--help'.\n",
     ),
 ];
 

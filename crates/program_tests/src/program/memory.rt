@@ -7,38 +7,10 @@ use crossbar5_cli::Ending;
 use std::process::Abort;
 use test_tools::{check, check_eq};
 
-/// The plan of each file: the example plan with a faulty junctor.
-const FAULTY: PlanText = PlanText {
-    text: r#"version = 1
-groups = ["REG register 417 418 509", "INTRA intra 600-601 700-711", "OUTA outgoing 800", "OUTB outgoing 801 902"]
-numbers = ["0001 3041", "0002 3052", "0003 1000", "0004 3100"]
-codes = ["234 INTRA", "555 OUTA OUTB"]
-faults = ["JU340"]
-"#,
-};
-
 /// A plan that is refused.
 const REFUSED: PlanText = PlanText {
     text: "version = 3\n",
 };
-
-/// A system whose every file has this text.
-#[derive(Drop)]
-struct PlanText {
-    text: &'static str,
-}
-
-impl System for PlanText {
-    type File = &'static [u8];
-
-    fn open(&self, _name: &str) -> io::Result<&'static [u8]> {
-        Ok(self.text.as_bytes())
-    }
-
-    fn begin(&self, _work: Work<'_>) {}
-
-    fn end(&self) {}
-}
 
 /// Words and an input, with the output that they come to.
 const DONE: &[(&str, &str, &str)] = &[
@@ -150,7 +122,7 @@ JU340: channel 0, from line link frame 3 to trunk link frame 4
 ";
 
 /// The words come to this, with this plan in each file, or memory is refused and nothing is written. The
-/// streams grow too: where one can't, what went out before is a beginning. A sentence may be missing.
+/// streams grow too: where one can't, only a part goes out. A sentence may be missing.
 fn comes_to_it_or_memory<T: Threads + Wait + Sync + Abort>(
     rt: &T,
     alloc: Global,
@@ -165,11 +137,60 @@ fn comes_to_it_or_memory<T: Threads + Wait + Sync + Abort>(
     let written = streams.written();
     match exit.ending {
         Ending::Failed(EngineFault::Memory) => check_eq!(rt; written, "", line),
-        Ending::Failed(EngineFault::Device) => check!(rt; output.starts_with(written), line),
+        Ending::Failed(EngineFault::Device) => check!(rt; is_part(written, output), line),
         _ => {
             check_eq!(rt; (written, exit.status()), (output, status), line);
-            check!(rt; errors.starts_with(streams.said()), line);
+            check!(rt; is_part(streams.said(), errors), line);
         }
+    }
+}
+
+/// A text whose beginning or end alone may have gone out.
+fn is_part(part: &str, text: &str) -> bool {
+    text.starts_with(part) || text.ends_with(part)
+}
+
+/// Words whose long texts are compared with those of a second run.
+const TOLD_AT_LENGTH: &[&str] = &[
+    "help",
+    "help replay",
+    "help walk",
+    "help live",
+    "help audit",
+    "help draw",
+    "help page",
+    "call",
+    "--text",
+];
+
+/// Two runs of the words write the same, or in one of them memory is refused, and it writes a part of it.
+fn comes_to_the_same_or_memory<T: Threads + Wait + Sync + Abort>(
+    rt: &T,
+    alloc: Global,
+    line: &str,
+) {
+    let mut first = Streams::new(alloc, "", Fails::Nothing);
+    let mut second = Streams::new(alloc, "", Fails::Nothing);
+    let Ok(exit) = first.run(rt, alloc, &FAULTY, line) else {
+        return;
+    };
+    let Ok(other) = second.run(rt, alloc, &FAULTY, line) else {
+        return;
+    };
+    match (exit.ending, other.ending) {
+        (Ending::Failed(_), _) => check!(rt; is_part(first.written(), second.written()), line),
+        (_, Ending::Failed(_)) => check!(rt; is_part(second.written(), first.written()), line),
+        (one, same) => {
+            check_eq!(rt; (one, first.written()), (same, second.written()), line);
+            check!(rt; is_part(first.said(), second.said()) || is_part(second.said(), first.said()), line);
+        }
+    }
+}
+
+#[test]
+fn refused_memory_changes_no_long_text(rt: HostRuntime) {
+    for line in TOLD_AT_LENGTH {
+        comes_to_the_same_or_memory(&rt, rt.alloc(), line);
     }
 }
 
