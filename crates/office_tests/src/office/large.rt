@@ -172,22 +172,29 @@ fn check_changes(rt: &impl Abort, alloc: Global, records: &mut [Record]) {
     check_refused(rt, alloc, records, turns, text);
 }
 
-/// One record with a wrong turn, and one with a wrong reply.
-fn check_one_record(rt: &impl Abort, alloc: Global) {
+/// One dial tone job of the line in `near_path`, at a turn and with an end of which one is wrong.
+fn check_one_record(
+    rt: &impl Abort,
+    alloc: Global,
+    turn: u64,
+    end: End,
+    wanted: AuditFault,
+    text: &str,
+) {
+    let mut records = Vec::new(alloc);
+    let job = Job::Dial(near_path().line);
+    check!(rt; records.push(record(turn, job, end)).is_ok(), "there is memory for a record");
+    check_refused(rt, alloc, &records, wanted, text);
+}
+
+fn check_single_records(rt: &impl Abort, alloc: Global) {
     let path = near_path();
-    let job = Job::Dial(path.line);
-    let later = [record(1, job, End::DialTone { path, trial: 1 })];
-    let turns = AuditFault::Turns { place: 0 };
-    check_refused(
-        rt,
-        alloc,
-        &later,
-        turns,
-        "the record at place 0 hasn't turn 0",
-    );
-    let busy = [record(0, job, End::LineBusy)];
+    let tone = End::DialTone { path, trial: 1 };
+    let text = "the record at place 0 hasn't turn 0";
+    check_one_record(rt, alloc, 1, tone, AuditFault::Turns { place: 0 }, text);
+    let text = "the reply of turn 0 is another";
     let reply = AuditFault::Reply { turn: 0 };
-    check_refused(rt, alloc, &busy, reply, "the reply of turn 0 is another");
+    check_one_record(rt, alloc, 0, End::LineBusy, reply, text);
 }
 
 /// How many paths legal records leave.
@@ -202,5 +209,5 @@ fn a_hundred_thousand_records_are_audited(rt: HostRuntime) {
     let mut records = many_records(&rt, rt.alloc());
     check_eq!(rt; count_left(&rt, rt.alloc(), &plan, &records), 1);
     check_changes(&rt, rt.alloc(), &mut records);
-    check_one_record(&rt, rt.alloc());
+    check_single_records(&rt, rt.alloc());
 }
