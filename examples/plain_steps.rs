@@ -215,7 +215,7 @@ impl Word for Cell<u64> {
     }
 }
 
-struct PutOff;
+struct Denied;
 
 /// A marker's attempt: what it holds, on these words.
 struct Attempt<'a, W> {
@@ -231,12 +231,12 @@ impl<W: Word> Attempt<'_, W> {
         word & 63 == 0 && word >> 8 & ((1 << self.marker) - 1) == 0
     }
 
-    fn put_off(&mut self, conn: Conn) -> PutOff {
+    fn deny(&mut self, conn: Conn) -> Denied {
         self.words[conn.word()].and(!(1 << (8 + self.marker)));
         self.steps += 1;
         self.free_all();
         self.read.clear();
-        PutOff
+        Denied
     }
 
     fn free_all(&mut self) {
@@ -246,7 +246,7 @@ impl<W: Word> Attempt<'_, W> {
         }
     }
 
-    fn seize(&mut self, conn: Conn) -> Result<(), PutOff> {
+    fn seize(&mut self, conn: Conn) -> Result<(), Denied> {
         if self.held.contains(&conn) {
             return Ok(());
         }
@@ -256,7 +256,7 @@ impl<W: Word> Attempt<'_, W> {
         self.steps += 1;
         loop {
             if !self.judge(expected) {
-                return Err(self.put_off(conn));
+                return Err(self.deny(conn));
             }
             self.steps += 1;
             match word.exchange(expected, expected & !bit | (self.marker + 1)) {
@@ -330,7 +330,7 @@ impl<W: Word> Attempt<'_, W> {
         self.and(trunk_switch(place), !(15 << (4 * channel)));
     }
 
-    fn trace(&mut self, line: Line) -> Result<Option<Path>, PutOff> {
+    fn trace(&mut self, line: Line) -> Result<Option<Path>, Denied> {
         self.seize(Conn::Llf(line.frame))?;
         let word = self.test(line_switch(line));
         let Some(channel) = find(word, 6, 1 + line.x) else {
@@ -357,7 +357,7 @@ impl<W: Word> Attempt<'_, W> {
     }
 
     /// The first idle member of a group.
-    fn idle(&mut self, plan: &Plan, group: usize) -> Result<Option<usize>, PutOff> {
+    fn idle(&mut self, plan: &Plan, group: usize) -> Result<Option<usize>, Denied> {
         self.seize(Conn::Group(group))?;
         let word = self.test(400 + group);
         Ok((0..plan.groups[group].len()).find(|index| word >> index & 1 == 0))
@@ -369,7 +369,7 @@ impl<W: Word> Attempt<'_, W> {
         line: Line,
         place: Place,
         without: Option<&Path>,
-    ) -> Result<Option<usize>, PutOff> {
+    ) -> Result<Option<usize>, Denied> {
         self.seize(Conn::Tlf(place.frame))?;
         let trunk = self.test(trunk_switch(place));
         let mut junctors = [0; 10];
@@ -392,7 +392,7 @@ impl<W: Word> Attempt<'_, W> {
         }))
     }
 
-    fn dial(&mut self, plan: &Plan, line: Line) -> Result<(u64, End), PutOff> {
+    fn dial(&mut self, plan: &Plan, line: Line) -> Result<(u64, End), Denied> {
         self.seize(Conn::Llf(line.frame))?;
         let word = self.test(line_switch(line));
         if find(word, 6, 1 + line.x).is_some() {
@@ -416,7 +416,7 @@ impl<W: Word> Attempt<'_, W> {
         Ok((turn, End::DialTone(path)))
     }
 
-    fn complete(&mut self, plan: &Plan, line: Line) -> Result<(u64, End), PutOff> {
+    fn complete(&mut self, plan: &Plan, line: Line) -> Result<(u64, End), Denied> {
         let Some(own) = self.trace(line)? else {
             return Ok((self.turn(), End::NoRegister));
         };
@@ -457,7 +457,7 @@ impl<W: Word> Attempt<'_, W> {
         Ok((turn, End::Connected(path)))
     }
 
-    fn release(&mut self, plan: &Plan, line: Line) -> Result<(u64, End), PutOff> {
+    fn release(&mut self, plan: &Plan, line: Line) -> Result<(u64, End), Denied> {
         let Some(own) = self.trace(line)? else {
             return Ok((self.turn(), End::NoCall));
         };
@@ -495,7 +495,7 @@ impl<W: Word> Attempt<'_, W> {
                         end,
                     };
                 }
-                Err(PutOff) => thread::yield_now(),
+                Err(Denied) => thread::yield_now(),
             }
         }
     }

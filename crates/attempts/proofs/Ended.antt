@@ -1,11 +1,11 @@
--- what is told of an attempt past its turn
+-- the outcome of an attempt past its turn
 use Rattle.std.proofs.Common.{◌≡◌, ℕ, refl, sym, ◌∙◌, ap}
 use Rattle.std.specs.Prelude.{Option, Some, None, option_map}
 use Rattle.turns.specs.Attempt.{turn_in}
 use Rattle.turns.specs.declared.phase.Phase.{Phase}
 use Rattle.turns.specs.declared.phase.Phase.TheVariants.{Operates}
 use Rattle.turns.specs.Outcomes.{outcome_in}
-use Rattle.attempts.specs.Standing.{Program}
+use Rattle.attempts.specs.Validity.{AttemptView}
 
 turned : {Lock Job Reply : Type 0} (phase : Phase Lock ℕ) (turn : ℕ) (job : Job) (reply : Reply) → Some turn ≡ turn_in phase → ◌≡◌ {A = Option (ℕ × Job × Reply)} (Some (turn, job, reply)) (outcome_in phase job (Some reply))
 turned {Lock} {Job} {Reply} (Operates own) turn job reply e = let same : turn ≡ own = cc in let with : ℕ → Option (ℕ × Job × Reply) = λ t. Some (t, job, reply) in ap with same
@@ -19,13 +19,13 @@ pub before_turn : {Lock Job Reply : Type 0} (phase : Phase Lock ℕ) (job : Job)
 before_turn (Operates own) job reply e = absurd cc
 before_turn phase job reply e = refl
 
-module _ {Lock Job Decision Point Reply : Type 0} (reply_of : Decision → Reply) (p now : Program Lock Job Decision Point) (inside : p ≡ now) where
+module _ {Lock Job Decision ResumePoint Reply : Type 0} (reply_of : Decision → Reply) (p now : AttemptView Lock Job Decision ResumePoint) (inside : p ≡ now) where
   abbrev Outcome : Type 0
   Outcome = Option (ℕ × Job × Reply)
 
   -- by its turn, its job and what it has decided
   outside : (o : Outcome) → o ≡ outcome_in now.phase p.job (option_map reply_of p.decision) → o ≡ outcome_in now.phase now.job (option_map reply_of now.decision)
-  outside o e = e ∙ ap (λ (x : Program Lock Job Decision Point). outcome_in now.phase x.job (option_map reply_of x.decision)) inside
+  outside o e = e ∙ ap (λ (x : AttemptView Lock Job Decision ResumePoint). outcome_in now.phase x.job (option_map reply_of x.decision)) inside
 
   pub with_reply : (turn : ℕ) (decision : Decision) (reply : Reply) → Some turn ≡ turn_in now.phase → p.decision ≡ Some decision → reply ≡ reply_of decision → ◌≡◌ {A = Outcome} (Some (turn, p.job, reply)) (outcome_in now.phase now.job (option_map reply_of now.decision))
   with_reply turn decision reply at is replies =

@@ -1,7 +1,7 @@
--- what is told of the word that is tested next, as the code has it
+-- the word that is tested next, as the code has it
 use Rattle.std.proofs.Common.{◌≡◌, ℕ, Bool, List, sym, ◌∙◌, ap, subst}
 use Rattle.std.specs.Prelude.{Err, IfSome, Option}
-use Rattle.turns.specs.Attempt.{AttemptOf, StandsIn, seen_of}
+use Rattle.turns.specs.Attempt.{AttemptOf, IsValidIn, seen_of}
 use Rattle.turns.specs.Script.{Script, walk}
 use Rattle.turns.specs.Seen.{Seen}
 use Rattle.turns.specs.System.{System}
@@ -9,12 +9,12 @@ use Rattle.turns.specs.declared.phase.Phase.{Phase}
 use Rattle.turns.specs.declared.phase.Phase.TheVariants.{Tests}
 use Rattle.turns.specs.declared.wanted.Wanted.TheVariants.{Test}
 use Rattle.attempts.specs.Points.{GoesOnTo}
-use Rattle.attempts.specs.Standing.{KnowsIn, Program, Stands, attempt_of}
+use Rattle.attempts.specs.Validity.{ResumePointIsValidIn, AttemptView, IsValid, attempt_of}
 use Rattle.attempts.specs.SystemWith.{SystemWith, system_with}
 
-module _ {Lock Job Reply Effect Decision Point : Type 0} (same : Lock → Lock → Bool) (reply_of : Decision → Reply) (effects_of : Decision → List Effect) (S : SystemWith Lock Job Reply Effect Decision) (Knows : Job → Point → Seen Lock → Type 0) (reads seizes : ℕ) where
+module _ {Lock Job Reply Effect Decision ResumePoint : Type 0} (same : Lock → Lock → Bool) (reply_of : Decision → Reply) (effects_of : Decision → List Effect) (S : SystemWith Lock Job Reply Effect Decision) (ResumePointIsValid : Job → ResumePoint → Seen Lock → Type 0) (reads seizes : ℕ) where
   abbrev Doing : Type 0
-  Doing = Program Lock Job Decision Point
+  Doing = AttemptView Lock Job Decision ResumePoint
 
   abbrev O : System
   O = system_with same reply_of effects_of S
@@ -22,9 +22,9 @@ module _ {Lock Job Reply Effect Decision Point : Type 0} (same : Lock → Lock �
   abbrev outside : Doing → AttemptOf O
   outside p = attempt_of reply_of effects_of p
 
-  module _ (p now : Doing) (inside : p ≡ now) (stands : Stands same reply_of effects_of S Knows reads seizes now) (word : ℕ) (tests : now.phase ≡ Tests word) where
-    here : Stands same reply_of effects_of S Knows reads seizes p
-    here = subst (λ (x : Doing). Stands same reply_of effects_of S Knows reads seizes x) (sym inside) stands
+  module _ (p now : Doing) (inside : p ≡ now) (valid : IsValid same reply_of effects_of S ResumePointIsValid reads seizes now) (word : ℕ) (tests : now.phase ≡ Tests word) where
+    here : IsValid same reply_of effects_of S ResumePointIsValid reads seizes p
+    here = subst (λ (x : Doing). IsValid same reply_of effects_of S ResumePointIsValid reads seizes x) (sym inside) valid
 
     tests_here : p.phase ≡ Tests word
     tests_here = ap (λ (x : Doing). x.phase) inside ∙ tests
@@ -32,13 +32,13 @@ module _ {Lock Job Reply Effect Decision Point : Type 0} (same : Lock → Lock �
     pub job_here : S.IsJob p.job
     job_here = here.place.job
 
-    pub knows_here : Knows p.job p.point (seen_of (outside p))
-    knows_here = subst (λ (phase : Phase Lock ℕ). KnowsIn Knows (outside p) p.point phase) tests_here here.point
+    pub knows_here : ResumePointIsValid p.job p.point (seen_of (outside p))
+    knows_here = subst (λ (phase : Phase Lock ℕ). ResumePointIsValidIn ResumePointIsValid (outside p) p.point phase) tests_here here.point
 
     pub wants_here : walk same (seen_of (outside p)) (S.script p.job) ≡ Err (Test word)
-    wants_here = subst (λ (phase : Phase Lock ℕ). StandsIn O (outside p) phase) tests_here here.place.comes
+    wants_here = subst (λ (phase : Phase Lock ℕ). IsValidIn O (outside p) phase) tests_here here.place.comes
 
--- what it goes on to is the same by the parts that it has, as by those that are seen of it
+-- the next word is the same for an attempt's fields and for its view
 pub goes_on_there : {Lock Job Decision : Type 0} (same : Lock → Lock → Bool) (script : Job → Script Lock Decision) (job own_job : Job) (seen own_seen : Seen Lock) (word : ℕ) (next : Option ℕ) → job ≡ own_job → seen ≡ own_seen → IfSome next (GoesOnTo same seen (script job) word) → IfSome next (GoesOnTo same own_seen (script own_job) word)
 goes_on_there same script job own_job seen own_seen word next job_is seen_is goes =
     subst (λ (x : Seen _). IfSome next (GoesOnTo same x (script own_job) word)) seen_is

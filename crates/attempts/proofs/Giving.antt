@@ -2,15 +2,16 @@
 use Rattle.std.proofs.Common.{◌≡◌, ℕ, Bool, true, false, List, [], ◌∷◌, length, ◌⊎◌, inl, inr, refl, sym, ◌∙◌, ap, subst, arith}
 use Rattle.std.proofs.lemmas.Bool.{eqb-true}
 use Rattle.std.specs.Prelude.{◌==◌, None, Some}
-use Rattle.turns.specs.Attempt.{AttemptOf, asked_in, begin, changed, forgotten, freed, put_off, rest_of, restarted, restarted_in}
+use Rattle.turns.specs.Attempt.{AttemptOf, asked_in, begin, changed, forgotten, giving_back, denied, rest_of, restarted, restarted_in}
 use Rattle.turns.specs.System.{System}
 use Rattle.turns.specs.declared.answer.Answer.TheVariants.{Held, Preferred}
 use Rattle.turns.specs.declared.phase.Phase.{Phase}
 use Rattle.turns.specs.declared.phase.Phase.TheVariants.{Requests, Seizes, Tests, Turns, Withdraws, GivesBack, Operates}
-use Rattle.attempts.specs.Standing.{Program, attempt_of}
+use Rattle.attempts.specs.Validity.{AttemptView, attempt_of}
 use Rattle.attempts.specs.SystemWith.{SystemWith, system_with}
 
--- where it may give up, with no request that stands; where it gives back, or is past its turn
+-- the phases in which it may give up, with no request pending; and those in which it gives back or
+-- is past its turn
 abbrev MayGiveUp : {Lock : Type 0} → Phase Lock ℕ → Type 0
 MayGiveUp {Lock} phase = ((lock : Lock) × (phase ≡ Requests lock)) ⊎ (((word : ℕ) × (phase ≡ Tests word)) ⊎ (phase ≡ Turns))
 
@@ -20,21 +21,21 @@ IsLate {Lock} phase = ((lock : Lock) × (phase ≡ Withdraws lock)) ⊎ ((phase 
 module _ (O : System) where
   open O use {Lock}
 
-  freed_some : (a : AttemptOf O) (held : List Lock) (b : Bool) → b ≡ (length held == 0) → b ≡ false → a.held ≡ held → record a { phase = GivesBack } ≡ freed O a held
+  freed_some : (a : AttemptOf O) (held : List Lock) (b : Bool) → b ≡ (length held == 0) → b ≡ false → a.held ≡ held → record a { phase = GivesBack } ≡ giving_back O a held
   freed_some a [] b none some e = absurd cc
   freed_some a (lock ∷ held) b none some e = ap (λ (h : List Lock). record a { held = h; phase = GivesBack }) e
 
-  freed_none : (a : AttemptOf O) (held : List Lock) (b : Bool) → b ≡ (length held == 0) → b ≡ true → begin O a.job ≡ freed O a held
+  freed_none : (a : AttemptOf O) (held : List Lock) (b : Bool) → b ≡ (length held == 0) → b ≡ true → begin O a.job ≡ giving_back O a held
   freed_none a [] b none empty = refl
   freed_none a (lock ∷ held) b none empty = let e = eqb-true (length (lock ∷ held)) 0 (sym none ∙ empty) in absurd (omega arith)
 
   -- whatever it held before
-  freed_any : (a : AttemptOf O) (other held : List Lock) → freed O (record a { held = other }) held ≡ freed O a held
+  freed_any : (a : AttemptOf O) (other held : List Lock) → giving_back O (record a { held = other }) held ≡ giving_back O a held
   freed_any a other [] = refl
   freed_any a other (lock ∷ held) = refl
 
   -- given up before the turn, or gone too far for it
-  pub given_up : (a : AttemptOf O) (phase : Phase Lock ℕ) → MayGiveUp phase → freed O (forgotten a) a.held ≡ restarted_in O phase a
+  pub given_up : (a : AttemptOf O) (phase : Phase Lock ℕ) → MayGiveUp phase → giving_back O (forgotten a) a.held ≡ restarted_in O phase a
   given_up a phase (inl (lock, e)) = ap (λ (at : Phase Lock ℕ). restarted_in O at a) (sym e)
   given_up a phase (inr (inl (word, e))) = ap (λ (at : Phase Lock ℕ). restarted_in O at a) (sym e)
   given_up a phase (inr (inr e)) = ap (λ (at : Phase Lock ℕ). restarted_in O at a) (sym e)
@@ -44,15 +45,15 @@ module _ (O : System) where
   stays_so a phase (inr (inl e)) = ap (λ (at : Phase Lock ℕ). restarted_in O at a) (sym e)
   stays_so a phase (inr (inr (turn, e))) = ap (λ (at : Phase Lock ℕ). restarted_in O at a) (sym e)
 
-  -- what is put off where it requests or seizes, and what stays
-  pub held_off : (a : AttemptOf O) (phase : Phase Lock ℕ) (lock : Lock) (holder : ℕ) → Some lock ≡ asked_in phase → put_off a lock ≡ changed O a phase (Held holder)
-  held_off a (Requests own) lock holder e = let same : lock ≡ own = cc in ap (put_off a) same
-  held_off a (Seizes own expected) lock holder e = let same : lock ≡ own = cc in ap (put_off a) same
+  -- an attempt that requests or seizes is denied, and any other stays as it is
+  pub held_off : (a : AttemptOf O) (phase : Phase Lock ℕ) (lock : Lock) (holder : ℕ) → Some lock ≡ asked_in phase → denied a lock ≡ changed O a phase (Held holder)
+  held_off a (Requests own) lock holder e = let same : lock ≡ own = cc in ap (denied a) same
+  held_off a (Seizes own expected) lock holder e = let same : lock ≡ own = cc in ap (denied a) same
   held_off a phase lock holder e = absurd cc
 
-  pub preferred_off : (a : AttemptOf O) (phase : Phase Lock ℕ) (lock : Lock) (other : ℕ) → Some lock ≡ asked_in phase → put_off a lock ≡ changed O a phase (Preferred other)
-  preferred_off a (Requests own) lock other e = let same : lock ≡ own = cc in ap (put_off a) same
-  preferred_off a (Seizes own expected) lock other e = let same : lock ≡ own = cc in ap (put_off a) same
+  pub preferred_off : (a : AttemptOf O) (phase : Phase Lock ℕ) (lock : Lock) (other : ℕ) → Some lock ≡ asked_in phase → denied a lock ≡ changed O a phase (Preferred other)
+  preferred_off a (Requests own) lock other e = let same : lock ≡ own = cc in ap (denied a) same
+  preferred_off a (Seizes own expected) lock other e = let same : lock ≡ own = cc in ap (denied a) same
   preferred_off a phase lock other e = absurd cc
 
   pub held_stays : (a : AttemptOf O) (phase : Phase Lock ℕ) (holder : ℕ) → asked_in phase ≡ None → a ≡ changed O a phase (Held holder)
@@ -70,23 +71,23 @@ module _ {Lock Job Reply Effect Decision : Type 0} (same : Lock → Lock → Boo
   O = system_with same reply_of effects_of S
 
   -- as the code has it: the attempt from inside and from outside
-  module _ {Point : Type 0} (p now : Program Lock Job Decision Point) (inside : p ≡ now) (b : Bool) (none : b ≡ (length p.held == 0)) where
-    pub gives_back : b ≡ false → attempt_of reply_of effects_of (record p { phase = GivesBack }) ≡ freed O (attempt_of reply_of effects_of now) now.held
-    gives_back some = subst (λ (x : Program Lock Job Decision Point). attempt_of reply_of effects_of (record p { phase = GivesBack }) ≡ freed O (attempt_of reply_of effects_of x) x.held) inside (freed_some O (attempt_of reply_of effects_of p) p.held b none some refl)
+  module _ {ResumePoint : Type 0} (p now : AttemptView Lock Job Decision ResumePoint) (inside : p ≡ now) (b : Bool) (none : b ≡ (length p.held == 0)) where
+    pub gives_back : b ≡ false → attempt_of reply_of effects_of (record p { phase = GivesBack }) ≡ giving_back O (attempt_of reply_of effects_of now) now.held
+    gives_back some = subst (λ (x : AttemptView Lock Job Decision ResumePoint). attempt_of reply_of effects_of (record p { phase = GivesBack }) ≡ giving_back O (attempt_of reply_of effects_of x) x.held) inside (freed_some O (attempt_of reply_of effects_of p) p.held b none some refl)
 
     -- with nothing held the job begins anew
-    pub begins_anew : (new : Program Lock Job Decision Point) → b ≡ true → attempt_of reply_of effects_of new ≡ begin O now.job → attempt_of reply_of effects_of new ≡ freed O (attempt_of reply_of effects_of now) now.held
-    begins_anew new empty begins = begins ∙ freed_none O (attempt_of reply_of effects_of now) now.held b (none ∙ ap (λ (x : Program Lock Job Decision Point). length x.held == 0) inside) empty
+    pub begins_anew : (new : AttemptView Lock Job Decision ResumePoint) → b ≡ true → attempt_of reply_of effects_of new ≡ begin O now.job → attempt_of reply_of effects_of new ≡ giving_back O (attempt_of reply_of effects_of now) now.held
+    begins_anew new empty begins = begins ∙ freed_none O (attempt_of reply_of effects_of now) now.held b (none ∙ ap (λ (x : AttemptView Lock Job Decision ResumePoint). length x.held == 0) inside) empty
 
-  pub frees_on : {Point : Type 0} (p mid new : Program Lock Job Decision Point) → mid ≡ record p { held = rest_of p.held } → attempt_of reply_of effects_of new ≡ freed O (attempt_of reply_of effects_of mid) mid.held → attempt_of reply_of effects_of new ≡ freed O (attempt_of reply_of effects_of p) (rest_of p.held)
-  frees_on {Point} p mid new made frees = frees ∙ ap (λ (x : Program Lock Job Decision Point). freed O (attempt_of reply_of effects_of x) x.held) made ∙ freed_any O (attempt_of reply_of effects_of p) (rest_of p.held) (rest_of p.held)
+  pub frees_on : {ResumePoint : Type 0} (p mid new : AttemptView Lock Job Decision ResumePoint) → mid ≡ record p { held = rest_of p.held } → attempt_of reply_of effects_of new ≡ giving_back O (attempt_of reply_of effects_of mid) mid.held → attempt_of reply_of effects_of new ≡ giving_back O (attempt_of reply_of effects_of p) (rest_of p.held)
+  frees_on {ResumePoint} p mid new made frees = frees ∙ ap (λ (x : AttemptView Lock Job Decision ResumePoint). giving_back O (attempt_of reply_of effects_of x) x.held) made ∙ freed_any O (attempt_of reply_of effects_of p) (rest_of p.held) (rest_of p.held)
 
   -- it begins anew, once what it holds is given back
-  module _ {Point : Type 0} (p now new : Program Lock Job Decision Point) (inside : p ≡ now) where
+  module _ {ResumePoint : Type 0} (p now new : AttemptView Lock Job Decision ResumePoint) (inside : p ≡ now) where
     phases : p.phase ≡ now.phase
-    phases = ap (λ (x : Program Lock Job Decision Point). x.phase) inside
+    phases = ap (λ (x : AttemptView Lock Job Decision ResumePoint). x.phase) inside
 
-    pub gives_up : MayGiveUp p.phase → attempt_of reply_of effects_of new ≡ freed O (forgotten (attempt_of reply_of effects_of now)) now.held → attempt_of reply_of effects_of new ≡ restarted O (attempt_of reply_of effects_of now)
+    pub gives_up : MayGiveUp p.phase → attempt_of reply_of effects_of new ≡ giving_back O (forgotten (attempt_of reply_of effects_of now)) now.held → attempt_of reply_of effects_of new ≡ restarted O (attempt_of reply_of effects_of now)
     gives_up may frees = frees ∙ given_up O (attempt_of reply_of effects_of now) now.phase (subst MayGiveUp phases may)
 
     pub withdraws : (lock : Lock) (expected : ℕ) → p.phase ≡ Seizes lock expected → new ≡ record now { readings = []; decision = None; made = 0; phase = Withdraws lock } → attempt_of reply_of effects_of new ≡ restarted O (attempt_of reply_of effects_of now)

@@ -32,7 +32,7 @@ marked_more readings marks last are word unmarked = read_else readings last word
   unmarked_before : has_mark marks word ≡ false
   unmarked_before = ne_eqb (bit_at marks (word % 64)) 1 (λ set. omega (arith, none, set, bit_at_or marks (2 ^ (last.word % 64)) (word % 64), bit_at-lt (2 ^ (last.word % 64)) (word % 64)))
 
--- where nothing was read no mark is needed
+-- if nothing was read, no mark is needed
 pub marked_none : AreMarked [] 0
 unfolding value_read
 marked_none word unmarked = refl

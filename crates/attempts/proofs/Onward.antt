@@ -1,7 +1,8 @@
--- with what was seized or read there is room, and what the point says is so
+-- with what was seized or read there is room, and the resume point is valid
 use Rattle.std.proofs.Common.{◌≡◌, ◌≢◌, ℕ, ◌<◌, ◌^◌, Bool, true, List, [], ◌∷◌, ◌++◌, length, refl, sym, ◌∙◌, ap, subst}
 use Rattle.std.specs.Prelude.{None, Err}
-use Rattle.turns.specs.Attempt.{AttemptOf, Rest, StandsIn, act, change, restarted}
+use Rattle.turns.specs.Attempt.{AttemptOf, IsValidIn, act, change, restarted}
+use Rattle.turns.specs.declared.act.Act.TheVariants.{Finished}
 use Rattle.turns.specs.Script.{value_read, walk}
 use Rattle.turns.specs.Seen.{Seen}
 use Rattle.turns.specs.System.{System}
@@ -14,66 +15,66 @@ use Rattle.turns.specs.declared.wanted.Wanted.TheVariants.{Test}
 use Rattle.turns.proofs.Room.{held_before, read_before}
 use Rattle.turns.proofs.Words.{read_more}
 use Rattle.attempts.specs.Points.{Extends}
-use Rattle.attempts.specs.Standing.{AreScripts, Program, CanWalk, HasPlace, KnowsIn, Stands, attempt_of, begun_at}
+use Rattle.attempts.specs.Validity.{AreScripts, AttemptView, CanWalk, IsValidInBounds, ResumePointIsValidIn, IsValid, attempt_of, begun_at}
 use Rattle.attempts.specs.SystemWith.{SystemWith, system_with}
-use Rattle.attempts.specs.Taken.{MayRead}
+use Rattle.attempts.specs.Applied.{MayRead}
 use Rattle.attempts.proofs.ReadOnce.{wants_unread}
 use Rattle.attempts.proofs.Places.{FitsValue, fits_seize, fits_test, place_begin, place_change, place_restarted, place_there}
 
-module _ {Lock Job Reply Effect Decision Point : Type 0} (same : Lock → Lock → Bool) (reply_of : Decision → Reply) (effects_of : Decision → List Effect) (S : SystemWith Lock Job Reply Effect Decision) (Knows : Job → Point → Seen Lock → Type 0) (R H : ℕ) (are : AreScripts same reply_of effects_of S Knows R H) where
+module _ {Lock Job Reply Effect Decision ResumePoint : Type 0} (same : Lock → Lock → Bool) (reply_of : Decision → Reply) (effects_of : Decision → List Effect) (S : SystemWith Lock Job Reply Effect Decision) (ResumePointIsValid : Job → ResumePoint → Seen Lock → Type 0) (R H : ℕ) (are : AreScripts same reply_of effects_of S ResumePointIsValid R H) where
   abbrev O : System
   O = system_with same reply_of effects_of S
 
   abbrev Doing : Type 0
-  Doing = Program Lock Job Decision Point
+  Doing = AttemptView Lock Job Decision ResumePoint
 
   abbrev StandsHere : Doing → Type 0
-  StandsHere p = Stands same reply_of effects_of S Knows R H p
+  StandsHere p = IsValid same reply_of effects_of S ResumePointIsValid R H p
 
   abbrev PointHere : Doing → Type 0
-  PointHere p = KnowsIn Knows (attempt_of reply_of effects_of p) p.point p.phase
+  PointHere p = ResumePointIsValidIn ResumePointIsValid (attempt_of reply_of effects_of p) p.point p.phase
 
   itself : (lock : Lock) → same lock lock ≡ true
   itself lock = (are.is_system.same lock lock).1 refl
 
   pub room_to_seize : (p : Doing) (lock : Lock) (expected : ℕ) → StandsHere p → p.phase ≡ Seizes lock expected → length p.held < H
-  room_to_seize p lock expected stands e = fits_seize O are.is_system R H are.asks (attempt_of reply_of effects_of p) lock expected e stands.place
+  room_to_seize p lock expected valid e = fits_seize O are.is_system R H are.asks (attempt_of reply_of effects_of p) lock expected e valid.place
 
   pub room_to_test : (p : Doing) (word : ℕ) → StandsHere p → p.phase ≡ Tests word → length p.readings < R
-  room_to_test p word stands e = fits_test O are.is_system R H are.asks (attempt_of reply_of effects_of p) word e stands.place
+  room_to_test p word valid e = fits_test O are.is_system R H are.asks (attempt_of reply_of effects_of p) word e valid.place
 
-  -- its walk wants the word that it tests, which was not read
+  -- its walk needs the word that it tests, which was not read
   pub wants_to_test : (p : Doing) (word : ℕ) → StandsHere p → p.phase ≡ Tests word → walk same (record { held = p.held; readings = p.readings }) (S.script p.job) ≡ Err (Test word)
-  wants_to_test p word stands e = subst (λ (phase : Phase Lock ℕ). StandsIn O (attempt_of reply_of effects_of p) phase) e stands.place.comes
+  wants_to_test p word valid e = subst (λ (phase : Phase Lock ℕ). IsValidIn O (attempt_of reply_of effects_of p) phase) e valid.place.comes
 
   pub unread_to_test : (p : Doing) (word : ℕ) → StandsHere p → p.phase ≡ Tests word → value_read p.readings word ≡ None
-  unread_to_test p word stands e = wants_unread same (record { held = p.held; readings = p.readings }) word (S.script p.job) (wants_to_test p word stands e)
+  unread_to_test p word valid e = wants_unread same (record { held = p.held; readings = p.readings }) word (S.script p.job) (wants_to_test p word valid e)
 
-  -- what the point says is so with a lock or a word more
-  pub walks_seized : (p : Doing) (lock : Lock) (expected : ℕ) (new : Doing) → StandsHere p → p.phase ≡ Seizes lock expected → new ≡ record p { held = p.held ++ lock ∷ [] } → CanWalk same reply_of effects_of S Knows new
-  walks_seized p lock expected new stands e made =
-      let before : Knows p.job p.point (record { held = p.held; readings = p.readings }) = subst (λ (phase : Phase Lock ℕ). KnowsIn Knows (attempt_of reply_of effects_of p) p.point phase) e stands.point in
+  -- the resume point is valid with a lock or a word more
+  pub walks_seized : (p : Doing) (lock : Lock) (expected : ℕ) (new : Doing) → StandsHere p → p.phase ≡ Seizes lock expected → new ≡ record p { held = p.held ++ lock ∷ [] } → CanWalk same reply_of effects_of S ResumePointIsValid new
+  walks_seized p lock expected new valid e made =
+      let before : ResumePointIsValid p.job p.point (record { held = p.held; readings = p.readings }) = subst (λ (phase : Phase Lock ℕ). ResumePointIsValidIn ResumePointIsValid (attempt_of reply_of effects_of p) p.point phase) e valid.point in
       let more : Extends same (record { held = p.held; readings = p.readings }) (record { held = p.held ++ lock ∷ []; readings = p.readings }) = record { held = λ l h. held_before same itself p.held lock l h; readings = λ word value h. h } in
-      subst (λ (x : Doing). CanWalk same reply_of effects_of S Knows x) (sym made) (record { job = stands.place.job; read = stands.place.read; knows = are.knows_on p.job p.point _ _ more before })
+      subst (λ (x : Doing). CanWalk same reply_of effects_of S ResumePointIsValid x) (sym made) (record { job = valid.place.job; read = valid.place.read; valid_point = are.stays_valid p.job p.point _ _ more before })
 
-  pub walks_read : (p : Doing) (word value : ℕ) (new : Doing) → value < 2 ^ 64 → StandsHere p → p.phase ≡ Tests word → new ≡ record p { readings = p.readings ++ record { word = word; value = value } ∷ [] } → CanWalk same reply_of effects_of S Knows new
-  walks_read p word value new below stands e made =
-      let before : Knows p.job p.point (record { held = p.held; readings = p.readings }) = subst (λ (phase : Phase Lock ℕ). KnowsIn Knows (attempt_of reply_of effects_of p) p.point phase) e stands.point in
+  pub walks_read : (p : Doing) (word value : ℕ) (new : Doing) → value < 2 ^ 64 → StandsHere p → p.phase ≡ Tests word → new ≡ record p { readings = p.readings ++ record { word = word; value = value } ∷ [] } → CanWalk same reply_of effects_of S ResumePointIsValid new
+  walks_read p word value new below valid e made =
+      let before : ResumePointIsValid p.job p.point (record { held = p.held; readings = p.readings }) = subst (λ (phase : Phase Lock ℕ). ResumePointIsValidIn ResumePointIsValid (attempt_of reply_of effects_of p) p.point phase) e valid.point in
       let last : Reading ℕ = record { word = word; value = value } in
       let more : Extends same (record { held = p.held; readings = p.readings }) (record { held = p.held; readings = p.readings ++ last ∷ [] }) = record { held = λ l h. h; readings = λ w v h. read_before same itself p.readings last w v h } in
-      subst (λ (x : Doing). CanWalk same reply_of effects_of S Knows x) (sym made) (record { job = stands.place.job; read = read_more p.readings last stands.place.read below; knows = are.knows_on p.job p.point _ _ more before })
+      subst (λ (x : Doing). CanWalk same reply_of effects_of S ResumePointIsValid x) (sym made) (record { job = valid.place.job; read = read_more p.readings last valid.place.read below; valid_point = are.stays_valid p.job p.point _ _ more before })
 
-  pub may_read : (p : Doing) (word value : ℕ) → value < 2 ^ 64 → StandsHere p → p.phase ≡ Tests word → MayRead same reply_of effects_of S Knows R (record { word = word; value = value }) p
-  may_read p word value below stands e = record {
+  pub may_read : (p : Doing) (word value : ℕ) → value < 2 ^ 64 → StandsHere p → p.phase ≡ Tests word → MayRead same reply_of effects_of S ResumePointIsValid R (record { word = word; value = value }) p
+  may_read p word value below valid e = record {
     tests = e;
-    room = room_to_test p word stands e;
-    unread = unread_to_test p word stands e;
+    room = room_to_test p word valid e;
+    unread = unread_to_test p word valid e;
     fits = below;
-    walk = walks_read p word value (record p { readings = p.readings ++ record { word = word; value = value } ∷ [] }) below stands e refl;
+    walk = walks_read p word value (record p { readings = p.readings ++ record { word = word; value = value } ∷ [] }) below valid e refl;
   }
 
-  -- an attempt that has just begun stands
-  pub stands_begun : (job : Job) (first : Lock) (point : Point) (new : Doing) → S.IsJob job → first ≡ S.first job → ((seen : Seen Lock) → Knows job point seen) → new ≡ begun_at job first point → StandsHere new
+  -- an attempt that has just begun is valid
+  pub stands_begun : (job : Job) (first : Lock) (point : ResumePoint) (new : Doing) → S.IsJob job → first ≡ S.first job → ((seen : Seen Lock) → ResumePointIsValid job point seen) → new ≡ begun_at job first point → StandsHere new
   stands_begun job first point new right first_is always made =
       subst StandsHere (sym made)
       (subst (λ (lock : Lock). StandsHere (begun_at job lock point)) (sym first_is) (record {
@@ -81,19 +82,19 @@ module _ {Lock Job Reply Effect Decision Point : Type 0} (same : Lock → Lock �
         point = always (record { held = []; readings = [] });
       }))
 
-  -- it stands again, whatever it was told
+  -- it is valid again, whatever the answer
   pub stands_changed : (p new : Doing) (answer : Answer) → FitsValue answer → StandsHere p → attempt_of reply_of effects_of new ≡ change O (attempt_of reply_of effects_of p) answer → PointHere new → StandsHere new
-  stands_changed p new answer fits stands e point = record {
-    place = subst (HasPlace O R H) (sym e) (place_change O are.is_system R H are.asks (attempt_of reply_of effects_of p) answer fits stands.place);
+  stands_changed p new answer fits valid e point = record {
+    place = subst (IsValidInBounds O R H) (sym e) (place_change O are.is_system R H are.asks (attempt_of reply_of effects_of p) answer fits valid.place);
     point = point;
   }
 
   pub stands_back : (p new : Doing) → StandsHere p → attempt_of reply_of effects_of new ≡ restarted O (attempt_of reply_of effects_of p) → PointHere new → StandsHere new
-  stands_back p new stands e point = record {
-    place = subst (HasPlace O R H) (sym e) (place_restarted O are.is_system R H are.asks (attempt_of reply_of effects_of p) stands.place);
+  stands_back p new valid e point = record {
+    place = subst (IsValidInBounds O R H) (sym e) (place_restarted O are.is_system R H are.asks (attempt_of reply_of effects_of p) valid.place);
     point = point;
   }
 
   -- whatever its count
   pub stands_counted : (p new : Doing) (count : ℕ) → StandsHere p → new ≡ record p { count = count } → StandsHere new
-  stands_counted p new count stands made = subst StandsHere (sym made) (record { place = stands.place; point = stands.point })
+  stands_counted p new count valid made = subst StandsHere (sym made) (record { place = valid.place; point = valid.point })

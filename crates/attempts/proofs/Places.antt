@@ -1,13 +1,13 @@
--- an attempt has room for what is left of its script, and stands where its words are
+-- an attempt has room for what is left of its script, and its next step is on a word of the system
 use Rattle.std.proofs.Common.{◌≡◌, ℕ, true, ◌+◌, ◌-◌, ◌<◌, ◌^◌, List, [], ◌∷◌, ◌++◌, length, length-append, inl, inr, refl, sym, subst, arith}
 use Rattle.std.specs.Prelude.{Result, Ok, Err}
-use Rattle.turns.specs.Attempt.{AttemptOf, StandsIn, act, act_in, closing_act, free_act, begin, change, changed, come_to, forgotten, freed, goes_on, operated, read_in, rest_of, restarted, restarted_in, seen_of}
+use Rattle.turns.specs.Attempt.{AttemptOf, IsValidIn, act, act_in, closing_act, free_act, begin, change, changed, walk_result, forgotten, giving_back, goes_on, operated, read_in, rest_of, restarted, restarted_in, seen_of}
 use Rattle.turns.specs.Script.{AsksAtMost, left, walk}
 use Rattle.turns.specs.Seen.{Seen, AreReadWords}
 use Rattle.turns.specs.System.{System, IsSystem, DecidesUnder, IsUnder}
 use Rattle.turns.specs.World.{place}
 use Rattle.turns.specs.declared.answer.Answer.{Answer}
-use Rattle.turns.specs.declared.answer.Answer.TheVariants.{Asked, Seized, Held, Preferred, Again, Value, Turn, Done}
+use Rattle.turns.specs.declared.answer.Answer.TheVariants.{Requested, Seized, Held, Preferred, Changed, Value, Turn, Done}
 use Rattle.turns.specs.declared.phase.Phase.{Phase}
 use Rattle.turns.specs.declared.phase.Phase.TheVariants.{Requests, Seizes, Tests, Turns, Withdraws, GivesBack, Operates}
 use Rattle.turns.specs.declared.reading.Reading.{Reading}
@@ -19,10 +19,10 @@ use Rattle.turns.proofs.Room.{Grows, held_last, held_before, read_last, read_bef
 use Rattle.turns.proofs.Standing.{come_fits, stands_begin, stands_change, stands_restarted, wanted_lock}
 use Rattle.turns.proofs.SteadyAttempts.{job_stays}
 use Rattle.turns.proofs.Words.{read_more}
-use Rattle.attempts.specs.Standing.{AreLocks, AreThere, HasPlace, HasRoom, HasRoomIn}
-use Rattle.attempts.specs.Taken as taken
+use Rattle.attempts.specs.Validity.{AreLocks, AreThere, IsValidInBounds, HasRoom, HasRoomIn}
+use Rattle.attempts.specs.Applied as taken
 
--- an attempt that has room for what its script wants next has room for what is left then
+-- an attempt that has room for what its script needs next has room for what is left then
 pub record RoomAfter (Room : Type 0) (length most : ℕ) : Type 0 where
   pub fits : length < most
   pub room : Room
@@ -59,7 +59,7 @@ module _ (O : System) (is : IsSystem O) (most_readings most_held : ℕ) (asks : 
   abbrev There : List Effect → Type 0
   There effects = AreThere O most_readings most_held effects
 
-  pub room_seized : (a : AttemptOf O) (lock : Lock) → AreReadWords a.readings → come_to O a ≡ Err (Seize lock) → Room a → RoomAfter (Room (record a { held = a.held ++ lock ∷ [] })) (length a.held) most_held
+  pub room_seized : (a : AttemptOf O) (lock : Lock) → AreReadWords a.readings → walk_result O a ≡ Err (Seize lock) → Room a → RoomAfter (Room (record a { held = a.held ++ lock ∷ [] })) (length a.held) most_held
   unfolding walk
   room_seized a lock read come fits =
       let more : Seen Lock = record { held = a.held ++ lock ∷ []; readings = a.readings } in
@@ -72,7 +72,7 @@ module _ (O : System) (is : IsSystem O) (most_readings most_held : ℕ) (asks : 
         room = subst (λ (n : ℕ). AsksAtMost (most_readings - length a.readings) n (left O.same more (O.script a.job))) rest room.asks;
       }
 
-  pub room_read : (a : AttemptOf O) (reading : Reading ℕ) → AreReadWords a.readings → reading.value < 2 ^ 64 → come_to O a ≡ Err (Test reading.word) → Room a → RoomAfter (Room (record a { readings = a.readings ++ reading ∷ [] })) (length a.readings) most_readings
+  pub room_read : (a : AttemptOf O) (reading : Reading ℕ) → AreReadWords a.readings → reading.value < 2 ^ 64 → walk_result O a ≡ Err (Test reading.word) → Room a → RoomAfter (Room (record a { readings = a.readings ++ reading ∷ [] })) (length a.readings) most_readings
   unfolding walk
   room_read a reading read below come fits =
       let more : Seen Lock = record { held = a.held; readings = a.readings ++ reading ∷ [] } in
@@ -93,7 +93,7 @@ module _ (O : System) (is : IsSystem O) (most_readings most_held : ℕ) (asks : 
       let seizings : most_held ≡ most_held - 0 = omega arith in
       subst (λ (n : ℕ). AsksAtMost n (most_held - 0) (left O.same (seen_of (begin O job)) (O.script job))) tests (subst (λ (n : ℕ). AsksAtMost most_readings n (left O.same (seen_of (begin O job)) (O.script job))) seizings all)
 
-  room_freed : (a : AttemptOf O) (held : List Lock) → O.IsJob a.job → RoomIn (freed O a held) (freed O a held).phase
+  room_freed : (a : AttemptOf O) (held : List Lock) → O.IsJob a.job → RoomIn (giving_back O a held) (giving_back O a held).phase
   room_freed a [] right = room_begin a.job right
   room_freed a (lock ∷ held) right = tt
 
@@ -107,25 +107,25 @@ module _ (O : System) (is : IsSystem O) (most_readings most_held : ℕ) (asks : 
   room_operated a turn [] at = subst (λ (phase : Phase Lock ℕ). RoomIn (operated a []) phase) (sym at) tt
   room_operated a turn (effect ∷ effects) at = subst (λ (phase : Phase Lock ℕ). RoomIn (operated a (effect ∷ effects)) phase) (sym at) tt
 
-  -- whatever comes of its step, an attempt that stands where its script brings it has room again
-  room_changed : (a : AttemptOf O) (phase : Phase Lock ℕ) (answer : Answer) → FitsValue answer → O.IsJob a.job → AreReadWords a.readings → a.phase ≡ phase → RoomIn a a.phase → StandsIn O a phase → RoomIn a phase → RoomIn (changed O a phase answer) (changed O a phase answer).phase
-  room_changed a (Requests lock) (Asked told) fits right read at all stands room = room
-  room_changed a (Requests lock) (Held holder) fits right read at all stands room = tt
-  room_changed a (Requests lock) (Preferred other) fits right read at all stands room = tt
-  room_changed a (Seizes lock expected) Seized fits right read at all stands room =
+  -- whatever the answer to its step, a valid attempt has room again
+  room_changed : (a : AttemptOf O) (phase : Phase Lock ℕ) (answer : Answer) → FitsValue answer → O.IsJob a.job → AreReadWords a.readings → a.phase ≡ phase → RoomIn a a.phase → IsValidIn O a phase → RoomIn a phase → RoomIn (changed O a phase answer) (changed O a phase answer).phase
+  room_changed a (Requests lock) (Requested told) fits right read at all valid room = room
+  room_changed a (Requests lock) (Held holder) fits right read at all valid room = tt
+  room_changed a (Requests lock) (Preferred other) fits right read at all valid room = tt
+  room_changed a (Seizes lock expected) Seized fits right read at all valid room =
       let more : AttemptOf O = record a { held = a.held ++ lock ∷ [] } in
-      room_on more (come_to O more) (room_seized a lock read stands room).room
-  room_changed a (Seizes lock expected) (Again told) fits right read at all stands room = room
-  room_changed a (Seizes lock expected) (Held holder) fits right read at all stands room = tt
-  room_changed a (Seizes lock expected) (Preferred other) fits right read at all stands room = tt
-  room_changed a (Tests word) (Value value) fits right read at all stands room =
+      room_on more (walk_result O more) (room_seized a lock read valid room).room
+  room_changed a (Seizes lock expected) (Changed told) fits right read at all valid room = room
+  room_changed a (Seizes lock expected) (Held holder) fits right read at all valid room = tt
+  room_changed a (Seizes lock expected) (Preferred other) fits right read at all valid room = tt
+  room_changed a (Tests word) (Value value) fits right read at all valid room =
       let more : AttemptOf O = record a { readings = a.readings ++ record { word = word; value = value } ∷ [] } in
-      room_on more (come_to O more) (room_read a (record { word = word; value = value }) read fits stands room).room
-  room_changed a Turns (Turn number) fits right read at all stands room = tt
-  room_changed a (Withdraws lock) Done fits right read at all stands room = room_freed a a.held right
-  room_changed a GivesBack Done fits right read at all stands room = room_freed a (rest_of a.held) right
-  room_changed a (Operates turn) Done fits right read at all stands room = room_operated a turn a.effects at
-  room_changed a _ _ fits right read at all stands room = all
+      room_on more (walk_result O more) (room_read a (record { word = word; value = value }) read fits valid room).room
+  room_changed a Turns (Turn number) fits right read at all valid room = tt
+  room_changed a (Withdraws lock) Done fits right read at all valid room = room_freed a a.held right
+  room_changed a GivesBack Done fits right read at all valid room = room_freed a (rest_of a.held) right
+  room_changed a (Operates turn) Done fits right read at all valid room = room_operated a turn a.effects at
+  room_changed a _ _ fits right read at all valid room = all
 
   -- and so has one that restarts
   room_restarted : (a : AttemptOf O) (phase : Phase Lock ℕ) → O.IsJob a.job → RoomIn a a.phase → RoomIn (restarted_in O phase a) (restarted_in O phase a).phase
@@ -135,7 +135,8 @@ module _ (O : System) (is : IsSystem O) (most_readings most_held : ℕ) (asks : 
   room_restarted a (Operates turn) right all = all
   room_restarted a phase right all = room_freed (forgotten a) a.held right
 
-  -- whatever its phase: it holds locks of the system, its readings fit words, and its effects are on words that there are
+  -- whatever its phase: it holds locks of the system, its readings fit words, and its effects are
+  -- on words that there are
   pub record Keeps (a : AttemptOf O) : Type 0 where
     pub held : Locks a.held
     pub read : AreReadWords a.readings
@@ -154,12 +155,12 @@ module _ (O : System) (is : IsSystem O) (most_readings most_held : ℕ) (asks : 
     effects = λ effect within. under_there fits.some (O.effect_word effect) (fits.fits.under effect within);
   }
 
-  keeps_on : (a : AttemptOf O) (found : Result Decision (Wanted Lock ℕ)) → O.IsJob a.job → come_to O a ≡ found → Keeps a → Keeps (goes_on O a found)
+  keeps_on : (a : AttemptOf O) (found : Result Decision (Wanted Lock ℕ)) → O.IsJob a.job → walk_result O a ≡ found → Keeps a → Keeps (goes_on O a found)
   keeps_on a (Ok decision) right come keeps = keeps_decided a decision (subst (WalkFits O (DecidesUnder O) a.held) come (come_fits O is a right keeps.read)) keeps
   keeps_on a (Err (Seize lock)) right come keeps = record { held = keeps.held; read = keeps.read; effects = keeps.effects }
   keeps_on a (Err (Test word)) right come keeps = record { held = keeps.held; read = keeps.read; effects = keeps.effects }
 
-  keeps_freed : (a : AttemptOf O) (held : List Lock) → Locks held → AreReadWords a.readings → There a.effects → Keeps (freed O a held)
+  keeps_freed : (a : AttemptOf O) (held : List Lock) → Locks held → AreReadWords a.readings → There a.effects → Keeps (giving_back O a held)
   keeps_freed a [] locks read there = keeps_begin a.job
   keeps_freed a (lock ∷ held) locks read there = record { held = locks; read = read; effects = there }
 
@@ -188,27 +189,27 @@ module _ (O : System) (is : IsSystem O) (most_readings most_held : ℕ) (asks : 
   keeps_in : (a : AttemptOf O) (phase : Phase Lock ℕ) → Keeps a → Keeps (record a { phase = phase })
   keeps_in a phase keeps = record { held = keeps.held; read = keeps.read; effects = keeps.effects }
 
-  keeps_changed : (a : AttemptOf O) (phase : Phase Lock ℕ) (answer : Answer) → FitsValue answer → O.IsJob a.job → StandsIn O a phase → Keeps a → Keeps (changed O a phase answer)
-  keeps_changed a (Requests lock) (Asked word) fits right stands keeps = keeps_in a (Seizes lock word) keeps
-  keeps_changed a (Requests lock) (Held holder) fits right stands keeps = keeps_in (forgotten a) (Withdraws lock) (keeps_put_off a keeps)
-  keeps_changed a (Requests lock) (Preferred other) fits right stands keeps = keeps_in (forgotten a) (Withdraws lock) (keeps_put_off a keeps)
-  keeps_changed a (Seizes lock expected) Seized fits right stands keeps =
+  keeps_changed : (a : AttemptOf O) (phase : Phase Lock ℕ) (answer : Answer) → FitsValue answer → O.IsJob a.job → IsValidIn O a phase → Keeps a → Keeps (changed O a phase answer)
+  keeps_changed a (Requests lock) (Requested word) fits right valid keeps = keeps_in a (Seizes lock word) keeps
+  keeps_changed a (Requests lock) (Held holder) fits right valid keeps = keeps_in (forgotten a) (Withdraws lock) (keeps_put_off a keeps)
+  keeps_changed a (Requests lock) (Preferred other) fits right valid keeps = keeps_in (forgotten a) (Withdraws lock) (keeps_put_off a keeps)
+  keeps_changed a (Seizes lock expected) Seized fits right valid keeps =
       let more : AttemptOf O = record a { held = a.held ++ lock ∷ [] } in
-      keeps_on more (come_to O more) right refl (keeps_seized a lock (wanted_lock O is a lock right keeps.read stands) keeps)
-  keeps_changed a (Seizes lock expected) (Again word) fits right stands keeps = keeps_in a (Seizes lock word) keeps
-  keeps_changed a (Seizes lock expected) (Held holder) fits right stands keeps = keeps_in (forgotten a) (Withdraws lock) (keeps_put_off a keeps)
-  keeps_changed a (Seizes lock expected) (Preferred other) fits right stands keeps = keeps_in (forgotten a) (Withdraws lock) (keeps_put_off a keeps)
-  keeps_changed a (Tests word) (Value value) fits right stands keeps =
+      keeps_on more (walk_result O more) right refl (keeps_seized a lock (wanted_lock O is a lock right keeps.read valid) keeps)
+  keeps_changed a (Seizes lock expected) (Changed word) fits right valid keeps = keeps_in a (Seizes lock word) keeps
+  keeps_changed a (Seizes lock expected) (Held holder) fits right valid keeps = keeps_in (forgotten a) (Withdraws lock) (keeps_put_off a keeps)
+  keeps_changed a (Seizes lock expected) (Preferred other) fits right valid keeps = keeps_in (forgotten a) (Withdraws lock) (keeps_put_off a keeps)
+  keeps_changed a (Tests word) (Value value) fits right valid keeps =
       let reading : Reading ℕ = record { word = word; value = value } in
       let more : AttemptOf O = record a { readings = a.readings ++ reading ∷ [] } in
-      keeps_on more (come_to O more) right refl (keeps_read a reading fits keeps)
-  keeps_changed a Turns (Turn number) fits right stands keeps = keeps_in a (Operates number) keeps
-  keeps_changed a (Withdraws lock) Done fits right stands keeps = keeps_freed a a.held keeps.held keeps.read keeps.effects
-  keeps_changed a GivesBack Done fits right stands keeps = keeps_freed a (rest_of a.held) (locks_rest a.held keeps.held) keeps.read keeps.effects
-  keeps_changed a (Operates turn) Done fits right stands keeps = keeps_operated a a.effects keeps.effects keeps
-  keeps_changed a _ _ fits right stands keeps = keeps
+      keeps_on more (walk_result O more) right refl (keeps_read a reading fits keeps)
+  keeps_changed a Turns (Turn number) fits right valid keeps = keeps_in a (Operates number) keeps
+  keeps_changed a (Withdraws lock) Done fits right valid keeps = keeps_freed a a.held keeps.held keeps.read keeps.effects
+  keeps_changed a GivesBack Done fits right valid keeps = keeps_freed a (rest_of a.held) (locks_rest a.held keeps.held) keeps.read keeps.effects
+  keeps_changed a (Operates turn) Done fits right valid keeps = keeps_operated a a.effects keeps.effects keeps
+  keeps_changed a _ _ fits right valid keeps = keeps
 
-  keeps_given_up : (a : AttemptOf O) → Keeps a → Keeps (freed O (forgotten a) a.held)
+  keeps_given_up : (a : AttemptOf O) → Keeps a → Keeps (giving_back O (forgotten a) a.held)
   keeps_given_up a keeps = keeps_freed (forgotten a) a.held keeps.held none_read (λ effect none. absurd none)
 
   keeps_restarted : (a : AttemptOf O) (phase : Phase Lock ℕ) → Keeps a → Keeps (restarted_in O phase a)
@@ -219,7 +220,7 @@ module _ (O : System) (is : IsSystem O) (most_readings most_held : ℕ) (asks : 
   keeps_restarted a phase keeps = keeps_given_up a keeps
 
   -- its job stays
-  job_freed : (a : AttemptOf O) (held : List Lock) → (freed O a held).job ≡ a.job
+  job_freed : (a : AttemptOf O) (held : List Lock) → (giving_back O a held).job ≡ a.job
   job_freed a [] = refl
   job_freed a (lock ∷ held) = refl
 
@@ -230,7 +231,7 @@ module _ (O : System) (is : IsSystem O) (most_readings most_held : ℕ) (asks : 
   job_restarted a phase = refl
 
   abbrev Placed : AttemptOf O → Type 0
-  Placed a = HasPlace O most_readings most_held a
+  Placed a = IsValidInBounds O most_readings most_held a
 
   keeps_of : (a : AttemptOf O) → Placed a → Keeps a
   keeps_of a p = record { held = p.held; read = p.read; effects = p.effects }
@@ -273,27 +274,27 @@ module _ (O : System) (is : IsSystem O) (most_readings most_held : ℕ) (asks : 
   closing_there [] held there locks = free_there held locks
   closing_there (effect ∷ effects) held there locks = there effect (inl refl)
 
-  place_in : (a : AttemptOf O) (phase : Phase Lock ℕ) → O.IsJob a.job → Keeps a → StandsIn O a phase → place O (act_in phase a) < O.size
-  place_in a (Requests lock) right keeps stands = is.words.lock_word_there lock (wanted_lock O is a lock right keeps.read stands)
-  place_in a (Seizes lock expected) right keeps stands = is.words.lock_word_there lock (wanted_lock O is a lock right keeps.read stands)
-  place_in a (Tests word) right keeps stands = under_there a.held word (subst (WalkFits O (DecidesUnder O) a.held) stands (come_fits O is a right keeps.read))
-  place_in a Turns right keeps stands = is.words.turn_there
-  place_in a (Withdraws lock) right keeps stands = is.words.lock_word_there lock stands
-  place_in a GivesBack right keeps stands = free_there a.held keeps.held
+  place_in : (a : AttemptOf O) (phase : Phase Lock ℕ) → O.IsJob a.job → Keeps a → IsValidIn O a phase → place O (act_in phase a) < O.size
+  place_in a (Requests lock) right keeps valid = is.words.lock_word_there lock (wanted_lock O is a lock right keeps.read valid)
+  place_in a (Seizes lock expected) right keeps valid = is.words.lock_word_there lock (wanted_lock O is a lock right keeps.read valid)
+  place_in a (Tests word) right keeps valid = under_there a.held word (subst (WalkFits O (DecidesUnder O) a.held) valid (come_fits O is a right keeps.read))
+  place_in a Turns right keeps valid = is.words.turn_there
+  place_in a (Withdraws lock) right keeps valid = is.words.lock_word_there lock valid
+  place_in a GivesBack right keeps valid = free_there a.held keeps.held
   place_in a (Operates turn) right keeps turned = closing_there a.effects a.held keeps.effects keeps.held
 
   pub place_there : (a : AttemptOf O) → Placed a → place O (act a) < O.size
   place_there a p = place_in a a.phase p.job (keeps_of a p) p.comes
 
-  -- in its phase, an attempt has come as far as to want what the phase says, and has room for it
+  -- in its phase, an attempt has room for what the phase says that it needs
   pub fits_seize : (a : AttemptOf O) (lock : Lock) (expected : ℕ) → a.phase ≡ Seizes lock expected → Placed a → length a.held < most_held
   fits_seize a lock expected e p =
-      (room_seized a lock p.read (subst (λ (phase : Phase Lock ℕ). StandsIn O a phase) e p.comes) (subst (λ (phase : Phase Lock ℕ). RoomIn a phase) e p.room)).fits
+      (room_seized a lock p.read (subst (λ (phase : Phase Lock ℕ). IsValidIn O a phase) e p.comes) (subst (λ (phase : Phase Lock ℕ). RoomIn a phase) e p.room)).fits
 
   pub fits_request : (a : AttemptOf O) (lock : Lock) → a.phase ≡ Requests lock → Placed a → length a.held < most_held
   fits_request a lock e p =
-      (room_seized a lock p.read (subst (λ (phase : Phase Lock ℕ). StandsIn O a phase) e p.comes) (subst (λ (phase : Phase Lock ℕ). RoomIn a phase) e p.room)).fits
+      (room_seized a lock p.read (subst (λ (phase : Phase Lock ℕ). IsValidIn O a phase) e p.comes) (subst (λ (phase : Phase Lock ℕ). RoomIn a phase) e p.room)).fits
 
   pub fits_test : (a : AttemptOf O) (word : ℕ) → a.phase ≡ Tests word → Placed a → length a.readings < most_readings
   fits_test a word e p =
-      (room_read a (record { word = word; value = 0 }) p.read (omega arith) (subst (λ (phase : Phase Lock ℕ). StandsIn O a phase) e p.comes) (subst (λ (phase : Phase Lock ℕ). RoomIn a phase) e p.room)).fits
+      (room_read a (record { word = word; value = 0 }) p.read (omega arith) (subst (λ (phase : Phase Lock ℕ). IsValidIn O a phase) e p.comes) (subst (λ (phase : Phase Lock ℕ). RoomIn a phase) e p.room)).fits

@@ -6,7 +6,7 @@ use Rattle.turns.specs.Seen.{Seen}
 use Rattle.attempts.specs.Points.{Extends}
 
 module _ {Lock : Type 0} (same : Lock → Lock → Bool) where
-  -- what was gone through is gone through with more
+  -- what was walked through is walked through with more
   pub gone_through : {A : Type 0} (seen more : Seen Lock) (script : Script Lock A) (found : A) → Extends same seen more → walk same seen script ≡ Ok found → walk same more script ≡ Ok found
   unfolding walk left left_of_test left_of_seizing first_wanted
   gone_through {A} seen more (Ends end) found extends e = e

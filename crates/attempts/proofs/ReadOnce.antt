@@ -1,4 +1,4 @@
--- no word is read twice, since a walk wants no word that was read
+-- no word is read twice, since a walk needs no word that was read
 use Rattle.std.proofs.Common.{◌≡◌, ℕ, zero, suc, ◌<◌, Bool, true, false, cond, List, [], ◌∷◌, ◌++◌, length, inl, inr, nat_lt, refl, sym, ◌∙◌, ap, subst, arith}
 use Rattle.std.specs.Prelude.{Option, Some, None, ◌==◌, Err, find, get_or, option_and_then, option_map, slice_get, if◌then◌else◌}
 use Rattle.std.specs.List.{position, position_or_len}
@@ -12,9 +12,9 @@ use Rattle.turns.specs.Seen.{Seen}
 use Rattle.turns.specs.declared.reading.Reading.{Reading}
 use Rattle.turns.specs.declared.wanted.Wanted.TheVariants.{Test}
 use Rattle.turns.proofs.Lists.{in_either}
-use Rattle.attempts.specs.Points.{AreReadOnce}
+use Rattle.attempts.specs.Points.{HaveOneValue}
 
--- the word that a walk wants was not read
+-- the word that a walk needs next was not read
 pub wants_unread : {Lock A : Type 0} (same : Lock → Lock → Bool) (seen : Seen Lock) (word : ℕ) (script : Script Lock A) → walk same seen script ≡ Err (Test word) → value_read seen.readings word ≡ None
 unfolding walk left left_of_test left_of_seizing first_wanted
 wants_unread {Lock} {A} same seen word (Ends found) wants = cc
@@ -46,25 +46,25 @@ read_still (reading ∷ readings) last word value e = at (reading.word == word) 
   at false later e = later e
 
 -- with one reading more of a word that was not read
-pub once_more : (readings more : List (Reading ℕ)) (last : Reading ℕ) → more ≡ readings ++ last ∷ [] → AreReadOnce readings → value_read readings last.word ≡ None → AreReadOnce more
-once_more readings more last is once unread = subst (λ (all : List (Reading ℕ)). AreReadOnce all) (sym is) (λ reading within. elim (in_either reading readings (last ∷ []) within) [
+pub once_more : (readings more : List (Reading ℕ)) (last : Reading ℕ) → more ≡ readings ++ last ∷ [] → HaveOneValue readings → value_read readings last.word ≡ None → HaveOneValue more
+once_more readings more last is once unread = subst (λ (all : List (Reading ℕ)). HaveOneValue all) (sym is) (λ reading within. elim (in_either reading readings (last ∷ []) within) [
   | inl front ↦ read_still readings last reading.word reading.value (once reading front)
   | inr (inl e) ↦ subst (λ (r : Reading ℕ). value_read (readings ++ last ∷ []) r.word ≡ Some r.value) (sym e) (read_new readings last unread)
   | inr (inr none) ↦ absurd none
 ])
 
--- what stands at a place of a list is one of its items
+-- what is at a place of a list is one of its items
 item_within : (items : List (Reading ℕ)) (at : ℕ) (other : Reading ℕ) → at < length items → IsIn (get_or items at other) items
 item_within [] at other below = absurd (omega arith)
 item_within (first ∷ items) zero other below = inl refl
 item_within (first ∷ items) (suc at) other below = inr (item_within items at other (omega arith))
 
--- a reading of a word, wherever it stands, is what was read in it
-pub read_at_place : (readings : List (Reading ℕ)) (at word : ℕ) (other : Reading ℕ) → AreReadOnce readings → at < length readings → (get_or readings at other).word ≡ word → Some (get_or readings at other).value ≡ value_read readings word
+-- a reading of a word, wherever it is, is what was read in that word
+pub read_at_place : (readings : List (Reading ℕ)) (at word : ℕ) (other : Reading ℕ) → HaveOneValue readings → at < length readings → (get_or readings at other).word ≡ word → Some (get_or readings at other).value ≡ value_read readings word
 read_at_place readings at word other once below here =
     sym (once (get_or readings at other) (item_within readings at other below)) ∙ ap (value_read readings) here
 
--- what was read in a word stands where its first reading does
+-- what was read in a word is in its first reading
 pub read_there : (readings : List (Reading ℕ)) (word : ℕ) → value_read readings word ≡ option_and_then (λ place. option_map (λ (r : Reading ℕ). r.value) (slice_get readings place)) (position (λ (r : Reading ℕ). r.word == word) readings)
 unfolding value_read
 read_there readings word =

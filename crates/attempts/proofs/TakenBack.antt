@@ -1,4 +1,4 @@
--- what was read, but for the last readings
+-- what was read, without the last readings
 use Rattle.std.proofs.Common.{◌≡◌, ℕ, zero, suc, Bool, true, false, List, [], ◌∷◌, refl, sym, ◌∙◌, ap, inl, inr}
 use Rattle.std.specs.Prelude.{◌⊎◌, ◌==◌, Option, Some, None, find, if◌then◌else◌, option_map, take}
 use Rattle.std.proofs.lemmas.Bool.{eq-eqb}
@@ -7,7 +7,7 @@ use Rattle.turns.specs.Script.{value_read}
 use Rattle.turns.specs.Seen.{AreReadWords}
 use Rattle.turns.specs.declared.reading.Reading.{Reading}
 use Rattle.attempts.specs.Marks.{AreMarked}
-use Rattle.attempts.specs.Points.{AreReadOnce}
+use Rattle.attempts.specs.Points.{HaveOneValue}
 
 -- what is read among the first readings is read, if it is read there at all
 read_first : (n : ℕ) (readings : List (Reading ℕ)) (word : ℕ) → (value_read (take n readings) word ≡ None) ⊎ (value_read (take n readings) word ≡ value_read readings word)
@@ -23,7 +23,7 @@ read_first (suc n) (reading ∷ readings) word = at (reading.word == word) (read
   at true later = inr refl
   at false later = later
 
--- what stands among them is read there
+-- a word that has a reading among these was read there
 read_of_first : (readings : List (Reading ℕ)) (reading : Reading ℕ) → IsIn reading readings → (value : ℕ) × (value_read readings reading.word ≡ Some value)
 unfolding value_read
 read_of_first [] reading among = absurd among
@@ -44,7 +44,7 @@ among_first (suc n) [] reading among = absurd among
 among_first (suc n) (other ∷ readings) reading (inl same) = inl same
 among_first (suc n) (other ∷ readings) reading (inr there) = inr (among_first n readings reading there)
 
-pub once_first : (n : ℕ) (readings : List (Reading ℕ)) → AreReadOnce readings → AreReadOnce (take n readings)
+pub once_first : (n : ℕ) (readings : List (Reading ℕ)) → HaveOneValue readings → HaveOneValue (take n readings)
 once_first n readings once reading among =
     let read = read_of_first (take n readings) reading among in
     elim (read_first n readings reading.word) [

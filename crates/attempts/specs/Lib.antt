@@ -1,10 +1,10 @@
 pub mod SystemWith
 pub mod Points
-pub mod Standing
-pub mod Taken
-pub mod Steps
+pub mod Validity
+pub mod Applied
+pub mod Answers
 pub mod Counting
-pub mod Live
+pub mod WalkOnWords
 pub mod Of
 pub mod Marks
 pub mod Running

@@ -5,8 +5,8 @@ use Rattle.turns.specs.System.{System, SystemOver, Whole, system_of}
 use Rattle.turns.specs.declared.operation.Operation.{Operation}
 
 -- a system of jobs whose lock words are shared by preference, over the types of its locks, jobs,
--- replies, effects and decisions: all that it is but how two locks are told apart, and what a
--- decision's reply and effects are
+-- replies, effects and decisions: all of it but the test of two locks, and the reply and effects
+-- of a decision
 pub record SystemWith (Lock Job Reply Effect Decision : Type 0) : Type 1 where
   pub IsJob : Job → Type 0
   pub State : Type 0
@@ -27,7 +27,7 @@ pub record SystemWith (Lock Job Reply Effect Decision : Type 0) : Type 1 where
 
 module _ {Lock Job Reply Effect Decision : Type 0} (same : Lock → Lock → Bool)
     (reply_of : Decision → Reply) (effects_of : Decision → List Effect) where
-  -- the system, by these
+  -- the system, completed with these parts
   abbrev pub over_with : SystemWith Lock Job Reply Effect Decision
       → SystemOver Lock Job Reply Effect
   over_with S = record {
@@ -57,10 +57,11 @@ module _ {Lock Job Reply Effect Decision : Type 0} (same : Lock → Lock → Boo
   abbrev pub system_with : SystemWith Lock Job Reply Effect Decision → System
   system_with S = system_of (over_with S)
 
--- what a system is beside these
-abbrev pub with : {Lock Job Reply Effect : Type 0} → (O : SystemOver Lock Job Reply Effect)
+-- a system without these parts
+abbrev pub without_decisions : {Lock Job Reply Effect : Type 0} →
+    (O : SystemOver Lock Job Reply Effect)
     → SystemWith Lock Job Reply Effect O.Decision
-with O = record {
+without_decisions O = record {
   IsJob = O.IsJob;
   State = O.State;
   whole = O.whole;

@@ -3,53 +3,60 @@ ghost use Rattle.turns.specs.Attempt.{asked_in, rest_of, turn_in};
 ghost use Rattle.turns.specs.Script.{value_read};
 ghost use Rattle.turns.specs.Seen.{AreReadWords};
 ghost use Rattle.turns.specs.Outcomes.{is_given_up as is_given_up_in};
-ghost use Rattle.attempts.specs.Counting.{count_in, counted, counted_by, has_made_none};
-ghost use Rattle.attempts.specs.Live.{WantsNext};
-ghost use Rattle.attempts.specs.Running.{GoesFarEnough};
-ghost use Rattle.attempts.specs.Standing.{begun_at};
-ghost use Rattle.attempts.specs.Taken.{gone_on};
+ghost use Rattle.attempts.specs.Counting.{count_in, counted, counted_by, is_at_beginning};
+ghost use Rattle.attempts.specs.WalkOnWords.{WantsNext};
+ghost use Rattle.attempts.specs.Running.{RunsFarEnough};
+ghost use Rattle.attempts.specs.Validity.{begun_at};
+ghost use Rattle.attempts.specs.Applied.{continued};
 
 use crate::scripts::Scripts;
 use crate::seen::Seen;
 use std::marker::Model;
 use turns::{Phase, Reading, Wanted};
 
-/// One step more is counted, as far as `u32` counts.
+/// The count after one more step. It saturates.
 fn next_count(count: u32) -> u32
     ensures { result ≡ counted count }
 {
     count.saturating_add(1)
 }
 
-/// What an actor knows of its job since it last began it. It has a fixed size, and holds no borrow
-/// of the setting.
+/// An attempt at a job: what its actor knows of the job since it last began. It has a fixed size,
+/// and doesn't borrow the setting.
+///
+/// Its phase tells what the next step is for. Walks lead it through the job's script, from lock to
+/// lock and word to word, until it decides. Then it takes its turn, makes the decision's effects
+/// and frees its locks. An attempt that is denied a lock withdraws its request, frees its locks
+/// and begins anew.
 #[derive(Debug, Drop)]
 pub struct Attempt<L, J, D, P, const READINGS: usize, const HELD: usize> {
     pub(crate) seen: Seen<L, READINGS, HELD>,
     pub(crate) job: J,
+    /// What the walks have found, for the next one to resume from.
     pub(crate) point: P,
     pub(crate) phase: Phase<L, usize>,
     pub(crate) decision: Option<D>,
-    /// How many of the decision's effects are made.
+    /// The number of the decision's effects that are made.
     pub(crate) made: usize,
+    /// The number of steps so far. Saturates.
     pub(crate) count: u32,
 }
 
-/// The attempts at jobs that are given so.
+/// The attempts at the jobs of `S`.
 pub type AttemptOf<S, const READINGS: usize, const HELD: usize> = Attempt<
     <S as Scripts<READINGS, HELD>>::Lock,
     <S as Scripts<READINGS, HELD>>::Job,
     <S as Scripts<READINGS, HELD>>::Decision,
-    <S as Scripts<READINGS, HELD>>::Point,
+    <S as Scripts<READINGS, HELD>>::ResumePoint,
     READINGS,
     HELD,
 >;
 
 impl<L, J, D, P, const READINGS: usize, const HELD: usize> Model
     for Attempt<L, J, D, P, READINGS, HELD> {
-    ghost use Rattle.attempts.specs.Standing.{Program};
+    ghost use Rattle.attempts.specs.Validity.{AttemptView};
 
-    ghost Value = { Program L J D P };
+    ghost Value = { AttemptView L J D P };
 
     ghost view = { λ a. record {
       job = a.job;
@@ -71,7 +78,8 @@ impl<
     const READINGS: usize,
     const HELD: usize,
 > Attempt<L, J, D, P, READINGS, HELD> {
-    /// An attempt at a job that seizes this lock first, from this point on.
+    /// An attempt that has made no step: it requests the lock `first` next, and its first walk
+    /// resumes from `point`.
     pub(crate) fn new(job: J, first: L, point: P) -> Self
         ensures { result ≡ begun_at job first point }
     {
@@ -86,7 +94,7 @@ impl<
         }
     }
 
-    /// As `new`, in the place of an attempt at another job.
+    /// As `new`, in place of an attempt at another job.
     pub(crate) fn renew(&mut self, job: J, first: L, point: P)
         ensures { self.new ≡ begun_at job first point }
     {
@@ -95,18 +103,18 @@ impl<
         self.begin_anew(first, point);
     }
 
-    /// The job from its beginning, with nothing held.
+    /// Begins the same job anew, with nothing held. The count stays.
     pub(crate) fn begin_anew(&mut self, first: L, point: P)
         ensures { self.new
             ≡ record (begun_at self.old.job first point) { count = self.old.count } }
     {
-        self.seen.free_all();
+        self.seen.clear_locks();
         self.phase = Phase::Requests(first);
         self.point = point;
         self.forget();
     }
 
-    /// Nothing read or decided is remembered.
+    /// Drops all that was read and decided.
     pub(crate) fn forget(&mut self)
         ensures { self.new ≡ record self.old { readings = []; decision = None; made = 0 } }
     {
@@ -115,8 +123,8 @@ impl<
         self.made = 0;
     }
 
-    /// Its request for this lock is to be withdrawn.
-    pub(crate) fn put_off(&mut self, lock: L)
+    /// Gives up this lock: drops all that was read and decided, and withdraws the request next.
+    pub(crate) fn deny(&mut self, lock: L)
         ensures { self.new
             ≡ record self.old {
               readings = [];
@@ -129,24 +137,25 @@ impl<
         self.forget();
     }
 
-    pub(crate) fn free_first(&mut self)
+    /// Removes the lock seized first, if any is held.
+    pub(crate) fn drop_first_lock(&mut self)
         ensures { self.new ≡ record self.old { held = rest_of self.old.held } }
     {
-        self.seen.free_first();
+        self.seen.drop_first_lock();
     }
 
-    /// It has decided: its turn is next.
+    /// The walk has decided: the attempt takes its turn next.
     pub(crate) fn decide(&mut self, decision: D)
-        ensures { self.new ≡ gone_on self.old (Ok decision) }
+        ensures { self.new ≡ continued self.old (Ok decision) }
     {
         self.phase = Phase::Turns;
         self.decision = Some(decision);
         self.made = 0;
     }
 
-    /// What its walk wants is next.
+    /// The walk needs a lock or a word: the attempt requests or tests that next.
     pub(crate) fn want(&mut self, wanted: Wanted<L, usize>)
-        ensures { self.new ≡ gone_on self.old (Err wanted) }
+        ensures { self.new ≡ continued self.old (Err wanted) }
     {
         self.phase = match wanted {
             Wanted::Seize(lock) => Phase::Requests(lock),
@@ -154,9 +163,9 @@ impl<
         };
     }
 
-    /// Goes on with what its walk came to.
-    pub fn go_on(&mut self, found: Result<D, Wanted<L, usize>>)
-        ensures { self.new ≡ gone_on self.old found }
+    /// Continues with the result of the walk: the turn is next, or what the walk needs.
+    pub fn continue_with(&mut self, found: Result<D, Wanted<L, usize>>)
+        ensures { self.new ≡ continued self.old found }
     {
         match found {
             Ok(decision) => self.decide(decision),
@@ -164,8 +173,8 @@ impl<
         }
     }
 
-    /// The lock that it requests or seizes next.
-    pub fn to_ask(&self) -> Option<L>
+    /// The lock that the next step requests or seizes.
+    pub fn lock_to_acquire(&self) -> Option<L>
         ensures { result ≡ asked_in self.now.phase }
     {
         let phase = self.phase;
@@ -176,11 +185,12 @@ impl<
         }
     }
 
-    /// What it wants next, where nothing of that is done yet.
+    /// The lock that the attempt requests next, or the word that it tests next. None in other
+    /// phases.
     pub(crate) fn wants(&self) -> Option<Wanted<L, usize>>
         ensures some { IfSome result (λ wanted. WantsNext self.now.phase) }
         ensures none { IfNone result ((lock_word : L → ℕ) (words : List ℕ) (most : ℕ) →
-            GoesFarEnough lock_word words most 0 self.now.phase self.now.phase) }
+            RunsFarEnough lock_word words most 0 self.now.phase self.now.phase) }
     {
         let phase = self.phase;
         match phase {
@@ -190,6 +200,7 @@ impl<
         }
     }
 
+    /// Adds a lock that was seized.
     pub fn hold(&mut self, lock: L)
         requires { length self.old.held < HELD }
         ensures { self.new ≡ record self.old { held = self.old.held ++ lock ∷ [] } }
@@ -197,15 +208,15 @@ impl<
         self.seen.hold(lock);
     }
 
-    pub(crate) fn note(&mut self, reading: Reading<usize>)
+    pub(crate) fn add_reading(&mut self, reading: Reading<usize>)
         requires room { length self.old.readings < READINGS }
         requires unread { value_read self.old.readings reading.word ≡ None }
         ensures { self.new ≡ record self.old { readings = self.old.readings ++ reading ∷ [] } }
     {
-        self.seen.note(reading);
+        self.seen.add_reading(reading);
     }
 
-    /// How many words were read, and how many locks are held.
+    /// The numbers of readings and of locks held.
     pub fn counts(&self) -> (usize, usize)
         ensures readings { result.0 ≡ length self.now.readings }
         ensures locks { result.1 ≡ length self.now.held }
@@ -213,22 +224,23 @@ impl<
         self.seen.counts()
     }
 
-    /// Whether it has decided.
+    /// Whether the attempt has decided.
     pub fn has_decided(&self) -> bool
         ensures { result ≡ is_some self.now.decision }
     {
         self.decision.is_some()
     }
 
-    /// Takes back all but the first so many readings.
+    /// Keeps the first `kept` readings.
     pub fn keep_readings(&mut self, kept: usize)
         ensures { self.new ≡ record self.old { readings = take kept self.old.readings } }
     {
         self.seen.keep_readings(kept);
     }
 
-    /// Has come by so many readings and locks alone, and goes on from this point.
-    pub fn go_back(&mut self, readings: usize, locks: usize, start: P)
+    /// Keeps the first `readings` readings and the first `locks` locks. The next walk resumes from
+    /// `start`.
+    pub fn truncate(&mut self, readings: usize, locks: usize, start: P)
         ensures { self.new
             ≡ record self.old {
               readings = take readings self.old.readings;
@@ -241,25 +253,25 @@ impl<
         self.point = start;
     }
 
-    /// It has decided nothing, and tests this word next; it goes on from this point.
-    pub fn wait_for(&mut self, word: usize, beginning: P)
+    /// Drops the decision, and tests this word next. The next walk resumes from `new_point`.
+    pub fn test_next(&mut self, word: usize, new_point: P)
         ensures { self.new
             ≡ record self.old {
               phase = Phase.Tests word;
               decision = None;
               made = 0;
-              point = beginning;
+              point = new_point;
             } }
     {
         self.phase = Phase::Tests(word);
         self.decision = None;
         self.made = 0;
-        self.point = beginning;
+        self.point = new_point;
     }
 
-    /// Whether it has made no step yet.
+    /// Whether the attempt is at its beginning: it requests a lock next, and holds none.
     fn is_fresh(&self) -> bool
-        ensures { result ≡ has_made_none self.now.phase self.now.held }
+        ensures { result ≡ is_at_beginning self.now.phase self.now.held }
     {
         let phase = self.phase;
         if let Phase::Requests(_) = phase {
@@ -269,7 +281,7 @@ impl<
         }
     }
 
-    /// One step more is counted; what begins anew counts from 0.
+    /// Counts one more step, or resets the count if the attempt is at its beginning again.
     pub(crate) fn count_step(&mut self)
         ensures { self.new
             ≡ record self.old {
@@ -283,13 +295,14 @@ impl<
         };
     }
 
-    /// So many steps more are counted.
+    /// Counts `made` more steps.
     pub fn count_steps(&mut self, made: u32)
         ensures { self.new ≡ record self.old { count = counted_by made self.old.count } }
     {
         self.count = self.count.saturating_add(made);
     }
 
+    /// Resets the count if the attempt is at its beginning again.
     pub(crate) fn count_beginning(&mut self)
         ensures { self.new
             ≡ record self.old { count = count_in self.old.phase self.old.held self.old.count } }
@@ -299,14 +312,14 @@ impl<
         }
     }
 
-    /// What it has decided, once it has.
+    /// The decision, once there is one.
     pub fn decision(&self) -> Option<&D>
         ensures { option_copied result ≡ self.now.decision }
     {
         self.decision.as_ref()
     }
 
-    /// What its walks have found.
+    /// What the walks have found: the next one resumes from there.
     pub fn point(&self) -> &P
         ensures { result.now ≡ self.now.point }
     {
@@ -319,14 +332,14 @@ impl<
         &self.job
     }
 
-    /// The locks that it holds, from the first one on.
+    /// The locks held, in the order of seizing.
     pub fn held(&self) -> &[L]
         ensures { result.now ≡ self.now.held }
     {
         self.seen.held()
     }
 
-    /// The number of the turn, once it is taken.
+    /// The number of the turn, once the attempt has taken it.
     pub fn turn(&self) -> Option<u64>
         ensures { result ≡ turn_in self.now.phase }
     {
@@ -338,7 +351,8 @@ impl<
         }
     }
 
-    /// Whether it was given up, and has a request to withdraw or locks to free.
+    /// Whether the attempt is giving back: it was given up, and has a request to withdraw or locks
+    /// to free.
     pub fn is_given_up(&self) -> bool
         ensures { result ≡ is_given_up_in self.now.phase }
     {
@@ -350,31 +364,32 @@ impl<
         }
     }
 
-    /// Its phase: what its next step is for.
+    /// The phase, which tells what the next step is for.
     pub fn phase(&self) -> Phase<L, usize>
         ensures { result ≡ self.now.phase }
     {
         self.phase
     }
 
-    /// The reading at a place among those that it has made, from 0 on.
+    /// The reading at `place`, counted from 0 in the order of reading.
     pub fn reading(&self, place: usize) -> Option<Reading<usize>>
         ensures { result ≡ slice_get self.now.readings place }
     {
         self.seen.reading(place)
     }
 
-    /// The readings from this place on.
+    /// The readings from `place` on. Empty past the last one.
     pub fn readings_from(&self, place: usize) -> &[Reading<usize>]
         ensures readings { result.now ≡ drop place self.now.readings }
         ensures words { AreReadWords self.now.readings }
     {
-        // Called for its clause alone.
+        // Called for its contract alone.
         self.seen.fits_words();
         self.seen.readings_from(place)
     }
 
-    /// The steps of this attempt so far. It stays at `u32::MAX` once there.
+    /// The number of steps so far, counted from 0 each time the attempt begins anew. Saturates at
+    /// `u32::MAX`.
     pub fn count(&self) -> u32
         ensures { result ≡ self.now.count }
     {

@@ -1,24 +1,24 @@
-//! An actor's attempt at a job, at run time, for any jobs of `turns` that are given by a walk.
+//! An attempt at a job as a state machine, for any jobs of `turns` that are given as code
+//! (`Scripts`). `next` tells the attempt's next step; the caller makes that step, and `apply`
+//! takes the answer. `run` makes steps by itself, on words that nobody else changes meanwhile.
 #![tactic(auto)]
 
+pub use answering::{apply, to_seize, walk_by_steps, walk_on};
 pub use attempt::{Attempt, AttemptOf};
-pub use closing::take_close;
+pub use next_step::{is_done, next, next_effect, next_past_turn, next_without_lock, outcome};
+pub use past_turn::apply_past_turn;
 pub use running::run;
 pub use scripts::Scripts;
 pub use seen::Seen;
-pub use showing::{is_done, next, next_effect, next_past_turn, next_sure, outcome};
 pub use starting::{begin, begin_next, restart};
-pub use step::Step;
-pub use taking::{take, to_seize, walk_by_steps, walk_on};
 
+mod answering;
 mod attempt;
-mod closing;
 pub mod laws;
+mod next_step;
+mod past_turn;
 mod readings;
 mod running;
 mod scripts;
 mod seen;
-mod showing;
 mod starting;
-mod step;
-mod taking;

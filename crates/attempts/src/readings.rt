@@ -3,18 +3,18 @@ ghost use Rattle.std.specs.List.{position};
 ghost use Rattle.turns.specs.Script.{value_read};
 ghost use Rattle.turns.specs.Seen.{AreReadWords};
 ghost use Rattle.attempts.specs.Marks.{has_mark as has_mark_of};
-ghost use Rattle.attempts.specs.Points.{AreReadOnce};
+ghost use Rattle.attempts.specs.Points.{HaveOneValue};
 
 use arrayvec::ArrayVec;
 use std::marker::Model;
 use turns::Reading;
 
-/// What an attempt has read, in the order of reading. No word is read twice.
+/// The read set of an attempt, in the order of reading. No word is read twice.
 #[derive(Debug, Drop)]
 pub struct Readings<const MOST: usize> {
     items: ArrayVec<Reading<usize>, MOST>,
-    /// A mark for each word that was read, which it shares with every 64th word. Most words that
-    /// weren't read have none, so they needn't be looked for.
+    /// A filter: bit `word % 64` is set for each word that was read. Most words that weren't read
+    /// have a bit that is 0, and need no search.
     marks: u64,
 }
 
@@ -23,13 +23,13 @@ impl<const MOST: usize> Model for Readings<MOST> {
     ghost use Rattle.turns.specs.Seen.{AreReadWords};
     ghost use Rattle.turns.specs.declared.reading.Reading.{Reading};
     ghost use Rattle.attempts.specs.Marks.{AreMarked};
-    ghost use Rattle.attempts.specs.Points.{AreReadOnce};
+    ghost use Rattle.attempts.specs.Points.{HaveOneValue};
 
     ghost Value = { List (Reading ℕ) };
 
     ghost view = { λ a. a.items.items };
 
-    ghost invariant = { λ a. AreReadOnce a.items.items × AreReadWords a.items.items
+    ghost invariant = { λ a. HaveOneValue a.items.items × AreReadWords a.items.items
         × AreMarked a.items.items a.marks };
 }
 
@@ -45,7 +45,7 @@ fn has_mark(marks: u64, word: usize) -> bool
     (marks >> (word % 64)) % 2 == 1
 }
 
-/// Where the first reading of the word stands.
+/// The index of the first reading of the word.
 fn place_in(readings: &[Reading<usize>], word: usize) -> Option<usize>
     ensures place { result ≡ position (λ reading. reading.word == word) readings.now }
     ensures bound { IfSome result (λ place. place < length readings.now) }
@@ -87,7 +87,7 @@ impl<const MOST: usize> Readings<MOST> {
         self.marks |= mark_of(word);
     }
 
-    /// Where the word's reading stands, if it was read.
+    /// The index of the word's reading, if it was read.
     fn place_of(&self, word: usize) -> Option<usize>
         ensures place { value_read self.now word
             ≡ option_and_then (λ place.
@@ -101,7 +101,7 @@ impl<const MOST: usize> Readings<MOST> {
         }
     }
 
-    /// What was read in the word, if it was read.
+    /// The value read in the word, if it was read.
     pub fn find(&self, word: usize) -> Option<u64>
         ensures { result ≡ value_read self.now word }
     {
@@ -109,7 +109,7 @@ impl<const MOST: usize> Readings<MOST> {
         value_at(self.items.as_slice(), found)
     }
 
-    /// The same, and from there on the place that follows it.
+    /// As `find`. If the word was read, sets `place` to the index after its reading.
     pub fn find_on(&self, word: usize, place: &mut usize) -> Option<u64>
         ensures { result ≡ value_read self.now word }
     {
@@ -119,14 +119,14 @@ impl<const MOST: usize> Readings<MOST> {
         value_at(items, found)
     }
 
-    /// Takes back all but the first so many.
+    /// Keeps the first `kept` readings. The marks of the others stay, which is harmless.
     pub fn keep(&mut self, kept: usize)
         ensures { self.new ≡ take kept self.old }
     {
         self.items.truncate(kept);
     }
 
-    /// So many words may still be read.
+    /// How many more readings there is room for.
     pub fn room(&self) -> usize
         ensures { result ≡ MOST - length self.now }
     {
@@ -135,7 +135,7 @@ impl<const MOST: usize> Readings<MOST> {
 
     pub fn as_slice(&self) -> &[Reading<usize>]
         ensures value { result.now ≡ self.now }
-        ensures once { AreReadOnce self.now }
+        ensures once { HaveOneValue self.now }
         ensures words { AreReadWords self.now }
     {
         self.items.as_slice()

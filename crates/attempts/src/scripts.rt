@@ -3,22 +3,22 @@ ghost use Rattle.std.specs.Prelude.{◌≡◌, ◌<◌, ◌+◌, ◌^◌, Err, L
 use crate::seen::Seen;
 use turns::Wanted;
 
-/// Jobs by their scripts, of which none tests more than `READINGS` words or seizes more than `HELD`
+/// Jobs given as code. No script tests more than `READINGS` words or seizes more than `HELD`
 /// locks.
 ///
-/// A script is written as a walk: straight code that asks `Seen` for each lock and each word, and
-/// leaves by `?` where it lacks one. An attempt walks again with each thing that it comes by. What
-/// a walk has made of what was read it may keep in its point, and the next one has it from there.
-/// Where nobody else makes steps in between, a walk is handed the words, and comes by what it lacks
-/// by steps of its own.
+/// A script is written as a walk: straight-line code that asks `Seen` for each lock and each word,
+/// and returns early by `?` when one is missing. The attempt then acquires it by steps of its own,
+/// and walks again from the script's start. A walk may keep intermediate results in its resume
+/// point, so that later walks needn't compute them again. If nobody else makes steps meanwhile, a
+/// walk can be given the words themselves; then it seizes and reads by itself what is missing.
 pub trait Scripts<const READINGS: usize, const HELD: usize> {
     ghost use Rattle.turns.specs.Script.{walk};
     ghost use Rattle.turns.specs.Seen.{AreReadWords, Seen as WhatIsSeen};
-    ghost use Rattle.attempts.specs.Live.{live};
+    ghost use Rattle.attempts.specs.WalkOnWords.{walk_on_words};
     ghost use Rattle.attempts.specs.Points.{GoesOnTo};
     ghost use Rattle.attempts.specs.SystemWith.{SystemWith};
 
-    /// What tells the systems of a family apart, as a plan.
+    /// What a system depends on, like an office's plan. `()` if there is only one system.
     type Setting;
 
     type Lock: Copy + Default + PartialEq + Drop;
@@ -27,13 +27,18 @@ pub trait Scripts<const READINGS: usize, const HELD: usize> {
 
     type Reply: Drop;
 
+    /// A write that a job makes after its turn, on one word.
     type Effect: Copy + Drop;
 
+    /// What a script ends with: the reply and the effects follow from it.
     type Decision: Drop;
 
-    /// What walks have found so far. Where they always begin anew it is `()`.
-    type Point: Drop;
+    /// What earlier walks have found, for the next one to resume from. `()` if each walk starts
+    /// from scratch.
+    type ResumePoint: Drop;
 
+    // The system of `turns` for a setting, without its lock test and its maps of decisions: these
+    // are `PartialEq`, `reply_of` and `effects_of`.
     ghost system: { Self.Setting
         → SystemWith Self.Lock Self.Job Self.Reply Self.Effect Self.Decision };
 
@@ -41,50 +46,57 @@ pub trait Scripts<const READINGS: usize, const HELD: usize> {
 
     ghost effects_of: { Self.Decision → List Self.Effect };
 
+    // The settings under which walks may be run.
     ghost IsSetting: { Self.Setting → Type 0 };
 
-    // What a job's point says is so by what its attempt has come by.
-    ghost Knows: { Self.Setting → Self.Job → Self.Point → WhatIsSeen Self.Lock → Type 0 };
+    // Whether what a resume point says of its job is true, given what the attempt holds and has
+    // read.
+    ghost ResumePointIsValid: { Self.Setting → Self.Job → Self.ResumePoint → WhatIsSeen Self.Lock
+        → Type 0 };
 
-    /// The lock that a job seizes first, whatever the setting.
+    /// The lock that the job seizes first. It doesn't depend on the setting.
     fn first(job: &Self::Job) -> Self::Lock
         ensures { (setting : Self.Setting) → result ≡ (system setting).first job.now };
 
-    /// The point of a job that has found nothing yet, whatever the setting.
-    fn start(job: &Self::Job) -> Self::Point
+    /// The resume point of a walk that has found nothing yet. It is valid whatever was seen.
+    fn start(job: &Self::Job) -> Self::ResumePoint
         ensures { (setting : Self.Setting) (seen : WhatIsSeen Self.Lock)
-            → Knows setting job.now result seen };
+            → ResumePointIsValid setting job.now result seen };
 
-    /// Goes through a job by what an attempt has come by, and by what it comes by itself of these
-    /// words: to the job's decision, or to what it wants next.
+    /// Runs the job's script from its start on what the attempt has seen, to its decision or to
+    /// the lock or word that it needs next (`Err`). As long as `seen` allows steps, the walk
+    /// seizes free locks and reads words by itself, in `words`. It may update `point` for the next
+    /// walk.
     fn walk(
         setting: &Self::Setting,
         job: &Self::Job,
-        point: &mut Self::Point,
+        point: &mut Self::ResumePoint,
         seen: &mut Seen<Self::Lock, READINGS, HELD>,
         words: &mut [u64],
     ) -> Result<Self::Decision, Wanted<Self::Lock, usize>>
         requires setting { IsSetting setting.now }
         requires job { (system setting.now).IsJob job.now }
         requires read { AreReadWords seen.old.seen.readings }
-        requires knows { Knows setting.now job.now point.old seen.old.seen }
+        requires valid_point { ResumePointIsValid setting.now job.now point.old seen.old.seen }
         ensures walk { record { found = result; course = seen.new; words = words.new }
-            ≡ live Self.Lock.eq (system setting.now).lock_word READINGS HELD (λ _ value. value)
+            ≡ walk_on_words Self.Lock.eq (system setting.now).lock_word READINGS HELD
+            (λ _ value. value)
             ((system setting.now).script job.now) seen.old words.old }
-        ensures knows { Knows setting.now job.now point.new seen.new.seen };
+        ensures valid_point { ResumePointIsValid setting.now job.now point.new seen.new.seen };
 
-    /// The word that is tested next once the one that a walk wants was read, whatever that shows,
-    /// where this is known without a walk.
+    /// The walk needs `word` next. Returns the word that it tests after that one, if that is the
+    /// same whatever `word` has and is known without a walk. Returning None is always safe, only
+    /// slower.
     fn following(
         setting: &Self::Setting,
         job: &Self::Job,
-        point: &Self::Point,
+        point: &Self::ResumePoint,
         seen: &Seen<Self::Lock, READINGS, HELD>,
         word: usize,
     ) -> Option<usize>
         requires setting { IsSetting setting.now }
         requires job { (system setting.now).IsJob job.now }
-        requires knows { Knows setting.now job.now point.now seen.now.seen }
+        requires valid_point { ResumePointIsValid setting.now job.now point.now seen.now.seen }
         requires wants { walk Self.Lock.eq seen.now.seen ((system setting.now).script job.now)
             ≡ Err (Wanted.Test word) }
         ensures { IfSome result
@@ -93,7 +105,7 @@ pub trait Scripts<const READINGS: usize, const HELD: usize> {
     fn reply(decision: &Self::Decision) -> Self::Reply
         ensures { result ≡ reply_of decision.now };
 
-    /// The effect at a place among those of a decision, from 0 on.
+    /// The effect at `place` among those of the decision, counted from 0. None past the last one.
     fn effect(decision: &Self::Decision, place: usize) -> Option<Self::Effect>
         ensures effect { result ≡ slice_get (effects_of decision.now) place }
         ensures more { IfSome result (λ effect. place + 1 < 2 ^ 64) };

@@ -1,129 +1,132 @@
-//! What an attempt begins with, and comes back to.
+//! How an attempt begins, gives back what it holds, and begins anew.
 
 ghost use Rattle.std.specs.Prelude.{◌≡◌};
-ghost use Rattle.turns.specs.Attempt.{begin as begin_of, forgotten, freed, restarted};
+ghost use Rattle.turns.specs.Attempt.{begin as begin_of, forgotten, giving_back, restarted};
 ghost use Rattle.turns.specs.Seen.{Seen};
 ghost use Rattle.attempts.specs.Counting.{count_in};
-ghost use Rattle.attempts.specs.Of.{AreScripts, PointHolds, Stands, attempt_of, system_of};
+ghost use Rattle.attempts.specs.Of.{AreScripts, ResumePointHolds, IsValid, attempt_of, system_of};
 
 use crate::attempt::{Attempt, AttemptOf};
 use crate::scripts::Scripts;
 use turns::Phase;
 
-/// An attempt that has made no step, whatever the setting will be.
+/// An attempt that has made no step. It doesn't depend on the setting.
 pub fn begin<S: Scripts<READINGS, HELD>, const READINGS: usize, const HELD: usize>(
     job: S::Job,
 ) -> AttemptOf<S, READINGS, HELD>
     ensures begins { (setting : S.Setting) → attempt_of S.Scripts result
         ≡ begin_of (system_of S.Lock.eq S.Scripts setting) job }
     ensures count { result.count ≡ 0 }
-    ensures stands { (setting : S.Setting) →
+    ensures valid { (setting : S.Setting) →
         AreScripts S.Lock.eq S.Scripts setting → (S.system setting).IsJob job →
-        Stands S.Lock.eq S.Scripts setting result }
+        IsValid S.Lock.eq S.Scripts setting result }
     ensures point { (setting : S.Setting) (seen : Seen S.Lock) →
-        S.Knows setting job result.point seen }
+        S.ResumePointIsValid setting job result.point seen }
 {
     let lock = S::first(&job);
     let point = S::start(&job);
     Attempt::new(job, lock, point)
 }
 
-/// The same, in the place of an attempt at another job.
+/// As `begin`, in place of an attempt at another job.
 pub fn begin_next<S: Scripts<READINGS, HELD>, const READINGS: usize, const HELD: usize>(
-    program: &mut AttemptOf<S, READINGS, HELD>,
+    attempt: &mut AttemptOf<S, READINGS, HELD>,
     job: S::Job,
 )
-    ensures begins { (setting : S.Setting) → attempt_of S.Scripts program.new
+    ensures begins { (setting : S.Setting) → attempt_of S.Scripts attempt.new
         ≡ begin_of (system_of S.Lock.eq S.Scripts setting) job }
-    ensures count { program.new.count ≡ 0 }
-    ensures stands { (setting : S.Setting) →
+    ensures count { attempt.new.count ≡ 0 }
+    ensures valid { (setting : S.Setting) →
         AreScripts S.Lock.eq S.Scripts setting → (S.system setting).IsJob job →
-        Stands S.Lock.eq S.Scripts setting program.new }
+        IsValid S.Lock.eq S.Scripts setting attempt.new }
 {
     let lock = S::first(&job);
     let point = S::start(&job);
-    program.renew(job, lock, point);
+    attempt.renew(job, lock, point);
 }
 
+/// Begins the same job anew, with nothing held.
 fn begin_again<S: Scripts<READINGS, HELD>, const READINGS: usize, const HELD: usize>(
-    program: &mut AttemptOf<S, READINGS, HELD>,
+    attempt: &mut AttemptOf<S, READINGS, HELD>,
 )
     ensures begins { (setting : S.Setting) → let O = system_of S.Lock.eq S.Scripts setting in
-        attempt_of S.Scripts program.new ≡ begin_of O program.old.job }
+        attempt_of S.Scripts attempt.new ≡ begin_of O attempt.old.job }
     ensures point { (setting : S.Setting) (seen : Seen S.Lock) →
-        S.Knows setting program.new.job program.new.point seen }
-    ensures count { program.new.count ≡ program.old.count }
+        S.ResumePointIsValid setting attempt.new.job attempt.new.point seen }
+    ensures count { attempt.new.count ≡ attempt.old.count }
 {
-    let lock = S::first(&program.job);
-    let point = S::start(&program.job);
-    program.begin_anew(lock, point);
+    let lock = S::first(&attempt.job);
+    let point = S::start(&attempt.job);
+    attempt.begin_anew(lock, point);
 }
 
-/// Goes on to free what is held, or to begin anew.
+/// Frees the locks next, or begins anew at once if none is held.
 pub(crate) fn give_back<S: Scripts<READINGS, HELD>, const READINGS: usize, const HELD: usize>(
-    program: &mut AttemptOf<S, READINGS, HELD>,
+    attempt: &mut AttemptOf<S, READINGS, HELD>,
 )
     ensures frees { (setting : S.Setting) → let O = system_of S.Lock.eq S.Scripts setting in
-        attempt_of S.Scripts program.new
-        ≡ freed O (attempt_of S.Scripts program.old) program.old.held }
-    ensures point { (setting : S.Setting) → PointHolds S.Scripts setting program.new }
-    ensures count { program.new.count ≡ program.old.count }
+        attempt_of S.Scripts attempt.new
+        ≡ giving_back O (attempt_of S.Scripts attempt.old) attempt.old.held }
+    ensures point { (setting : S.Setting) → ResumePointHolds S.Scripts setting attempt.new }
+    ensures count { attempt.new.count ≡ attempt.old.count }
 {
-    if program.seen.holds_none() {
-        begin_again::<S, READINGS, HELD>(program);
+    if attempt.seen.holds_none() {
+        begin_again::<S, READINGS, HELD>(attempt);
     } else {
-        program.phase = Phase::GivesBack;
+        attempt.phase = Phase::GivesBack;
     }
 }
 
-/// Gives up before the turn.
+/// Gives up before the turn, with no request pending: drops all that was read and decided, and
+/// gives back.
 fn give_up<S: Scripts<READINGS, HELD>, const READINGS: usize, const HELD: usize>(
-    program: &mut AttemptOf<S, READINGS, HELD>,
+    attempt: &mut AttemptOf<S, READINGS, HELD>,
 )
     ensures frees { (setting : S.Setting) → let O = system_of S.Lock.eq S.Scripts setting in
-        attempt_of S.Scripts program.new
-        ≡ freed O (forgotten (attempt_of S.Scripts program.old)) program.old.held }
-    ensures point { (setting : S.Setting) → PointHolds S.Scripts setting program.new }
-    ensures count { program.new.count ≡ program.old.count }
+        attempt_of S.Scripts attempt.new
+        ≡ giving_back O (forgotten (attempt_of S.Scripts attempt.old)) attempt.old.held }
+    ensures point { (setting : S.Setting) → ResumePointHolds S.Scripts setting attempt.new }
+    ensures count { attempt.new.count ≡ attempt.old.count }
 {
-    program.forget();
-    give_back::<S, READINGS, HELD>(program);
+    attempt.forget();
+    give_back::<S, READINGS, HELD>(attempt);
 }
 
-/// Begins anew, once all that is held is given back. Past the turn nothing changes.
-fn go_back<S: Scripts<READINGS, HELD>, const READINGS: usize, const HELD: usize>(
-    program: &mut AttemptOf<S, READINGS, HELD>,
+/// As `restart`, but keeps the count.
+fn roll_back<S: Scripts<READINGS, HELD>, const READINGS: usize, const HELD: usize>(
+    attempt: &mut AttemptOf<S, READINGS, HELD>,
 )
     ensures restarts { (setting : S.Setting) → let O = system_of S.Lock.eq S.Scripts setting in
-        attempt_of S.Scripts program.new ≡ restarted O (attempt_of S.Scripts program.old) }
-    ensures point { (setting : S.Setting) → PointHolds S.Scripts setting program.old →
-        PointHolds S.Scripts setting program.new }
-    ensures count { program.new.count ≡ program.old.count }
+        attempt_of S.Scripts attempt.new ≡ restarted O (attempt_of S.Scripts attempt.old) }
+    ensures point { (setting : S.Setting) → ResumePointHolds S.Scripts setting attempt.old →
+        ResumePointHolds S.Scripts setting attempt.new }
+    ensures count { attempt.new.count ≡ attempt.old.count }
 {
-    let phase = program.phase;
+    let phase = attempt.phase;
     match phase {
         Phase::Requests(_) | Phase::Tests(_) | Phase::Turns => {
-            give_up::<S, READINGS, HELD>(program);
+            give_up::<S, READINGS, HELD>(attempt);
         }
-        Phase::Seizes(lock, _) => program.put_off(lock),
+        Phase::Seizes(lock, _) => attempt.deny(lock),
         Phase::Withdraws(_) | Phase::GivesBack | Phase::Operates(_) => {}
     }
 }
 
-/// Begins anew, once all that is held is given back. Past the turn nothing changes.
+/// Gives up, so that the attempt begins anew once its request is withdrawn and its locks are
+/// freed. Past the turn nothing changes.
 pub fn restart<S: Scripts<READINGS, HELD>, const READINGS: usize, const HELD: usize>(
-    program: &mut AttemptOf<S, READINGS, HELD>,
+    attempt: &mut AttemptOf<S, READINGS, HELD>,
 )
     ensures restarts { (setting : S.Setting) → let O = system_of S.Lock.eq S.Scripts setting in
-        attempt_of S.Scripts program.new ≡ restarted O (attempt_of S.Scripts program.old) }
-    ensures count { program.new.count
-        ≡ count_in program.new.phase program.new.held program.old.count }
-    ensures point { (setting : S.Setting) → PointHolds S.Scripts setting program.old →
-        PointHolds S.Scripts setting program.new }
-    ensures stands { (setting : S.Setting) → AreScripts S.Lock.eq S.Scripts setting →
-        Stands S.Lock.eq S.Scripts setting program.old → Stands S.Lock.eq S.Scripts setting
-        program.new }
+        attempt_of S.Scripts attempt.new ≡ restarted O (attempt_of S.Scripts attempt.old) }
+    ensures count { attempt.new.count
+        ≡ count_in attempt.new.phase attempt.new.held attempt.old.count }
+    ensures point { (setting : S.Setting) → ResumePointHolds S.Scripts setting attempt.old →
+        ResumePointHolds S.Scripts setting attempt.new }
+    ensures valid { (setting : S.Setting) → AreScripts S.Lock.eq S.Scripts setting →
+        IsValid S.Lock.eq S.Scripts setting attempt.old → IsValid S.Lock.eq S.Scripts setting
+        attempt.new }
 {
-    go_back::<S, READINGS, HELD>(program);
-    program.count_beginning();
+    roll_back::<S, READINGS, HELD>(attempt);
+    attempt.count_beginning();
 }

@@ -1,5 +1,5 @@
-//! Calls by markers on threads: by `run_desks`, as they come and paced so that registers last, and beside
-//! it by as many workers of the core's office behind one lock.
+//! Calls by markers on threads: by `run_desks`, unpaced and paced so that registers suffice; and
+//! for comparison by the same number of workers on an office of `xbar_core` behind one lock.
 
 ghost use Rattle.std.specs.Prelude.{◌≤◌, ◌<◌, All, IfOk};
 ghost use Rattle.xbar_markers.specs.Calls.{HasCallNo};
@@ -19,7 +19,8 @@ use xbar_equip::{Dialled, Len};
 use xbar_markers::Call;
 use xbar_plan::Plan;
 
-/// A call out of the office, which is released again. The lines are 300 in turn.
+/// A call out of the office, which is released in the end. The calls are from 300 lines in
+/// rotation.
 fn call_out(no: u32) -> Call
     requires { no < 100000 }
     ensures { HasCallNo result }
@@ -32,7 +33,7 @@ fn call_out(no: u32) -> Call
     }
 }
 
-/// So many calls.
+/// Makes `count` calls.
 fn calls(alloc: Global, count: u32) -> Result<Vec<Call>, AllocError>
     requires { count ≤ 100000 }
     ensures { IfOk result (λ calls. All HasCallNo calls.items) }
@@ -44,7 +45,7 @@ fn calls(alloc: Global, count: u32) -> Result<Vec<Call>, AllocError>
     Ok(calls)
 }
 
-/// Measures all of these, with so many hundred calls.
+/// Measures all of these, with 100 * `hundreds` calls, and prints the times.
 pub fn measure<R: Eprint + Clock + Threads + Wait + Sync>(
     rt: &R,
     alloc: Global,

@@ -1,8 +1,8 @@
-//! One marker that does jobs over and over, on words of its own that are plain data.
+//! One marker that does jobs over and over, on words that are plain data.
 
 ghost use Rattle.std.specs.Prelude.{◌≡◌, length};
 ghost use Rattle.xbar_equip.specs.Word.{word_count};
-ghost use Rattle.xbar_jobs.specs.Standing.{Stands};
+ghost use Rattle.xbar_jobs.specs.Standing.{IsValid};
 
 use crate::timing::nanoseconds_each;
 use std::io;
@@ -13,11 +13,11 @@ use xbar_jobs::{Program, Step};
 use xbar_office::Job;
 use xbar_plan::Plan;
 
-/// The bound on the steps of an attempt that nothing puts off.
+/// A bound on the steps of an attempt that is never denied a connector.
 const STEPS: u32 = 128;
 
 fn begin(plan: &Plan, job: Job) -> Program
-    ensures { Stands plan.now result.attempt }
+    ensures { IsValid plan.now result.attempt }
 {
     // Called for its clauses alone.
     xbar_plan::laws::every_plan_is_lawful(plan);
@@ -27,14 +27,14 @@ fn begin(plan: &Plan, job: Job) -> Program
 /// How the marker makes its steps.
 #[derive(Clone, Copy)]
 pub enum Pace {
-    /// Each of them by itself, as on words that others change too.
+    /// Each step by itself, as on words that other markers change too.
     Steps,
-    /// As many in a row as its program comes to, since nobody else makes any in between.
+    /// As many steps in a row as its program can make, since no other marker makes any in between.
     Runs,
 }
 
-/// Makes the job's steps on the words to its end, and answers how many they were. That the words keep
-/// their number is all that is promised of them here.
+/// Does the job on the words, and returns the number of steps made. The contract says of the words
+/// only that their number stays the same.
 fn serve(plan: &Plan, words: &mut [u64], job: Job, pace: Pace) -> u32
     requires { length words.old ≡ word_count }
     ensures { length words.new ≡ word_count }
@@ -54,13 +54,13 @@ fn serve(plan: &Plan, words: &mut [u64], job: Job, pace: Pace) -> u32
     program.count()
 }
 
-/// What the marker does over and over.
+/// A workload that the marker does over and over.
 #[derive(Clone, Copy)]
 pub struct Drill {
     name: &'static str,
     pub rounds: u32,
-    /// Whether a round is a call: a line gets a register, is joined to a trunk, and releases. Otherwise
-    /// the line gets a register, each time in an office with no path.
+    /// Whether a round is a call: a line gets a register, is joined to a trunk, and releases. If
+    /// not, the line only gets a register, each time in an office without paths.
     is_call: bool,
 }
 
@@ -77,7 +77,7 @@ pub const CALLS: Drill = Drill {
 };
 
 impl Drill {
-    /// Makes so many rounds, and gives how many steps that took.
+    /// Makes `rounds` rounds, and returns the number of steps that these took.
     pub fn work(self, plan: &Plan, rounds: u32, pace: Pace) -> u64 {
         let line = Len::new(3, 0, 21);
         let complete = Job::Complete(line, Dialled::new(5_551_234));
@@ -97,7 +97,7 @@ impl Drill {
         steps
     }
 
-    /// Prints how many steps there were.
+    /// Prints the number of steps.
     pub fn print(self, rt: &impl Print, steps: u64, pace: Pace) -> io::Result<()> {
         let how = match pace {
             Pace::Steps => "steps",
@@ -106,7 +106,7 @@ impl Drill {
         println!(rt; "{}: {steps} {how}", self.name)
     }
 
-    /// Makes the rounds, and prints what a step took.
+    /// Makes all rounds at each pace, and prints the time of a step.
     pub fn measure<R: Print + Eprint + Clock>(self, rt: &R, plan: &Plan) -> io::Result<()> {
         for pace in [Pace::Steps, Pace::Runs] {
             let start = Instant::now(rt)?;

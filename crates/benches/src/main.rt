@@ -1,6 +1,6 @@
-//! Measures how fast jobs are done, and how fast a plan is read. The first word says what is measured,
-//! and the second how much of it: see `USAGE`. With no word there is a short run of what always comes to
-//! the same counts. Counts go to standard output, and times to standard error.
+//! Measures how fast jobs are done, and how fast a plan is read. The first argument says what is
+//! measured, and the second how much of it: see `USAGE`. Without arguments, a short run does work
+//! whose counts are always the same. Counts go to standard output, and times to standard error.
 #![tactic(auto)]
 
 ghost use Rattle.std.specs.Prelude.{◌<◌, ◌≤◌, IfSome};
@@ -25,8 +25,8 @@ use xbar_plan::Plan;
 const USAGE: &str = "usage: benches [dials | calls | core [MARKERS] | plans | slots [THOUSANDS] \
                      | threads [THOUSANDS] | live [HUNDREDS]]";
 
-/// Does a tenth of each work that always comes to the same counts, and prints these: two builds of the
-/// program can be compared by them.
+/// Does a tenth of each work whose counts are always the same, and prints these counts, by which
+/// two builds of the program can be compared.
 fn print_counts<R: Print>(rt: &R, alloc: Global, plan: &Plan) -> io::Result<()> {
     for pace in [Pace::Steps, Pace::Runs] {
         for drill in [DIALS, CALLS] {
@@ -40,7 +40,8 @@ fn print_counts<R: Print>(rt: &R, alloc: Global, plan: &Plan) -> io::Result<()> 
     println!(rt; "plans: {plans} plans")
 }
 
-/// Reads a number, of which only 1 to the most are taken. With no word it is the usual one.
+/// Reads a number from an argument and clamps it to 1..=`most`. Without an argument the number is
+/// `usual`. None if the argument isn't a number.
 fn count(word: Option<&str>, usual: u32, most: u32) -> Option<u32>
     requires { 0 < most }
     ensures { IfSome result (λ count. (0 < count) × (count ≤ most)) }
@@ -52,7 +53,7 @@ fn count(word: Option<&str>, usual: u32, most: u32) -> Option<u32>
     Some(count.clamp(1, most))
 }
 
-/// Measures what these words ask for, under the example plan, if they are words of `USAGE`.
+/// Measures what the arguments ask for, under this plan. None if they aren't as `USAGE` says.
 fn measure<R: Print + Eprint + Clock + Threads + Wait + Sync>(
     rt: &R,
     alloc: Global,

@@ -1,5 +1,5 @@
-//! Markers of one office do calls over and over, each from a line of its own: the line gets a register, is
-//! joined to a trunk, and releases.
+//! Markers of one office do calls over and over, each from a line of its own: the line gets a
+//! register, is joined to a trunk, and releases.
 
 ghost use Rattle.std.specs.Prelude.{◌<◌, ◌≤◌};
 
@@ -13,24 +13,25 @@ use xbar_equip::{Dialled, Len};
 use xbar_office::Job;
 use xbar_plan::Plan;
 
+/// The number of jobs to measure.
 pub const JOBS: u64 = 90_000;
 
-/// More turns of a marker than the jobs need.
-const TURNS: u32 = 100_000_000;
+/// A bound on how often a marker comes up in rotation, which is more often than the jobs need.
+const ROTATIONS: u32 = 100_000_000;
 
-/// A marker makes so many steps in a row. Were it one, two markers that ask for the same connector could
-/// keep each other from it for ever.
+/// The number of steps that a marker makes in a row. If it were one, two markers that ask for the
+/// same connector could deny it to each other for ever.
 const STEPS: u32 = 5;
 
-/// How far the work is.
+/// The jobs assigned and the work done so far.
 #[derive(Default, Drop)]
 struct Progress {
-    /// How many jobs each marker was assigned.
+    /// The number of jobs assigned to each marker.
     assigned: [u32; 10],
     done: Tally,
 }
 
-/// The marker's next job.
+/// Returns the marker's next job, and counts it as assigned.
 fn next_job(progress: &mut Progress, marker: u32) -> Job {
     let line = Len::new((marker % 10) as u8, 0, 0);
     let count = &mut progress.assigned[marker as usize % 10];
@@ -42,7 +43,7 @@ fn next_job(progress: &mut Progress, marker: u32) -> Job {
     }
 }
 
-/// The marker's next step, if the office has that marker and it has a job.
+/// Makes the marker's next step, if the office has this marker and the marker has a job.
 #[inline(always)]
 pub fn step(office: &mut Exchange, marker: u32) -> Event {
     if marker < office.marker_count() {
@@ -52,7 +53,7 @@ pub fn step(office: &mut Exchange, marker: u32) -> Event {
     }
 }
 
-/// The marker makes a step, or takes a job where it has none.
+/// Makes the marker's next step, or assigns a job to the marker if it has none.
 fn go_on(office: &mut Exchange, progress: &mut Progress, marker: u32) {
     let has_ended = match step(office, marker) {
         Event::Idle => {
@@ -65,8 +66,8 @@ fn go_on(office: &mut Exchange, progress: &mut Progress, marker: u32) {
     progress.done.count(1, has_ended);
 }
 
-/// So many markers take turns until they have done that many jobs. Gives how much they did, nothing without
-/// memory for an office.
+/// Has `markers` markers work in rotation until they have done `jobs` jobs. Returns how much they
+/// did, which is nothing if there is no memory for an office.
 pub fn work(alloc: Global, plan: &Plan, markers: u32, jobs: u64) -> Tally
     requires { (0 < markers) × (markers ≤ 10) }
 {
@@ -75,7 +76,7 @@ pub fn work(alloc: Global, plan: &Plan, markers: u32, jobs: u64) -> Tally
     let Ok(mut office) = Exchange::open(alloc, plan, &kinds[..markers as usize]) else {
         return progress.done;
     };
-    for number in 0..TURNS {
+    for number in 0..ROTATIONS {
         if progress.done.jobs >= jobs {
             break;
         }
@@ -86,7 +87,7 @@ pub fn work(alloc: Global, plan: &Plan, markers: u32, jobs: u64) -> Tally
     progress.done
 }
 
-/// Does the jobs, and prints what a step and a job took.
+/// Does the jobs, and prints the times of a step and of a job.
 pub fn measure<R: Print + Eprint + Clock>(
     rt: &R,
     alloc: Global,

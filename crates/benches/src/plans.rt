@@ -11,9 +11,10 @@ use std::time::Instant;
 use xbar_plan::Plan;
 use xbar_plan_text::PlanText;
 
+/// The number of times that the text is read.
 pub const READINGS: u32 = 200;
 
-/// A group of forty members: registers, or trunks to other offices.
+/// Writes a group of forty members: registers, or trunks to other offices.
 fn push_group(text: &mut String, group: u32) -> Result<(), AllocError>
     requires { group < 16 }
 {
@@ -48,7 +49,7 @@ pub fn full_plan(alloc: Global) -> Result<String, AllocError> {
     Ok(text)
 }
 
-/// Reads the text so many times, and gives how many plans that made.
+/// Reads the text `readings` times, and returns the number of plans that this made.
 pub fn work(alloc: Global, text: &str, readings: u32) -> u32 {
     let mut plans: u32 = 0;
     for _reading in 0..readings {
@@ -59,7 +60,7 @@ pub fn work(alloc: Global, text: &str, readings: u32) -> u32 {
     plans
 }
 
-/// Reads a full plan over and over, and prints what a reading took.
+/// Reads a full plan over and over, and prints the time of a reading.
 pub fn measure<R: Print + Eprint + Clock>(rt: &R, alloc: Global) -> io::Result<()> {
     let text = full_plan(alloc)?;
     let start = Instant::now(rt)?;

@@ -1,5 +1,5 @@
-//! Threads that take slots and give them back: desks of the slots, and beside them as many threads of the
-//! same allocator behind one lock.
+//! Threads that take slots and free them: as desks of the slots, and for comparison the same
+//! number of threads on the same allocator behind one lock.
 
 ghost use Rattle.std.specs.Prelude.{◌≤◌};
 ghost use Rattle.desks.specs.Views.{IsDeskOf};
@@ -21,14 +21,15 @@ use std::thread::Threads;
 use std::time::Instant;
 use std::{io, thread};
 
-/// Who does jobs of the slots.
+/// A worker that does jobs of the slots.
 trait Clerk {
-    /// Does a job, and tells which slots it took. None if it has not ended.
+    /// Does a job, and returns the slots that it took. None if the job has not ended.
     fn do_job(&mut self, number: u64, job: Job) -> Option<UpToTwo<u32>>
         requires { IsJob job };
 }
 
-/// Gives back a slot that is held, if there is one, and otherwise takes one, or one of each bank.
+/// The next job of a clerk: to free a slot that it has, if there is one, and otherwise to take one
+/// slot, or one of each bank.
 fn next_job(held: UpToTwo<u32>, takes_both: bool) -> Job
     ensures { IsJob result }
 {
@@ -39,8 +40,8 @@ fn next_job(held: UpToTwo<u32>, takes_both: bool) -> Job
     }
 }
 
-/// The clerk in turn takes a slot, or one of each bank, and gives back what it took, in so many jobs. Gives
-/// how many were done.
+/// Has the clerk do `jobs` jobs: it takes one slot, or the next time one of each bank, frees what
+/// it took, and so on. Returns the number of jobs done.
 fn work(clerk: &mut impl Clerk, jobs: u32) -> u64 {
     let mut held = UpToTwo::Empty;
     let mut takes_both = false;
@@ -60,7 +61,7 @@ fn work(clerk: &mut impl Clerk, jobs: u32) -> u64 {
     u64::from(jobs)
 }
 
-/// A desk of the slots.
+/// A clerk with a desk of the slots.
 #[derive(Drop)]
 struct AtDesk<'a> {
     room: &'a SlotRoom,
@@ -76,7 +77,7 @@ impl Clerk for AtDesk<'_> {
     }
 }
 
-/// One of those who share the banks behind a lock.
+/// A clerk that shares the banks behind a lock.
 impl<R: Wait> Clerk for (&R, &Mutex<Banks>) {
     fn do_job(&mut self, _number: u64, job: Job) -> Option<UpToTwo<u32>> {
         let (rt, banks) = *self;
@@ -84,13 +85,14 @@ impl<R: Wait> Clerk for (&R, &Mutex<Banks>) {
     }
 }
 
-/// How many jobs all have done.
+/// The number of jobs that all threads have done.
 fn all_of(done: &[u64]) -> u64 {
     done.iter()
         .fold(0, |all: u64, jobs| all.saturating_add(*jobs))
 }
 
-/// So many desks do so many jobs each, on threads of their own. Gives how many all have done.
+/// Has `count` desks do `jobs` jobs each, on threads of their own. Returns the number of jobs
+/// done.
 fn at_desks<R: Threads + Sync>(rt: &R, alloc: Global, count: u32, jobs: u32) -> io::Result<u64>
     requires { count ≤ 8 }
 {
@@ -108,7 +110,7 @@ fn at_desks<R: Threads + Sync>(rt: &R, alloc: Global, count: u32, jobs: u32) -> 
     Ok(all_of(&done))
 }
 
-/// So many threads do so many jobs each, under one lock. Gives how many all have done.
+/// Has `count` threads do `jobs` jobs each, under one lock. Returns the number of jobs done.
 fn behind_lock<R: Threads + Wait + Sync>(
     rt: &R,
     alloc: Global,
@@ -125,7 +127,7 @@ fn behind_lock<R: Threads + Wait + Sync>(
     Ok(all_of(&done))
 }
 
-/// Measures both, where each thread does so many thousand jobs.
+/// Measures both, with 1000 * `thousands` jobs for each thread, and prints the times.
 pub fn measure<R: Eprint + Clock + Threads + Wait + Sync>(
     rt: &R,
     alloc: Global,

@@ -1,5 +1,6 @@
-//! Desks of the office on threads of their own, one, two and four, and beside them as many markers of the
-//! core behind one lock, and as many plain atomic operations.
+//! One, two and four desks of the office on threads of their own; and for comparison the same
+//! number of markers of `xbar_core` behind one lock, and of threads that make plain atomic
+//! operations.
 
 ghost use Rattle.std.specs.Prelude.{◌≤◌};
 ghost use Rattle.xbar_fabric.specs.Views.{IsDeskOf};
@@ -20,8 +21,8 @@ use xbar_core::{Event, Exchange};
 use xbar_fabric::{Desk, Fabric, Kind};
 use xbar_plan::Plan;
 
-/// Markers of these kinds in an office under this plan, each on a thread of its own, on which it goes
-/// on so many times.
+/// Markers to run, each on a thread of its own: the plan of their office, their kinds, and the
+/// number of times that each goes on.
 #[derive(Drop)]
 struct Crew<'a> {
     plan: &'a Plan,
@@ -29,8 +30,9 @@ struct Crew<'a> {
     times: u32,
 }
 
-/// The desk's next step with those after it that ask for no connector, or its next job. A desk that has
-/// waited long gives back what it holds, and lets other threads run.
+/// Makes the desk's next step and those after it that ask for no connector, or assigns its next
+/// job. A desk that has not ended a job for long gives back what it holds, and lets other threads
+/// run.
 fn go_on(fabric: &Fabric, desk: &mut Desk, state: &mut State)
     requires { IsDeskOf desk.old fabric.now }
     ensures { IsDeskOf desk.new fabric.now }
@@ -51,7 +53,8 @@ fn go_on(fabric: &Fabric, desk: &mut Desk, state: &mut State)
     }
 }
 
-/// A desk goes on so many times, and then leaves no connector held, lest the others wait for it for ever.
+/// Has a desk go on `times` times, and then leave no connector held, which the others would be
+/// denied for ever.
 fn work(fabric: &Fabric, mut desk: Desk, times: u32) -> Tally
     requires { IsDeskOf desk fabric.now }
 {
@@ -60,12 +63,12 @@ fn work(fabric: &Fabric, mut desk: Desk, times: u32) -> Tally
         go_on(fabric, &mut desk, &mut state);
     }
     let _given = desk.give_back(fabric);
-    // Past its turn nothing puts it off.
+    // Past its turn a job can't be denied anything, and is done to its end.
     let _made = desk.run(fabric, &mut ());
     state.tally
 }
 
-/// The crew's markers work as desks. Gives how much all have done.
+/// Has the crew's markers work as desks. Returns how much all have done.
 fn work_at_desks<R: Threads + Sync>(rt: &R, alloc: Global, crew: &Crew) -> io::Result<Tally> {
     let times = crew.times;
     let Ok((fabric, desks)) = Fabric::open(alloc, crew.plan, crew.kinds) else {
@@ -81,7 +84,7 @@ fn work_at_desks<R: Threads + Sync>(rt: &R, alloc: Global, crew: &Crew) -> io::R
     Ok(Tally::of_all(&tallies))
 }
 
-/// The marker's next step, or its next job. Tells whether it gave back.
+/// Makes the marker's next step, or assigns its next job. Returns whether the marker gave back.
 fn go_on_locked(office: &mut Exchange, marker: u32, state: &mut State) -> bool {
     let has_ended = match step(office, marker) {
         Event::Idle => {
@@ -98,21 +101,21 @@ fn go_on_locked(office: &mut Exchange, marker: u32, state: &mut State) -> bool {
     gives_up
 }
 
-/// The marker leaves no connector held, lest the others wait for it for ever. Past its turn nothing puts
-/// it off.
+/// Has the marker leave no connector held, which the others would be denied for ever: it gives
+/// back, or past its turn does its job to the end.
 fn let_go(office: &mut Exchange, marker: u32) {
     if marker >= office.marker_count() {
         return;
     }
     if office.is_past_turn(marker) {
-        // More steps than a job has left that is past its turn.
+        // More steps than a job past its turn has left.
         office.steps(marker, 128);
     } else {
         let _given = office.give_back(marker);
     }
 }
 
-/// A marker goes on so many times, each time under the lock.
+/// Has a marker go on `times` times, each time under the lock.
 fn work_locked<R: Wait>(rt: &R, office: &Mutex<Exchange>, marker: u32, times: u32) -> Tally {
     let mut state = State::default();
     for _made in 0..times {
@@ -125,7 +128,7 @@ fn work_locked<R: Wait>(rt: &R, office: &Mutex<Exchange>, marker: u32, times: u3
     state.tally
 }
 
-/// The crew's markers work in one office behind a lock. Gives how much all have done.
+/// Has the crew's markers work in one office behind a lock. Returns how much all have done.
 fn work_behind_lock<R: Threads + Wait + Sync>(
     rt: &R,
     alloc: Global,
@@ -145,7 +148,8 @@ fn work_behind_lock<R: Threads + Wait + Sync>(
     Ok(Tally::of_all(&tallies))
 }
 
-/// Measures all of these, where each thread makes so many thousand steps.
+/// Measures all of these, with each thread going on 1000 * `thousands` times, and prints the
+/// times.
 pub fn measure<R: Eprint + Clock + Threads + Wait + Sync>(
     rt: &R,
     alloc: Global,

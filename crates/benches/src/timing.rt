@@ -1,11 +1,13 @@
+//! Counts of work done, and times per event.
+
 use std::time::Duration;
 
-/// What each of so many events took, in nanoseconds, where so many threads at once had them together.
+/// The time of an event in nanoseconds, if `threads` threads at once had `events` together.
 pub fn nanoseconds_each(time: Duration, threads: u32, events: u64) -> u128 {
     time.as_nanos().saturating_mul(u128::from(threads)) / u128::from(events.max(1))
 }
 
-/// How much work was done.
+/// How much work was done: jobs ended, and steps made.
 #[derive(Clone, Copy, Default)]
 pub struct Tally {
     pub jobs: u64,
@@ -13,13 +15,13 @@ pub struct Tally {
 }
 
 impl Tally {
-    /// So many more steps were made, which ended a job or did not.
+    /// Counts `steps` more steps, and one more job if these ended one.
     pub fn count(&mut self, steps: u64, has_ended: bool) {
         self.jobs = self.jobs.saturating_add(u64::from(has_ended));
         self.steps = self.steps.saturating_add(steps);
     }
 
-    /// What so many threads did.
+    /// The sum of all tallies.
     pub fn of_all(tallies: &[Tally]) -> Tally {
         let mut all = Tally::default();
         for tally in tallies {
@@ -29,7 +31,8 @@ impl Tally {
         all
     }
 
-    /// What a step and a job took, in nanoseconds, where so many threads at once did this together.
+    /// The times of a step and of a job in nanoseconds, if `threads` threads at once did this
+    /// together.
     pub fn paces(self, time: Duration, threads: u32) -> (u128, u128) {
         let step = nanoseconds_each(time, threads, self.steps);
         (step, nanoseconds_each(time, threads, self.jobs))

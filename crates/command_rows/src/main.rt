@@ -1,7 +1,6 @@
-//! Command lines that were worked out by hand: words, a plan's file and an input, with what comes on
-//! standard output, what comes on standard error, and the exit status. Each row of the files in `data`
-//! is given to the program between byte slices and vectors, and what comes of it is compared with the
-//! row.
+//! Runs the program on command lines that were worked out by hand: words, a plan's file and an
+//! input, with both outputs and the exit status. The rows are in the files of `data`. The program
+//! reads byte slices and writes vectors, which are compared with the row.
 #![tactic(auto)]
 
 mod plan_file;
@@ -9,7 +8,7 @@ mod row;
 mod run;
 
 use row::row_of;
-use run::came_of;
+use run::run_row;
 use std::sync::Wait;
 use std::thread::Threads;
 use std::{fs, io};
@@ -30,7 +29,7 @@ fn main(rt: HostRuntime) -> io::Result<()> {
         match toml::table_from_str(rt.alloc(), &text) {
             Ok(table) => {
                 let rows = table.get("rows").and_then(|rows| rows.as_array());
-                tell_all(&rt, &rt, rows.map_or(&[], |rows| rows.as_slice()))?;
+                run_all(&rt, &rt, rows.map_or(&[], |rows| rows.as_slice()))?;
             }
             Err(_) => println!(rt; "{file} can't be read")?,
         }
@@ -38,8 +37,8 @@ fn main(rt: HostRuntime) -> io::Result<()> {
     Ok(())
 }
 
-/// Prints for each row whether the program did as expected.
-fn tell_all<T: Threads + Wait + Sync>(
+/// Runs each row, and prints whether the program did as expected.
+fn run_all<T: Threads + Wait + Sync>(
     rt: &HostRuntime,
     threads: &T,
     rows: &[Value],
@@ -47,11 +46,11 @@ fn tell_all<T: Threads + Wait + Sync>(
     for value in rows {
         match row_of(value) {
             Some(row) => {
-                let came = came_of(threads, rt.alloc(), &row)?;
-                if came.is_as_expected(&row) {
+                let found = run_row(threads, rt.alloc(), &row)?;
+                if found.is_as_expected(&row) {
                     println!(rt; "{}: as worked out", row.name)?;
                 } else {
-                    println!(rt; "{}: {came}", row.name)?;
+                    println!(rt; "{}: {found}", row.name)?;
                 }
             }
             None => println!(rt; "a row that can't be read")?,

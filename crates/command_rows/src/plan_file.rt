@@ -1,10 +1,10 @@
 use crossbar5_cli::{System, Work};
 use std::io;
 
-/// The error of the system for a file that isn't there.
+/// The system's error number for a file that doesn't exist.
 const NO_SUCH_FILE: i32 = 2;
 
-/// A system with one file, or none. Any name is that file's.
+/// A system with one file, under every name, or with none.
 #[derive(Drop)]
 pub struct PlanFile<'p> {
     pub text: Option<&'p str>,

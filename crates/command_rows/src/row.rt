@@ -3,16 +3,16 @@ use toml::Value;
 /// What is expected on a stream.
 #[derive(Clone, Copy)]
 pub enum Expected<'a> {
-    /// This, and no more.
+    /// Exactly this.
     All(&'a str),
-    /// Something that begins with this.
+    /// A text that begins with this.
     Start(&'a str),
-    /// Something that ends with this.
+    /// A text that ends with this.
     End(&'a str),
 }
 
 impl Expected<'_> {
-    /// Whether some bytes are as expected.
+    /// Whether the bytes are as expected.
     pub fn is_met_by(&self, bytes: &[u8]) -> bool {
         match self {
             Expected::All(text) => bytes == text.as_bytes(),
@@ -22,15 +22,15 @@ impl Expected<'_> {
     }
 }
 
-/// What the program is given, and what is expected of it.
+/// What the program is given, and what it is expected to do.
 #[derive(Drop)]
 pub struct Row<'a> {
     pub name: &'a str,
     /// The program's name.
     pub program: &'a str,
-    /// The words behind it, parted by spaces.
+    /// The words after it, separated by spaces.
     pub words: &'a str,
-    /// What is in the plan's file. Without it no file is there.
+    /// The content of the plan's file. None if there is no file.
     pub plan: Option<&'a str>,
     pub input: &'a str,
     pub output: Expected<'a>,
@@ -43,7 +43,7 @@ fn text_at<'a>(value: &'a Value, key: &str) -> Option<&'a str> {
     value.get(key)?.as_str()
 }
 
-/// What is expected of a stream: all of it, its start or its end, or nothing.
+/// What is expected on a stream, by the key for its start, its end or all of it.
 fn expected_at<'a>(value: &'a Value, all: &str, start: &str, end: &str) -> Expected<'a> {
     match (text_at(value, start), text_at(value, end)) {
         (Some(text), _) => Expected::Start(text),
@@ -52,8 +52,8 @@ fn expected_at<'a>(value: &'a Value, all: &str, start: &str, end: &str) -> Expec
     }
 }
 
-/// A row by its keys. The program's name is `crossbar5`, and it has no words, no input, nothing on either
-/// stream and status 0, if it doesn't say otherwise.
+/// Reads a row. The defaults are the program's name `crossbar5`, no words, no input, nothing on
+/// either stream, and status 0. None if the name is missing.
 pub fn row_of(value: &Value) -> Option<Row<'_>> {
     Some(Row {
         name: text_at(value, "name")?,

@@ -12,14 +12,14 @@ const BUILD: &str = "a kit and a commit";
 
 /// What the program made of a row.
 #[derive(Drop)]
-pub struct Came {
+pub struct RowResult {
     output: Vec<u8>,
     errors: Vec<u8>,
     status: i64,
 }
 
-impl Came {
-    /// Whether it is exactly what the row expects.
+impl RowResult {
+    /// Whether this is what the row expects.
     pub fn is_as_expected(&self, row: &Row<'_>) -> bool {
         row.output.is_met_by(&self.output)
             && row.errors.is_met_by(&self.errors)
@@ -27,7 +27,7 @@ impl Came {
     }
 }
 
-impl fmt::Display for Came {
+impl fmt::Display for RowResult {
     fn fmt<W: fmt::Write>(&self, f: &mut fmt::Formatter<W>) -> fmt::Result {
         let output = str::from_utf8(&self.output).unwrap_or("no text");
         let errors = str::from_utf8(&self.errors).unwrap_or("no text");
@@ -39,12 +39,12 @@ impl fmt::Display for Came {
     }
 }
 
-/// Gives a row to the program.
-pub fn came_of<T: Threads + Wait + Sync>(
+/// Runs the program on a row.
+pub fn run_row<T: Threads + Wait + Sync>(
     threads: &T,
     alloc: Global,
     row: &Row<'_>,
-) -> Result<Came, AllocError> {
+) -> Result<RowResult, AllocError> {
     let words = words_of(alloc, row)?;
     let mut input = Counted::new(row.input.as_bytes());
     let mut output = Counted::new(Vec::new(alloc));
@@ -59,14 +59,14 @@ pub fn came_of<T: Threads + Wait + Sync>(
         &mut output,
         &mut errors,
     );
-    Ok(Came {
+    Ok(RowResult {
         output: output.into_inner(),
         errors: errors.into_inner(),
         status: i64::from(exit.status()),
     })
 }
 
-/// The program's name, and the words behind it.
+/// The program's name, and the words after it.
 fn words_of<'a>(alloc: Global, row: &Row<'a>) -> Result<Vec<&'a str>, AllocError> {
     let mut words = Vec::new(alloc);
     words.push(row.program)?;

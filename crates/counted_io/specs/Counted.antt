@@ -9,6 +9,6 @@ counted_inner counted = counted.inner
 abbrev pub counted_failures : {T : Type 0} → Counted T → ℕ
 counted_failures counted = counted.failures
 
--- the reads that gave bytes so far
+-- the reads so far that returned bytes
 abbrev pub counted_reads : {T : Type 0} → Counted T → ℕ
 counted_reads counted = counted.reads

@@ -7,8 +7,8 @@ use crate::device::{Sink, Source};
 use std::io;
 use std::io::{Read, Write};
 
-/// A reader or writer that counts the failures of the one inside, and its reads that gave bytes, and
-/// passes on all else as it is.
+/// Wraps a reader or writer, and counts its failures and its reads that return bytes. All else is
+/// passed on unchanged.
 #[derive(Debug, Drop)]
 pub struct Counted<T> {
     inner: T,
@@ -19,7 +19,7 @@ pub struct Counted<T> {
 impl<T> Counted<T> {
     ghost use Rattle.counted_io.specs.Counted.{counted_inner, counted_failures, counted_reads};
 
-    /// Counts from 0.
+    /// Wraps a reader or writer. Both counts are 0.
     pub fn new(inner: T) -> Self
         ensures inner { counted_inner result ≡ inner }
         ensures failures { counted_failures result ≡ 0 }
@@ -32,28 +32,28 @@ impl<T> Counted<T> {
         }
     }
 
-    /// The reader or writer inside.
+    /// The wrapped reader or writer.
     pub fn get_ref(&self) -> &T
         ensures { result.now ≡ counted_inner self.now }
     {
         &self.inner
     }
 
-    /// Gives the reader or writer back. The counts are lost.
+    /// Returns the wrapped reader or writer. The counts are lost.
     pub fn into_inner(self) -> T
         ensures { result ≡ counted_inner self }
     {
         self.inner
     }
 
-    /// How many failures there were. The count stays at `u64::MAX` once there.
+    /// The number of failures so far. The count stays at `u64::MAX` once there.
     pub fn failures(&self) -> u64
         ensures { result ≡ counted_failures self.now }
     {
         self.failures
     }
 
-    /// How many reads gave bytes. The count stays at `u64::MAX` once there.
+    /// The number of reads so far that returned bytes. The count stays at `u64::MAX` once there.
     pub fn reads(&self) -> u64
         ensures { result ≡ counted_reads self.now }
     {
@@ -121,7 +121,7 @@ impl<T: Read> Source for Counted<T> {
     }
 
     fn read_and_count(&mut self, buf: &mut [u8]) -> io::Result<usize> {
-        // To a proof the count is at most `u64::MAX` once it was read.
+        // Read only so that the proof knows the range of the count.
         let _failures = self.failures;
         self.read(buf)
     }
@@ -181,13 +181,13 @@ impl<T: Write> Sink for Counted<T> {
     }
 
     fn write_and_count(&mut self, buf: &[u8]) -> io::Result<usize> {
-        // Read for its range alone.
+        // Read only so that the proof knows the range of the count.
         let _failures = self.failures;
         self.write(buf)
     }
 
     fn flush_and_count(&mut self) -> io::Result<()> {
-        // Read for its range alone.
+        // Read only so that the proof knows the range of the count.
         let _failures = self.failures;
         self.flush()
     }

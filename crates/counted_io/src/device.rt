@@ -6,27 +6,27 @@ ghost use Rattle.counted_io.specs.Counts.{HasFailed};
 use std::io;
 use std::io::{Read, Write};
 
-/// A reader that counts its failures, and its reads that gave bytes.
+/// A reader that counts its failures, and its reads that return bytes.
 ///
-/// It owes its failures: each error raises their count, or finds it at `u64::MAX`, where it stays.
-/// Of its reads it may tell nothing, and then no input is too long. If it tells them, each read that
-/// gives bytes is to raise their count by one, and no other call raises it.
+/// Each error raises the count of failures, or finds it at `u64::MAX`, where it stays. The count
+/// of reads may be unknown to proofs. If it is known, each read that returns bytes has to raise it
+/// by one, and no other call may raise it. No clause demands this.
 pub trait Source: Read {
-    // The failures so far.
+    // The number of failures so far.
     ghost failure_count: { Self → ℕ };
 
-    // The reads that gave bytes so far, where they are known.
+    // The number of reads so far that returned bytes, if it is known.
     ghost read_count: { Self → Option ℕ } = { λ _. None };
 
-    /// How many failures there were.
+    /// The number of failures so far.
     fn failures(&self) -> u64
         ensures { result ≡ failure_count self.now };
 
-    /// How many reads gave bytes.
+    /// The number of reads so far that returned bytes.
     fn reads(&self) -> u64
         ensures { IfSome (read_count self.now) (λ count. result ≡ count) };
 
-    /// Reads as `read` does. An error is a failure that was counted, and nothing else is one.
+    /// Reads as `read` does. An error is counted as a failure, and nothing else is.
     fn read_and_count(&mut self, buf: &mut [u8]) -> io::Result<usize>
         ensures bound { ReadsAtMost result buf.new }
         ensures bytes { ReadConsumes (Self.remaining self.old) (Self.remaining self.new)
@@ -37,18 +37,18 @@ pub trait Source: Read {
 
 /// A writer that counts its failures.
 ///
-/// It owes them: each error, and each write of some bytes that takes none, raises their count, or
-/// finds it at `u64::MAX`, where it stays.
+/// Each error, and each write of some bytes that takes none, raises the count, or finds it at
+/// `u64::MAX`, where it stays.
 pub trait Sink: Write {
-    // The failures so far.
+    // The number of failures so far.
     ghost failure_count: { Self → ℕ };
 
-    /// How many failures there were.
+    /// The number of failures so far.
     fn failures(&self) -> u64
         ensures { result ≡ failure_count self.now };
 
-    /// Writes as `write` does. An error is a failure that was counted, and so is it where none of
-    /// some bytes are taken; nothing else is one.
+    /// Writes as `write` does. An error is counted as a failure, and so is a write of some bytes
+    /// that takes none; nothing else is.
     fn write_and_count(&mut self, buf: &[u8]) -> io::Result<usize>
         ensures bound { WritesAtMost result buf.now }
         ensures bytes { WriteAppends (Self.contents self.old) (Self.contents self.new)
@@ -59,7 +59,7 @@ pub trait Sink: Write {
             → HasFailed (failure_count self.old) (failure_count self.new)) }
         ensures err { OnErr result (HasFailed (failure_count self.old) (failure_count self.new)) };
 
-    /// Flushes as `flush` does. An error is a failure that was counted, and nothing else is one.
+    /// Flushes as `flush` does. An error is counted as a failure, and nothing else is.
     fn flush_and_count(&mut self) -> io::Result<()>
         ensures bytes { Keeps (Self.contents self.old) (Self.contents self.new) }
         ensures ok { OnOk result (failure_count self.new ≡ failure_count self.old) }

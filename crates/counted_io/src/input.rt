@@ -6,17 +6,17 @@ use crate::device::Source;
 use crate::read_fault::ReadFault;
 use std::alloc::Global;
 
-// One of so many reads has to find the end.
+// The input is too long once this many reads have returned bytes.
 const MOST_READS: u64 = 1_048_576;
 
-// The longest input has 4 GiB of such reads.
+// If each read fills it, the longest input has just under 4 GiB.
 const CHUNK: usize = 4096;
 
-/// Reads all that there is, by at most 1,048,576 reads as the source counts them.
+/// Reads a source to its end.
 ///
-/// The fault is `Device` at the first error; `Long` if each of so many reads gave bytes, or if their
-/// count stands at `u64::MAX`; and `Memory` if memory was refused. After a fault what was read is
-/// lost, and nothing is said of where the source stands.
+/// The fault is `Device` at the first error; `Long` once 1,048,576 reads have returned bytes, as
+/// the source counts them, or if their count is at `u64::MAX`; and `Memory` if memory runs out.
+/// After a fault the bytes that were read are lost, and the position of the source is unspecified.
 pub fn read_all<R: Source>(alloc: Global, source: &mut R) -> Result<Vec<u8>, ReadFault>
     ensures bytes { IfOk result (λ bytes. IfSome (R.remaining source.old)
         (λ all. bytes.items ≡ all)) }
@@ -31,7 +31,7 @@ pub fn read_all<R: Source>(alloc: Global, source: &mut R) -> Result<Vec<u8>, Rea
     let reads_before = source.reads();
     let mut bytes = Vec::new(alloc);
     let mut chunk = [0u8; CHUNK];
-    // This ends whatever the source counts: each turn adds a byte at least, and memory is finite.
+    // This ends whatever the source counts: each iteration adds bytes, and memory is finite.
     loop {
         if are_used_up(reads_before, source.reads()) {
             return Err(ReadFault::Long);
@@ -46,8 +46,8 @@ pub fn read_all<R: Source>(alloc: Global, source: &mut R) -> Result<Vec<u8>, Rea
     }
 }
 
-/// Whether no read is left, where `before` of them gave bytes at the beginning. A count of `u64::MAX`
-/// rises no more, so then none is left.
+/// Whether no read is left, by the counts of reads at the beginning and now. At `u64::MAX` the
+/// count can't rise, so none is left.
 fn are_used_up(before: u64, now: u64) -> bool
     ensures { IsTrue result ↔ AreUsedUp before now }
 {

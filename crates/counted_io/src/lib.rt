@@ -1,4 +1,4 @@
-//! Reads all of a source and writes all of some bytes, where readers and writers count their failures.
+//! Readers and writers that count their failures, and functions that read or write everything.
 #![tactic(auto)]
 
 pub use counted::Counted;

@@ -7,8 +7,8 @@ use crate::write_fault::WriteFault;
 
 /// Writes all of the bytes and flushes.
 ///
-/// The fault is `Device` at the first error, or where a write takes no byte. How much went out before
-/// is left open.
+/// The fault is `Device` at the first error, or if a write takes no byte. How much was written
+/// before is unspecified.
 pub fn write_all<W: Sink>(sink: &mut W, bytes: &[u8]) -> Result<(), WriteFault>
     ensures bytes { OnOk result (Appends (W.contents sink.old) (W.contents sink.new) bytes.now) }
     ensures device { result ≡ Err WriteFault.Device

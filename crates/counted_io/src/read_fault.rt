@@ -4,15 +4,15 @@ ghost use Rattle.counted_io.specs.declared.read_fault.ReadFault.TheVariants.{Mem
 use std::alloc::AllocError;
 use thiserror::Error;
 
-/// Why not all was read.
+/// Why a source wasn't read to its end.
 #[derive(Clone, Copy, Debug, PartialEq, Eq, Error)]
 pub enum ReadFault {
     #[error("memory ran out")]
     Memory,
-    /// A failure was counted.
+    /// A read failed, and the failure was counted.
     #[error("a read failed")]
     Device,
-    /// There were too many reads that gave bytes.
+    /// Too many reads returned bytes.
     #[error("the input is too long")]
     Long,
 }

@@ -1,9 +1,9 @@
 use thiserror::Error;
 
-/// Why not all was written and flushed.
+/// Why the bytes weren't all written and flushed.
 #[derive(Clone, Copy, Debug, PartialEq, Eq, Error)]
 pub enum WriteFault {
-    /// A failure was counted.
+    /// A write or a flush failed, and the failure was counted.
     #[error("a write failed")]
     Device,
 }

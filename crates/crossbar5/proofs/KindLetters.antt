@@ -47,7 +47,7 @@ names_letters text kinds names =
     subst AreLetters (sym names.letters)
     (omega (arith, length-letters kinds, names.count.0), omega (arith, length-letters kinds, names.count.1), letters_named kinds)
 
--- such a text names kinds
+-- so these letters name kinds
 letter_names : (letter : ℕ) → IsTrue (is_letter letter) → (kind : Kind) × (letter ≡ letter_of kind)
 letter_names letter is = by (letter == 68) refl (letter == 67) refl (letter == 88) refl where
   by : (dial : Bool) → (letter == 68) ≡ dial → (completing : Bool) → (letter == 67) ≡ completing → (combined : Bool) → (letter == 88) ≡ combined → (kind : Kind) × (letter ≡ letter_of kind)

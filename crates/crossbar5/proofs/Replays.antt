@@ -9,7 +9,7 @@ use Rattle.xbar_traffic.specs.declared.row.Row.{Row}
 use Rattle.crossbar5.specs.Run.{IsReplayUnder, IsWrittenOf, LeavesOneHistory, outcome}
 use Rattle.crossbar5.specs.declared.written.Written.{Written}
 
--- what is written of the outcome of a traffic's rows is the traffic's replay
+-- what is written for the outcome of the traffic's rows is a replay of the traffic
 pub replay_of : {E : Type 0} (plan : Tables) (kinds : List Kind) (traffic : List ℕ) (rows : List Row) (fault : Option RowFault) (result : Result Written E) → IsTrafficOf Replay (csv_records default_config (strip_bom traffic)) rows fault
     → IfOk result (λ written. LeavesOneHistory plan (outcome plan kinds rows fault))
     → IfOk result (λ written. IsWrittenOf (outcome plan kinds rows fault) written.text.items written.status) → IfOk result (λ written. IsReplayUnder plan kinds traffic written.text.items written.status)

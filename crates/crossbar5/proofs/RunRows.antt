@@ -14,7 +14,7 @@ use Rattle.crossbar5.specs.Rows.{done, row_fault}
 use Rattle.crossbar5.specs.Run.{IsOneHistory, IsWrittenOf, Leaves, LeavesOneHistory, Outcome, RefusesTraffic, at_end, judged, outcome, outcome_from}
 use Rattle.crossbar5.specs.declared.written.Written.{Written}
 
--- as far as a run has come with its rows: what is left comes to what all come to
+-- how far a run has come with its rows: the outcome of the remaining rows is that of all rows
 pub record HasRun (plan : Tables) (kinds : List Kind) (rows : List Row) (fault : Option RowFault) (now : OfPlan) (number index : ℕ) : Type 0 where
   pub under : now.plan ≡ plan
   pub left : outcome plan kinds rows fault ≡ outcome_from plan now.exchange number (drop index rows) fault
@@ -33,7 +33,7 @@ module _ (plan : Tables) (kinds : List Kind) (rows : List Row) (fault : Option R
       let next : suc index ≡ index + 1 = omega arith in
       drop-cons rows index row within ∙ ap (λ (first : Row). first ∷ drop (suc index) rows) (sym is) ∙ ap (λ (n : ℕ). row ∷ drop n rows) next
 
-  -- what is left begins with the row at hand
+  -- the remaining rows begin with the one at hand
   row_left : (row : Row) → index < length rows → row ≡ get_or rows index row
       → outcome plan kinds rows fault ≡ judged number (row_fault now.exchange row) (outcome_from plan (done plan now.exchange row) (number + 1) (drop (index + 1) rows) fault)
   unfolding outcome_from
@@ -56,7 +56,7 @@ module _ (plan : Tables) (kinds : List Kind) (rows : List Row) (fault : Option R
     count = omega (arith, has.count);
   }
 
-  -- after the last row the end comes
+  -- after the last row, what is left is the end
   pub rows_done : length rows ≤ index → outcome plan kinds rows fault ≡ at_end plan now.exchange number fault
   unfolding outcome_from
   rows_done past = has.left ∙ ap (λ (rest : List Row). outcome_from plan now.exchange number rest fault) (drop_all index rows past)
@@ -64,23 +64,23 @@ module _ (plan : Tables) (kinds : List Kind) (rows : List Row) (fault : Option R
 abbrev pub with_number : ℕ → RowFault → TrafficFault
 with_number count why = record { row = count + 1; fault = why }
 
--- the fault behind the rows refuses all, with the number behind theirs
+-- a fault of the row after the last one refuses all, with the number of that row
 pub end_refused : (plan : Tables) (office : Exchange) (number count : ℕ) (fault : Option RowFault) (told : TrafficFault) → number ≡ count + 1 → option_map (with_number count) fault ≡ Some told → at_end plan office number fault ≡ RefusesTraffic told
 end_refused plan office number count None told is e = absurd cc
 end_refused plan office number count (Some why) told is e =
     let same : with_number count why ≡ told = cc in
     ap (λ (n : ℕ). RefusesTraffic (record { row = n; fault = why })) is ∙ ap RefusesTraffic same
 
--- and where there is none the office settles
+-- and if there is none, the office settles
 pub end_settled : (plan : Tables) (office : Exchange) (number count : ℕ) (fault : Option RowFault) → option_map (with_number count) fault ≡ None → at_end plan office number fault ≡ Leaves (settled plan office)
 end_settled plan office number count None e = refl
 end_settled plan office number count (Some why) e = absurd cc
 
--- what is written of one outcome is written of another that it is
+-- what is written for an outcome is written for an equal one
 pub written_as : {E : Type 0} (result : Result Written E) (came other : Outcome) → came ≡ other → IfOk result (λ written. IsWrittenOf other written.text.items written.status) → IfOk result (λ written. IsWrittenOf came written.text.items written.status)
 written_as result came other is written = subst (λ (o : Outcome). IfOk result (λ written. IsWrittenOf o written.text.items written.status)) (sym is) written
 
--- where traffic is refused no office is left
+-- if the traffic is refused, no office is left
 pub refused_history : (plan : Tables) (came : Outcome) (told : TrafficFault) → came ≡ RefusesTraffic told → LeavesOneHistory plan came
 refused_history plan came told is = subst (LeavesOneHistory plan) (sym is) tt
 

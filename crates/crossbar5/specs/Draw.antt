@@ -1,4 +1,4 @@
--- What is drawn of records.
+-- Drawings of the office after records.
 use Rattle.std.specs.Prelude.{◌≡◌, ◌≢◌, ℕ, Option, List}
 use Rattle.xbar_plan.specs.Tables.{Tables}
 use Rattle.xbar_office.specs.Legal.{IsLegal, after}
@@ -10,29 +10,29 @@ use Rattle.xbar_page.specs.Page.{office_page}
 use Rattle.xbar_report.specs.Sheet.{IsReport}
 use Rattle.xbar_report.specs.Text.{records_text}
 use Rattle.xbar_report.specs.declared.counts.Counts.{Counts}
-use Rattle.crossbar5.specs.Audit.{AreRightCounts, IsAuditUnder, standing_after}
+use Rattle.crossbar5.specs.Audit.{AreRightCounts, IsAuditUnder, counts_after}
 use Rattle.crossbar5.specs.declared.look.Look.{Look}
 use Rattle.crossbar5.specs.declared.look.Look.TheVariants.{Text, Drawing, Page}
 use Rattle.crossbar5.specs.declared.status.Status.{Status}
 use Rattle.crossbar5.specs.declared.status.Status.TheVariants.{Fine}
 
--- an office after its records, as it is drawn; a page draws it after each of them
+-- the drawing of an office after its records; a page shows the office after each of them
 abbrev pub drawn : Look → Tables → List Path → List Record → List ℕ
 drawn Text plan paths records = office_text plan paths records
 drawn Drawing plan paths records = office_drawing plan paths records
 drawn Page plan paths records = office_page plan records
 
--- under a plan's tables, the text is a drawing of the office after a text of records, or tells what
--- is wrong with them; the status is an audit's
+-- under a plan's tables, the text is a drawing of the office after a text of records, or says what
+-- is wrong with them; the status is that of an audit
 pub record IsDrawUnder (look : Look) (plan : Tables) (records text : List ℕ) (status : Status)
     : Type 0 where
-  -- what an audit writes of them
+  -- what an audit of these records writes
   pub told : List ℕ
   pub audit : IsAuditUnder plan records told status
-  -- of a legal list with right counts, or none, the office after it is drawn
+  -- if the records are legal, with right counts or none, the office after them is drawn
   pub legal : (list : List Record) (counts : Option Counts) → IsReport list counts
       → records ≡ records_text list counts → IsLegal plan list
-      → AreRightCounts counts (standing_after plan list)
+      → AreRightCounts counts (counts_after plan list)
       → (text ≡ drawn look plan (after plan list) list) × (status ≡ Fine)
-  -- of all else is told what the audit tells
+  -- otherwise the text is what the audit writes
   pub refused : status ≢ Fine → text ≡ told

@@ -10,20 +10,22 @@ use Rattle.crossbar5.specs.declared.engine_fault.EngineFault.TheVariants.{Marker
 abbrev pub IsMarkerCount : ℕ → Type 0
 IsMarkerCount count = (0 < count) × (count ≤ 48)
 
--- calls want at least one marker that dials and one that completes them
-abbrev pub IsStaffCount : ℕ → ℕ → Type 0
-IsStaffCount dialling completing = (0 < dialling) × (0 < completing) × (dialling + completing ≤ 48)
+-- live calls need a marker that dials and one that completes calls, and at most 48 in all
+abbrev pub IsLiveMarkerCount : ℕ → ℕ → Type 0
+IsLiveMarkerCount dialling completing = (0 < dialling) × (0 < completing) ×
+    (dialling + completing ≤ 48)
 
--- what a fault of reading, or of writing, is to the engine
+-- the engine's fault for a fault of reading
 abbrev pub of_read : ReadFault → EngineFault
 of_read read.Memory = Memory
 of_read read.Device = Device
 of_read read.Long = Long
 
+-- the engine's fault for a fault of writing
 abbrev pub of_write : WriteFault → EngineFault
 of_write write.Device = Device
 
--- a fault that comes before anything is written
+-- a fault that is found before anything is written
 abbrev pub ComesFirst : EngineFault → Type 0
 ComesFirst Markers = ⊤
 ComesFirst Memory = ⊤

@@ -14,7 +14,7 @@ abbrev pub is_letter : ℕ → Bool
 is_letter letter =
     letter == letter_of Dial || letter == letter_of Completing || letter == letter_of Combined
 
--- a text names the kinds of an office's markers, marker 0 first, a letter for each
+-- a text names the kinds of an office's markers: a letter for each, marker 0 first
 pub record Names (text : List ℕ) (kinds : List Kind) : Type 0 where
   pub letters : text ≡ map letter_of kinds
   pub count : IsMarkerCount (length kinds)

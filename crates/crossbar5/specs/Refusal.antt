@@ -1,35 +1,35 @@
--- What a slip and a refusal have to do with each other.
+-- Diagnostics, and the refusals that they explain.
 use Rattle.std.specs.Prelude.{◌≡◌, ◌∷◌, [], ℕ, List, Option, codes, decimal}
 use Rattle.std.specs.Option.{ForSome}
 use Rattle.xbar_report.specs.Text.{line_with}
 use Rattle.xbar_traffic.specs.Fault.{fault_line}
 use Rattle.crossbar5.specs.PlanRefusal.{plan_fault_line}
-use Rattle.crossbar5.specs.declared.slip.Slip.{Slip}
-use Rattle.crossbar5.specs.declared.slip.Slip.TheVariants.{Plan, Report, Traffic}
+use Rattle.crossbar5.specs.declared.diagnostic.Diagnostic.{Diagnostic}
+use Rattle.crossbar5.specs.declared.diagnostic.Diagnostic.TheVariants.{Plan, Report, Traffic}
 use Rattle.crossbar5.specs.declared.status.Status.{Status}
 use Rattle.crossbar5.specs.declared.status.Status.TheVariants.{PlanRefused, ReportRefused, TrafficRefused}
 
--- the line for a text of records that is refused at this line
+-- the line that reports that a text of records is refused at this line
 abbrev pub report_fault_line : ℕ → List ℕ
 report_fault_line line = line_with (codes "FAULT" ∷ codes "U1" ∷ decimal line ∷ [])
 
--- the line that reports the fault of a slip
-abbrev pub line_of : Slip → List ℕ
-line_of (Plan slip) = plan_fault_line slip.fault
-line_of (Traffic slip) = fault_line slip.fault
-line_of (Report slip) = report_fault_line slip.line
+-- the line that reports the fault of a diagnostic
+abbrev pub line_of : Diagnostic → List ℕ
+line_of (Plan diagnostic) = plan_fault_line diagnostic.fault
+line_of (Traffic diagnostic) = fault_line diagnostic.fault
+line_of (Report diagnostic) = report_fault_line diagnostic.line
 
--- and the status of what was refused for it
-abbrev pub status_of : Slip → Status
-status_of (Plan slip) = PlanRefused
-status_of (Traffic slip) = TrafficRefused
-status_of (Report slip) = ReportRefused
+-- the status of a run that is refused for the fault of a diagnostic
+abbrev pub status_of : Diagnostic → Status
+status_of (Plan diagnostic) = PlanRefused
+status_of (Traffic diagnostic) = TrafficRefused
+status_of (Report diagnostic) = ReportRefused
 
--- where there is a slip, the text and the status tell that its fault refused the run
-abbrev pub TellsItsRefusal : Option Slip → List ℕ → Status → Type 0
-TellsItsRefusal slip text status =
-    ForSome slip (λ slip. (text ≡ line_of slip) × (status ≡ status_of slip))
+-- if there is a diagnostic, the text and the status report that its fault refused the run
+abbrev pub ReportsFaultOf : Option Diagnostic → List ℕ → Status → Type 0
+ReportsFaultOf diagnostic text status =
+    ForSome diagnostic (λ diagnostic. (text ≡ line_of diagnostic) × (status ≡ status_of diagnostic))
 
--- the same of the status alone
-abbrev pub HasItsStatus : Option Slip → Status → Type 0
-HasItsStatus slip status = ForSome slip (λ slip. status ≡ status_of slip)
+-- if there is a diagnostic, the status is that of a run refused for its fault
+abbrev pub HasItsStatus : Option Diagnostic → Status → Type 0
+HasItsStatus diagnostic status = ForSome diagnostic (λ diagnostic. status ≡ status_of diagnostic)

@@ -9,34 +9,36 @@ use Rattle.xbar_traffic.specs.declared.fault.MarkerFault.TheVariants.{NoMarker, 
 use Rattle.xbar_traffic.specs.declared.row.Row.{Row}
 use Rattle.xbar_traffic.specs.declared.row.Row.TheVariants.{Assign, Steps, Call}
 
--- what a row is told where a marker can't be assigned its job; want of memory is no fault of a row
-abbrev pub told_as : AssignFault → Option MarkerFault
-told_as assign.NoMarker = Some NoMarker
-told_as assign.NotIdle = Some NotIdle
-told_as assign.WrongKind = Some WrongKind
-told_as assign.Memory = None
+-- the fault of a row whose job can't be assigned; running out of memory is no fault of a row
+abbrev pub row_fault_of : AssignFault → Option MarkerFault
+row_fault_of assign.NoMarker = Some NoMarker
+row_fault_of assign.NotIdle = Some NotIdle
+row_fault_of assign.WrongKind = Some WrongKind
+row_fault_of assign.Memory = None
 
-abbrev pub refused_as : Option AssignFault → Option MarkerFault
-refused_as None = None
-refused_as (Some fault) = told_as fault
+-- the fault of a row, by what refuses its assignment, if anything
+abbrev pub assignment_fault : Option AssignFault → Option MarkerFault
+assignment_fault None = None
+assignment_fault (Some fault) = row_fault_of fault
 
-abbrev pub missing : Option Marker → Option MarkerFault
-missing None = Some NoMarker
-missing (Some m) = None
+-- the fault of a row if its marker doesn't exist
+abbrev pub no_marker_fault : Option Marker → Option MarkerFault
+no_marker_fault None = Some NoMarker
+no_marker_fault (Some m) = None
 
--- why a marker can't be asked what a row asks; a call asks none
+-- why a marker can't do what a row asks; a call asks nothing of a marker
 abbrev pub row_fault : Exchange → Row → Option MarkerFault
-row_fault e (Assign marker job_no job) = refused_as (refusal e marker job)
-row_fault e (Steps marker count) = missing (slice_get e.markers marker)
+row_fault e (Assign marker job_no job) = assignment_fault (refusal e marker job)
+row_fault e (Steps marker count) = no_marker_fault (slice_get e.markers marker)
 row_fault e (Call call_no line dialled release) = None
 
--- a row that assigns a job, and nothing refuses it
+-- the row assigns a job, and nothing refuses it
 abbrev pub IsUnrefusedJob : Exchange → Row → Type 0
 IsUnrefusedJob e (Assign marker job_no job) = refusal e marker job ≡ None
 IsUnrefusedJob e (Steps marker count) = ⊥
 IsUnrefusedJob e (Call call_no line dialled release) = ⊥
 
--- the office once a row is done: a job assigned, or so many steps made
+-- the office after a row: its job is assigned, or its steps are made
 abbrev pub done : Tables → Exchange → Row → Exchange
 done plan e (Assign marker job_no job) = assigned marker job_no job e
 done plan e (Steps marker count) = steps plan marker count e

@@ -1,4 +1,4 @@
-//! An audit: records judged by the one-marker office alone.
+//! Audits: records are compared with the one-marker office.
 
 ghost use Rattle.std.specs.Prelude.{◌≡◌, ◌↔◌, IfOk, IsTrue, List, Option};
 ghost use Rattle.xbar_office.specs.Audit.{IsFirstWrongReply};
@@ -7,19 +7,19 @@ ghost use Rattle.xbar_office.specs.declared.reply.Record.{Record as TheRecord};
 ghost use Rattle.xbar_report.specs.Sheet.{IsReport};
 ghost use Rattle.xbar_report.specs.Text.{records_text};
 ghost use Rattle.xbar_report.specs.declared.counts.Counts.{Counts as TheCounts};
-ghost use Rattle.crossbar5.specs.Audit.{AreRightCounts, IsAuditUnder, IsFoundIn, IsFoundOf, finding_status, finding_text, righted, standing_after};
-ghost use Rattle.crossbar5.specs.Refusal.{TellsItsRefusal};
+ghost use Rattle.crossbar5.specs.Audit.{AreRightCounts, IsAuditUnder, IsFoundIn, IsFoundOf, finding_status, finding_text, righted, counts_after};
+ghost use Rattle.crossbar5.specs.Refusal.{ReportsFaultOf};
 
-use crate::finding::{Finding, Standing};
-use crate::slip::Slip;
+use crate::diagnostic::Diagnostic;
+use crate::finding::{Finding, OfficeCounts};
 use crate::written::Written;
 use std::alloc::{AllocError, Global};
+use xbar_diagnostics::report_diagnostic;
 use xbar_office::{AuditFault, Office, Record, Reply, audit};
 use xbar_plan::Plan;
 use xbar_report::{Counts, ReadFault, Report, read};
-use xbar_slips::report_slip;
 
-/// What is written of a text of records.
+/// Audits a text of records.
 pub fn audit_text(alloc: Global, plan: &Plan, text: &[u8]) -> Result<Written, AllocError>
     ensures { IfOk result (λ written.
         IsAuditUnder plan.now text.now written.text.items written.status) }
@@ -28,24 +28,24 @@ pub fn audit_text(alloc: Global, plan: &Plan, text: &[u8]) -> Result<Written, Al
     Ok(Written {
         text: finding.text(alloc)?.into_bytes(),
         status: finding.status(),
-        slip: slip_of(alloc, &finding, text),
+        diagnostic: diagnostic_of(alloc, &finding, text),
     })
 }
 
-/// What is wrong with a text that is no text of records, if there is memory for it.
-fn slip_of(alloc: Global, finding: &Finding, text: &[u8]) -> Option<Slip>
-    ensures { TellsItsRefusal result (finding_text finding.now) (finding_status finding.now) }
+/// The diagnostic of a text that isn't one of records. None for other findings or without memory.
+fn diagnostic_of(alloc: Global, finding: &Finding, text: &[u8]) -> Option<Diagnostic>
+    ensures { ReportsFaultOf result (finding_text finding.now) (finding_status finding.now) }
 {
     let Finding::NoReport { line } = finding else {
         return None;
     };
-    match report_slip(alloc, text, *line) {
-        Ok(slip) => Some(Slip::Report(slip)),
+    match report_diagnostic(alloc, text, *line) {
+        Ok(diagnostic) => Some(Diagnostic::Report(diagnostic)),
         Err(_) => None,
     }
 }
 
-/// What is found in a text.
+/// Reads a text of records and judges them.
 fn find(alloc: Global, plan: &Plan, text: &[u8]) -> Result<Finding, AllocError>
     ensures found { IfOk result (IsFoundIn plan.now text.now) }
     ensures only { (list : List TheRecord) (counts : Option TheCounts) → IsReport list counts →
@@ -59,7 +59,7 @@ fn find(alloc: Global, plan: &Plan, text: &[u8]) -> Result<Finding, AllocError>
     }
 }
 
-/// What is found of records at their turns, and of their counts.
+/// Judges records that have the turns from 0 on, and then their counts.
 fn judge(alloc: Global, plan: &Plan, report: &Report) -> Result<Finding, AllocError>
     requires { HaveTurns 0 report.now.records.items }
     ensures { IfOk result (IsFoundOf plan.now report.now.records.items report.now.counts) }
@@ -72,13 +72,13 @@ fn judge(alloc: Global, plan: &Plan, report: &Report) -> Result<Finding, AllocEr
     }
 }
 
-/// What is found of legal records, which leave this office, and of their counts.
+/// Judges the counts of legal records, which leave this office.
 fn judge_counts(alloc: Global, office: &Office<'_>, report: &Report) -> Result<Finding, AllocError>
     requires legal { IsLegal office.now.plan report.now.records.items }
     requires paths { office.now.paths ≡ after office.now.plan report.now.records.items }
     ensures { IfOk result (IsFoundOf office.now.plan report.now.records.items report.now.counts) }
 {
-    let standing = Standing {
+    let standing = OfficeCounts {
         paths: office.paths().len(),
         closed: office.crosspoints(alloc)?.len(),
     };
@@ -89,8 +89,8 @@ fn judge_counts(alloc: Global, office: &Office<'_>, report: &Report) -> Result<F
     Ok(Finding::Legal { count, standing })
 }
 
-/// Whether counts, if there are any, are those of what stands.
-fn are_right(counts: &Option<Counts>, standing: Standing) -> bool
+/// Whether the counts in the text, if any, are these.
+fn are_right(counts: &Option<Counts>, standing: OfficeCounts) -> bool
     ensures { IsTrue result ↔ AreRightCounts counts.now standing }
 {
     match counts {
@@ -102,7 +102,7 @@ fn are_right(counts: &Option<Counts>, standing: Standing) -> bool
     }
 }
 
-/// The record of this turn, which is the first with a wrong reply, and what it has to be.
+/// The finding on the record of this turn, which is the first with a wrong reply.
 fn wrong_reply(
     alloc: Global,
     plan: &Plan,
@@ -125,7 +125,7 @@ fn wrong_reply(
     })
 }
 
-/// The office after the jobs of records, whatever replies they have.
+/// The office after the jobs of these records. Their replies are ignored.
 pub fn office_after<'p>(
     alloc: Global,
     plan: &'p Plan,
@@ -141,7 +141,7 @@ pub fn office_after<'p>(
     Ok(office)
 }
 
-/// The record with this reply in place of its own.
+/// A copy of the record with this reply.
 fn with_reply(given: &Record, reply: Reply) -> Record
     ensures { result ≡ record given.now { reply = reply } }
 {

@@ -1,4 +1,4 @@
-//! A drawing of the office after records that an audit finds legal.
+//! Drawings of the office after records that an audit finds legal.
 
 ghost use Rattle.std.specs.Prelude.{◌≡◌, IfOk, List, Option, string_bytes};
 ghost use Rattle.xbar_office.specs.Legal.{after};
@@ -19,7 +19,7 @@ use xbar_page::office_page;
 use xbar_plan::Plan;
 use xbar_report::{ReadFault, read};
 
-/// What is written of a text of records: a drawing, or what an audit finds wrong.
+/// Draws the office after a text of records. If an audit finds them wrong, returns the audit.
 pub fn draw_text(alloc: Global, plan: &Plan, look: Look, text: &[u8]) -> Result<Written, AllocError>
     ensures { IfOk result (λ written.
         IsDrawUnder look plan.now text.now written.text.items written.status) }
@@ -31,7 +31,7 @@ pub fn draw_text(alloc: Global, plan: &Plan, look: Look, text: &[u8]) -> Result<
     Ok(Written {
         text: drawn(alloc, plan, look, text)?.into_bytes(),
         status: Status::Fine,
-        slip: None,
+        diagnostic: None,
     })
 }
 

@@ -1,23 +1,23 @@
-//! The engine: from the bytes of a plan and an input to those of the output, with a slip where the plan
-//! or the traffic is refused.
+//! The engine: from the bytes of a plan and an input to those of the output, with a diagnostic if
+//! the plan or the input is refused.
 
 ghost use Rattle.std.specs.Prelude.{◌≡◌, ◌≢◌, ◌↔◌, ◌⊎◌, Err, IfErr, IfOk, IfSome, List, OnOk, ℕ};
 ghost use Rattle.std.specs.Io.KnownBytes.{Appends, IsAtEnd, Keeps};
 ghost use Rattle.counted_io.specs.Counts.{HasFailed, ReadsUsedUp};
 ghost use Rattle.crossbar5.specs.Faults.{ComesFirst};
-ghost use Rattle.crossbar5.specs.Refusal.{TellsItsRefusal};
+ghost use Rattle.crossbar5.specs.Refusal.{ReportsFaultOf};
 ghost use Rattle.crossbar5.specs.Task.{HasItsMarkers, IsDone, IsUnreadTask, output_of, reasons_of};
 
-use crate::answer::Answer;
 use crate::engine_fault::EngineFault;
 use crate::input::{Input, read_input};
+use crate::response::Response;
 use crate::task::Task;
 use crate::written::Written;
 use counted_io::{Sink, Source, write_all};
 use std::alloc::Global;
 
-/// What is written of a task with a plan's text, for all that the source gives.
-fn comes_to<R: Source>(
+/// Does a task with a plan's text and all that the source gives, without writing anything.
+fn do_task<R: Source>(
     alloc: Global,
     task: Task<'_>,
     plan: &[u8],
@@ -46,32 +46,32 @@ fn comes_to<R: Source>(
     }
 }
 
-/// Does a task with the plan of this text and what the source gives, and writes its text to the sink.
-/// Of a drawing nothing is written but the drawing: where the plan or the records are refused, or the
-/// records are wrong, the answer has the text, as the reasons.
+/// Does a task with the plan of this text and the input from the source, and writes its text to
+/// the sink. For a drawing only the drawing is written: if the plan or the records are refused, or
+/// the records are wrong, the text is returned as the `reasons` of the response.
 ///
-/// The markers of a replay or a walk are judged first, then the plan, then the input. Markers or a plan
-/// that are refused leave the source unread. The input is read to its end before a line of it is looked
-/// at, and the output is written in one go once all is known. Of how much went out before `Device`
-/// nothing is said.
+/// The markers of a replay or a walk are judged first, then the plan, then the input. If the
+/// markers or the plan are refused, the source is left unread. The input is read to its end before
+/// its first line is checked, and the output is written once it is complete. How much was written
+/// before a `Device` fault is unspecified.
 pub fn answer_task<R: Source, W: Sink>(
     alloc: Global,
     task: Task<'_>,
     plan: &[u8],
     source: &mut R,
     sink: &mut W,
-) -> Result<Answer, EngineFault>
+) -> Result<Response, EngineFault>
     ensures done { IfOk result (λ answer. (input text : List ℕ) ×
         IfSome (R.remaining source.old) (λ all. input ≡ all) ×
         IsDone task.entry plan.now input text answer.status ×
         Appends (W.contents sink.old) (W.contents sink.new)
         (output_of task.entry answer.status text) ×
         (answer.reasons.items ≡ reasons_of task.entry answer.status text)) }
-    ensures slip { IfOk result (λ answer. (text : List ℕ) ×
+    ensures diagnostic { IfOk result (λ answer. (text : List ℕ) ×
         Appends (W.contents sink.old) (W.contents sink.new)
         (output_of task.entry answer.status text) ×
         (answer.reasons.items ≡ reasons_of task.entry answer.status text) ×
-        TellsItsRefusal answer.slip text answer.status) }
+        ReportsFaultOf answer.diagnostic text answer.status) }
     ensures markers { (result ≡ Err EngineFault.Markers) ↔ ¬ HasItsMarkers task.entry }
     ensures device { result ≡ Err EngineFault.Device
         → HasFailed (R.failure_count source.old) (R.failure_count source.new)
@@ -87,12 +87,16 @@ pub fn answer_task<R: Source, W: Sink>(
     ensures unwritten { IfErr result (λ fault. ComesFirst fault →
         Keeps (W.contents sink.old) (W.contents sink.new)) }
 {
-    let Written { text, status, slip } = comes_to(alloc, task, plan, source)?;
-    let (output, reasons) = task.parted(alloc, status, text);
-    write_all(sink, &output)?;
-    Ok(Answer {
+    let Written {
+        text,
         status,
-        slip,
+        diagnostic,
+    } = do_task(alloc, task, plan, source)?;
+    let (output, reasons) = task.split_output(alloc, status, text);
+    write_all(sink, &output)?;
+    Ok(Response {
+        status,
+        diagnostic,
         reasons,
     })
 }

@@ -6,18 +6,19 @@ use counted_io::{ReadFault, WriteFault};
 use std::alloc::{AllocError, AllocFailed};
 use thiserror::Error;
 
-/// Why a run wrote no whole text, or why the kinds of the markers are refused. A fault's text is its name.
+/// Why a run didn't write its whole text, or why the kinds of the markers are refused. `Display`
+/// writes the name of the variant.
 #[derive(Clone, Copy, Debug, PartialEq, Eq, Error)]
 pub enum EngineFault {
-    /// The markers aren't 1 to 48, or the text of their kinds names none.
+    /// The number of markers is out of range, or the text of their kinds names no kinds.
     #[error("Markers")]
     Markers,
     #[error("Memory")]
     Memory,
-    /// A read, a write or a flush failed, and was counted.
+    /// A read, a write or a flush failed, and the failure was counted.
     #[error("Device")]
     Device,
-    /// There were too many reads that gave bytes.
+    /// The input is too long: too many reads returned bytes.
     #[error("Long")]
     Long,
 }

@@ -6,21 +6,21 @@ use std::fmt;
 use xbar_office::Record;
 use xbar_report::record_text;
 
-/// How many paths stand, and how many crosspoints are closed.
+/// The number of paths that are up, and of closed crosspoints.
 #[derive(Clone, Copy)]
-pub struct Standing {
+pub struct OfficeCounts {
     pub paths: usize,
     pub closed: usize,
 }
 
-impl fmt::Display for Standing {
+impl fmt::Display for OfficeCounts {
     ghost use Rattle.std.specs.Prelude.{Some};
-    ghost use Rattle.crossbar5.specs.Audit.{standing_text};
+    ghost use Rattle.crossbar5.specs.Audit.{counts_text};
 
-    ghost output = { λ standing. Some (standing_text standing) };
+    ghost output = { λ standing. Some (counts_text standing) };
 
     fn fmt<W: fmt::Write>(&self, f: &mut fmt::Formatter<W>) -> fmt::Result {
-        let Standing { paths, closed } = self;
+        let OfficeCounts { paths, closed } = self;
         write!(f, "PATHS,{paths}\nCLOSED,{closed}\n")
     }
 }
@@ -28,24 +28,37 @@ impl fmt::Display for Standing {
 /// What an audit finds in a text.
 #[derive(Drop)]
 pub enum Finding {
-    /// So many records are legal, the counts are right if there are any, and this stands after
-    /// them.
-    Legal { count: usize, standing: Standing },
-    /// The records are legal, and other counts than these are given.
-    WrongCounts { standing: Standing },
-    /// The record with the least turn whose reply is another, and what it has to be.
-    WrongReply { given: Record, right: Record },
-    /// The first place, counted from 0, whose record hasn't the turn of its place.
-    WrongTurn { place: usize },
-    /// It is no text of records: the first line, counted from 1, where it leaves them.
-    NoReport { line: usize },
+    /// All `count` records are legal, and the counts in the text, if any, are right: those in
+    /// `standing`.
+    Legal {
+        count: usize,
+        standing: OfficeCounts,
+    },
+    /// The records are legal, but the counts in the text aren't those in `standing`.
+    WrongCounts {
+        standing: OfficeCounts,
+    },
+    /// The first record with a wrong reply, and the same record with the right one.
+    WrongReply {
+        given: Record,
+        right: Record,
+    },
+    /// The first place, counted from 0, whose record doesn't have the turn of that number.
+    WrongTurn {
+        place: usize,
+    },
+    /// The text isn't one of records: its first line, counted from 1, that no text of records has
+    /// there.
+    NoReport {
+        line: usize,
+    },
 }
 
 impl Finding {
     ghost use Rattle.std.specs.Prelude.{◌≡◌, IfOk, string_bytes};
     ghost use Rattle.crossbar5.specs.Audit.{finding_status, finding_text};
 
-    /// What is written of it.
+    /// What the audit writes.
     pub fn text(&self, alloc: Global) -> Result<String, AllocError>
         ensures { IfOk result (λ text. string_bytes text ≡ finding_text self.now) }
     {
@@ -65,7 +78,7 @@ impl Finding {
         }
     }
 
-    /// The status that the audit ends with.
+    /// The status of the audit.
     pub fn status(&self) -> Status
         ensures { result ≡ finding_status self.now }
     {

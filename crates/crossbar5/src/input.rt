@@ -1,4 +1,4 @@
-//! What the engine is given: a plan, and all that a source gives.
+//! The input of the engine: a plan, and all that a source gives.
 
 ghost use Rattle.std.specs.Prelude.{◌≡◌, ◌≢◌, Err, IfErr, IfOk, IfSome, OnOk};
 ghost use Rattle.std.specs.Io.KnownBytes.{IsAtEnd};
@@ -7,24 +7,24 @@ ghost use Rattle.crossbar5.specs.Input.{IsInputOf};
 ghost use Rattle.crossbar5.specs.PlanRefusal.{IsPlanRefusal, IsRefusedPlan, plan_fault_line};
 ghost use Rattle.crossbar5.specs.Refusal.{line_of, status_of};
 
+use crate::diagnostic::Diagnostic;
 use crate::engine_fault::EngineFault;
-use crate::slip::Slip;
 use crate::status::Status;
 use crate::written::Written;
 use counted_io::{Source, read_all};
 use std::alloc::Global;
+use xbar_diagnostics::plan_diagnostic;
 use xbar_plan::{Plan, PlanFault};
 use xbar_plan_text::PlanText;
-use xbar_slips::plan_slip;
 
-/// A plan with the input, or what is written for a plan that is refused.
+/// A plan with the bytes of the input, or what is written for a plan that is refused.
 #[derive(Drop)]
 pub enum Input {
     Read { plan: Plan, bytes: Vec<u8> },
     Refused(Written),
 }
 
-/// What is written for a plan's text that is refused, if it is not that memory ran out.
+/// What is written for a refused plan. Running out of memory is the engine's fault instead.
 fn refuse_plan(alloc: Global, plan: &[u8], fault: PlanFault) -> Result<Written, EngineFault>
     ensures written { IfOk result (λ written. (fault ≢ PlanFault.Memory) ×
         IsPlanRefusal fault written.text.items written.status) }
@@ -36,23 +36,22 @@ fn refuse_plan(alloc: Global, plan: &[u8], fault: PlanFault) -> Result<Written, 
     Ok(Written {
         text: format!(in alloc; "FAULT,{fault}\n")?.into_bytes(),
         status: Status::PlanRefused,
-        slip: slip_of(alloc, plan, fault),
+        diagnostic: diagnostic_of(alloc, plan, fault),
     })
 }
 
-/// What is wrong with a plan's text that is refused for this fault, if it is found and there is memory
-/// for it.
-fn slip_of(alloc: Global, plan: &[u8], fault: PlanFault) -> Option<Slip>
-    ensures line { IfSome result (λ slip. line_of slip ≡ plan_fault_line fault) }
-    ensures status { IfSome result (λ slip. status_of slip ≡ Status.PlanRefused) }
+/// The diagnostic of a plan refused for this fault. None if none is found, or if memory runs out.
+fn diagnostic_of(alloc: Global, plan: &[u8], fault: PlanFault) -> Option<Diagnostic>
+    ensures line { IfSome result (λ diagnostic. line_of diagnostic ≡ plan_fault_line fault) }
+    ensures status { IfSome result (λ diagnostic. status_of diagnostic ≡ Status.PlanRefused) }
 {
-    match plan_slip(alloc, plan, fault) {
-        Ok(Some(slip)) => Some(Slip::Plan(slip)),
+    match plan_diagnostic(alloc, plan, fault) {
+        Ok(Some(diagnostic)) => Some(Diagnostic::Plan(diagnostic)),
         Ok(None) | Err(_) => None,
     }
 }
 
-/// Reads the plan of this text and then the input to its end; where the plan is refused the source
+/// Reads the plan of this text and then the input to its end. If the plan is refused, the source
 /// is left unread.
 pub fn read_input<R: Source>(
     alloc: Global,

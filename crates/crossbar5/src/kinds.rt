@@ -27,8 +27,10 @@ fn are_letters(letters: &[u8]) -> bool
     letters.iter().all(|letter| kind_of(*letter).is_some())
 }
 
-/// The kinds that a text names, as `XX` or `DC`: a letter for each marker, marker 0 first. `D` is for
-/// dial tone jobs, `C` for completing jobs and releases, `X` for all. `Markers` is answered where it names none.
+/// The kinds that a text such as `XX` or `DC` names: a letter for each marker, marker 0 first. `D`
+/// is for dial tone jobs, `C` for completing jobs and releases, `X` for all jobs.
+///
+/// The fault is `Markers` if the text isn't 1 to 48 of these letters.
 pub fn kinds_of(alloc: Global, text: &str) -> Result<Vec<Kind>, EngineFault>
     ensures named { IfOk result (λ kinds. Names text.now kinds.items) }
     ensures refused { (result ≡ Err EngineFault.Markers) ↔

@@ -5,6 +5,6 @@ pub enum Look {
     Text,
     /// As one drawing in SVG.
     Drawing,
-    /// Turn by turn, as one page in HTML.
+    /// As one HTML page, turn by turn.
     Page,
 }

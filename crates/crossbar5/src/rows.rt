@@ -1,17 +1,17 @@
-//! Rows of traffic, done in an office.
+//! Does rows of traffic in an office.
 
 ghost use Rattle.std.specs.Prelude.{◌≡◌, IfOk, None, OnErr, slice_get};
 ghost use Rattle.xbar_core.specs.Moves.{assigned, refusal, steps};
 ghost use Rattle.xbar_traffic.specs.Row.{IsRow, mode_of};
 ghost use Rattle.xbar_traffic.specs.declared.mode.Mode.{Mode};
-ghost use Rattle.crossbar5.specs.Rows.{IsUnrefusedJob, done, missing, refused_as, row_fault};
+ghost use Rattle.crossbar5.specs.Rows.{IsUnrefusedJob, done, no_marker_fault, assignment_fault, row_fault};
 
 use std::alloc::AllocError;
 use xbar_core::{AssignFault, Exchange};
 use xbar_office::Job;
 use xbar_traffic::{MarkerFault, Row};
 
-/// Assigns a job to a marker, or tells why it can't be.
+/// Assigns a job to a marker, or returns why it can't.
 pub fn assign(
     office: &mut Exchange,
     marker: u32,
@@ -19,7 +19,7 @@ pub fn assign(
     job: Job,
 ) -> Result<Option<MarkerFault>, AllocError>
     ensures fault { IfOk result (λ fault. fault ≡
-        refused_as (refusal office.old.exchange marker job)) }
+        assignment_fault (refusal office.old.exchange marker job)) }
     ensures done { IfOk result (λ fault. fault ≡ None →
         office.new ≡
         record office.old { exchange = assigned marker job_no job office.old.exchange }) }
@@ -35,9 +35,9 @@ pub fn assign(
     }
 }
 
-/// Has a marker make so many steps, or tells that the office has no such marker.
+/// Makes `count` steps of a marker, or returns that the marker doesn't exist.
 fn make_steps(office: &mut Exchange, marker: u32, count: u32) -> Option<MarkerFault>
-    ensures fault { result ≡ missing (slice_get office.old.exchange.markers marker) }
+    ensures fault { result ≡ no_marker_fault (slice_get office.old.exchange.markers marker) }
     ensures done { result ≡ None → office.new ≡
         record office.old { exchange = steps office.old.plan marker count office.old.exchange } }
 {
@@ -48,8 +48,7 @@ fn make_steps(office: &mut Exchange, marker: u32, count: u32) -> Option<MarkerFa
     None
 }
 
-/// Does what a row of a replay asks, or tells why it can't be done. Memory is wanted for a job alone
-/// that nothing refuses.
+/// Does a row of a replay, or returns why it can't. Only a job that nothing refuses needs memory.
 pub fn do_row(office: &mut Exchange, row: &Row) -> Result<Option<MarkerFault>, AllocError>
     requires range { IsRow row.now }
     requires mode { mode_of row.now ≡ Mode.Replay }

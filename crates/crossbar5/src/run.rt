@@ -1,4 +1,4 @@
-//! What traffic comes to in an office, as text.
+//! Replays: traffic is done in an office, and its outcome is written as text.
 
 ghost use Rattle.std.specs.Prelude.{◌≡◌, All, IfOk, IfSome, length};
 ghost use Rattle.xbar_core.specs.Exchange.{fresh_exchange};
@@ -10,19 +10,19 @@ ghost use Rattle.crossbar5.specs.Faults.{IsMarkerCount};
 ghost use Rattle.crossbar5.specs.Refusal.{line_of, status_of};
 ghost use Rattle.crossbar5.specs.Run.{IsOneHistory, IsWrittenOf, Leaves, LeavesOneHistory, IsReplayUnder, RefusesTraffic, outcome};
 
+use crate::diagnostic::Diagnostic;
 use crate::rows::do_row;
-use crate::slip::Slip;
 use crate::status::Status;
 use crate::written::Written;
 use std::alloc::{AllocError, Global};
 use xbar_core::{Exchange, Kind, OpenFault};
+use xbar_diagnostics::traffic_diagnostic;
 use xbar_match::{count_closed, count_paths};
 use xbar_plan::Plan;
 use xbar_report::report;
-use xbar_slips::traffic_slip;
 use xbar_traffic::{Mode, RowFault, Traffic, TrafficFault};
 
-/// Opens an office; how many markers it has is known to be in range.
+/// Opens an office. The number of markers is known to be in range.
 pub fn open<'p>(alloc: Global, plan: &'p Plan, kinds: &[Kind]) -> Result<Exchange<'p>, AllocError>
     requires { IsMarkerCount (length kinds.now) }
     ensures { IfOk result (λ office. office ≡
@@ -35,7 +35,7 @@ pub fn open<'p>(alloc: Global, plan: &'p Plan, kinds: &[Kind]) -> Result<Exchang
     }
 }
 
-/// What is written for traffic of this mode that is refused.
+/// What is written for traffic of these bytes and this mode that is refused for this fault.
 pub fn refused(
     alloc: Global,
     mode: Mode,
@@ -48,42 +48,43 @@ pub fn refused(
     Ok(Written {
         text: fault.text(alloc)?.into_bytes(),
         status: Status::TrafficRefused,
-        slip: slip_of(alloc, mode, bytes, fault),
+        diagnostic: diagnostic_of(alloc, mode, bytes, fault),
     })
 }
 
-/// What is wrong with traffic that is refused for this fault, if it is found and there is memory for it.
-fn slip_of(alloc: Global, mode: Mode, bytes: &[u8], fault: TrafficFault) -> Option<Slip>
-    ensures line { IfSome result (λ slip. line_of slip ≡ fault_line fault) }
-    ensures status { IfSome result (λ slip. status_of slip ≡ Status.TrafficRefused) }
+/// The diagnostic of traffic refused for this fault. None if none is found, or if memory runs out.
+fn diagnostic_of(alloc: Global, mode: Mode, bytes: &[u8], fault: TrafficFault) -> Option<Diagnostic>
+    ensures line { IfSome result (λ diagnostic. line_of diagnostic ≡ fault_line fault) }
+    ensures status { IfSome result (λ diagnostic. status_of diagnostic ≡ Status.TrafficRefused) }
 {
-    match traffic_slip(alloc, mode, bytes, fault) {
-        Ok(Some(slip)) => Some(Slip::Traffic(slip)),
+    match traffic_diagnostic(alloc, mode, bytes, fault) {
+        Ok(Some(diagnostic)) => Some(Diagnostic::Traffic(diagnostic)),
         Ok(None) | Err(_) => None,
     }
 }
 
+/// Settles the office, and reports its records and counts.
 fn settled(alloc: Global, mut office: Exchange<'_>) -> Result<Written, AllocError>
     ensures written { IfOk result (λ written.
         IsWrittenOf (Leaves
-        (settled_office office.entry.plan office.entry.exchange)) written.text.items written.status) }
+        (settled_office office.entry.plan office.entry.exchange)) written.text.items
+        written.status) }
     ensures history { IfOk result (λ written.
         IsOneHistory office.entry.plan (settled_office office.entry.plan office.entry.exchange)) }
 {
     office.settle();
-    // Called for its clauses alone.
+    // Called only for its clauses.
     xbar_core::laws::jobs_act_at_their_turns();
     let paths = count_paths(office.words());
     let closed = count_closed(office.words());
     Ok(Written {
         text: report(alloc, office.records(), paths, closed)?,
         status: Status::Fine,
-        slip: None,
+        diagnostic: None,
     })
 }
 
-/// Opens an office, does the rows of these bytes one after another and settles it: what came of it, or of
-/// the first fault.
+/// Opens an office, does the rows one after another and settles it, or reports the first fault.
 fn run(
     alloc: Global,
     plan: &Plan,
@@ -119,7 +120,7 @@ fn run(
     }
 }
 
-/// What is written for the bytes of a whole traffic.
+/// Replays the traffic of these bytes.
 pub fn replay(
     alloc: Global,
     plan: &Plan,
@@ -130,7 +131,7 @@ pub fn replay(
     ensures { IfOk result (λ written.
         IsReplayUnder plan.now kinds.now bytes.now written.text.items written.status) }
 {
-    // Called for their clauses alone.
+    // Called only for their clauses.
     xbar_traffic::laws::rows_are_in_range();
     xbar_traffic::laws::rows_are_of_their_mode();
     let traffic = Traffic::read(alloc, Mode::Replay, bytes)?;

@@ -1,4 +1,4 @@
-//! Replays for whoever wants no slip: each ends with the status of its answer.
+//! Replays that return only a status, without a diagnostic.
 
 ghost use Rattle.std.specs.Prelude.{◌≡◌, ◌≢◌, ◌↔◌, ◌⊎◌, Err, IfErr, IfOk, IfSome, List, OnOk, ℕ, length};
 ghost use Rattle.std.specs.Io.KnownBytes.{Appends, IsAtEnd, Keeps};
@@ -14,8 +14,8 @@ use counted_io::{Sink, Source};
 use std::alloc::Global;
 use xbar_core::Kind;
 
-/// Replays the traffic that the source gives, in an office with the plan of this text and markers of
-/// these kinds, as `answer_task` does.
+/// Replays the traffic from the source, in an office with the plan of this text and markers of
+/// these kinds, as `answer_task` does. Returns only the status.
 pub fn run_replay<R: Source, W: Sink>(
     alloc: Global,
     plan: &[u8],

@@ -1,16 +1,16 @@
-/// How a run ended whose text was written whole.
+/// How a run ended that had no `EngineFault`.
 #[derive(Clone, Copy, Debug, PartialEq, Eq)]
 pub enum Status {
-    /// The traffic was done, and what came of it was written; or the records were found legal, and
-    /// their counts right.
+    /// The traffic was done; or the records to be audited or drawn are legal, and their counts, if
+    /// any, are right.
     Fine,
-    /// The plan was refused, and the line that tells why was written.
+    /// The plan was refused. The text is the line that says why.
     PlanRefused,
-    /// A row of the traffic was refused, and the line that tells it was written.
+    /// A row of the traffic was refused. The text is the line that says why.
     TrafficRefused,
-    /// What was to be audited is no text of records, and the line that tells where was written.
+    /// The input to be audited or drawn isn't a text of records. The text is the line that says
+    /// where.
     ReportRefused,
-    /// The records weren't found legal, or their counts weren't right, and what is right was
-    /// written.
+    /// The records aren't legal, or their counts aren't right. The text says what is wrong.
     FoundWrong,
 }

@@ -8,18 +8,18 @@ use crate::written::Written;
 use std::alloc::{AllocError, Global};
 use xbar_core::{Kind, MOST_MARKERS};
 use xbar_plan::Plan;
-use xbar_walk::Telling;
+use xbar_walk::Detail;
 
-/// What the engine does with a plan and what it reads.
+/// What the engine does with a plan and an input.
 #[derive(Clone, Copy)]
 pub enum Task<'a> {
-    /// To replay traffic, by markers of these kinds.
+    /// Replays traffic with markers of these kinds.
     Replay { kinds: &'a [Kind] },
-    /// To replay it, and tell each step of these markers in words.
-    Walk { kinds: &'a [Kind], telling: Telling },
-    /// To audit records.
+    /// Replays traffic and describes each step of the markers, in this detail.
+    Walk { kinds: &'a [Kind], detail: Detail },
+    /// Audits records.
     Audit,
-    /// To draw the office after them.
+    /// Draws the office after records.
     Draw { look: Look },
 }
 
@@ -27,7 +27,7 @@ impl Task<'_> {
     ghost use Rattle.std.specs.Prelude.{◌≡◌, ◌↔◌, IfOk, IsTrue};
     ghost use Rattle.crossbar5.specs.Task.{HasItsMarkers, IsDoneUnder, is_output, output_of, reasons_of};
 
-    /// Whether its markers are 1 to 48, if it has any.
+    /// Whether there are 1 to 48 markers, if the task needs markers.
     pub fn has_its_markers(self) -> bool
         ensures { IsTrue result ↔ HasItsMarkers self.entry }
     {
@@ -39,7 +39,7 @@ impl Task<'_> {
         }
     }
 
-    /// What is written of it with this plan, for all that was read.
+    /// Does the task with this plan and the whole input.
     pub(crate) fn written(
         self,
         alloc: Global,
@@ -52,14 +52,14 @@ impl Task<'_> {
     {
         match self {
             Task::Replay { kinds } => replay(alloc, plan, kinds, input),
-            Task::Walk { kinds, telling } => walk(alloc, plan, kinds, telling, input),
+            Task::Walk { kinds, detail } => walk(alloc, plan, kinds, detail, input),
             Task::Audit => audit_text(alloc, plan, input),
             Task::Draw { look } => draw_text(alloc, plan, look, input),
         }
     }
 
-    /// Whether the text of a task that ends with this status is its output. That of a drawing which
-    /// isn't made says why it isn't.
+    /// Whether the text of a task with this status is its output. The text of a drawing that isn't
+    /// made says why.
     fn is_output(self, status: Status) -> bool
         ensures { result ≡ is_output self.entry status }
     {
@@ -69,8 +69,13 @@ impl Task<'_> {
         }
     }
 
-    /// Parts a task's text into its output and the reasons why nothing is drawn. One of them is empty.
-    pub(crate) fn parted(self, alloc: Global, status: Status, text: Vec<u8>) -> (Vec<u8>, Vec<u8>)
+    /// Splits a task's text into its output and the reasons why nothing is drawn. One is empty.
+    pub(crate) fn split_output(
+        self,
+        alloc: Global,
+        status: Status,
+        text: Vec<u8>,
+    ) -> (Vec<u8>, Vec<u8>)
         ensures output { result.0.items ≡ output_of self.entry status text.items }
         ensures reasons { result.1.items ≡ reasons_of self.entry status text.items }
     {

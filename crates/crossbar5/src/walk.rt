@@ -1,4 +1,4 @@
-//! What traffic comes to in an office, told step by step.
+//! Walks: traffic is done in an office and described step by step.
 
 ghost use Rattle.std.specs.Prelude.{◌≡◌, All, IfOk, None, length, slice_get};
 ghost use Rattle.xbar_core.specs.Moves.{assigned, refusal, steps};
@@ -6,13 +6,13 @@ ghost use Rattle.xbar_core.specs.Settling.{settled};
 ghost use Rattle.xbar_traffic.specs.Row.{IsRow, mode_of};
 ghost use Rattle.xbar_traffic.specs.declared.mode.Mode.{Mode};
 ghost use Rattle.xbar_traffic.specs.declared.row.Row.{Row as TheRow};
-ghost use Rattle.xbar_walk.specs.Stories.{Stands, Tells};
-ghost use Rattle.xbar_walk.specs.Walks.{Walk, told_settling};
-ghost use Rattle.xbar_walk.specs.declared.telling.Telling.{Telling as TheTelling};
+ghost use Rattle.xbar_walk.specs.Stories.{AgreesWith, ChangesAs};
+ghost use Rattle.xbar_walk.specs.Walks.{Walk, walk_of_settling};
+ghost use Rattle.xbar_walk.specs.declared.detail.Detail.{Detail as TheDetail};
 ghost use Rattle.crossbar5.specs.Faults.{IsMarkerCount};
-ghost use Rattle.crossbar5.specs.Rows.{done, missing, refused_as, row_fault};
+ghost use Rattle.crossbar5.specs.Rows.{done, no_marker_fault, assignment_fault, row_fault};
 ghost use Rattle.crossbar5.specs.Run.{Leaves, outcome};
-ghost use Rattle.crossbar5.specs.Walk.{IsTellingOf, IsWalkUnder, told_row, whole_walk};
+ghost use Rattle.crossbar5.specs.Walk.{IsWalkResult, IsWalkUnder, walk_after_row, whole_walk};
 
 use crate::rows::assign;
 use crate::run::{open, refused};
@@ -23,11 +23,11 @@ use xbar_core::{Exchange, Kind};
 use xbar_office::Job;
 use xbar_plan::Plan;
 use xbar_traffic::{MarkerFault, Mode, Row, RowFault, Traffic, TrafficFault};
-use xbar_walk::{Story, Telling, walk_settling, walk_steps};
+use xbar_walk::{Detail, Story, walk_settling, walk_steps};
 
-/// Assigns a job to a marker and tells it, or tells why it can't be.
-#[tactic(auto, unfolding(crate::specs::Walk::told_row))]
-fn tell_assignment(
+/// Assigns a job to a marker and describes that, or returns why it can't.
+#[tactic(auto, unfolding(crate::specs::Walk::walk_after_row))]
+fn walk_assignment(
     office: &mut Exchange,
     marker: u32,
     job_no: u32,
@@ -35,12 +35,12 @@ fn tell_assignment(
     story: &mut Story,
 ) -> Result<Option<MarkerFault>, AllocError>
     ensures fault { IfOk result (λ fault. fault ≡
-        refused_as (refusal office.old.exchange marker job)) }
+        assignment_fault (refusal office.old.exchange marker job)) }
     ensures done { IfOk result (λ fault. fault ≡ None →
         office.new ≡
         record office.old { exchange = assigned marker job_no job office.old.exchange }) }
     ensures told { IfOk result (λ fault. fault ≡ None →
-        Tells (told_row (TheRow.Assign marker job_no job))
+        ChangesAs (walk_after_row (TheRow.Assign marker job_no job))
         office.old story.old office.new story.new) }
 {
     let fault = assign(office, marker, job_no, job)?;
@@ -50,20 +50,20 @@ fn tell_assignment(
     Ok(fault)
 }
 
-/// Has a marker make so many steps and tells each, or tells that the office has no such marker.
-#[tactic(auto, unfolding(crate::specs::Walk::told_row))]
-fn tell_steps(
+/// Makes `count` steps of a marker and describes each, or returns that the marker doesn't exist.
+#[tactic(auto, unfolding(crate::specs::Walk::walk_after_row))]
+fn walk_marker_steps(
     office: &mut Exchange,
     marker: u32,
     count: u32,
     story: &mut Story,
 ) -> Result<Option<MarkerFault>, AllocError>
     ensures fault { IfOk result (λ fault. fault ≡
-        missing (slice_get office.old.exchange.markers marker)) }
+        no_marker_fault (slice_get office.old.exchange.markers marker)) }
     ensures done { IfOk result (λ fault. fault ≡ None → office.new ≡
         record office.old { exchange = steps office.old.plan marker count office.old.exchange }) }
     ensures told { IfOk result (λ fault. fault ≡ None →
-        Tells (told_row (TheRow.Steps marker count))
+        ChangesAs (walk_after_row (TheRow.Steps marker count))
         office.old story.old office.new story.new) }
 {
     if marker >= office.marker_count() {
@@ -73,8 +73,8 @@ fn tell_steps(
     Ok(None)
 }
 
-/// Does what a row of a replay asks and tells it, or tells why it can't be done.
-fn tell_row(
+/// Does a row of a replay and describes it, or returns why it can't.
+fn walk_row(
     office: &mut Exchange,
     row: &Row,
     story: &mut Story,
@@ -86,23 +86,23 @@ fn tell_row(
         office.new ≡
         record office.old { exchange = done office.old.plan office.old.exchange row.now }) }
     ensures told { IfOk result (λ fault. fault ≡ None →
-        Tells (told_row row.now) office.old story.old office.new story.new) }
+        ChangesAs (walk_after_row row.now) office.old story.old office.new story.new) }
 {
     match row {
         Row::Assign {
             marker,
             job_no,
             job,
-        } => tell_assignment(office, *marker, *job_no, *job, story),
-        Row::Steps { marker, count } => tell_steps(office, *marker, *count, story),
+        } => walk_assignment(office, *marker, *job_no, *job, story),
+        Row::Steps { marker, count } => walk_marker_steps(office, *marker, *count, story),
         Row::Call { .. } => unreachable!(),
     }
 }
 
-/// Has the office settle and tells it: what is written in all.
-fn tell_settling(mut office: Exchange<'_>, mut story: Story) -> Result<Written, AllocError>
-    ensures { (telling : TheTelling) (w : Walk) → Stands telling office.entry story w
-        → IfOk result (λ written. IsTellingOf telling (told_settling w)
+/// Settles the office, describes each step, and finishes the text.
+fn walk_settling_rows(mut office: Exchange<'_>, mut story: Story) -> Result<Written, AllocError>
+    ensures { (detail : TheDetail) (w : Walk) → AgreesWith detail office.entry story w
+        → IfOk result (λ written. IsWalkResult detail (walk_of_settling w)
         (Leaves (settled office.entry.plan office.entry.exchange))
         written.text.items written.status) }
 {
@@ -111,33 +111,33 @@ fn tell_settling(mut office: Exchange<'_>, mut story: Story) -> Result<Written, 
     Ok(Written {
         text: text.into_bytes(),
         status: Status::Fine,
-        slip: None,
+        diagnostic: None,
     })
 }
 
-/// Opens an office, does and tells the rows of these bytes one after another, and has it settle; or
-/// tells the first fault alone.
+/// Opens an office, does and describes the rows one after another and settles it, or reports only
+/// the first fault.
 fn tell(
     alloc: Global,
     plan: &Plan,
     kinds: &[Kind],
-    telling: Telling,
+    detail: Detail,
     traffic: &Traffic,
     bytes: &[u8],
 ) -> Result<Written, AllocError>
     requires kinds { IsMarkerCount (length kinds.now) }
     requires range { All IsRow traffic.now.rows.items }
     requires mode { All (λ row. mode_of row ≡ Mode.Replay) traffic.now.rows.items }
-    ensures { IfOk result (λ written. IsTellingOf telling
+    ensures { IfOk result (λ written. IsWalkResult detail
         (whole_walk plan.now kinds.now traffic.now.rows.items)
         (outcome plan.now kinds.now traffic.now.rows.items traffic.now.fault)
         written.text.items written.status) }
 {
     let mut office = open(alloc, plan, kinds)?;
-    let mut story = Story::new(alloc, telling);
+    let mut story = Story::new(alloc, detail);
     let mut number = 1;
     for row in &traffic.rows {
-        if let Some(why) = tell_row(&mut office, row, &mut story)? {
+        if let Some(why) = walk_row(&mut office, row, &mut story)? {
             let fault = TrafficFault {
                 row: number,
                 fault: RowFault::Marker(why),
@@ -148,25 +148,25 @@ fn tell(
     }
     match traffic.refusal() {
         Some(fault) => refused(alloc, Mode::Replay, bytes, fault),
-        None => tell_settling(office, story),
+        None => walk_settling_rows(office, story),
     }
 }
 
-/// What is written for the bytes of a whole traffic.
+/// Replays the traffic of these bytes and describes each step.
 pub fn walk(
     alloc: Global,
     plan: &Plan,
     kinds: &[Kind],
-    telling: Telling,
+    detail: Detail,
     bytes: &[u8],
 ) -> Result<Written, AllocError>
     requires { IsMarkerCount (length kinds.now) }
     ensures { IfOk result (λ written.
-        IsWalkUnder telling plan.now kinds.now bytes.now written.text.items written.status) }
+        IsWalkUnder detail plan.now kinds.now bytes.now written.text.items written.status) }
 {
-    // Called for their clauses alone.
+    // Called only for their clauses.
     xbar_traffic::laws::rows_are_in_range();
     xbar_traffic::laws::rows_are_of_their_mode();
     let traffic = Traffic::read(alloc, Mode::Replay, bytes)?;
-    tell(alloc, plan, kinds, telling, &traffic, bytes)
+    tell(alloc, plan, kinds, detail, &traffic, bytes)
 }

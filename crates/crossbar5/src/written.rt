@@ -1,13 +1,13 @@
-ghost use Rattle.crossbar5.specs.Refusal.{TellsItsRefusal};
+ghost use Rattle.crossbar5.specs.Refusal.{ReportsFaultOf};
 
-use crate::slip::Slip;
+use crate::diagnostic::Diagnostic;
 use crate::status::Status;
 
-/// What is written of a run, the status that it ends with, and what is wrong with what it refused.
+/// The text of a run, its status, and the diagnostic of what it refused, if there is one.
 #[derive(Debug, Drop)]
 pub struct Written {
     pub text: Vec<u8>,
     pub status: Status,
-    pub slip: Option<Slip>,
-    pub ghost refusal: { TellsItsRefusal slip text.items status },
+    pub diagnostic: Option<Diagnostic>,
+    pub ghost refusal: { ReportsFaultOf diagnostic text.items status },
 }

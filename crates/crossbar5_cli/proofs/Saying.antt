@@ -1,10 +1,10 @@
--- What is written behind what.
+-- Texts that are written one after the other.
 use Rattle.std.proofs.Common.{ℕ, List, Option, None, Some, IfSome}
 use Rattle.std.proofs.KnownBytes.{Appends-trans}
 use Rattle.std.specs.Fmt.{option_append}
 use Rattle.std.specs.Io.KnownBytes.{Appends}
 
--- a text, and behind it another, where both are known
+-- a text, and after it another, if both are known
 pub put_behind : (a b c : Option (List ℕ)) (first second : Option (List ℕ)) → IfSome first (Appends a b)
     → IfSome second (Appends b c) → IfSome (option_append first second) (Appends a c)
 put_behind a b c None second h k = tt

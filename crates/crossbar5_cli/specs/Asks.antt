@@ -1,7 +1,7 @@
 use Rattle.std.specs.Prelude.{◌≡◌, ◌↔◌, List, ℕ}
 use Rattle.std.specs.String.{string_bytes}
 use Rattle.xbar_core.specs.declared.kind.Kind.{Kind}
-use Rattle.crossbar5.specs.Faults.{IsStaffCount}
+use Rattle.crossbar5.specs.Faults.{IsLiveMarkerCount}
 use Rattle.crossbar5.specs.Kinds.{Names}
 use Rattle.crossbar5.specs.declared.engine_fault.EngineFault.TheVariants.{Markers}
 use Rattle.crossbar5_command.specs.declared.ask.Ask.{Ask}
@@ -10,7 +10,7 @@ use Rattle.crossbar5_cli.specs.Endings.{IsOfRun}
 use Rattle.crossbar5_cli.specs.declared.ending.Ending.{Ending}
 use Rattle.crossbar5_cli.specs.declared.ending.Ending.TheVariants.{Failed}
 
--- a text names the kinds of no office's markers
+-- these letters don't name the kinds of an office's markers
 abbrev pub NamesNone : List ℕ → Type 0
 NamesNone letters = (kinds : List Kind) → ¬ Names letters kinds
 
@@ -18,11 +18,11 @@ NamesNone letters = (kinds : List Kind) → ¬ Names letters kinds
 abbrev pub RefusesMarkers : Ask → Type 0
 RefusesMarkers (Replay file letters) = NamesNone (string_bytes letters)
 RefusesMarkers (Walk file letters short) = NamesNone (string_bytes letters)
-RefusesMarkers (Live file dial completing) = ¬ IsStaffCount dial completing
+RefusesMarkers (Live file dial completing) = ¬ IsLiveMarkerCount dial completing
 RefusesMarkers (Audit file) = ⊥
 RefusesMarkers (Draw file text) = ⊥
 RefusesMarkers (Page file) = ⊥
 
--- a run may end so that does what is asked for: by its markers exactly where they are refused
+-- how a run that does what is asked for may end: with `Markers` exactly if its markers are refused
 abbrev pub MayEndAsked : Ask → Ending → Type 0
 MayEndAsked ask ending = IsOfRun ending × ((ending ≡ Failed Markers) ↔ RefusesMarkers ask)

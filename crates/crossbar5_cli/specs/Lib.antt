@@ -5,5 +5,5 @@ pub mod Sentences
 pub mod Asks
 pub mod Work
 pub mod Runs
-pub mod Told
+pub mod Printed
 pub mod Program

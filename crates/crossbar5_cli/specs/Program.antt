@@ -13,12 +13,12 @@ use Rattle.crossbar5_cli.specs.Asks.{MayEndAsked}
 use Rattle.crossbar5_cli.specs.Runs.{Files, IsEndAsAsked}
 use Rattle.crossbar5_cli.specs.Sentences.{text_of}
 use Rattle.crossbar5_cli.specs.Streams.{MayEndOf}
-use Rattle.crossbar5_cli.specs.Told.{HasNoOutput, said, said_of}
+use Rattle.crossbar5_cli.specs.Printed.{HasNoOutput, stderr_text, stderr_text_of_fault}
 use Rattle.crossbar5_cli.specs.declared.ending.Ending.{Ending}
 use Rattle.crossbar5_cli.specs.declared.sentence.Sentence.{Sentence}
 
--- the words are read as this: as clap's definition of the program says; and words that ask for a
--- subcommand with options, as what they ask for
+-- the words are read as this: words that ask for a subcommand with options, as what they ask for;
+-- and all words as clap's definition of the program says
 pub record IsReadAs (words : List Text) (asked : Result Ask CommandFault) : Type 0 where
   pub named : (s : Subcommand) (given : List GivenOption) → AskFor subcommands words s given
       → IfOk asked (IsAskWith s.name (value_of s.options given))
@@ -27,38 +27,45 @@ pub record IsReadAs (words : List Text) (asked : Result Ask CommandFault) : Type
   pub faults : MatchResult asked (λ _. fault_of program words ≡ [])
       (IsFaultAmong (fault_of program words))
 
--- what a stream is known to have before a run, and after it
+-- what a stream is known to contain before a run and after it
 pub record Written : Type 0 where
   pub before : Option (List ℕ)
   pub after : Option (List ℕ)
 
--- the text is put behind what the stream had, if both are known
+-- the text is appended to what the stream contained, as far as they are known
 abbrev pub IsPut : Option (List ℕ) → Written → Type 0
 IsPut text stream = IfSome text (Appends stream.before stream.after)
 
--- the program did what is asked for, where reading failed so many times and this was left to read,
--- ended so, and said so on standard error, if it could
+-- the program did what is asked for and ended like this, if reading failed `failures` times and
+-- this was left to read; if all was printed, standard error has what belongs to the ending
 pub record DoesAsk (ask : Ask) (files : Files) (failures : ℕ) (unread : Option (List ℕ))
-    (output errors : Written) (ending : Ending) (is_told : Bool) : Type 0 where
+    (output errors : Written) (ending : Ending) (is_printed : Bool) : Type 0 where
   pub reasons : Option (List ℕ)
   pub sentence : Option Sentence
-  pub ends : IsEndAsAsked ask files failures unread output.before output.after ending reasons
-      sentence
+  pub ends : IsEndAsAsked ask files
+      (record {
+        unread = unread;
+        failures = failures;
+        before = output.before;
+        after = output.after;
+      })
+      (record { ending = ending; reasons = reasons; sentence = sentence })
   pub may : MayEndAsked ask ending
-  pub told : IsTrue is_told → IsPut (said ending reasons (option_map text_of sentence)) errors
+  pub printed : IsTrue is_printed → IsPut
+      (stderr_text ending reasons (option_map text_of sentence)) errors
 
--- the program wrote help, or why the words are refused
-pub record TellsFault (fault : CommandFault) (output errors : Written) (ending : Ending)
-    (is_told : Bool) : Type 0 where
+-- the program wrote help or the version, or why the words are refused
+pub record PrintsFault (fault : CommandFault) (output errors : Written) (ending : Ending)
+    (is_printed : Bool) : Type 0 where
   pub may : MayEndOf fault ending
   pub no_output : HasNoOutput fault → Keeps output.before output.after
-  pub told : IsTrue is_told → IsPut (said_of fault ending) errors
+  pub printed : IsTrue is_printed → IsPut (stderr_text_of_fault fault ending) errors
 
 -- the program did what the words ask for
 pub record DoesWords (words : List Text) (files : Files) (failures : ℕ) (unread : Option (List ℕ))
-    (output errors : Written) (ending : Ending) (is_told : Bool) : Type 0 where
+    (output errors : Written) (ending : Ending) (is_printed : Bool) : Type 0 where
   pub asked : Result Ask CommandFault
   pub read : IsReadAs words asked
   pub does : MatchResult asked
-      (λ ask. DoesAsk ask files failures unread output errors ending is_told)
-      (λ fault. TellsFault fault output errors ending is_told)
+      (λ ask. DoesAsk ask files failures unread output errors ending is_printed)
+      (λ fault. PrintsFault fault output errors ending is_printed)

@@ -5,27 +5,27 @@ use Rattle.std.specs.Option.{ForSome}
 use Rattle.std.specs.declared.io.Error.{Error}
 use Rattle.clap.specs.declared.error.kind.ErrorKind.{ErrorKind}
 use Rattle.clap.specs.declared.error.kind.ErrorKind.TheVariants.{ValueValidation}
-use Rattle.crossbar5.specs.declared.answer.Answer.{Answer}
+use Rattle.crossbar5.specs.declared.response.Response.{Response}
 use Rattle.crossbar5.specs.declared.engine_fault.EngineFault.{EngineFault}
 use Rattle.crossbar5.specs.declared.engine_fault.EngineFault.TheVariants.{Markers, Memory, Device, Long}
-use Rattle.crossbar5.specs.declared.slip.Slip.{Slip}
-use Rattle.crossbar5.specs.declared.slip.Slip.TheVariants as slip
+use Rattle.crossbar5.specs.declared.diagnostic.Diagnostic.{Diagnostic}
+use Rattle.crossbar5.specs.declared.diagnostic.Diagnostic.TheVariants as diagnostic
 use Rattle.crossbar5.specs.declared.status.Status.{Status}
 use Rattle.crossbar5.specs.declared.status.Status.TheVariants.{FoundWrong, PlanRefused, ReportRefused, TrafficRefused}
-use Rattle.xbar_slips.specs.Kinds.{wrong_in}
+use Rattle.xbar_diagnostics.specs.Kinds.{wrong_in}
 use Rattle.crossbar5_cli.specs.declared.ending.Ending.{Ending}
 use Rattle.crossbar5_cli.specs.declared.ending.Ending.TheVariants.{Answered, Failed, Refused}
 use Rattle.crossbar5_cli.specs.declared.sentence.Sentence.{Sentence}
-use Rattle.crossbar5_cli.specs.declared.sentence.Sentence.TheVariants.{Kinds, Staff, NotMarkerCount, Plan, Traffic, Report, NothingDrawn, PlanUnreadable, PlanTooLong, InputUnreadable, InputTooLong, OutputUnwritable}
+use Rattle.crossbar5_cli.specs.declared.sentence.Sentence.TheVariants.{Kinds, LiveMarkers, NotMarkerCount, Plan, Traffic, Report, NothingDrawn, PlanUnreadable, PlanTooLong, InputUnreadable, InputTooLong, OutputUnwritable}
 
--- the ending that a sentence speaks of
+-- the ending that a sentence explains
 abbrev pub ending_on : Sentence → Ending
-ending_on (Kinds slip) = Failed Markers
-ending_on (Staff dialling completing) = Failed Markers
-ending_on (Plan file slip) = Answered PlanRefused
+ending_on (Kinds diagnostic) = Failed Markers
+ending_on (LiveMarkers dialling completing) = Failed Markers
+ending_on (Plan file diagnostic) = Answered PlanRefused
 ending_on NotMarkerCount = Refused
-ending_on (Traffic slip) = Answered TrafficRefused
-ending_on (Report slip) = Answered ReportRefused
+ending_on (Traffic diagnostic) = Answered TrafficRefused
+ending_on (Report diagnostic) = Answered ReportRefused
 ending_on NothingDrawn = Answered FoundWrong
 ending_on (PlanUnreadable file reason) = Failed Device
 ending_on (PlanTooLong file) = Failed Long
@@ -33,7 +33,7 @@ ending_on InputUnreadable = Failed Device
 ending_on InputTooLong = Failed Long
 ending_on OutputUnwritable = Failed Device
 
--- a sentence stands beside the ending that it speaks of alone
+-- the sentence, if there is one, explains this ending
 abbrev pub SpeaksOf : Option Sentence → Ending → Type 0
 SpeaksOf sentence ending = ForSome sentence (λ sentence. ending ≡ ending_on sentence)
 
@@ -41,38 +41,41 @@ SpeaksOf sentence ending = ForSome sentence (λ sentence. ending ≡ ending_on s
 abbrev pub FileName : Type 0
 FileName = Option (Bor (List ℕ))
 
--- the sentence on a slip. A plan that no file is named for is the example plan, which is never refused
-abbrev pub sentence_on_slip : FileName → Slip → Option Sentence
-sentence_on_slip file (slip.Traffic found) = Some (Traffic found)
-sentence_on_slip file (slip.Report found) = Some (Report found)
-sentence_on_slip (Some file) (slip.Plan found) = Some (Plan file found)
-sentence_on_slip None (slip.Plan found) = None
+-- the sentence on a diagnostic. If no file is named, the plan is the example plan, which is never
+-- refused
+abbrev pub sentence_on_diagnostic : FileName → Diagnostic → Option Sentence
+sentence_on_diagnostic file (diagnostic.Traffic found) = Some (Traffic found)
+sentence_on_diagnostic file (diagnostic.Report found) = Some (Report found)
+sentence_on_diagnostic (Some file) (diagnostic.Plan found) = Some (Plan file found)
+sentence_on_diagnostic None (diagnostic.Plan found) = None
 
--- the sentence on a fault of a run between two devices, after so many failures of the one that is read
+-- the sentence on a fault of a run of the engine, in which the input failed this many times
 abbrev pub sentence_on_fault : EngineFault → ℕ → Option Sentence
-sentence_on_fault Device failures = Some (if failures == 0 then OutputUnwritable else InputUnreadable)
+sentence_on_fault Device failures = Some
+    (if failures == 0 then OutputUnwritable else InputUnreadable)
 sentence_on_fault Long failures = Some InputTooLong
 sentence_on_fault Memory failures = None
 sentence_on_fault Markers failures = None
 
--- the sentence on an answer with this slip, status and reasons why nothing is drawn: on the slip, or
--- that wrong records aren't drawn
-abbrev pub sentence_on_parts : FileName → Option Slip → Status → List ℕ → Option Sentence
-sentence_on_parts file (Some slip) status reasons = sentence_on_slip file slip
+-- the sentence on a response with this diagnostic, this status and these reasons why nothing is
+-- drawn: on the diagnostic, or that wrong records aren't drawn
+abbrev pub sentence_on_parts : FileName → Option Diagnostic → Status → List ℕ → Option Sentence
+sentence_on_parts file (Some diagnostic) status reasons = sentence_on_diagnostic file diagnostic
 sentence_on_parts file None FoundWrong (first ∷ rest) = Some NothingDrawn
 sentence_on_parts file None _ _ = None
 
-abbrev pub sentence_on_answer : FileName → Answer → Option Sentence
+-- the sentence on a response of the engine
+abbrev pub sentence_on_answer : FileName → Response → Option Sentence
 sentence_on_answer file answer =
-    sentence_on_parts file answer.slip answer.status answer.reasons.items
+    sentence_on_parts file answer.diagnostic answer.status answer.reasons.items
 
--- the sentence on such a run
-abbrev pub sentence_on_run : Result Answer EngineFault → FileName → ℕ → Option Sentence
+-- the sentence on a run of the engine
+abbrev pub sentence_on_run : Result Response EngineFault → FileName → ℕ → Option Sentence
 sentence_on_run (Ok answer) file failures = sentence_on_answer file answer
 sentence_on_run (Err fault) file failures = sentence_on_fault fault failures
 
--- the lines on standard error before it, which say why nothing is drawn
-abbrev pub reasons_of_run : Result Answer EngineFault → Option (List ℕ)
+-- the lines on standard error before the sentence, which say why nothing is drawn
+abbrev pub reasons_of_run : Result Response EngineFault → Option (List ℕ)
 reasons_of_run (Ok answer) = Some answer.reasons.items
 reasons_of_run (Err fault) = None
 
@@ -82,33 +85,33 @@ sentence_on_plan_file Device (Some file) reason = Some (PlanUnreadable file reas
 sentence_on_plan_file Long (Some file) reason = Some (PlanTooLong file)
 sentence_on_plan_file _ _ reason = None
 
--- the sentence on a fault that the letters of the markers' kinds come to
+-- the sentence on a fault of the letters of the markers' kinds
 abbrev pub sentence_on_kinds : EngineFault → Bor (List ℕ) → Option Sentence
 sentence_on_kinds Markers letters =
     option_map (λ wrong. Kinds (record { kinds = letters; wrong = wrong })) (wrong_in letters.now)
 sentence_on_kinds _ letters = None
 
--- the sentence on a fault that gates for so many markers come to
-abbrev pub sentence_on_staff : EngineFault → ℕ → ℕ → Option Sentence
-sentence_on_staff Markers dialling completing = Some (Staff dialling completing)
-sentence_on_staff _ dialling completing = None
+-- the sentence on a fault of these numbers of live markers
+abbrev pub sentence_on_live_markers : EngineFault → ℕ → ℕ → Option Sentence
+sentence_on_live_markers Markers dialling completing = Some (LiveMarkers dialling completing)
+sentence_on_live_markers _ dialling completing = None
 
--- the sentence after a text of clap's of this kind, once it was written, or couldn't be
-abbrev pub sentence_on_telling : ErrorKind → Ending → Option Sentence
-sentence_on_telling kind (Failed Device) = Some OutputUnwritable
-sentence_on_telling ValueValidation Refused = Some NotMarkerCount
-sentence_on_telling _ _ = None
+-- the sentence after clap's text of this kind was written or couldn't be, by the ending
+abbrev pub sentence_on_printing : ErrorKind → Ending → Option Sentence
+sentence_on_printing kind (Failed Device) = Some OutputUnwritable
+sentence_on_printing ValueValidation Refused = Some NotMarkerCount
+sentence_on_printing _ _ = None
 
--- the text of a sentence, without its line end. Those of slips, of numbers of markers and of the
--- system's reasons aren't stated
+-- the text of a sentence, without its line end. Those with a diagnostic, numbers of markers or a
+-- reason of the system aren't stated
 abbrev pub text_of : Sentence → Option (List ℕ)
-text_of (Kinds slip) = None
-text_of (Staff dialling completing) = None
+text_of (Kinds diagnostic) = None
+text_of (LiveMarkers dialling completing) = None
 text_of NotMarkerCount =
     Some (codes "crossbar5: " ++ codes "expected a number of markers from 1 to 47")
-text_of (Plan file slip) = None
-text_of (Traffic slip) = None
-text_of (Report slip) = None
+text_of (Plan file diagnostic) = None
+text_of (Traffic diagnostic) = None
+text_of (Report diagnostic) = None
 text_of NothingDrawn = Some (codes "crossbar5: " ++ codes
     "nothing is drawn, since the records are wrong under this plan; if they were made with another, name it with --plan")
 text_of (PlanUnreadable file reason) = None

@@ -1,4 +1,4 @@
--- What is done of what is asked for.
+-- The work that is asked for.
 use Rattle.std.specs.Prelude.{◌≡◌, ◌⊎◌, [], ℕ, ◌+◌, Bool, List, Option, None, Some, IfSome, Ok, false, option_map, true, ⊤}
 use Rattle.std.specs.Borrow.{Bor}
 use Rattle.std.specs.Io.KnownBytes.{Appends}
@@ -6,17 +6,17 @@ use Rattle.std.specs.String.{string_bytes}
 use Rattle.xbar_core.specs.declared.kind.Kind.{Kind}
 use Rattle.xbar_plan_text.specs.Document.{plan_of}
 use Rattle.xbar_plan.specs.Example.{example}
-use Rattle.xbar_walk.specs.declared.telling.Telling.{Telling}
-use Rattle.xbar_walk.specs.declared.telling.Telling.TheVariants.{Each, Short}
-use Rattle.crossbar5.specs.Faults.{IsStaffCount}
+use Rattle.xbar_walk.specs.declared.detail.Detail.{Detail}
+use Rattle.xbar_walk.specs.declared.detail.Detail.TheVariants.{Each, Short}
+use Rattle.crossbar5.specs.Faults.{IsLiveMarkerCount}
 use Rattle.crossbar5.specs.Kinds.{Names}
 use Rattle.crossbar5_live.specs.Live.{IsLive}
 use Rattle.crossbar5.specs.PlanRefusal.{IsRefusedPlan}
-use Rattle.crossbar5.specs.Refusal.{TellsItsRefusal}
+use Rattle.crossbar5.specs.Refusal.{ReportsFaultOf}
 use Rattle.crossbar5.specs.Task.{HasItsMarkers, IsDone, output_of as task_output, reasons_of as task_reasons}
 use Rattle.crossbar5.specs.declared.look.Look.{Look}
 use Rattle.crossbar5.specs.declared.look.Look.TheVariants as look
-use Rattle.crossbar5.specs.declared.slip.Slip.{Slip}
+use Rattle.crossbar5.specs.declared.diagnostic.Diagnostic.{Diagnostic}
 use Rattle.crossbar5.specs.declared.status.Status.{Status}
 use Rattle.crossbar5.specs.declared.task.Task.TheVariants as task
 use Rattle.crossbar5_command.specs.declared.ask.Ask.{Ask}
@@ -33,7 +33,7 @@ file_of (Audit file) = option_map string_bytes file
 file_of (Draw file text) = option_map string_bytes file
 file_of (Page file) = option_map string_bytes file
 
--- the letters of the markers' kinds, where markers have kinds
+-- the letters of the markers' kinds, if the command takes them
 abbrev pub letters_of : Ask → Option (List ℕ)
 letters_of (Replay file letters) = Some (string_bytes letters)
 letters_of (Walk file letters short) = Some (string_bytes letters)
@@ -42,36 +42,36 @@ letters_of (Audit file) = None
 letters_of (Draw file text) = None
 letters_of (Page file) = None
 
--- a walk is told in short, or each step of it
-abbrev pub telling_of : Bool → Telling
-telling_of true = Short
-telling_of false = Each
+-- a walk is described in short, or each step of it
+abbrev pub detail_of : Bool → Detail
+detail_of true = Short
+detail_of false = Each
 
--- an office is drawn for a terminal, or as a drawing
+-- an office is drawn as text for a terminal, or as SVG
 abbrev pub look_of : Bool → Look
 look_of true = look.Text
 look_of false = look.Drawing
 
--- what is to be done, by markers of these kinds where they have kinds
+-- the work that is asked for, with markers of these kinds if the command takes kinds
 abbrev pub work_of : Ask → Bor (List Kind) → Work
 work_of (Replay file letters) kinds = Task (task.Replay kinds)
-work_of (Walk file letters short) kinds = Task (task.Walk kinds (telling_of short))
+work_of (Walk file letters short) kinds = Task (task.Walk kinds (detail_of short))
 work_of (Live file dial completing) kinds = Calls dial completing
 work_of (Audit file) kinds = Task task.Audit
 work_of (Draw file text) kinds = Task (task.Draw (look_of text))
 work_of (Page file) kinds = Task (task.Draw look.Page)
 
--- the letters name these kinds, if there are letters
+-- the letters name these kinds; without letters there are none
 abbrev pub NamesKinds : Option (List ℕ) → List Kind → Type 0
 NamesKinds (Some letters) kinds = Names letters kinds
 NamesKinds None kinds = kinds ≡ []
 
--- the work has markers, where it takes any
+-- the work has a valid number of markers, if it needs markers
 abbrev pub HasMarkers : Work → Type 0
 HasMarkers (Task task) = HasItsMarkers task
-HasMarkers (Calls dialling completing) = IsStaffCount dialling completing
+HasMarkers (Calls dialling completing) = IsLiveMarkerCount dialling completing
 
--- a task has its markers. Those of live calls are still to be judged
+-- a task has its markers. Those of live calls are judged later
 abbrev pub IsReady : Work → Type 0
 IsReady (Task task) = HasItsMarkers task
 IsReady (Calls dialling completing) = ⊤
@@ -81,33 +81,34 @@ abbrev pub HasGates : Work → ℕ → Type 0
 HasGates (Task task) gates = ⊤
 HasGates (Calls dialling completing) gates = gates ≡ dialling + completing
 
--- with a plan's text, the work comes to this text and this status
+-- with a plan's text and this input, the work has this text and this status
 abbrev pub IsWorkDone : Work → List ℕ → List ℕ → List ℕ → Status → Type 0
 IsWorkDone (Task task) plan input text status = IsDone task plan input text status
 IsWorkDone (Calls dialling completing) plan input text status =
     IsLive plan dialling completing input text status
 
--- what refuses the work before any input is read
+-- the work is refused before any input is read
 abbrev pub IsUnread : Work → List ℕ → Type 0
 IsUnread work plan = ¬ HasMarkers work ⊎ IsRefusedPlan plan
 
--- what is written of its text, and what says why nothing is drawn
+-- the part of the work's text that is written
 abbrev pub output_of : Work → Status → List ℕ → List ℕ
 output_of (Task task) status text = task_output task status text
 output_of (Calls dialling completing) status text = text
 
+-- the part of the work's text that is returned, as the reasons why nothing is drawn
 abbrev pub reasons_of : Work → Status → List ℕ → List ℕ
 reasons_of (Task task) status text = task_reasons task status text
 reasons_of (Calls dialling completing) status text = []
 
--- the plan's text is that of the file that is named, where that is known; else it is the example
--- plan's
+-- the plan's text is that of the named file, if it is known; if no file is named, it is a text of
+-- the example plan
 abbrev pub IsPlanNamed : (List ℕ → Option (List ℕ)) → Option (List ℕ) → List ℕ → Type 0
 IsPlanNamed bytes_in None plan = plan_of plan ≡ Ok example
 IsPlanNamed bytes_in (Some name) plan = IfSome (bytes_in name) (λ all. plan ≡ all)
 
--- the work with a plan's text, and what was left to read, comes to this status and these reasons why
--- nothing is drawn, and what it writes is after what was written before
+-- the work, with a plan's text and the input that was left to read, has this status and these
+-- reasons why nothing is drawn, and its output is appended to what was written before
 pub record IsAnswer (work : Work) (plan : List ℕ) (unread before after : Option (List ℕ))
     (status : Status) (reasons : List ℕ) : Type 0 where
   pub input : List ℕ
@@ -117,10 +118,10 @@ pub record IsAnswer (work : Work) (plan : List ℕ) (unread before after : Optio
   pub written : Appends before after (output_of work status text)
   pub reasons_are : reasons ≡ reasons_of work status text
 
--- a slip of such an answer is of the fault whose line is written
-pub record IsSlipOf (work : Work) (before after : Option (List ℕ)) (status : Status)
-    (reasons : List ℕ) (slip : Option Slip) : Type 0 where
+-- the answer's diagnostic, if there is one, is of the fault that its text reports
+pub record IsDiagnosticOf (work : Work) (before after : Option (List ℕ)) (status : Status)
+    (reasons : List ℕ) (diagnostic : Option Diagnostic) : Type 0 where
   pub text : List ℕ
   pub written : Appends before after (output_of work status text)
   pub reasons_are : reasons ≡ reasons_of work status text
-  pub tells : TellsItsRefusal slip text status
+  pub tells : ReportsFaultOf diagnostic text status

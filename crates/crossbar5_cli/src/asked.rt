@@ -1,4 +1,4 @@
-//! Does what is asked for.
+//! Does what a command line asks for.
 
 ghost use Rattle.std.specs.Prelude.{◌≡◌, ◌≢◌, ◌-◌, ◌⊎◌, ◌↔◌, Err, IfErr, IfOk, IsSome, None, option_map};
 ghost use Rattle.std.specs.Io.KnownBytes.{IsAtEnd};
@@ -23,10 +23,10 @@ use std::sync::Wait;
 use std::thread::Threads;
 use xbar_core::Kind;
 
-/// Does what is asked for, between a reader and a writer.
+/// Does what is asked for, with this input and output.
 ///
-/// The markers are judged first, then the plan's file, then the plan, then the input. The output is
-/// written in one go once all is known.
+/// The markers are judged first, then the plan's file, then the plan, then the input. The output
+/// is written once it is complete.
 pub fn do_as_asked<'w, T: Threads + Wait + Sync, S: System, R: Source, W: Sink>(
     threads: &T,
     alloc: Global,
@@ -36,9 +36,17 @@ pub fn do_as_asked<'w, T: Threads + Wait + Sync, S: System, R: Source, W: Sink>(
     output: &mut W,
 ) -> Ended<'w>
     ensures ends { IsEndAsAsked ask.now (S.bytes_in system.now)
-        (R.failure_count input.new - R.failure_count input.old) (R.remaining input.old)
-        (W.contents output.old) (W.contents output.new) result.ending
-        (option_map (λ lines. lines.items) result.reasons) result.sentence }
+        (record {
+          unread = R.remaining input.old;
+          failures = R.failure_count input.new - R.failure_count input.old;
+          before = W.contents output.old;
+          after = W.contents output.new;
+        })
+        (record {
+          ending = result.ending;
+          reasons = option_map (λ lines. lines.items) result.reasons;
+          sentence = result.sentence;
+        }) }
     ensures may { MayEndAsked ask.now result.ending }
     ensures device { result.ending ≡ Ending.Failed EngineFault.Device
         → HasFailed (R.failure_count input.old) (R.failure_count input.new)
@@ -66,12 +74,15 @@ pub fn do_as_asked<'w, T: Threads + Wait + Sync, S: System, R: Source, W: Sink>(
     }
 }
 
-/// The kinds of the markers, if markers have kinds. Kinds that are refused are so whatever the plan's
-/// file is.
+/// The kinds of the markers, or none if the command takes no kinds.
 fn kinds_for<'w>(alloc: Global, ask: &'w Ask) -> Result<Vec<Kind>, Ended<'w>>
     ensures named { IfOk result (λ kinds. NamesKinds (specs.letters_of ask.now) kinds.items) }
-    ensures without { IfErr result (λ ended. IsWithoutKinds ask.now ended.ending
-        (option_map (λ lines. lines.items) ended.reasons) ended.sentence) }
+    ensures without { IfErr result (λ ended. IsWithoutKinds ask.now
+        (record {
+          ending = ended.ending;
+          reasons = option_map (λ lines. lines.items) ended.reasons;
+          sentence = ended.sentence;
+        })) }
     ensures refused { IfErr result (λ ended.
         (ended.ending ≡ Ending.Failed EngineFault.Markers) ↔ RefusesMarkers ask.now) }
     ensures why { IfErr result (λ ended. (ended.ending ≡ Ending.Failed EngineFault.Markers)
@@ -86,7 +97,7 @@ fn kinds_for<'w>(alloc: Global, ask: &'w Ask) -> Result<Vec<Kind>, Ended<'w>>
     }
 }
 
-/// Does the work with the plan's file, between a reader and a writer.
+/// Does the work with the plan in this file, or with the example plan if no file is named.
 fn perform<'w, T: Threads + Wait + Sync, S: System, R: Source, W: Sink>(
     threads: &T,
     alloc: Global,
@@ -98,9 +109,17 @@ fn perform<'w, T: Threads + Wait + Sync, S: System, R: Source, W: Sink>(
 ) -> Ended<'w>
     requires { IsReady work }
     ensures ends { IsEndOf work.entry file.entry (S.bytes_in system.now)
-        (R.failure_count input.new - R.failure_count input.old) (R.remaining input.old)
-        (W.contents output.old) (W.contents output.new) result.ending
-        (option_map (λ lines. lines.items) result.reasons) result.sentence }
+        (record {
+          unread = R.remaining input.old;
+          failures = R.failure_count input.new - R.failure_count input.old;
+          before = W.contents output.old;
+          after = W.contents output.new;
+        })
+        (record {
+          ending = result.ending;
+          reasons = option_map (λ lines. lines.items) result.reasons;
+          sentence = result.sentence;
+        }) }
     ensures run { IsOfRun result.ending }
     ensures markers { (result.ending ≡ Ending.Failed EngineFault.Markers)
         ↔ ¬ HasMarkers work.entry }
@@ -130,7 +149,7 @@ fn perform<'w, T: Threads + Wait + Sync, S: System, R: Source, W: Sink>(
     Ended::of_run(run, file, input.failures().saturating_sub(before))
 }
 
-/// The text of the plan's file, or of the example plan where none is named.
+/// The text of the plan's file, or of the example plan if no file is named.
 fn plan_named<S: System>(
     alloc: Global,
     system: &S,
@@ -147,7 +166,7 @@ fn plan_named<S: System>(
     }
 }
 
-/// The system's reason why the plan's file can't be read, by trying once more.
+/// The system's reason why the plan's file can't be read, from a second try.
 fn reason_of<S: System>(system: &S, file: Option<&str>, fault: EngineFault) -> Option<io::Error> {
     if fault != EngineFault::Device {
         return None;

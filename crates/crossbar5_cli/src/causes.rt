@@ -1,4 +1,4 @@
-//! What an error of the system is to the program.
+//! The endings and faults for errors of the system.
 
 ghost use Rattle.std.specs.Prelude.{◌≡◌};
 ghost use Rattle.std.specs.IoError.{error_kind};
@@ -9,7 +9,7 @@ use crossbar5::EngineFault;
 use std::io;
 use std::io::ErrorKind;
 
-/// How a run ends that couldn't get the words of the command line.
+/// How a run ends if the words of the command line can't be read.
 pub fn ending_without_words(error: &io::Error) -> Ending
     ensures { result ≡ words_ending (error_kind error.now) }
 {
@@ -19,7 +19,7 @@ pub fn ending_without_words(error: &io::Error) -> Ending
     }
 }
 
-/// The fault of a plan's file that can't be opened, as one that isn't there.
+/// The fault if the plan's file can't be opened.
 pub fn fault_of_opening(error: &io::Error) -> EngineFault
     ensures { result ≡ opening_fault (error_kind error.now) }
 {

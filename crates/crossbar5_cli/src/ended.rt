@@ -9,11 +9,11 @@ use crate::ending::Ending;
 use crate::sentence::Sentence;
 use crate::work::Work;
 use clap::error::ErrorKind;
-use crossbar5::{Answer, EngineFault, Slip, Status};
+use crossbar5::{Diagnostic, EngineFault, Response, Status};
 use std::io;
-use xbar_slips::kinds_slip;
+use xbar_diagnostics::kinds_diagnostic;
 
-/// How a run of the program ends, with a sentence on what is wrong, where there is one.
+/// How a run of the program ends, with what is to be written on standard error.
 #[derive(Debug, Drop)]
 pub struct Ended<'w> {
     pub ending: Ending,
@@ -24,7 +24,7 @@ pub struct Ended<'w> {
 }
 
 impl<'w> Ended<'w> {
-    /// Ends so with no sentence.
+    /// An ending without reasons and without a sentence.
     pub fn plainly(ending: Ending) -> Self
         ensures ending { result.ending ≡ ending }
         ensures reasons { result.reasons ≡ None }
@@ -33,6 +33,7 @@ impl<'w> Ended<'w> {
         Ended::with(ending, None)
     }
 
+    /// An ending without reasons. The sentence, if there is one, explains it.
     fn with(ending: Ending, sentence: Option<Sentence<'w>>) -> Self
         requires { SpeaksOf sentence ending }
         ensures ending { result.ending ≡ ending }
@@ -46,9 +47,9 @@ impl<'w> Ended<'w> {
         }
     }
 
-    /// Ends as a run of the engine did, with the plan's file, if one is named, and the number of
-    /// failures of the device that was read.
-    pub fn of_run(run: Result<Answer, EngineFault>, file: Option<&'w str>, failures: u64) -> Self
+    /// The end of a run of the engine. `file` is the name of the plan's file, if one is named, and
+    /// `failures` the number of failures of the input in the run.
+    pub fn of_run(run: Result<Response, EngineFault>, file: Option<&'w str>, failures: u64) -> Self
         ensures ending { result.ending ≡ ending_of_run run }
         ensures reasons { option_map (λ lines. lines.items) result.reasons ≡ reasons_of_run run }
         ensures sentence { result.sentence ≡ specs.sentence_on_run run file.entry failures }
@@ -62,17 +63,18 @@ impl<'w> Ended<'w> {
         }
     }
 
-    fn answered(answer: Answer, file: Option<&'w str>) -> Self
+    /// The end of a run in which the engine answered.
+    fn answered(answer: Response, file: Option<&'w str>) -> Self
         ensures ending { result.ending ≡ Ending.Answered answer.status }
         ensures reasons { result.reasons ≡ Some answer.reasons }
         ensures sentence { result.sentence ≡ specs.sentence_on_answer file.entry answer }
     {
-        let Answer {
+        let Response {
             status,
-            slip,
+            diagnostic,
             reasons,
         } = answer;
-        let sentence = sentence_on_answer(slip, status, &reasons, file);
+        let sentence = sentence_on_answer(diagnostic, status, &reasons, file);
         Ended {
             ending: Ending::Answered(status),
             reasons: Some(reasons),
@@ -80,7 +82,7 @@ impl<'w> Ended<'w> {
         }
     }
 
-    /// Ends with a fault of the letters of the markers' kinds.
+    /// The end of a run with a fault of the letters of the markers' kinds.
     pub fn of_kinds(fault: EngineFault, kinds: &'w str) -> Self
         ensures ending { result.ending ≡ Ending.Failed fault }
         ensures reasons { result.reasons ≡ None }
@@ -90,13 +92,13 @@ impl<'w> Ended<'w> {
         if fault != EngineFault::Markers {
             return Ended::plainly(ending);
         }
-        let Some(slip) = kinds_slip(kinds) else {
+        let Some(diagnostic) = kinds_diagnostic(kinds) else {
             return Ended::plainly(ending);
         };
-        Ended::with(ending, Some(Sentence::Kinds(slip)))
+        Ended::with(ending, Some(Sentence::Kinds(diagnostic)))
     }
 
-    /// Ends with a fault of the markers that the work takes.
+    /// The end of a run with a fault of the work's markers.
     pub(crate) fn of_markers(fault: EngineFault, work: Work<'_>) -> Self
         ensures ending { result.ending ≡ Ending.Failed fault }
         ensures reasons { result.reasons ≡ None }
@@ -107,28 +109,30 @@ impl<'w> Ended<'w> {
             Work::Calls {
                 dialling,
                 completing,
-            } => Ended::of_staff(fault, dialling, completing),
+            } => Ended::of_live_markers(fault, dialling, completing),
         }
     }
 
-    /// Ends with a fault of these numbers of markers.
-    pub fn of_staff(fault: EngineFault, dialling: u32, completing: u32) -> Self
+    /// The end of a run with a fault of these numbers of live markers.
+    pub fn of_live_markers(fault: EngineFault, dialling: u32, completing: u32) -> Self
         ensures ending { result.ending ≡ Ending.Failed fault }
         ensures reasons { result.reasons ≡ None }
-        ensures sentence { result.sentence ≡ specs.sentence_on_staff fault dialling completing }
+        ensures sentence { result.sentence
+            ≡ specs.sentence_on_live_markers fault dialling completing }
     {
         let ending = Ending::Failed(fault);
         if fault != EngineFault::Markers {
             return Ended::plainly(ending);
         }
-        let sentence = Sentence::Staff {
+        let sentence = Sentence::LiveMarkers {
             dialling,
             completing,
         };
         Ended::with(ending, Some(sentence))
     }
 
-    /// Ends with a fault of the plan's file, if one is named, and the system's reason, if it is known.
+    /// The end of a run with a fault of the plan's file, if one is named, and with the system's
+    /// reason, if it is known.
     pub fn of_plan_file(
         fault: EngineFault,
         file: Option<&'w str>,
@@ -142,41 +146,43 @@ impl<'w> Ended<'w> {
         Ended::with(Ending::Failed(fault), sentence)
     }
 
-    /// Ends so after a text of clap's of this kind: help, the version or a refusal of the words.
-    pub fn of_telling(kind: ErrorKind, ending: Ending) -> Self
+    /// The end of a run after clap's text of this kind: help, the version or a refusal of the
+    /// words.
+    pub fn of_printing(kind: ErrorKind, ending: Ending) -> Self
         ensures ending { result.ending ≡ ending }
         ensures reasons { result.reasons ≡ None }
-        ensures sentence { result.sentence ≡ specs.sentence_on_telling kind ending }
+        ensures sentence { result.sentence ≡ specs.sentence_on_printing kind ending }
     {
-        Ended::with(ending, sentence_on_telling(kind, ending))
+        Ended::with(ending, sentence_on_printing(kind, ending))
     }
 }
 
-fn sentence_on_slip(slip: Slip, file: Option<&str>) -> Option<Sentence<'_>>
-    ensures fits { SpeaksOf result (Ending.Answered (status_of slip)) }
-    ensures sentence { result ≡ specs.sentence_on_slip file.entry slip }
+/// The sentence on a diagnostic. If no file is named, there is none for a plan.
+fn sentence_on_diagnostic(diagnostic: Diagnostic, file: Option<&str>) -> Option<Sentence<'_>>
+    ensures fits { SpeaksOf result (Ending.Answered (status_of diagnostic)) }
+    ensures sentence { result ≡ specs.sentence_on_diagnostic file.entry diagnostic }
 {
-    match (slip, file) {
-        (Slip::Traffic(slip), _) => Some(Sentence::Traffic(slip)),
-        (Slip::Report(slip), _) => Some(Sentence::Report(slip)),
-        (Slip::Plan(slip), Some(file)) => Some(Sentence::Plan { file, slip }),
-        (Slip::Plan(_), None) => None,
+    match (diagnostic, file) {
+        (Diagnostic::Traffic(diagnostic), _) => Some(Sentence::Traffic(diagnostic)),
+        (Diagnostic::Report(diagnostic), _) => Some(Sentence::Report(diagnostic)),
+        (Diagnostic::Plan(diagnostic), Some(file)) => Some(Sentence::Plan { file, diagnostic }),
+        (Diagnostic::Plan(_), None) => None,
     }
 }
 
-/// The sentence on an answer with this slip, status and reasons why nothing is drawn.
+/// The sentence on a response with this diagnostic, status and reasons why nothing is drawn.
 fn sentence_on_answer<'w>(
-    slip: Option<Slip>,
+    diagnostic: Option<Diagnostic>,
     status: Status,
     reasons: &[u8],
     file: Option<&'w str>,
 ) -> Option<Sentence<'w>>
-    requires { HasItsStatus slip status }
+    requires { HasItsStatus diagnostic status }
     ensures fits { SpeaksOf result (Ending.Answered status) }
-    ensures sentence { result ≡ specs.sentence_on_parts file.entry slip status reasons.now }
+    ensures sentence { result ≡ specs.sentence_on_parts file.entry diagnostic status reasons.now }
 {
-    match slip {
-        Some(slip) => sentence_on_slip(slip, file),
+    match diagnostic {
+        Some(diagnostic) => sentence_on_diagnostic(diagnostic, file),
         None if status == Status::FoundWrong && !reasons.is_empty() => Some(Sentence::NothingDrawn),
         None => None,
     }
@@ -198,6 +204,7 @@ fn sentence_on_plan_file(
     }
 }
 
+/// The sentence on a fault of a run in which the input failed `failures` times.
 fn sentence_on_fault<'w>(fault: EngineFault, failures: u64) -> Option<Sentence<'w>>
     ensures fits { SpeaksOf result (Ending.Failed fault) }
     ensures sentence { result ≡ specs.sentence_on_fault fault failures }
@@ -210,9 +217,10 @@ fn sentence_on_fault<'w>(fault: EngineFault, failures: u64) -> Option<Sentence<'
     }
 }
 
-fn sentence_on_telling<'w>(kind: ErrorKind, ending: Ending) -> Option<Sentence<'w>>
+/// The sentence after clap's text of this kind was written or couldn't be.
+fn sentence_on_printing<'w>(kind: ErrorKind, ending: Ending) -> Option<Sentence<'w>>
     ensures fits { SpeaksOf result ending }
-    ensures sentence { result ≡ specs.sentence_on_telling kind ending }
+    ensures sentence { result ≡ specs.sentence_on_printing kind ending }
 {
     match ending {
         Ending::Failed(EngineFault::Device) => Some(Sentence::OutputUnwritable),

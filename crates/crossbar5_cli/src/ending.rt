@@ -9,15 +9,15 @@ use std::alloc::AllocError;
 /// How a run of the program ends.
 #[derive(Clone, Copy, Debug, PartialEq, Eq)]
 pub enum Ending {
-    /// The engine's text is written whole.
+    /// The engine answered with this status.
     Answered(Status),
-    /// Help or the version is written.
-    Told,
+    /// Help or the version was printed.
+    Printed,
     /// The words of the command line are refused.
     Refused,
     /// A word of the command line is not UTF-8 text.
     NotText,
-    /// Something is wrong with the markers, a device, memory or the length of what was read.
+    /// The markers are refused, memory ran out, a device failed, or an input is too long.
     Failed(EngineFault),
 }
 
@@ -41,7 +41,7 @@ impl Ending {
                 Status::TrafficRefused | Status::ReportRefused => 4,
                 Status::FoundWrong => 7,
             },
-            Ending::Told => 0,
+            Ending::Printed => 0,
             Ending::Refused | Ending::NotText => 2,
             Ending::Failed(fault) => match fault {
                 EngineFault::Markers => 2,
@@ -52,12 +52,12 @@ impl Ending {
         }
     }
 
-    /// The line that is still to be written on standard error.
+    /// The line to write on standard error, if there is one.
     pub fn line(self) -> Option<&'static str>
         ensures { option_map (λ line. line.now) result ≡ line_of self }
     {
         let line = match self {
-            Ending::Answered(_) | Ending::Told | Ending::Refused => return None,
+            Ending::Answered(_) | Ending::Printed | Ending::Refused => return None,
             Ending::NotText => "error: a word of the command line is not UTF-8 text",
             Ending::Failed(fault) => match fault {
                 EngineFault::Markers => "FAULT,MARKERS",

@@ -5,12 +5,12 @@ ghost use Rattle.crossbar5_cli.specs.Endings.{exit_of};
 use crate::ending::Ending;
 use std::process::ExitCode;
 
-/// How the program ends, once all is written.
+/// How the program ended, and whether all messages were written.
 #[derive(Clone, Copy, Debug, PartialEq, Eq)]
 pub struct Exit {
     pub ending: Ending,
-    /// Whether standard error took all that was to be written there.
-    pub is_told: bool,
+    /// Whether all that belongs on standard error was written there.
+    pub is_printed: bool,
 }
 
 impl Exit {
@@ -21,7 +21,7 @@ impl Exit {
         self.ending.status()
     }
 
-    /// The same for the system.
+    /// The exit status, for `main` to return.
     pub fn code(self) -> ExitCode
         ensures { exit_status result ≡ exit_of self.ending }
     {

@@ -1,12 +1,12 @@
-//! The program on its real streams. All that it does is done by `run_words`.
+//! Runs `run_words` on the real words, files and streams.
 
 use crate::causes::ending_without_words;
 use crate::ended::Ended;
 use crate::exit::Exit;
+use crate::printing::finish;
 use crate::program::run_words;
 use crate::progress::Progress;
 use crate::system::System;
-use crate::told::finish;
 use crate::work::{Work, input_of};
 use crossbar5::Counted;
 use std::alloc::AllocError;
@@ -17,9 +17,9 @@ use std::sync::Wait;
 use std::thread::{Threads, join};
 use std::{env, io};
 
-/// Runs the program and returns its exit status. The second handle is for live calls: the runtime itself,
-/// where it may start threads and wait for them. `build` names the kit and the commit that the program was
-/// built with, as the last line of `--version`.
+/// Runs the program and returns its exit status. `threads` starts the threads of live calls and of
+/// the progress line; it may be the runtime itself. `build`, the last line of `--version`, names
+/// the kit and the commit that the program was built with.
 pub fn run<T: Threads + Wait + Sync>(rt: &HostRuntime, threads: &T, build: &str) -> ExitCode {
     let exit = match words(rt) {
         Ok(words) => run_owned(rt, threads, &words, build),
@@ -33,11 +33,12 @@ fn words(rt: &HostRuntime) -> io::Result<Vec<String>> {
     Ok(env::args(rt)?.collect(rt.alloc())?)
 }
 
-/// Ends so, with what is to be said on standard error.
+/// Writes on standard error what belongs to this end.
 fn end(rt: &HostRuntime, ended: &Ended<'_>) -> Exit {
     finish(ended, &mut Counted::new(rt.stderr()))
 }
 
+/// Runs the words, with the progress of a task if it is to be shown.
 fn run_owned<T: Threads + Wait + Sync>(
     rt: &HostRuntime,
     threads: &T,
@@ -55,8 +56,8 @@ fn run_owned<T: Threads + Wait + Sync>(
     }
 }
 
-/// Runs the words, with the progress of a task on standard error. Where no thread can be started, there
-/// is none.
+/// Runs the words, with the progress of a task on standard error. If no thread can be started, no
+/// progress is shown.
 fn run_with_progress<T: Threads + Wait + Sync>(
     rt: &HostRuntime,
     threads: &T,
@@ -76,7 +77,7 @@ fn run_with_progress<T: Threads + Wait + Sync>(
     exit
 }
 
-/// Runs the words between the standard streams.
+/// Runs the words on the standard streams.
 fn run_between<T: Threads + Wait + Sync>(
     rt: &HostRuntime,
     threads: &T,
@@ -110,7 +111,7 @@ impl System for Host<'_> {
         File::open(self.rt, name)
     }
 
-    /// Says on a terminal what to type and how to end it. A failure to write this changes nothing.
+    /// On a terminal, prints what to type and how to end it. A failed write is ignored.
     fn begin(&self, work: Work<'_>) {
         if self.rt.stdin().is_terminal() {
             let what = input_of(work);

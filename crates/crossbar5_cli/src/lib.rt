@@ -1,5 +1,6 @@
-//! All of the program `crossbar5` but its `main`: it does what its words ask for between standard input
-//! and standard output. Errors go to standard error, as a line and a sentence.
+//! The program `crossbar5` except for its `main`: it does what the words of its command line ask
+//! for, from standard input to standard output. Errors go to standard error, as a line and a
+//! sentence.
 #![tactic(auto)]
 
 mod asked;
@@ -9,12 +10,12 @@ mod ending;
 mod exit;
 mod host;
 mod plan_file;
+mod printing;
 mod program;
 mod progress;
 mod sentence;
 mod stream;
 mod system;
-mod told;
 mod work;
 
 pub use asked::do_as_asked;
@@ -23,9 +24,9 @@ pub use ending::Ending;
 pub use exit::Exit;
 pub use host::run;
 pub use plan_file::plan_text;
+pub use printing::{finish, print_fault, print_sentence, print_text};
 pub use program::run_words;
 pub use sentence::Sentence;
 pub use stream::Stream;
 pub use system::System;
-pub use told::{finish, tell_fault, tell_sentence, tell_text};
 pub use work::{Work, work_of};

@@ -13,8 +13,8 @@ use std::io::Read;
 use xbar_plan::Plan;
 use xbar_plan_text::PlanText;
 
-/// The text of the plan: all that the file has that was asked for, or the example plan where none was.
-/// A file that can't be opened is a fault, and never the example plan.
+/// The text of the plan: all of the file that was asked for, or the example plan if none was. A
+/// file that can't be opened is a fault, and never the example plan.
 pub fn plan_text<R: Read + Drop>(
     alloc: Global,
     asked: Option<io::Result<R>>,

@@ -5,29 +5,30 @@ use std::sync::atomic::{AtomicBool, Ordering};
 use std::thread::sleep;
 use std::time::Duration;
 
-/// The milliseconds between two looks at whether the task is done, and how many looks a second has.
+/// The milliseconds between two checks whether the task is done.
 const PAUSE_MILLISECONDS: u64 = 10;
 
+/// The number of checks in a second.
 const PAUSES_IN_A_SECOND: u32 = 100;
 
 /// The seconds that pass before the first line.
 const QUIET_SECONDS: u32 = 2;
 
-/// What two threads know of a task: one does it, the other reports it.
+/// What two threads share on a task: one does the task, the other reports its progress.
 #[derive(Drop)]
 pub struct Progress {
     /// Whether a task has begun.
     has_begun: AtomicBool,
-    /// Whether all is done that is to be reported.
+    /// Whether all that is to be reported is done.
     is_done: AtomicBool,
-    /// Whether the other thread looks on.
+    /// Whether the reporting thread has started.
     is_watched: AtomicBool,
-    /// Whether it has ended its line.
+    /// Whether the reporting thread has ended its line.
     is_reported: AtomicBool,
 }
 
 impl Progress {
-    /// Nothing has begun, and nobody looks on.
+    /// No task has begun, and no thread reports.
     pub fn new() -> Self {
         Progress {
             has_begun: AtomicBool::new(false),
@@ -42,12 +43,13 @@ impl Progress {
         rt.stderr().is_terminal() && !rt.stdin().is_terminal()
     }
 
-    /// A task begins.
+    /// Called when a task begins.
     pub fn begin(&self) {
         self.has_begun.store(true, Ordering::SeqCst);
     }
 
-    /// All is done. The line is ended before anything else is written.
+    /// Called when all is done. Waits until the reporting thread, if it has started, has ended its
+    /// line.
     pub fn end(&self, rt: &HostRuntime) {
         self.is_done.store(true, Ordering::SeqCst);
         for _ in 0..u32::MAX {
@@ -66,7 +68,7 @@ impl Progress {
         self.is_reported.store(true, Ordering::SeqCst);
     }
 
-    /// Looks on until all is done, and returns in how many pauses a task was under way.
+    /// Reports until all is done. Returns the number of pauses since a task began.
     fn watch(&self, rt: &HostRuntime) -> u32 {
         let mut pauses = 0u32;
         for _ in 0..u32::MAX {
@@ -87,8 +89,7 @@ fn pause(rt: &HostRuntime) {
     sleep(rt, Duration::from_millis(PAUSE_MILLISECONDS));
 }
 
-/// Writes the seconds over those before, where a second has passed. A failure to write them changes
-/// nothing.
+/// Writes the seconds over those before, if a second has passed. A failed write is ignored.
 fn report_at(rt: &HostRuntime, pauses: u32) {
     let seconds = pauses / PAUSES_IN_A_SECOND;
     if pauses % PAUSES_IN_A_SECOND == 0 && seconds >= QUIET_SECONDS {

@@ -1,14 +1,14 @@
 use std::{fmt, io};
-use xbar_slips::{KindsSlip, PlanSlip, ReportSlip, TrafficSlip};
+use xbar_diagnostics::{KindsDiagnostic, PlanDiagnostic, ReportDiagnostic, TrafficDiagnostic};
 
-/// What is wrong with the program's input or with a device. Its text is the line for standard error,
-/// without its line end: the program's name and a sentence.
+/// What is wrong with the program's input or with a device. `Display` writes the line for standard
+/// error, without its line end: the program's name and a sentence.
 #[derive(Debug, Drop)]
 pub enum Sentence<'w> {
     /// The letters of the markers' kinds name none.
-    Kinds(KindsSlip<'w>),
+    Kinds(KindsDiagnostic<'w>),
     /// Live calls can't have these numbers of markers.
-    Staff {
+    LiveMarkers {
         dialling: u32,
         completing: u32,
     },
@@ -17,15 +17,15 @@ pub enum Sentence<'w> {
     /// The plan in this file is refused.
     Plan {
         file: &'w str,
-        slip: PlanSlip,
+        diagnostic: PlanDiagnostic,
     },
     /// The traffic is refused.
-    Traffic(TrafficSlip),
+    Traffic(TrafficDiagnostic),
     /// The text of records is refused.
-    Report(ReportSlip),
+    Report(ReportDiagnostic),
     /// The records are wrong, so nothing is drawn.
     NothingDrawn,
-    /// The plan's file of this name can't be read, for the system's reason.
+    /// The plan's file with this name can't be read. The reason is the system's, if it is known.
     PlanUnreadable {
         file: &'w str,
         reason: Option<io::Error>,
@@ -44,18 +44,18 @@ impl fmt::Display for Sentence<'_> {
     fn fmt<W: fmt::Write>(&self, f: &mut fmt::Formatter<W>) -> fmt::Result {
         f.write_str("crossbar5: ")?;
         match self {
-            Sentence::Kinds(slip) => write!(f, "{slip}"),
-            Sentence::Staff {
+            Sentence::Kinds(diagnostic) => write!(f, "{diagnostic}"),
+            Sentence::LiveMarkers {
                 dialling,
                 completing,
             } => write!(
                 f,
                 "--dial {dialling} --completing {completing}: expected at most 48 markers in all, at least one of each kind"
             ),
-            Sentence::Plan { file, slip } => write!(f, "{file}: {slip}"),
+            Sentence::Plan { file, diagnostic } => write!(f, "{file}: {diagnostic}"),
             Sentence::NotMarkerCount => f.write_str("expected a number of markers from 1 to 47"),
-            Sentence::Traffic(slip) => write!(f, "{slip}"),
-            Sentence::Report(slip) => write!(f, "{slip}"),
+            Sentence::Traffic(diagnostic) => write!(f, "{diagnostic}"),
+            Sentence::Report(diagnostic) => write!(f, "{diagnostic}"),
             Sentence::NothingDrawn => f.write_str(
                 "nothing is drawn, since the records are wrong under this plan; if they were made with another, name it with --plan",
             ),

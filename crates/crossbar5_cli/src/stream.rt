@@ -1,18 +1,18 @@
 ghost use Rattle.std.specs.Prelude.{◌≡◌};
-ghost use Rattle.crossbar5_cli.specs.Streams.{stream_of as stream_of_kind, told_on as ending_told_on};
+ghost use Rattle.crossbar5_cli.specs.Streams.{stream_of as stream_of_kind, printed_on as ending_printed_on};
 
 use crate::ending::Ending;
 use clap::error::ErrorKind;
 use crossbar5::EngineFault;
 
-/// Where a text goes.
+/// A stream that texts are written on.
 #[derive(Clone, Copy, Debug, PartialEq, Eq)]
 pub enum Stream {
     Output,
     Errors,
 }
 
-/// Where clap's text of this kind goes: help and the version to standard output.
+/// The stream of clap's text of this kind: standard output for help and the version.
 pub fn stream_of(kind: ErrorKind) -> Stream
     ensures { result ≡ stream_of_kind kind }
 {
@@ -22,13 +22,13 @@ pub fn stream_of(kind: ErrorKind) -> Stream
     }
 }
 
-/// How a run ends that wrote clap's text to this stream, or couldn't.
-pub fn told_on(stream: Stream, is_written: bool) -> Ending
-    ensures { result ≡ ending_told_on stream is_written }
+/// How a run ends once clap's text was written to this stream, or couldn't be.
+pub fn printed_on(stream: Stream, is_written: bool) -> Ending
+    ensures { result ≡ ending_printed_on stream is_written }
 {
     match (stream, is_written) {
         (Stream::Errors, _) => Ending::Refused,
-        (Stream::Output, true) => Ending::Told,
+        (Stream::Output, true) => Ending::Printed,
         (Stream::Output, false) => Ending::Failed(EngineFault::Device),
     }
 }

@@ -4,12 +4,12 @@ use crate::work::Work;
 use std::io;
 use std::io::Read;
 
-/// What the program asks of the system besides its streams.
+/// What the program uses of the system besides its streams.
 pub trait System {
     /// An open file.
     type File: Read + Drop;
 
-    // The bytes in the file of a name, where they are known.
+    // The bytes in the file of this name, if they are known.
     ghost bytes_in: { Self → List ℕ → Option (List ℕ) } = { λ _ _. None };
 
     /// Opens the file of this name.
@@ -20,6 +20,6 @@ pub trait System {
     /// Called before the input of this work is read.
     fn begin(&self, work: Work<'_>);
 
-    /// Called once the work is done, before anything is said of it.
+    /// Called when the work is done, before any message is written.
     fn end(&self);
 }

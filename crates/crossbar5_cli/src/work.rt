@@ -1,4 +1,4 @@
-//! What is to be done of what is asked for, and doing it.
+//! The work that a command line asks for, and doing it.
 
 ghost use Rattle.std.specs.Prelude.{◌≡◌, ◌≢◌, ◌+◌, ◌⊎◌, ◌↔◌, Err, IfErr, IfOk, OnOk, option_map, vec_len};
 ghost use Rattle.std.specs.String.{string_bytes};
@@ -6,9 +6,9 @@ ghost use Rattle.std.specs.Io.KnownBytes.{IsAtEnd, Keeps};
 ghost use Rattle.counted_io.specs.Counts.{HasFailed, ReadsUsedUp};
 ghost use Rattle.crossbar5.specs.Faults.{ComesFirst};
 ghost use Rattle.crossbar5_cli.specs.Work as specs;
-ghost use Rattle.crossbar5_cli.specs.Work.{HasGates, HasMarkers, IsAnswer, IsReady, IsSlipOf, IsUnread, NamesKinds};
+ghost use Rattle.crossbar5_cli.specs.Work.{HasGates, HasMarkers, IsAnswer, IsReady, IsDiagnosticOf, IsUnread, NamesKinds};
 
-use crossbar5::{Answer, EngineFault, Look, Sink, Source, Task, Telling, answer_task};
+use crossbar5::{Detail, EngineFault, Look, Response, Sink, Source, Task, answer_task};
 use crossbar5_command::Ask;
 use crossbar5_live::{answer_live, open_gates};
 use std::alloc::Global;
@@ -17,16 +17,16 @@ use std::thread::Threads;
 use xbar_core::Kind;
 use xbar_markers::OpenGate;
 
-/// What is to be done.
+/// The work that a command line asks for.
 #[derive(Clone, Copy)]
 pub enum Work<'k> {
     /// A task of the engine.
     Task(Task<'k>),
-    /// Live calls, by so many markers that dial and so many that complete calls.
+    /// Live calls, with `dialling` markers that dial and `completing` markers that complete calls.
     Calls { dialling: u32, completing: u32 },
 }
 
-/// What is to be done, by markers of these kinds where they have kinds.
+/// The work that is asked for, with markers of these kinds if the command takes kinds.
 pub fn work_of<'k>(ask: &Ask, kinds: &'k [Kind]) -> Work<'k>
     ensures work { result ≡ specs.work_of ask.now kinds.entry }
     ensures ready { NamesKinds (specs.letters_of ask.now) kinds.now → IsReady result }
@@ -35,7 +35,7 @@ pub fn work_of<'k>(ask: &Ask, kinds: &'k [Kind]) -> Work<'k>
         Ask::Replay { .. } => Work::Task(Task::Replay { kinds }),
         Ask::Walk { short, .. } => Work::Task(Task::Walk {
             kinds,
-            telling: telling_of(*short),
+            detail: detail_of(*short),
         }),
         Ask::Live {
             dial,
@@ -53,14 +53,14 @@ pub fn work_of<'k>(ask: &Ask, kinds: &'k [Kind]) -> Work<'k>
     }
 }
 
-/// How a walk is told, by whether it is to be short.
-fn telling_of(short: bool) -> Telling
-    ensures { result ≡ specs.telling_of short }
+/// How a walk is described, by the option `--short`.
+fn detail_of(short: bool) -> Detail
+    ensures { result ≡ specs.detail_of short }
 {
-    if short { Telling::Short } else { Telling::Each }
+    if short { Detail::Short } else { Detail::Each }
 }
 
-/// How an office is drawn, by whether a text is wanted.
+/// How an office is drawn, by the option `--text`.
 fn look_of(text: bool) -> Look
     ensures { result ≡ specs.look_of text }
 {
@@ -90,7 +90,7 @@ fn name_of(plan: &Option<String>) -> Option<&str>
     }
 }
 
-/// The letters of the markers' kinds, where markers have kinds.
+/// The letters of the markers' kinds, if the command takes them.
 pub fn letters_of(ask: &Ask) -> Option<&str>
     ensures { option_map (λ letters. letters.now) result ≡ specs.letters_of ask.now }
 {
@@ -101,7 +101,7 @@ pub fn letters_of(ask: &Ask) -> Option<&str>
     }
 }
 
-/// What the work reads, with an example.
+/// What to type as the input of the work, with an example.
 pub fn input_of(work: Work<'_>) -> &'static str {
     match work {
         Work::Task(Task::Replay { .. } | Task::Walk { .. }) => {
@@ -112,7 +112,7 @@ pub fn input_of(work: Work<'_>) -> &'static str {
     }
 }
 
-/// The gates of the markers that make calls on threads. A task has none.
+/// The gates of the markers of live calls. A task has none.
 pub fn gates_of(alloc: Global, work: Work<'_>) -> Result<Vec<OpenGate>, EngineFault>
     requires { IsReady work }
     ensures gates { IfOk result (λ gates. HasGates work.entry (vec_len gates)) }
@@ -128,13 +128,13 @@ pub fn gates_of(alloc: Global, work: Work<'_>) -> Result<Vec<OpenGate>, EngineFa
         } => match open_gates(alloc, dialling as usize, completing as usize) {
             Ok(gates) => Ok(gates),
             Err(EngineFault::Markers) => Err(EngineFault::Markers),
-            // The gates only want memory.
+            // The gates only need memory.
             Err(_) => Err(EngineFault::Memory),
         },
     }
 }
 
-/// Has the engine do the work with a plan's text, between a reader and a writer.
+/// Has the engine do the work with a plan's text, this input and this output.
 pub fn answer<T: Threads + Wait + Sync, R: Source, W: Sink>(
     threads: &T,
     alloc: Global,
@@ -143,12 +143,12 @@ pub fn answer<T: Threads + Wait + Sync, R: Source, W: Sink>(
     plan: &[u8],
     input: &mut R,
     output: &mut W,
-) -> Result<Answer, EngineFault>
+) -> Result<Response, EngineFault>
     requires { HasGates work (vec_len gates) }
     ensures done { IfOk result (λ answer. IsAnswer work.entry plan.now (R.remaining input.old)
         (W.contents output.old) (W.contents output.new) answer.status answer.reasons.items) }
-    ensures slip { IfOk result (λ answer. IsSlipOf work.entry (W.contents output.old)
-        (W.contents output.new) answer.status answer.reasons.items answer.slip) }
+    ensures diagnostic { IfOk result (λ answer. IsDiagnosticOf work.entry (W.contents output.old)
+        (W.contents output.new) answer.status answer.reasons.items answer.diagnostic) }
     ensures markers { (result ≡ Err EngineFault.Markers) ↔ ¬ HasMarkers work.entry }
     ensures device { result ≡ Err EngineFault.Device
         → HasFailed (R.failure_count input.old) (R.failure_count input.new)

@@ -1,4 +1,4 @@
--- Arguments that are added to a command, one behind the other.
+-- Arguments that are added to a command, one after the other.
 use Rattle.std.proofs.Common.{◌≡◌, ◌∙◌, ◌||◌, ap, sym, append_assoc, append-nil, false, List, [], ◌∷◌, ◌++◌, map}
 use Rattle.std.specs.Prelude.{All}
 use Rattle.std.proofs.lemmas.List.Elements.{All-head, All-tail}
@@ -35,7 +35,7 @@ stays_local old new (arg ∷ rest) own local (next, step, more) =
     stays_local next new rest (All-tail IsOwn arg rest own)
     (step.globals ∙ ap (λ has. has || arg.global) local ∙ All-head IsOwn arg rest own) more
 
--- the rules stand behind those that the command has
+-- the rules come after those that the command has
 rules_top : (app : App) (rules : List Rule) → (with_rules app rules).top ≡ record app.top { rules = app.top.rules ++ rules }
 rules_top app [] = ap (λ (all : List Rule). record app.top { rules = all }) (sym (append-nil app.top.rules))
 rules_top app (rule ∷ rest) =

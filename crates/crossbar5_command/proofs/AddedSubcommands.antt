@@ -1,4 +1,4 @@
--- Subcommands that are added to a program, one behind the other.
+-- Subcommands that are added to a program, one after the other.
 use Rattle.std.proofs.Common.{◌≡◌, ◌∙◌, ap, sym, true, false, List, [], ◌∷◌, map}
 use Rattle.std.specs.Prelude.{All}
 use Rattle.std.proofs.lemmas.List.Elements.{All-head, All-tail}

@@ -7,7 +7,7 @@ use Rattle.crossbar5_command.specs.Fault.{IsFaultAmong, fault_for, fault_of_kind
 use Rattle.crossbar5_command.specs.declared.command_fault.CommandFault.{CommandFault}
 use Rattle.crossbar5_command.specs.declared.command_fault.CommandFault.TheVariants.{Memory}
 
--- want of memory in clap is the fault for it
+-- if clap runs out of memory, the fault is `Memory`
 pub fault_for-memory : (error : Error) → kind_of error ≡ OutOfMemory → fault_for error ≡ Memory
 fault_for-memory error is = ap (λ kind. fault_of_kind kind error) is
 

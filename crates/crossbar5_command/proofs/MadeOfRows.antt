@@ -1,10 +1,10 @@
--- What is made of the rows of a table, one behind the other.
+-- What is made from the rows of a table, one after the other.
 use Rattle.std.proofs.Common.{◌≡◌, ◌∙◌, ◌+◌, ◌<◌, ◌≤◌, ap, refl, subst, sym, List, [], ◌∷◌, ◌++◌, ℕ, length, map, take, Result, Ok, Err}
 use Rattle.std.specs.Prelude.{All, IfOk, IsOkAnd, slice_index_or}
 use Rattle.std.proofs.lemmas.List.{map_push, take_all, take_more}
 use Rattle.std.proofs.lemmas.List.Elements.{All-nil, All-push, All-same}
 
--- each has the shape that its row wants, and is local
+-- each has the shape that its row asks for, and is local
 pub record AreMade {Row X Shape : Type 0} (shape : X → Shape) (wanted : Row → Shape) (IsLocal : X → Type 0) (rows : List Row) (all : List X) : Type 0 where
   pub shapes : map shape all ≡ map wanted rows
   pub local : All IsLocal all
@@ -23,7 +23,7 @@ module _ {Row X Shape : Type 0} (shape : X → Shape) (wanted : Row → Shape) (
     local = All-same IsLocal after (before ++ x ∷ []) added (All-push IsLocal before x are.local own);
   }
 
-  -- one that there may have been no memory for
+  -- one for which memory may have run out
   pub one_tried : {E : Type 0} (made : Result X E) (rows : List Row) (i : ℕ) (d : Row) (before after : List X) → i < length rows
       → AreMade shape wanted IsLocal (take i rows) before → IsOkAnd made (λ x. after ≡ before ++ x ∷ [])
       → IfOk made (λ x. shape x ≡ wanted (slice_index_or rows i d)) → IfOk made IsLocal

@@ -60,7 +60,7 @@ none_met (s ∷ rest) (Some p) known others = go (bytes_eq s.name p.0) refl know
     go true same known later = absurd (true≢false (sym (others.0 (ap Some (sym ((bytes_eq-Decides s.name p.0).0 same))))))
     go false differs known later = later known
 
--- where no other was met, what is asked is a replay
+-- if no other subcommand was met, a replay is asked for
 pub replay_asked : (m : ArgMatches) (options : Option (Bor ArgMatches)) (ask : Ask)
     → (IsSome options → subcommand_name_of m ≡ Some replay.name) × (subcommand_name_of m ≡ Some replay.name → IsSome options)
     → IfSome options (λ q. option_map (λ p. p.1) (subcommand_rows_of m) ≡ Some (rows_of (found_of q.now)))

@@ -66,7 +66,7 @@ given_found options id given = sym (find-map (λ r. bytes_eq r.id id) (row_for o
 
 -- ---- with defaults
 
--- the first value of a row that is found, or else this one
+-- the first value of a row that is found, otherwise this one
 abbrev value_or : Option Row → Option Text → Option Text
 value_or None other = other
 value_or (Some r) other = slice_get r.values 0
@@ -152,7 +152,7 @@ all_defaults (o ∷ rest) rows id are =
     none_of None none = refl
     none_of (Some o) none = absurd (true≢false none)
 
--- the value of each option, where rows of just what is given stand before the defaults
+-- the value of each option, if the rows before the defaults are exactly those of the given options
 pub values_of_rows : (options : List NamedOption) (given : List GivenOption) (id : Text) → are_apart options ≡ true
     → first_of id (fold with_default (map (row_for options) given) (rules_for options)) ≡ value_of options given id
 values_of_rows options given id are =

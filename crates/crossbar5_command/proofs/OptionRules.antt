@@ -59,7 +59,7 @@ module _ (name : Text) where
   rule_by_id [] no_help = ap (λ same. cond same (Some (filled help_rule)) None) no_help
   rule_by_id (o ∷ rest) no_help = found_first built_rule (bytes_eq o.name name) _ refl o _ _ (rule_by_id rest no_help)
 
--- none stands at a position
+-- none is positional
 pub no_positional : (options : List NamedOption) (i : ℕ) → arg_by_index (rules_for options) i ≡ None
 no_positional [] i = refl
 no_positional (o ∷ rest) i = no_positional rest i

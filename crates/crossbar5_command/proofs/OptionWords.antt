@@ -19,7 +19,7 @@ use Rattle.crossbar5_command.proofs.OptionRows.{has_row-more, row_for, row_of_va
 use Rattle.crossbar5_command.proofs.OptionRules.{IsLong, are_sound, built_rule, is_long, level, name_found, no_help, no_positional, rule_by_id, rule_by_long, rules_for, same_text}
 use Rattle.crossbar5_command.proofs.ValueWords.{IsRead, IsRefused, before_value, dashes, or_else-first, or_else-second, some_refused, value_or_end, value_read, waiting_for}
 
--- no row stands yet for what is to be given
+-- there is no row yet for the options that are to be given
 abbrev pub AreNew : List Row → List GivenOption → Type 0
 AreNew rows [] = Unit {0}
 AreNew rows (g ∷ rest) = (has_row g.name rows ≡ false) × AreNew rows rest
@@ -115,7 +115,7 @@ module _ (s : Subcommand) where
   abbrev pub rows_at_end : Walk → List Row
   rows_at_end w = (settled rules w.held).rows
 
-  -- the walk over the option comes to stand between two options again, with one row more
+  -- after the option the walk is between two options again, with one row more
   record Steps (g : GivenOption) (rows : List Row) (pending : Option (Text × List Text)) : Type 0 where
     rows_then : List Row
     pending_then : Option (Text × List Text)
@@ -213,7 +213,7 @@ module _ (s : Subcommand) where
               (subst (λ t. settle_fault rules false (after (walked rules [] before t) more).held ≡ []) ends end_then))
         ]
 
-  -- ---- an option that stands alone
+  -- ---- an option without a value
   module _ (name : Text) (is : IsOption name nothing) (rows : List Row) (pending : Option (Text × List Text))
       (new : has_row name (settled_rows rules pending rows) ≡ false) where
     flag_steps : Steps (record { name = name; value = None }) rows pending

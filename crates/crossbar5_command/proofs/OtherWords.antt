@@ -1,4 +1,4 @@
--- What clap refuses at the place of the subcommand, and what it finds of words that it doesn't refuse.
+-- What clap refuses at the place of the subcommand, and what it finds in words that it accepts.
 use Rattle.std.proofs.Common.{◌≡◌, ◌∙◌, ◌≤◌, ◌⊎◌, inl, inr, ap, arith, refl, sym, subst, cond, Bool, true, false, List, [], ◌∷◌, Option, Some, None, ℕ, length, codes}
 use Rattle.std.specs.Prelude.{IfSome, IsSome, is_some, slice_get, option_map}
 use Rattle.std.specs.Option.{option_map_or}
@@ -96,7 +96,7 @@ module _ (word : Text) where
   by_end no_name true is none none_of_step = (bytes_eq-Decides word dashes).0 is
   by_end no_name false is none none_of_step = absurd (stray (by_long no_name is (long_of word) refl none) none_of_step)
 
-  -- so where no subcommand has its name, it is the end of the options
+  -- so if no subcommand has its name, it is the end of the options
   by_no_name : subcommand_named subcommands word ≡ None → turn_fault top names (walk_from nothing_held) word ≡ [] → word ≡ dashes
   by_no_name none_named none = go (bytes_eq (codes "help") word) refl
     where
@@ -109,7 +109,7 @@ module _ (word : Text) where
           let none_of_word = sym (ap (λ name. other_fault top name word nothing_held) no_name) ∙ or_else-first fault (step_fault top 1 met.0 met.1) none in
           by_end no_name (bytes_eq word dashes) refl none_of_word (or_else-second fault (step_fault top 1 met.0 met.1) none)
 
--- behind `--` there is no word
+-- no word follows `--`
 nothing_more : (words : List Text) → walk_fault top names (walk_from nothing_held) (dashes ∷ words) ≡ [] → words ≡ []
 unfolding clap_on_literals
 nothing_more [] none = refl
@@ -136,7 +136,7 @@ end_alone : (line : Text) → subcommand_of program (line ∷ dashes ∷ []) ≡
 unfolding clap_on_literals
 end_alone line = refl
 
--- in its place stands a subcommand, or `--` alone
+-- in its place is a subcommand, or `--` alone
 abbrev IsNamed : Text → List Text → Type 0
 IsNamed word words = ((s : Subcommand) × (subcommand_named subcommands word ≡ Some s)) ⊎ ((word ≡ dashes) × (words ≡ []))
 

@@ -26,7 +26,7 @@ use Rattle.crossbar5_command.proofs.ValueWords.{or_else-first, or_else-second}
 
 -- ---- the subcommand that a name finds
 
--- among those that clap built, which has `help` behind them
+-- among those that clap built, with `help` after them
 shape_by_name : (subs : List Subcommand) (name : Text) → bytes_eq (codes "help") name ≡ false
     → find (λ shape. answers_to name (label_of shape)) (built (program_of subs)).subs ≡ option_map level (subcommand_named subs name)
 shape_by_name [] name no_help = ap (λ same. cond (same || false) (Some (first_shape (built (program_of [])).subs)) None) no_help
@@ -125,7 +125,7 @@ module _ (name : Text) (s : Subcommand) (is : subcommand_named subcommands name 
   shape_is : find (λ shape. answers_to s.name (label_of shape)) (built program).subs ≡ Some (level s)
   shape_is = shape_by_name subcommands s.name no_help ∙ ap (option_map level) found
 
-  -- clap finds it, with the matches of the words behind it
+  -- clap finds it, with the matches of the words after it
   pub subcommand_is : (line : Text) (words : List Text) → subcommand_of program (line ∷ name ∷ words) ≡ Some (s.name, rows_after rules [] words)
   unfolding clap_on_literals
   subcommand_is line words =
@@ -134,7 +134,7 @@ module _ (name : Text) (s : Subcommand) (is : subcommand_named subcommands name 
   first_passes : other_passes top (Some s.name) name nothing_held ≡ true
   first_passes = ap (λ same. not same || top.disable_help_subcommand) (not-true _ (and_parts (are_sound s.options) _ sound).1)
 
-  -- the program takes the words where the subcommand takes those behind it
+  -- the program takes the words if the subcommand takes those after it
   takes-subcommand : (line : Text) (words : List Text) → level_passes (level s) [] nothing_held words false ≡ true
       → takes program (line ∷ name ∷ words) ≡ true
   unfolding clap_on_literals
@@ -149,7 +149,7 @@ module _ (name : Text) (s : Subcommand) (is : subcommand_named subcommands name 
       let checked : top_checks (top_walk (name ∷ words)) ≡ true = ap top_checks (stops words) in
       and_from _ _ below (and_from _ _ (and_from _ _ first others) checked)
 
-  -- where the program refuses none of the words, the subcommand refuses none of those behind it
+  -- if the program refuses none of the words, the subcommand refuses none of those after it
   fault_of-subcommand : (line : Text) (words : List Text) → fault_of program (line ∷ name ∷ words) ≡ []
       → level_fault (level s) [] nothing_held words false [] ≡ []
   unfolding clap_on_literals
@@ -160,7 +160,7 @@ module _ (name : Text) (s : Subcommand) (is : subcommand_named subcommands name 
       ∙ ap (λ shape. option_map_or (λ sub. level_fault sub [] nothing_held words false []) shape []) shape_is)
       ∙ entered_level
 
-  -- ---- the words behind it
+  -- ---- the words after it
 
   level_taken : (given : List GivenOption) → AreOptions s.options given → AreValues s.options given
       → level_passes (level s) [] nothing_held (flat_map words_of given) false ≡ true

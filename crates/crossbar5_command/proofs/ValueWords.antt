@@ -1,4 +1,4 @@
--- How clap reads a word behind an option that waits for its value.
+-- How clap reads a word after an option that waits for its value.
 use Rattle.std.proofs.Common.{◌≡◌, ◌∙◌, ◌⊎◌, inl, inr, ap, arith, refl, sym, suc, Bool, true, false, List, [], ◌∷◌, Option, Some, None, ℕ, length, cond, nat_eq}
 use Rattle.std.specs.Prelude.{◌&&◌, ◌||◌, slice_get, is_some, option_and_then}
 use Rattle.std.specs.Option.{option_map_or}
@@ -31,7 +31,7 @@ IsRefused kinds = kinds ≡ [] → ⊥
 pub some_refused : (kind : ErrorKind) (kinds : Kinds) → IsRefused (kind ∷ kinds)
 some_refused kind kinds none = let bad : suc (length kinds) ≡ 0 = ap length none in absurd (omega arith)
 
--- ---- a word behind an option
+-- ---- a word after an option
 
 -- what is held while an option waits for its value
 abbrev pub waiting_for : Text → List Row → Held
@@ -85,7 +85,7 @@ module _ (s : Subcommand) where
       let no_short : short_of (first ∷ rest) ≡ None = ap (λ same. option_and_then short_of_rest (cond same (Some rest) None)) differs in
       (plain_read id rows (first ∷ rest) no_end no_long no_short, plain_passes id rows (first ∷ rest) no_end no_long no_short)
 
-  -- no flag comes where an option waits for its value
+  -- no flag comes while an option waits for its value
   module _ (h : Held) (missing : IsRefused (settle_fault rules false h)) where
     reacting : (a : Rule) (values : List Text) → IsRefused (react_fault rules false a values h)
     reacting a values none = missing (or_else-first (settle_fault rules false h) _ none)

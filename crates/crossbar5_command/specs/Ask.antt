@@ -15,17 +15,17 @@ name_of (Audit file) = audit.name
 name_of (Draw file text) = draw.name
 name_of (Page file) = page.name
 
--- where the text is that of a number of 32 bits, a plus before it or none, it is this one
+-- if the text is that of a number of 32 bits, with a plus before it or none, it is this number
 abbrev pub IsNumberOf : Text → ℕ → Type 0
 IsNumberOf text n = IsNumeral 10 (without_leading_plus text)
     → digits_value 10 (without_leading_plus text) < 2 ^ 32
     → n ≡ digits_value 10 (without_leading_plus text)
 
--- an option that stands alone is given: its value is `true`
+-- an option that takes no value is given: clap has the value `true` for it
 abbrev pub IsGiven : Option Text → Type 0
 IsGiven value = value ≡ Some (codes "true")
 
--- what is asked, by the values of the options, is this
+-- the ask has the values that the options have
 abbrev pub HasValues : (Text → Option Text) → Ask → Type 0
 HasValues values (Replay file letters) = (option_map string_bytes file ≡ values (codes "plan"))
     × (string_bytes letters ≡ unwrap_or (values (codes "markers")) default_kinds)
@@ -49,8 +49,7 @@ IsAskWith name values ask = (name_of ask ≡ name) × HasValues values ask
 abbrev pub IsUnnamedAsk : Ask → Type 0
 IsUnnamedAsk = IsAskWith replay.name (λ _. None)
 
--- the ask is for what clap found: the subcommand that was met, if one was, with the values of its
--- options
+-- the ask is for what clap found: the subcommand, with the values of its options, or no subcommand
 abbrev pub IsAskOf : Option (Text × List Row) → Ask → Type 0
 IsAskOf None ask = IsUnnamedAsk ask
 IsAskOf (Some met) ask = IsAskWith met.0 (λ name. first_of name met.1) ask

@@ -15,7 +15,7 @@ fault_of_kind _ error = Refused error
 abbrev pub fault_for : Error → CommandFault
 fault_for error = fault_of_kind (kind_of error) error
 
--- a refusal has one of these kinds, and is never for want of memory
+-- a refusal has one of these kinds, and never the kind for running out of memory
 abbrev pub IsFaultAmong : Kinds → CommandFault → Type 0
 IsFaultAmong kinds (Refused error) = (kind_of error ≢ OutOfMemory) × IsAmong (kind_of error) kinds
 IsFaultAmong kinds Memory = Unit {0}

@@ -1,4 +1,4 @@
--- The program and its subcommands, and what clap sees of them.
+-- The program with its subcommands and options, and their definition for clap.
 use Rattle.std.specs.Prelude.{true, false, ℕ, List, [], ◌∷◌, map, Option, Some, None, codes}
 use Rattle.clap.specs.Simple.{new_shape}
 use Rattle.clap.specs.Words.{App, Rule, Shape, Text, new_rule}
@@ -14,7 +14,7 @@ use Rattle.crossbar5_command.specs.Subcommand.{Argument, NamedOption, Subcommand
 abbrev pub plan : NamedOption
 plan = record { name = codes "plan"; argument = value None None }
 
--- two markers for all jobs
+-- the default kinds of the markers: two markers for all jobs
 abbrev pub default_kinds : Text
 default_kinds = codes "XX"
 
@@ -32,17 +32,19 @@ in_short = record { name = codes "short"; argument = nothing }
 abbrev pub walk : Subcommand
 walk = record { name = codes "walk"; options = plan ∷ markers ∷ in_short ∷ [] }
 
--- one marker
+-- the default number of markers
 abbrev pub one : Text
 one = codes "1"
 
--- how many markers, 1 to 47, as another kind wants one at least: `--dial N`, `--completing N`
+-- the number of markers of a kind, 1 to 47, as the other kind needs one too
 abbrev pub marker_count : Text → NamedOption
 marker_count name = record { name = name; argument = value (Some (Unsigned 1 47)) (Some one) }
 
+-- `--dial N`
 abbrev pub dial : NamedOption
 dial = marker_count (codes "dial")
 
+-- `--completing N`
 abbrev pub completing : NamedOption
 completing = marker_count (codes "completing")
 
@@ -65,20 +67,24 @@ page = record { name = codes "page"; options = plan ∷ [] }
 abbrev pub subcommands : List Subcommand
 subcommands = replay ∷ walk ∷ live ∷ audit ∷ draw ∷ page ∷ []
 
--- ---- as clap sees them
+-- ---- their definition for clap
 
+-- clap's action for an option: without a value it is a flag
 abbrev pub action_for : Argument → Option ArgAction
 action_for nothing = Some SetTrue
 action_for (value test default) = None
 
+-- how many values an option takes
 abbrev pub value_count : Argument → ℕ
 value_count nothing = 0
 value_count (value test default) = 1
 
+-- the test that a value has to pass, if there is one
 abbrev pub test_for : Argument → Option ValueParser
 test_for nothing = None
 test_for (value test default) = test
 
+-- the default values of an option: one, or none
 abbrev pub defaults_for : Argument → List Text
 defaults_for (value test (Some default)) = default ∷ []
 defaults_for _ = []
@@ -93,6 +99,7 @@ rule_for o = record (new_rule o.name) {
   defaults = defaults_for o.argument;
 }
 
+-- the subcommand, with its options
 abbrev pub shape_for : Subcommand → Shape
 shape_for s = record (new_shape s.name) { rules = map rule_for s.options }
 

@@ -1,4 +1,4 @@
--- The subcommands and options of the code's table.
+-- The subcommands and options of the table in the code.
 use Rattle.std.specs.Prelude.{map}
 use Rattle.crossbar5_command.specs.Program.{as_text, completing, dial, in_short, markers, plan}
 use Rattle.crossbar5_command.specs.Subcommand.{NamedOption, Subcommand}
@@ -6,6 +6,7 @@ use Rattle.crossbar5_command.specs.declared.options.CommandOption.{CommandOption
 use Rattle.crossbar5_command.specs.declared.options.CommandOption.TheVariants as option
 use Rattle.crossbar5_command.specs.declared.subcommands.Subcommand.{Subcommand as Row}
 
+-- the option of a variant
 abbrev pub named_option : CommandOption → NamedOption
 named_option option.Plan = plan
 named_option option.Markers = markers
@@ -14,5 +15,6 @@ named_option option.Completing = completing
 named_option option.Short = in_short
 named_option option.Text = as_text
 
+-- the subcommand of a row
 abbrev pub named_subcommand : Row → Subcommand
 named_subcommand row = record { name = row.name.now; options = map named_option row.options.now }

@@ -6,19 +6,19 @@ use clap::error::ErrorKind;
 use std::alloc::AllocError;
 use thiserror::Error;
 
-/// Why a command line came to nothing that is to be done.
+/// Why a command line asks for nothing to be done.
 #[derive(Debug, Drop, Error)]
 pub enum CommandFault {
-    /// The words are refused, or ask for help or the version. `print` writes the text to where it
-    /// belongs, and `exit_code` is the status to end with.
+    /// The words are refused, or ask for help or the version. The error's `print` writes the text
+    /// to its stream, and its `exit_code` is the exit status.
     #[error("{0}")]
     Refused(clap::Error),
-    /// Memory was refused.
+    /// Memory ran out.
     #[error("memory ran out")]
     Memory,
 }
 
-// The conversions are written by hand, so that they have contracts.
+// Both conversions are written by hand, so that they have contracts.
 impl From<clap::Error> for CommandFault {
     ghost from_gives = { λ error fault. fault ≡ fault_for error };
 

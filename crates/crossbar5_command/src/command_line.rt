@@ -18,10 +18,10 @@ use crate::{Ask, CommandFault};
 use clap::ArgMatches;
 use std::alloc::{AllocError, Global};
 
-/// What the words ask for. The first is the program's name, whatever it is. Behind the name of a
-/// subcommand its options may have any order.
+/// Returns what the words ask for. The first word is the program's name, whatever it is. The
+/// options of a subcommand follow its name in any order.
 pub fn command(alloc: Global, words: &[&str]) -> Result<Ask, CommandFault>
-    // Words that ask for a subcommand are taken, and the answer has the values that they give it.
+    // Words that ask for a subcommand are accepted, and the result has the values in them.
     ensures taken { (s : Subcommand) (given : List GivenOption)
         → AskFor subcommands (texts words.now) s given → AreValues s.options given
         → IfErr result (λ fault. fault ≡ Memory) }
@@ -32,10 +32,10 @@ pub fn command(alloc: Global, words: &[&str]) -> Result<Ask, CommandFault>
     ensures unnamed { length words.now ≤ 1
         → MatchResult result IsUnnamedAsk (λ fault. fault ≡ Memory) }
 
-    // What names no subcommand is refused, and so is an option in its place.
+    // A word that names no subcommand is refused, and so is an option in its place.
     ensures only { IfOk result (λ ask. NamesOnly replay.name (name_of ask) (texts words.now)) }
 
-    // Of all words: what clap says of this program and them.
+    // For all words the result is what clap's definition finds for this program.
     ensures matches { IfOk result (IsAskOf (subcommand_of program (texts words.now))) }
     ensures passes { takes program (texts words.now) ≡ true
         → IfErr result (λ fault. fault ≡ Memory) }
@@ -46,7 +46,7 @@ pub fn command(alloc: Global, words: &[&str]) -> Result<Ask, CommandFault>
     Ok(ask_of(alloc, &matches)?)
 }
 
-/// What the matches of one of the subcommands ask for, or those of none.
+/// What clap's matches ask for: their subcommand, or a replay if they have none.
 fn ask_of(alloc: Global, matches: &ArgMatches) -> Result<Ask, AllocError>
     ensures { IfSome (subcommand_rows_of matches.now)
         (λ met. IsSome (subcommand_named subcommands met.0))
@@ -93,7 +93,7 @@ fn live_of(alloc: Global, options: &ArgMatches) -> Result<Ask, AllocError>
     })
 }
 
-/// The number of this text.
+/// The number of this text, or 1 if it isn't that of a number of 32 bits.
 fn number_of(text: &str) -> u32
     ensures { IsNumberOf text.now result }
 {
@@ -128,7 +128,7 @@ fn page_of(alloc: Global, options: &ArgMatches) -> Result<Ask, AllocError>
     })
 }
 
-/// Whether an option that stands alone is given, by its value.
+/// Whether an option that takes no value is given, by the value that clap has for it.
 fn is_given(value: Option<&str>) -> bool
     ensures { IsTrue result ↔ IsGiven (option_map (λ s. s.now) value.entry) }
 {
@@ -138,7 +138,7 @@ fn is_given(value: Option<&str>) -> bool
     }
 }
 
-/// The replay with the values of its options, where there are matches of them.
+/// The replay with the values of its options, or with defaults if there are no matches.
 fn replay_of(alloc: Global, options: Option<&ArgMatches>) -> Result<Ask, AllocError>
     ensures { IfOk result (IsAskWith replay.name (λ name.
         option_and_then (λ m. first_value (found_of m.now) name) options.entry)) }
@@ -150,7 +150,7 @@ fn replay_of(alloc: Global, options: Option<&ArgMatches>) -> Result<Ask, AllocEr
     })
 }
 
-/// The value of an option, where there is one among the matches, and where there are matches.
+/// The value of an option in the matches, if there are matches and they have it.
 fn text_of<'a>(matches: Option<&ArgMatches<'a>>, option: &str) -> Option<&'a str>
     ensures { option_map (λ s. s.now) result
         ≡ option_and_then (λ m. first_value (found_of m.now) option.now) matches.entry }

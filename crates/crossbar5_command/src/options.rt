@@ -1,4 +1,4 @@
-//! The options of subcommands as clap sees them.
+//! The options of the subcommands, and their definition for clap.
 
 ghost use Rattle.std.specs.Prelude.{◌≡◌, ◌∷◌, ◌++◌, [], All, IfOk, OnOk, false, map};
 ghost use Rattle.clap.specs.Words.{rule_of};
@@ -10,36 +10,38 @@ use clap::builder::ValueParser;
 use clap::{Arg, ArgAction};
 use std::alloc::{AllocError, Global};
 
-/// The id of the option for the plan, and its name.
+/// The id and name of the option for the plan.
 pub const PLAN: &str = "plan";
 
-/// The id of the option for the kinds of the markers, and its name.
+/// The id and name of the option for the kinds of the markers.
 pub const MARKERS: &str = "markers";
 
-/// The ids of the options for how many markers dial, and how many complete calls, and their names.
+/// The id and name of the option for the number of markers that dial.
 pub const DIAL: &str = "dial";
 
+/// The id and name of the option for the number of markers that complete calls.
 pub const COMPLETING: &str = "completing";
 
-/// The id of the option for a walk in fewer lines, and its name.
+/// The id and name of the option for a walk in fewer lines.
 pub const SHORT: &str = "short";
 
-/// The id of the option for a text in place of a drawing, and its name.
+/// The id and name of the option for a text in place of SVG.
 pub const TEXT: &str = "text";
 
-/// How many markers of a kind there are where no number is given, and at most.
+/// The default number of markers of a kind.
 pub const ONE: &str = "1";
 
+/// The largest number of markers of a kind.
 const MOST_OF_A_KIND: u64 = 47;
 
-/// What help calls the values of options.
+/// What help calls the value of an option.
 const FILE: &str = "FILE";
 
 const KINDS: &str = "KINDS";
 
 const NUMBER: &str = "N";
 
-/// The kinds of the markers where none are given: two markers for all jobs.
+/// The default kinds of the markers: two markers for all jobs.
 pub const DEFAULT_KINDS: &str = "XX";
 
 const ABOUT_PLAN: &str = "Read the office's plan from FILE [default: the example plan]";
@@ -94,7 +96,7 @@ impl CommandOption {
         }
     }
 
-    /// The value of an option that isn't given, where help names one.
+    /// The value of an option that isn't given, if help names one.
     pub fn default_value(self) -> Option<&'static str> {
         match self {
             CommandOption::Markers => Some(DEFAULT_KINDS),
@@ -115,6 +117,7 @@ impl CommandOption {
         }
     }
 
+    /// The option as an argument of clap.
     fn arg<'a>(self, alloc: Global) -> Arg<'a>
         ensures rule { rule_of result ≡ rule_for (named_option self) }
         ensures local { result.global ≡ false }
@@ -143,7 +146,7 @@ pub fn args_of<'a>(alloc: Global, options: &[CommandOption]) -> Result<Vec<Arg<'
     Ok(args)
 }
 
-/// Appends an item, or drops it where memory is refused.
+/// Appends an item. If memory runs out, the item is dropped.
 pub fn put<T: Drop>(all: &mut Vec<T>, item: T) -> Result<(), AllocError>
     ensures { OnOk result (all.new.items ≡ all.old.items ++ item ∷ []) }
 {
@@ -171,7 +174,7 @@ fn markers_option<'a>(alloc: Global) -> Arg<'a>
         .help(ABOUT_MARKERS)
 }
 
-/// An option for how many markers of a kind there are.
+/// An option for the number of markers of a kind.
 fn count_option<'a>(alloc: Global, name: &'a str, about: &'a str) -> Arg<'a>
     ensures rule { rule_of result ≡ rule_for (marker_count name.now) }
     ensures local { result.global ≡ false }

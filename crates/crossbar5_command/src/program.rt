@@ -1,4 +1,4 @@
-//! The program as clap sees it.
+//! The program, and its definition for clap.
 
 ghost use Rattle.std.specs.Prelude.{◌≡◌, [], IfOk, true};
 ghost use Rattle.clap.specs.Words.{app_of};
@@ -8,18 +8,19 @@ use crate::subcommands::{SUBCOMMANDS, commands_of};
 use clap::Command;
 use std::alloc::{AllocError, Global};
 
-/// The program's name, and its version.
+/// The program's name.
 pub const NAME: &str = "crossbar5";
 
+/// The program's version.
 pub const VERSION: &str = "0.1.0";
 
-/// What the program is, as help begins with it.
+/// What the program is, at the beginning of help.
 pub const ABOUT: &str = "\
 A simulator of a No. 5 Crossbar telephone office. It reads rows of traffic from
 standard input and prints a record of each job. Without a command it replays
 the rows with the example plan and two markers that take all jobs.";
 
-// The usage is printed under each refusal too, and so shows where each option belongs.
+// The usage is printed under each refusal too, so it shows where each option belongs.
 const USAGE: &str = "\
 crossbar5 [COMMAND]
        crossbar5 replay [--plan <FILE>] [--markers <KINDS>]
@@ -29,7 +30,7 @@ crossbar5 [COMMAND]
        crossbar5 draw [--plan <FILE>] [--text]
        crossbar5 page [--plan <FILE>]";
 
-/// The exit statuses, as help ends with them.
+/// The exit statuses, at the end of help.
 pub const AFTER_HELP: &str = "\
 Exit status:
   0  Success
@@ -51,7 +52,7 @@ pub fn program<'a>(alloc: Global) -> Result<Command<'a>, AllocError>
     unnamed(alloc).subcommands(subcommands)
 }
 
-/// The program with no subcommand.
+/// The program without its subcommands.
 fn unnamed<'a>(alloc: Global) -> Command<'a>
     ensures { app_of result
         ≡ record (program_of []) { top = record (program_of []).top { is_leaf = true } } }

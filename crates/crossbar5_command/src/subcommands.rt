@@ -1,4 +1,4 @@
-//! The subcommands as clap sees them.
+//! The subcommands, and their definition for clap.
 
 ghost use Rattle.std.specs.Prelude.{◌≡◌, ◌∷◌, ◌++◌, [], All, IfOk, IsOkAnd, OnOk, false, map};
 ghost use Rattle.clap.specs.Simple.{new_app};
@@ -11,7 +11,7 @@ use crate::options::{CommandOption, args_of, put};
 use clap::Command;
 use std::alloc::{AllocError, Global};
 
-/// The names of the subcommands.
+// The names of the subcommands.
 pub const REPLAY: &str = "replay";
 
 pub const WALK: &str = "walk";
@@ -144,12 +144,12 @@ impl Subcommand {
         self.about
     }
 
-    /// Its words, as help shows them.
+    /// The usage line in its help.
     pub fn usage(&self) -> &'static str {
         self.usage
     }
 
-    /// An example with its explanation, as help ends with it.
+    /// An example with its explanation, at the end of its help.
     pub fn example(&self) -> &'static str {
         self.example
     }
@@ -158,6 +158,7 @@ impl Subcommand {
         self.options
     }
 
+    /// The subcommand as a command of clap, with its options.
     fn command<'a>(&self, alloc: Global) -> Result<Command<'a>, AllocError>
         ensures shape { IfOk result (λ made.
             (app_of made).top ≡ shape_for (named_subcommand self.now)) }
@@ -167,7 +168,7 @@ impl Subcommand {
         self.described(alloc).args(args)
     }
 
-    /// The command with its texts and no option yet.
+    /// The command with its texts, without options.
     fn described<'a>(&self, alloc: Global) -> Command<'a>
         ensures shape { app_of result ≡ new_app self.now.name.now }
         ensures local { (out-Command result).has_globals ≡ false }
@@ -196,7 +197,7 @@ pub fn commands_of<'a>(
     Ok(all)
 }
 
-/// Puts a command behind others, if there was memory for it.
+/// Appends a command, unless memory ran out when it was made.
 fn add<'a>(
     all: &mut Vec<Command<'a>>,
     made: Result<Command<'a>, AllocError>,

@@ -1,4 +1,4 @@
--- What live traffic comes to.
+-- The outcome of live traffic.
 use Rattle.std.specs.Prelude.{◌≡◌, ◌⊎◌, ℕ, ◌+◌, ◌*◌, List, [], ◌∷◌, Option, Some, None, flat_map, length, ⊤}
 use Rattle.csv.specs.Reading.{default_config, records as csv_records, strip_bom}
 use Rattle.xbar_plan_text.specs.Document.{plan_of}
@@ -13,25 +13,26 @@ use Rattle.xbar_traffic.specs.declared.row.Row.TheVariants as row
 use Rattle.xbar_report.specs.Text.{report_text}
 use Rattle.xbar_markers.specs.Calls.{AreServed}
 use Rattle.xbar_markers.specs.Outcomes.{AreTaken}
-use Rattle.xbar_markers.specs.Staff.{kinds_of}
+use Rattle.xbar_markers.specs.DesksByKind.{kinds_of}
 use Rattle.xbar_markers.specs.declared.call.Call.{Call}
-use Rattle.crossbar5.specs.Faults.{IsStaffCount}
+use Rattle.crossbar5.specs.Faults.{IsLiveMarkerCount}
 use Rattle.crossbar5.specs.PlanRefusal.{IsAnswerOf, IsRefusedPlan}
 use Rattle.crossbar5.specs.Run.{IsWrittenOf, RefusesTraffic}
 use Rattle.crossbar5.specs.declared.status.Status.{Status}
 use Rattle.crossbar5.specs.declared.status.Status.TheVariants.{Fine}
 
--- the calls that rows ask for
+-- the calls that a row asks for: one, or none
 abbrev pub calls_in : Row → List Call
 calls_in (row.Call call_no line dialled release) =
     record { call_no = call_no; line = line; digits = dialled; release = release } ∷ []
 calls_in _ = []
 
+-- the calls that rows ask for
 abbrev pub calls_of : List Row → List Call
 calls_of rows = flat_map calls_in rows
 
--- the text is that of calls done by so many markers: of the records of one legal history of just
--- these calls, and of the paths and the closed crosspoints after it
+-- the text reports calls done by this many markers of each kind: the records of one legal history
+-- of exactly these calls, and the numbers of paths and closed crosspoints after it
 pub record IsTextOfCalls (plan : Tables) (dialling completing : ℕ) (calls : List Call)
     (text : List ℕ) : Type 0 where
   pub records : List Record
@@ -41,14 +42,14 @@ pub record IsTextOfCalls (plan : Tables) (dialling completing : ℕ) (calls : Li
   pub text_is : text
       ≡ report_text records (length (after plan records)) (4 * length (after plan records))
 
--- rows are refused if the row behind them has a fault; else their calls are done
+-- the traffic is refused if the row after these has a fault; otherwise their calls are done
 abbrev pub IsLiveOf : Tables → ℕ → ℕ → List Row → Option RowFault → List ℕ → Status → Type 0
 IsLiveOf plan dialling completing rows (Some fault) text status =
     IsWrittenOf (RefusesTraffic (record { row = length rows + 1; fault = fault })) text status
 IsLiveOf plan dialling completing rows None text status =
     IsTextOfCalls plan dialling completing (calls_of rows) text × (status ≡ Fine)
 
--- under a plan's tables, the text and the status are those of what the traffic's rows come to
+-- under a plan's tables, the text and the status are those of the rows of live traffic
 pub record IsLiveUnder (plan : Tables) (dialling completing : ℕ) (traffic text : List ℕ)
     (status : Status) : Type 0 where
   pub rows : List Row
@@ -56,12 +57,13 @@ pub record IsLiveUnder (plan : Tables) (dialling completing : ℕ) (traffic text
   pub read : IsTrafficOf Live (csv_records default_config (strip_bom traffic)) rows fault
   pub written : IsLiveOf plan dialling completing rows fault text status
 
--- the text and the status are those of live traffic with a plan's text and so many markers
+-- the text and the status are those of live traffic, with a plan's text and this many markers of
+-- each kind
 abbrev pub IsLive : List ℕ → ℕ → ℕ → List ℕ → List ℕ → Status → Type 0
 IsLive plan dialling completing traffic text status =
     IsAnswerOf (λ tables. IsLiveUnder tables dialling completing) (plan_of plan) traffic text status
 
--- markers that are too few or too many, or a plan's text that is refused, refuse live
--- traffic before any of it is read
+-- live traffic is refused before any of it is read: there are too few or too many markers, or its
+-- plan is refused
 abbrev pub IsLiveUnread : List ℕ → ℕ → ℕ → Type 0
-IsLiveUnread plan dialling completing = ¬ IsStaffCount dialling completing ⊎ IsRefusedPlan plan
+IsLiveUnread plan dialling completing = ¬ IsLiveMarkerCount dialling completing ⊎ IsRefusedPlan plan

@@ -1,24 +1,24 @@
-//! Live traffic: from the bytes of a plan and of calls to those of the output, by markers on threads,
-//! with a slip where the plan or the traffic is refused.
+//! Live traffic: from the bytes of a plan and of calls to those of the output, by markers on
+//! threads, with a diagnostic if the plan or the traffic is refused.
 
 ghost use Rattle.std.specs.Prelude.{◌≡◌, ◌≢◌, ◌↔◌, ◌⊎◌, [], Err, IfErr, IfOk, IfSome, List, OnOk, ℕ, ◌+◌, vec_len};
 ghost use Rattle.std.specs.Io.KnownBytes.{Appends, IsAtEnd, Keeps};
 ghost use Rattle.counted_io.specs.Counts.{HasFailed, ReadsUsedUp};
-ghost use Rattle.crossbar5.specs.Faults.{ComesFirst, IsStaffCount};
-ghost use Rattle.crossbar5.specs.Refusal.{TellsItsRefusal};
+ghost use Rattle.crossbar5.specs.Faults.{ComesFirst, IsLiveMarkerCount};
+ghost use Rattle.crossbar5.specs.Refusal.{ReportsFaultOf};
 ghost use Rattle.crossbar5_live.specs.Live.{IsLive, IsLiveUnread};
 
 use crate::calls_text::live;
 use counted_io::{Sink, Source, write_all};
-use crossbar5::{Answer, EngineFault, Input, Status, Written, read_input};
+use crossbar5::{EngineFault, Input, Response, Status, Written, read_input};
 use std::alloc::Global;
 use std::sync::Wait;
 use std::thread::Threads;
 use xbar_core::MOST_MARKERS;
 use xbar_markers::Gate;
 
-/// What is written of live traffic with a plan's text, for all that the source gives.
-fn live_comes_to<G: Gate + Send + Drop, T: Threads + Wait + Sync, R: Source>(
+/// Does live traffic with a plan's text and all that the source gives, without writing anything.
+fn do_live<G: Gate + Send + Drop, T: Threads + Wait + Sync, R: Source>(
     rt: &T,
     alloc: Global,
     plan: &[u8],
@@ -31,7 +31,7 @@ fn live_comes_to<G: Gate + Send + Drop, T: Threads + Wait + Sync, R: Source>(
     ensures live { IfOk result (λ written. (traffic : List ℕ) ×
         IfSome (R.remaining source.old) (λ all. traffic ≡ all) ×
         IsLive plan.now dialling completing traffic written.text.items written.status) }
-    ensures markers { (result ≡ Err EngineFault.Markers) ↔ ¬ IsStaffCount dialling completing }
+    ensures markers { (result ≡ Err EngineFault.Markers) ↔ ¬ IsLiveMarkerCount dialling completing }
     ensures device { result ≡ Err EngineFault.Device
         → HasFailed (R.failure_count source.old) (R.failure_count source.new) }
     ensures no_failure { result ≢ Err EngineFault.Device
@@ -53,14 +53,15 @@ fn live_comes_to<G: Gate + Send + Drop, T: Threads + Wait + Sync, R: Source>(
     }
 }
 
-/// Does the calls of the live traffic that the source gives, in an office with the plan of this text,
-/// by so many markers that dial and so many that complete calls, each on a thread of its own, and
-/// writes what comes of them to the sink. The first gates are for those that dial.
+/// Does the calls of the live traffic from the source, in an office with the plan of this text,
+/// and writes their records and the counts to the sink. `dialling` markers dial and `completing`
+/// markers complete calls, each on a thread of its own and with a gate of its own. The first gates
+/// are for those that dial.
 ///
-/// The markers are judged first, then the plan, then the traffic, of which all rows are judged before
-/// a call is done. Markers or a plan that are refused leave the source unread. The output is written
-/// in one go once all is known. Of how much went out before `Device` nothing is said, nor that the
-/// calls come to an end.
+/// The numbers of markers are judged first, then the plan, then all rows of the traffic, before
+/// any call is done. If the markers or the plan are refused, the source is left unread. The output
+/// is written once it is complete. How much was written before a `Device` fault is unspecified,
+/// and it isn't promised that the calls end.
 pub fn answer_live<G: Gate + Send + Drop, T: Threads + Wait + Sync, R: Source, W: Sink>(
     rt: &T,
     alloc: Global,
@@ -70,17 +71,17 @@ pub fn answer_live<G: Gate + Send + Drop, T: Threads + Wait + Sync, R: Source, W
     gates: Vec<G>,
     source: &mut R,
     sink: &mut W,
-) -> Result<Answer, EngineFault>
+) -> Result<Response, EngineFault>
     requires { vec_len gates ≡ dialling + completing }
     ensures live { IfOk result (λ answer. (traffic text : List ℕ) ×
         IfSome (R.remaining source.old) (λ all. traffic ≡ all) ×
         IsLive plan.now dialling completing traffic text answer.status ×
         Appends (W.contents sink.old) (W.contents sink.new) text) }
-    ensures slip { IfOk result (λ answer. (text : List ℕ) ×
+    ensures diagnostic { IfOk result (λ answer. (text : List ℕ) ×
         Appends (W.contents sink.old) (W.contents sink.new) text ×
-        TellsItsRefusal answer.slip text answer.status) }
+        ReportsFaultOf answer.diagnostic text answer.status) }
     ensures reasons { IfOk result (λ answer. answer.reasons.items ≡ []) }
-    ensures markers { (result ≡ Err EngineFault.Markers) ↔ ¬ IsStaffCount dialling completing }
+    ensures markers { (result ≡ Err EngineFault.Markers) ↔ ¬ IsLiveMarkerCount dialling completing }
     ensures device { result ≡ Err EngineFault.Device
         → HasFailed (R.failure_count source.old) (R.failure_count source.new)
         ⊎ HasFailed (W.failure_count sink.old) (W.failure_count sink.new) }
@@ -95,19 +96,21 @@ pub fn answer_live<G: Gate + Send + Drop, T: Threads + Wait + Sync, R: Source, W
     ensures unwritten { IfErr result (λ fault. ComesFirst fault →
         Keeps (W.contents sink.old) (W.contents sink.new)) }
 {
-    let Written { text, status, slip } = live_comes_to(
-        rt, alloc, plan, dialling, completing, gates, source,
-    )?;
-    write_all(sink, &text)?;
-    Ok(Answer {
+    let Written {
+        text,
         status,
-        slip,
+        diagnostic,
+    } = do_live(rt, alloc, plan, dialling, completing, gates, source)?;
+    write_all(sink, &text)?;
+    Ok(Response {
+        status,
+        diagnostic,
         reasons: Vec::new(alloc),
     })
 }
 
-/// Does the calls of the live traffic that the source gives, in an office with the plan of this text
-/// and so many markers of each kind, as `answer_live` does.
+/// Does the calls of the live traffic from the source as `answer_live` does. Returns only the
+/// status.
 pub fn run_live<G: Gate + Send + Drop, T: Threads + Wait + Sync, R: Source, W: Sink>(
     rt: &T,
     alloc: Global,
@@ -123,7 +126,7 @@ pub fn run_live<G: Gate + Send + Drop, T: Threads + Wait + Sync, R: Source, W: S
         IfSome (R.remaining source.old) (λ all. traffic ≡ all) ×
         IsLive plan.now dialling completing traffic text status ×
         Appends (W.contents sink.old) (W.contents sink.new) text) }
-    ensures markers { (result ≡ Err EngineFault.Markers) ↔ ¬ IsStaffCount dialling completing }
+    ensures markers { (result ≡ Err EngineFault.Markers) ↔ ¬ IsLiveMarkerCount dialling completing }
     ensures unread { IsLiveUnread plan.now dialling completing → source.new ≡ source.old }
     ensures end { OnOk result (¬ IsLiveUnread plan.now dialling completing
         → IsAtEnd (R.remaining source.new)) }

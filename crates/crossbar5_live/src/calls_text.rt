@@ -1,4 +1,4 @@
-//! Calls of live traffic, done on threads, as text.
+//! Live traffic: its calls are done on threads, and their outcome is written as text.
 
 ghost use Rattle.std.specs.Prelude.{◌≡◌, ◌+◌, ◌≤◌, ◌<◌, All, IfErr, IfOk, IfSome, List, ℕ, option_to_list, vec_len};
 ghost use Rattle.xbar_equip.specs.Word.{word_count};
@@ -7,7 +7,7 @@ ghost use Rattle.xbar_traffic.specs.Row.{IsRow};
 ghost use Rattle.xbar_markers.specs.Calls.{HasCallNo};
 ghost use Rattle.xbar_markers.specs.Outcomes.{IsOutcome};
 ghost use Rattle.xbar_markers.specs.declared.call.Call.{Call as CallView};
-ghost use Rattle.crossbar5.specs.Faults.{IsStaffCount};
+ghost use Rattle.crossbar5.specs.Faults.{IsLiveMarkerCount};
 ghost use Rattle.crossbar5_live.specs.Live.{IsLiveUnder, IsTextOfCalls, calls_in, calls_of};
 
 use crossbar5::{Status, Written, refused};
@@ -57,7 +57,7 @@ fn calls(alloc: Global, rows: &[Row]) -> Result<Vec<Call>, AllocError>
     Ok(calls)
 }
 
-/// The text of what came of calls.
+/// The text of the outcome of calls: their records, and the counts after them.
 fn text_of_calls(alloc: Global, outcome: &Outcome) -> Result<Vec<u8>, AllocError>
     requires { vec_len outcome.now.words ≡ word_count }
     ensures { IfOk result (λ text. (plan : Tables) (dialling completing : ℕ) (calls : List CallView)
@@ -70,8 +70,8 @@ fn text_of_calls(alloc: Global, outcome: &Outcome) -> Result<Vec<u8>, AllocError
     report(alloc, outcome.records.as_slice(), paths, closed)
 }
 
-/// What is written for the bytes of a whole live traffic, whose calls so many markers do that dial
-/// and so many that complete them.
+/// Does the live traffic of these bytes with `dialling` markers that dial and `completing` markers
+/// that complete calls.
 pub fn live<G: Gate + Send + Drop, R: Threads + Wait + Sync>(
     rt: &R,
     alloc: Global,
@@ -81,12 +81,12 @@ pub fn live<G: Gate + Send + Drop, R: Threads + Wait + Sync>(
     gates: Vec<G>,
     bytes: &[u8],
 ) -> Result<Written, AllocError>
-    requires markers { IsStaffCount dialling completing }
+    requires markers { IsLiveMarkerCount dialling completing }
     requires gates { vec_len gates ≡ dialling + completing }
     ensures { IfOk result (λ written. IsLiveUnder plan.now dialling completing
         bytes.now written.text.items written.status) }
 {
-    // Called for its clauses alone.
+    // Called only for its clauses.
     xbar_traffic::laws::rows_are_in_range();
     let traffic = Traffic::read(alloc, Mode::Live, bytes)?;
     if let Some(fault) = traffic.refusal() {
@@ -105,7 +105,7 @@ pub fn live<G: Gate + Send + Drop, R: Threads + Wait + Sync>(
         Ok(outcome) => Ok(Written {
             text: text_of_calls(alloc, &outcome)?,
             status: Status::Fine,
-            slip: None,
+            diagnostic: None,
         }),
         Err(RunFault::Memory) => Err(AllocError),
         Err(RunFault::Markers) => unreachable!(),

@@ -1,20 +1,20 @@
 ghost use Rattle.std.specs.Prelude.{◌≡◌, ◌+◌, ◌↔◌, Err, IfOk, vec_len};
-ghost use Rattle.crossbar5.specs.Faults.{IsStaffCount};
+ghost use Rattle.crossbar5.specs.Faults.{IsLiveMarkerCount};
 
 use crossbar5::EngineFault;
 use std::alloc::Global;
 use xbar_core::MOST_MARKERS;
 use xbar_markers::OpenGate;
 
-/// A gate that does nothing for each of the markers of live calls. `Markers` unless there is at least
-/// one of each kind, and at most 48 in all.
+/// A gate that does nothing for each of the markers of live calls. The fault is `Markers` unless
+/// there is at least one marker of each kind, and at most 48 in all.
 pub fn open_gates(
     alloc: Global,
     dialling: usize,
     completing: usize,
 ) -> Result<Vec<OpenGate>, EngineFault>
     ensures gates { IfOk result (λ gates. vec_len gates ≡ dialling + completing) }
-    ensures markers { (result ≡ Err EngineFault.Markers) ↔ ¬ IsStaffCount dialling completing }
+    ensures markers { (result ≡ Err EngineFault.Markers) ↔ ¬ IsLiveMarkerCount dialling completing }
 {
     if dialling == 0 || completing == 0 || dialling.saturating_add(completing) > MOST_MARKERS {
         return Err(EngineFault::Markers);

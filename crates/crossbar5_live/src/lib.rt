@@ -1,4 +1,4 @@
-//! Live calls on threads: a plan and traffic in, and out the text of one legal history of these calls.
+//! Live calls on threads: from a plan and traffic to the text of one legal history of these calls.
 #![tactic(auto)]
 
 pub use answer::{answer_live, run_live};

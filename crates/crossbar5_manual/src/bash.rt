@@ -44,7 +44,7 @@ impl fmt::Display for BashCompletions {
     }
 }
 
-/// The case of one subcommand: its options.
+/// The case branch of one subcommand, with its options.
 #[derive(Clone, Copy)]
 struct Options<'s>(&'s Subcommand);
 

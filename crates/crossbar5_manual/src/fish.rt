@@ -45,7 +45,7 @@ impl fmt::Display for Command<'_> {
     }
 }
 
-/// The words of `complete` for an option.
+/// The arguments of `complete` for an option.
 #[derive(Clone, Copy)]
 struct Flag(CommandOption);
 

@@ -2,7 +2,7 @@
 
 use std::fmt;
 
-/// The first line of what help says of an option.
+/// The first line of an option's help, without a colon or semicolon at its end.
 pub fn first_line(about: &str) -> &str {
     match about.split_once("{n}") {
         Some((first, _)) => first.trim_end_matches(':').trim_end_matches(';'),

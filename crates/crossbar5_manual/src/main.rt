@@ -1,6 +1,6 @@
-//! Prints the manual of `crossbar5` in all its forms, made from the table of its subcommands and options:
-//! the texts of `--help`, a man page, and completions for bash, zsh and fish. Each text follows a line
-//! `==> FILE <==` with the file that it is for.
+//! Prints the manual of `crossbar5` in all its forms, made from the table of its subcommands and
+//! options: the texts of `--help`, a man page, and completions for bash, zsh and fish. Each text
+//! follows a line `==> FILE <==` with the name of its file.
 #![tactic(auto)]
 
 mod bash;
@@ -17,7 +17,7 @@ use std::fmt;
 use std::process::ExitCode;
 use zsh::ZshCompletions;
 
-/// Why the manual is not printed.
+/// Why the manual couldn't be printed.
 enum ManualFault {
     Memory,
     Output,
@@ -46,7 +46,7 @@ fn print_all(rt: &HostRuntime) -> Result<(), ManualFault> {
     print_text(rt, "completions/crossbar5.fish", &FishCompletions)
 }
 
-/// The text that these words ask for, which ask for help.
+/// The help that these words ask for.
 fn help(rt: &HostRuntime, words: &[&str]) -> Result<clap::Error, ManualFault> {
     match command(rt.alloc(), words) {
         Err(CommandFault::Refused(help)) => Ok(help),
@@ -54,6 +54,7 @@ fn help(rt: &HostRuntime, words: &[&str]) -> Result<clap::Error, ManualFault> {
     }
 }
 
+/// Prints a text after the line with the name of its file.
 fn print_text<T: fmt::Display>(rt: &HostRuntime, file: &str, text: &T) -> Result<(), ManualFault> {
     match print!(rt; "==> {file} <==\n{text}") {
         Ok(()) => Ok(()),

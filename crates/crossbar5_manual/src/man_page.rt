@@ -41,7 +41,7 @@ impl fmt::Display for ManPage {
     }
 }
 
-/// The part on a subcommand: what it does, its options, an example.
+/// The section on a subcommand: what it does, its options, and an example.
 #[derive(Clone, Copy)]
 struct Command<'s>(&'s Subcommand);
 
@@ -79,7 +79,7 @@ impl fmt::Display for Entry {
     }
 }
 
-/// A text with what roff reads in its own way escaped.
+/// A text in which the special characters of roff are escaped.
 #[derive(Clone, Copy)]
 struct Roff<'t>(&'t str);
 

@@ -44,7 +44,7 @@ impl fmt::Display for ZshCompletions {
     }
 }
 
-/// The case of one subcommand: its options.
+/// The case branch of one subcommand, with its options.
 #[derive(Clone, Copy)]
 struct Options<'s>(&'s Subcommand);
 
@@ -58,7 +58,7 @@ impl fmt::Display for Options<'_> {
     }
 }
 
-/// What `_arguments` is told of an option.
+/// The specification of an option for `_arguments`.
 #[derive(Clone, Copy)]
 struct Specification(CommandOption);
 

@@ -3,8 +3,8 @@
 
 use std::process::ExitCode;
 
-/// The kit and the commit that the program was built with: the last line of `--version`. `bin/build`
-/// writes them here.
+/// The kit and the commit that the program was built with: the last line of `--version`.
+/// `bin/build` writes them here.
 const BUILD: &str = "kit and commit not recorded";
 
 fn main(rt: HostRuntime) -> ExitCode {

@@ -1,4 +1,5 @@
--- readings that are guessed, and several of them made at once; and steps past the turn, which need no guess
+-- several predictions that are validated at once; and steps past the turn, which have no
+-- predictions
 use Rattle.std.proofs.Common.{◌≡◌, ◌<◌, ◌≤◌, ℕ, zero, suc, ◌+◌, Bool, List, [], ◌∷◌, inl, inr, length, refl, sym, ◌∙◌, ap, subst, arith}
 use Rattle.std.specs.Prelude.{Option, Some, None, drop, take, option_map}
 use Rattle.turns.specs.Among.{IsIn}
@@ -11,163 +12,163 @@ use Rattle.turns.specs.declared.answer.Answer.TheVariants.{Done, Value}
 use Rattle.turns.specs.declared.phase.Phase.{Phase}
 use Rattle.turns.specs.declared.phase.Phase.TheVariants.{Tests, Operates}
 use Rattle.turns.specs.declared.reading.Reading.{Reading}
-use Rattle.desks.specs.Guesses.{TestsNext, read_on}
-use Rattle.desk_attempts.specs.Ahead.{Ahead, KnowsBy, StandsAhead, guessed_of, guesses, made_of, now_by, now_of, waiting}
-use Rattle.attempts.specs.Standing.{AreScripts, HasPlace, KnowsIn, Program, attempt_of}
+use Rattle.desks.specs.Predictions.{TestsNext, read_on}
+use Rattle.desk_attempts.specs.Speculation.{Speculation, ResumePointIsValidBy, IsValidSpeculation, predicted_of, predictions, validated_of, now_by, now_of, waiting}
+use Rattle.attempts.specs.Validity.{AreScripts, IsValidInBounds, ResumePointIsValidIn, AttemptView, attempt_of}
 use Rattle.attempts.specs.SystemWith.{SystemWith, system_with}
 use Rattle.desk_attempts.proofs.Confirmed.{confirmed, more_guessed}
 use Rattle.attempts.proofs.Places.{place_change, place_there}
 
--- what is guessed fits words, where all readings do
+-- predictions fit 64 bits if all readings do
 in_dropped : {A : Type 0} (made : ℕ) (items : List A) (first : A) → IsIn first (drop made items) → IsIn first items
 in_dropped zero [] first within = absurd within
 in_dropped zero (item ∷ items) first within = within
 in_dropped (suc made) [] first within = absurd within
 in_dropped (suc made) (item ∷ items) first within = inr (in_dropped made items first within)
 
-in_guesses : (sure : Option ℕ) (readings : List (Reading ℕ)) (first : Reading ℕ) (rest : List (Reading ℕ)) → guessed_of sure readings ≡ first ∷ rest → IsIn first readings
+in_guesses : (validated : Option ℕ) (readings : List (Reading ℕ)) (first : Reading ℕ) (rest : List (Reading ℕ)) → predicted_of validated readings ≡ first ∷ rest → IsIn first readings
 in_guesses None readings first rest is = absurd cc
 in_guesses (Some made) readings first rest is = in_dropped made readings first (subst (λ (l : List (Reading ℕ)). IsIn first l) (sym is) (inl refl))
 
-counted_on : (sure : Option ℕ) (made : ℕ) → option_map (λ before. before + suc made) sure ≡ option_map (λ before. before + made) (option_map (λ before. before + 1) sure)
+counted_on : (validated : Option ℕ) (made : ℕ) → option_map (λ before. before + suc made) validated ≡ option_map (λ before. before + made) (option_map (λ before. before + 1) validated)
 counted_on None made = refl
 counted_on (Some before) made = let e : before + suc made ≡ before + 1 + made = omega arith in ap Some e
 
-counted_none : (sure : Option ℕ) → option_map (λ before. before + 0) sure ≡ sure
+counted_none : (validated : Option ℕ) → option_map (λ before. before + 0) validated ≡ validated
 counted_none None = refl
 counted_none (Some before) = let e : before + 0 ≡ before = omega arith in ap Some e
 
-module _ {Lock Job Reply Effect Decision Point : Type 0} (same : Lock → Lock → Bool) (reply_of : Decision → Reply) (effects_of : Decision → List Effect) (S : SystemWith Lock Job Reply Effect Decision) (Knows : Job → Point → Seen Lock → Type 0) where
+module _ {Lock Job Reply Effect Decision ResumePoint : Type 0} (same : Lock → Lock → Bool) (reply_of : Decision → Reply) (effects_of : Decision → List Effect) (S : SystemWith Lock Job Reply Effect Decision) (ResumePointIsValid : Job → ResumePoint → Seen Lock → Type 0) where
   abbrev O : System
   O = system_with same reply_of effects_of S
 
   abbrev Doing : Type 0
-  Doing = Program Lock Job Decision Point
+  Doing = AttemptView Lock Job Decision ResumePoint
 
   abbrev outside : Doing → generic.AttemptOf O
   outside p = attempt_of reply_of effects_of p
 
   abbrev KnowsHere : Doing → Option ℕ → List (Reading ℕ) → Type 0
-  KnowsHere far sure l = KnowsBy same reply_of effects_of S Knows far sure l
+  KnowsHere predicted validated l = ResumePointIsValidBy same reply_of effects_of S ResumePointIsValid predicted validated l
 
-  module _ (R H : ℕ) (are : AreScripts same reply_of effects_of S Knows R H) where
-    abbrev StandsHere : Ahead Lock Job Decision Point → Type 0
-    StandsHere p = StandsAhead same reply_of effects_of S Knows R H p
+  module _ (R H : ℕ) (are : AreScripts same reply_of effects_of S ResumePointIsValid R H) where
+    abbrev StandsHere : Speculation Lock Job Decision ResumePoint → Type 0
+    StandsHere p = IsValidSpeculation same reply_of effects_of S ResumePointIsValid R H p
 
-    abbrev now : Ahead Lock Job Decision Point → generic.AttemptOf O
+    abbrev now : Speculation Lock Job Decision ResumePoint → generic.AttemptOf O
     now p = now_of reply_of effects_of p
 
-    -- its count tells nothing of where it is
-    recounted : (far : Doing) (count : ℕ) (sure : Option ℕ) (l : List (Reading ℕ)) → now_by reply_of effects_of (record far { count = count }) sure l ≡ now_by reply_of effects_of far sure l
-    recounted far count sure [] = refl
-    recounted far count sure (first ∷ rest) = refl
+    -- the count doesn't matter to what it is
+    recounted : (predicted : Doing) (count : ℕ) (validated : Option ℕ) (l : List (Reading ℕ)) → now_by reply_of effects_of (record predicted { count = count }) validated l ≡ now_by reply_of effects_of predicted validated l
+    recounted predicted count validated [] = refl
+    recounted predicted count validated (first ∷ rest) = refl
 
-    knows_recounted : (far : Doing) (count : ℕ) (sure : Option ℕ) (l : List (Reading ℕ)) → KnowsHere far sure l → KnowsHere (record far { count = count }) sure l
-    knows_recounted far count sure [] knows = knows
-    knows_recounted far count sure (first ∷ rest) knows = record { all = knows.all; found = knows.found; foresees = knows.foresees; comes = knows.comes; knows = knows.knows }
+    knows_recounted : (predicted : Doing) (count : ℕ) (validated : Option ℕ) (l : List (Reading ℕ)) → KnowsHere predicted validated l → KnowsHere (record predicted { count = count }) validated l
+    knows_recounted predicted count validated [] valid_point = valid_point
+    knows_recounted predicted count validated (first ∷ rest) valid_point = record { all = valid_point.all; found = valid_point.found; foresees = valid_point.foresees; comes = valid_point.comes; valid_point = valid_point.valid_point }
 
-    pub record Confirms (to : generic.AttemptOf O) (new : Ahead Lock Job Decision Point) : Type 0 where
+    pub record Confirms (to : generic.AttemptOf O) (new : Speculation Lock Job Decision ResumePoint) : Type 0 where
       pub now_is : now new ≡ to
-      pub stands : StandsHere new
+      pub valid : StandsHere new
 
-    stays : (old new : Ahead Lock Job Decision Point) → StandsHere old → new.far ≡ record old.far { count = new.far.count } → new.sure ≡ old.sure → Confirms (now old) new
-    stays old new stands far_is sure_is =
-        let far : Doing = record old.far { count = new.far.count } in
-        let is : new ≡ record { far = far; sure = old.sure } = λ i. record { far = far_is i; sure = sure_is i } in
-        let same_now : now (record { far = far; sure = old.sure }) ≡ now old = recounted old.far new.far.count old.sure (guesses old) in
+    stays : (old new : Speculation Lock Job Decision ResumePoint) → StandsHere old → new.predicted ≡ record old.predicted { count = new.predicted.count } → new.validated ≡ old.validated → Confirms (now old) new
+    stays old new valid far_is sure_is =
+        let predicted : Doing = record old.predicted { count = new.predicted.count } in
+        let is : new ≡ record { predicted = predicted; validated = old.validated } = λ i. record { predicted = far_is i; validated = sure_is i } in
+        let same_now : now (record { predicted = predicted; validated = old.validated }) ≡ now old = recounted old.predicted new.predicted.count old.validated (predictions old) in
         subst (Confirms (now old)) (sym is) (record {
           now_is = same_now;
-          stands = record { place = subst (HasPlace O R H) (sym same_now) stands.place; knows = knows_recounted old.far new.far.count old.sure (guesses old) stands.knows };
+          valid = record { place = subst (IsValidInBounds O R H) (sym same_now) valid.place; valid_point = knows_recounted old.predicted new.predicted.count old.validated (predictions old) valid.valid_point };
         })
 
-    -- the first guess is made
-    one_more : Ahead Lock Job Decision Point → Ahead Lock Job Decision Point
-    one_more p = record { far = p.far; sure = option_map (λ before. before + 1) p.sure }
+    -- the first prediction is validated
+    one_more : Speculation Lock Job Decision ResumePoint → Speculation Lock Job Decision ResumePoint
+    one_more p = record { predicted = p.predicted; validated = option_map (λ before. before + 1) p.validated }
 
-    confirms_one : (p : Ahead Lock Job Decision Point) (first : Reading ℕ) (rest : List (Reading ℕ)) → AreReadWords p.far.readings → StandsHere p → guesses p ≡ first ∷ rest → Confirms (change O (now p) (Value first.value)) (one_more p)
+    confirms_one : (p : Speculation Lock Job Decision ResumePoint) (first : Reading ℕ) (rest : List (Reading ℕ)) → AreReadWords p.predicted.readings → StandsHere p → predictions p ≡ first ∷ rest → Confirms (change O (now p) (Value first.value)) (one_more p)
     unfolding one_more
-    confirms_one p first rest words stands is =
-        let by = confirmed same reply_of effects_of S Knows R H are p (one_more p) first rest (words first (in_guesses p.sure p.far.readings first rest is)) stands is refl refl in
-        record { now_is = by.0; stands = by.1 }
+    confirms_one p first rest words valid is =
+        let by = confirmed same reply_of effects_of S ResumePointIsValid R H are p (one_more p) first rest (words first (in_guesses p.validated p.predicted.readings first rest is)) valid is refl refl in
+        record { now_is = by.0; valid = by.1 }
 
-    guesses_left : (p : Ahead Lock Job Decision Point) (first : Reading ℕ) (rest : List (Reading ℕ)) → guesses p ≡ first ∷ rest → guesses (one_more p) ≡ rest
+    guesses_left : (p : Speculation Lock Job Decision ResumePoint) (first : Reading ℕ) (rest : List (Reading ℕ)) → predictions p ≡ first ∷ rest → predictions (one_more p) ≡ rest
     unfolding one_more
-    guesses_left p first rest is = more_guessed p.sure p.far.readings first rest is
+    guesses_left p first rest is = more_guessed p.validated p.predicted.readings first rest is
 
-    -- the first so many of them are made
-    pub confirms : (made : ℕ) (old new : Ahead Lock Job Decision Point) → AreReadWords old.far.readings → StandsHere old → made ≤ length (guesses old) → new.far ≡ record old.far { count = new.far.count } → new.sure ≡ option_map (λ before. before + made) old.sure
-        → Confirms (read_on O (now old) (take made (guesses old))) new
+    -- the first `made` of them are validated
+    pub confirms : (made : ℕ) (old new : Speculation Lock Job Decision ResumePoint) → AreReadWords old.predicted.readings → StandsHere old → made ≤ length (predictions old) → new.predicted ≡ record old.predicted { count = new.predicted.count } → new.validated ≡ option_map (λ before. before + made) old.validated
+        → Confirms (read_on O (now old) (take made (predictions old))) new
     unfolding one_more
-    confirms zero old new words stands few far_is sure_is = stays old new stands far_is (sure_is ∙ counted_none old.sure)
-    confirms (suc made) old new words stands few far_is sure_is = at (λ mid. confirms made mid new) (guesses old) refl where
-      at : ((mid : Ahead Lock Job Decision Point) → AreReadWords mid.far.readings → StandsHere mid → made ≤ length (guesses mid) → new.far ≡ record mid.far { count = new.far.count } → new.sure ≡ option_map (λ before. before + made) mid.sure → Confirms (read_on O (now mid) (take made (guesses mid))) new)
-          → (l : List (Reading ℕ)) → guesses old ≡ l → Confirms (read_on O (now old) (take (suc made) (guesses old))) new
-      at from [] is = let none : length (guesses old) ≡ 0 = ap length is in absurd (omega (arith, none, few))
+    confirms zero old new words valid few far_is sure_is = stays old new valid far_is (sure_is ∙ counted_none old.validated)
+    confirms (suc made) old new words valid few far_is sure_is = at (λ mid. confirms made mid new) (predictions old) refl where
+      at : ((mid : Speculation Lock Job Decision ResumePoint) → AreReadWords mid.predicted.readings → StandsHere mid → made ≤ length (predictions mid) → new.predicted ≡ record mid.predicted { count = new.predicted.count } → new.validated ≡ option_map (λ before. before + made) mid.validated → Confirms (read_on O (now mid) (take made (predictions mid))) new)
+          → (l : List (Reading ℕ)) → predictions old ≡ l → Confirms (read_on O (now old) (take (suc made) (predictions old))) new
+      at from [] is = let none : length (predictions old) ≡ 0 = ap length is in absurd (omega (arith, none, few))
       at from (first ∷ rest) is =
           let mid = one_more old in
-          let left : guesses mid ≡ rest = guesses_left old first rest is in
-          let long : length (guesses old) ≡ suc (length (guesses mid)) = ap length is ∙ ap (λ (l : List (Reading ℕ)). suc (length l)) (sym left) in
-          let one = confirms_one old first rest words stands is in
-          let on = from mid words one.stands (omega (arith, long, few)) far_is (sure_is ∙ counted_on old.sure made) in
+          let left : predictions mid ≡ rest = guesses_left old first rest is in
+          let long : length (predictions old) ≡ suc (length (predictions mid)) = ap length is ∙ ap (λ (l : List (Reading ℕ)). suc (length l)) (sym left) in
+          let one = confirms_one old first rest words valid is in
+          let on = from mid words one.valid (omega (arith, long, few)) far_is (sure_is ∙ counted_on old.validated made) in
           record {
             now_is = on.now_is
                 ∙ ap (λ (l : List (Reading ℕ)). read_on O (now mid) (take made l)) left
                 ∙ ap (λ (a : generic.AttemptOf O). read_on O a (take made rest)) one.now_is
                 ∙ ap (λ (l : List (Reading ℕ)). read_on O (now old) (take (suc made) l)) (sym is);
-            stands = on.stands;
+            valid = on.valid;
           }
 
-    -- it tests the words that it guesses
-    pub tests_guesses : (l : List (Reading ℕ)) (p : Ahead Lock Job Decision Point) → AreReadWords p.far.readings → StandsHere p → guesses p ≡ l → TestsNext O (now p) l
+    -- it tests the words of its predictions, one after another
+    pub tests_guesses : (l : List (Reading ℕ)) (p : Speculation Lock Job Decision ResumePoint) → AreReadWords p.predicted.readings → StandsHere p → predictions p ≡ l → TestsNext O (now p) l
     unfolding one_more
-    tests_guesses [] p words stands is = tt
-    tests_guesses (first ∷ rest) p words stands is =
-        let waits : now p ≡ waiting Reply Effect p.far (made_of p.sure p.far.readings) first.word = ap (now_by reply_of effects_of p.far p.sure) is in
-        let one = confirms_one p first rest words stands is in (
+    tests_guesses [] p words valid is = tt
+    tests_guesses (first ∷ rest) p words valid is =
+        let waits : now p ≡ waiting Reply Effect p.predicted (validated_of p.validated p.predicted.readings) first.word = ap (now_by reply_of effects_of p.predicted p.validated) is in
+        let one = confirms_one p first rest words valid is in (
           ap (λ (a : generic.AttemptOf O). a.phase) waits,
-          subst (λ (a : generic.AttemptOf O). place O (generic.act a) < S.size) waits (place_there O are.is_system R H are.asks (now p) stands.place),
-          subst (λ (a : generic.AttemptOf O). TestsNext O a rest) one.now_is (tests_guesses rest (one_more p) words one.stands (guesses_left p first rest is)),
+          subst (λ (a : generic.AttemptOf O). place O (generic.act a) < S.size) waits (place_there O are.is_system R H are.asks (now p) valid.place),
+          subst (λ (a : generic.AttemptOf O). TestsNext O a rest) one.now_is (tests_guesses rest (one_more p) words one.valid (guesses_left p first rest is)),
         )
 
-    -- past its turn it guesses nothing
-    none_guessed : (p : Ahead Lock Job Decision Point) (turn : ℕ) → (now p).phase ≡ Operates turn → guesses p ≡ []
-    none_guessed p turn at = by (guesses p) refl where
-      by : (l : List (Reading ℕ)) → guesses p ≡ l → guesses p ≡ []
+    -- past its turn it has no predictions
+    none_guessed : (p : Speculation Lock Job Decision ResumePoint) (turn : ℕ) → (now p).phase ≡ Operates turn → predictions p ≡ []
+    none_guessed p turn at = by (predictions p) refl where
+      by : (l : List (Reading ℕ)) → predictions p ≡ l → predictions p ≡ []
       by [] is = is
-      by (first ∷ rest) is = let tests : Tests first.word ≡ Operates turn = sym (ap (λ (l : List (Reading ℕ)). (now_by reply_of effects_of p.far p.sure l).phase) is) ∙ at in absurd cc
+      by (first ∷ rest) is = let tests : Tests first.word ≡ Operates turn = sym (ap (λ (l : List (Reading ℕ)). (now_by reply_of effects_of p.predicted p.validated l).phase) is) ∙ at in absurd cc
 
     reads_none : (a : generic.AttemptOf O) (effects : List Effect) → (operated a effects).readings ≡ a.readings
     reads_none a [] = refl
     reads_none a (effect ∷ effects) = refl
 
-    knows_turned : (far : Doing) (turn : ℕ) (a : generic.AttemptOf O) → far.phase ≡ Operates turn → KnowsIn Knows a far.point far.phase
-    knows_turned far turn a at = subst (λ (phase : Phase Lock ℕ). KnowsIn Knows a far.point phase) (sym at) tt
+    knows_turned : (predicted : Doing) (turn : ℕ) (a : generic.AttemptOf O) → predicted.phase ≡ Operates turn → ResumePointIsValidIn ResumePointIsValid a predicted.point predicted.phase
+    knows_turned predicted turn a at = subst (λ (phase : Phase Lock ℕ). ResumePointIsValidIn ResumePointIsValid a predicted.point phase) (sym at) tt
 
-    pub closes_on : (old new : Ahead Lock Job Decision Point) (turn : ℕ) → StandsHere old → (now old).phase ≡ Operates turn → outside new.far ≡ operated (outside old.far) (outside old.far).effects → new.far.phase ≡ old.far.phase → new.sure ≡ old.sure
+    pub closes_on : (old new : Speculation Lock Job Decision ResumePoint) (turn : ℕ) → StandsHere old → (now old).phase ≡ Operates turn → outside new.predicted ≡ operated (outside old.predicted) (outside old.predicted).effects → new.predicted.phase ≡ old.predicted.phase → new.validated ≡ old.validated
         → Confirms (change O (now old) Done) new
-    closes_on old new turn stands at operates phase_is sure_is = record { now_is = now_is; stands = record { place = place; knows = knows } } where
-      none : guesses old ≡ []
+    closes_on old new turn valid at operates phase_is sure_is = record { now_is = now_is; valid = record { place = place; valid_point = valid_point } } where
+      none : predictions old ≡ []
       none = none_guessed old turn at
 
-      old_is : now old ≡ outside old.far
-      old_is = ap (now_by reply_of effects_of old.far old.sure) none
+      old_is : now old ≡ outside old.predicted
+      old_is = ap (now_by reply_of effects_of old.predicted old.validated) none
 
-      far_at : old.far.phase ≡ Operates turn
+      far_at : old.predicted.phase ≡ Operates turn
       far_at = sym (ap (λ (a : generic.AttemptOf O). a.phase) old_is) ∙ at
 
-      still : new.far.readings ≡ old.far.readings
-      still = ap (λ (a : generic.AttemptOf O). a.readings) operates ∙ reads_none (outside old.far) (outside old.far).effects
+      still : new.predicted.readings ≡ old.predicted.readings
+      still = ap (λ (a : generic.AttemptOf O). a.readings) operates ∙ reads_none (outside old.predicted) (outside old.predicted).effects
 
-      none_after : guesses new ≡ []
-      none_after = ap (λ (s : Option ℕ). guessed_of s new.far.readings) sure_is ∙ ap (guessed_of old.sure) still ∙ none
+      none_after : predictions new ≡ []
+      none_after = ap (λ (s : Option ℕ). predicted_of s new.predicted.readings) sure_is ∙ ap (predicted_of old.validated) still ∙ none
 
       now_is : now new ≡ change O (now old) Done
-      now_is = ap (now_by reply_of effects_of new.far new.sure) none_after ∙ operates
-          ∙ ap (λ (phase : Phase Lock ℕ). generic.changed O (outside old.far) phase Done) (sym far_at)
+      now_is = ap (now_by reply_of effects_of new.predicted new.validated) none_after ∙ operates
+          ∙ ap (λ (phase : Phase Lock ℕ). generic.changed O (outside old.predicted) phase Done) (sym far_at)
           ∙ ap (λ (a : generic.AttemptOf O). change O a Done) (sym old_is)
 
-      place : HasPlace O R H (now new)
-      place = subst (HasPlace O R H) (sym now_is) (place_change O are.is_system R H are.asks (now old) Done tt stands.place)
+      place : IsValidInBounds O R H (now new)
+      place = subst (IsValidInBounds O R H) (sym now_is) (place_change O are.is_system R H are.asks (now old) Done tt valid.place)
 
-      knows : KnowsHere new.far new.sure (guesses new)
-      knows = subst (KnowsHere new.far new.sure) (sym none_after) (knows_turned new.far turn (outside new.far) (phase_is ∙ far_at))
+      valid_point : KnowsHere new.predicted new.validated (predictions new)
+      valid_point = subst (KnowsHere new.predicted new.validated) (sym none_after) (knows_turned new.predicted turn (outside new.predicted) (phase_is ∙ far_at))

@@ -1,6 +1,6 @@
-pub mod LookingAhead
-pub mod AheadNow
+pub mod PredictedWalks
+pub mod SpeculationNow
 pub mod Confirmed
 mod Confirming
-pub mod Seeing
+pub mod SnapshotWalks
 mod WordSteps

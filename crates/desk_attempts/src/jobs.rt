@@ -1,46 +1,43 @@
 ghost use Rattle.std.specs.Prelude.{◌≡◌, ◌≤◌, ◌<◌, IfNone, IfSome};
-ghost use Rattle.turns.specs.Attempt.{Rest, act};
+ghost use Rattle.turns.specs.Attempt.{act};
+ghost use Rattle.turns.specs.declared.act.Act.TheVariants.{Finished};
 ghost use Rattle.desks.specs.WordSteps.{Makes};
-ghost use Rattle.desk_attempts.specs.Ahead.{MayTake, StandsAhead, now_of};
-ghost use Rattle.attempts.specs.Steps.{act_of};
-ghost use Rattle.attempts.specs.SystemWith.{system_with};
+ghost use Rattle.desk_attempts.specs.Of.{MayApply, IsValidSpeculation, now_of};
+ghost use Rattle.attempts.specs.Of.{system_of};
 
-use crate::ahead::AheadOf;
 use crate::now::{
-    begin_next_now, begin_now, close_far, gives_back, has_ended, next_closing_now, next_now,
-    next_sure_now, outcome_now, restart_now, take_found,
+    apply_found, apply_past_turn_now, begin_next_now, begin_now, gives_back, has_ended, next_now,
+    next_past_turn_now, next_without_lock_now, outcome_now, restart_now,
 };
 use crate::on_words::OnWords;
+use crate::speculation::SpeculationOf;
 use crate::word_step::{operation, place};
-use attempts::Step;
 use desks::{Jobs, WordStep};
 use std::alloc::{AllocError, Global};
 use std::marker::PhantomData;
 use std::ops::Range;
-use turns::{Answer, Phase, Reading};
+use turns::{Act, Answer, Phase, Reading};
 
-/// They are scripts. Called for its clause alone.
-fn stand_by_scripts<S: OnWords<READINGS, HELD>, const READINGS: usize, const HELD: usize>(
+/// Does nothing. Called for its contract, that an answer may be applied.
+fn may_apply<S: OnWords<READINGS, HELD>, const READINGS: usize, const HELD: usize>(
     setting: &S::Setting,
-    _program: &AheadOf<S, READINGS, HELD>,
+    _program: &SpeculationOf<S, READINGS, HELD>,
 )
     requires { S.IsSetting setting.now
-        × StandsAhead S.Lock.eq S.reply_of S.effects_of (S.system setting.now)
-        (S.Knows setting.now) READINGS HELD _program.now }
-    ensures { MayTake (S.IsSetting setting.now) S.Lock.eq S.reply_of S.effects_of
-        (S.system setting.now) (S.Knows setting.now) READINGS HELD _program.now }
+        × IsValidSpeculation S.Lock.eq S.Scripts setting.now _program.now }
+    ensures { MayApply S.Lock.eq S.Scripts setting.now _program.now }
 {}
 
-/// The words under the lock that an attempt has seized, if its next step, which found this number, did
-/// so.
-fn seized_words<S: OnWords<READINGS, HELD>, const READINGS: usize, const HELD: usize>(
+/// The words under the lock that the pending step seizes, or an empty range if the number `found`
+/// tells that it didn't.
+fn words_under_seized<S: OnWords<READINGS, HELD>, const READINGS: usize, const HELD: usize>(
     setting: &S::Setting,
-    program: &AheadOf<S, READINGS, HELD>,
+    program: &SpeculationOf<S, READINGS, HELD>,
     found: u64,
 ) -> Range<usize>
     ensures { result.end ≤ (S.system setting.now).size }
 {
-    let phase = program.far.phase();
+    let phase = program.predicted.phase();
     if let Phase::Seizes(lock, expected) = phase {
         if found == expected {
             return S::words_under(setting, lock);
@@ -49,25 +46,24 @@ fn seized_words<S: OnWords<READINGS, HELD>, const READINGS: usize, const HELD: u
     0..0
 }
 
-/// A step on its word, which is the next of an attempt; none where that is at rest.
+/// The attempt's next step as an operation on a word. None if there is no next step.
 #[inline(always)]
 fn on_word<S: OnWords<READINGS, HELD>, const READINGS: usize, const HELD: usize>(
     setting: &S::Setting,
     actor: u32,
-    _program: &AheadOf<S, READINGS, HELD>,
-    step: Step<S::Lock, S::Effect>,
+    _program: &SpeculationOf<S, READINGS, HELD>,
+    step: Act<S::Lock, S::Effect>,
 ) -> Option<WordStep>
     requires actor { actor < 48 }
-    requires stands { S.IsSetting setting.now
-        × StandsAhead S.Lock.eq S.reply_of S.effects_of (S.system setting.now)
-        (S.Knows setting.now) READINGS HELD _program.now }
-    requires next { act_of step ≡ act (now_of S.reply_of S.effects_of _program.now) }
+    requires valid { S.IsSetting setting.now
+        × IsValidSpeculation S.Lock.eq S.Scripts setting.now _program.now }
+    requires next { step ≡ act (now_of S.Scripts _program.now) }
     ensures makes { IfSome result
-        (Makes (system_with S.Lock.eq S.reply_of S.effects_of (S.system setting.now)) actor
-        (now_of S.reply_of S.effects_of _program.now)) }
-    ensures none { IfNone result (act (now_of S.reply_of S.effects_of _program.now) ≡ Rest) }
+        (Makes (system_of S.Lock.eq S.Scripts setting.now) actor
+        (now_of S.Scripts _program.now)) }
+    ensures none { IfNone result (act (now_of S.Scripts _program.now) ≡ Finished) }
 {
-    if let Step::Rest = step {
+    if let Act::Finished = step {
         return None;
     }
     Some(WordStep {
@@ -76,14 +72,16 @@ fn on_word<S: OnWords<READINGS, HELD>, const READINGS: usize, const HELD: usize>
     })
 }
 
-/// The jobs of `S` as desks do them, by attempts that look ahead where they can.
+/// The jobs of `S` as desks run them: by attempts that make predictions. `READINGS` and `HELD` are
+/// the largest numbers of words that a script tests and of locks that it seizes.
 pub struct Attempts<S, const READINGS: usize, const HELD: usize> {
     of: PhantomData<S>,
 }
 
 impl<S: OnWords<READINGS, HELD>, const READINGS: usize, const HELD: usize> Jobs
     for Attempts<S, READINGS, HELD> {
-    ghost use Rattle.desk_attempts.specs.Ahead.{StandsAhead, guesses, now_of};
+    ghost use Rattle.desk_attempts.specs.Speculation.{predictions};
+    ghost use Rattle.desk_attempts.specs.Of.{IsValidSpeculation, now_of};
     ghost use Rattle.attempts.specs.SystemWith.{over_with};
 
     type Setting = S::Setting;
@@ -98,31 +96,30 @@ impl<S: OnWords<READINGS, HELD>, const READINGS: usize, const HELD: usize> Jobs
 
     type Effect = S::Effect;
 
-    type Program = AheadOf<S, READINGS, HELD>;
+    type Program = SpeculationOf<S, READINGS, HELD>;
 
     ghost kept = { S.kept };
 
     ghost system = { λ setting. over_with S.Lock.eq S.reply_of S.effects_of (S.system setting) };
 
-    ghost guesses_of = { guesses };
+    ghost predictions_of = { predictions };
 
     ghost IsSetting = { S.IsSetting };
 
-    ghost attempt = { λ program. now_of S.reply_of S.effects_of program };
+    ghost attempt = { λ program. now_of S.Scripts program };
 
-    ghost Stands = { λ setting program. S.IsSetting setting
-        × StandsAhead S.Lock.eq S.reply_of S.effects_of (S.system setting) (S.Knows setting) READINGS
-        HELD program };
+    ghost IsValid = { λ setting program. S.IsSetting setting
+        × IsValidSpeculation S.Lock.eq S.Scripts setting program };
 
     fn keep(setting: &S::Setting) -> S::Kept {
         S::keep(setting)
     }
 
-    fn begin(_setting: &S::Kept, job: S::Job) -> AheadOf<S, READINGS, HELD> {
+    fn begin(_setting: &S::Kept, job: S::Job) -> SpeculationOf<S, READINGS, HELD> {
         begin_now::<S, READINGS, HELD>(job)
     }
 
-    fn begin_next(_setting: &S::Kept, job: S::Job, program: &mut AheadOf<S, READINGS, HELD>) {
+    fn begin_next(_setting: &S::Kept, job: S::Job, program: &mut SpeculationOf<S, READINGS, HELD>) {
         begin_next_now::<S, READINGS, HELD>(program, job);
     }
 
@@ -138,15 +135,15 @@ impl<S: OnWords<READINGS, HELD>, const READINGS: usize, const HELD: usize> Jobs
         S::turn_word(setting)
     }
 
-    fn rests(program: &AheadOf<S, READINGS, HELD>) -> bool {
+    fn is_finished(program: &SpeculationOf<S, READINGS, HELD>) -> bool {
         has_ended::<S, READINGS, HELD>(program)
     }
 
-    fn is_given_up(program: &AheadOf<S, READINGS, HELD>) -> bool {
+    fn is_given_up(program: &SpeculationOf<S, READINGS, HELD>) -> bool {
         gives_back::<S, READINGS, HELD>(program)
     }
 
-    fn outcome(program: &AheadOf<S, READINGS, HELD>) -> Option<(u64, S::Job, S::Reply)> {
+    fn outcome(program: &SpeculationOf<S, READINGS, HELD>) -> Option<(u64, S::Job, S::Reply)> {
         outcome_now::<S, READINGS, HELD>(program)
     }
 
@@ -154,76 +151,76 @@ impl<S: OnWords<READINGS, HELD>, const READINGS: usize, const HELD: usize> Jobs
     fn next(
         setting: &S::Setting,
         actor: u32,
-        program: &AheadOf<S, READINGS, HELD>,
+        program: &SpeculationOf<S, READINGS, HELD>,
     ) -> Option<WordStep> {
         let step = next_now::<S, READINGS, HELD>(program);
         on_word::<S, READINGS, HELD>(setting, actor, program, step)
     }
 
     #[inline(always)]
-    fn next_sure(
+    fn next_without_lock(
         setting: &S::Setting,
         actor: u32,
-        program: &AheadOf<S, READINGS, HELD>,
+        program: &SpeculationOf<S, READINGS, HELD>,
     ) -> Option<WordStep> {
-        let step = next_sure_now::<S, READINGS, HELD>(program)?;
+        let step = next_without_lock_now::<S, READINGS, HELD>(program)?;
         on_word::<S, READINGS, HELD>(setting, actor, program, step)
     }
 
     #[inline(always)]
-    fn guesses<'a>(
+    fn predictions<'a>(
         setting: &S::Setting,
-        program: &'a AheadOf<S, READINGS, HELD>,
+        program: &'a SpeculationOf<S, READINGS, HELD>,
     ) -> &'a [Reading<usize>] {
-        stand_by_scripts::<S, READINGS, HELD>(setting, program);
-        program.guesses()
+        may_apply::<S, READINGS, HELD>(setting, program);
+        program.predictions()
     }
 
     #[inline(always)]
-    fn confirm(setting: &S::Setting, program: &mut AheadOf<S, READINGS, HELD>, made: usize) {
-        stand_by_scripts::<S, READINGS, HELD>(setting, program);
-        // Called for its clause that what was read fits words.
-        let _guesses = program.guesses();
+    fn confirm(setting: &S::Setting, program: &mut SpeculationOf<S, READINGS, HELD>, made: usize) {
+        may_apply::<S, READINGS, HELD>(setting, program);
+        // Called for its contract, that each value read fits 64 bits.
+        let _predictions = program.predictions();
         program.confirm(made);
     }
 
     #[inline(always)]
-    fn next_closing(
+    fn next_past_turn(
         setting: &S::Setting,
         actor: u32,
-        program: &AheadOf<S, READINGS, HELD>,
+        program: &SpeculationOf<S, READINGS, HELD>,
     ) -> Option<WordStep> {
-        let step = next_closing_now::<S, READINGS, HELD>(program)?;
+        let step = next_past_turn_now::<S, READINGS, HELD>(program)?;
         on_word::<S, READINGS, HELD>(setting, actor, program, step)
     }
 
     #[inline(always)]
-    fn close(setting: &S::Setting, program: &mut AheadOf<S, READINGS, HELD>) {
-        stand_by_scripts::<S, READINGS, HELD>(setting, program);
-        close_far::<S, READINGS, HELD>(program);
+    fn apply_past_turn(setting: &S::Setting, program: &mut SpeculationOf<S, READINGS, HELD>) {
+        may_apply::<S, READINGS, HELD>(setting, program);
+        apply_past_turn_now::<S, READINGS, HELD>(program);
     }
 
-    fn in_sight(
+    fn snapshot_range(
         setting: &S::Setting,
-        program: &AheadOf<S, READINGS, HELD>,
+        program: &SpeculationOf<S, READINGS, HELD>,
         found: u64,
     ) -> Range<usize> {
-        seized_words::<S, READINGS, HELD>(setting, program, found)
+        words_under_seized::<S, READINGS, HELD>(setting, program, found)
     }
 
     #[inline(always)]
-    fn take(
+    fn apply(
         setting: &S::Setting,
         actor: u32,
-        program: &mut AheadOf<S, READINGS, HELD>,
+        program: &mut SpeculationOf<S, READINGS, HELD>,
         found: u64,
-        glimpses: &mut [u64],
+        snapshot: &mut [u64],
     ) -> Answer {
-        stand_by_scripts::<S, READINGS, HELD>(setting, program);
-        take_found::<S, READINGS, HELD>(setting, actor, program, found, glimpses)
+        may_apply::<S, READINGS, HELD>(setting, program);
+        apply_found::<S, READINGS, HELD>(setting, actor, program, found, snapshot)
     }
 
-    fn restart(setting: &S::Setting, program: &mut AheadOf<S, READINGS, HELD>) {
+    fn restart(setting: &S::Setting, program: &mut SpeculationOf<S, READINGS, HELD>) {
         let _ = setting;
         restart_now::<S, READINGS, HELD>(program);
     }

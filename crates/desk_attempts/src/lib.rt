@@ -1,16 +1,17 @@
-//! What a desk does with an attempt: it reads words speculatively under the lock that it has seized,
-//! goes on by what it guesses there, and tests each guess by an atomic step.
+//! How a desk runs an attempt of `attempts` on shared words. Once it has seized a lock, the
+//! attempt goes on at once by a snapshot of the words under it. What it reads there are
+//! predictions, each of which an atomic step validates or refutes.
 #![tactic(auto)]
 
-pub use ahead::{Ahead, AheadOf};
 pub use jobs::Attempts;
 pub use now::{asked, turn};
 pub use on_words::OnWords;
+pub use speculation::{Speculation, SpeculationOf};
 
-mod ahead;
-mod guessing;
+mod answering;
 mod jobs;
-mod looking_ahead;
 mod now;
 mod on_words;
+mod predicting;
+mod speculation;
 mod word_step;

@@ -1,258 +1,254 @@
-//! What an attempt does next, and what is to be seen of it now, whatever it guesses.
+//! An attempt by its validated readings alone: its next step, its outcome, and what a step makes
+//! of it.
 
 ghost use Rattle.std.specs.Prelude.{◌≡◌, ◌<◌, IfNone, IfSome, None};
 ghost use Rattle.turns.specs.Attempt.{act, answer_to, asked_in, begin as begin_of, next as next_of, operated, restarted, turn_in};
-ghost use Rattle.turns.specs.Runs.{is_rest};
+ghost use Rattle.turns.specs.Runs.{is_finished};
 ghost use Rattle.turns.specs.Outcomes.{IsPastTurn, is_given_up, outcome_of};
-ghost use Rattle.desk_attempts.specs.Ahead.{MayTake, StandsAhead, now_of};
-ghost use Rattle.attempts.specs.Standing.{AreScripts, Stands, attempt_of};
-ghost use Rattle.attempts.specs.Steps.{act_of};
-ghost use Rattle.attempts.specs.SystemWith.{system_with};
+ghost use Rattle.desk_attempts.specs.Of.{MayApply, IsValidSpeculation, now_of};
+ghost use Rattle.attempts.specs.Of.{AreScripts, IsValid, attempt_of, system_of};
 
-use crate::ahead::{Ahead, AheadOf};
-use crate::guessing::{settle, take_guess, take_told};
-use crate::word_step::told;
+use crate::answering::{apply_to_prediction, apply_without_prediction, drop_predictions};
+use crate::speculation::{Speculation, SpeculationOf};
+use crate::word_step::answer_in_phase;
 use attempts::{
-    Scripts, Step, begin, begin_next, is_done, next, next_past_turn, next_sure, outcome, restart,
-    take_close,
+    Scripts, apply_past_turn, begin, begin_next, is_done, next, next_past_turn, next_without_lock,
+    outcome, restart,
 };
-use turns::Answer;
+use turns::{Act, Answer};
 
-/// The step that the attempt wants made next.
+/// The attempt's next step: a test of the first predicted word, if there are predictions.
 #[inline(always)]
 pub(crate) fn next_now<S: Scripts<READINGS, HELD>, const READINGS: usize, const HELD: usize>(
-    program: &AheadOf<S, READINGS, HELD>,
-) -> Step<S::Lock, S::Effect>
-    ensures { act_of result ≡ act (now_of S.reply_of S.effects_of program.now) }
+    program: &SpeculationOf<S, READINGS, HELD>,
+) -> Act<S::Lock, S::Effect>
+    ensures { result ≡ act (now_of S.Scripts program.now) }
 {
-    match program.guess() {
-        Some(guess) => Step::Look(guess.word),
-        None => next::<S, READINGS, HELD>(&program.far),
+    match program.prediction() {
+        Some(prediction) => Act::Test(prediction.word),
+        None => next::<S, READINGS, HELD>(&program.predicted),
     }
 }
 
-/// The same, where it is known by itself to ask for no lock.
+/// The next step, if it is known at once to be a test or the turn, which ask for no lock.
 #[inline(always)]
-pub(crate) fn next_sure_now<S: Scripts<READINGS, HELD>, const READINGS: usize, const HELD: usize>(
-    program: &AheadOf<S, READINGS, HELD>,
-) -> Option<Step<S::Lock, S::Effect>>
-    ensures next { IfSome result (λ step.
-        act_of step ≡ act (now_of S.reply_of S.effects_of program.now)) }
-    ensures asks_none { IfSome result (λ step.
-        asked_in (now_of S.reply_of S.effects_of program.now).phase ≡ None) }
-{
-    match program.guess() {
-        Some(guess) => Some(Step::Look(guess.word)),
-        None => next_sure::<S, READINGS, HELD>(&program.far),
-    }
-}
-
-/// The same, past its turn.
-#[inline(always)]
-pub(crate) fn next_closing_now<
+pub(crate) fn next_without_lock_now<
     S: Scripts<READINGS, HELD>,
     const READINGS: usize,
     const HELD: usize,
->(program: &AheadOf<S, READINGS, HELD>) -> Option<Step<S::Lock, S::Effect>>
+>(program: &SpeculationOf<S, READINGS, HELD>) -> Option<Act<S::Lock, S::Effect>>
     ensures next { IfSome result (λ step.
-        act_of step ≡ act (now_of S.reply_of S.effects_of program.now)) }
-    ensures turned { IfSome result (λ step.
-        IsPastTurn (now_of S.reply_of S.effects_of program.now).phase) }
-    ensures none { IfNone result
-        (¬ IsPastTurn (now_of S.reply_of S.effects_of program.now).phase) }
+        step ≡ act (now_of S.Scripts program.now)) }
+    ensures asks_none { IfSome result (λ step.
+        asked_in (now_of S.Scripts program.now).phase ≡ None) }
 {
-    match program.guess() {
-        Some(_) => None,
-        None => next_past_turn::<S, READINGS, HELD>(&program.far),
+    match program.prediction() {
+        Some(prediction) => Some(Act::Test(prediction.word)),
+        None => next_without_lock::<S, READINGS, HELD>(&program.predicted),
     }
 }
 
-/// Past its turn its next step is made, whatever that found.
+/// The next step, if the attempt is past its turn.
 #[inline(always)]
-pub(crate) fn close_far<S: Scripts<READINGS, HELD>, const READINGS: usize, const HELD: usize>(
-    program: &mut AheadOf<S, READINGS, HELD>,
-)
-    ensures operates { attempt_of S.reply_of S.effects_of program.new.far
-        ≡ operated (attempt_of S.reply_of S.effects_of program.old.far)
-        (attempt_of S.reply_of S.effects_of program.old.far).effects }
-    ensures phase { program.new.far.phase ≡ program.old.far.phase }
-    ensures sure { program.new.sure ≡ program.old.sure }
+pub(crate) fn next_past_turn_now<
+    S: Scripts<READINGS, HELD>,
+    const READINGS: usize,
+    const HELD: usize,
+>(program: &SpeculationOf<S, READINGS, HELD>) -> Option<Act<S::Lock, S::Effect>>
+    ensures next { IfSome result (λ step.
+        step ≡ act (now_of S.Scripts program.now)) }
+    ensures turned { IfSome result (λ step.
+        IsPastTurn (now_of S.Scripts program.now).phase) }
+    ensures none { IfNone result
+        (¬ IsPastTurn (now_of S.Scripts program.now).phase) }
 {
-    take_close::<S, READINGS, HELD>(&mut program.far);
+    match program.prediction() {
+        Some(_) => None,
+        None => next_past_turn::<S, READINGS, HELD>(&program.predicted),
+    }
 }
 
-/// Whether its job is done, and it holds nothing.
+/// Applies a step past the turn, whatever number it found.
+#[inline(always)]
+pub(crate) fn apply_past_turn_now<
+    S: Scripts<READINGS, HELD>,
+    const READINGS: usize,
+    const HELD: usize,
+>(program: &mut SpeculationOf<S, READINGS, HELD>)
+    ensures operates { attempt_of S.Scripts program.new.predicted
+        ≡ operated (attempt_of S.Scripts program.old.predicted)
+        (attempt_of S.Scripts program.old.predicted).effects }
+    ensures phase { program.new.predicted.phase ≡ program.old.predicted.phase }
+    ensures validated { program.new.validated ≡ program.old.validated }
+{
+    apply_past_turn::<S, READINGS, HELD>(&mut program.predicted);
+}
+
+/// Whether the attempt has no next step: its job is done, and it holds nothing.
 #[inline(always)]
 pub(crate) fn has_ended<S: Scripts<READINGS, HELD>, const READINGS: usize, const HELD: usize>(
-    program: &AheadOf<S, READINGS, HELD>,
+    program: &SpeculationOf<S, READINGS, HELD>,
 ) -> bool
-    ensures { result ≡ is_rest (act (now_of S.reply_of S.effects_of program.now)) }
+    ensures { result ≡ is_finished (act (now_of S.Scripts program.now)) }
 {
-    match program.guess() {
+    match program.prediction() {
         Some(_) => false,
-        None => is_done::<S, READINGS, HELD>(&program.far),
+        None => is_done::<S, READINGS, HELD>(&program.predicted),
     }
 }
 
-/// Whether it was given up, and has a request to withdraw or locks to free.
+/// Whether the attempt is giving back: it was given up, and has a request to withdraw or locks to
+/// free.
 pub(crate) fn gives_back<S: Scripts<READINGS, HELD>, const READINGS: usize, const HELD: usize>(
-    program: &AheadOf<S, READINGS, HELD>,
+    program: &SpeculationOf<S, READINGS, HELD>,
 ) -> bool
-    ensures { result ≡ is_given_up (now_of S.reply_of S.effects_of program.now).phase }
+    ensures { result ≡ is_given_up (now_of S.Scripts program.now).phase }
 {
-    match program.guess() {
+    match program.prediction() {
         Some(_) => false,
-        None => program.far.is_given_up(),
+        None => program.predicted.is_given_up(),
     }
 }
 
-/// Past its turn, the turn's number, its job and its reply.
+/// The number of the attempt's turn, its job and its reply. None before the turn.
 pub(crate) fn outcome_now<S: Scripts<READINGS, HELD>, const READINGS: usize, const HELD: usize>(
-    program: &AheadOf<S, READINGS, HELD>,
+    program: &SpeculationOf<S, READINGS, HELD>,
 ) -> Option<(u64, S::Job, S::Reply)>
-    ensures { result ≡ outcome_of (now_of S.reply_of S.effects_of program.now) }
+    ensures { result ≡ outcome_of (now_of S.Scripts program.now) }
 {
-    match program.guess() {
+    match program.prediction() {
         Some(_) => None,
-        None => outcome::<S, READINGS, HELD>(&program.far),
+        None => outcome::<S, READINGS, HELD>(&program.predicted),
     }
 }
 
-/// The lock that it requests or seizes next.
+/// The lock that the attempt's next step requests or seizes.
 pub fn asked<S: Scripts<READINGS, HELD>, const READINGS: usize, const HELD: usize>(
-    program: &AheadOf<S, READINGS, HELD>,
+    program: &SpeculationOf<S, READINGS, HELD>,
 ) -> Option<S::Lock>
-    ensures { result ≡ asked_in (now_of S.reply_of S.effects_of program.now).phase }
+    ensures { result ≡ asked_in (now_of S.Scripts program.now).phase }
 {
-    match program.guess() {
+    match program.prediction() {
         Some(_) => None,
-        None => program.far.to_ask(),
+        None => program.predicted.lock_to_acquire(),
     }
 }
 
-/// The number of its turn, once it has taken it.
+/// The number of the attempt's turn, once it has taken it.
 pub fn turn<S: Scripts<READINGS, HELD>, const READINGS: usize, const HELD: usize>(
-    program: &AheadOf<S, READINGS, HELD>,
+    program: &SpeculationOf<S, READINGS, HELD>,
 ) -> Option<u64>
-    ensures { result ≡ turn_in (now_of S.reply_of S.effects_of program.now).phase }
+    ensures { result ≡ turn_in (now_of S.Scripts program.now).phase }
 {
-    match program.guess() {
+    match program.prediction() {
         Some(_) => None,
-        None => program.far.turn(),
+        None => program.predicted.turn(),
     }
 }
 
-/// An attempt that has made no step, whatever the setting will be.
+/// An attempt that has made no step. It doesn't depend on the setting.
 pub(crate) fn begin_now<S: Scripts<READINGS, HELD>, const READINGS: usize, const HELD: usize>(
     job: S::Job,
-) -> AheadOf<S, READINGS, HELD>
+) -> SpeculationOf<S, READINGS, HELD>
     ensures begins { (setting : S.Setting) →
-        now_of S.reply_of S.effects_of result
-        ≡ begin_of (system_with S.Lock.eq S.reply_of S.effects_of (S.system setting)) job }
-    ensures stands { (setting : S.Setting) →
-        AreScripts S.Lock.eq S.reply_of S.effects_of (S.system setting) (S.Knows setting) READINGS
-        HELD → (S.system setting).IsJob job →
-        StandsAhead S.Lock.eq S.reply_of S.effects_of (S.system setting) (S.Knows setting) READINGS
-        HELD result }
+        now_of S.Scripts result
+        ≡ begin_of (system_of S.Lock.eq S.Scripts setting) job }
+    ensures valid { (setting : S.Setting) →
+        AreScripts S.Lock.eq S.Scripts setting → (S.system setting).IsJob job →
+        IsValidSpeculation S.Lock.eq S.Scripts setting result }
 {
-    Ahead {
-        far: begin::<S, READINGS, HELD>(job),
-        sure: None,
+    Speculation {
+        predicted: begin::<S, READINGS, HELD>(job),
+        validated: None,
     }
 }
 
-/// The same, in the place of an attempt at another job.
+/// As `begin_now`, in place of an attempt at another job.
 pub(crate) fn begin_next_now<S: Scripts<READINGS, HELD>, const READINGS: usize, const HELD: usize>(
-    program: &mut AheadOf<S, READINGS, HELD>,
+    program: &mut SpeculationOf<S, READINGS, HELD>,
     job: S::Job,
 )
     ensures begins { (setting : S.Setting) →
-        now_of S.reply_of S.effects_of program.new
-        ≡ begin_of (system_with S.Lock.eq S.reply_of S.effects_of (S.system setting)) job }
-    ensures stands { (setting : S.Setting) →
-        AreScripts S.Lock.eq S.reply_of S.effects_of (S.system setting) (S.Knows setting) READINGS
-        HELD → (S.system setting).IsJob job →
-        StandsAhead S.Lock.eq S.reply_of S.effects_of (S.system setting) (S.Knows setting) READINGS
-        HELD program.new }
+        now_of S.Scripts program.new
+        ≡ begin_of (system_of S.Lock.eq S.Scripts setting) job }
+    ensures valid { (setting : S.Setting) →
+        AreScripts S.Lock.eq S.Scripts setting → (S.system setting).IsJob job →
+        IsValidSpeculation S.Lock.eq S.Scripts setting program.new }
 {
-    begin_next::<S, READINGS, HELD>(&mut program.far, job);
-    program.be_sure();
+    begin_next::<S, READINGS, HELD>(&mut program.predicted, job);
+    program.validate_all();
 }
 
-/// Begins anew, where it guesses nothing.
-fn restart_far<S: Scripts<READINGS, HELD>, const READINGS: usize, const HELD: usize>(
-    program: &mut AheadOf<S, READINGS, HELD>,
+/// As `restart_now`, for an attempt without predictions.
+fn restart_plain<S: Scripts<READINGS, HELD>, const READINGS: usize, const HELD: usize>(
+    program: &mut SpeculationOf<S, READINGS, HELD>,
 )
     ensures restarts { (setting : S.Setting) →
-        let O = system_with S.Lock.eq S.reply_of S.effects_of (S.system setting) in
-        attempt_of S.reply_of S.effects_of program.new.far
-        ≡ restarted O (attempt_of S.reply_of S.effects_of program.old.far) }
-    ensures stands { (setting : S.Setting) →
-        AreScripts S.Lock.eq S.reply_of S.effects_of (S.system setting) (S.Knows setting) READINGS
-        HELD →
-        Stands S.Lock.eq S.reply_of S.effects_of (S.system setting) (S.Knows setting) READINGS HELD
-        program.old.far →
-        Stands S.Lock.eq S.reply_of S.effects_of (S.system setting) (S.Knows setting) READINGS HELD
-        program.new.far }
-    ensures sure { program.new.sure ≡ program.old.sure }
+        let O = system_of S.Lock.eq S.Scripts setting in
+        attempt_of S.Scripts program.new.predicted
+        ≡ restarted O (attempt_of S.Scripts program.old.predicted) }
+    ensures valid { (setting : S.Setting) →
+        AreScripts S.Lock.eq S.Scripts setting →
+        IsValid S.Lock.eq S.Scripts setting
+        program.old.predicted →
+        IsValid S.Lock.eq S.Scripts setting
+        program.new.predicted }
+    ensures validated { program.new.validated ≡ program.old.validated }
 {
-    restart::<S, READINGS, HELD>(&mut program.far);
+    restart::<S, READINGS, HELD>(&mut program.predicted);
 }
 
-/// Begins anew, once all that it holds is given back. Past the turn nothing changes.
+/// Drops the predictions and gives up, so that the attempt begins anew once its request is
+/// withdrawn and its locks are freed. Past the turn nothing changes.
 pub(crate) fn restart_now<S: Scripts<READINGS, HELD>, const READINGS: usize, const HELD: usize>(
-    program: &mut AheadOf<S, READINGS, HELD>,
+    program: &mut SpeculationOf<S, READINGS, HELD>,
 )
     ensures restarts { (setting : S.Setting) →
-        let O = system_with S.Lock.eq S.reply_of S.effects_of (S.system setting) in
-        now_of S.reply_of S.effects_of program.new
-        ≡ restarted O (now_of S.reply_of S.effects_of program.old) }
-    ensures stands { (setting : S.Setting) →
-        AreScripts S.Lock.eq S.reply_of S.effects_of (S.system setting) (S.Knows setting) READINGS
-        HELD →
-        StandsAhead S.Lock.eq S.reply_of S.effects_of (S.system setting) (S.Knows setting) READINGS
-        HELD program.old →
-        StandsAhead S.Lock.eq S.reply_of S.effects_of (S.system setting) (S.Knows setting) READINGS
-        HELD program.new }
+        let O = system_of S.Lock.eq S.Scripts setting in
+        now_of S.Scripts program.new
+        ≡ restarted O (now_of S.Scripts program.old) }
+    ensures valid { (setting : S.Setting) →
+        AreScripts S.Lock.eq S.Scripts setting →
+        IsValidSpeculation S.Lock.eq S.Scripts setting program.old →
+        IsValidSpeculation S.Lock.eq S.Scripts setting program.new }
 {
-    if let Some(guess) = program.guess() {
-        settle::<S, READINGS, HELD>(program, guess.word);
-        restart_far::<S, READINGS, HELD>(program);
+    if let Some(prediction) = program.prediction() {
+        drop_predictions::<S, READINGS, HELD>(program, prediction.word);
+        restart_plain::<S, READINGS, HELD>(program);
     } else {
-        program.be_sure();
-        restart_far::<S, READINGS, HELD>(program);
+        program.validate_all();
+        restart_plain::<S, READINGS, HELD>(program);
     }
 }
 
-/// Told the number that its next step found: what it is told of that, and what it makes of it.
+/// Applies the number that the pending step found in its word, and returns the answer to that
+/// step. `snapshot` is used if the step seized a lock.
 #[inline(always)]
-pub(crate) fn take_found<S: Scripts<READINGS, HELD>, const READINGS: usize, const HELD: usize>(
+pub(crate) fn apply_found<S: Scripts<READINGS, HELD>, const READINGS: usize, const HELD: usize>(
     setting: &S::Setting,
     actor: u32,
-    program: &mut AheadOf<S, READINGS, HELD>,
+    program: &mut SpeculationOf<S, READINGS, HELD>,
     found: u64,
-    glimpses: &mut [u64],
+    snapshot: &mut [u64],
 ) -> Answer
     requires actor { actor < 48 }
-    requires may { MayTake (S.IsSetting setting.now) S.Lock.eq S.reply_of S.effects_of
-        (S.system setting.now) (S.Knows setting.now) READINGS HELD program.old }
-    ensures next { let O = system_with S.Lock.eq S.reply_of S.effects_of (S.system setting.now) in
-        now_of S.reply_of S.effects_of program.new
-        ≡ next_of O actor (now_of S.reply_of S.effects_of program.old) found }
-    ensures answer { let O = system_with S.Lock.eq S.reply_of S.effects_of (S.system setting.now) in
-        result ≡ answer_to O actor (act (now_of S.reply_of S.effects_of program.old)) found }
-    ensures stands { StandsAhead S.Lock.eq S.reply_of S.effects_of (S.system setting.now)
-        (S.Knows setting.now) READINGS HELD program.new }
+    requires may { MayApply S.Lock.eq S.Scripts setting.now program.old }
+    ensures next { let O = system_of S.Lock.eq S.Scripts setting.now in
+        now_of S.Scripts program.new
+        ≡ next_of O actor (now_of S.Scripts program.old) found }
+    ensures answer { let O = system_of S.Lock.eq S.Scripts setting.now in
+        result ≡ answer_to O actor (act (now_of S.Scripts program.old)) found }
+    ensures valid { IsValidSpeculation S.Lock.eq S.Scripts setting.now program.new }
 {
-    match program.guess() {
-        Some(guess) => {
-            take_guess::<S, READINGS, HELD>(program, setting, guess, found);
+    match program.prediction() {
+        Some(prediction) => {
+            apply_to_prediction::<S, READINGS, HELD>(program, setting, prediction, found);
             Answer::Value(found)
         }
         None => {
-            let told = told(actor, program.far.phase(), found);
-            take_told::<S, READINGS, HELD>(program, setting, told, glimpses);
-            told
+            let answer = answer_in_phase(actor, program.predicted.phase(), found);
+            apply_without_prediction::<S, READINGS, HELD>(program, setting, answer, snapshot);
+            answer
         }
     }
 }

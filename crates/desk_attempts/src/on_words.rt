@@ -5,11 +5,13 @@ use std::alloc::{AllocError, Global};
 use std::ops::Range;
 use turns::Operation;
 
-/// Such jobs on words that actors share: they are a system, with room for what they ask for.
+/// What jobs given as `Scripts` need to run on shared words: which words there are, and which
+/// belong to locks, effects and the turn. An `impl` also proves that the jobs are a system of
+/// `turns` whose scripts ask for no more than `READINGS` and `HELD` (`are_scripts`).
 pub trait OnWords<const READINGS: usize, const HELD: usize>: Scripts<READINGS, HELD> {
-    ghost use Rattle.attempts.specs.Standing.{AreScripts};
+    ghost use Rattle.attempts.specs.Validity.{AreScripts};
 
-    /// What a desk keeps of its setting.
+    /// What a desk stores of its setting.
     type Kept: Drop;
 
     ghost kept: { Self.Kept → Self.Setting };
@@ -17,9 +19,11 @@ pub trait OnWords<const READINGS: usize, const HELD: usize>: Scripts<READINGS, H
     fn keep(setting: &Self::Setting) -> Self::Kept
         ensures { kept result ≡ setting.now };
 
+    /// The number of the word that an effect is made on.
     fn effect_word(setting: &Self::Setting, effect: Self::Effect) -> usize
         ensures { result ≡ (Self.system setting.now).effect_word effect };
 
+    /// The operation by which an effect is made on its word.
     fn effect_operation(setting: &Self::Setting, effect: Self::Effect) -> Operation
         ensures { result ≡ (Self.system setting.now).operation_of effect };
 
@@ -27,7 +31,7 @@ pub trait OnWords<const READINGS: usize, const HELD: usize>: Scripts<READINGS, H
     fn size(setting: &Self::Setting) -> usize
         ensures { result ≡ (Self.system setting.now).size };
 
-    /// The words that it opens on.
+    /// The initial words.
     fn initial(alloc: Global, setting: &Self::Setting) -> Result<Vec<u64>, AllocError>
         ensures { IfOk result (λ words. words.items ≡ (Self.system setting.now).initial) };
 
@@ -39,13 +43,13 @@ pub trait OnWords<const READINGS: usize, const HELD: usize>: Scripts<READINGS, H
     fn lock_word(setting: &Self::Setting, lock: Self::Lock) -> usize
         ensures { result ≡ (Self.system setting.now).lock_word lock };
 
-    /// The words that stand under a lock, where they stand one after another. An actor that has seized
-    /// it glimpses at them, so that one walk finds what it will want of them all. Where none are told
-    /// it walks with each reading, and words that others may change as well cost time alone.
+    /// The words under a lock, if their numbers are consecutive; otherwise an empty range. A desk
+    /// that has seized the lock takes a snapshot of them, so that one walk predicts all that it
+    /// will read there. Returning another range is always safe, only slower.
     fn words_under(setting: &Self::Setting, lock: Self::Lock) -> Range<usize>
         ensures { result.end ≤ (Self.system setting.now).size };
 
     ghost are_scripts: { (setting : Self.Setting) → Self.IsSetting setting
         → AreScripts Self.Lock.eq Self.reply_of Self.effects_of (Self.system setting)
-        (Self.Knows setting) READINGS HELD };
+        (Self.ResumePointIsValid setting) READINGS HELD };
 }

@@ -2,16 +2,16 @@
 use Rattle.std.proofs.Common.{◌≡◌, ℕ, zero, suc, List, [], ◌∷◌, ◌++◌, refl, sym, ◌∙◌, ap}
 use Rattle.std.specs.Prelude.{Option, Some, Result, Ok, Err}
 use Rattle.turns.specs.System.{System}
-use Rattle.turns.specs.Attempt.{AttemptOf, changed, freed, goes_on, operated, rest_of}
+use Rattle.turns.specs.Attempt.{AttemptOf, changed, giving_back, goes_on, operated, rest_of}
 use Rattle.turns.specs.World.{ActorOf, Idle, Does, RecordOf}
 use Rattle.turns.specs.declared.answer.Answer.{Answer}
-use Rattle.turns.specs.declared.answer.Answer.TheVariants.{Asked, Seized, Held, Preferred, Again, Value, Turn as TurnNumber, Done}
+use Rattle.turns.specs.declared.answer.Answer.TheVariants.{Requested, Seized, Held, Preferred, Changed, Value, Turn as TurnNumber, Done}
 use Rattle.turns.specs.declared.phase.Phase.{Phase}
 use Rattle.turns.specs.declared.phase.Phase.TheVariants.{Requests, Seizes, Tests, Turns, Withdraws, GivesBack, Operates}
 use Rattle.turns.specs.declared.wanted.Wanted.{Wanted}
 use Rattle.turns.specs.declared.wanted.Wanted.TheVariants.{Seize, Test}
 use Rattle.desks.specs.declared.progress.Progress.TheVariants as progress
-use Rattle.desks.specs.declared.progress.Told.{Told}
+use Rattle.desks.specs.declared.progress.JobRecord.{JobRecord}
 use Rattle.desks.specs.Desks.{HasAdvanced, HasGivenBack, HasMade, HasStepped}
 use Rattle.turns.specs.Outcomes.{begun_anew}
 use Rattle.desks.specs.Reports.{job_of}
@@ -19,7 +19,7 @@ use Rattle.desks.specs.Reports.{job_of}
 module _ (O : System) where
   open O use {Lock, Job, Effect, Decision}
 
-  freed_job : (a : AttemptOf O) (held : List Lock) → (freed O a held).job ≡ a.job
+  freed_job : (a : AttemptOf O) (held : List Lock) → (giving_back O a held).job ≡ a.job
   freed_job a [] = refl
   freed_job a (lock ∷ held) = refl
 
@@ -33,13 +33,13 @@ module _ (O : System) where
   operated_job a (effect ∷ effects) = refl
 
   changed_job : (a : AttemptOf O) (phase : Phase Lock ℕ) (answer : Answer) → (changed O a phase answer).job ≡ a.job
-  changed_job a (Requests lock) (Asked word) = refl
+  changed_job a (Requests lock) (Requested word) = refl
   changed_job a (Requests lock) (Held holder) = refl
   changed_job a (Requests lock) (Preferred other) = refl
   changed_job a (Seizes lock expected) Seized = goes_job (record a { held = a.held ++ lock ∷ [] }) _
   changed_job a (Seizes lock expected) (Held holder) = refl
   changed_job a (Seizes lock expected) (Preferred other) = refl
-  changed_job a (Seizes lock expected) (Again word) = refl
+  changed_job a (Seizes lock expected) (Changed word) = refl
   changed_job a (Tests word) (Value value) = goes_job (record a { readings = a.readings ++ record { word = word; value = value } ∷ [] }) _
   changed_job a Turns (TurnNumber number) = refl
   changed_job a (Withdraws lock) Done = freed_job a a.held
@@ -72,6 +72,6 @@ module _ (O : System) where
   back_job k Idle after seen seen_after same = ap (job_of O) same.0
   back_job k (Does number a) after seen seen_after gave = ap (job_of O) gave.after_is ∙ ap (numbered number) (begun_job a a.phase)
 
-  pub told_job : (k : ℕ) (before after : ActorOf O) (seen seen_after : List (RecordOf O)) (told : Told O.Job O.Reply) → HasAdvanced O k before after seen seen_after (progress.Finished told) → job_of O before ≡ Some (told.number, told.job)
-  told_job k before after seen seen_after told (answer, step, free, is) =
-      sym (step_job k before after seen seen_after answer step) ∙ ap (job_of O) is.after_is ∙ ap (numbered told.number) is.job
+  pub told_job : (k : ℕ) (before after : ActorOf O) (seen seen_after : List (RecordOf O)) (reported : JobRecord O.Job O.Reply) → HasAdvanced O k before after seen seen_after (progress.Finished reported) → job_of O before ≡ Some (reported.number, reported.job)
+  told_job k before after seen seen_after reported (answer, step, free, is) =
+      sym (step_job k before after seen seen_after answer step) ∙ ap (job_of O) is.after_is ∙ ap (numbered reported.number) is.job

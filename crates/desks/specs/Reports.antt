@@ -1,50 +1,52 @@
 -- the records that desks report of their jobs
 use Rattle.std.specs.Prelude.{◌≡◌, ◌≤◌, ◌<◌, ◌^◌, ℕ, Bool, true, false, List, [], ◌∷◌, ◌++◌, length, Option, Some, None, option_map, option_to_list, IfSome, slice_get}
 use Rattle.turns.specs.Among.{IsIn}
-use Rattle.turns.specs.Runs.{is_free}
+use Rattle.turns.specs.Runs.{is_available}
 use Rattle.turns.specs.System.{System}
 use Rattle.turns.specs.World.{ActorOf, Does, Idle, RecordOf}
 use Rattle.desks.specs.declared.progress.Progress.{Progress}
 use Rattle.desks.specs.declared.progress.Progress.TheVariants as progress
-use Rattle.desks.specs.Desks.{told_of, told_record}
+use Rattle.desks.specs.Desks.{job_record_of, as_record}
 use Rattle.desks.specs.Parts.{Begins, own}
 use Rattle.desks.specs.Views.{DeskView}
 
 module _ (O : System) where
-  -- the number and the job that an actor was assigned last
+  -- the job that an actor was assigned last, with its number
   abbrev pub job_of : ActorOf O → Option (ℕ × O.Job)
   job_of Idle = None
   job_of (Does number a) = Some (number, a.job)
 
-  -- the record of actor k's job, once that is past its turn
+  -- the record of actor k's job, once the job is past its turn; otherwise none
   abbrev pub record_past_turn : ℕ → ActorOf O → List (RecordOf O)
-  record_past_turn k m = option_to_list (option_map told_record (told_of O k m))
+  record_past_turn k m = option_to_list (option_map as_record (job_record_of O k m))
 
-  -- a record is reported at the end of its job, so from the turn to the end it is unreported
+  -- the record of actor k's job while it is unreported: true says that the job has ended
   abbrev pub unreported_if : Bool → ℕ → ActorOf O → List (RecordOf O)
   unreported_if true k m = []
   unreported_if false k m = record_past_turn k m
 
+  -- the record of actor k's job from the turn to the job's end: it is still to be reported
   abbrev pub unreported : ℕ → ActorOf O → List (RecordOf O)
-  unreported k m = unreported_if (is_free O m) k m
+  unreported k m = unreported_if (is_available O m) k m
 
-  -- the record of actor k's job, if that has ended
+  -- the record of actor k's job once it is reported: true says that the job has ended
   abbrev pub ended_if : Bool → ℕ → ActorOf O → List (RecordOf O)
   ended_if true k m = record_past_turn k m
   ended_if false k m = []
 
+  -- the record of actor k's job, if the job has ended
   abbrev pub ended : ℕ → ActorOf O → List (RecordOf O)
-  ended k m = ended_if (is_free O m) k m
+  ended k m = ended_if (is_available O m) k m
 
-  -- the record that an advance reports
+  -- the record that an advance reports, if any
   abbrev pub reported_by : Progress O.Job O.Reply → List (RecordOf O)
   reported_by progress.Idle = []
   reported_by (progress.Moved answer) = []
-  reported_by (progress.Finished told) = told_record told ∷ []
+  reported_by (progress.Finished reported) = as_record reported ∷ []
 
-  -- actor k worked for a while and reported these records. What it had seen begins what it has seen
-  -- since. If a log had all of its own records but the unreported one, that log with the records
-  -- reported since has all of them but the one that is unreported now.
+  -- actor k worked for a while and reported these records. What it has now seen begins with what
+  -- it had seen before. If a log had all of its own records but the unreported one, then the log
+  -- with these records has all of them but the one that is unreported now.
   pub record HasWorked (k : ℕ) (before after : ActorOf O)
       (seen seen_after reported : List (RecordOf O))
       : Type 0 where
@@ -52,21 +54,21 @@ module _ (O : System) where
     pub own_is : (log : List (RecordOf O)) → own k seen ≡ log ++ unreported k before
         → own k seen_after ≡ log ++ (reported ++ unreported k after)
 
-  -- a record comes after all that had been seen: its place in the order is behind that, and so is
-  -- its turn, as long as a word can count the turns
+  -- a record comes after all that had been seen: it is later in the order, and its turn has a
+  -- greater number, as long as a word can count the turns
   pub record ComesAfter (seen seen_after : List (RecordOf O)) (r : RecordOf O) : Type 0 where
     pub later : List (RecordOf O)
     pub after_is : seen_after ≡ seen ++ later
     pub within : IsIn r later
     pub turn : length seen_after ≤ 2 ^ 64 → length seen ≤ r.turn
 
-  -- logs, one for each actor of a room, make up an order: each log is its actor's own records of the
-  -- order, and the order has no other records
+  -- logs, one for each actor of a room, make up an order: each log is its actor's own records of
+  -- the order, and the order has no other records
   pub record MakeUp (logs : List (List (RecordOf O))) (order : List (RecordOf O)) : Type 0 where
     pub theirs : (r : RecordOf O) → IsIn r order → r.actor < length logs
     pub each : (i : ℕ) → IfSome (slice_get logs i) (λ log. own i order ≡ log)
 
-  -- desks, each at the place of its number, and beside each a log of all that it has reported
+  -- desks, each at the index of its number, and for each a log of all that it has reported
   pub record HaveLogs {Setting : Type 0}
       (desks : List (DeskView Setting O.Lock O.Job O.Reply O.Effect))
       (logs : List (List (RecordOf O)))

@@ -1,4 +1,4 @@
--- The totals of what passes know, where one of them changes, or one alone has every part.
+-- The totals of what passes know, when one of them changes, or one alone has every part.
 use Rattle.std.proofs.Common.{◌≡◌, ◌≢◌, ℕ, zero, suc, ◌+◌, ◌<◌, List, [], ◌∷◌, ◌++◌, set, sym, refl, ap, subst, ⊎_elim, arith, sum_by}
 use mathlib.Core.Option.{some, some-injective, some-ne-none}
 use lib.ListN.{get_elem?}
@@ -33,7 +33,7 @@ module _ {X : Type 0} where
   IsZeroAtRest f views = (u : Hand X) (pass : ℕ) → get_elem? views pass ≡ some u → u.parts ≡ 0
       → f u ≡ 0
 
-  -- then it is 0 of all where no pass has a part
+  -- then it is 0 of all together if no pass has a part
   nothing_total : (f : Hand X → ℕ) (views : List (Hand X)) → IsZeroAtRest f views
       → sum_by (λ (u : Hand X). u.parts) views ≡ 0 → sum_by f views ≡ 0
   nothing_total f [] idle none = refl
@@ -43,7 +43,7 @@ module _ {X : Type 0} where
       let rest : sum_by f xs ≡ 0 = nothing_total f xs (λ u n at. idle u (suc n) at) (omega arith) in
       omega (arith, sum_by-cons f x xs)
 
-  -- and where one pass has all parts, it is that pass's
+  -- and if one pass has all parts, the total is that of this pass
   pub alone_total : (f : Hand X → ℕ) (views : List (Hand X)) (pass : ℕ) (v : Hand X)
       → IsZeroAtRest f views → get_elem? views pass ≡ some v
       → sum_by (λ (u : Hand X). u.parts) views ≡ v.parts → sum_by f views ≡ f v
@@ -62,7 +62,7 @@ module _ {X : Type 0} where
       alone_total f xs n v (λ u m at'. idle u (suc m) at') at (omega arith) in
       omega (arith, sum_by-cons f x xs)
 
-  -- passes with no part stay empty where one pass changes, and where one joins
+  -- passes with no part stay empty when one pass changes, and when one is added
   pub idle_set : (views : List (Hand X)) (pass : ℕ) (w : Hand X)
       → (w.parts ≡ 0 → (w.put ≡ []) × (w.taken ≡ [])) → IdleIsEmpty views
       → IdleIsEmpty (set views pass w)

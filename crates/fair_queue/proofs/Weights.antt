@@ -10,7 +10,7 @@ use Rattle.std.specs.Prelude.{IsPermutation}
 use Rattle.fair_queue.specs.Items.{SameItems}
 
 module _ {X : Type 0} where
-  -- what lists that stand one after another weigh
+  -- the weight of lists that are appended one after another
   pub sum_by-flat_map : {V : Type 0} (h : X → ℕ) (f : V → List X) (vs : List V)
       → sum_by h (flat_map f vs) ≡ sum_by (λ (v : V). sum_by h (f v)) vs
   sum_by-flat_map h f [] = refl
@@ -52,7 +52,7 @@ module _ {X Y : Type 0} where
   SameItems-flat_map f xs ys same h =
       sum_by-flat_map h f xs ∙ (same (λ x. sum_by h (f x)) ∙ sym (sum_by-flat_map h f ys))
 
--- ghost values are trees of numbers, so whether two are equal can be told
+-- ghost values are trees of numbers, so whether two are equal can be decided
 abbrev same_value : Gv → Gv → Bool
 same_value gnil gnil = true
 same_value gnil (gnum n) = false
@@ -91,7 +91,7 @@ same_value-true (gcons a b) (gcons c d) same =
     let right = same_value-true b d (right_true (same_value a c) (same_value b d) same) in
     λ i. gcons (left i) (right i)
 
--- items are told apart by their codes, so lists with the same items are permutations
+-- items are distinguished by their codes, so lists with the same items are permutations
 module _ {X : Type 0} (coded : Coded X) where
   abbrev is_item : X → X → Bool
   is_item x y = same_value (coded.code x) (coded.code y)
@@ -100,7 +100,7 @@ module _ {X : Type 0} (coded : Coded X) where
   abbrev weight_of : X → X → ℕ
   weight_of x y = cond (is_item x y) 1 0
 
-  -- where an item stands in a list
+  -- the place of an item in a list: what is before and after it
   record Stands (x : X) (ys : List X) : Type 0 where
     pub before : List X
     pub after : List X
@@ -110,7 +110,7 @@ module _ {X : Type 0} (coded : Coded X) where
   stands_later x y ys s =
       record { before = y ∷ s.before; after = s.after; here = ap (λ l. y ∷ l) s.here }
 
-  -- a list in which an item has a weight has the item: it is the first, or it stands in the rest
+  -- a list in which an item has a weight has the item: it is the first, or it is in the rest
   stands_by : (b : Bool) (x y : X) (ys : List X) → is_item x y ≡ b → 0 < sum_by (weight_of x) (y ∷ ys)
       → (0 < sum_by (weight_of x) ys → Stands x ys) → Stands x (y ∷ ys)
   stands_by true x y ys is some_weight later =

@@ -6,6 +6,7 @@ use Rattle.fair_queue.specs.declared.rule.Hand.{Hand}
 use Rattle.fair_queue.specs.Items.{SameItems}
 use Rattle.fair_queue.specs.Parts.{all_parts}
 
+-- a pass with these parts, with which these items were put and taken
 abbrev pub hand : {X : Type 0} → ℕ → List X → List X → Hand X
 hand parts put taken = record { parts = parts; put = put; taken = taken }
 
@@ -15,7 +16,8 @@ module _ {X : Type 0} where
   IdleIsEmpty views = (pass : ℕ) (v : Hand X) → get_elem? views pass ≡ some v → v.parts ≡ 0
       → (v.put ≡ []) × (v.taken ≡ [])
 
-  -- what was put is what was taken and what the queue holds, and each item there is sound
+  -- the passes have all parts together; what was put is what was taken and what the queue holds,
+  -- and each item there is sound
   pub record Balanced (sound : X → Type 0) (items : List X) (views : List (Hand X)) : Type 0 where
     pub parts : sum_by (λ (v : Hand X). v.parts) views ≡ all_parts
     pub balance : SameItems (flat_map (λ (v : Hand X). v.put) views)

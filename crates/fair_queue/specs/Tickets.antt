@@ -5,12 +5,12 @@ use Rattle.atomic_table.specs.declared.badge.Badge.{Badge}
 use Rattle.crossbeam_channel.specs.declared.flavors.array.Key.{Key}
 use Rattle.fair_queue.specs.Parts.{all_parts}
 
--- which queue it is: no two have one name
+-- the name of a queue: no two queues have the same
 pub record QueueName (X : Type 0) : Type 0 where
   pub table : TableId
   pub badge : Badge (Key X)
 
--- a queue, at either end: which it is, and how many items it holds at most
+-- a queue, at either end: its name, and the number of items that it holds at most
 pub record QueueView (X : Type 0) : Type 0 where
   pub name : QueueName X
   pub capacity : ℕ
@@ -24,6 +24,7 @@ pub record TicketView (X : Type 0) : Type 0 where
   pub taken : List X
 
 module _ {X : Type 0} where
+  -- a ticket of this queue
   abbrev pub IsTicketOf : TicketView X → QueueView X → Type 0
   IsTicketOf ticket queue = ticket.queue ≡ queue.name
 
@@ -31,7 +32,7 @@ module _ {X : Type 0} where
   abbrev pub IsUsable : TicketView X → QueueView X → Type 0
   IsUsable ticket queue = IsTicketOf ticket queue × (0 < ticket.parts)
 
-  -- it has every part
+  -- a ticket with every part
   abbrev pub IsWhole : TicketView X → Type 0
   IsWhole ticket = ticket.parts ≡ all_parts
 
@@ -51,7 +52,7 @@ module _ {X : Type 0} where
   abbrev pub with_taken : TicketView X → X → TicketView X
   with_taken ticket item = record ticket { taken = ticket.taken ++ item ∷ [] }
 
-  -- the ticket after so many parts were cut off
+  -- the ticket after `count` parts were cut off
   abbrev pub with_fewer_parts : TicketView X → ℕ → TicketView X
   with_fewer_parts ticket count = record ticket { parts = ticket.parts - count }
 

@@ -8,11 +8,11 @@ use crossbeam_channel::{RuledReceiver, RuledSender, TrySendError};
 use std::marker::Model;
 use std::sync::Wait;
 
-/// The end of a queue where items are put. Threads share a reference to it.
+/// The end of a queue where items are put. Threads share a reference to this end.
 #[derive(Drop)]
 pub struct Inlet<X: Item + Drop> {
     pub(crate) sender: RuledSender<X, Hand<X>, Fair>,
-    /// With a receiver here the channel never closes to the sender.
+    /// Keeps the channel open: with a receiver here, the sender never finds it closed.
     pub(crate) kept_open: RuledReceiver<X, Hand<X>, Fair>,
 }
 
@@ -35,7 +35,8 @@ impl<X: Item + Drop> Model for Inlet<X> {
 }
 
 impl<X: Item + Drop> Inlet<X> {
-    /// Puts an item, or hands it back where the queue is full: it doesn't wait for room.
+    /// Puts an item into the queue. If the queue is full, doesn't wait for room but returns the
+    /// item.
     pub fn put<R: Wait>(&self, rt: &R, ticket: &mut Ticket<X>, item: X) -> Result<(), X>
         requires ticket { IsUsable ticket.old self.now }
         requires sound { X.sound item }
@@ -53,7 +54,7 @@ impl<X: Item + Drop> Inlet<X> {
             {
                 Ok(()) => return Ok(()),
                 Err(TrySendError::Full(back)) => return Err(back),
-                // never, since the channel is kept open
+                // This never happens, since the channel is kept open.
                 Err(error) => item = error.into_inner(),
             }
         }

@@ -1,5 +1,5 @@
-/// What goes through a queue.
+/// An item of a queue.
 pub trait Item {
-    /// What holds of each item: who puts it owes this, and who takes it knows it.
+    /// The invariant of items: required when an item is put, and ensured when it is taken.
     ghost sound: { Self → Type 0 };
 }

@@ -1,4 +1,4 @@
-//! A bounded queue among threads that loses nothing and gives nothing twice.
+//! A bounded queue between threads that loses no item and gives none twice.
 #![tactic(auto)]
 
 pub use inlet::Inlet;

@@ -9,7 +9,8 @@ use crate::ticket::Ticket;
 use crossbeam_channel::bounded_with;
 use std::alloc::{AllocError, Global};
 
-/// A queue that holds at most so many items: its two ends, and the ticket with every part.
+/// Opens a queue that holds at most `capacity` items. Returns its two ends, and the ticket with
+/// every part. Fails if memory runs out.
 pub fn bounded<X: Item + Drop>(
     alloc: Global,
     capacity: usize,

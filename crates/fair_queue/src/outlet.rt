@@ -9,7 +9,7 @@ use crossbeam_channel::RuledReceiver;
 use std::marker::Model;
 use std::sync::Wait;
 
-/// The end of a queue where items are taken. Threads share a reference to it.
+/// The end of a queue where items are taken. Threads share a reference to this end.
 #[derive(Drop)]
 pub struct Outlet<X: Item + Drop> {
     pub(crate) receiver: RuledReceiver<X, Hand<X>, Fair>,
@@ -34,8 +34,8 @@ impl<X: Item + Drop> Model for Outlet<X> {
 }
 
 impl<X: Item + Drop> Outlet<X> {
-    /// Takes an item, and waits for one as long as the inlet is there. So among several who take,
-    /// each that is to end needs an item that says so.
+    /// Takes an item. If there is none, waits for one as long as the inlet exists: to stop threads
+    /// that take, put an item for each of them that says so.
     pub fn take<R: Wait>(&self, rt: &R, ticket: &mut Ticket<X>) -> Option<X>
         requires ticket { IsUsable ticket.old self.now }
         ensures taken { IfSome result (λ item. ticket.new ≡ with_taken ticket.old item) }
@@ -47,7 +47,7 @@ impl<X: Item + Drop> Outlet<X> {
         self.receiver.recv_as::<Takes, R>(rt, &mut ticket.pass).ok()
     }
 
-    /// Takes an item if there is one, and doesn't wait for one.
+    /// Takes an item if there is one, and doesn't wait.
     pub fn try_take<R: Wait>(&self, rt: &R, ticket: &mut Ticket<X>) -> Option<X>
         requires ticket { IsUsable ticket.old self.now }
         ensures taken { IfSome result (λ item. ticket.new ≡ with_taken ticket.old item) }

@@ -1,4 +1,4 @@
-//! The rule of a queue, and what each call tells of it.
+//! The rule of a queue, and what each call reports of it.
 ghost use Rattle.std.specs.Prelude.{◌≡◌, ◌+◌, ◌-◌, [], ◌∷◌, ◌++◌};
 ghost use Rattle.fair_queue.specs.Rule.{hand, Balanced, Knows};
 ghost use Rattle.fair_queue.specs.Parts.{all_parts};
@@ -7,15 +7,15 @@ use crate::item::Item;
 use crossbeam_channel::protocol::{Join, Lesson, Outcome, Protocol, Split};
 use std::collections::LinkedList;
 
-/// What a pass has put and taken, and its parts of the right to know the whole. No value of it is
-/// made.
+/// What was put and taken with a pass, and its parts of the right to know the whole. It is ghost
+/// state: no value of this type is ever made.
 pub struct Hand<X> {
     pub parts: u128,
     pub put: LinkedList<X>,
     pub taken: LinkedList<X>,
 }
 
-/// The rule.
+/// The rule: what was put is what was taken and what the queue holds, and all parts are there.
 pub struct Fair;
 
 impl<X: Item> Protocol<X, Hand<X>> for Fair {
@@ -24,7 +24,7 @@ impl<X: Item> Protocol<X, Hand<X>> for Fair {
     ghost first = { hand all_parts [] [] };
 }
 
-/// A cut, and a joining.
+/// Cuts a pass of one part off, or joins two passes.
 pub struct Cut;
 
 impl<X> Split<Hand<X>> for Cut {
@@ -39,7 +39,7 @@ impl<X> Join<Hand<X>> for Cut {
     ghost spent = { hand 0 [] [] };
 }
 
-/// An item is put, or the queue is full.
+/// A put. If the queue is full instead, a pass with every part knows what it holds.
 pub struct Puts;
 
 impl<X> Outcome<X, Hand<X>> for Puts {
@@ -50,7 +50,7 @@ impl<X: Item> Lesson<X, Hand<X>> for Puts {
     ghost fact = { Knows X.sound };
 }
 
-/// An item is taken, or the queue is empty.
+/// A take. If the queue is empty instead, a pass with every part knows that nothing is left.
 pub struct Takes;
 
 impl<X: Item> Outcome<X, Hand<X>> for Takes {
@@ -61,7 +61,7 @@ impl<X: Item> Lesson<X, Hand<X>> for Takes {
     ghost fact = { Knows X.sound };
 }
 
-/// A look at the queue.
+/// A look at the queue: a pass with every part knows what the queue holds.
 pub struct Looks;
 
 impl<X: Item> Lesson<X, Hand<X>> for Looks {

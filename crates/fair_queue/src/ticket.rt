@@ -10,8 +10,8 @@ use crossbeam_channel::Pass;
 use std::alloc::{AllocError, Global};
 use std::marker::Model;
 
-/// What was put into a queue and taken from it with this ticket, and its parts of the right to know
-/// the whole. It has no bytes. One that is dropped takes its parts with it, so that no ticket has
+/// What was put into a queue and taken from it with this ticket, and its parts of the right to
+/// know the whole. It has no bytes. If a ticket is dropped, its parts are lost, and no ticket has
 /// every part again.
 #[derive(Drop)]
 pub struct Ticket<X> {
@@ -36,7 +36,7 @@ impl<X> Model for Ticket<X> {
 }
 
 impl<X: Item + Drop> Ticket<X> {
-    /// Cuts a ticket of one part off.
+    /// Cuts off a ticket of one part.
     pub fn cut(&mut self, inlet: &Inlet<X>) -> Ticket<X>
         requires queue { IsTicketOf self.old inlet.now }
         requires parts { 1 < self.old.parts }
@@ -47,7 +47,7 @@ impl<X: Item + Drop> Ticket<X> {
         Ticket { pass }
     }
 
-    /// Cuts so many tickets of one part each off, or, out of memory, none.
+    /// Cuts off `count` tickets of one part each, or none if memory runs out.
     pub fn cut_many(
         &mut self,
         alloc: Global,
@@ -68,7 +68,7 @@ impl<X: Item + Drop> Ticket<X> {
         Ok(tickets)
     }
 
-    /// Puts a ticket that came back into this one.
+    /// Joins another ticket into this one.
     pub fn join(&mut self, inlet: &Inlet<X>, other: Ticket<X>)
         requires queue { IsTicketOf self.old inlet.now }
         requires other { IsTicketOf other inlet.now }
@@ -78,7 +78,7 @@ impl<X: Item + Drop> Ticket<X> {
         inlet.sender.absorb::<Cut>(&mut self.pass, pass);
     }
 
-    /// Puts tickets that came back into this one, in their order.
+    /// Joins other tickets into this one, in their order.
     pub fn join_all(&mut self, inlet: &Inlet<X>, others: Vec<Ticket<X>>)
         requires queue { IsTicketOf self.old inlet.now }
         requires others { All (λ other. IsTicketOf other inlet.now) others.items }
@@ -89,8 +89,8 @@ impl<X: Item + Drop> Ticket<X> {
         }
     }
 
-    /// Looks at the queue, of which a ticket with every part knows this: it holds what was put and
-    /// not taken.
+    /// Looks at the queue. If the ticket has every part, the queue holds what was put and not
+    /// taken with it, and each of these items is sound.
     pub fn audit(&mut self, inlet: &Inlet<X>)
         requires queue { IsTicketOf self.old inlet.now }
         ensures same { self.new ≡ self.old }

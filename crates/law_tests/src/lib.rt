@@ -1,4 +1,5 @@
-//! Tests of `turns`, `slots`, `slot_desks` and `fair_queue`: by values from outside, and on threads.
+//! Tests of `turns`, `slots`, `slot_desks` and `fair_queue`: by values from outside, and on
+//! threads.
 #![tactic(auto)]
 
 #[cfg(test)]

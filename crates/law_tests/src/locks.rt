@@ -1,13 +1,13 @@
-//! A lock's word, and what an actor finds in one.
+//! The word of a lock, and what it says to an actor.
 
 use turns::Judgement;
-use turns::lock_word::{asked_by, freed, taken_by, withdrawn_by};
+use turns::lock_word::{asked_by, freed, seized_by, withdrawn_by};
 
 #[test]
 fn passes_a_lock_on(rt: HostRuntime) {
     let asked = asked_by(3, asked_by(0, 0));
     assert_eq!(rt; asked, 0b1001 << 8);
-    let taken = taken_by(0, asked);
+    let taken = seized_by(0, asked);
     assert_eq!(rt; taken, 0b1000 << 8 | 1);
     assert_eq!(rt; freed(taken), 0b1000 << 8);
     assert_eq!(rt; withdrawn_by(3, taken), 1);

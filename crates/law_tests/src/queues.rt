@@ -1,3 +1,5 @@
+//! Queues of one thread, and of four threads.
+
 ghost use Rattle.std.specs.Prelude.{◌≡◌, ◌<◌, All, IfOk};
 ghost use Rattle.fair_queue.specs.Tickets.{IsTicketOf, IsUsable, with_put};
 
@@ -10,21 +12,21 @@ use std::thread;
 use std::thread::Threads;
 
 #[derive(Clone, Copy, Debug, Drop, PartialEq)]
-struct Slip {
+struct Parcel {
     by: u64,
     number: u32,
 }
 
-impl Item for Slip {
-    ghost sound = { λ slip. slip.number < 200 };
+impl Item for Parcel {
+    ghost sound = { λ parcel. parcel.number < 200 };
 }
 
 fn may_be_moved<T: Send>() {}
 
 fn may_be_shared<T: Sync>() {}
 
-/// Where items may be moved to other threads, so may the ends and tickets of a queue, and threads
-/// may share the ends.
+/// If items may be moved to other threads, so may the ends and tickets of a queue, and threads may
+/// share the ends.
 fn queues_may_cross_threads<X: Item + Drop + Send>() {
     may_be_moved::<Inlet<X>>();
     may_be_moved::<Outlet<X>>();
@@ -33,15 +35,15 @@ fn queues_may_cross_threads<X: Item + Drop + Send>() {
     may_be_shared::<Outlet<X>>();
 }
 
-/// Puts a slip, as soon as there is room.
-fn put_at_last<R: Wait>(rt: &R, inlet: &Inlet<Slip>, ticket: &mut Ticket<Slip>, slip: Slip)
+/// Puts a parcel as soon as there is room.
+fn put_at_last<R: Wait>(rt: &R, inlet: &Inlet<Parcel>, ticket: &mut Ticket<Parcel>, parcel: Parcel)
     requires queue { IsTicketOf ticket.old inlet.now }
     requires part { 0 < ticket.old.parts }
-    requires sound { slip.number < 200 }
-    ensures { ticket.new ≡ with_put ticket.old slip }
+    requires sound { parcel.number < 200 }
+    ensures { ticket.new ≡ with_put ticket.old parcel }
 {
     for _ in rt.forever() {
-        if inlet.put(rt, ticket, slip).is_ok() {
+        if inlet.put(rt, ticket, parcel).is_ok() {
             return;
         }
         thread::yield_now();
@@ -49,44 +51,44 @@ fn put_at_last<R: Wait>(rt: &R, inlet: &Inlet<Slip>, ticket: &mut Ticket<Slip>, 
     unreachable!()
 }
 
-/// Puts 200 slips and takes one after each, if there is one. Gives the ticket back.
+/// Puts 200 parcels, and takes one after each, if there is one. Returns the ticket.
 fn put_and_take<R: Wait>(
     rt: &R,
-    inlet: &Inlet<Slip>,
-    outlet: &Outlet<Slip>,
-    mut ticket: Ticket<Slip>,
+    inlet: &Inlet<Parcel>,
+    outlet: &Outlet<Parcel>,
+    mut ticket: Ticket<Parcel>,
     by: u64,
-    taken: &mut Vec<Slip>,
-) -> Ticket<Slip>
+    taken: &mut Vec<Parcel>,
+) -> Ticket<Parcel>
     requires ends { outlet.now ≡ inlet.now }
     requires queue { IsTicketOf ticket inlet.now }
     requires part { 0 < ticket.parts }
     ensures { IsTicketOf result inlet.now }
 {
     for number in 0..200 {
-        put_at_last(rt, inlet, &mut ticket, Slip { by, number });
-        if let Some(slip) = outlet.take(rt, &mut ticket) {
-            let _ = taken.push(slip);
+        put_at_last(rt, inlet, &mut ticket, Parcel { by, number });
+        if let Some(parcel) = outlet.take(rt, &mut ticket) {
+            let _ = taken.push(parcel);
         }
     }
     ticket
 }
 
-/// A thread for each of the tickets puts and takes slips. Gives the tickets back, and what was taken.
+/// Puts and takes parcels on one thread for each ticket. Returns the tickets, and what was taken.
 fn at_once<R: Threads + Wait + Sync>(
     rt: &R,
     alloc: Global,
-    inlet: &Inlet<Slip>,
-    outlet: &Outlet<Slip>,
-    tickets: Vec<Ticket<Slip>>,
-) -> Result<(Vec<Ticket<Slip>>, Vec<Slip>), AllocError>
+    inlet: &Inlet<Parcel>,
+    outlet: &Outlet<Parcel>,
+    tickets: Vec<Ticket<Parcel>>,
+) -> Result<(Vec<Ticket<Parcel>>, Vec<Parcel>), AllocError>
     requires ends { outlet.now ≡ inlet.now }
     requires tickets { All (λ ticket. IsUsable ticket inlet.now) tickets.items }
     ensures { IfOk result (λ after. All (λ ticket. IsTicketOf ticket inlet.now) after.0.items) }
 {
     let number = AtomicU64::new(0);
     let all = Mutex::new(Vec::new(alloc));
-    let work = |ticket: Ticket<Slip>| -> Ticket<Slip>
+    let work = |ticket: Ticket<Parcel>| -> Ticket<Parcel>
         requires ends { outlet.now ≡ inlet.now }
         requires ticket { IsUsable ticket inlet.now }
         ensures { IsTicketOf result inlet.entry.now }
@@ -103,10 +105,10 @@ fn at_once<R: Threads + Wait + Sync>(
 
 #[test]
 fn a_full_queue_hands_back_and_an_empty_one_has_nothing(rt: HostRuntime) -> Result<(), Fail> {
-    let (inlet, outlet, mut ticket) = bounded::<Slip>(rt.alloc(), 2)?;
+    let (inlet, outlet, mut ticket) = bounded::<Parcel>(rt.alloc(), 2)?;
     let ticket = &mut ticket;
-    let slip = |number| Slip { by: 0, number };
-    let (one, two, three) = (slip(1), slip(2), slip(3));
+    let parcel = |number| Parcel { by: 0, number };
+    let (one, two, three) = (parcel(1), parcel(2), parcel(3));
     assert_eq!(rt; inlet.put(&rt, ticket, one), Ok(()));
     assert_eq!(rt; inlet.put(&rt, ticket, two), Ok(()));
     assert_eq!(rt; inlet.put(&rt, ticket, three), Err(three));
@@ -120,13 +122,13 @@ fn a_full_queue_hands_back_and_an_empty_one_has_nothing(rt: HostRuntime) -> Resu
 
 #[test]
 fn a_ticket_that_was_cut_off_puts_and_comes_back(rt: HostRuntime) -> Result<(), Fail> {
-    let (inlet, outlet, mut ticket) = bounded::<Slip>(rt.alloc(), 2)?;
+    let (inlet, outlet, mut ticket) = bounded::<Parcel>(rt.alloc(), 2)?;
     let mut other = ticket.cut(&inlet);
-    let slip = Slip { by: 1, number: 7 };
-    assert_eq!(rt; inlet.put(&rt, &mut other, slip), Ok(()));
+    let parcel = Parcel { by: 1, number: 7 };
+    assert_eq!(rt; inlet.put(&rt, &mut other, parcel), Ok(()));
     ticket.join(&inlet, other);
     ticket.audit(&inlet);
-    assert_eq!(rt; outlet.take(&rt, &mut ticket), Some(slip));
+    assert_eq!(rt; outlet.take(&rt, &mut ticket), Some(parcel));
     drop(inlet);
     assert_eq!(rt; outlet.take(&rt, &mut ticket), None);
     Ok(())
@@ -134,30 +136,30 @@ fn a_ticket_that_was_cut_off_puts_and_comes_back(rt: HostRuntime) -> Result<(), 
 
 #[test]
 fn a_queue_whose_outlet_is_gone_fills_up(rt: HostRuntime) -> Result<(), Fail> {
-    let (inlet, outlet, mut ticket) = bounded::<Slip>(rt.alloc(), 1)?;
+    let (inlet, outlet, mut ticket) = bounded::<Parcel>(rt.alloc(), 1)?;
     drop(outlet);
-    let slip = Slip { by: 0, number: 5 };
-    assert_eq!(rt; inlet.put(&rt, &mut ticket, slip), Ok(()));
-    assert_eq!(rt; inlet.put(&rt, &mut ticket, slip), Err(slip));
+    let parcel = Parcel { by: 0, number: 5 };
+    assert_eq!(rt; inlet.put(&rt, &mut ticket, parcel), Ok(()));
+    assert_eq!(rt; inlet.put(&rt, &mut ticket, parcel), Err(parcel));
     Ok(())
 }
 
 #[test]
 fn what_four_threads_put_is_what_they_take(rt: HostRuntime) -> Result<(), Fail> {
-    queues_may_cross_threads::<Slip>();
+    queues_may_cross_threads::<Parcel>();
     let alloc = rt.alloc();
-    let (inlet, outlet, mut ticket) = bounded::<Slip>(alloc, 8)?;
+    let (inlet, outlet, mut ticket) = bounded::<Parcel>(alloc, 8)?;
     let tickets = ticket.cut_many(alloc, &inlet, 4)?;
     let (tickets, mut taken) = at_once(&rt, alloc, &inlet, &outlet, tickets)?;
     ticket.join_all(&inlet, tickets);
     assert_eq!(rt; outlet.try_take(&rt, &mut ticket), None);
     taken
         .as_mut_slice()
-        .sort_unstable_by_key(|slip| (slip.by, slip.number));
+        .sort_unstable_by_key(|parcel| (parcel.by, parcel.number));
     assert_eq!(rt; taken.len(), 800);
-    for (place, slip) in taken.iter().enumerate() {
+    for (place, parcel) in taken.iter().enumerate() {
         let want = (place as u64 / 200, place as u32 % 200);
-        assert_eq!(rt; (slip.by, slip.number), want);
+        assert_eq!(rt; (parcel.by, parcel.number), want);
     }
     Ok(())
 }

@@ -1,5 +1,5 @@
-//! Eight desks on threads, two in turn, a note, and a room shut amid a job. The rule that judges their
-//! records is written anew here.
+//! Desks of the slots: eight on threads, two that alternate, one that learns a note, and a room
+//! that is shut amid a job. The rule that judges their records is written anew here.
 
 ghost use Rattle.std.specs.Prelude.{◌≡◌, IfOk};
 ghost use Rattle.desks.specs.Views.{new_desk};
@@ -7,7 +7,7 @@ ghost use Rattle.desks.specs.Views.{new_desk};
 use desks::{Room, meet, shut, shut_all};
 use slot_desks::SlotJobs;
 use slot_desks::driving::{
-    SlotDesk, SlotRoom, SlotTold, do_after, finish, in_turn, last_desk, persist, put_desk,
+    SlotDesk, SlotRecord, SlotRoom, alternate, do_after, finish, last_desk, persist, put_desk,
 };
 use slot_desks::on_threads::{shut_shifts, take_and_give_at_once};
 use slots::{Job, UpToTwo};
@@ -15,7 +15,7 @@ use std::alloc::Global;
 use std::ops::Range;
 use std::test::Fail;
 
-/// The bit of a slot, if there is such a slot.
+/// The bit of a slot, or 0 if there is no slot of this number.
 fn bit(slot: u32) -> u64 {
     1_u64.checked_shl(slot).unwrap_or(0)
 }
@@ -24,7 +24,7 @@ fn lowest(busy: u64, mut slots: Range<u32>) -> Option<u32> {
     slots.find(|slot| busy & bit(*slot) == 0)
 }
 
-/// What a job takes of 64 slots, and the slots that are busy after it.
+/// The slots that a job takes of 64, done alone, and the slots that are busy after it.
 fn done(busy: u64, job: Job) -> (UpToTwo<u32>, u64) {
     match job {
         Job::Take => match lowest(busy, 0..64) {
@@ -39,16 +39,16 @@ fn done(busy: u64, job: Job) -> (UpToTwo<u32>, u64) {
     }
 }
 
-/// The busy slots after all records, if these are the jobs of turns from 0 on, each with the reply
-/// of that job done alone on the slots that those before it leave.
-fn after_all(mut records: Vec<&SlotTold>) -> Option<u64> {
+/// The busy slots after all records, if these have the turns from 0 on, and each has the reply of
+/// its job done alone on the slots that the jobs before it leave. Otherwise None.
+fn after_all(mut records: Vec<&SlotRecord>) -> Option<u64> {
     records
         .as_mut_slice()
-        .sort_unstable_by_key(|told| told.turn);
+        .sort_unstable_by_key(|reported| reported.turn);
     let mut busy = 0;
-    for (turn, told) in records.iter().enumerate() {
-        let (want, after) = done(busy, told.job);
-        if told.turn != turn as u64 || told.reply.slots() != want {
+    for (turn, reported) in records.iter().enumerate() {
+        let (want, after) = done(busy, reported.job);
+        if reported.turn != turn as u64 || reported.reply.slots() != want {
             return None;
         }
         busy = after;
@@ -56,23 +56,23 @@ fn after_all(mut records: Vec<&SlotTold>) -> Option<u64> {
     Some(busy)
 }
 
-/// Whether these are records of this actor's, in the order of their turns.
-fn is_log_of(actor: usize, log: &[SlotTold]) -> bool {
+/// Whether these are records of this actor, in the order of their turns.
+fn is_log_of(actor: usize, log: &[SlotRecord]) -> bool {
     let mut next = 0;
-    for told in log {
-        if told.actor as usize != actor || told.turn < next || told.turn == u64::MAX {
+    for reported in log {
+        if reported.actor as usize != actor || reported.turn < next || reported.turn == u64::MAX {
             return false;
         }
-        next = told.turn + 1;
+        next = reported.turn + 1;
     }
     true
 }
 
-/// Whether a desk had each slot that it gave back, and has one slot in the end.
-fn keeps_one_slot(log: &[SlotTold]) -> bool {
+/// Whether a desk had each slot that it freed, and has one slot in the end.
+fn keeps_one_slot(log: &[SlotRecord]) -> bool {
     let mut had = 0;
-    for told in log {
-        match (told.job, told.reply.slots()) {
+    for reported in log {
+        match (reported.job, reported.reply.slots()) {
             (Job::Give(slot), _) => {
                 if had & bit(slot) == 0 {
                     return false;
@@ -87,8 +87,8 @@ fn keeps_one_slot(log: &[SlotTold]) -> bool {
     had.count_ones() == 1
 }
 
-/// The words of a room that was shut count so many turns, show just these slots as busy, and have no
-/// lock.
+/// Whether the words of a room that was shut count this number of turns, show exactly these slots
+/// as busy, and have no lock held or requested.
 fn words_agree(words: &[u64], turns: usize, busy: Option<u64>) -> bool {
     words.len() == 5
         && words[2] == 0
@@ -119,11 +119,11 @@ fn eight_desks_take_and_give_slots_on_threads(rt: HostRuntime) -> Result<(), Fai
         assert!(rt; keeps_one_slot(shift.log.as_slice()));
     }
     let logs = shifts.iter().flat_map(|shift| shift.log.iter());
-    let records: Vec<&SlotTold> = logs.collect(alloc)?;
+    let records: Vec<&SlotRecord> = logs.collect(alloc)?;
     let turns = records.len();
     let busy = after_all(records);
     let words = shut_shifts(alloc, room, shifts)?.ok_or("each job has ended")?;
-    // A round of each desk takes once and gives back once, or takes two slots and gives back each.
+    // A round of each desk takes a slot and frees it, or takes two slots and frees each.
     assert!(rt; turns >= 16_000);
     assert!(rt; busy.is_some_and(|slots| slots.count_ones() == 8));
     assert!(rt; words_agree(words.as_slice(), turns, busy));
@@ -135,15 +135,15 @@ fn two_desks_take_and_give_slots_in_turn(rt: HostRuntime) -> Result<(), Fail> {
     let alloc = rt.alloc();
     let (room, mut zero, mut one) = room_of_two(alloc)?;
     let mut log = Vec::new(alloc);
-    in_turn(&room, &mut zero, &mut one, 2_000, &mut log);
+    alternate(&room, &mut zero, &mut one, 2_000, &mut log);
     meet(&room, &(), &mut zero, &mut one);
-    if let Some(told) = finish(&room, &mut zero, 100) {
-        log.push(told)?;
+    if let Some(reported) = finish(&room, &mut zero, 100) {
+        log.push(reported)?;
     }
     zero.give_back(&room, &());
     one.give_back(&room, &());
-    if let Some(told) = finish(&room, &mut one, 100) {
-        log.push(told)?;
+    if let Some(reported) = finish(&room, &mut one, 100) {
+        log.push(reported)?;
     }
     assert!(rt; zero.is_idle() && one.is_idle());
     let mut all: Vec<SlotDesk> = Vec::with_capacity(alloc, 2)?;

@@ -1,4 +1,4 @@
-//! Calls done by markers on threads of their own, and a job that goes from one worker to another.
+//! Calls done by markers, each on its own thread, and a job that goes from one worker to another.
 
 ghost use Rattle.std.specs.Prelude.{◌≡◌, ◌+◌, ◌<◌, All, IfOk, vec_len};
 ghost use Rattle.xbar_markers.specs.Calls.{HasCallNo};
@@ -19,7 +19,7 @@ mod overlapping;
 
 /// How many markers dial, and how many complete calls.
 #[derive(Clone, Copy, Debug)]
-struct Staff {
+struct Workers {
     dialling: usize,
     completing: usize,
 }
@@ -37,18 +37,19 @@ fn call_out(call_no: u32, line: Len, release: bool) -> Call
     }
 }
 
+/// Does the calls, which has to succeed.
 fn run<'p, G: Gate + Send + Drop, R: Threads + Wait + Sync + Abort>(
     rt: &R,
     alloc: Global,
     plan: &'p Plan,
     calls: &[Call],
-    staff: Staff,
+    workers: Workers,
     gates: Vec<G>,
 ) -> Outcome<'p>
     requires call_nos { All HasCallNo calls.now }
-    requires gates { vec_len gates ≡ staff.dialling + staff.completing }
+    requires gates { vec_len gates ≡ workers.dialling + workers.completing }
 {
-    let (dialling, completing) = (staff.dialling, staff.completing);
+    let (dialling, completing) = (workers.dialling, workers.completing);
     let outcome = run_calls(rt, alloc, plan, calls, dialling, completing, gates);
     outcome.expect(rt, "the calls are done")
 }

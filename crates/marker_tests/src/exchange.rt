@@ -14,7 +14,8 @@ use xbar_plan::Plan;
 
 mod interleaved;
 
-/// The records are one legal history, and the words of the settled office show the set after it.
+/// Checks that the records are one legal history, and that the words of the settled office show
+/// the set after it.
 fn check_settled(rt: &impl Abort, alloc: Global, name: &str, office: &Exchange) {
     check_history(
         rt,
@@ -26,7 +27,7 @@ fn check_settled(rt: &impl Abort, alloc: Global, name: &str, office: &Exchange) 
     );
 }
 
-/// Jobs of two markers that have made so many steps are settled.
+/// Settles the jobs of two markers after `first` and `second` steps.
 fn settle_after(rt: &impl Abort, alloc: Global, plan: &Plan, first: u32, second: u32) {
     let mut office = open_exchange(rt, alloc, plan, TWO);
     begin_both(rt, &mut office, first, second);
@@ -47,7 +48,7 @@ fn half_done_jobs_are_settled(rt: HostRuntime) {
     }
 }
 
-/// Whether the marker does the job. Else it was refused for memory.
+/// Has marker 0 do a job. Returns false if memory ran out and the job was refused.
 fn is_done(rt: &impl Abort, office: &mut Exchange, job_no: u32, text: &str) -> bool {
     let assigned = office.assign(0, job_no, job(rt, text));
     if assigned.is_ok() {
@@ -59,7 +60,8 @@ fn is_done(rt: &impl Abort, office: &mut Exchange, job_no: u32, text: &str) -> b
     assigned.is_ok()
 }
 
-/// Jobs of which some are refused, since there is no memory for their records: these change nothing.
+/// Does jobs, of which some are refused since there is no memory for their records. These change
+/// nothing.
 fn do_what_memory_allows(rt: &impl Abort, office: &mut Exchange) {
     let mut done: usize = 0;
     for job_no in 0..40 {
@@ -71,7 +73,7 @@ fn do_what_memory_allows(rt: &impl Abort, office: &mut Exchange) {
     }
 }
 
-/// An office with little memory for its records says so, and is unchanged.
+/// An office without memory for a record refuses the job, and is unchanged.
 #[test]
 fn refused_memory_changes_nothing(rt: HostRuntime) {
     if let Ok(plan) = Plan::example(rt.alloc()) {
@@ -82,7 +84,8 @@ fn refused_memory_changes_nothing(rt: HostRuntime) {
     }
 }
 
-/// Numbers of markers, of rounds and of moves in each, with the seed of a generator that chooses them.
+/// The numbers of markers, of rounds, and of moves per round, and the seed of the generator that
+/// chooses the moves.
 const RUNS: &[(usize, u32, u32, u64)] = &[
     // About one job in each round.
     (1, 200, 50, 1),
@@ -92,7 +95,7 @@ const RUNS: &[(usize, u32, u32, u64)] = &[
     (48, 8, 1000, 5),
 ];
 
-/// Kinds of so many markers: of the first all jobs, of the others some.
+/// Kinds for this number of markers: the first takes all jobs, the others some.
 fn some_kinds(alloc: Global, markers: usize, numbers: &mut Pcg32) -> Result<Vec<Kind>, AllocError> {
     let mut kinds = vec![in alloc; Kind::Combined]?;
     for _marker in 1..markers {
@@ -105,7 +108,7 @@ fn some_kinds(alloc: Global, markers: usize, numbers: &mut Pcg32) -> Result<Vec<
     Ok(kinds)
 }
 
-/// One move of some marker: mostly a step.
+/// Makes one move of some marker: mostly a step.
 fn make_a_move(numbers: &mut Pcg32, office: &mut Exchange) {
     let marker = numbers.random_range(0..office.marker_count().max(1));
     match numbers.random_range(0..128u32) {
@@ -123,7 +126,7 @@ fn make_a_move(numbers: &mut Pcg32, office: &mut Exchange) {
     }
 }
 
-/// Rounds of moves, after each of which the office settles.
+/// Makes rounds of moves. After each round the office settles.
 fn go_at_random(rt: &impl Abort, alloc: Global, plan: &Plan, run: &(usize, u32, u32, u64)) {
     let (markers, rounds, moves, seed) = *run;
     let mut numbers = Pcg32::new(seed, 5);

@@ -40,7 +40,7 @@ pub fn many_registers(rt: &impl Abort, alloc: Global) -> Plan {
     plan
 }
 
-/// A job by its text, or none.
+/// The job of this text, if it is one.
 fn job_of(text: &str) -> Option<Job> {
     let (kind, rest) = text.split_once(' ')?;
     let (line, dialled) = rest.split_once(' ').unwrap_or((rest, ""));
@@ -61,7 +61,7 @@ pub fn job(rt: &impl Abort, text: &str) -> Job {
     job
 }
 
-/// One of twelve lines, most of them on two frames: few enough for markers to meet.
+/// One of twelve lines, most of them on two frames: few enough for markers to compete.
 fn some_line(numbers: &mut Pcg32) -> Len {
     let choice = numbers.random_range(0..12u8);
     match choice {
@@ -98,7 +98,7 @@ pub fn some_job(numbers: &mut Pcg32) -> Job {
     }
 }
 
-/// Shared words with a desk of each of these kinds.
+/// Opens shared words with a desk of each of these kinds.
 pub fn open_fabric<'p>(
     rt: &impl Abort,
     alloc: Global,
@@ -122,7 +122,7 @@ pub fn last_desk(rt: &impl Abort, _fabric: &Fabric, desks: &mut Vec<Desk>) -> De
     desks.pop().expect(rt, "there is a desk")
 }
 
-/// Words that are not 0, by their numbers in order.
+/// The numbers and values of words that are not 0, in order.
 pub type Words<'w> = &'w [(usize, u64)];
 
 /// What a first dial tone job of line 3041 leaves.
@@ -158,6 +158,7 @@ pub const WITH_BOTH: Words<'static> = &[
     (452, 2),
 ];
 
+/// The words that are not 0, with their numbers.
 fn closed_words(alloc: Global, words: &[u64]) -> Result<Vec<(usize, u64)>, AllocError> {
     let mut closed = Vec::new(alloc);
     for (number, word) in words.iter().enumerate() {
@@ -168,7 +169,7 @@ fn closed_words(alloc: Global, words: &[u64]) -> Result<Vec<(usize, u64)>, Alloc
     Ok(closed)
 }
 
-/// Of all 453 words just these are not 0.
+/// Checks that of all 453 words only these are not 0.
 pub fn check_words(rt: &impl Abort, alloc: Global, name: &str, words: &[u64], wanted: Words<'_>) {
     check_eq!(rt; words.len(), WORD_COUNT, name);
     let closed = closed_words(alloc, words).expect(rt, "there is memory for a list");
@@ -191,8 +192,9 @@ fn crosspoint_words(rt: &impl Abort, alloc: Global, office: &Office) -> [u64; WO
     words
 }
 
-/// The records are one legal history, and the words those of the office after it: each crosspoint, each
-/// busy member, the turns, and nothing else. So no connector is held or asked for.
+/// Checks that the records are one legal history, and the words those of the office after it: each
+/// crosspoint, each busy member, the turns, and nothing else. So no connector is held or
+/// requested.
 pub fn check_history(
     rt: &impl Abort,
     alloc: Global,

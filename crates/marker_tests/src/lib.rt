@@ -1,6 +1,6 @@
-//! Tests of markers: of one, whose job is made of steps, of two in one office, which is plain data or
-//! desks on shared words, and of many in one office, on threads of their own too; and of how their steps
-//! are told.
+//! Tests of markers: of one marker's job as steps; of two markers in one office, as plain data and
+//! as desks on shared words; of many markers in one office, on threads too; and of how their steps
+//! are described.
 #![tactic(auto)]
 
 #[cfg(test)]

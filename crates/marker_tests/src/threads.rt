@@ -1,4 +1,4 @@
-//! Desks of the office, each on a thread of its own.
+//! Desks of the office, each on its own thread.
 
 mod driving;
 mod ending;

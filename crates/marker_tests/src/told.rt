@@ -1,5 +1,6 @@
-//! Tests of junctor switches as they are told: of one marker, one after another, in one line. Here are
-//! those that no job makes, or on words that jobs seldom leave; the others are rows of `worked_rows`.
+//! How tests of junctor switches are described: those of one marker, one after another, in one
+//! line. Here are tests that no job makes, or on words that jobs seldom leave; the others are rows
+//! of `worked_rows`.
 
 use std::alloc::Global;
 use std::process::Abort;
@@ -7,16 +8,17 @@ use std::test::Fail;
 use xbar_core::Event;
 use xbar_equip::WordNo;
 use xbar_jobs::Step;
-use xbar_walk::{Story, Telling, Told};
+use xbar_walk::{Detail, Observation, Story};
 
-/// Each test by its marker, the number of the word and what is found there; and how all are told.
-type Row = (Telling, &'static [(u32, u16, u64)], &'static str);
+/// The tests, each with its marker, the number of its word and the value found there; and the text
+/// that describes them.
+type Row = (Detail, &'static [(u32, u16, u64)], &'static str);
 
 const ROWS: &[Row] = &[
-    // Switches 2 to 5 of frame 3. Closed are field 4 at place 2 of one switch, and fields 0 and 8 at
-    // places 9 and 0 of the next.
+    // Switches 2 to 5 of frame 3: in the second, field 4 is closed at place 2; in the third,
+    // fields 0 and 8 are closed at places 9 and 0.
     (
-        Telling::Short,
+        Detail::Short,
         &[
             (7, 72, 0),
             (7, 73, 0x3_0000),
@@ -27,7 +29,7 @@ const ROWS: &[Row] = &[
 ",
     ),
     (
-        Telling::Each,
+        Detail::Each,
         &[
             (7, 72, 0),
             (7, 73, 0x3_0000),
@@ -40,16 +42,16 @@ const ROWS: &[Row] = &[
    4  marker 7  tests line junctor switch 3,5: nothing closed
 ",
     ),
-    // Field 3 is closed at place 1 of a switch for trunks.
+    // Field 3 is closed at place 1 of the second of two trunk junctor switches.
     (
-        Telling::Short,
+        Detail::Short,
         &[(0, 290, 0), (0, 291, 0x2000)],
         "   1  marker 0  tests trunk junctor switches 4,0 to 4,1 (steps 1 to 2): closed: JU341 and TL411
 ",
     ),
-    // Two markers take turns.
+    // Two markers alternate.
     (
-        Telling::Short,
+        Detail::Short,
         &[(0, 70, 0), (1, 71, 0), (0, 71, 0), (1, 72, 0)],
         "   1  marker 0  tests line junctor switch 3,0: nothing closed
    2  marker 1  tests line junctor switch 3,1: nothing closed
@@ -57,10 +59,10 @@ const ROWS: &[Row] = &[
    4  marker 1  tests line junctor switch 3,2: nothing closed
 ",
     ),
-    // A frame's last switch and another's first, a switch left out, one of trunks, the same once more, and
-    // switches that lines end at.
+    // A frame's last switch and the first of the next, a skipped switch, a trunk junctor switch
+    // twice, and line switches.
     (
-        Telling::Short,
+        Detail::Short,
         &[
             (0, 79, 0),
             (0, 90, 0),
@@ -81,17 +83,18 @@ const ROWS: &[Row] = &[
     ),
 ];
 
+/// The text that describes the tests.
 fn text_of(
     rt: &impl Abort,
     alloc: Global,
-    telling: Telling,
+    telling: Detail,
     tests: &[(u32, u16, u64)],
 ) -> Result<String, Fail> {
     let mut story = Story::new(alloc, telling);
     for (marker, number, found) in tests {
         assert!(rt; *number < 453);
         let step = Step::Test(WordNo::new(*number));
-        let told = Told::new(step, *found, Event::Moved, Step::Finished);
+        let told = Observation::new(step, *found, Event::Moved, Step::Finished);
         story.add_step(*marker, &told, &[])?;
     }
     Ok(story.finish()?)

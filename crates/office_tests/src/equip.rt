@@ -10,22 +10,22 @@ use xbar_equip::{
     group_word, laws, line_junctor, line_switch, protects, trunk_junctor, trunk_switch, turn_word,
 };
 
-/// What a text names.
+/// What a text names, and the numbers that are printed of it.
 #[derive(Clone, Copy)]
 enum Kind {
-    /// Its frame, its switch, its place there, its vertical group and its vertical file.
+    /// Frame, switch, place there, vertical group and vertical file.
     Line,
-    /// Its frame, its switch and its appearance.
+    /// Frame, switch and appearance.
     Place,
     Channel,
     DirectoryNumber,
-    /// All seven digits, and their code and number.
+    /// All seven digits as a number, their code and their directory number.
     Dialled,
-    /// Its kind and its three digits.
+    /// Kind and three digits.
     Link,
 }
 
-/// A text, and how its value is printed, with its numbers; or the first fault.
+/// A text, and its value as printed with its numbers; or the first fault.
 type Text = (Kind, &'static str, Result<&'static str, EquipFault>);
 
 const TEXTS: &[Text] = &[
@@ -62,7 +62,7 @@ const TEXTS: &[Text] = &[
     (Kind::Link, "TT340", Err(EquipFault::NotDigit)),
 ];
 
-/// A value and its numbers.
+/// A value and its numbers, as printed.
 type Shown = InlineText<40>;
 
 fn shown<T: Display, N: Debug>(value: &T, numbers: &N) -> Shown {
@@ -162,7 +162,7 @@ fn paths_close_four_crosspoints_by_three_links(rt: HostRuntime) {
     }
 }
 
-/// Paths, and their texts in order.
+/// Paths out of order.
 const SHUFFLED: &[PathTexts] = &[
     ("3041", "1", "417"),
     ("3050", "0", "417"),
@@ -171,6 +171,7 @@ const SHUFFLED: &[PathTexts] = &[
     ("2954", "9", "999"),
 ];
 
+/// The texts of the same paths, in order.
 const IN_ORDER: &[&str] = &[
     "2954-9-999",
     "3041-0-417",
@@ -198,7 +199,7 @@ fn paths_stand_in_the_order_of_their_texts(rt: HostRuntime) {
     }
 }
 
-/// The word has this number, and this connector protects it.
+/// Checks the number of a word, and which connector protects it.
 fn check_word(rt: &impl Abort, word: WordNo, number: u16, protected: Option<Conn>) {
     check_eq!(rt; (word.number(), protects(word)), (number, protected));
 }

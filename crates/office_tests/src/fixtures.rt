@@ -1,4 +1,4 @@
-//! Paths, plans and records that several tests name.
+//! Paths, plans and records that several tests use.
 
 use std::alloc::Global;
 use std::fmt::Display;
@@ -18,7 +18,7 @@ pub fn near_path() -> Path {
     }
 }
 
-/// The path of these texts.
+/// The path with these texts of its line, channel and place.
 pub fn path_of(line: &str, channel: &str, place: &str) -> Result<Path, EquipFault> {
     Ok(Path {
         line: Len::parse(line.as_bytes())?,
@@ -27,7 +27,7 @@ pub fn path_of(line: &str, channel: &str, place: &str) -> Result<Path, EquipFaul
     })
 }
 
-/// This prints so.
+/// Checks the text that a value prints.
 pub fn check_printed<T: Display>(rt: &impl Abort, alloc: Global, told: &T, wanted: &str) {
     let text = told
         .to_string(alloc)
@@ -40,7 +40,7 @@ pub fn example(rt: &impl Abort, alloc: Global) -> Plan {
     Plan::example(alloc).expect(rt, "there is memory for a plan")
 }
 
-/// The plan that a text holds.
+/// The plan of a text.
 pub fn read_plan(rt: &impl Abort, alloc: Global, text: &str) -> Plan {
     Plan::read(alloc, text.as_bytes()).expect(rt, "this is a plan")
 }

@@ -1,5 +1,5 @@
-//! Tests of the crates from the equipment up to the one-marker office, and of drawings, by values from
-//! outside.
+//! Tests of the crates from the equipment up to the one-marker office, and of drawings. The
+//! expected values come from outside the program.
 #![tactic(auto)]
 
 #[cfg(test)]

@@ -12,8 +12,8 @@ use xbar_match::{
 };
 use xbar_switch::Shape;
 
-/// A channel test: the words of a line switch, of a frame's line junctor switches and of a trunk switch,
-/// the trunk link frame, the channel to begin with, and the channel that is found.
+/// A channel test: its name, the words of the line switch, of the frame's line junctor switches
+/// and of the trunk switch, the trunk link frame, the first channel to try, and the channel found.
 type ChannelTest = (
     &'static str,
     u64,
@@ -24,15 +24,16 @@ type ChannelTest = (
     Option<u8>,
 );
 
-/// Field 9 of a line switch holds its first place.
+/// The word of a line switch whose field 9 holds its first place.
 const LINK_9: u64 = 18014398509481984;
 
-/// The junctors to frame 4 are busy in channels 0 to 4.
+/// The words of line junctor switches: the junctors to frame 4 are busy in channels 0 to 4.
 const HALF: &[u64; 10] = &[65536, 65536, 65536, 65536, 65536, 0, 0, 0, 0, 0];
 
-/// Fields 5 to 8 of a trunk switch are closed, or 5 to 9.
+/// The word of a trunk switch whose fields 5 to 8 are closed.
 const FOUR: u64 = 4581228544;
 
+/// The word of a trunk switch whose fields 5 to 9 are closed.
 const FIVE: u64 = 1099510579200;
 
 const CHANNEL_TESTS: &[ChannelTest] = &[
@@ -58,9 +59,10 @@ fn matches_channels(rt: HostRuntime) {
     }
 }
 
-/// Words of a line switch, with its idle links, and of a trunk switch, with its.
+/// Words of a line switch, each with the bits of its idle links.
 const IDLE_LINKS: &[(u64, u16)] = &[(0, 1023), (22, 1022), (540431955284459520, 511)];
 
+/// Words of a trunk switch, each with the bits of its idle links.
 const IDLE_TRUNK_LINKS: &[(u64, u16)] = &[(0, 1023), (FOUR, 543), (u64::MAX, 0)];
 
 #[test]
@@ -88,7 +90,7 @@ fn reads_fields(rt: HostRuntime) {
     check_eq!(rt; places, [Some(9), None, None], "places");
 }
 
-/// A path's effects are its crosspoints, which `equip` tests.
+/// A path's effects are its crosspoints, which module `equip` tests.
 #[test]
 fn closes_the_crosspoints_of_a_path(rt: HostRuntime) {
     let path = near_path();
@@ -114,10 +116,10 @@ fn tells_the_shapes_of_words(rt: HostRuntime) {
     }
 }
 
-/// A word by its number, and what it is to be in place of what it was.
+/// The number of a word, and its new value.
 type Change = (usize, u64);
 
-/// The words of an office in which the path 2954-9-999 alone stands, but for this change.
+/// The words of an office in which only the path 2954-9-999 is up, except for this change.
 fn far_words(change: Option<Change>) -> [u64; WORD_COUNT] {
     let mut words = [0; WORD_COUNT];
     words[49] = 540431955284459520;
@@ -131,8 +133,8 @@ fn far_words(change: Option<Change>) -> [u64; WORD_COUNT] {
     words
 }
 
-/// Traces in such an office, from a line of four digits or a trunk place of three, and the text of the path
-/// that is traced.
+/// Traces in these words, by name, from a line of four digits or a trunk place of three, and the
+/// text of the path found.
 const TRACES: &[(&str, Option<Change>, &str, &str)] = &[
     ("its line", None, "2954", "2954-9-999"),
     ("its place", None, "999", "2954-9-999"),
@@ -142,6 +144,7 @@ const TRACES: &[(&str, Option<Change>, &str, &str)] = &[
     ("broken off, backwards", Some((59, 0)), "999", "no path"),
 ];
 
+/// Traces the path from a line, or backwards from a trunk place.
 fn traced(change: Option<Change>, from: &str) -> Result<Option<Path>, EquipFault> {
     let words = far_words(change);
     match Len::parse(from.as_bytes()) {
@@ -162,7 +165,7 @@ fn traces_a_path_both_ways(rt: HostRuntime) -> Result<(), Fail> {
     Ok(())
 }
 
-/// How many paths and closed crosspoints there are in an office of that path with a change.
+/// The numbers of paths and of closed crosspoints in these words, with a change.
 const COUNTS: &[(Option<Change>, (u16, u16))] = &[(None, (1, 4)), (Some((59, 0)), (1, 3))];
 
 #[test]

@@ -1,5 +1,5 @@
-//! The one-marker office: many paths, many records, and what memory it wants. Jobs with their replies, and
-//! audits, are rows of `worked_rows`.
+//! The one-marker office: many paths, many records, and refused memory. Jobs with their replies,
+//! and audits, are rows of `worked_rows`.
 
 mod large;
 mod memory;

@@ -8,7 +8,7 @@ use xbar_equip::{Len, Link, LinkKind};
 use xbar_office::{Card, Cards, End, Job, Record, Reply};
 use xbar_office_text::{add_path_lines, laws, office_text};
 
-/// A path by its line, its channel and its place, what it comes to, and its picture.
+/// A path by its line, its channel and its place, what is at the place, and its picture.
 struct Picture {
     path: (&'static str, &'static str, &'static str),
     member: &'static str,
@@ -30,7 +30,8 @@ field     7                       9         1                       7
 holds     1                       1         1                       3
 ",
     },
-    // Line switch 0,0 is word 0 and the last trunk junctor switch 399; place 29 is held as 30.
+    // Line switch 0,0 is word 0, and the last trunk junctor switch is 399. Place 29 is stored as
+    // 30.
     Picture {
         path: ("0054", "9", "999"),
         member: "nothing",
@@ -47,6 +48,7 @@ holds    30                       1        10                      10
     },
 ];
 
+/// Checks the picture of a path.
 fn check_picture(rt: &impl Abort, alloc: Global, picture: &Picture) {
     let (line, channel, place) = picture.path;
     let path = path_of(line, channel, place).expect(rt, "these are a path's texts");
@@ -62,7 +64,7 @@ fn paths_are_drawn(rt: HostRuntime) {
     }
 }
 
-/// The text of a plan with the longest name and the highest number of a member: pair 39, at 278 and 279.
+/// A plan with the longest group name and the highest member number: pair 39, at 278 and 279.
 fn wide_plan(alloc: Global) -> Result<String, AllocError> {
     let mut text = String::new(alloc);
     text.push_str("version = 2\ngroups = [\"REG register 417\", \"INTRA999 intra")?;

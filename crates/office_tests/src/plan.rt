@@ -1,5 +1,5 @@
-//! Plans: their tables, how they are read and written, their limits, and what memory they want. Texts with
-//! a fault are rows of `worked_rows`.
+//! Plans: their tables, how they are read and written, their limits, and refused memory. Texts
+//! with a fault are rows of `worked_rows`.
 
 mod limits;
 mod memory;

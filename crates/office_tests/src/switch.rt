@@ -5,11 +5,11 @@ use std::test::Fail;
 use test_tools::check_eq;
 use xbar_switch::{Shape, Switch, SwitchFault, close_bits, field, laws, open_mask};
 
-/// What is answered, and the word of the switch after it.
+/// The result of an operation, and the word of the switch after it.
 type Answer = (Result<(), SwitchFault>, u64);
 
-/// A hold with nothing selected, one that closes field 0, one of that field again, and one after the
-/// select magnet fell back; and the release of a field that isn't held.
+/// A hold with nothing selected, one that closes field 0, one of the same field again, and one
+/// after the select magnet fell back; then the release of a field that isn't held.
 const ANSWERS: [Answer; 5] = [
     (Err(SwitchFault::NothingSelected), 0),
     (Ok(()), 22),
@@ -37,8 +37,8 @@ fn refuses_what_is_out_of_turn(rt: HostRuntime) {
     check_eq!(rt; answers(), ANSWERS);
 }
 
-/// A closed crosspoint by its shape, its field and its place, the word of a switch in which no other is
-/// closed, and the mask that opens it.
+/// A closed crosspoint by its shape, its field and its place, the word of a switch in which no
+/// other is closed, and the mask that opens it.
 type Closed = (Shape, u8, u8, u64, u64);
 
 const CLOSED: &[Closed] = &[
@@ -48,8 +48,8 @@ const CLOSED: &[Closed] = &[
     (Shape::Other, 2, 9, 2560, 18446744073709547775),
 ];
 
-/// Closed in a switch that was open, the crosspoint gives its word, and opened none; and the numbers of
-/// its word are its own.
+/// Checks that closing the crosspoint in an open switch makes this word, and that opening it
+/// leaves the switch open; and the field, the bits and the mask of the crosspoint.
 fn check_closed(rt: &impl Abort, closed: &Closed) -> Result<(), SwitchFault> {
     let (shape, v, place, word, mask) = *closed;
     assert!(rt; v < 10 && place < shape.places());
@@ -85,8 +85,8 @@ fn holds_the_place_selected_last(rt: HostRuntime) -> Result<(), Fail> {
     Ok(())
 }
 
-/// A shape with its width and its places, the highest place that a field of it names, and what is left of
-/// a word of ones without field 0.
+/// A shape, the width of a field and the number of places, the place in a field of ones, and a
+/// word of ones with field 0 open.
 const SHAPES: &[(Shape, (u32, u8), u8, u64)] = &[
     (Shape::Line, (6, 30), 62, 18446744073709551552),
     (Shape::Other, (4, 10), 14, 18446744073709551600),

@@ -1,4 +1,5 @@
-//! Reading all and writing all through counts: what no contract says.
+//! Readers and writers that count their failures, `read_all` and `write_all`: what no contract
+//! says.
 
 use counted_io::{Counted, ReadFault, Sink, Source, WriteFault, read_all, write_all};
 use std::alloc::Global;
@@ -33,7 +34,7 @@ const WRITES: &[Call] = &[
     Call::Flush,
 ];
 
-/// The device got these calls, and holds these bytes.
+/// Checks that the device got these calls and holds these bytes.
 fn check_device(rt: &impl Abort, device: &Recorder<Vec<u8>>, calls: &[Call], bytes: &[u8]) {
     check_eq!(rt; device.calls.as_slice(), calls);
     check_eq!(rt; device.inner.as_slice(), bytes);
@@ -52,7 +53,7 @@ fn each_write_and_flush_reaches_the_device_once(rt: HostRuntime) -> Result<(), F
     Ok(())
 }
 
-/// No failure is counted that the device inside didn't give.
+/// Only failures of the wrapped device are counted.
 #[test]
 fn each_failure_is_the_device_s_own(rt: HostRuntime) {
     let alloc = rt.alloc();
@@ -100,7 +101,7 @@ fn all_is_written_and_then_flushed_once(rt: HostRuntime) -> Result<(), Fail> {
     Ok(())
 }
 
-/// Three reads give bytes, and the fourth finds the end.
+/// Three reads return bytes, and the fourth finds the end. Each of the four fails in one run.
 #[test]
 fn a_failed_read_is_no_end(rt: HostRuntime) -> Result<(), Fail> {
     let text = vec![in rt.alloc(); b'x'; 10_000]?;
@@ -114,7 +115,7 @@ fn a_failed_read_is_no_end(rt: HostRuntime) -> Result<(), Fail> {
     Ok(())
 }
 
-/// How long the whole input is, or why it isn't read, and how many reads there are.
+/// The length of the input, or why it can't be read, and the number of reads that return bytes.
 fn read_whole<R: Read + Drop>(alloc: Global, inner: R) -> (Result<usize, ReadFault>, u64) {
     let mut source = Counted::new(inner);
     let read = read_all(alloc, &mut source);
@@ -134,7 +135,7 @@ fn the_longest_input(rt: HostRuntime) {
     check_eq!(rt; read_whole(rt.alloc(), Endless.take(1_048_575)), longest);
 }
 
-/// More than two MiB go through.
+/// The text has more than two MiB.
 #[test]
 fn large_texts_are_read_and_written(rt: HostRuntime) -> Result<(), Fail> {
     let text = vec![in rt.alloc(); b'x'; 2_200_000]?;

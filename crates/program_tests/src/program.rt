@@ -1,4 +1,4 @@
-//! Whole runs of the program, between streams that may fail.
+//! Whole runs of the program, on streams that may fail.
 
 use crossbar5::{Counted, Sink, Source};
 use crossbar5_cli::{Exit, System, Work, run_words};
@@ -23,12 +23,13 @@ codes = ["234 INTRA", "555 OUTA OUTB"]
 faults = []
 "#;
 
-/// A dial tone job that is done alone, and what it comes to under the example plan.
+/// A dial tone job that is alone in the office.
 const FIRST: &str = "J,0,1,D,3041\nS,0,96,,\n";
 
+/// The output for `FIRST` under the example plan.
 const FIRST_TEXT: &str = "0,1,0,D,3041,-,DIALTONE,1,3041-0-417,-\nPATHS,1\nCLOSED,4\n";
 
-/// The plan of each file: the example plan with a faulty junctor.
+/// A system in which every file has the example plan with a faulty junctor.
 const FAULTY: PlanText = PlanText {
     text: r#"version = 1
 groups = ["REG register 417 418 509", "INTRA intra 600-601 700-711", "OUTA outgoing 800", "OUTB outgoing 801 902"]
@@ -38,7 +39,7 @@ faults = ["JU340"]
 "#,
 };
 
-/// A system whose every file has this text.
+/// A system in which every file has this text.
 #[derive(Drop)]
 struct PlanText {
     text: &'static str,
@@ -74,7 +75,7 @@ impl System for RealFiles<'_> {
     fn end(&self) {}
 }
 
-/// Which call of a standard stream fails: the one that follows so many.
+/// Which call of which standard stream fails: the one after this many others.
 #[derive(Clone, Copy)]
 enum Fails {
     Nothing,
@@ -83,7 +84,7 @@ enum Fails {
     Errors(u32),
 }
 
-/// Standard streams, of which one may fail a call.
+/// Standard streams. One call of one of them may fail.
 #[derive(Drop)]
 struct Streams<'i> {
     input: Counted<FailAt<&'i [u8]>>,
@@ -106,7 +107,7 @@ impl<'i> Streams<'i> {
         }
     }
 
-    /// Runs the words behind the program's name, which are parted by spaces.
+    /// Runs the program on the words of a line, which spaces separate.
     fn run<T: Threads + Wait + Sync, S: System>(
         &mut self,
         threads: &T,
@@ -125,12 +126,12 @@ impl<'i> Streams<'i> {
         )
     }
 
-    /// What is on standard output.
+    /// What was written on standard output.
     fn written(&self) -> &str {
         text_in(&self.output)
     }
 
-    /// What is on standard error.
+    /// What was written on standard error.
     fn said(&self) -> &str {
         text_in(&self.errors)
     }
@@ -144,7 +145,7 @@ fn text_in(stream: &Counted<FailAt<Vec<u8>>>) -> &str {
     str::from_utf8(&stream.get_ref().inner).unwrap_or("this is no text")
 }
 
-/// Runs the words behind the program's name between any streams.
+/// Runs the program on the words of a line, with any streams.
 fn run_line<T: Threads + Wait + Sync, S: System, R: Source, W: Sink, E: Sink>(
     threads: &T,
     alloc: Global,

@@ -1,4 +1,4 @@
-//! The text of a run: where memory is refused, and of many records.
+//! Texts of records: when memory is refused, and with many records.
 
 use std::test::Fail;
 use test_tools::{check, check_eq};
@@ -6,8 +6,8 @@ use xbar_equip::Len;
 use xbar_office::{Cards, End, Job, Record, Reply};
 use xbar_report::{ReadFault, read, report};
 
-/// Texts, each with its fault, if it has one: one with three cards and counts, one whose third line is a
-/// card of no record, and one with a wrong turn.
+/// Texts, each with its fault, if it has one: one with three cards and counts, one whose third
+/// line is a card of no record, and one with a wrong turn.
 const TEXTS: &[(&str, Option<ReadFault>)] = &[
     (
         "0,1,0,D,3041,-,TROUBLE,-,-,-\n\
@@ -31,7 +31,7 @@ const TEXTS: &[(&str, Option<ReadFault>)] = &[
     ),
 ];
 
-/// This passes whichever allocation is refused.
+/// Passes whichever allocation is refused.
 #[test]
 fn a_text_is_judged_right_or_memory_is_told(rt: HostRuntime) {
     for (text, wanted) in TEXTS {

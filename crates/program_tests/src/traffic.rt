@@ -5,7 +5,7 @@ use std::test::Fail;
 use test_tools::check_eq;
 use xbar_traffic::{Mode, RowFault, Traffic, TrafficFault};
 
-/// Every job number there is, and some rows of steps behind them.
+/// A row for each job number there is, and then rows of steps.
 fn many_rows(alloc: Global) -> Result<String, AllocError> {
     let mut text = String::new(alloc);
     for job_no in 0..10_000 {

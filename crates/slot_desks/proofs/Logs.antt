@@ -6,11 +6,11 @@ use Rattle.turns.specs.Among.{IsIn}
 use Rattle.turns.proofs.Lists.{in_back}
 use Rattle.turns.specs.Law.{IsLegal}
 use Rattle.turns.specs.World.{ActorOf, RecordOf}
-use Rattle.desks.specs.Desks.{assigned_if, told_record}
+use Rattle.desks.specs.Desks.{assigned_if, as_record}
 use Rattle.desks.specs.Parts.{Begins}
 use Rattle.desks.specs.Reports.{ComesAfter, HasWorked, unreported}
 use Rattle.desks.specs.Views.{DeskView, RoomView, new_desk}
-use Rattle.desks.specs.declared.progress.Told.{Told}
+use Rattle.desks.specs.declared.progress.JobRecord.{JobRecord}
 use Rattle.slots.specs.System.{slots}
 use Rattle.slots.specs.declared.effect.Effect.{Effect}
 use Rattle.slots.specs.declared.job.Job.{Job}
@@ -19,47 +19,47 @@ use Rattle.slot_desks.specs.Driving.{IsAfter, IsLogOf, records}
 abbrev SlotDesk : Type 0
 SlotDesk = DeskView (Unit {0}) ℕ Job (List ℕ) Effect
 
--- a desk works on, whose number has stayed
-pub worked_more : (k n : ℕ) (a b c : ActorOf slots) (s t u told more : List (RecordOf slots))
-    → ((k : ℕ) (a b c : ActorOf slots) (s t u told more : List (RecordOf slots)) → HasWorked slots k a b s t told → HasWorked slots k b c t u more → HasWorked slots k a c s u (told ++ more))
-    → n ≡ k → HasWorked slots k a b s t told → HasWorked slots n b c t u more → HasWorked slots k a c s u (told ++ more)
-worked_more k n a b c s t u told more both same one other = both k a b c s t u told more one (subst (λ (x : ℕ). HasWorked slots x b c t u more) same other)
+-- a desk works on, and its number stays the same
+pub worked_more : (k n : ℕ) (a b c : ActorOf slots) (s t u reported more : List (RecordOf slots))
+    → ((k : ℕ) (a b c : ActorOf slots) (s t u reported more : List (RecordOf slots)) → HasWorked slots k a b s t reported → HasWorked slots k b c t u more → HasWorked slots k a c s u (reported ++ more))
+    → n ≡ k → HasWorked slots k a b s t reported → HasWorked slots n b c t u more → HasWorked slots k a c s u (reported ++ more)
+worked_more k n a b c s t u reported more both same one other = both k a b c s t u reported more one (subst (λ (x : ℕ). HasWorked slots x b c t u more) same other)
 
--- a new desk was told nothing
+-- a new desk has an empty log
 pub new_log : (room : RoomView (Unit {0})) (i : ℕ) (desk : SlotDesk) → desk ≡ new_desk room i → IsLogOf desk []
 new_log room i desk e = subst (λ (d : SlotDesk). IsLogOf d []) (sym e) refl
 
 -- a job of a desk that had learned a note comes after the noted turns
-pub after_noted : (k number : ℕ) (job : Job) (m before after : ActorOf slots) (free : Bool) (noted seen seen_after : List (RecordOf slots)) (result : Option (Told Job (List ℕ)))
+pub after_noted : (k number : ℕ) (job : Job) (m before after : ActorOf slots) (free : Bool) (noted seen seen_after : List (RecordOf slots)) (result : Option (JobRecord Job (List ℕ)))
     → ((earlier r : RecordOf slots) → Begins noted seen → IsIn earlier noted → ComesAfter slots seen seen_after r → IsLegal slots 0 slots.opening seen_after → length seen_after ≤ 2 ^ 64 → earlier.turn < r.turn)
-    → ((told : List (RecordOf slots)) (r : RecordOf slots) → HasWorked slots k before after seen seen_after told → unreported slots k before ≡ [] → IsLegal slots 0 slots.opening seen_after → IsIn r told → ComesAfter slots seen seen_after r)
+    → ((reported : List (RecordOf slots)) (r : RecordOf slots) → HasWorked slots k before after seen seen_after reported → unreported slots k before ≡ [] → IsLegal slots 0 slots.opening seen_after → IsIn r reported → ComesAfter slots seen seen_after r)
     → Begins noted seen → before ≡ assigned_if slots free number job m → free ≡ true → IsLegal slots 0 slots.opening seen_after
-    → HasWorked slots k before after seen seen_after (records (option_to_list result)) → IfSome result (λ told. length seen_after ≤ 2 ^ 64 → IsAfter noted told)
+    → HasWorked slots k before after seen seen_after (records (option_to_list result)) → IfSome result (λ reported. length seen_after ≤ 2 ^ 64 → IsAfter noted reported)
 after_noted k number job m before after free noted seen seen_after None precedes comes begins is taken legal worked = tt
-after_noted k number job m before after free noted seen seen_after (Some told) precedes comes begins is taken legal worked = λ few earlier within.
+after_noted k number job m before after free noted seen seen_after (Some reported) precedes comes begins is taken legal worked = λ few earlier within.
     let none : unreported slots k before ≡ [] = ap (unreported slots k) is ∙ ap (λ (b : Bool). unreported slots k (assigned_if slots b number job m)) taken in
-    precedes earlier (told_record told) begins within (comes (told_record told ∷ []) (told_record told) worked none legal (inl refl)) legal few
+    precedes earlier (as_record reported) begins within (comes (as_record reported ∷ []) (as_record reported) worked none legal (inl refl)) legal few
 
-pub behind_noted : (k number : ℕ) (job : Job) (m before after : ActorOf slots) (free : Bool) (noted seen seen_after : List (RecordOf slots)) (result : Option (Told Job (List ℕ)))
-    → ((told : List (RecordOf slots)) (r : RecordOf slots) → HasWorked slots k before after seen seen_after told → unreported slots k before ≡ [] → IsLegal slots 0 slots.opening seen_after → IsIn r told → ComesAfter slots seen seen_after r)
+pub behind_noted : (k number : ℕ) (job : Job) (m before after : ActorOf slots) (free : Bool) (noted seen seen_after : List (RecordOf slots)) (result : Option (JobRecord Job (List ℕ)))
+    → ((reported : List (RecordOf slots)) (r : RecordOf slots) → HasWorked slots k before after seen seen_after reported → unreported slots k before ≡ [] → IsLegal slots 0 slots.opening seen_after → IsIn r reported → ComesAfter slots seen seen_after r)
     → Begins noted seen → before ≡ assigned_if slots free number job m → free ≡ true → IsLegal slots 0 slots.opening seen_after
-    → HasWorked slots k before after seen seen_after (records (option_to_list result)) → IfSome result (λ told. length seen_after ≤ 2 ^ 64 → length noted ≤ told.turn)
+    → HasWorked slots k before after seen seen_after (records (option_to_list result)) → IfSome result (λ reported. length seen_after ≤ 2 ^ 64 → length noted ≤ reported.turn)
 behind_noted k number job m before after free noted seen seen_after None comes begins is taken legal worked = tt
-behind_noted k number job m before after free noted seen seen_after (Some told) comes begins is taken legal worked = λ few.
+behind_noted k number job m before after free noted seen seen_after (Some reported) comes begins is taken legal worked = λ few.
     let none : unreported slots k before ≡ [] = ap (unreported slots k) is ∙ ap (λ (b : Bool). unreported slots k (assigned_if slots b number job m)) taken in
-    let late = (comes (told_record told ∷ []) (told_record told) worked none legal (inl refl)).turn few in
+    let late = (comes (as_record reported ∷ []) (as_record reported) worked none legal (inl refl)).turn few in
     let long : length seen ≡ length noted + length begins.0 = ap length begins.1 ∙ length-append noted begins.0 in
     omega (arith, late, long)
 
--- what is told of a job that was just assigned is seen
-pub told_seen : (k number : ℕ) (job : Job) (m before after : ActorOf slots) (free : Bool) (seen seen_after : List (RecordOf slots)) (told : Told Job (List ℕ))
-    → ((told : List (RecordOf slots)) (r : RecordOf slots) → HasWorked slots k before after seen seen_after told → unreported slots k before ≡ [] → IsLegal slots 0 slots.opening seen_after → IsIn r told → ComesAfter slots seen seen_after r)
+-- the record that is reported of a job that was just assigned has been seen
+pub told_seen : (k number : ℕ) (job : Job) (m before after : ActorOf slots) (free : Bool) (seen seen_after : List (RecordOf slots)) (reported : JobRecord Job (List ℕ))
+    → ((reported : List (RecordOf slots)) (r : RecordOf slots) → HasWorked slots k before after seen seen_after reported → unreported slots k before ≡ [] → IsLegal slots 0 slots.opening seen_after → IsIn r reported → ComesAfter slots seen seen_after r)
     → before ≡ assigned_if slots free number job m → free ≡ true → IsLegal slots 0 slots.opening seen_after
-    → HasWorked slots k before after seen seen_after (records (told ∷ [])) → IsIn (told_record told) seen_after
-told_seen k number job m before after free seen seen_after told comes is taken legal worked =
+    → HasWorked slots k before after seen seen_after (records (reported ∷ [])) → IsIn (as_record reported) seen_after
+told_seen k number job m before after free seen seen_after reported comes is taken legal worked =
     let none : unreported slots k before ≡ [] = ap (unreported slots k) is ∙ ap (λ (b : Bool). unreported slots k (assigned_if slots b number job m)) taken in
-    let late = comes (told_record told ∷ []) (told_record told) worked none legal (inl refl) in
-    subst (IsIn (told_record told)) (sym late.after_is) (in_back (told_record told) seen late.later late.within)
+    let late = comes (as_record reported ∷ []) (as_record reported) worked none legal (inl refl) in
+    subst (IsIn (as_record reported)) (sym late.after_is) (in_back (as_record reported) seen late.later late.within)
 
 -- what holds of two parts of each item of a list
 pub of_both : {X Y Z : Type 0} (f : X → Y) (g : X → Z) (P : ℕ → Y → Z → Type 0) (xs : List X) → ((i : ℕ) (d : X) → i < length xs → P i (f (slice_index_or xs i d)) (g (slice_index_or xs i d))) → (i : ℕ) → IfSome (slice_get (map f xs) i) (λ y. IfSome (slice_get (map g xs) i) (P i y))

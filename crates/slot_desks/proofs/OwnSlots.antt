@@ -1,10 +1,10 @@
--- a desk that gives back only slots that it has
+-- a desk that frees only slots that it has
 use Rattle.std.proofs.Common.{◌≡◌, ℕ, Bool, true, false, List, [], ◌∷◌, ◌++◌, map, inl, inr, refl, sym, ◌∙◌, ap, subst, append_assoc}
 use Rattle.std.specs.Prelude.{◌==◌, Option, Some, None, IfNone, IfSome, if◌then◌else◌}
 use Rattle.std.proofs.lemmas.Bool.{eq-eqb}
-use Rattle.desks.specs.Desks.{told_record}
+use Rattle.desks.specs.Desks.{as_record}
 use Rattle.desks.specs.Parts.{Begins}
-use Rattle.desks.specs.declared.progress.Told.{Told}
+use Rattle.desks.specs.declared.progress.JobRecord.{JobRecord}
 use Rattle.slots.specs.System.{slots}
 use Rattle.slots.specs.declared.job.Job.{Job}
 use Rattle.slots.specs.declared.job.Job.TheVariants.{Take, TakeBoth, Give}
@@ -14,7 +14,7 @@ use Rattle.turns.specs.Among.{IsIn}
 use Rattle.turns.specs.World.{RecordOf}
 
 abbrev Log : Type 0
-Log = List (Told Job (List ℕ))
+Log = List (JobRecord Job (List ℕ))
 
 -- the slots that a desk has after these records
 abbrev pub had_after : List ℕ → List (RecordOf slots) → List ℕ
@@ -23,7 +23,7 @@ had_after had (r ∷ log) = had_after (has_after had r.job r.reply) log
 
 records_on : (log more : Log) → records (log ++ more) ≡ records log ++ records more
 records_on [] more = refl
-records_on (told ∷ log) more = ap (λ l. told_record told ∷ l) (records_on log more)
+records_on (reported ∷ log) more = ap (λ l. as_record reported ∷ l) (records_on log more)
 
 own_on : (had : List ℕ) (log more : List (RecordOf slots)) → GivesOwn had log → GivesOwn (had_after had log) more → GivesOwn had (log ++ more)
 own_on had [] more one other = other
@@ -44,9 +44,9 @@ pub record HasTaken (log log_after : Log) (taken : List ℕ) : Type 0 where
 
 pub has_taken : (log log_after : Log) (job : Job) (taken : List ℕ) → IsTaking job → GivesOwn [] (records log) → LogsOne log log_after job taken → HasTaken log log_after taken
 has_taken log log_after job taken takes own one =
-    let r = told_record one.told in
+    let r = as_record one.reported in
     let had = had_after [] (records log) in
-    let all : records log_after ≡ records log ++ told_record one.told ∷ [] = ap records one.log_is ∙ records_on log (one.told ∷ []) in
+    let all : records log_after ≡ records log ++ as_record one.reported ∷ [] = ap records one.log_is ∙ records_on log (one.reported ∷ []) in
     let its = takes had taken in
     record {
       own = subst (GivesOwn []) (sym all) (own_on [] (records log) (r ∷ []) own (subst (GivesIts had) (sym one.job_is) its.0, tt));
@@ -70,18 +70,18 @@ first_same x y xs ys e = (ap first e, ap rest e) where
 without_first : (slot : ℕ) (had : List ℕ) → without slot (slot ∷ had) ≡ had
 without_first slot had = ap (λ (b : Bool). if b then had else slot ∷ without slot had) (eq-eqb slot slot refl)
 
--- slots that a desk has come by last are its own to give back, in their order
-give_these : (taken had : List ℕ) (given : Log) → Begins (map (λ told. told.job) given) (map Give taken) → GivesOwn (taken ++ had) (records given)
+-- slots that a desk took last are its own to free, in their order
+give_these : (taken had : List ℕ) (given : Log) → Begins (map (λ reported. reported.job) given) (map Give taken) → GivesOwn (taken ++ had) (records given)
 give_these taken had [] begins = tt
-give_these [] had (told ∷ given) begins = absurd (none_first begins.1) where
-  none_first : ◌≡◌ {A = List Job} [] (told.job ∷ (map (λ told. told.job) given ++ begins.0)) → ⊥
+give_these [] had (reported ∷ given) begins = absurd (none_first begins.1) where
+  none_first : ◌≡◌ {A = List Job} [] (reported.job ∷ (map (λ reported. reported.job) given ++ begins.0)) → ⊥
   none_first e = cc
-give_these (slot ∷ taken) had (told ∷ given) begins =
-    let same = first_same (Give slot) told.job (map Give taken) (map (λ told. told.job) given ++ begins.0) begins.1 in
-    let left : has_after (slot ∷ (taken ++ had)) told.job told.reply ≡ taken ++ had = ap (λ (job : Job). has_after (slot ∷ (taken ++ had)) job told.reply) (sym same.0) ∙ without_first slot (taken ++ had) in
+give_these (slot ∷ taken) had (reported ∷ given) begins =
+    let same = first_same (Give slot) reported.job (map Give taken) (map (λ reported. reported.job) given ++ begins.0) begins.1 in
+    let left : has_after (slot ∷ (taken ++ had)) reported.job reported.reply ≡ taken ++ had = ap (λ (job : Job). has_after (slot ∷ (taken ++ had)) job reported.reply) (sym same.0) ∙ without_first slot (taken ++ had) in
     (subst (GivesIts (slot ∷ (taken ++ had))) same.0 (inl refl), subst (λ (l : List ℕ). GivesOwn l (records given)) (sym left) (give_these taken had given (begins.0, same.1)))
 
--- so it is after a job that took slots, and those that give them back
+-- the same after a job that took slots, and the jobs that freed them
 pub gave_own : (log between log_after : Log) (job : Job) (taken : List ℕ) → IsTaking job → GivesOwn [] (records log) → LogsOne log between job taken → LogsGiving between log_after taken → GivesOwn [] (records log_after)
 gave_own log between log_after job taken takes own one giving =
     let took = has_taken log between job taken takes own one in
@@ -100,24 +100,24 @@ pub takes_either : (b : Bool) → IsTaking (if b then Take else TakeBoth)
 takes_either true = takes_one
 takes_either false = takes_both
 
--- what is logged of slots that are given back
+-- what is logged when slots are freed
 pub gave_none : (log log_after : Log) (taken : List ℕ) → log_after ≡ log → LogsGiving log log_after taken
 gave_none log log_after taken same = record { given = []; log_is = same ∙ sym (none_behind log); jobs_are = (map Give taken, refl) } where
   none_behind : (l : Log) → l ++ [] ≡ l
   none_behind [] = refl
-  none_behind (told ∷ l) = ap (λ (m : Log). told ∷ m) (none_behind l)
+  none_behind (reported ∷ l) = ap (λ (m : Log). reported ∷ m) (none_behind l)
 
 pub gave_first : (log log_after : Log) (slot : ℕ) (more reply : List ℕ) → LogsOne log log_after (Give slot) reply → LogsGiving log log_after (slot ∷ more)
-gave_first log log_after slot more reply one = record { given = one.told ∷ []; log_is = one.log_is; jobs_are = (map Give more, ap (λ (job : Job). job ∷ map Give more) (sym one.job_is)) }
+gave_first log log_after slot more reply one = record { given = one.reported ∷ []; log_is = one.log_is; jobs_are = (map Give more, ap (λ (job : Job). job ∷ map Give more) (sym one.job_is)) }
 
 pub gave_both : (log between log_after : Log) (slot other : ℕ) (reply more : List ℕ) → LogsOne log between (Give slot) reply → LogsOne between log_after (Give other) more → LogsGiving log log_after (slot ∷ other ∷ [])
 gave_both log between log_after slot other reply more one two = record {
-  given = one.told ∷ two.told ∷ [];
-  log_is = two.log_is ∙ ap (λ (l : Log). l ++ two.told ∷ []) one.log_is ∙ append_assoc log (one.told ∷ []) (two.told ∷ []);
+  given = one.reported ∷ two.reported ∷ [];
+  log_is = two.log_is ∙ ap (λ (l : Log). l ++ two.reported ∷ []) one.log_is ∙ append_assoc log (one.reported ∷ []) (two.reported ∷ []);
   jobs_are = ([], (λ i. sym one.job_is i ∷ sym two.job_is i ∷ []));
 }
 
--- what is given back of one slot, and of another once the first was
+-- one slot is freed, and another once the first was
 pub gave_this : {T : Type 0} (slots_of : T → List ℕ) (result : Option T) (log log_after : Log) (slot : ℕ) (more : List ℕ) → IfSome result (λ taken. LogsOne log log_after (Give slot) (slots_of taken)) → IfNone result (log_after ≡ log) → LogsGiving log log_after (slot ∷ more)
 gave_this slots_of (Some taken) log log_after slot more one same = gave_first log log_after slot more (slots_of taken) one
 gave_this slots_of None log log_after slot more one same = gave_none log log_after (slot ∷ more) same

@@ -1,4 +1,4 @@
--- where each desk gives back only slots that it has, no two have one slot at once
+-- if each desk frees only slots that it has, no two have a slot at the same time
 use Rattle.std.proofs.Common.{◌≡◌, ◌≢◌, ℕ, zero, suc, ◌<◌, ◌≤◌, ◌⊎◌, Bool, true, false, List, [], ◌∷◌, ◌++◌, length, inl, inr, refl, sym, ◌∙◌, ap, subst, arith, ne_eqb}
 use Rattle.std.specs.Prelude.{◌==◌, ◌||◌, ◌&&◌, not, Option, Some, None, IfSome, option_to_list, slice_get, if◌then◌else◌}
 use Rattle.std.proofs.lemmas.Bool.{eqb-true, eq-eqb}
@@ -51,7 +51,7 @@ distinct_both : (xs ys : List ℕ) → AreDistinct xs → AreDistinct ys → ((x
 distinct_both [] ys one other apart = other
 distinct_both (x ∷ xs) ys one other apart = ((λ within. elim (in_either x xs ys within) [ inl front ↦ one.0 front | inr back ↦ apart x (inl refl) back ]), distinct_both xs ys one.1 other (λ y front back. apart y (inr front) back))
 
--- slots that a job takes are free, and are not twice among these
+-- slots that a job takes are free, and none of them occurs twice
 or_false : (a b : Bool) → (a || b) ≡ false → b ≡ false
 or_false true b e = absurd (true≢false e)
 or_false false b e = e
@@ -128,7 +128,7 @@ module _ (state : Busy) (had : ℕ → List ℕ) (k : ℕ) (held : AreHeld state
       distinct = λ i. distinct_still i (k == i);
     }
 
-  -- it stays so whatever job is done, if only slots of one's own are given back
+  -- this stays so whatever job is done, if its desk frees only slots of its own
   job_held : (job : Job) (reply : List ℕ) → reply ≡ (whole state job).reply → GivesIts (had k) job → AreHeld (whole state job).state (had_with had k job reply)
   job_held Take reply is its =
       let taken = option_to_list (lowest_free state 0 SLOT_COUNT) in
@@ -146,7 +146,7 @@ module _ (state : Busy) (had : ℕ → List ℕ) (k : ℕ) (held : AreHeld state
   takes_other a slot TakeBoth old new = clash TakeBoth (both_of (lowest_free state 0 BANK_SIZE) (lowest_free state BANK_SIZE BANK_SIZE)) (λ l. refl) (both_free state (lowest_free state 0 BANK_SIZE) (lowest_free state BANK_SIZE BANK_SIZE) refl refl) a slot new old
   takes_other a slot (Give gone) old none = none
 
--- each desk, from what it has, gives back only slots of its own in an order
+-- in this order each desk frees only slots of its own, if these are what it has at first
 abbrev AllOwn : (ℕ → List ℕ) → Order → Type 0
 AllOwn had order = (i : ℕ) → GivesOwn (had i) (own i order)
 
@@ -162,7 +162,7 @@ own_tail had r order all i = by (r.actor == i) (all i) where
   by true its = its.1
   by false its = its
 
--- where an order has come to
+-- the state that an order has reached, before the rest of it
 record HasReached (rest : Order) : Type 0 where
   pub place : ℕ
   pub state : Busy
@@ -185,14 +185,14 @@ reach : (before rest : Order) → HasReached (before ++ rest) → HasReached res
 reach [] rest now = now
 reach (r ∷ before) rest now = reach before rest (step_on r (before ++ rest) now)
 
--- the record by which a desk gives a slot back
+-- the record of the job by which a desk frees a slot
 pub record GivesItBack (actor slot : ℕ) (between : Order) : Type 0 where
   pub back : RecordOf slots
   pub within : IsIn back between
   pub gives : back.job ≡ Give slot
   pub by : back.actor ≡ actor
 
--- a desk keeps a slot unless it gives it back
+-- a desk keeps a slot unless it frees it
 keeps_or_gives : (had : ℕ → List ℕ) (a slot k : ℕ) (job : Job) (reply : List ℕ) → IsIn slot (had a) → ((k ≡ a) × (job ≡ Give slot)) ⊎ IsIn slot (had_with had k job reply a)
 keeps_or_gives had a slot k job reply its = by (k == a) refl job where
   by : (b : Bool) → (k == a) ≡ b → (job : Job) → ((k ≡ a) × (job ≡ Give slot)) ⊎ IsIn slot (had_if b (had a) job reply)
@@ -216,7 +216,7 @@ took_its had state slot k job reply is within = by (k == k) (eq-eqb k k refl) jo
   by true e TakeBoth is = in_front slot reply (had k) within
   by true e (Give gone) is = absurd (subst (IsIn slot) is within)
 
--- a desk that took a slot gives it back before it is taken again
+-- a desk that took a slot frees it before it is taken again
 pub given_by_its_taker : (order before between later : Order) (r other : RecordOf slots) (slot : ℕ) → IsLegal slots 0 slots.opening order → AllOwn (λ i. []) order → order ≡ before ++ r ∷ (between ++ other ∷ later) → Took slot r → Took slot other → GivesItBack r.actor slot between
 given_by_its_taker order before between later r other slot legal all is took too =
     let rest = between ++ other ∷ later in
@@ -224,7 +224,7 @@ given_by_its_taker order before between later r other slot legal all is took too
     let now = reach before (r ∷ rest) first in
     given_by r.actor slot other later between too (step_on r rest now) (took_its now.had now.state slot r.actor r.job r.reply now.legal.2 took)
 
--- logs that make up an order, of desks that give back only slots of their own
+-- logs that make up an order, of desks that free only slots of their own
 none_own : (order : Order) (i count : ℕ) → ((r : RecordOf slots) → IsIn r order → r.actor < count) → count ≤ i → own i order ≡ []
 none_own [] i count theirs above = refl
 none_own (r ∷ order) i count theirs above =

@@ -1,4 +1,4 @@
--- a slot that two logged jobs took was given back in between, by a logged job
+-- a slot that two logged jobs took was freed in between, by a logged job
 use Rattle.std.proofs.Common.{◌≡◌, ℕ, suc, ◌+◌, ◌≤◌, ◌<◌, ◌^◌, ◌%◌, List, [], ◌∷◌, ◌++◌, length, length-append, inl, inr, refl, sym, ◌∙◌, ap, subst, arith}
 use Rattle.turns.specs.Among.{IsIn}
 use Rattle.turns.specs.Law.{IsLegal}
@@ -16,7 +16,7 @@ use Rattle.slot_desks.proofs.Owners.{given_by_its_taker, logs_own}
 abbrev Order : Type 0
 Order = List (RecordOf slots)
 
--- an order before and behind one of its records
+-- an order, split before and after one of its records
 record IsSplit (order : Order) (r : RecordOf slots) : Type 0 where
   before : Order
   rest : Order
@@ -27,7 +27,7 @@ split [] r within = absurd within
 split (x ∷ order) r (inl e) = record { before = []; rest = order; order_is = ap (λ (y : RecordOf slots). y ∷ order) (sym e) }
 split (x ∷ order) r (inr later) = let s = split order r later in record { before = x ∷ s.before; rest = s.rest; order_is = ap (λ (l : Order). x ∷ l) s.order_is }
 
--- the record that gives a slot back
+-- the record of a job that frees a slot
 record GivesBack (slot : ℕ) (between : Order) : Type 0 where
   back : RecordOf slots
   within : IsIn back between
@@ -47,7 +47,7 @@ turn_is before rest r legal few =
     let same : (0 + length before) % 2 ^ 64 ≡ 0 + length before = omega (arith, small) in
     omega (arith, behind.legal.1, same)
 
--- of two records the one with the later turn stands behind the other
+-- of two records, the one with the later turn comes after the other in the order
 behind : (before rest : Order) (r other : RecordOf slots) → IsLegal slots 0 slots.opening (before ++ r ∷ rest) → length (before ++ r ∷ rest) ≤ 2 ^ 64 → r.turn < other.turn → IsIn other (before ++ r ∷ rest) → IsIn other rest
 behind before rest r other legal few later within = elim (in_either other before (r ∷ rest) within) [
   | inl front ↦
@@ -59,7 +59,7 @@ behind before rest r other legal few later within = elim (in_either other before
   | inr (inr rest) ↦ rest
 ]
 
--- what stands between two records has a turn between theirs
+-- a record between two others has a turn between theirs
 module _ (before between later : Order) (r other : RecordOf slots) (legal : IsLegal slots 0 slots.opening (before ++ r ∷ (between ++ other ∷ later))) (few : length (before ++ r ∷ (between ++ other ∷ later)) ≤ 2 ^ 64) where
   turn_between : (back : RecordOf slots) → IsIn back between → (r.turn < back.turn) × (back.turn < other.turn)
   turn_between back within =

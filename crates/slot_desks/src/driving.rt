@@ -1,4 +1,4 @@
-//! Desks that take slots and give them back.
+//! Drives desks: they take slots, free them again, and log the records of their jobs.
 
 ghost use Rattle.std.specs.Prelude.{◌≡◌, ◌≤◌, ◌<◌, ◌+◌, ◌^◌, ◌%◌, ◌==◌, [], if◌then◌else◌, IfNone, IfSome, Some, length, option_to_list, vec_capacity, vec_len};
 ghost use Rattle.desks.specs.Met.{AreIdle, IsIdleDesk};
@@ -12,30 +12,33 @@ ghost use Rattle.slots.specs.declared.job.Job.TheVariants.{Give, Take, TakeBoth}
 ghost use Rattle.slots.specs.System.{IsJob, slots};
 
 use crate::jobs::SlotJobs;
-use desks::{Desk, Note, Progress, Room, Told, laws};
+use desks::{Desk, JobRecord, Note, Progress, Room, laws};
 use slots::bank::SLOT_COUNT;
 use slots::{Job, Taken, UpToTwo};
 use std::thread;
 
-/// The desks of slots, and the records that they report of jobs that have ended.
+/// The shared words of the slots.
 pub type SlotRoom = Room<SlotJobs>;
 
+/// A worker's handle to the slots.
 pub type SlotDesk = Desk<SlotJobs>;
 
-pub type SlotTold = Told<Job, Taken>;
+/// The record of a job of the slots.
+pub type SlotRecord = JobRecord<Job, Taken>;
 
-/// How often a desk begins a job anew before it gives up.
+/// The number of times that a desk begins a job anew before it gives up.
 const TRIES: u32 = 100_000_000;
 
-/// A desk at work, and the records of the jobs that it has ended.
+/// A desk at work, and a log of the jobs that it has ended.
 #[derive(Drop)]
 pub struct Shift {
     pub desk: SlotDesk,
-    pub log: Vec<SlotTold>,
+    pub log: Vec<SlotRecord>,
 }
 
-/// Makes the desk's steps until its job has ended, or so many of them.
-pub fn finish(room: &SlotRoom, desk: &mut SlotDesk, most: u32) -> Option<SlotTold>
+/// Makes the desk's steps until its job has ended, but at most `most` of them. Returns the job's
+/// record, or None if the job has not ended or the desk was idle.
+pub fn finish(room: &SlotRoom, desk: &mut SlotDesk, most: u32) -> Option<SlotRecord>
     requires { IsDeskOf desk.old room.now tt }
     ensures desk { IsDeskOf desk.new room.now tt }
     ensures number { desk.new.number ≡ desk.old.number }
@@ -43,7 +46,7 @@ pub fn finish(room: &SlotRoom, desk: &mut SlotDesk, most: u32) -> Option<SlotTol
         desk.new.seen (records (option_to_list result)) }
     ensures job { job_of slots desk.new.actor ≡ job_of slots desk.old.actor }
     ensures its_job { IfSome result
-        (λ told. job_of slots desk.old.actor ≡ Some (told.number, told.job)) }
+        (λ reported. job_of slots desk.old.actor ≡ Some (reported.number, reported.job)) }
 {
     laws::desks_report_their_records::<SlotJobs>();
     laws::reports_are_of_assigned_jobs::<SlotJobs>();
@@ -51,15 +54,16 @@ pub fn finish(room: &SlotRoom, desk: &mut SlotDesk, most: u32) -> Option<SlotTol
         match desk.advance(room, &()) {
             Progress::Idle => return None,
             Progress::Moved(_) => {}
-            Progress::Finished(told) => return Some(told),
+            Progress::Finished(reported) => return Some(reported),
         }
     }
     None
 }
 
-/// Makes the desk's steps until its job has ended. Each time that it has not for a while, the desk
-/// gives back what it holds, so that no desk waits for it, and lets other threads run.
-pub fn persist(room: &SlotRoom, desk: &mut SlotDesk) -> Option<SlotTold>
+/// Makes the desk's steps until its job has ended. If that takes long, the desk now and then gives
+/// back what it holds, so that other desks can go on, and lets other threads run. Returns None if
+/// the job has not ended after a very large number of attempts.
+pub fn persist(room: &SlotRoom, desk: &mut SlotDesk) -> Option<SlotRecord>
     requires { IsDeskOf desk.old room.now tt }
     ensures desk { IsDeskOf desk.new room.now tt }
     ensures number { desk.new.number ≡ desk.old.number }
@@ -67,15 +71,15 @@ pub fn persist(room: &SlotRoom, desk: &mut SlotDesk) -> Option<SlotTold>
         desk.new.seen (records (option_to_list result)) }
     ensures job { job_of slots desk.new.actor ≡ job_of slots desk.old.actor }
     ensures its_job { IfSome result
-        (λ told. job_of slots desk.old.actor ≡ Some (told.number, told.job)) }
+        (λ reported. job_of slots desk.old.actor ≡ Some (reported.number, reported.job)) }
 {
     laws::desks_report_their_records::<SlotJobs>();
     laws::reports_are_of_assigned_jobs::<SlotJobs>();
-    // Each desk waits for a while of its own, lest two keep in step.
+    // Each of up to eight desks has a patience of its own, lest two stay in lockstep.
     let patience = 30 + 7 * (desk.number() % 8);
     for _ in 0..TRIES {
-        if let Some(told) = finish(room, desk, patience) {
-            return Some(told);
+        if let Some(reported) = finish(room, desk, patience) {
+            return Some(reported);
         }
         desk.give_back(room, &());
         thread::yield_now();
@@ -83,24 +87,26 @@ pub fn persist(room: &SlotRoom, desk: &mut SlotDesk) -> Option<SlotTold>
     None
 }
 
-/// Learns a note and then does a job: its turn comes after all turns that the note has, whichever
-/// thread gave it.
+/// Learns a note, and then does a job: the job's turn comes after all turns that the note has,
+/// whichever thread wrote it. None if the desk is at another job, or the job has not ended.
 pub fn do_after(
     room: &SlotRoom,
     desk: &mut SlotDesk,
     note: Note<SlotJobs>,
     number: u64,
     job: Job,
-) -> Option<SlotTold>
+) -> Option<SlotRecord>
     requires desk { IsDeskOf desk.old room.now tt }
     requires note { note.table ≡ room.now.table }
     requires job { IsJob job }
     ensures desk { IsDeskOf desk.new room.now tt }
     ensures number { desk.new.number ≡ desk.old.number }
-    ensures after { IfSome result (λ told. length desk.new.seen ≤ 2 ^ 64 → IsAfter note.seen told) }
-    ensures behind { IfSome result (λ told.
-        length desk.new.seen ≤ 2 ^ 64 → length note.seen ≤ told.turn) }
-    ensures its_job { IfSome result (λ told. (told.number ≡ number) × (told.job ≡ job)) }
+    ensures after { IfSome result
+        (λ reported. length desk.new.seen ≤ 2 ^ 64 → IsAfter note.seen reported) }
+    ensures behind { IfSome result (λ reported.
+        length desk.new.seen ≤ 2 ^ 64 → length note.seen ≤ reported.turn) }
+    ensures its_job { IfSome result
+        (λ reported. (reported.number ≡ number) × (reported.job ≡ job)) }
 {
     laws::desks_report_their_records::<SlotJobs>();
     laws::reports_are_of_assigned_jobs::<SlotJobs>();
@@ -109,13 +115,14 @@ pub fn do_after(
     if !desk.assign(number, job) {
         return None;
     }
-    let told = persist(room, desk);
+    let reported = persist(room, desk);
     // Called for its clause that what the desk has seen is legal.
     let _number = desk.number();
-    told
+    reported
 }
 
-/// Does one job and logs its record. None if there is no room for a record, or the job has not ended.
+/// Does one job, logs its record, and returns the slots that it took. None if the log has no room,
+/// the desk is at another job, or the job has not ended.
 fn work(room: &SlotRoom, shift: &mut Shift, number: u64, job: Job) -> Option<UpToTwo<u32>>
     requires desk { IsDeskOf shift.old.desk room.now tt }
     requires job { IsJob job }
@@ -130,19 +137,20 @@ fn work(room: &SlotRoom, shift: &mut Shift, number: u64, job: Job) -> Option<UpT
 {
     laws::desks_report_their_records::<SlotJobs>();
     laws::reports_are_of_assigned_jobs::<SlotJobs>();
-    // No job is begun whose record there is no room for.
+    // A job is begun only if its record has room.
     if shift.log.reserve(1).is_err() {
         return None;
     }
     if !shift.desk.assign(number, job) {
         return None;
     }
-    let told = persist(room, &mut shift.desk)?;
-    let taken = told.reply.slots();
-    shift.log.push_reserved(told);
+    let reported = persist(room, &mut shift.desk)?;
+    let taken = reported.reply.slots();
+    shift.log.push_reserved(reported);
     Some(taken)
 }
 
+/// Frees a slot and logs the record, like `work`. None also if there is no slot of this number.
 fn give(room: &SlotRoom, shift: &mut Shift, number: u64, slot: u32) -> Option<UpToTwo<u32>>
     requires desk { IsDeskOf shift.old.desk room.now tt }
     requires log { IsLogOf shift.old.desk shift.old.log.items }
@@ -161,7 +169,7 @@ fn give(room: &SlotRoom, shift: &mut Shift, number: u64, slot: u32) -> Option<Up
     }
 }
 
-/// Gives back the slots that a job took, in their order, up to the first that it cannot.
+/// Frees the slots that a job took, in their order, up to the first for which that fails.
 fn give_each(
     room: &SlotRoom,
     shift: &mut Shift,
@@ -186,7 +194,7 @@ fn give_each(
     }
 }
 
-/// What a desk takes in a round: by turns one slot, or one of each bank.
+/// The job of a round: in even rounds to take one slot, in odd rounds one of each bank.
 fn job_of_round(round: u64) -> Job
     ensures { result ≡ (if round % 2 == 0 then Take else TakeBoth) }
 {
@@ -197,7 +205,7 @@ fn job_of_round(round: u64) -> Job
     }
 }
 
-/// Takes slots and gives them back.
+/// One round: takes slots and frees them.
 fn take_and_give_once(room: &SlotRoom, shift: &mut Shift, round: u64)
     requires desk { IsDeskOf shift.old.desk room.now tt }
     requires log { IsLogOf shift.old.desk shift.old.log.items }
@@ -212,8 +220,8 @@ fn take_and_give_once(room: &SlotRoom, shift: &mut Shift, round: u64)
     }
 }
 
-/// Takes slots and gives them back, so many times, and then takes a slot that it keeps. It gives back
-/// only slots that it has taken. A desk that does not come to the end of a job stays at it.
+/// Takes slots and frees them, `rounds` times, and then takes a slot to keep. The desk frees only
+/// slots that it has taken. If one of its jobs does not end, the desk stays at that job.
 pub fn take_and_give(room: &SlotRoom, mut shift: Shift, rounds: u64) -> Shift
     requires desk { IsDeskOf shift.desk room.now tt }
     requires log { IsLogOf shift.desk shift.log.items }
@@ -230,7 +238,7 @@ pub fn take_and_give(room: &SlotRoom, mut shift: Shift, rounds: u64) -> Shift
     shift
 }
 
-/// The last of the desks that a room opened with.
+/// Takes the last desk out of those that a room opened with, at the index of its number.
 pub fn last_desk(_room: &SlotRoom, desks: &mut Vec<SlotDesk>) -> Option<SlotDesk>
     requires { AreNewDesks _room.now desks.old.items }
     ensures rest { AreNewDesks _room.now desks.new.items }
@@ -240,7 +248,7 @@ pub fn last_desk(_room: &SlotRoom, desks: &mut Vec<SlotDesk>) -> Option<SlotDesk
     desks.pop()
 }
 
-/// One more desk that is idle, for the shutting of a room.
+/// Appends an idle desk, whose number is its index, to those with which a room is to be shut.
 pub fn put_desk(_room: &SlotRoom, desks: &mut Vec<SlotDesk>, desk: SlotDesk)
     requires desks { AreIdle slots _room.now.table tt desks.old.items }
     requires desk { IsIdleDesk slots _room.now.table tt (vec_len desks.old) desk }
@@ -252,8 +260,9 @@ pub fn put_desk(_room: &SlotRoom, desks: &mut Vec<SlotDesk>, desk: SlotDesk)
     desks.push_reserved(desk);
 }
 
-/// One step of a desk at work, or its next job.
-fn go_on(room: &SlotRoom, desk: &mut SlotDesk, number: u64, log: &mut Vec<SlotTold>)
+/// Makes a step of the desk's job, and logs the record if that ends the job. Assigns the next job
+/// if the desk is idle.
+fn go_on(room: &SlotRoom, desk: &mut SlotDesk, number: u64, log: &mut Vec<SlotRecord>)
     requires { IsDeskOf desk.old room.now tt }
     ensures desk { IsDeskOf desk.new room.now tt }
     ensures number { desk.new.number ≡ desk.old.number }
@@ -269,23 +278,23 @@ fn go_on(room: &SlotRoom, desk: &mut SlotDesk, number: u64, log: &mut Vec<SlotTo
             desk.assign(number, job);
         }
         Progress::Moved(_) => {}
-        Progress::Finished(told) => {
-            if log.push(told).is_err() {
+        Progress::Finished(reported) => {
+            if log.push(reported).is_err() {
                 return;
             }
         }
     }
 }
 
-/// Two desks at work in turn, so many steps of the one, and twice as many of the other. Were there
-/// as many, each step of the one would change the word that the other expects, and neither would
-/// come far.
-pub fn in_turn(
+/// Has two desks work alternately, `steps` times: one step of the first, then two of the second.
+/// With one step each, each would keep changing the lock's word that the other expects, and
+/// neither would get far.
+pub fn alternate(
     room: &SlotRoom,
     one: &mut SlotDesk,
     other: &mut SlotDesk,
     steps: u64,
-    log: &mut Vec<SlotTold>,
+    log: &mut Vec<SlotRecord>,
 )
     requires one { IsDeskOf one.old room.now tt }
     requires other { IsDeskOf other.old room.now tt }

@@ -1,4 +1,5 @@
-//! What holds of the slots that threads took. The functions do nothing: their contracts are the laws.
+//! Laws: lemmas about the slots that threads took. The functions do nothing; their contracts are
+//! the statements.
 
 ghost use Rattle.std.specs.Prelude.{◌≡◌, ◌≤◌, ◌<◌, ◌^◌, ◌/◌, ◌%◌, ◌==◌, ℕ, List, length, slice_index};
 ghost use Rattle.std.specs.Int.{bit_at};
@@ -16,9 +17,9 @@ ghost use Rattle.slot_desks.specs.Ended.{AllGiveOwn, NoneHadTwice, NoneTakenTwic
 use crate::jobs::SlotJobs;
 use slots::bank::{BANK_SIZE, SLOT_COUNT};
 
-/// No slot is taken twice, whichever threads took it: between two logged jobs that took one slot, a
-/// logged job gave it back. If each desk gave back only slots that it had, then it was given back by
-/// the desk that had taken it, so no two desks have one slot at once.
+/// No slot is taken twice, whichever threads took it: between two logged jobs that took the same
+/// slot, a logged job freed it. If each desk freed only slots that it had, then that job was of
+/// the desk that took the slot first, so no two desks have a slot at the same time.
 pub fn no_slot_is_taken_twice()
     ensures once { (logs : List (List (RecordOf slots))) (order : List (RecordOf slots))
         → IsLegal slots 0 slots.opening order → MakeUp slots logs order → length order ≤ 2 ^ 64
@@ -30,8 +31,8 @@ pub fn no_slot_is_taken_twice()
     desks::laws::reports_make_up_the_order::<SlotJobs>();
 }
 
-/// A room was shut while desks were at jobs. The word of a bank whose lock nobody holds shows which of
-/// its slots are taken after all turns, whoever holds the other bank's lock.
+/// Even if a room is shut amid jobs, the word of a bank whose lock nobody holds shows which of the
+/// bank's slots are taken after all turns, whoever holds the other bank's lock.
 pub fn shut_banks_show_their_slots()
     ensures { (desks : List (DeskView (Unit {0}) ℕ Job (List ℕ) Effect)) (words : List ℕ)
         (shut : AreShut slots desks words) (slot : ℕ) → slot < SLOT_COUNT

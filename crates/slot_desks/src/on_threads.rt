@@ -1,4 +1,4 @@
-//! Desks at work at once.
+//! Desks that work on threads at the same time, and the shutting of their room.
 
 ghost use Rattle.std.specs.List.{list_all};
 ghost use Rattle.std.specs.Prelude.{◌≡◌, ◌<◌, [], IfOk, IfSome, is_some, map, vec_len};
@@ -8,7 +8,7 @@ ghost use Rattle.desks.specs.Views.{AreNew, IsDeskOf};
 ghost use Rattle.slot_desks.specs.Driving.{AreAtWork, IsLogOf, records};
 ghost use Rattle.slot_desks.specs.Ended.{AllGiveOwn, GivesOwn, HaveEnded};
 ghost use Rattle.slots.specs.System.{slots};
-ghost use Rattle.turns.specs.Runs.{is_free};
+ghost use Rattle.turns.specs.Runs.{is_available};
 
 use crate::driving::{Shift, SlotDesk, SlotRoom, take_and_give};
 use crate::jobs::SlotJobs;
@@ -17,7 +17,8 @@ use desks::{Jobs, laws, shut_all_into};
 use std::alloc::{AllocError, Global};
 use std::thread::{Threads, map_vec};
 
-/// Takes slots and gives them back, each desk on a thread of its own where one can be made.
+/// Has all desks take slots and free them, each on a thread of its own if one can be made.
+/// Returns them in their order, with their logs.
 pub fn take_and_give_at_once<R: Threads + Sync>(
     rt: &R,
     alloc: Global,
@@ -29,7 +30,8 @@ pub fn take_and_give_at_once<R: Threads + Sync>(
     ensures desks { IfOk result (λ shifts.
         AreAtWork room.now (map (λ shift. shift.desk) shifts.items)) }
     ensures logs { IfOk result (λ shifts. HaveLogs slots
-        (map (λ shift. shift.desk) shifts.items) (map (λ shift. records shift.log.items) shifts.items)) }
+        (map (λ shift. shift.desk) shifts.items)
+        (map (λ shift. records shift.log.items) shifts.items)) }
     ensures own { IfOk result (λ shifts.
         AllGiveOwn (map (λ shift. records shift.log.items) shifts.items)) }
     ensures len { IfOk result (λ shifts. vec_len shifts ≡ vec_len desks) }
@@ -55,8 +57,8 @@ pub fn take_and_give_at_once<R: Threads + Sync>(
     Ok(shifts)
 }
 
-/// Shuts the room with the desks of shifts and gives its words, or None where one is still at a job. No
-/// slot was taken twice unless it was given back in between, and the logs tell of each job.
+/// Shuts the room with the desks of shifts, and returns its words, or None if a desk is still at a
+/// job. No slot was taken twice unless it was freed in between, and each job is in a log.
 pub fn shut_shifts(
     alloc: Global,
     room: SlotRoom,
@@ -69,7 +71,7 @@ pub fn shut_shifts(
     ensures ended { IfOk result (λ ended. IfSome ended (λ words.
         HaveEnded (map (λ shift. records shift.log.items) shifts.items) words.items)) }
     ensures some { IfOk result (λ ended. is_some ended
-        ≡ list_all (λ shift. is_free slots shift.desk.actor) shifts.items) }
+        ≡ list_all (λ shift. is_available slots shift.desk.actor) shifts.items) }
 {
     no_slot_is_taken_twice();
     laws::reports_make_up_the_order::<SlotJobs>();
@@ -80,6 +82,7 @@ pub fn shut_shifts(
     Ok(Some(shut_all_into(words, room, &(), desks)))
 }
 
+/// The desks of shifts, in their order; drops the logs.
 fn desks_of(alloc: Global, shifts: Vec<Shift>) -> Result<Vec<SlotDesk>, AllocError>
     ensures { IfOk result (λ desks. desks.items ≡ map (λ shift. shift.desk) shifts.items) }
 {
@@ -87,12 +90,12 @@ fn desks_of(alloc: Global, shifts: Vec<Shift>) -> Result<Vec<SlotDesk>, AllocErr
 }
 
 fn are_idle(desks: &[SlotDesk]) -> bool
-    ensures { result ≡ list_all (λ desk. is_free slots desk.actor) desks.now }
+    ensures { result ≡ list_all (λ desk. is_available slots desk.actor) desks.now }
 {
     desks.iter().all(|desk| desk.is_idle())
 }
 
-/// The desks of shifts in their order, or None where one is still at a job.
+/// The desks of shifts, in their order, or None if one is still at a job.
 #[tactic(auto, using(crate::proofs::Shifts::all_idle))]
 pub fn idle_desks(
     alloc: Global,
@@ -105,7 +108,7 @@ pub fn idle_desks(
     ensures desks { IfOk result (λ ended.
         IfSome ended (λ desks. desks.items ≡ map (λ shift. shift.desk) shifts.items)) }
     ensures some { IfOk result (λ ended. is_some ended
-        ≡ list_all (λ shift. is_free slots shift.desk.actor) shifts.items) }
+        ≡ list_all (λ shift. is_available slots shift.desk.actor) shifts.items) }
     ensures len { IfOk result (λ ended. IfSome ended (λ desks. vec_len desks ≡ vec_len shifts)) }
 {
     let desks = desks_of(alloc, shifts)?;

@@ -28,7 +28,7 @@ lowest_split busy from (suc a) b =
     ∙ first_of (busy from) from (lowest_free busy (suc from) (a + b)) (lowest_free busy (suc from) a) (lowest_free busy (from + suc a) b)
     (lowest_split busy (suc from) a b ∙ ap (λ (n : ℕ). or_first (lowest_free busy (suc from) a) (lowest_free busy n b)) same)
 
--- where two sets agree, they have the same lowest free slot
+-- if two sets agree on these slots, they have the same lowest free slot
 pub lowest_same : (a b : Busy) (slot count : ℕ) → ((s : ℕ) → slot ≤ s → s < slot + count → a s ≡ b s) → lowest_free a slot count ≡ lowest_free b slot count
 unfolding lowest_free
 lowest_same a b slot zero same = refl
@@ -51,7 +51,7 @@ unfolding lowest_free
 lowest_found busy from zero slot e = absurd cc
 lowest_found busy from (suc count) slot e = found_by busy from count slot (busy from) refl (lowest_found busy (suc from) count slot) e
 
--- the first slot that is free is the lowest, and where none is there is no lowest
+-- the first slot that is free is the lowest, and if none is free there is no lowest
 pub lowest_is : (busy : Busy) (from count slot : ℕ) → from ≤ slot → slot < from + count → ((s : ℕ) → from ≤ s → s < slot → busy s ≡ true) → busy slot ≡ false → lowest_free busy from count ≡ Some slot
 unfolding lowest_free
 lowest_is busy from zero slot above below taken free = absurd (omega arith)

@@ -23,7 +23,7 @@ marked word place few = record {
   others = λ p low other. omega (arith, bit_at_or word (2 ^ place) p, bit_at-pow_other place p other);
 }
 
--- such a bit is one of a word's
+-- the bit of a place below 32 fits into a word
 pub place_below : (place : ℕ) → place < BANK_SIZE → 2 ^ place < 2 ^ 64
 place_below place few = let x : 2 ^ place ≤ 2 ^ 31 = pow_mono {i = place} {j = 31} (omega arith) in omega arith
 

@@ -107,7 +107,7 @@ firsts Take = refl
 firsts TakeBoth = refl
 firsts (Give slot) = refl
 
--- on words that show a set, a bank's word tells its lowest free slot
+-- on words that show a set, a bank's word shows its lowest free slot
 free_shown : (words : List ℕ) (busy : Busy) (bank : ℕ) → bank < 2 → Shows words busy → lowest_free busy (BANK_SIZE * bank) BANK_SIZE ≡ free_in bank (slice_index words bank)
 free_shown words busy bank below shows =
     lowest_same busy (λ slot. bit_at (slice_index words bank) (slot % BANK_SIZE) == 1) (BANK_SIZE * bank) BANK_SIZE

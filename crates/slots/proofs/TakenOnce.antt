@@ -1,4 +1,4 @@
--- a slot that is taken twice was given back in between
+-- a slot that is taken twice was freed in between
 use Rattle.std.proofs.Common.{◌≡◌, ℕ, suc, ◌⊎◌, Bool, true, false, List, [], ◌∷◌, ◌++◌, inl, inr, refl, sym, ◌∙◌, ap, subst}
 use Rattle.std.specs.Prelude.{◌==◌, ◌||◌, ◌&&◌, not, Option, Some, None, option_to_list}
 use Rattle.std.proofs.lemmas.Bool.{eqb-true, eq-eqb}
@@ -51,7 +51,7 @@ free_before busy Take slot within = found_free busy 0 SLOT_COUNT slot (lowest_fr
 free_before busy TakeBoth slot within = both_found busy slot (lowest_free busy 0 BANK_SIZE) (lowest_free busy BANK_SIZE BANK_SIZE) refl refl within
 free_before busy (Give other) slot none = absurd none
 
--- a taken slot stays so, unless it is given back
+-- a taken slot stays so, unless it is freed
 stays_or_given : (busy : Busy) (job : Job) (slot : ℕ) → busy slot ≡ true → (job ≡ Give slot) ⊎ ((whole busy job).state slot ≡ true)
 stays_or_given busy Take slot e = inr (more_taken busy (option_to_list (lowest_free busy 0 SLOT_COUNT)) slot e)
 stays_or_given busy TakeBoth slot e = inr (more_taken busy (both_of (lowest_free busy 0 BANK_SIZE) (lowest_free busy BANK_SIZE BANK_SIZE)) slot e)

@@ -4,24 +4,28 @@ use Rattle.slots.specs.declared.bank.TheConstants.{BANK_SIZE, SLOT_COUNT}
 use Rattle.slots.specs.declared.job.Job.{Job}
 use Rattle.slots.specs.declared.job.Job.TheVariants.{Take, TakeBoth, Give}
 
--- the slots that are taken
+-- a set of slots: those that are taken
 abbrev pub Busy : Type 0
 Busy = ℕ → Bool
 
+-- no slot is taken
 abbrev pub none_busy : Busy
 none_busy slot = false
 
+-- the set with this slot added
 abbrev pub with_slot : Busy → ℕ → Busy
 with_slot busy slot = λ s. s == slot || busy s
 
+-- the set with this slot removed
 abbrev pub without_slot : Busy → ℕ → Busy
 without_slot busy slot = λ s. not (s == slot) && busy s
 
+-- the set with these slots added
 abbrev pub with_slots : Busy → List ℕ → Busy
 with_slots busy [] = busy
 with_slots busy (slot ∷ slots) = with_slots (with_slot busy slot) slots
 
--- the lowest free slot among `count` of them from this one on
+-- the lowest free slot among the `count` slots from this one on
 unfoldable pub lowest_free : Busy → ℕ → ℕ → Option ℕ
 lowest_free busy slot zero = None
 lowest_free busy slot (suc count) =
@@ -33,7 +37,7 @@ both_of (Some lower) (Some upper) = lower ∷ upper ∷ []
 both_of (Some lower) None = []
 both_of None upper = []
 
--- a job that takes slots replies which they are
+-- taking these slots: they are added to the set, and are the reply
 abbrev pub took : Busy → List ℕ → Whole Busy (List ℕ)
 took busy slots = record { state = with_slots busy slots; reply = slots }
 

@@ -14,8 +14,8 @@ use Rattle.slots.specs.declared.effect.Effect.TheVariants.{Mark, Clear}
 use Rattle.slots.specs.declared.job.Job.{Job}
 use Rattle.slots.specs.declared.job.Job.TheVariants.{Take, TakeBoth, Give}
 
--- the words: 0 and 1 have a bit for each slot of the two banks, 2 and 3 are the banks' locks, 4 is
--- the turn word
+-- words show a set of taken slots: words 0 and 1 have a bit for each slot of the two banks. Words
+-- 2 and 3 are the banks' locks, and word 4 is the turn word.
 pub record Shows (words : List ℕ) (busy : Busy) : Type 0 where
   pub bits : (slot : ℕ) → slot < SLOT_COUNT
       → busy slot ≡ (bit_at (slice_index words (slot / BANK_SIZE)) (slot % BANK_SIZE) == 1)
@@ -29,20 +29,22 @@ abbrev pub operation_of : Effect → Operation
 operation_of (Mark slot) = Or (2 ^ (slot % BANK_SIZE))
 operation_of (Clear slot) = And (2 ^ 64 - 1 - 2 ^ (slot % BANK_SIZE))
 
+-- the slot of an effect
 abbrev pub slot_of : Effect → ℕ
 slot_of (Mark slot) = slot
 slot_of (Clear slot) = slot
 
--- a slot that is marked is free
+-- what an effect relies on in its word: a slot that is marked is free
 abbrev pub Due : Effect → ℕ → Type 0
 Due (Mark slot) word = bit_at word (slot % BANK_SIZE) ≡ 0
 Due (Clear slot) word = ⊤
 
--- what a job comes to: its reply, and its effects in their order
+-- the reply of a decision
 abbrev pub reply_of : Decision → List ℕ
 reply_of (Takes slots) = slots
 reply_of (Gives slot) = []
 
+-- the effects of a decision, in their order
 abbrev pub effects_of : Decision → List Effect
 effects_of (Takes slots) = map Mark slots
 effects_of (Gives slot) = Clear slot ∷ []
@@ -52,23 +54,24 @@ abbrev pub free_in : ℕ → ℕ → Option ℕ
 free_in bank word =
     lowest_free (λ slot. bit_at word (slot % BANK_SIZE) == 1) (BANK_SIZE * bank) BANK_SIZE
 
--- a slot that was found is taken, or else the script goes on
+-- take a slot if one was found, otherwise go on
 abbrev pub taken_or : Option ℕ → Script ℕ Decision → Script ℕ Decision
 taken_or (Some slot) otherwise = Ends (Takes (slot ∷ []))
 taken_or None otherwise = otherwise
 
--- with a slot of the lower bank, one of the upper bank is wanted too
+-- take a slot of each bank if both were found, otherwise none
 abbrev pub both_or_none : Option ℕ → Option ℕ → Script ℕ Decision
 both_or_none (Some lower) (Some upper) = Ends (Takes (lower ∷ upper ∷ []))
 both_or_none (Some lower) None = Ends (Takes [])
 both_or_none None upper = Ends (Takes [])
 
+-- with a slot of the lower bank, look for one of the upper bank; with none, take none
 abbrev pub and_upper : Option ℕ → Script ℕ Decision
 and_upper (Some lower) =
     SeizeThen 1 (TestThen 1 (λ word. both_or_none (Some lower) (free_in 1 word)))
 and_upper None = Ends (Takes [])
 
--- what a job does, step by step
+-- the script of a job
 abbrev pub script : Job → Script ℕ Decision
 script Take =
     SeizeThen 0
@@ -79,11 +82,13 @@ script Take =
 script TakeBoth = SeizeThen 0 (TestThen 0 (λ lower. and_upper (free_in 0 lower)))
 script (Give slot) = SeizeThen (slot / BANK_SIZE) (Ends (Gives slot))
 
+-- the lock that a job seizes first
 abbrev pub first_lock : Job → ℕ
 first_lock Take = 0
 first_lock TakeBoth = 0
 first_lock (Give slot) = slot / BANK_SIZE
 
+-- a job frees only a slot that exists
 abbrev pub IsJob : Job → Type 0
 IsJob Take = ⊤
 IsJob TakeBoth = ⊤
@@ -115,5 +120,6 @@ slots_over = record {
   Shows = Shows;
 }
 
+-- the slots as a system
 abbrev pub slots : System
 slots = system_of slots_over

@@ -8,7 +8,7 @@ use Rattle.slots.specs.declared.job.Job.TheVariants.{Give}
 abbrev pub Took : ℕ → RecordOf slots → Type 0
 Took slot r = IsIn slot r.reply
 
--- one of the records is of a job that gives the slot back
+-- one of these records is of a job that freed the slot
 abbrev pub IsGivenBack : ℕ → List (RecordOf slots) → Type 0
 IsGivenBack slot [] = ⊥
 IsGivenBack slot (r ∷ order) = (r.job ≡ Give slot) ⊎ IsGivenBack slot order

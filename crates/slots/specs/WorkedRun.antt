@@ -5,8 +5,8 @@ use Rattle.slots.specs.System.{slots}
 use Rattle.slots.specs.declared.job.Job.{Job}
 use Rattle.slots.specs.declared.job.Job.TheVariants.{Take, TakeBoth}
 
--- actor 0 takes a slot while actor 1 wants one of each bank: actor 1 is put off twice, by
--- preference and by a hold, and begins anew
+-- actor 0 takes a slot while actor 1 is to take one of each bank. Actor 1 is denied the lower bank
+-- twice, since actor 0 is preferred and then since actor 0 holds it, and begins anew each time.
 abbrev pub two_at_once : List (Move Job)
 two_at_once =
     Assigns 0 1 Take ∷ Assigns 1 2 TakeBoth ∷
@@ -20,9 +20,10 @@ two_at_once =
     Steps 1 ∷ Steps 1 ∷ Steps 1 ∷ Steps 1 ∷ Steps 1 ∷ Steps 1 ∷ Steps 1 ∷ Steps 1 ∷ Steps 1
     ∷ Steps 1 ∷ Steps 1 ∷ []
 
--- the world after it
+-- the world after this run
 abbrev pub worked : World slots
 worked = run_of slots 2 two_at_once
 
+-- the replies of records, in their order
 abbrev pub replies : List (RecordOf slots) → List (List ℕ)
 replies order = map (λ (r : RecordOf slots). r.reply) order

@@ -1,10 +1,10 @@
 use crate::taken::Taken;
 
-/// What a job comes to.
+/// The decision that a job's script ends in.
 #[derive(Drop)]
 pub enum Decision {
-    /// It takes these slots.
+    /// The job takes these slots.
     Takes(Taken),
-    /// It gives this slot back.
+    /// The job frees this slot.
     Gives(u32),
 }

@@ -4,17 +4,17 @@ ghost use Rattle.slots.specs.System.{operation_of};
 use crate::bank::BANK_SIZE;
 use turns::Operation;
 
-/// A change of a bank's word.
+/// A write to the word of a slot's bank.
 #[derive(Clone, Copy, Debug, PartialEq, Eq)]
 pub enum Effect {
-    /// The bit of this slot is set: it is taken.
+    /// Sets the bit of this slot: the slot is taken.
     Mark(u32),
-    /// The bit of this slot is cleared: it is free.
+    /// Clears the bit of this slot: the slot is free.
     Clear(u32),
 }
 
 impl Effect {
-    /// The operation that makes it on its bank's word, 0 or 1.
+    /// The atomic operation that makes this effect on its bank's word, which is word 0 or 1.
     pub fn operation(&self) -> Operation
         ensures { result ≡ operation_of self.now }
     {

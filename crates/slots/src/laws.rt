@@ -1,12 +1,13 @@
-//! What holds of the slots. Each function does nothing: its contract is the law.
+//! Laws: lemmas about the slots. The functions do nothing; their contracts are the statements.
 
 ghost use Rattle.std.specs.Prelude.{◌≡◌, ◌≤◌, ◌<◌, ◌+◌, ◌/◌, ◌%◌, ◌==◌, ◌++◌, ℕ, List, [], ◌∷◌, length, slice_index};
 ghost use Rattle.std.specs.Int.{bit_at};
 ghost use mathlib.Core.Option.{some};
 ghost use lib.ListN.{get_elem?};
-ghost use Rattle.turns.specs.Attempt.{AttemptOf, Make, act, begin};
+ghost use Rattle.turns.specs.Attempt.{AttemptOf, act, begin};
+ghost use Rattle.turns.specs.declared.act.Act.TheVariants.{Make};
 ghost use Rattle.turns.specs.Bounds.{AreSteady, IsAside, after_steps};
-ghost use Rattle.turns.specs.Law.{IsFree, Lawful, holder_at};
+ghost use Rattle.turns.specs.Law.{IsAvailable, Lawful, holder_at};
 ghost use Rattle.turns.specs.Runs.{Move, AreMoves, run_of};
 ghost use Rattle.turns.specs.World.{World, ActorOf, Does, RecordOf, after};
 ghost use Rattle.turns.specs.declared.answer.Answer.{Answer};
@@ -20,6 +21,7 @@ use crate::bank::{BANK_SIZE, SLOT_COUNT};
 use crate::effect::Effect;
 use turns::laws::{self, Family};
 
+/// The system of the slots, by which the laws of `turns` are called.
 #[derive(Drop)]
 struct Slots {}
 
@@ -29,8 +31,8 @@ impl Family for Slots {
     ghost system = { λ setting. slots };
 }
 
-/// Whatever up to 48 actors do, in whatever order their steps come, each job acts as if done whole
-/// at its turn.
+/// Whatever up to 48 actors do, and in whatever order they make their steps, each job acts as if
+/// done whole at its turn.
 pub fn every_run_of_slots_is_lawful()
     ensures { (count : ℕ) (moves : List (Move Job)) → count ≤ 48 → AreMoves slots moves →
         Lawful slots (run_of slots count moves) }
@@ -38,8 +40,8 @@ pub fn every_run_of_slots_is_lawful()
     laws::every_run_is_lawful::<Slots>();
 }
 
-/// No slot is given to two jobs at once: between two jobs that took a slot, by their turns, one
-/// gave it back.
+/// No slot is taken twice: between any two jobs that took the same slot, in the order of turns, a
+/// job freed it.
 pub fn slots_are_taken_once()
     ensures { (w : World slots) (before between later : List (RecordOf slots))
         (r other : RecordOf slots) (slot : ℕ) → Lawful slots w →
@@ -49,7 +51,7 @@ pub fn slots_are_taken_once()
     laws::jobs_act_at_their_turns::<Slots>();
 }
 
-/// Where no bank's lock is held, the words tell which slots are taken after the turns so far.
+/// If no bank's lock is held, the words show which slots are taken after the turns so far.
 pub fn unheld_words_show_the_slots()
     ensures { (w : World slots) (slot : ℕ) → Lawful slots w →
         ((bank : ℕ) → bank < 2 → holder_at slots w.words bank ≡ 0) → slot < SLOT_COUNT →
@@ -68,7 +70,7 @@ pub fn slots_are_marked_free()
     laws::words_are_their_holders::<Slots>();
 }
 
-/// A job that is never put off, and never has to try again, ends within 11 steps.
+/// A job that is never denied a lock, and never has to repeat a seizing, ends within 11 steps.
 pub fn steady_jobs_are_short()
     ensures { (job : Job) (answers : List Answer) → IsJob job →
         AreSteady slots (begin slots job) answers → length answers ≤ 11 }
@@ -77,21 +79,23 @@ pub fn steady_jobs_are_short()
 }
 
 /// An actor that is left alone ends its job within 13 steps, and one more for each lock that it
-/// held before.
+/// holds at first. Left alone means that each other actor is idle, or holds nothing and has no
+/// pending request.
 pub fn jobs_left_alone_end()
     ensures { (w : World slots) (k number : ℕ) (a : AttemptOf slots) (count : ℕ) → Lawful slots w →
         get_elem? w.actors k ≡ some (Does number a) →
         ((j : ℕ) (m : ActorOf slots) → ¬ (j ≡ k) → get_elem? w.actors j ≡ some m →
         IsAside slots m) → 13 + length a.held ≤ count →
         (ended : ActorOf slots) × (get_elem? (after_steps slots k count w).actors k ≡ some ended) ×
-        IsFree slots ended }
+        IsAvailable slots ended }
 {
     laws::actors_left_alone_end::<Slots>();
 }
 
-/// A run of two actors, worked out by hand: slot 0 goes to actor 0, so slot 1 is the lowest of its
-/// bank that is left for actor 1, and slot 32 the lowest of the other bank. Bits 0 and 1 of word 0
-/// and bit 0 of word 1 make the words 3 and 1; both locks are free, and two turns were taken.
+/// A run of two actors, worked out by hand. Actor 0 takes slot 0. Actor 1 takes slot 1, the lowest
+/// that is left in this bank, and slot 32, the lowest of the other bank. With bits 0 and 1 of word
+/// 0 and bit 0 of word 1 set, the words are 3 and 1. Both locks are free, and two turns were
+/// taken.
 pub fn two_actors_take_slots()
     ensures words { worked.words ≡ 3 ∷ 1 ∷ 0 ∷ 0 ∷ 2 ∷ [] }
     ensures replies { replies worked.order ≡ (0 ∷ []) ∷ (1 ∷ 32 ∷ []) ∷ [] }

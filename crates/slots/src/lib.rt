@@ -1,7 +1,7 @@
 //! An allocator of sixty-four slots that many actors share, as an example of a system of jobs.
 //!
-//! The slots stand in two banks of 32, and each bank has a word of busy bits under a lock of its
-//! own. A job takes the lowest free slot, takes one of each bank at once, or gives one back.
+//! The slots are in two banks of 32, and each bank has a word of busy bits under a lock of its
+//! own. A job takes the lowest free slot, takes one of each bank, or frees a slot.
 #![tactic(auto)]
 
 pub use decision::Decision;

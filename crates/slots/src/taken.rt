@@ -4,7 +4,7 @@ ghost use Rattle.slots.specs.Few.{list_of};
 use crate::up_to_two::UpToTwo;
 use std::marker::Model;
 
-/// The slots that a job took, in their order: its reply.
+/// The reply of a job: the slots that it took, in order.
 #[derive(Drop)]
 pub struct Taken {
     slots: UpToTwo<u32>,

@@ -1,4 +1,4 @@
-/// None, one or two items, in their order.
+/// At most two items, in order.
 #[derive(Clone, Copy, Debug, PartialEq, Eq)]
 pub enum UpToTwo<T> {
     Empty,

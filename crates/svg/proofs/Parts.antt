@@ -16,7 +16,7 @@ part_by character false false true quote a l g q = inr (inr (inl refl))
 part_by character false false false true a l g q = inr (inr (inr (inl refl)))
 part_by character false false false false a l g q = plain_by character (is_allowed character) refl a l g q
 
--- what stands for a character is a part
+-- an escaped character is a part
 part_of : (character : ℕ) → IsPart (escaped_character character)
 part_of character = part_by character (character == 38) (character == 60) (character == 62) (character == 34) refl refl refl refl
 
@@ -24,6 +24,6 @@ content_of : (characters : List ℕ) → IsContent (flat_map escaped_character c
 content_of [] = Nothing
 content_of (character ∷ characters) = Behind (escaped_character character) (flat_map escaped_character characters) (part_of character) (content_of characters)
 
--- what stands for a text is such parts
+-- an escaped text consists of parts
 pub escaped_content : (text : List ℕ) → IsContent (escaped text)
 escaped_content text = content_of (chars text)

@@ -3,7 +3,7 @@ use Rattle.std.specs.List.{concat}
 use Rattle.svg.specs.Escape.{escaped}
 use Rattle.svg.specs.Figure.{Figure, figure_text}
 
--- what a drawing of this size begins with whose style sheet stands elsewhere
+-- the beginning of a drawing of this size, whose style sheet is elsewhere
 unfoldable pub open_text : ℕ → ℕ → List ℕ
 open_text width height =
     concat (codes "<svg xmlns=\"http://www.w3.org/2000/svg\" viewBox=\"0 0 " ∷ decimal width
@@ -11,23 +11,24 @@ open_text width height =
     ∷ codes "\" width=\"" ∷ decimal width ∷ codes "\" height=\"" ∷ decimal height ∷ codes "\">\n"
     ∷ [])
 
--- and one that has its style sheet in it
+-- the beginning of a drawing of this size, with its style sheet
 unfoldable pub head_text : ℕ → ℕ → List ℕ → List ℕ
 head_text width height style =
     concat (open_text width height ∷ codes "<style>" ∷ escaped style ∷ codes "</style>\n" ∷ [])
 
--- what it ends with
+-- the end of a drawing
 abbrev pub foot_text : List ℕ
 foot_text = codes "</svg>\n"
 
--- what a group begins with that is drawn this far further down, and what it ends with
+-- the beginning of a group that is moved down by this much
 abbrev pub group_text : ℕ → List ℕ
 group_text down = concat (codes "<g transform=\"translate(0 " ∷ decimal down ∷ codes ")\">\n" ∷ [])
 
+-- the end of a group
 abbrev pub group_end_text : List ℕ
 group_end_text = codes "</g>\n"
 
--- a drawing: what is drawn, each behind and so over the one before
+-- a drawing of these figures, each drawn over the one before
 abbrev pub drawing_text : ℕ → ℕ → List ℕ → List Figure → List ℕ
 drawing_text width height style figures =
     head_text width height style ++ flat_map figure_text figures ++ foot_text

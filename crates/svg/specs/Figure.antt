@@ -5,14 +5,14 @@ use Rattle.svg.specs.declared.shape.Point.{Point}
 use Rattle.svg.specs.declared.shape.Shape.{Shape}
 use Rattle.svg.specs.declared.shape.Shape.TheVariants as Given
 
--- what is drawn, with its class; the last is a text
+-- a figure that is drawn, with its class; the last kind is a line of text
 pub data Figure : Type 0 where
   Rectangle : (corner : Point) (width height : ℕ) (class : List ℕ) → Figure
   Line : (from to : Point) (class : List ℕ) → Figure
   Circle : (center : Point) (radius : ℕ) (class : List ℕ) → Figure
   Words : (at : Point) (class content : List ℕ) → Figure
 
--- what a shape of the program draws
+-- the figure that a shape of the program draws
 abbrev pub figure_of : Shape → Figure
 figure_of (Given.Rectangle corner width height class) = Rectangle corner width height class.now
 figure_of (Given.Line from to class) = Line from to class.now
@@ -23,7 +23,7 @@ figure_of (Given.Text at class content) = Words at class.now content.now
 abbrev pub in_class : List ℕ → List ℕ
 in_class class = concat (codes " class=\"" ∷ escaped class ∷ codes "\"" ∷ [])
 
--- the element of what is drawn, on a line of its own, part by part
+-- the element of a figure, on a line of its own
 unfoldable pub figure_text : Figure → List ℕ
 figure_text (Rectangle corner width height class) =
     concat (codes "<rect x=\"" ∷ decimal corner.x ∷ codes "\" y=\"" ∷ decimal corner.y

@@ -7,7 +7,7 @@ use crate::shape::Shape;
 use crate::write::add_shape;
 use std::alloc::AllocError;
 
-/// Adds a whole drawing. Where memory runs out, a part of it may have been added.
+/// Adds a whole drawing. If memory runs out, a part of it may have been added.
 pub fn add_drawing(
     text: &mut String,
     width: u16,
@@ -23,8 +23,8 @@ pub fn add_drawing(
     add_foot(text)
 }
 
-/// Adds what a drawing begins with whose style sheet stands elsewhere, as in the page that it is part
-/// of.
+/// Adds the beginning of a drawing whose style sheet is elsewhere, as in the page that contains
+/// the drawing.
 #[tactic(auto, unfolding(crate::specs::Drawing::open_text))]
 pub fn add_open(text: &mut String, width: u16, height: u128) -> Result<(), AllocError>
     ensures { OnOk result (string_bytes text.new ≡ string_bytes text.old ++
@@ -38,8 +38,8 @@ pub fn add_open(text: &mut String, width: u16, height: u128) -> Result<(), Alloc
     Ok(())
 }
 
-/// Adds what a drawing begins with, up to its first shape. Where memory runs out, a part of it may
-/// have been added.
+/// Adds the beginning of a drawing, with its style sheet, up to its first shape. If memory runs
+/// out, a part of it may have been added.
 #[tactic(auto, unfolding(crate::specs::Drawing::head_text))]
 pub fn add_head(text: &mut String, width: u16, height: u128, style: &str) -> Result<(), AllocError>
     ensures { OnOk result (string_bytes text.new ≡ string_bytes text.old ++
@@ -52,7 +52,7 @@ pub fn add_head(text: &mut String, width: u16, height: u128, style: &str) -> Res
     Ok(())
 }
 
-/// Adds what a drawing ends with, behind its last shape.
+/// Adds the end of a drawing, after its last shape.
 pub fn add_foot(text: &mut String) -> Result<(), AllocError>
     ensures { OnOk result (string_bytes text.new ≡ string_bytes text.old ++ foot_text) }
 {
@@ -60,7 +60,7 @@ pub fn add_foot(text: &mut String) -> Result<(), AllocError>
     Ok(())
 }
 
-/// Adds what a group begins with. All that stands in it is drawn this far further down.
+/// Adds the beginning of a group. All shapes of the group are moved down by this much.
 pub fn add_group(text: &mut String, down: u128) -> Result<(), AllocError>
     ensures { OnOk result (string_bytes text.new ≡ string_bytes text.old ++ group_text down) }
 {
@@ -68,7 +68,7 @@ pub fn add_group(text: &mut String, down: u128) -> Result<(), AllocError>
     Ok(())
 }
 
-/// Adds what a group ends with, behind its last shape.
+/// Adds the end of a group, after its last shape.
 pub fn add_group_end(text: &mut String) -> Result<(), AllocError>
     ensures { OnOk result (string_bytes text.new ≡ string_bytes text.old ++ group_end_text) }
 {

@@ -3,10 +3,10 @@ ghost use Rattle.svg.specs.Escape.{escaped, escaped_character, is_allowed as may
 
 use std::alloc::AllocError;
 
-/// What a reader shows in the place of a character that XML doesn't have.
+/// The character that replaces C0 control characters, and characters that XML doesn't have.
 const REPLACEMENT: char = '\u{FFFD}';
 
-/// Adds what stands in XML for this text, between tags or in an attribute's quotes. Where memory
+/// Adds a text, escaped for XML, between tags or in the double quotes of an attribute. If memory
 /// runs out, a part of it may have been added.
 pub fn add_escaped(text: &mut String, content: &str) -> Result<(), AllocError>
     ensures { OnOk result (string_bytes text.new ≡ string_bytes text.old ++ escaped content.now) }
@@ -32,6 +32,7 @@ fn add_character(text: &mut String, character: char) -> Result<(), AllocError>
     Ok(())
 }
 
+/// Whether XML has the character and it is no C0 control character.
 fn is_allowed(character: char) -> bool
     ensures { result ≡ may_stand character }
 {

@@ -1,4 +1,4 @@
-/// A place in a drawing, in units from its left and its upper edge.
+/// A point of a drawing, in units from its left and its upper edge.
 #[derive(Clone, Copy, Debug, PartialEq, Eq)]
 pub struct Point {
     pub x: u16,
@@ -15,10 +15,10 @@ impl Point {
     }
 }
 
-/// A shape of a drawing. How it looks is said for its class by the drawing's style sheet.
+/// A shape of a drawing. The drawing's style sheet says how its class looks.
 #[derive(Clone, Copy, Debug)]
 pub enum Shape<'a> {
-    /// Of the upper left corner.
+    /// A rectangle, by its upper left corner and its size.
     Rectangle {
         corner: Point,
         width: u16,
@@ -35,7 +35,8 @@ pub enum Shape<'a> {
         radius: u16,
         class: &'a str,
     },
-    /// One line of text, which begins at the place or, as its class says, has its middle or its end there.
+    /// One line of text. It begins at the point, or has its middle or its end there if its class
+    /// says so.
     Text {
         at: Point,
         class: &'a str,

@@ -5,7 +5,7 @@ use crate::escape::add_escaped;
 use crate::shape::{Point, Shape};
 use std::alloc::AllocError;
 
-/// Adds the element of a shape, on a line of its own. Where memory runs out, a part of it may have
+/// Adds the element of a shape, on a line of its own. If memory runs out, a part of it may have
 /// been added.
 pub fn add_shape(text: &mut String, shape: &Shape<'_>) -> Result<(), AllocError>
     ensures { OnOk result (string_bytes text.new ≡ string_bytes text.old ++
@@ -28,7 +28,7 @@ pub fn add_shape(text: &mut String, shape: &Shape<'_>) -> Result<(), AllocError>
     }
 }
 
-/// Adds a rectangle of this upper left corner, as `add_shape` does.
+/// Adds a rectangle with this upper left corner, as `add_shape` does.
 #[tactic(auto, unfolding(crate::specs::Figure::figure_text))]
 pub fn add_rectangle(
     text: &mut String,

@@ -1,12 +1,13 @@
-//! What tests assert. Each check is two calls, of a function that is proved here once for all tests and
-//! of `expect`, where `assert!` and `assert_eq!` write a branch into each test.
+//! Assertions of tests. Each check is two calls: of a function that is proved here once for all
+//! tests, and of `expect`. `assert!` and `assert_eq!` would add a branch to each test.
 
 ghost use Rattle.std.specs.Prelude.{◌≡◌, is_ok};
 
 use std::fmt;
 use std::fmt::{Debug, Display, InlineText};
 
-/// As `assert!`. Its name is a format with values, as in `assert!`, or anything that can be displayed.
+/// Like `assert!`. The check may have a name: a format with values, as in `assert!`, or anything
+/// that can be displayed.
 #[macro_export]
 macro_rules! check {
     ($rt:expr; $holds:expr $(,)?) => {
@@ -20,7 +21,7 @@ macro_rules! check {
     };
 }
 
-/// As `assert_eq!`, of two values of one type, with a name as `check!` has it.
+/// Like `assert_eq!`, for two values of one type. The check may have a name, as in `check!`.
 #[macro_export]
 macro_rules! check_eq {
     ($rt:expr; $found:expr, $wanted:expr $(,)?) => {
@@ -35,8 +36,8 @@ macro_rules! check_eq {
     };
 }
 
-/// What a failed check tells: its name and its values, cut where they are longer than two pictures of
-/// a path.
+/// The report of a failed check: its name and its values, cut to 4,096 bytes, which hold two
+/// pictures of a path.
 #[derive(Drop)]
 pub struct Failed {
     text: InlineText<4096>,
@@ -56,7 +57,7 @@ impl Debug for Failed {
     }
 }
 
-/// Fails with this name, unless this holds.
+/// Fails with this name, unless `holds`.
 pub fn check_holds<N: Display + Drop>(name: N, holds: bool) -> Result<(), Failed>
     ensures { is_ok result ≡ holds }
 {

@@ -1,7 +1,7 @@
 use std::io;
 use std::io::Read;
 
-/// Gives a byte `x` at each read that has room for one, without end.
+/// A reader that never ends: each read returns one byte `x`, if there is room for it.
 #[derive(Clone, Copy, Debug)]
 pub struct Endless;
 

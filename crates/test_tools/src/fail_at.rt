@@ -3,16 +3,16 @@ ghost use Rattle.std.specs.Prelude.{◌≡◌, Some};
 use std::io;
 use std::io::{ErrorKind, Read, Write};
 
-/// Passes some calls on, fails one without asking the device inside, and passes on all that follow.
+/// Passes calls on to a device, except for one call, which fails without reaching the device.
 #[derive(Debug, Drop)]
 pub struct FailAt<T> {
     pub inner: T,
-    /// How many calls pass before the one that fails, and nothing once it came.
+    /// The number of calls to pass on before the one that fails. None after it.
     pub passes: Option<u32>,
 }
 
 impl<T> FailAt<T> {
-    /// Fails the call that follows so many.
+    /// Fails one call, after `passes` others.
     pub fn new(passes: u32, inner: T) -> Self
         ensures inner { result.inner ≡ inner }
         ensures passes { result.passes ≡ Some passes }
@@ -23,6 +23,7 @@ impl<T> FailAt<T> {
         }
     }
 
+    /// Counts a call, which fails if its number has come.
     fn pass(&mut self) -> io::Result<()>
         ensures { self.new.inner ≡ self.old.inner }
     {

@@ -1,4 +1,4 @@
-//! What tests use: assertions, and readers and writers in place of a device.
+//! Tools of tests: assertions, and readers and writers that take the place of a device.
 #![tactic(auto)]
 
 pub use checks::{Failed, check_equal, check_holds};

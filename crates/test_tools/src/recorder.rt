@@ -4,7 +4,7 @@ use std::alloc::Global;
 use std::io;
 use std::io::{Read, Write};
 
-/// A call of a reader or writer, with the length of the buffer that came with it.
+/// A call of a reader or writer, with the length of its buffer.
 #[derive(Clone, Copy, Debug, PartialEq, Eq)]
 pub enum Call {
     Read(usize),
@@ -12,7 +12,7 @@ pub enum Call {
     Flush,
 }
 
-/// Passes each call on, and keeps which there were, in order.
+/// Passes each call on to a device, and records the calls in order.
 #[derive(Debug, Drop)]
 pub struct Recorder<T> {
     pub inner: T,
@@ -20,7 +20,7 @@ pub struct Recorder<T> {
 }
 
 impl<T> Recorder<T> {
-    /// No call was made yet.
+    /// Wraps a device. No call is recorded yet.
     pub fn new(alloc: Global, inner: T) -> Self
         ensures inner { result.inner ≡ inner }
         ensures calls { vec_items result.calls ≡ [] }

@@ -1,11 +1,11 @@
--- where no actor has an effect left to make, the words are complete as they are
+-- if no actor has an effect left to make, the words are complete as they are
 use Rattle.std.proofs.Common.{◌≡◌, ℕ, suc, List, [], ◌∷◌, refl, ap, ◌∙◌, subst}
 use mathlib.Core.Option.{some}
 use lib.ListN.{get_elem?}
 use Rattle.turns.specs.System.{System}
-use Rattle.turns.specs.Attempt.{AttemptOf, left_in}
-use Rattle.turns.specs.World.{World, ActorOf, Idle, Does, left_of, value_after, completed_word, completed_from, after}
-use Rattle.turns.specs.Law.{IsFree, Lawful}
+use Rattle.turns.specs.Attempt.{AttemptOf, effects_left_in}
+use Rattle.turns.specs.World.{World, ActorOf, Idle, Does, effects_left_of, value_after, completed_word, completed_from, after}
+use Rattle.turns.specs.Law.{IsAvailable, Lawful}
 use Rattle.turns.specs.declared.phase.Phase.{Phase}
 use Rattle.turns.specs.declared.phase.Phase.TheVariants.{Requests, Seizes, Tests, Turns, Withdraws, GivesBack, Operates}
 use Rattle.turns.proofs.Completed.{all_spare}
@@ -16,7 +16,7 @@ module _ (O : System) where
 
   -- none of these actors has an effect left
   abbrev NoneLeft : List (ActorOf O) → Type 0
-  NoneLeft actors = (k : ℕ) (m : ActorOf O) → get_elem? actors k ≡ some m → left_of O m ≡ []
+  NoneLeft actors = (k : ℕ) (m : ActorOf O) → get_elem? actors k ≡ some m → effects_left_of O m ≡ []
 
   complete_from : (actors : List (ActorOf O)) → NoneLeft actors
       → (number : ℕ) (words : List ℕ) → completed_from O actors number words ≡ words
@@ -36,7 +36,7 @@ module _ (O : System) where
 
   -- before its turn an attempt has none left
   left_none : (phase : Phase Lock ℕ) (effects : List Effect)
-      → ((turn : ℕ) → phase ≡ Operates turn → effects ≡ []) → left_in phase effects ≡ []
+      → ((turn : ℕ) → phase ≡ Operates turn → effects ≡ []) → effects_left_in phase effects ≡ []
   left_none (Requests lock) effects past = refl
   left_none (Seizes lock expected) effects past = refl
   left_none (Tests word) effects past = refl
@@ -55,13 +55,13 @@ module _ (O : System) where
     none k (Does number a) at =
         left_none a.phase a.effects (λ turn phase. past k number turn a at phase)
 
-  free_left : (m : ActorOf O) → IsFree O m → left_of O m ≡ []
+  free_left : (m : ActorOf O) → IsAvailable O m → effects_left_of O m ≡ []
   free_left Idle free = refl
   free_left (Does number a) free =
       let bare = rest_bare O a.phase a.job a.readings a.held a.reply a.effects free in
       bare.0
 
   pub idle_shows : (w : World O) → Lawful O w
-      → ((k : ℕ) (m : ActorOf O) → get_elem? w.actors k ≡ some m → IsFree O m)
+      → ((k : ℕ) (m : ActorOf O) → get_elem? w.actors k ≡ some m → IsAvailable O m)
       → O.Shows w.words (after O O.opening w.order)
   idle_shows w law free = complete_shows w law (λ k m at. free_left m (free k m at))

@@ -5,7 +5,7 @@ use mathlib.Core.Option.{some, some-injective, some-ne-none}
 use lib.ListN.{get_elem?}
 use Rattle.turns.specs.Among.{IsIn}
 use Rattle.turns.specs.System.{System, effect_on, IsSystem, IsUnder, AreUnder, AreDue, perform, perform_all}
-use Rattle.turns.specs.World.{World, ActorOf, left_of, value_after, completed, completed_word, completed_from}
+use Rattle.turns.specs.World.{World, ActorOf, effects_left_of, value_after, completed, completed_word, completed_from}
 use Rattle.turns.proofs.Lists.{one_or_two, index_same, index_other}
 
 if_true : {A : Type 0} (b : Bool) (x y : A) → b ≡ true → (if b then x else y) ≡ x
@@ -105,18 +105,18 @@ module _ (O : System) where
   completed_index w n h = completed_at w.actors 0 w.words n h ∙ ap (λ (m : ℕ). completed_word O w.actors m (slice_index w.words n)) (zero-add n)
 
   -- no actor has effects on this word
-  pub all_spare : (actors : List (ActorOf O)) (n v : ℕ) → ((j : ℕ) (m : ActorOf O) → get_elem? actors j ≡ some m → Spares (left_of O m) n) → completed_word O actors n v ≡ v
+  pub all_spare : (actors : List (ActorOf O)) (n v : ℕ) → ((j : ℕ) (m : ActorOf O) → get_elem? actors j ≡ some m → Spares (effects_left_of O m) n) → completed_word O actors n v ≡ v
   all_spare [] n v spare = refl
   all_spare (m ∷ actors) n v spare = ap (completed_word O actors n) (spare zero m refl v) ∙ all_spare actors n v (λ j other at. spare (suc j) other at)
 
   -- only actor k may have effects on this word
-  pub only_one : (actors : List (ActorOf O)) (k n v : ℕ) (m : ActorOf O) → get_elem? actors k ≡ some m → ((j : ℕ) (other : ActorOf O) → j ≢ k → get_elem? actors j ≡ some other → Spares (left_of O other) n) → completed_word O actors n v ≡ value_after O (left_of O m) n v
+  pub only_one : (actors : List (ActorOf O)) (k n v : ℕ) (m : ActorOf O) → get_elem? actors k ≡ some m → ((j : ℕ) (other : ActorOf O) → j ≢ k → get_elem? actors j ≡ some other → Spares (effects_left_of O other) n) → completed_word O actors n v ≡ value_after O (effects_left_of O m) n v
   only_one [] k n v m at spare = absurd (some-ne-none m (sym at))
-  only_one (x ∷ actors) zero n v m at spare = all_spare actors n (value_after O (left_of O x) n v) (λ j other there. spare (suc j) other (λ e. omega arith) there) ∙ ap (λ (y : ActorOf O). value_after O (left_of O y) n v) (some-injective x m at)
+  only_one (x ∷ actors) zero n v m at spare = all_spare actors n (value_after O (effects_left_of O x) n v) (λ j other there. spare (suc j) other (λ e. omega arith) there) ∙ ap (λ (y : ActorOf O). value_after O (effects_left_of O y) n v) (some-injective x m at)
   only_one (x ∷ actors) (suc k) n v m at spare = ap (completed_word O actors n) (spare zero x (λ e. omega arith) refl v) ∙ only_one actors k n v m at (λ j other apart there. spare (suc j) other (λ e. apart (omega arith)) there)
 
   -- actor k's new effects do the same to this word
-  pub same_done : (actors : List (ActorOf O)) (k n v : ℕ) (m new : ActorOf O) → get_elem? actors k ≡ some m → ((x : ℕ) → value_after O (left_of O new) n x ≡ value_after O (left_of O m) n x) → completed_word O (set actors k new) n v ≡ completed_word O actors n v
+  pub same_done : (actors : List (ActorOf O)) (k n v : ℕ) (m new : ActorOf O) → get_elem? actors k ≡ some m → ((x : ℕ) → value_after O (effects_left_of O new) n x ≡ value_after O (effects_left_of O m) n x) → completed_word O (set actors k new) n v ≡ completed_word O actors n v
   same_done [] k n v m new at same = refl
-  same_done (x ∷ actors) zero n v m new at same = ap (completed_word O actors n) (same v ∙ ap (λ (y : ActorOf O). value_after O (left_of O y) n v) (sym (some-injective x m at)))
-  same_done (x ∷ actors) (suc k) n v m new at same = same_done actors k n (value_after O (left_of O x) n v) m new at same
+  same_done (x ∷ actors) zero n v m new at same = ap (completed_word O actors n) (same v ∙ ap (λ (y : ActorOf O). value_after O (effects_left_of O y) n v) (sym (some-injective x m at)))
+  same_done (x ∷ actors) (suc k) n v m new at same = same_done actors k n (value_after O (effects_left_of O x) n v) m new at same

@@ -5,7 +5,7 @@ use lib.ListN.{get_elem?}
 use Rattle.turns.specs.Among.{IsIn}
 use Rattle.turns.specs.System.{System, IsSystem, IsUnder}
 use Rattle.turns.specs.Attempt.{AttemptOf, act}
-use Rattle.turns.specs.World.{World, ActorOf, Idle, Does, left_of, value_after, completed, after, moved, place}
+use Rattle.turns.specs.World.{World, ActorOf, Idle, Does, effects_left_of, value_after, completed, after, moved, place}
 use Rattle.turns.specs.Law.{IsRecorded, FitsIn, IsOperating, Lawful, WasDecided, holder_at}
 use Rattle.turns.specs.declared.phase.Phase.{Phase}
 use Rattle.turns.specs.declared.phase.Phase.TheVariants.{Requests, Seizes, Tests, Turns, Withdraws, GivesBack, Operates}
@@ -27,10 +27,10 @@ module _ (O : System) (system : IsSystem O) (w : World O) (law : Lawful O w) whe
   below n lock p = subst (λ (l : ℕ). n < l) (sym law.size) (system.words.word_there n lock p)
 
   -- a word under a lock that is held: its holder's effects complete it
-  pub held_word : (k number : ℕ) (a : AttemptOf O) (n : ℕ) → get_elem? w.actors k ≡ some (Does number a) → IsUnder O a.held n → slice_index (completed O w) n ≡ value_after O (left_of O (Does number a)) n (slice_index w.words n)
+  pub held_word : (k number : ℕ) (a : AttemptOf O) (n : ℕ) → get_elem? w.actors k ≡ some (Does number a) → IsUnder O a.held n → slice_index (completed O w) n ≡ value_after O (effects_left_of O (Does number a)) n (slice_index w.words n)
   held_word k number a n there u = completed_index O w n (below n u.lock u.protects) ∙ only_one O w.actors k n (slice_index w.words n) (Does number a) there (others_spare O system w law k number a there n u)
 
-  free_spares : (n : ℕ) (lock : Lock) → Protects lock n → holder_at O w.words lock ≡ 0 → (j : ℕ) (m : ActorOf O) → get_elem? w.actors j ≡ some m → Spares O (left_of O m) n
+  free_spares : (n : ℕ) (lock : Lock) → Protects lock n → holder_at O w.words lock ≡ 0 → (j : ℕ) (m : ActorOf O) → get_elem? w.actors j ≡ some m → Spares O (effects_left_of O m) n
   free_spares n lock p free j Idle at = λ v. refl
   free_spares n lock p free j (Does number b) at =
       let s = law.sound j number b at in
@@ -45,7 +45,7 @@ module _ (O : System) (system : IsSystem O) (w : World O) (law : Lawful O w) whe
   pub free_word : (n : ℕ) (lock : Lock) → Protects lock n → holder_at O w.words lock ≡ 0 → slice_index (completed O w) n ≡ slice_index w.words n
   free_word n lock p free = completed_index O w n (below n lock p) ∙ all_spare O w.actors n (slice_index w.words n) (free_spares n lock p free)
 
-  -- where nobody holds a lock, the words themselves show the state after the order
+  -- if nobody holds a lock, the words themselves show the state after the order
   pub free_shows : ((lock : Lock) → IsLock lock → holder_at O w.words lock ≡ 0) → O.Shows w.words (after O O.opening w.order)
   free_shows free = system.looks (completed O w) w.words _ (record {
     this_length = completed_length O w.actors 0 w.words ∙ law.size;
@@ -54,13 +54,13 @@ module _ (O : System) (system : IsSystem O) (w : World O) (law : Lawful O w) whe
   }) law.shows
 
   module _ (k number : ℕ) where
-    -- under a lock that protects the word of a step, the lock is held: phase by phase
+    -- the lock that protects the word of a step is held, phase by phase
     alone_in : (phase : Phase Lock ℕ) (job : Job) (readings : List (Reading ℕ)) (held : List Lock) (reply : Option Reply) (effects : List Effect) (lock : Lock) → get_elem? w.actors k ≡ some (Does number (attempt O phase job readings held reply effects)) → Protects lock (place O (act (attempt O phase job readings held reply effects))) → IsIn lock held
     alone_in (Requests c) job readings held reply effects lock there p = absurd (system.words.lock_word_bare c lock (law.sound k number (attempt O (Requests c) job readings held reply effects) there).fits p)
     alone_in (Seizes c expected) job readings held reply effects lock there p = absurd (system.words.lock_word_bare c lock (law.sound k number (attempt O (Seizes c expected) job readings held reply effects) there).fits.0 p)
     alone_in (Tests word) job readings held reply effects lock there p = under_held word held lock (law.sound k number (attempt O (Tests word) job readings held reply effects) there).fits p
     alone_in Turns job readings held reply effects lock there p = absurd (system.words.turn_bare lock p)
-    alone_in (Withdraws c) job readings held reply effects lock there p = absurd (system.words.lock_word_bare c lock (law.sound k number (attempt O (Withdraws c) job readings held reply effects) there).stands p)
+    alone_in (Withdraws c) job readings held reply effects lock there p = absurd (system.words.lock_word_bare c lock (law.sound k number (attempt O (Withdraws c) job readings held reply effects) there).valid p)
     alone_in GivesBack job readings [] reply effects lock there p = absurd (system.words.turn_bare lock p)
     alone_in GivesBack job readings (c ∷ held) reply effects lock there p = absurd (system.words.lock_word_bare c lock ((law.sound k number (attempt O GivesBack job readings (c ∷ held) reply effects) there).held c (inl refl)).there p)
     alone_in (Operates turn) job readings [] reply [] lock there p = absurd (system.words.turn_bare lock p)

@@ -3,8 +3,8 @@ use Rattle.std.specs.Prelude.{Option}
 use mathlib.Core.Option.{some}
 use lib.ListN.{get_elem?}
 use Rattle.turns.specs.System.{System, effect_on, IsSystem, AreWords, IsUnder, AreUnder}
-use Rattle.turns.specs.Attempt.{AttemptOf, Stands}
-use Rattle.turns.specs.World.{World, ActorOf, Idle, Does, left_of, value_after, completed, completed_word}
+use Rattle.turns.specs.Attempt.{AttemptOf, IsValid}
+use Rattle.turns.specs.World.{World, ActorOf, Idle, Does, effects_left_of, value_after, completed, completed_word}
 use Rattle.turns.specs.Law.{IsOperating, IsSound, Lawful, holder_at, word_at}
 use Rattle.turns.specs.declared.phase.Phase.TheVariants.{Operates}
 use Rattle.turns.specs.declared.reading.Reading.{Reading}
@@ -20,21 +20,21 @@ module _ (O : System) (system : IsSystem O) (w : World O) (law : Lawful O w) (k 
   open O use {Lock, Job, Reply, Effect, IsLock, lock_word, effect_word}
 
   -- a word under a lock of actor k is spared by all other actors
-  pub others_spare : (a : AttemptOf O) → get_elem? w.actors k ≡ some (Does number a) → (n : ℕ) → IsUnder O a.held n → (j : ℕ) (other : ActorOf O) → j ≢ k → get_elem? w.actors j ≡ some other → Spares O (left_of O other) n
+  pub others_spare : (a : AttemptOf O) → get_elem? w.actors k ≡ some (Does number a) → (n : ℕ) → IsUnder O a.held n → (j : ℕ) (other : ActorOf O) → j ≢ k → get_elem? w.actors j ≡ some other → Spares O (effects_left_of O other) n
   others_spare a there n under j Idle apart at = λ v. refl
   others_spare a there n under j (Does i b) apart at =
       let s = law.sound j i b at in
       under_spares O b.held _ n (left_under O w j i b s) (λ over. apart (one_actor O system w j k n i number b a s (law.sound k number a there) over under))
 
   -- .. also once actor k has moved
-  pub others_spare_then : (a new : AttemptOf O) → get_elem? w.actors k ≡ some (Does number a) → (n : ℕ) → IsUnder O a.held n → (j : ℕ) (other : ActorOf O) → j ≢ k → get_elem? (set w.actors k (Does number new)) j ≡ some other → Spares O (left_of O other) n
+  pub others_spare_then : (a new : AttemptOf O) → get_elem? w.actors k ≡ some (Does number a) → (n : ℕ) → IsUnder O a.held n → (j : ℕ) (other : ActorOf O) → j ≢ k → get_elem? (set w.actors k (Does number new)) j ≡ some other → Spares O (effects_left_of O other) n
   others_spare_then a new there n under j other apart at = others_spare a there n under j other apart (sym (set_else w.actors k j (Does number new) apart) ∙ at)
 
   -- past its turn
   abbrev pub operating : Job → List (Reading ℕ) → List Lock → ℕ → Option Reply → List Effect → AttemptOf O
   operating job readings held turn reply effects = record { job = job; readings = readings; held = held; phase = Operates turn; reply = reply; effects = effects }
 
-  module _ (job : Job) (readings : List (Reading ℕ)) (held : List Lock) (turn : ℕ) (reply : Option Reply) (effect : Effect) (effects : List Effect) (there : get_elem? w.actors k ≡ some (Does number (operating job readings held turn reply (effect ∷ effects)))) (stands : Stands O (operating job readings held turn reply effects)) where
+  module _ (job : Job) (readings : List (Reading ℕ)) (held : List Lock) (turn : ℕ) (reply : Option Reply) (effect : Effect) (effects : List Effect) (there : get_elem? w.actors k ≡ some (Does number (operating job readings held turn reply (effect ∷ effects)))) (valid : IsValid O (operating job readings held turn reply effects)) where
     abbrev old : AttemptOf O
     old = operating job readings held turn reply (effect ∷ effects)
 
@@ -74,7 +74,8 @@ module _ (O : System) (system : IsSystem O) (w : World O) (law : Lawful O w) (k 
     are_words : AreWords other
     are_words = set_below w.words p (effect_on O effect (slice_index w.words p)) law.are_words (applied_below (O.operation_of effect) (slice_index w.words p) (fits.fit effect (inl refl)) (law.are_words p))
 
-    -- what is under what is held is what the effects made so far, and this one, make of the words at the turn
+    -- the words under the locks held are what the effects made so far, and this one, make of the
+    -- words at the turn
     since : (n : ℕ) → IsUnder O held n → slice_index other n ≡ value_after O (fits.decided.made ++ effect ∷ []) n (slice_index fits.decided.words n)
     since n over = by (one_or_two p n) ∙ sym (made_append O fits.decided.made (effect ∷ []) n (slice_index fits.decided.words n)) where
       v : ℕ
@@ -87,7 +88,7 @@ module _ (O : System) (system : IsSystem O) (w : World O) (law : Lawful O w) (k 
           ∙ sym (made_here O effect [] n v e)
       by (inr apart) = else_same n (λ e. apart (sym e)) ∙ fits.decided.since n over ∙ sym (made_else O effect [] n v apart)
 
-    -- what the effects made so far, and this one, are on is under what is held
+    -- the effects made so far, and this one, are on words under the locks held
     made_under : AreUnder O held (fits.decided.made ++ effect ∷ [])
     made_under e within = elim (in_more e effect fits.decided.made within) [
       | inl before ↦ fits.decided.under effect (inl refl) e before
@@ -104,12 +105,12 @@ module _ (O : System) (system : IsSystem O) (w : World O) (law : Lawful O w) (k 
           held = λ lock within. let h = s.held lock within in record { there = h.there; names = holders lock h.there ∙ h.names };
           distinct = s.distinct;
           read = λ r none. absurd none;
-          stands = stands;
+          valid = valid;
           fits = record {
             under = λ e within. fits.under e (inr within);
             fit = λ e within. fits.fit e (inr within);
             due = fits.due.1;
-            recorded = record { place = known.place; recorded = known.recorded; stands = known.stands; turn_is = known.turn_is; actor = known.actor; number_is = known.number_is; job = known.job; reply = known.reply };
+            recorded = record { place = known.place; recorded = known.recorded; at_place = known.at_place; turn_is = known.turn_is; actor = known.actor; number_is = known.number_is; job = known.job; reply = known.reply };
             decided = record { words = decided.words; size = decided.size; are_words = decided.are_words; shows = decided.shows; made = decided.made ++ effect ∷ []; effects = decided.effects ∙ sym (append_assoc decided.made (effect ∷ []) effects); under = λ e left. made_under; since = since };
           };
         }
@@ -123,7 +124,7 @@ module _ (O : System) (system : IsSystem O) (w : World O) (law : Lawful O w) (k 
       order = λ place r e. e;
     }) (law.sound j i b at)
 
-    -- the completed word is as it was: where the effect was made, and elsewhere
+    -- the completed word is as it was: the one that the effect was made on, and any other
     word_same : (n : ℕ) → (p ≡ n) ⊎ (p ≢ n) → completed_word O w.actors n (slice_index w.words n) ≡ completed_word O (set w.actors k (Does number new)) n (slice_index other n)
     word_same n (inl e) =
         let within : IsUnder O held n = subst (λ (m : ℕ). IsUnder O held m) e under in

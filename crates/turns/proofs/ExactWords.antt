@@ -1,4 +1,5 @@
--- an answer is of its step's kind, and after a step what is expected of a lock's word is what the word has
+-- an answer is of its step's kind, and after a step what is expected of a lock's word is what the
+-- word has
 use Rattle.std.proofs.Common.{◌≡◌, ◌≢◌, ℕ, ◌<◌, ◌^◌, ◌⊎◌, Bool, true, false, List, [], ◌∷◌, ◌++◌, length, slice_set, slice_index, inl, inr, refl, sym, ◌∙◌, ap, subst}
 use Rattle.std.specs.Prelude.{◌==◌, ◌||◌, Option, Some, None, Result, Ok, Err, if◌then◌else◌}
 use Rattle.turns.specs.Among.{IsIn}
@@ -6,11 +7,13 @@ use Rattle.turns.specs.Seen.{Seen, AreReadWords}
 use Rattle.turns.specs.Script.{Script, Ends, TestThen, SeizeThen, is_held, value_read, left, left_of_test, left_of_seizing, first_wanted, walk}
 use Rattle.turns.specs.Sharing.{with_request}
 use Rattle.turns.specs.System.{System}
-use Rattle.turns.specs.Attempt.{Act, Rest, Ask, Take, Leave, Free as FreeAct, Look, Turn, Make, AttemptOf, IsAnswerTo, StandsIn, act_in, answer_to, changed, closing_act, come_to, free_act, freed, goes_on, operated, read_in, rest_of, unless_put_off}
+use Rattle.turns.specs.Attempt.{AttemptOf, IsAnswerTo, IsValidIn, act_in, answer_to, changed, closing_act, walk_result, free_act, giving_back, goes_on, operated, read_in, rest_of, unless_denied}
+use Rattle.turns.specs.declared.act.Act.{Act}
+use Rattle.turns.specs.declared.act.Act.TheVariants as act_is
 use Rattle.turns.specs.World.{becomes, place}
 use Rattle.turns.specs.Law.{word_at}
 use Rattle.turns.specs.declared.answer.Answer.{Answer}
-use Rattle.turns.specs.declared.answer.Answer.TheVariants.{Asked, Seized, Again, Done}
+use Rattle.turns.specs.declared.answer.Answer.TheVariants.{Requested, Seized, Changed, Done}
 use Rattle.turns.specs.declared.judgement.Judgement.{Judgement}
 use Rattle.turns.specs.declared.judgement.Judgement.TheVariants as judgement
 use Rattle.turns.specs.declared.phase.Phase.{Phase}
@@ -20,7 +23,7 @@ use Rattle.turns.specs.declared.wanted.Wanted.TheVariants.{Seize, Test}
 use Rattle.turns.proofs.Lists.{index_same}
 
 module _ {Lock : Type 0} (same : Lock → Lock → Bool) where
-  -- a lock that is held is held by the test
+  -- a lock that is held passes the test for held locks
   pub held_of : (held : List Lock) (lock : Lock) → ((l : Lock) → same l l ≡ true) → IsIn lock held → is_held same held lock ≡ true
   unfolding is_held
   held_of [] lock self within = absurd within
@@ -30,7 +33,7 @@ module _ {Lock : Type 0} (same : Lock → Lock → Bool) where
     or_true true = refl
     or_true false = refl
 
-  -- a lock that a walk wants is not held
+  -- a lock that a walk needs next is not held
   pub wanted_bare : {A : Type 0} (seen : Seen Lock) (lock : Lock) (script : Script Lock A) → walk same seen script ≡ Err (Seize lock) → is_held same seen.held lock ≡ false
   unfolding walk left left_of_test left_of_seizing first_wanted
   wanted_bare seen lock (Ends found) e = absurd cc
@@ -43,40 +46,40 @@ module _ {Lock : Type 0} (same : Lock → Lock → Bool) where
     at false own later e = let one : other ≡ lock = cc in ap (is_held same seen.held) (sym one) ∙ own
     at true own later e = later e
 
-pub rest_or_not : {Lock Effect : Type 0} (step : Act Lock Effect) → (step ≡ Rest) ⊎ (step ≢ Rest)
-rest_or_not Rest = inl refl
-rest_or_not (Ask lock) = inr (λ e. absurd cc)
-rest_or_not (Take lock expected) = inr (λ e. absurd cc)
-rest_or_not (Leave lock) = inr (λ e. absurd cc)
-rest_or_not (FreeAct lock) = inr (λ e. absurd cc)
-rest_or_not (Look word) = inr (λ e. absurd cc)
-rest_or_not Turn = inr (λ e. absurd cc)
-rest_or_not (Make effect) = inr (λ e. absurd cc)
+pub rest_or_not : {Lock Effect : Type 0} (step : Act Lock Effect) → (step ≡ act_is.Finished) ⊎ (step ≢ act_is.Finished)
+rest_or_not act_is.Finished = inl refl
+rest_or_not (act_is.Request lock) = inr (λ e. absurd cc)
+rest_or_not (act_is.Seize lock expected) = inr (λ e. absurd cc)
+rest_or_not (act_is.Withdraw lock) = inr (λ e. absurd cc)
+rest_or_not (act_is.Free lock) = inr (λ e. absurd cc)
+rest_or_not (act_is.Test word) = inr (λ e. absurd cc)
+rest_or_not act_is.Turn = inr (λ e. absurd cc)
+rest_or_not (act_is.Make effect) = inr (λ e. absurd cc)
 
 module _ (O : System) where
   open O use {Lock, Effect, Decision, IsLock, sharing}
 
   -- an answer is of the step's kind, and a value that was tested fits a word
-  told_asked : (lock : Lock) (word : ℕ) (j : Judgement) → IsAnswerTo {Effect = Effect} (Ask lock) (unless_put_off (Asked word) j)
+  told_asked : (lock : Lock) (word : ℕ) (j : Judgement) → IsAnswerTo {Effect = Effect} (act_is.Request lock) (unless_denied (Requested word) j)
   told_asked lock word judgement.Free = tt
   told_asked lock word (judgement.Held holder) = tt
   told_asked lock word (judgement.Preferred other) = tt
 
-  told_taken : (lock : Lock) (expected word : ℕ) (b : Bool) (j : Judgement) → IsAnswerTo {Effect = Effect} (Take lock expected) (if b then Seized else unless_put_off (Again word) j)
+  told_taken : (lock : Lock) (expected word : ℕ) (b : Bool) (j : Judgement) → IsAnswerTo {Effect = Effect} (act_is.Seize lock expected) (if b then Seized else unless_denied (Changed word) j)
   told_taken lock expected word true j = tt
   told_taken lock expected word false judgement.Free = tt
   told_taken lock expected word false (judgement.Held holder) = tt
   told_taken lock expected word false (judgement.Preferred other) = tt
 
-  pub answers_fit : (k : ℕ) (step : Act Lock Effect) (found : ℕ) → step ≢ Rest → found < 2 ^ 64 → IsAnswerTo step (answer_to O k step found)
-  answers_fit k Rest found acts below = absurd (acts refl)
-  answers_fit k (Ask lock) found acts below = told_asked lock (with_request sharing k found) (sharing.judged k (with_request sharing k found))
-  answers_fit k (Take lock expected) found acts below = told_taken lock expected found (found == expected) (sharing.judged k found)
-  answers_fit k (Leave lock) found acts below = tt
-  answers_fit k (FreeAct lock) found acts below = tt
-  answers_fit k (Look word) found acts below = below
-  answers_fit k Turn found acts below = tt
-  answers_fit k (Make effect) found acts below = tt
+  pub answers_fit : (k : ℕ) (step : Act Lock Effect) (found : ℕ) → step ≢ act_is.Finished → found < 2 ^ 64 → IsAnswerTo step (answer_to O k step found)
+  answers_fit k act_is.Finished found acts below = absurd (acts refl)
+  answers_fit k (act_is.Request lock) found acts below = told_asked lock (with_request sharing k found) (sharing.judged k (with_request sharing k found))
+  answers_fit k (act_is.Seize lock expected) found acts below = told_taken lock expected found (found == expected) (sharing.judged k found)
+  answers_fit k (act_is.Withdraw lock) found acts below = tt
+  answers_fit k (act_is.Free lock) found acts below = tt
+  answers_fit k (act_is.Test word) found acts below = below
+  answers_fit k act_is.Turn found acts below = tt
+  answers_fit k (act_is.Make effect) found acts below = tt
 
   -- what is expected of a lock's word is what it has
   abbrev pub IsExact : List ℕ → Phase Lock ℕ → Type 0
@@ -93,7 +96,7 @@ module _ (O : System) where
   exact_on words a (Err (Seize lock)) = tt
   exact_on words a (Err (Test word)) = tt
 
-  exact_freed : (words : List ℕ) (a : AttemptOf O) (held : List Lock) → IsExact words (freed O a held).phase
+  exact_freed : (words : List ℕ) (a : AttemptOf O) (held : List Lock) → IsExact words (giving_back O a held).phase
   exact_freed words a [] = tt
   exact_freed words a (lock ∷ held) = tt
 
@@ -117,34 +120,34 @@ module _ (O : System) where
     abbrev pub words_after : Act Lock Effect → List ℕ
     words_after step = slice_set words (place O step) (becomes O k step (found_by step))
 
-    exact_asked : (lock : Lock) (word : ℕ) (j : Judgement) (after : List ℕ) → word_at O after lock ≡ word → IsExact after (changed O a (Requests lock) (unless_put_off (Asked word) j)).phase
+    exact_asked : (lock : Lock) (word : ℕ) (j : Judgement) (after : List ℕ) → word_at O after lock ≡ word → IsExact after (changed O a (Requests lock) (unless_denied (Requested word) j)).phase
     exact_asked lock word judgement.Free after e = e
     exact_asked lock word (judgement.Held holder) after e = tt
     exact_asked lock word (judgement.Preferred other) after e = tt
 
-    exact_again : (lock : Lock) (expected word : ℕ) (j : Judgement) (after : List ℕ) → word_at O after lock ≡ word → IsExact after (changed O a (SeizesNext lock expected) (unless_put_off (Again word) j)).phase
+    exact_again : (lock : Lock) (expected word : ℕ) (j : Judgement) (after : List ℕ) → word_at O after lock ≡ word → IsExact after (changed O a (SeizesNext lock expected) (unless_denied (Changed word) j)).phase
     exact_again lock expected word judgement.Free after e = e
     exact_again lock expected word (judgement.Held holder) after e = tt
     exact_again lock expected word (judgement.Preferred other) after e = tt
 
-    exact_taken : (lock : Lock) (expected word taken : ℕ) (b : Bool) (j : Judgement) → O.lock_word lock < length words → IsExact (slice_set words (O.lock_word lock) (if b then taken else word)) (changed O a (SeizesNext lock expected) (if b then Seized else unless_put_off (Again word) j)).phase
-    exact_taken lock expected word taken true j there = let b : AttemptOf O = record a { held = a.held ++ lock ∷ [] } in exact_on (slice_set words (O.lock_word lock) taken) b (come_to O b)
+    exact_taken : (lock : Lock) (expected word taken : ℕ) (b : Bool) (j : Judgement) → O.lock_word lock < length words → IsExact (slice_set words (O.lock_word lock) (if b then taken else word)) (changed O a (SeizesNext lock expected) (if b then Seized else unless_denied (Changed word) j)).phase
+    exact_taken lock expected word taken true j there = let b : AttemptOf O = record a { held = a.held ++ lock ∷ [] } in exact_on (slice_set words (O.lock_word lock) taken) b (walk_result O b)
     exact_taken lock expected word taken false j there = exact_again lock expected word j (slice_set words (O.lock_word lock) word) (index_same words (O.lock_word lock) word there)
 
     -- after any step, what is expected of a lock's word is what it has
-    pub exact_after : (phase : Phase Lock ℕ) → a.phase ≡ phase → StandsIn O a phase → AreReadWords (read_in phase a.readings) → ((lock : Lock) → AreReadWords a.readings → come_to O a ≡ Err (Seize lock) → O.lock_word lock < length words) →
+    pub exact_after : (phase : Phase Lock ℕ) → a.phase ≡ phase → IsValidIn O a phase → AreReadWords (read_in phase a.readings) → ((lock : Lock) → AreReadWords a.readings → walk_result O a ≡ Err (Seize lock) → O.lock_word lock < length words) →
         IsExact (words_after (act_in phase a)) (changed O a phase (answer_to O k (act_in phase a) (found_by (act_in phase a)))).phase
-    exact_after (Requests lock) at stands read there =
+    exact_after (Requests lock) at valid read there =
         let v = with_request sharing k (word_at O words lock) in
-        exact_asked lock v (sharing.judged k v) (slice_set words (O.lock_word lock) v) (index_same words (O.lock_word lock) v (there lock read stands))
-    exact_after (SeizesNext lock expected) at stands read there =
+        exact_asked lock v (sharing.judged k v) (slice_set words (O.lock_word lock) v) (index_same words (O.lock_word lock) v (there lock read valid))
+    exact_after (SeizesNext lock expected) at valid read there =
         let found = word_at O words lock in
-        exact_taken lock expected found (sharing.taken k expected) (found == expected) (sharing.judged k found) (there lock read stands)
-    exact_after (TestsNext word) at stands read there = let b : AttemptOf O = record a { readings = a.readings ++ record { word = word; value = slice_index words word } ∷ [] } in exact_on (words_after (Look word)) b (come_to O b)
-    exact_after Turns at stands read there = tt
-    exact_after (Withdraws lock) at stands read there = exact_freed (words_after (Leave lock)) a a.held
-    exact_after GivesBack at stands read there =
+        exact_taken lock expected found (sharing.taken k expected) (found == expected) (sharing.judged k found) (there lock read valid)
+    exact_after (TestsNext word) at valid read there = let b : AttemptOf O = record a { readings = a.readings ++ record { word = word; value = slice_index words word } ∷ [] } in exact_on (words_after (act_is.Test word)) b (walk_result O b)
+    exact_after Turns at valid read there = tt
+    exact_after (Withdraws lock) at valid read there = exact_freed (words_after (act_is.Withdraw lock)) a a.held
+    exact_after GivesBack at valid read there =
         subst (λ (x : Answer). IsExact (words_after (free_act a.held)) (changed O a GivesBack x).phase) (sym (free_done k (found_by (free_act a.held)) a.held)) (exact_freed (words_after (free_act a.held)) a (rest_of a.held))
-    exact_after (Operates turn) at stands read there =
+    exact_after (Operates turn) at valid read there =
         let step : Act Lock Effect = closing_act a.effects a.held in
         subst (λ (x : Answer). IsExact (words_after step) (changed O a (Operates turn) x).phase) (sym (closing_done k (found_by step) a.effects a.held)) (exact_operated (words_after step) a turn a.effects at)

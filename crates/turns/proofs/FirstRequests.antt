@@ -6,56 +6,56 @@ use Rattle.turns.specs.Sharing.{IsTrueOf}
 use Rattle.turns.specs.Sharings.{first_request, lower_request, by_request, by_holder, judged, preferring}
 use Rattle.turns.specs.declared.judgement.Judgement.TheVariants.{Free}
 
--- whether actor k's request stands
-abbrev stands : ℕ → ℕ → Bool
-stands word k = bit_at word (8 + k) == 1
+-- whether the word has actor k's request
+abbrev valid : ℕ → ℕ → Bool
+valid word k = bit_at word (8 + k) == 1
 
--- the first of them stands, and is one of those that were asked for
+-- the first one found is in the word, and is one of those searched for
 abbrev IsFound : ℕ → ℕ → ℕ → Option ℕ → Type 0
 IsFound word j count None = Unit {0}
-IsFound word j count (Some other) = (other < j + count) × (stands word other ≡ true)
+IsFound word j count (Some other) = (other < j + count) × (valid word other ≡ true)
 
 later_found : (word j count : ℕ) (found : Option ℕ) → IsFound word (suc j) count found → IsFound word j (suc count) found
 later_found word j count None is = tt
 later_found word j count (Some other) is = (omega (arith, is.0), is.1)
 
-here_found : (word j count : ℕ) (b : Bool) → stands word j ≡ b → IsFound word (suc j) count (first_request word (suc j) count) → IsFound word j (suc count) (if b then Some j else first_request word (suc j) count)
+here_found : (word j count : ℕ) (b : Bool) → valid word j ≡ b → IsFound word (suc j) count (first_request word (suc j) count) → IsFound word j (suc count) (if b then Some j else first_request word (suc j) count)
 here_found word j count true e later = (omega arith, e)
 here_found word j count false e later = later_found word j count (first_request word (suc j) count) later
 
 first_found : (word j count : ℕ) → IsFound word j count (first_request word j count)
 first_found word j zero = tt
-first_found word j (suc count) = here_found word j count (stands word j) refl (first_found word (suc j) count)
+first_found word j (suc count) = here_found word j count (valid word j) refl (first_found word (suc j) count)
 
--- none stands: none is found
-pub none_found : (word j count : ℕ) → ((i : ℕ) → j ≤ i → i < j + count → stands word i ≡ false) → first_request word j count ≡ None
+-- there is none: none is found
+pub none_found : (word j count : ℕ) → ((i : ℕ) → j ≤ i → i < j + count → valid word i ≡ false) → first_request word j count ≡ None
 none_found word j zero none = refl
 none_found word j (suc count) none =
     ap (λ (b : Bool). if b then Some j else first_request word (suc j) count) (none j (omega arith) (omega arith)) ∙ none_found word (suc j) count (λ i from below. none i (omega arith) (omega arith))
 
--- one stands, and none before it: it is found
-pub one_found : (word j count step : ℕ) → step < count → stands word (j + step) ≡ true → ((i : ℕ) → j ≤ i → i < j + step → stands word i ≡ false) → first_request word j count ≡ Some (j + step)
+-- there is one, and none before it: it is found
+pub one_found : (word j count step : ℕ) → step < count → valid word (j + step) ≡ true → ((i : ℕ) → j ≤ i → i < j + step → valid word i ≡ false) → first_request word j count ≡ Some (j + step)
 one_found word j zero step below one none = absurd (omega arith)
 one_found word j (suc count) zero below one none =
     let here : j + 0 ≡ j = omega arith in
-    ap (λ (b : Bool). if b then Some j else first_request word (suc j) count) (ap (stands word) (sym here) ∙ one) ∙ ap Some (sym here)
+    ap (λ (b : Bool). if b then Some j else first_request word (suc j) count) (ap (valid word) (sym here) ∙ one) ∙ ap Some (sym here)
 one_found word j (suc count) (suc step) below one none =
     let next : j + suc step ≡ suc j + step = omega arith in
     ap (λ (b : Bool). if b then Some j else first_request word (suc j) count) (none j (omega arith) (omega arith))
-    ∙ one_found word (suc j) count step (omega arith) (ap (stands word) (sym next) ∙ one) (λ i from until. none i (omega arith) (omega arith))
+    ∙ one_found word (suc j) count step (omega arith) (ap (valid word) (sym next) ∙ one) (λ i from until. none i (omega arith) (omega arith))
     ∙ ap Some (sym next)
 
-pub lower_none : (k word : ℕ) → ((i : ℕ) → i < k → stands word i ≡ false) → lower_request k word ≡ None
+pub lower_none : (k word : ℕ) → ((i : ℕ) → i < k → valid word i ≡ false) → lower_request k word ≡ None
 unfolding lower_request
 lower_none k word none = none_found word 0 k (λ i from below. none i (omega arith))
 
-pub lower_found : (k word other : ℕ) → other < k → stands word other ≡ true → ((i : ℕ) → i < other → stands word i ≡ false) → lower_request k word ≡ Some other
+pub lower_found : (k word other : ℕ) → other < k → valid word other ≡ true → ((i : ℕ) → i < other → valid word i ≡ false) → lower_request k word ≡ Some other
 unfolding lower_request
 lower_found k word other below one none =
     let same : 0 + other ≡ other = omega arith in
-    one_found word 0 k other below (ap (stands word) same ∙ one) (λ i from until. none i (omega arith)) ∙ ap Some same
+    one_found word 0 k other below (ap (valid word) same ∙ one) (λ i from until. none i (omega arith)) ∙ ap Some same
 
--- what a lock's word says is true of it
+-- the judgement of a lock's word is true
 true_by_request : (k word : ℕ) (found : Option ℕ) → word % 64 ≡ 0 → IsFound word 0 k found → IsTrueOf preferring k word (by_request found)
 true_by_request k word None free found = free
 true_by_request k word (Some other) free found = (omega (arith, found.0), free, found.1)
@@ -68,10 +68,10 @@ pub judged_true : (k word : ℕ) → IsTrueOf preferring k word (judged k word)
 unfolding judged lower_request
 judged_true k word = true_by_holder k word (word % 64) (first_request word 0 k) refl (first_found word 0 k)
 
--- an actor that alone requests what nobody holds may go on
-pub alone_free : (k word : ℕ) → k < 48 → word % 64 ≡ 0 → ((j : ℕ) → j < 48 → stands word j ≡ true → j ≡ k) → judged k word ≡ Free
+-- an actor may go on if it alone requests a lock that nobody holds
+pub alone_free : (k word : ℕ) → k < 48 → word % 64 ≡ 0 → ((j : ℕ) → j < 48 → valid word j ≡ true → j ≡ k) → judged k word ≡ Free
 unfolding judged
-alone_free k word few free alone = ap (λ holder. by_holder holder (lower_request k word)) free ∙ ap by_request (lower_none k word (λ i below. none i below (stands word i) refl)) where
-  none : (i : ℕ) → i < k → (b : Bool) → stands word i ≡ b → stands word i ≡ false
+alone_free k word few free alone = ap (λ holder. by_holder holder (lower_request k word)) free ∙ ap by_request (lower_none k word (λ i below. none i below (valid word i) refl)) where
+  none : (i : ℕ) → i < k → (b : Bool) → valid word i ≡ b → valid word i ≡ false
   none i below false e = e
   none i below true e = let same : i ≡ k = alone i (omega arith) e in absurd (omega arith)

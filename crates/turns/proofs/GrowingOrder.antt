@@ -5,7 +5,7 @@ use mathlib.Core.Option.{Option, some, none}
 use lib.ListN.{get_elem?}
 use Rattle.turns.specs.System.{System}
 use Rattle.turns.specs.World.{World, ActorOf, RecordOf, Idle, Does, added, assigned}
-use Rattle.turns.specs.Runs.{Move, Assigns, Steps, Backs, is_free, assigned_at, stepped_at, backed_at, after_move, run_from}
+use Rattle.turns.specs.Runs.{Move, Assigns, Steps, Backs, is_available, assigned_at, stepped_at, backed_at, after_move, run_from}
 
 module _ (O : System) where
   -- the order of one world begins that of another
@@ -18,7 +18,7 @@ module _ (O : System) where
   assigned_grows : (w : World O) (k number : ℕ) (job : O.Job) (found : Option (ActorOf O))
       → Grows w (assigned_at O k number job found w)
   assigned_grows w k number job none = grows_by_none w
-  assigned_grows w k number job (some m) = by (is_free O m) where
+  assigned_grows w k number job (some m) = by (is_available O m) where
     by : (free : Bool) → Grows w (if free then assigned O k number job w else w)
     by true = grows_by_none w
     by false = grows_by_none w

@@ -13,7 +13,7 @@ use Rattle.turns.proofs.Words.{value_read-below}
 abbrev pub AreAmong : {A : Type 0} → List A → List A → Type 0
 AreAmong {A} some all = (x : A) → IsIn x some → IsIn x all
 
--- what is held by the test is among what is held
+-- a lock that passes the test for held locks is among those held
 pub held_in : {Lock : Type 0} (same : Lock → Lock → Bool) (one_lock : (a b : Lock) → same a b ≡ true → a ≡ b) (held : List Lock) (lock : Lock) → is_held same held lock ≡ true → IsIn lock held
 unfolding is_held
 held_in same one_lock [] lock e = cc

@@ -9,13 +9,13 @@ use Rattle.turns.specs.Among.{IsIn}
 use Rattle.turns.specs.Seen.{AreReadWords}
 use Rattle.turns.specs.Sharing.{with_request}
 use Rattle.turns.specs.System.{System, IsSystem}
-use Rattle.turns.specs.Attempt.{AttemptOf, StandsIn, act, act_in, answer_to, closing_act, come_to, free_act, next, read_in, request_in, seen_of, unless_put_off}
+use Rattle.turns.specs.Attempt.{AttemptOf, IsValidIn, act, act_in, answer_to, closing_act, walk_result, free_act, next, read_in, request_in, seen_of, unless_denied}
 use Rattle.turns.specs.World.{World, ActorOf, Does, moved, place}
 use Rattle.turns.specs.Law.{Holds, HasRequested, Lawful, holder_at, word_at}
 use Rattle.turns.specs.Runs.{after_move, stepped_at, Steps}
 use Rattle.turns.specs.Bounds.{IsAside, IsSteady}
 use Rattle.turns.specs.declared.answer.Answer.{Answer}
-use Rattle.turns.specs.declared.answer.Answer.TheVariants.{Asked, Seized, Again}
+use Rattle.turns.specs.declared.answer.Answer.TheVariants.{Requested, Seized, Changed}
 use Rattle.turns.specs.declared.judgement.Judgement.{Judgement}
 use Rattle.turns.specs.declared.judgement.Judgement.TheVariants as judgement
 use Rattle.turns.specs.declared.phase.Phase.{Phase}
@@ -65,18 +65,18 @@ module _ (O : System) (is : IsSystem O) where
           let some_lock : request_in requested.attempt.phase ≡ Some lock = requested.requests in
           absurd cc
 
-    module _ (read : AreReadWords a.readings) (lock : Lock) (wants : come_to O a ≡ Err (Seize lock)) where
+    module _ (read : AreReadWords a.readings) (lock : Lock) (wants : walk_result O a ≡ Err (Seize lock)) where
       right : IsLock lock
       right = wanted_lock O is a lock (law.sound k number a there).job read wants
 
-      -- what it wants nobody holds
+      -- nobody holds the lock that it needs
       nobody : sharing.holder (word_at O w.words lock) ≡ 0
       nobody = at (sharing.holder (word_at O w.words lock)) refl where
         at : (n : ℕ) → sharing.holder (word_at O w.words lock) ≡ n → sharing.holder (word_at O w.words lock) ≡ 0
         at zero e = e
         at (suc j) e = absurd (true≢false (sym (held_of O.same a.held lock (λ l. (is.same l l).1 refl) (named_mine lock j right e)) ∙ wanted_bare O.same (seen_of a) lock (O.script a.job) wants))
 
-      -- so it may go on, with its request, or once that stands
+      -- so it may go on, when it requests or when its request is pending
       free_asked : sharing.judged k (with_request sharing k (word_at O w.words lock)) ≡ judgement.Free
       free_asked =
           let shared = law.shared lock right in
@@ -91,27 +91,27 @@ module _ (O : System) (is : IsSystem O) where
     still_read : AreReadWords (read_in a.phase a.readings)
     still_read = are_read O w.words a.held (read_in a.phase a.readings) law.are_words (law.sound k number a there).read
 
-    -- its step's answer is steady where what it expects is what there is
+    -- its step's answer is steady if what it expects is what there is
     abbrev answer_in : Phase Lock ℕ → Answer
     answer_in phase = answer_to O k (act_in phase a) (slice_index w.words (place O (act_in phase a)))
 
-    steady_in : (phase : Phase Lock ℕ) → StandsIn O a phase → AreReadWords (read_in phase a.readings) → IsExact O w.words phase → IsSteady (answer_in phase)
-    steady_in (Requests lock) stands read exact = subst (λ (j : Judgement). IsSteady (unless_put_off (Asked (with_request sharing k (word_at O w.words lock))) j)) (sym (free_asked read lock stands)) tt
-    steady_in (SeizesNext lock expected) stands read exact =
-        subst (λ (b : Bool). IsSteady (if b then Seized else unless_put_off (Again (word_at O w.words lock)) (sharing.judged k (word_at O w.words lock)))) (sym (eq-eqb (word_at O w.words lock) expected exact)) tt
-    steady_in (TestsNext word) stands read exact = tt
-    steady_in Turns stands read exact = tt
-    steady_in (Withdraws lock) stands read exact = tt
-    steady_in GivesBack stands read exact = subst IsSteady (sym (free_done O k (slice_index w.words (place O (free_act a.held))) a.held)) tt
-    steady_in (Operates turn) stands read exact = subst IsSteady (sym (closing_done O k (slice_index w.words (place O (closing_act a.effects a.held))) a.effects a.held)) tt
+    steady_in : (phase : Phase Lock ℕ) → IsValidIn O a phase → AreReadWords (read_in phase a.readings) → IsExact O w.words phase → IsSteady (answer_in phase)
+    steady_in (Requests lock) valid read exact = subst (λ (j : Judgement). IsSteady (unless_denied (Requested (with_request sharing k (word_at O w.words lock))) j)) (sym (free_asked read lock valid)) tt
+    steady_in (SeizesNext lock expected) valid read exact =
+        subst (λ (b : Bool). IsSteady (if b then Seized else unless_denied (Changed (word_at O w.words lock)) (sharing.judged k (word_at O w.words lock)))) (sym (eq-eqb (word_at O w.words lock) expected exact)) tt
+    steady_in (TestsNext word) valid read exact = tt
+    steady_in Turns valid read exact = tt
+    steady_in (Withdraws lock) valid read exact = tt
+    steady_in GivesBack valid read exact = subst IsSteady (sym (free_done O k (slice_index w.words (place O (free_act a.held))) a.held)) tt
+    steady_in (Operates turn) valid read exact = subst IsSteady (sym (closing_done O k (slice_index w.words (place O (closing_act a.effects a.held))) a.effects a.held)) tt
 
     pub steady : IsExact O w.words a.phase → IsSteady (answer_to O k (act a) (slice_index w.words (place O (act a))))
-    steady exact = steady_in a.phase (law.sound k number a there).stands still_read exact
+    steady exact = steady_in a.phase (law.sound k number a there).valid still_read exact
 
     -- after its step what it expects is what there is, and the others are still out of the way
     pub exact_next : IsExact O (moved O k number a w).words (next O k a (slice_index w.words (place O (act a)))).phase
     exact_next =
-        exact_after O k w.words a a.phase refl (law.sound k number a there).stands still_read
+        exact_after O k w.words a a.phase refl (law.sound k number a there).valid still_read
         (λ lock read wants. let below = is.words.lock_word_there lock (wanted_lock O is a lock (law.sound k number a there).job read wants) in omega (arith, law.size))
 
     pub there_next : get_elem? (moved O k number a w).actors k ≡ some (Does number (next O k a (slice_index w.words (place O (act a)))))

@@ -29,5 +29,5 @@ pub mod AloneEnds
 pub mod GrowingOrder
 pub mod CompleteWords
 pub mod KeptLocks
-pub mod PutOff
+pub mod Denied
 pub mod PastTurn

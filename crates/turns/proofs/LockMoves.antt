@@ -6,7 +6,7 @@ use Rattle.turns.specs.Among.{IsIn}
 use Rattle.turns.specs.Sharing.{AddsNone, AddsOnly, Clears, KeepsOthers, ShowsRequests}
 use Rattle.turns.specs.System.{System, IsSystem}
 use Rattle.turns.specs.Attempt.{AttemptOf, request_in, walks_on}
-use Rattle.turns.specs.World.{World, Does, left_of}
+use Rattle.turns.specs.World.{World, Does, effects_left_of}
 use Rattle.turns.specs.Law.{IsHeld, IsRead, IsSound, Lawful, holder_at, word_at}
 use Rattle.turns.specs.declared.reading.Reading.{Reading}
 use Rattle.turns.proofs.Lists.{in_front, in_more, in_last, distinct_more}
@@ -22,20 +22,21 @@ none_some o x empty full = cc
 module _ (O : System) where
   open O use {Lock, sharing}
 
-  -- a word in which none but actor k's request is new, or one in which that is gone, tells of the others what the word before told
+  -- a word in which no request is new except actor k's, or in which that one is gone, has the same
+  -- requests of the others as the word before
   pub added_others : (k word value : ℕ) → AddsOnly sharing k word value → (ShowsRequests sharing → KeepsOthers sharing k word value) → TellsOthers O k word value
   added_others k word value adds keeps = record {
-    made = λ j few apart stands. elim (adds j few stands) [ inl one ↦ absurd (apart one) | inr stood ↦ stood ];
+    made = λ j few apart valid. elim (adds j few valid) [ inl one ↦ absurd (apart one) | inr stood ↦ stood ];
     shown = keeps;
   }
 
   pub cleared_others : (k word value : ℕ) → Clears sharing k word value → (ShowsRequests sharing → KeepsOthers sharing k word value) → TellsOthers O k word value
-  cleared_others k word value clears keeps = record { made = λ j few apart stands. (clears j few stands).1; shown = keeps }
+  cleared_others k word value clears keeps = record { made = λ j few apart valid. (clears j few valid).1; shown = keeps }
 
   -- an actor whose request is gone from the word requests nothing
   pub cleared_own : (k word value : ℕ) (lock : Lock) (request : Option Lock) → k < sharing.most → Clears sharing k word value → request ≡ None → TellsOwn O k lock value request
   cleared_own k word value lock request few clears none = record {
-    made = λ stands. absurd ((clears k few stands).0 refl);
+    made = λ valid. absurd ((clears k few valid).0 refl);
     shown = λ shows asks. absurd (none_some request lock none asks);
   }
 
@@ -53,7 +54,7 @@ module _ (O : System) (system : IsSystem O) (w : World O) (law : Lawful O w) (k 
     then = renewed O w other w.order k number new
 
     -- it requests the lock, or withdraws its request: the holder stays
-    pub stays : sharing.holder v ≡ holder_at O w.words c → new.held ≡ a.held → left_of O (Does number new) ≡ left_of O (Does number a) → (IsSound O then k number a → IsSound O then k number new) → sharing.IsWord v → TellsOwn O k c v (request_in new.phase) → TellsOthers O k (word_at O w.words c) v → ((lock : Lock) → request_in a.phase ≡ Some lock → lock ≡ c) → ((lock : Lock) → request_in new.phase ≡ Some lock → lock ≡ c) → Lawful O then
+    pub stays : sharing.holder v ≡ holder_at O w.words c → new.held ≡ a.held → effects_left_of O (Does number new) ≡ effects_left_of O (Does number a) → (IsSound O then k number a → IsSound O then k number new) → sharing.IsWord v → TellsOwn O k c v (request_in new.phase) → TellsOthers O k (word_at O w.words c) v → ((lock : Lock) → request_in a.phase ≡ Some lock → lock ≡ c) → ((lock : Lock) → request_in new.phase ≡ Some lock → lock ≡ c) → Lawful O then
     stays same held left sound is_word own others before next = locks O system w law k number a there c is v new (record {
       left = left;
       sound = sound (sound_along O system w then k number a (record {
@@ -98,7 +99,7 @@ module _ (O : System) (system : IsSystem O) (w : World O) (law : Lawful O w) (k 
       later lock apart (inl one) = absurd (apart one)
       later lock apart (inr more) = more
 
-      pub frees : sharing.IsWord v → sharing.holder v ≡ 0 → AddsNone sharing (word_at O w.words c) v → (ShowsRequests sharing → AddsNone sharing v (word_at O w.words c)) → request_in a.phase ≡ None → request_in new.phase ≡ None → left_of O (Does number new) ≡ left_of O (Does number a) → new.held ≡ rest → IsSound O then k number new → Lawful O then
+      pub frees : sharing.IsWord v → sharing.holder v ≡ 0 → AddsNone sharing (word_at O w.words c) v → (ShowsRequests sharing → AddsNone sharing v (word_at O w.words c)) → request_in a.phase ≡ None → request_in new.phase ≡ None → effects_left_of O (Does number new) ≡ effects_left_of O (Does number a) → new.held ≡ rest → IsSound O then k number new → Lawful O then
       frees is_word free adds stay before next left held sound = locks O system w law k number a there c is v new (record {
         left = left;
         sound = sound;
@@ -107,7 +108,7 @@ module _ (O : System) (system : IsSystem O) (w : World O) (law : Lawful O w) (k 
         spares = λ j i b apart at lock isl within. ap sharing.holder (word_else O system w.words law.size c is v lock isl (mine_apart O system w law k number a there c own_lock j i b apart at lock within));
         keeps = λ lock apart within. subst (λ (l : List Lock). IsIn lock l) (sym held) (later lock apart (subst (λ (l : List Lock). IsIn lock l) first within));
         own = record {
-          made = λ stands. absurd (none_some (request_in a.phase) c before (is_requested_by O w.actors k (Does number a) c there (((law.shared c is).requested k few).made (adds k few stands))));
+          made = λ valid. absurd (none_some (request_in a.phase) c before (is_requested_by O w.actors k (Does number a) c there (((law.shared c is).requested k few).made (adds k few valid))));
           shown = λ shows asks. absurd (none_some (request_in new.phase) c next asks);
         };
         others = record { made = λ j low apart. adds j low; shown = λ shows j low apart. stay shows j low };
@@ -146,7 +147,7 @@ module _ (O : System) (system : IsSystem O) (w : World O) (law : Lawful O w) (k 
     taker_holds : (lock : Lock) → IsIn lock (a.held ++ c ∷ []) → IsIn lock (walks_on O taker).held
     taker_holds lock within = subst (λ (l : List Lock). IsIn lock l) (sym (walks_held O taker)) within
 
-    pub takes : holder_at O w.words c ≡ 0 → sharing.IsWord v → sharing.holder v ≡ suc k → Clears sharing k (word_at O w.words c) v → (ShowsRequests sharing → KeepsOthers sharing k (word_at O w.words c) v) → ((r : Reading ℕ) → IsIn r a.readings → IsRead O w.words a.held r) → left_of O (Does number a) ≡ [] → ((lock : Lock) → request_in a.phase ≡ Some lock → lock ≡ c) → Lawful O taken
+    pub takes : holder_at O w.words c ≡ 0 → sharing.IsWord v → sharing.holder v ≡ suc k → Clears sharing k (word_at O w.words c) v → (ShowsRequests sharing → KeepsOthers sharing k (word_at O w.words c) v) → ((r : Reading ℕ) → IsIn r a.readings → IsRead O w.words a.held r) → effects_left_of O (Does number a) ≡ [] → ((lock : Lock) → request_in a.phase ≡ Some lock → lock ≡ c) → Lawful O taken
     takes free is_word named clears keeps read left before = locks O system w law k number a there c is v (walks_on O taker) (record {
       left = walks_left O taker ∙ sym left;
       sound = walks_sound O system taken k number taker (set_below w.words (lock_word c) v law.are_words (system.sharing.word_below v is_word)) (taker_has free named) (taker_read read);

@@ -1,4 +1,5 @@
--- the bits of a lock's word: the lowest six name its holder, and each actor's request is a bit of its own
+-- the bits of a lock's word: the lowest six name its holder, and each actor's request is a bit of
+-- its own
 use Rattle.std.proofs.Common.{◌≡◌, ◌≢◌, ℕ, suc, ◌+◌, ◌-◌, ◌*◌, ◌^◌, ◌%◌, ◌<◌, ◌≤◌, ◌⊎◌, Bool, true, false, inl, inr, sym, refl, ap, ◌∙◌, arith, bit_and, bit_or, pow-add, pow_mono, mod-eq_of_lt, mod-lt}
 use Rattle.std.specs.Prelude.{◌==◌, min}
 use Rattle.std.specs.Int.{bit_at, w64}
@@ -8,7 +9,7 @@ use Rattle.std.proofs.lemmas.Nat.{or_mod, and_mod, and_mask, or_lt}
 use Rattle.std.proofs.lemmas.Nat.Bits.{bit_at_or, bit_at_and, bit_at-pow_same, bit_at-pow_other, bit_at-lt, bit_at_not, bit_at_above}
 use Rattle.std.proofs.lemmas.Bool.{cases_lt, eqb-true, eqb-false}
 use Rattle.turns.specs.Sharing.{AddsNone, AddsOnly, Clears, KeepsOthers}
-use Rattle.turns.specs.Sharings.{IsLockWord, preferring, request_bit, taken_by}
+use Rattle.turns.specs.Sharings.{IsLockWord, preferring, request_bit, seized_by}
 use Rattle.turns.proofs.Lists.{one_or_two}
 
 -- a word without actor k's request, and one without its holder
@@ -18,11 +19,11 @@ without k word = bit_and word (2 ^ 64 - 1 - request_bit k)
 abbrev unheld : ℕ → ℕ
 unheld word = bit_and word (2 ^ 64 - 1 - 63)
 
--- where a bit of a lock's word may be set
+-- the bits of a lock's word that may be set
 abbrev IsOwn : ℕ → Type 0
 IsOwn i = (i < 6) ⊎ ((8 ≤ i) × (i < 56))
 
--- a request bit stands above the lowest six bits
+-- a request bit is above the lowest six bits
 request_high : (k : ℕ) → request_bit k ≡ 2 ^ 6 * 2 ^ (2 + k)
 request_high k = let e : 8 + k ≡ 6 + (2 + k) = omega arith in ap (λ (n : ℕ). 2 ^ n) e ∙ pow-add 2 6 (2 + k)
 
@@ -46,7 +47,7 @@ pub without_holder : (k word : ℕ) → k < 48 → without k word % 64 ≡ word 
 without_holder k word few =
     and_mod word (2 ^ 64 - 1 - request_bit k) 6 ∙ ap (bit_and (word % 2 ^ 6)) (mask_mod k few) ∙ and_mask (word % 2 ^ 6) 6 ∙ mod-eq_of_lt (mod-lt word {m = 2 ^ 6} (omega arith))
 
-pub taken_holder : (k word : ℕ) → k < 48 → word % 64 ≡ 0 → taken_by k word % 64 ≡ suc k
+pub taken_holder : (k word : ℕ) → k < 48 → word % 64 ≡ 0 → seized_by k word % 64 ≡ suc k
 taken_holder k word few free =
     let low : (1 + k) % 2 ^ 6 ≡ 1 + k = mod-eq_of_lt (omega arith) in
     let one : 1 + k ≡ suc k = omega arith in
@@ -69,7 +70,7 @@ without_other k word i few within other = omega (arith, without_bit k word i few
 without_set : (k word i : ℕ) → bit_at (without k word) i ≡ 1 → bit_at word i ≡ 1
 without_set k word i set = omega (arith, bit_at_and word (2 ^ 64 - 1 - request_bit k) i, bit_at-lt word i)
 
-taken_bit : (k word i : ℕ) → k < 48 → 6 ≤ i → bit_at (taken_by k word) i ≡ bit_at (without k word) i
+taken_bit : (k word i : ℕ) → k < 48 → 6 ≤ i → bit_at (seized_by k word) i ≡ bit_at (without k word) i
 taken_bit k word i few above = omega (arith, bit_at_or (without k word) (1 + k) i, bit_at_above (1 + k) 6 i (omega arith) above)
 
 unheld_bit : (word i : ℕ) → 6 ≤ i → i < 64 → bit_at (unheld word) i ≡ bit_at word i
@@ -80,7 +81,8 @@ unheld_bit word i above within =
 unheld_set : (word i : ℕ) → bit_at (unheld word) i ≡ 1 → bit_at word i ≡ 1
 unheld_set word i set = omega (arith, bit_at_and word (2 ^ 64 - 1 - 63) i, bit_at-lt word i)
 
--- the requests of others, once one is made, withdrawn, or taken, and all of them once the lock is freed
+-- the requests of others, once one is made, withdrawn, or taken, and all of them once the lock is
+-- freed
 asked_other : (k word j : ℕ) → j ≢ k → bit_at (bit_or word (request_bit k)) (8 + j) ≡ bit_at word (8 + j)
 asked_other k word j apart =
     let none : bit_at (request_bit k) (8 + j) ≡ 0 = bit_at-pow_other (8 + k) (8 + j) (λ same. apart (omega arith)) in
@@ -89,7 +91,7 @@ asked_other k word j apart =
 without_request : (k word j : ℕ) → k < 48 → j < 48 → j ≢ k → bit_at (without k word) (8 + j) ≡ bit_at word (8 + j)
 without_request k word j few below apart = without_other k word (8 + j) few (omega arith) (λ same. apart (omega arith))
 
-taken_request : (k word j : ℕ) → k < 48 → bit_at (taken_by k word) (8 + j) ≡ bit_at (without k word) (8 + j)
+taken_request : (k word j : ℕ) → k < 48 → bit_at (seized_by k word) (8 + j) ≡ bit_at (without k word) (8 + j)
 taken_request k word j few = taken_bit k word (8 + j) few (omega arith)
 
 unheld_request : (word j : ℕ) → j < 48 → bit_at (unheld word) (8 + j) ≡ bit_at word (8 + j)
@@ -97,26 +99,26 @@ unheld_request word j below = unheld_bit word (8 + j) (omega arith) (omega arith
 
 -- no other request is new, nor is one that was withdrawn or taken still there
 pub asked_requests : (k word : ℕ) → AddsOnly preferring k word (bit_or word (request_bit k))
-asked_requests k word j below stands = elim (one_or_two j k) [
+asked_requests k word j below valid = elim (one_or_two j k) [
   | inl one ↦ inl one
-  | inr apart ↦ inr (sym (ap (λ n. n == 1) (asked_other k word j apart)) ∙ stands)
+  | inr apart ↦ inr (sym (ap (λ n. n == 1) (asked_other k word j apart)) ∙ valid)
 ]
 
 pub without_requests : (k word : ℕ) → k < 48 → Clears preferring k word (without k word)
-without_requests k word few j below stands = (apart, sym (ap (λ n. n == 1) (without_request k word j few below apart)) ∙ stands) where
+without_requests k word few j below valid = (apart, sym (ap (λ n. n == 1) (without_request k word j few below apart)) ∙ valid) where
   apart : j ≢ k
   apart one =
       let clear : bit_at (without k word) (8 + j) ≡ 0 = ap (λ n. bit_at (without k word) (8 + n)) one ∙ without_same k word few in
-      let set : bit_at (without k word) (8 + j) ≡ 1 = eqb-true (bit_at (without k word) (8 + j)) 1 stands in
+      let set : bit_at (without k word) (8 + j) ≡ 1 = eqb-true (bit_at (without k word) (8 + j)) 1 valid in
       absurd (omega (arith, clear, set))
 
-pub taken_requests : (k word : ℕ) → k < 48 → Clears preferring k word (taken_by k word)
-taken_requests k word few j below stands = without_requests k word few j below (sym (ap (λ n. n == 1) (taken_request k word j few)) ∙ stands)
+pub taken_requests : (k word : ℕ) → k < 48 → Clears preferring k word (seized_by k word)
+taken_requests k word few j below valid = without_requests k word few j below (sym (ap (λ n. n == 1) (taken_request k word j few)) ∙ valid)
 
 pub unheld_requests : (word : ℕ) → AddsNone preferring word (unheld word)
-unheld_requests word j below stands = sym (ap (λ n. n == 1) (unheld_request word j below)) ∙ stands
+unheld_requests word j below valid = sym (ap (λ n. n == 1) (unheld_request word j below)) ∙ valid
 
--- a request that was made stands, and so do those of others
+-- a request that was made is in the word, and so are those of others
 pub asked_own : (k word : ℕ) → preferring.requests k (bit_or word (request_bit k)) ≡ true
 asked_own k word =
     let set : bit_at (bit_or word (request_bit k)) (8 + k) ≡ 1 = omega (arith, bit_at_or word (request_bit k) (8 + k), bit_at-pow_same (8 + k), bit_at-lt word (8 + k)) in
@@ -128,7 +130,7 @@ asked_others k word j below apart stood = ap (λ n. n == 1) (asked_other k word 
 pub without_others : (k word : ℕ) → k < 48 → KeepsOthers preferring k word (without k word)
 without_others k word few j below apart stood = ap (λ n. n == 1) (without_request k word j few below apart) ∙ stood
 
-pub taken_others : (k word : ℕ) → k < 48 → KeepsOthers preferring k word (taken_by k word)
+pub taken_others : (k word : ℕ) → k < 48 → KeepsOthers preferring k word (seized_by k word)
 taken_others k word few j below apart stood = ap (λ n. n == 1) (taken_request k word j few) ∙ without_others k word few j below apart stood
 
 pub unheld_others : (word : ℕ) → AddsNone preferring (unheld word) word
@@ -154,13 +156,13 @@ without_is k word few is = record {
   below = and_lt 64 word (2 ^ 64 - 1 - request_bit k) is.below (omega arith);
 }
 
-pub taken_is : (k word : ℕ) → k < 48 → IsLockWord word → word % 64 ≡ 0 → IsLockWord (taken_by k word)
+pub taken_is : (k word : ℕ) → k < 48 → IsLockWord word → word % 64 ≡ 0 → IsLockWord (seized_by k word)
 taken_is k word few is free = record {
   holder = omega (arith, taken_holder k word few free);
   bits = λ i set. at i set (cases_lt i 6);
   below = or_lt 64 (without k word) (1 + k) (without_is k word few is).below (omega arith);
 } where
-  at : (i : ℕ) → bit_at (taken_by k word) i ≡ 1 → (i < 6) ⊎ (6 ≤ i) → IsOwn i
+  at : (i : ℕ) → bit_at (seized_by k word) i ≡ 1 → (i < 6) ⊎ (6 ≤ i) → IsOwn i
   at i set (inl low) = inl low
   at i set (inr above) = is.bits i (without_set k word i (sym (taken_bit k word i few above) ∙ set))
 

@@ -5,7 +5,7 @@ use lib.ListN.{get_elem?}
 use Rattle.turns.specs.Among.{IsIn}
 use Rattle.turns.specs.System.{System, IsSystem}
 use Rattle.turns.specs.Attempt.{AttemptOf, request_in}
-use Rattle.turns.specs.World.{World, Does, left_of}
+use Rattle.turns.specs.World.{World, Does, effects_left_of}
 use Rattle.turns.specs.Law.{Holds, IsShared, IsSound, Lawful, holder_at, word_at}
 use Rattle.turns.proofs.Lists.{one_or_two, index_same, index_other}
 use Rattle.turns.proofs.Settings.{TellsOthers, TellsOwn, renewed, shared_here, shared_on}
@@ -69,7 +69,7 @@ module _ (O : System) (system : IsSystem O) where
 
     -- what a move of actor k on a lock's own word has to keep
     pub record Locks (v : ℕ) (new : AttemptOf O) : Type 0 where
-      pub left : left_of O (Does number new) ≡ left_of O (Does number a)
+      pub left : effects_left_of O (Does number new) ≡ effects_left_of O (Does number a)
       pub sound : IsSound O (renewed O w (slice_set w.words (lock_word c) v) w.order k number new) k number new
       -- the word that it leaves is a lock's word that names its holder
       pub is_word : sharing.IsWord v
@@ -77,7 +77,8 @@ module _ (O : System) (system : IsSystem O) where
       -- no other actor's lock has another holder, and no other lock is given up
       pub spares : (j i : ℕ) (b : AttemptOf O) → j ≢ k → get_elem? w.actors j ≡ some (Does i b) → (lock : Lock) → IsLock lock → IsIn lock b.held → holder_at O (slice_set w.words (lock_word c) v) lock ≡ holder_at O w.words lock
       pub keeps : (lock : Lock) → ¬ (lock ≡ c) → IsIn lock a.held → IsIn lock new.held
-      -- its request stands in the word exactly where it stands, and it stood and stands for no other lock
+      -- its request is in the word exactly if it is pending, and it is pending for no other lock,
+      -- before or after
       pub own : TellsOwn O k c v (request_in new.phase)
       pub others : TellsOthers O k (word_at O w.words c) v
       pub before : (lock : Lock) → request_in a.phase ≡ Some lock → lock ≡ c

@@ -6,10 +6,10 @@ use lib.ListN.{get_elem?}
 use Rattle.turns.specs.Among.{IsIn}
 use Rattle.turns.specs.Sharing.{IsTrueOf, ShowsRequests, with_request, without_holder as freed_word, without_request}
 use Rattle.turns.specs.System.{System, IsSystem}
-use Rattle.turns.specs.Attempt.{AttemptOf, Stands, change, changed, freed, forgotten, left_in, put_off, request_in, restarted, unless_put_off, walks_on}
-use Rattle.turns.specs.World.{World, ActorOf, RecordOf, Does, left_of, moved}
+use Rattle.turns.specs.Attempt.{AttemptOf, IsValid, change, changed, giving_back, forgotten, effects_left_in, denied, request_in, restarted, unless_denied, walks_on}
+use Rattle.turns.specs.World.{World, ActorOf, RecordOf, Does, effects_left_of, moved}
 use Rattle.turns.specs.Law.{HasRequested, IsRead, IsSound, Lawful, word_at}
-use Rattle.turns.specs.declared.answer.Answer.TheVariants.{Asked, Seized, Again, Done}
+use Rattle.turns.specs.declared.answer.Answer.TheVariants.{Requested, Seized, Changed, Done}
 use Rattle.turns.specs.declared.judgement.Judgement.{Judgement}
 use Rattle.turns.specs.declared.judgement.Judgement.TheVariants.{Free, Held, Preferred}
 use Rattle.turns.specs.declared.phase.Phase.{Phase}
@@ -34,12 +34,12 @@ module _ (O : System) where
   open O use {Lock, sharing}
 
   -- an answer to a request, and to the seizing of a lock whose word was another
-  asked_on : (a : AttemptOf O) (lock : Lock) (word : ℕ) (j : Judgement) → on_judgement O a lock word j ≡ changed O a (Requests lock) (unless_put_off (Asked word) j)
+  asked_on : (a : AttemptOf O) (lock : Lock) (word : ℕ) (j : Judgement) → on_judgement O a lock word j ≡ changed O a (Requests lock) (unless_denied (Requested word) j)
   asked_on a lock word Free = refl
   asked_on a lock word (Held other) = refl
   asked_on a lock word (Preferred other) = refl
 
-  again_on : (a : AttemptOf O) (lock : Lock) (expected word : ℕ) (j : Judgement) → on_judgement O a lock word j ≡ changed O a (Seizes lock expected) (unless_put_off (Again word) j)
+  again_on : (a : AttemptOf O) (lock : Lock) (expected word : ℕ) (j : Judgement) → on_judgement O a lock word j ≡ changed O a (Seizes lock expected) (unless_denied (Changed word) j)
   again_on a lock expected word Free = refl
   again_on a lock expected word (Held other) = refl
   again_on a lock expected word (Preferred other) = refl
@@ -63,11 +63,11 @@ module _ (O : System) (system : IsSystem O) (w : World O) (law : Lawful O w) (k 
     has = has_sound O w k number a sound
 
     -- the words stay, and so does what is held and requested
-    pub rests : (new : AttemptOf O) → left_of O (Does number new) ≡ left_of O (Does number a) → new.held ≡ a.held → request_in new.phase ≡ request_in a.phase → IsSound O w k number new → Lawful O (renewed O w w.words w.order k number new)
+    pub rests : (new : AttemptOf O) → effects_left_of O (Does number new) ≡ effects_left_of O (Does number a) → new.held ≡ a.held → request_in new.phase ≡ request_in a.phase → IsSound O w k number new → Lawful O (renewed O w w.words w.order k number new)
     rests new left held asks s = still O system w law k (Does number a) there number new left s (λ lock within. subst (λ (l : List Lock). IsIn lock l) (sym held) within) (λ lock. ((λ e. asks ∙ e), (λ e. sym asks ∙ e)))
 
     -- it frees the first lock that it holds
-    frees_first : (c : Lock) (rest : List Lock) → a.held ≡ c ∷ rest → (new : AttemptOf O) → left_of O (Does number new) ≡ left_of O (Does number a) → request_in a.phase ≡ None → request_in new.phase ≡ None → new.held ≡ rest →
+    frees_first : (c : Lock) (rest : List Lock) → a.held ≡ c ∷ rest → (new : AttemptOf O) → effects_left_of O (Does number new) ≡ effects_left_of O (Does number a) → request_in a.phase ≡ None → request_in new.phase ≡ None → new.held ≡ rest →
         (Has O (slice_set w.words (lock_word c) (freed_word sharing (word_at O w.words c))) k a.job rest → IsSound O (renewed O w (slice_set w.words (lock_word c) (freed_word sharing (word_at O w.words c))) w.order k number new) k number new) →
         Lawful O (renewed O w (slice_set w.words (lock_word c) (freed_word sharing (word_at O w.words c))) w.order k number new)
     frees_first c rest first new left before next held s =
@@ -89,12 +89,12 @@ module _ (O : System) (system : IsSystem O) (w : World O) (law : Lawful O w) (k 
         let v = with_request sharing k found in
         let j = sharing.judged k v in
         let is_word = system.sharing.asked_is k found few word in
-        let stands : ShowsRequests sharing → sharing.requests k v ≡ true = λ shows. shows.asked_own k found few word in
+        let valid : ShowsRequests sharing → sharing.requests k v ≡ true = λ shows. shows.asked_own k found few word in
         same_order _ _ (subst (λ (new : AttemptOf O). Lawful O (renewed O w (slice_set w.words (lock_word lock) v) w.order k number new)) (asked_on O a lock v j)
         (stays O system w law k number a there lock s.fits v (on_judgement O a lock v j)
         (system.sharing.asked_holder k found few word) (judged_held O a lock v j) (judged_left O a lock v j)
-        (λ now. judged_sound O _ k number a lock v j (has_sound O _ k number a now) now.read s.stands s.fits is_word stands refl)
-        is_word (record { made = λ e. judged_request O a lock v j; shown = λ shows e. stands shows })
+        (λ now. judged_sound O _ k number a lock v j (has_sound O _ k number a now) now.read s.valid s.fits is_word valid refl)
+        is_word (record { made = λ e. judged_request O a lock v j; shown = λ shows e. valid shows })
         (added_others O k found v (system.sharing.asked_requests k found few word) (λ shows. shows.asked_others k found few word))
         (λ other e. absurd cc) (λ other e. let x : Some lock ≡ Some other = sym (judged_request O a lock v j) ∙ e in cc)))
 
@@ -105,20 +105,20 @@ module _ (O : System) (system : IsSystem O) (w : World O) (law : Lawful O w) (k 
         let s = law.sound k number a there in
         let found = word_at O w.words lock in
         let few = few_actors O w law k (Does number a) there in
-        let word = (law.shared lock s.stands).is_word in
+        let word = (law.shared lock s.valid).is_word in
         let v = without_request sharing k found in
         let cleared = system.sharing.withdrawn_requests k found few word in
-        same_order _ _ (stays O system w law k number a there lock s.stands v (freed O a held)
+        same_order _ _ (stays O system w law k number a there lock s.valid v (giving_back O a held)
         (system.sharing.withdrawn_holder k found few word) (freed_held O a held) (freed_left O a held)
         (λ now. freed_sound O system _ k number a held (has_sound O _ k number a now))
         (system.sharing.withdrawn_is k found few word)
-        (cleared_own O k found v lock (request_in (freed O a held).phase) few cleared (freed_request O a held))
+        (cleared_own O k found v lock (request_in (giving_back O a held).phase) few cleared (freed_request O a held))
         (cleared_others O k found v cleared (λ shows. shows.withdrawn_others k found few word))
-        (λ other e. cc) (λ other e. absurd (none_some (request_in (freed O a held).phase) other (freed_request O a held) e)))
+        (λ other e. cc) (λ other e. absurd (none_some (request_in (giving_back O a held).phase) other (freed_request O a held) e)))
 
     -- it seizes a lock whose word is as expected, or finds another word
     seizes_in : (lock : Lock) (expected : ℕ) → get_elem? w.actors k ≡ some (Does number (attempt O (Seizes lock expected) job readings held reply effects)) → (t : Bool) → (word_at O w.words lock == expected) ≡ t →
-        Lawful O (renewed O w (slice_set w.words (lock_word lock) (if t then sharing.taken k expected else word_at O w.words lock)) w.order k number (change O (attempt O (Seizes lock expected) job readings held reply effects) (if t then Seized else unless_put_off (Again (word_at O w.words lock)) (sharing.judged k (word_at O w.words lock)))))
+        Lawful O (renewed O w (slice_set w.words (lock_word lock) (if t then sharing.taken k expected else word_at O w.words lock)) w.order k number (change O (attempt O (Seizes lock expected) job readings held reply effects) (if t then Seized else unless_denied (Changed (word_at O w.words lock)) (sharing.judged k (word_at O w.words lock)))))
     seizes_in lock expected there true e =
         let a = attempt O (Seizes lock expected) job readings held reply effects in
         let s = law.sound k number a there in
@@ -138,9 +138,9 @@ module _ (O : System) (system : IsSystem O) (w : World O) (law : Lawful O w) (k 
         let few = few_actors O w law k (Does number a) there in
         let shared = law.shared lock s.fits.0 in
         let asks : HasRequested O w.actors k lock = record { number = number; attempt = a; does = there; requests = refl } in
-        idle_word (lock_word lock) (change O a (unless_put_off (Again found) j)) (subst (λ (new : AttemptOf O). Lawful O (renewed O w w.words w.order k number new)) (again_on O a lock expected found j)
+        idle_word (lock_word lock) (change O a (unless_denied (Changed found) j)) (subst (λ (new : AttemptOf O). Lawful O (renewed O w w.words w.order k number new)) (again_on O a lock expected found j)
         (rests a there (on_judgement O a lock found j) (judged_left O a lock found j) (judged_held O a lock found j) (judged_request O a lock found j)
-        (judged_sound O w k number a lock found j (has a there) s.read s.stands s.fits.0 shared.is_word (λ shows. (shared.requested k few).shown shows asks) refl)))
+        (judged_sound O w k number a lock found j (has a there) s.read s.valid s.fits.0 shared.is_word (λ shows. (shared.requested k few).shown shows asks) refl)))
 
     -- it tests a word
     tests_in : (word : ℕ) → get_elem? w.actors k ≡ some (Does number (attempt O (Tests word) job readings held reply effects)) → Lawful O (moved O k number (attempt O (Tests word) job readings held reply effects) w)
@@ -166,27 +166,27 @@ module _ (O : System) (system : IsSystem O) (w : World O) (law : Lawful O w) (k 
         let s = law.sound k number a there in
         let known = s.fits.recorded in
         let decided = s.fits.decided in
-        let stands : Stands O (record a { held = rest }) = stands_change O system a Done s.job (λ r none. absurd none) s.stands in
+        let valid : IsValid O (record a { held = rest }) = stands_change O system a Done s.job (λ r none. absurd none) s.valid in
         same_order _ _ (frees_first a there c rest refl (record a { held = rest }) refl refl refl refl (λ h. record {
           job = h.job;
           held = h.held;
           distinct = h.distinct;
           read = λ r none. absurd none;
-          stands = stands;
+          valid = valid;
           fits = record {
             under = λ effect none. absurd none;
             fit = λ effect none. absurd none;
             due = tt;
-            recorded = record { place = known.place; recorded = known.recorded; stands = known.stands; turn_is = known.turn_is; actor = known.actor; number_is = known.number_is; job = known.job; reply = known.reply };
+            recorded = record { place = known.place; recorded = known.recorded; at_place = known.at_place; turn_is = known.turn_is; actor = known.actor; number_is = known.number_is; job = known.job; reply = known.reply };
             decided = record { words = decided.words; size = decided.size; are_words = decided.are_words; shows = decided.shows; made = decided.made; effects = decided.effects; under = λ effect none. absurd none; since = λ n over. index_other w.words (lock_word c) n _ (no_lock_word O system n over.lock c (s.held c (inl refl)).there over.protects) ∙ decided.since n (under_more O rest (c ∷ rest) n (λ lock within. inr within) over) };
           };
         }))
 
   -- it gives up, and gives back what it holds
-  gives_up : (phase : Phase Lock ℕ) (job : Job) (readings : List (Reading ℕ)) (held : List Lock) (reply : Option Reply) (effects : List Effect) → get_elem? w.actors k ≡ some (Does number (attempt O phase job readings held reply effects)) → left_in phase effects ≡ [] → request_in phase ≡ None → Lawful O (renewed O w w.words w.order k number (freed O (forgotten (attempt O phase job readings held reply effects)) held))
+  gives_up : (phase : Phase Lock ℕ) (job : Job) (readings : List (Reading ℕ)) (held : List Lock) (reply : Option Reply) (effects : List Effect) → get_elem? w.actors k ≡ some (Does number (attempt O phase job readings held reply effects)) → effects_left_in phase effects ≡ [] → request_in phase ≡ None → Lawful O (renewed O w w.words w.order k number (giving_back O (forgotten (attempt O phase job readings held reply effects)) held))
   gives_up phase job readings held reply effects there left asks =
       let a = attempt O phase job readings held reply effects in
-      rests a there (freed O (forgotten a) held) (freed_left O (forgotten a) held ∙ sym left) (freed_held O (forgotten a) held) (freed_request O (forgotten a) held ∙ sym asks) (freed_sound O system w k number (forgotten a) held (has a there))
+      rests a there (giving_back O (forgotten a) held) (freed_left O (forgotten a) held ∙ sym left) (freed_held O (forgotten a) held) (freed_request O (forgotten a) held ∙ sym asks) (freed_sound O system w k number (forgotten a) held (has a there))
 
   -- each step keeps the law, phase by phase
   pub keeps_in : (phase : Phase Lock ℕ) (job : Job) (readings : List (Reading ℕ)) (held : List Lock) (reply : Option Reply) (effects : List Effect) → get_elem? w.actors k ≡ some (Does number (attempt O phase job readings held reply effects)) → Lawful O (moved O k number (attempt O phase job readings held reply effects) w)
@@ -195,23 +195,23 @@ module _ (O : System) (system : IsSystem O) (w : World O) (law : Lawful O w) (k 
   keeps_in (Tests word) job readings held reply effects there = tests_in job readings held reply effects word there
   keeps_in Turns job readings held reply effects there = turns O system w law k number job readings held reply effects there
   keeps_in (Withdraws lock) job readings held reply effects there = withdraws_in job readings held reply effects lock there
-  keeps_in GivesBack job readings [] reply effects there = absurd ((law.sound k number (attempt O GivesBack job readings [] reply effects) there).stands refl)
+  keeps_in GivesBack job readings [] reply effects there = absurd ((law.sound k number (attempt O GivesBack job readings [] reply effects) there).valid refl)
   keeps_in GivesBack job readings (c ∷ rest) reply effects there =
       let a = attempt O GivesBack job readings (c ∷ rest) reply effects in
-      same_order _ _ (frees_first a there c rest refl (freed O a rest) (freed_left O a rest) refl (freed_request O a rest) (freed_held O a rest) (λ h. freed_sound O system _ k number a rest h))
+      same_order _ _ (frees_first a there c rest refl (giving_back O a rest) (freed_left O a rest) refl (freed_request O a rest) (freed_held O a rest) (λ h. freed_sound O system _ k number a rest h))
   keeps_in (Operates turn) job readings held reply (effect ∷ effects) there =
       let a = attempt O (Operates turn) job readings held reply (effect ∷ effects) in
       let s = law.sound k number a there in
-      same_order _ _ (makes O system w law k number job readings held turn reply effect effects there (stands_change O system a Done s.job (λ r none. absurd none) s.stands))
+      same_order _ _ (makes O system w law k number job readings held turn reply effect effects there (stands_change O system a Done s.job (λ r none. absurd none) s.valid))
   keeps_in (Operates turn) job readings [] reply [] there = ends_in job readings [] reply [] turn there
   keeps_in (Operates turn) job readings (c ∷ rest) reply [] there = closes_in job readings [] reply [] turn c rest there
 
-  -- so does a give back
+  -- so does giving back
   pub gives_back_in : (phase : Phase Lock ℕ) (job : Job) (readings : List (Reading ℕ)) (held : List Lock) (reply : Option Reply) (effects : List Effect) → get_elem? w.actors k ≡ some (Does number (attempt O phase job readings held reply effects)) → Lawful O (renewed O w w.words w.order k number (restarted O (attempt O phase job readings held reply effects)))
   gives_back_in (Requests lock) job readings held reply effects there = gives_up (Requests lock) job readings held reply effects there refl refl
   gives_back_in (Seizes lock expected) job readings held reply effects there =
       let a = attempt O (Seizes lock expected) job readings held reply effects in
-      rests a there (put_off a lock) refl refl refl (put_off_sound O w k number a lock (has a there) (law.sound k number a there).fits.0)
+      rests a there (denied a lock) refl refl refl (put_off_sound O w k number a lock (has a there) (law.sound k number a there).fits.0)
   gives_back_in (Tests word) job readings held reply effects there = gives_up (Tests word) job readings held reply effects there refl refl
   gives_back_in Turns job readings held reply effects there = gives_up Turns job readings held reply effects there refl refl
   gives_back_in (Withdraws lock) job readings held reply effects there = let a = attempt O (Withdraws lock) job readings held reply effects in rests a there a refl refl refl (law.sound k number a there)

@@ -4,9 +4,10 @@ use mathlib.Core.Option.{some, some-injective, some-ne-none}
 use lib.ListN.{get_elem?, length-replicate}
 use Rattle.turns.specs.Among.{IsIn}
 use Rattle.turns.specs.System.{System, IsSystem}
-use Rattle.turns.specs.Attempt.{AttemptOf, Rest, act, left_in, begin, request_in}
-use Rattle.turns.specs.World.{World, ActorOf, Idle, Does, left_of, moved, assigned, given_back, fresh_world, value_after, completed}
-use Rattle.turns.specs.Law.{IsFree, IsShared, Lawful}
+use Rattle.turns.specs.Attempt.{AttemptOf, act, effects_left_in, begin, request_in}
+use Rattle.turns.specs.declared.act.Act.TheVariants.{Finished}
+use Rattle.turns.specs.World.{World, ActorOf, Idle, Does, effects_left_of, moved, assigned, given_back, fresh_world, value_after, completed}
+use Rattle.turns.specs.Law.{IsAvailable, IsShared, Lawful}
 use Rattle.turns.specs.declared.phase.Phase.{Phase}
 use Rattle.turns.specs.declared.phase.Phase.TheVariants.{Requests, Seizes, Tests, Turns, Withdraws, GivesBack, Operates}
 use Rattle.turns.specs.declared.reading.Reading.{Reading}
@@ -20,7 +21,7 @@ module _ (O : System) where
   open O use {Lock, Job, Reply, Effect, IsLock, IsJob, sharing}
 
   -- an actor with no next step has no effects left, holds nothing and requests nothing
-  pub rest_bare : (phase : Phase Lock ℕ) (job : Job) (readings : List (Reading ℕ)) (held : List Lock) (reply : Option Reply) (effects : List Effect) → act (attempt O phase job readings held reply effects) ≡ Rest → (left_in phase effects ≡ []) × (held ≡ []) × (request_in phase ≡ None)
+  pub rest_bare : (phase : Phase Lock ℕ) (job : Job) (readings : List (Reading ℕ)) (held : List Lock) (reply : Option Reply) (effects : List Effect) → act (attempt O phase job readings held reply effects) ≡ Finished → (effects_left_in phase effects ≡ []) × (held ≡ []) × (request_in phase ≡ None)
   rest_bare (Requests lock) job readings held reply effects e = cc
   rest_bare (Seizes lock expected) job readings held reply effects e = cc
   rest_bare (Tests word) job readings held reply effects e = cc
@@ -32,7 +33,7 @@ module _ (O : System) where
   rest_bare (Operates turn) job readings (c ∷ held) reply [] e = cc
   rest_bare (Operates turn) job readings held reply (effect ∷ effects) e = cc
 
-  free_bare : (m : ActorOf O) → IsFree O m → (left_of O m ≡ []) × (held_of O m ≡ []) × (request_of O m ≡ None)
+  free_bare : (m : ActorOf O) → IsAvailable O m → (effects_left_of O m ≡ []) × (held_of O m ≡ []) × (request_of O m ≡ None)
   free_bare Idle free = (refl, refl, refl)
   free_bare (Does number a) free = rest_bare a.phase a.job a.readings a.held a.reply a.effects free
 
@@ -45,7 +46,7 @@ module _ (O : System) where
   idle_none (suc count) zero number a e = let x = some-injective Idle (Does number a) e in cc
   idle_none (suc count) (suc k) number a e = idle_none count k number a e
 
-  idle_left : (count k : ℕ) (m : ActorOf O) → get_elem? (replicate count idle) k ≡ some m → left_of O m ≡ []
+  idle_left : (count k : ℕ) (m : ActorOf O) → get_elem? (replicate count idle) k ≡ some m → effects_left_of O m ≡ []
   idle_left count k Idle e = refl
   idle_left count k (Does number a) e = absurd (idle_none count k number a e)
 
@@ -58,7 +59,7 @@ module _ (O : System) where
           is_word = unused.is_word;
           named = λ k e. absurd (let x : suc k ≡ 0 = sym e ∙ unused.free in cc);
           requested = λ k few. record {
-            made = λ stands. absurd (let x : ◌≡◌ {A = Bool} true false = sym stands ∙ unused.unasked k few in cc);
+            made = λ valid. absurd (let x : ◌≡◌ {A = Bool} true false = sym valid ∙ unused.unasked k few in cc);
             shown = λ shows asks. absurd (idle_none count k asks.number asks.attempt asks.does);
           };
         }
@@ -83,8 +84,8 @@ module _ (O : System) where
     }
 
     module _ (w : World O) (law : Lawful O w) (k number : ℕ) where
-      -- an assignment, a step and a give back keep the law
-      pub assigns : (m : ActorOf O) (job : Job) → get_elem? w.actors k ≡ some m → IsFree O m → IsJob job → Lawful O (assigned O k number job w)
+      -- an assignment, a step and giving back keep the law
+      pub assigns : (m : ActorOf O) (job : Job) → get_elem? w.actors k ≡ some m → IsAvailable O m → IsJob job → Lawful O (assigned O k number job w)
       assigns m job there free given =
           let bare = free_bare m free in
           still O system w law k m there number (begin O job) (sym bare.0) (begin_sound O system w k number job given)

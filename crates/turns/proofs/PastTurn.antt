@@ -8,7 +8,7 @@ use lib.ListN.{get_elem?}
 use Rattle.turns.specs.System.{System}
 use Rattle.turns.specs.Attempt.{AttemptOf, act, act_in, answer_to, begin, changed, closing_act, next, operated, rest_of, restarted, restarted_in}
 use Rattle.turns.specs.World.{World, ActorOf, Idle, Does, assigned, place}
-use Rattle.turns.specs.Runs.{Move, Assigns, Steps, Backs, is_rest, is_free, assigned_at, stepped_at, backed_at, after_move}
+use Rattle.turns.specs.Runs.{Move, Assigns, Steps, Backs, is_finished, is_available, assigned_at, stepped_at, backed_at, after_move}
 use Rattle.turns.specs.Ending.{ComesToEnd, is_step_of, own_steps}
 use Rattle.turns.specs.declared.phase.Phase.{Phase}
 use Rattle.turns.specs.declared.phase.Phase.TheVariants.{Operates}
@@ -16,14 +16,14 @@ use Rattle.turns.proofs.Lists.{one_or_two, set_here, set_else}
 use Rattle.turns.proofs.Runs.{rest_is}
 use Rattle.turns.proofs.Settings.{does_one}
 
--- one, where it is so
+-- one if it is so, otherwise zero
 abbrev one_if : Bool → ℕ
 one_if b = if b then 1 else 0
 
 module _ (O : System) where
   open O use {Lock, Job, Effect}
 
-  -- an attempt past this turn at this job, with one thing less to make or to free than so many
+  -- an attempt past this turn at this job, with one effect or lock less left than `count`
   record HasLess (turn : ℕ) (job : Job) (count : ℕ) (a : AttemptOf O) : Type 0 where
     pub phase : a.phase ≡ Operates turn
     pub job_is : a.job ≡ job
@@ -31,7 +31,7 @@ module _ (O : System) where
 
   closing_less : (k found turn : ℕ) (a : AttemptOf O) (effects : List Effect) (held : List Lock)
       → a.phase ≡ Operates turn → a.effects ≡ effects → a.held ≡ held
-      → is_rest (closing_act effects held) ≡ false
+      → is_finished (closing_act effects held) ≡ false
       → HasLess turn a.job (length effects + length held)
       (changed O a (Operates turn) (answer_to O k (closing_act effects held) found))
   closing_less k found turn a [] [] at these those goes = absurd cc
@@ -50,11 +50,11 @@ module _ (O : System) where
 
   -- its next step makes or frees one
   next_less : (k found turn : ℕ) (a : AttemptOf O) → a.phase ≡ Operates turn
-      → is_rest (act a) ≡ false
+      → is_finished (act a) ≡ false
       → HasLess turn a.job (length a.effects + length a.held) (next O k a found)
   next_less k found turn a at goes =
       let left = length a.effects + length a.held in
-      let acts = subst (λ (phase : Phase Lock ℕ). is_rest (act_in phase a) ≡ false) at goes in
+      let acts = subst (λ (phase : Phase Lock ℕ). is_finished (act_in phase a) ≡ false) at goes in
       subst (λ (phase : Phase Lock ℕ).
       HasLess turn a.job left (changed O a phase (answer_to O k (act_in phase a) found)))
       (sym at)
@@ -62,7 +62,7 @@ module _ (O : System) where
 
   module _ (w : World O) (k number turn : ℕ) (a : AttemptOf O)
       (there : get_elem? w.actors k ≡ some (Does number a)) (at : a.phase ≡ Operates turn)
-      (goes : is_rest (act a) ≡ false) where
+      (goes : is_finished (act a) ≡ false) where
     abbrev IsSame : World O → Type 0
     IsSame after = get_elem? after.actors k ≡ some (Does number a)
 
@@ -72,18 +72,18 @@ module _ (O : System) where
         let found = ap (λ (x : ℕ). get_elem? w.actors x) (sym one) in
         some-injective m (Does number a) (sym here ∙ found ∙ there)
 
-    -- actor k is not free, so it is assigned nothing
+    -- actor k is not available, so it is assigned nothing
     assigned_same : (j i : ℕ) (job : Job) (found : Option (ActorOf O))
         → get_elem? w.actors j ≡ found → IsSame (assigned_at O j i job found w)
     assigned_same j i job none here = there
-    assigned_same j i job (some m) here = by (is_free O m) refl (one_or_two k j) where
-      by : (free : Bool) → is_free O m ≡ free → (k ≡ j) ⊎ (k ≢ j)
+    assigned_same j i job (some m) here = by (is_available O m) refl (one_or_two k j) where
+      by : (free : Bool) → is_available O m ≡ free → (k ≡ j) ⊎ (k ≢ j)
           → IsSame (if free then assigned O j i job w else w)
       by false is any = there
       by true is (inr two) = set_else w.actors j k (Does i (begin O job)) two ∙ there
       by true is (inl one) =
           let same = same_actor j m one here in
-          let both : ◌≡◌ {A = Bool} true false = sym is ∙ ap (is_free O) same ∙ goes in
+          let both : ◌≡◌ {A = Bool} true false = sym is ∙ ap (is_available O) same ∙ goes in
           absurd cc
 
     stepped_same : (j : ℕ) (found : Option (ActorOf O)) → k ≢ j → IsSame (stepped_at O j found w)
@@ -91,7 +91,7 @@ module _ (O : System) where
     stepped_same j (some Idle) two = there
     stepped_same j (some (Does i b)) two = set_else w.actors j k _ two ∙ there
 
-    -- past the turn a give back changes nothing
+    -- past the turn giving back changes nothing
     restarted_same : restarted O a ≡ a
     restarted_same = ap (λ (phase : Phase Lock ℕ). restarted_in O phase a) at
 
@@ -137,7 +137,7 @@ module _ (O : System) where
         ap (λ found. get_elem? (stepped_at O k found w).actors k) there ∙
         set_here w.actors k (Does number after) (Does number a) there
 
-  -- actor k is past this turn at this job, with no more than so many to make and to free
+  -- actor k is past this turn at this job, with at most `most` effects and locks left
   record IsPast (w : World O) (k number turn : ℕ) (job : Job) (most : ℕ) : Type 0 where
     pub attempt : AttemptOf O
     pub there : get_elem? w.actors k ≡ some (Does number attempt)
@@ -148,7 +148,7 @@ module _ (O : System) where
   module _ (k number turn : ℕ) (job : Job) where
     -- after any move it still is, and has one less after its own step
     past_on : (w : World O) (move : Move Job) (enough most : ℕ)
-        (past : IsPast w k number turn job enough) → is_rest (act past.attempt) ≡ false
+        (past : IsPast w k number turn job enough) → is_finished (act past.attempt) ≡ false
         → enough ≡ one_if (is_step_of k move) + most
         → IsPast (after_move O w move) k number turn job most
     past_on w move enough most past goes counted = by (is_step_of k move) refl counted where
@@ -177,7 +177,7 @@ module _ (O : System) where
 
     -- with nothing left it has come to its end
     ends_now : (w : World O) (moves : List (Move Job)) (most : ℕ)
-        (past : IsPast w k number turn job most) → is_rest (act past.attempt) ≡ true
+        (past : IsPast w k number turn job most) → is_finished (act past.attempt) ≡ true
         → ComesToEnd O w moves k number turn job
     ends_now w moves most past rests = record {
       before = [];
@@ -206,15 +206,15 @@ module _ (O : System) where
 
     comes_to_end : (moves : List (Move Job)) (w : World O)
         → IsPast w k number turn job (own_steps k moves) → ComesToEnd O w moves k number turn job
-    comes_to_end [] w past = by (is_rest (act past.attempt)) refl where
-      by : (rests : Bool) → is_rest (act past.attempt) ≡ rests → ComesToEnd O w [] k number turn job
+    comes_to_end [] w past = by (is_finished (act past.attempt)) refl where
+      by : (rests : Bool) → is_finished (act past.attempt) ≡ rests → ComesToEnd O w [] k number turn job
       by true rests = ends_now w [] 0 past rests
       by false goes =
           let less = next_less k 0 turn past.attempt past.phase goes in
           absurd (omega (arith, less.one, past.few))
     comes_to_end (move ∷ moves) w past =
-        by (is_rest (act past.attempt)) refl (λ on. comes_to_end moves (after_move O w move) on) where
-          by : (rests : Bool) → is_rest (act past.attempt) ≡ rests
+        by (is_finished (act past.attempt)) refl (λ on. comes_to_end moves (after_move O w move) on) where
+          by : (rests : Bool) → is_finished (act past.attempt) ≡ rests
               → (IsPast (after_move O w move) k number turn job (own_steps k moves)
               → ComesToEnd O (after_move O w move) moves k number turn job)
               → ComesToEnd O w (move ∷ moves) k number turn job

@@ -5,7 +5,7 @@ use lib.ListN.{get_elem?}
 use Rattle.turns.specs.Among.{IsIn}
 use Rattle.turns.specs.System.{System, IsSystem, AreAlike, AreWords}
 use Rattle.turns.specs.Attempt.{AttemptOf, request_in}
-use Rattle.turns.specs.World.{World, ActorOf, Does, left_of, value_after, completed, completed_word}
+use Rattle.turns.specs.World.{World, ActorOf, Does, effects_left_of, value_after, completed, completed_word}
 use Rattle.turns.specs.Law.{IsShared, IsSound, Lawful, holder_at}
 use Rattle.turns.proofs.Lists.{there_below}
 use Rattle.turns.proofs.Completed.{completed_index, completed_length, same_done}
@@ -34,13 +34,13 @@ module _ (O : System) where
         completed_index O w n (subst (λ (l : ℕ). n < l) (sym this) below) ∙ same n lock e ∙ sym (completed_index O v n (subst (λ (l : ℕ). n < l) (sym that) below));
   }
 
-  -- an actor that there is is one of those that may share a lock's word
+  -- each actor of the world is one of those that may share a lock's word
   pub few_actors : (w : World O) → Lawful O w → (k : ℕ) (m : ActorOf O) → get_elem? w.actors k ≡ some m → k < sharing.most
   few_actors w law k m there = lt_of_lt_of_le (there_below w.actors k m there) law.few
 
   module _ (system : IsSystem O) (w : World O) (law : Lawful O w) (k : ℕ) (m : ActorOf O) (there : get_elem? w.actors k ≡ some m) (number : ℕ) (new : AttemptOf O) where
     -- a move that leaves what is under locks, and the effects that are left, as they were
-    pub kept : (other : List ℕ) → Quiet w.words other → AreWords other → left_of O (Does number new) ≡ left_of O m → IsSound O (renewed O w other w.order k number new) k number new → ((j i : ℕ) (b : AttemptOf O) → j ≢ k → get_elem? w.actors j ≡ some (Does i b) → IsSound O (renewed O w other w.order k number new) j i b) → ((lock : Lock) → IsLock lock → IsShared O (renewed O w other w.order k number new) lock) → Lawful O (renewed O w other w.order k number new)
+    pub kept : (other : List ℕ) → Quiet w.words other → AreWords other → effects_left_of O (Does number new) ≡ effects_left_of O m → IsSound O (renewed O w other w.order k number new) k number new → ((j i : ℕ) (b : AttemptOf O) → j ≢ k → get_elem? w.actors j ≡ some (Does i b) → IsSound O (renewed O w other w.order k number new) j i b) → ((lock : Lock) → IsLock lock → IsShared O (renewed O w other w.order k number new) lock) → Lawful O (renewed O w other w.order k number new)
     kept other quiet are left own others shared = record {
       few = subst (λ (l : ℕ). l ≤ sharing.most) (sym (length-set w.actors k (Does number new))) law.few;
       size = quiet.long ∙ law.size;
@@ -54,7 +54,7 @@ module _ (O : System) where
       shared = shared;
     }
 
-    -- an attempt of another actor is sound still, where the holders of what it holds are the same
+    -- an attempt of another actor is still sound, if its locks have the same holders
     pub other_sound : (other : List ℕ) → Quiet w.words other → (j i : ℕ) (b : AttemptOf O) → get_elem? w.actors j ≡ some (Does i b) → ((lock : Lock) → IsLock lock → IsIn lock b.held → holder_at O other lock ≡ holder_at O w.words lock) → IsSound O (renewed O w other w.order k number new) j i b
     other_sound other quiet j i b at holders = sound_along O system w (renewed O w other w.order k number new) j i b (record {
       this = law.size;
@@ -65,7 +65,7 @@ module _ (O : System) where
     }) (law.sound j i b at)
 
     -- a move that changes no word, nothing that is held, and no request
-    pub still : left_of O (Does number new) ≡ left_of O m → IsSound O w k number new → ((lock : Lock) → IsIn lock (held_of O m) → IsIn lock new.held) → ((lock : Lock) → (request_of O m ≡ Some lock) ↔ (request_in new.phase ≡ Some lock)) → Lawful O (renewed O w w.words w.order k number new)
+    pub still : effects_left_of O (Does number new) ≡ effects_left_of O m → IsSound O w k number new → ((lock : Lock) → IsIn lock (held_of O m) → IsIn lock new.held) → ((lock : Lock) → (request_of O m ≡ Some lock) ↔ (request_in new.phase ≡ Some lock)) → Lawful O (renewed O w w.words w.order k number new)
     still left own more asks = kept w.words (quiet_same w.words) law.are_words left
         (sound_along O system w (renewed O w w.words w.order k number new) k number new (record { this = law.size; that = law.size; holders = λ lock is within. refl; under = λ n u. refl; order = λ place r e. e }) own)
         (λ j i b apart at. other_sound w.words (quiet_same w.words) j i b at (λ lock is within. refl))

@@ -1,4 +1,4 @@
--- scripts that go on by each word's value as something makes it
+-- scripts that take each word's value through `change`
 use Rattle.std.proofs.Common.{◌≡◌, ℕ, zero, suc, Bool, true, false, List, [], ◌∷◌, ◌++◌, refl, sym, ◌∙◌, ap}
 use Rattle.std.specs.Prelude.{Option, Some, None, ◌==◌, find, option_map, slice_index, if◌then◌else◌}
 use Rattle.std.proofs.lemmas.Bool.{eqb-true}
@@ -8,7 +8,7 @@ use Rattle.turns.specs.System.{System, KeepsTo}
 use Rattle.turns.specs.declared.reading.Reading.{Reading}
 use Rattle.turns.proofs.Words.{MakesWords}
 
--- such a script ends as the plain one does on words that are made so
+-- such a script ends as the plain one does on words changed so
 pub run_read_with : {Lock A : Type 0} (words other : List ℕ) (change : ℕ → ℕ → ℕ) (script : Script Lock A) → ((word : ℕ) → slice_index other word ≡ change word (slice_index words word)) → run words (read_with change script) ≡ run other script
 unfolding run read_with
 run_read_with words other change (Ends found) made = refl
@@ -16,7 +16,7 @@ run_read_with words other change (TestThen word script) made =
     run_read_with words other change (script (change word (slice_index words word))) made ∙ ap (λ (value : ℕ). run other (script value)) (sym (made word))
 run_read_with words other change (SeizeThen lock script) made = run_read_with words other change script made
 
--- what was read in a word, made so
+-- the value read in a word, changed so
 pub value_read-changed : (change : ℕ → ℕ → ℕ) (readings : List (Reading ℕ)) (word : ℕ) → value_read (changed_readings change readings) word ≡ option_map (change word) (value_read readings word)
 unfolding value_read
 value_read-changed change [] word = refl
@@ -28,7 +28,7 @@ value_read-changed change (reading ∷ readings) word = at (reading.word == word
   at false other later = later
 
 module _ {Lock : Type 0} (same : Lock → Lock → Bool) where
-  -- its walk is that of the plain one over readings that are made so
+  -- its walk is that of the plain one on readings changed so
   pub walk_read_with : {A : Type 0} (seen : Seen Lock) (change : ℕ → ℕ → ℕ) (script : Script Lock A) → walk same seen (read_with change script) ≡ walk same (record { held = seen.held; readings = changed_readings change seen.readings }) script
   unfolding walk left left_of_test left_of_seizing first_wanted read_with
   walk_read_with seen change (Ends found) = refl
@@ -50,7 +50,7 @@ module _ {Lock : Type 0} (same : Lock → Lock → Bool) where
     at false later = refl
     at true later = later
 
--- it asks for no more, if words are made of words
+-- it asks for no more, if 64 bits are changed into 64 bits
 pub asks_read_with : {Lock A : Type 0} (change : ℕ → ℕ → ℕ) (tests seizings : ℕ) (script : Script Lock A) → MakesWords change → AsksAtMost tests seizings script → AsksAtMost tests seizings (read_with change script)
 unfolding AsksAtMost read_with
 asks_read_with change tests seizings (Ends found) words asks = tt

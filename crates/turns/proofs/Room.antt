@@ -32,7 +32,7 @@ module _ {Lock : Type 0} (same : Lock → Lock → Bool) (self : (lock : Lock) �
     at true later found = refl
     at false later found = later found
 
-  -- the first reading of a word stands, whatever is read later
+  -- the first reading of a word counts, whatever is read later
   pub read_before : (readings : List (Reading ℕ)) (last : Reading ℕ) (word value : ℕ) → value_read readings word ≡ Some value → value_read (readings ++ last ∷ []) word ≡ Some value
   unfolding value_read
   read_before [] last word value e = cc
@@ -50,7 +50,8 @@ module _ {Lock : Type 0} (same : Lock → Lock → Bool) (self : (lock : Lock) �
     at true later = (reading.value, refl)
     at false later = later
 
-  -- what is left with more is what is left with more of what was left before
+  -- what is left of a script with more seen is what is left, with more seen, of what was left
+  -- before
   pub left_again : {A : Type 0} (seen more : Seen Lock) (script : Script Lock A) → Grows seen more → left same more script ≡ left same more (left same seen script)
   unfolding left left_of_test left_of_seizing
   left_again seen more (Ends found) grows = refl
@@ -63,7 +64,7 @@ module _ {Lock : Type 0} (same : Lock → Lock → Bool) (self : (lock : Lock) �
     at false e later = refl
     at true e later = rw (grows.held lock e) later
 
-  -- a script that asks for no more than so much asks for no more than more
+  -- a script that asks for no more than this asks for no more than one more
   pub one_more_test : {A : Type 0} (tests seizings : ℕ) (script : Script Lock A) → AsksAtMost tests seizings script → AsksAtMost (suc tests) seizings script
   unfolding AsksAtMost
   one_more_test tests seizings (Ends found) asks = asks
@@ -101,7 +102,7 @@ module _ {Lock : Type 0} (same : Lock → Lock → Bool) (self : (lock : Lock) �
     pub one : room ≡ suc rest
     pub asks : Rest rest
 
-  -- a lock that was wanted has room, and with it there is room for the rest
+  -- there is room for a lock that was needed, and with it for the rest
   pub seized_at : {A : Type 0} (seen more : Seen Lock) (lock : Lock) (tests seizings : ℕ) (script rest : Script Lock A) → Grows seen more → AreReadWords more.readings → is_held same more.held lock ≡ true → left same seen script ≡ rest → first_wanted rest ≡ Err (Seize lock) → AsksAtMost tests seizings rest → RoomForOne seizings (λ n. AsksAtMost tests n (left same more script))
   unfolding first_wanted AsksAtMost left left_of_seizing
   seized_at {A = A} seen more lock tests seizings script (Ends found) grows read own is wants asks = absurd cc
@@ -117,7 +118,7 @@ module _ {Lock : Type 0} (same : Lock → Lock → Bool) (self : (lock : Lock) �
         at : other ≡ lock → left same more (SeizeThen other rest) ≡ left same more rest
         at one = rw (ap (is_held same more.held) one ∙ own) refl
 
-  -- a word that was wanted has room, and with a reading of it there is room for the rest
+  -- there is room for a reading of a word that was needed, and with it for the rest
   pub read_at : {A : Type 0} (seen more : Seen Lock) (word : ℕ) (tests seizings : ℕ) (script rest : Script Lock A) → Grows seen more → AreReadWords more.readings → (value : ℕ) × (value_read more.readings word ≡ Some value) → left same seen script ≡ rest → first_wanted rest ≡ Err (Test word) → AsksAtMost tests seizings rest → RoomForOne tests (λ n. AsksAtMost n seizings (left same more script))
   unfolding first_wanted AsksAtMost left left_of_test
   read_at {A = A} seen more word tests seizings script (Ends found) grows read own is wants asks = absurd cc

@@ -3,35 +3,37 @@ use Rattle.std.specs.Prelude.{if◌then◌else◌}
 use mathlib.Core.Option.{Option, some, none}
 use lib.ListN.{get_elem?}
 use Rattle.turns.specs.System.{System, IsSystem}
-use Rattle.turns.specs.Attempt.{Act, Rest, Ask, Take, Leave, Look, Turn, Make, Free, act}
+use Rattle.turns.specs.Attempt.{act}
+use Rattle.turns.specs.declared.act.Act.{Act}
+use Rattle.turns.specs.declared.act.Act.TheVariants.{Finished, Request, Seize, Withdraw, Test, Turn, Make, Free}
 use Rattle.turns.specs.World.{World, ActorOf, Idle, Does, assigned, fresh_world}
-use Rattle.turns.specs.Law.{IsFree, Lawful}
-use Rattle.turns.specs.Runs.{Move, Assigns, Steps, Backs, is_rest, is_free, assigned_at, stepped_at, backed_at, after_move, run_from, run_of, IsMove, AreMoves}
+use Rattle.turns.specs.Law.{IsAvailable, Lawful}
+use Rattle.turns.specs.Runs.{Move, Assigns, Steps, Backs, is_finished, is_available, assigned_at, stepped_at, backed_at, after_move, run_from, run_of, IsMove, AreMoves}
 use Rattle.turns.proofs.Moving.{opens, assigns, keeps, gives_back}
 
-pub rest_is : {Lock Effect : Type 0} (a : Act Lock Effect) → is_rest a ≡ true → a ≡ Rest
-rest_is Rest e = refl
-rest_is (Ask lock) e = cc
-rest_is (Take lock expected) e = cc
-rest_is (Leave lock) e = cc
-rest_is (Look word) e = cc
+pub rest_is : {Lock Effect : Type 0} (a : Act Lock Effect) → is_finished a ≡ true → a ≡ Finished
+rest_is Finished e = refl
+rest_is (Request lock) e = cc
+rest_is (Seize lock expected) e = cc
+rest_is (Withdraw lock) e = cc
+rest_is (Test word) e = cc
 rest_is Turn e = cc
 rest_is (Make effect) e = cc
 rest_is (Free lock) e = cc
 
 module _ (O : System) (system : IsSystem O) where
-  free_is : (m : ActorOf O) → is_free O m ≡ true → IsFree O m
+  free_is : (m : ActorOf O) → is_available O m ≡ true → IsAvailable O m
   free_is Idle e = tt
   free_is (Does number a) e = rest_is (act a) e
 
   module _ (w : World O) (law : Lawful O w) (k : ℕ) where
-    assigns_if : (number : ℕ) (job : O.Job) (m : ActorOf O) → O.IsJob job → get_elem? w.actors k ≡ some m → (t : Bool) → is_free O m ≡ t → Lawful O (if t then assigned O k number job w else w)
+    assigns_if : (number : ℕ) (job : O.Job) (m : ActorOf O) → O.IsJob job → get_elem? w.actors k ≡ some m → (t : Bool) → is_available O m ≡ t → Lawful O (if t then assigned O k number job w else w)
     assigns_if number job m is there true e = assigns O system w law k number m job there (free_is m e) is
     assigns_if number job m is there false e = law
 
     assigns_at : (number : ℕ) (job : O.Job) (found : Option (ActorOf O)) → O.IsJob job → get_elem? w.actors k ≡ found → Lawful O (assigned_at O k number job found w)
     assigns_at number job none is there = law
-    assigns_at number job (some m) is there = assigns_if number job m is there (is_free O m) refl
+    assigns_at number job (some m) is there = assigns_if number job m is there (is_available O m) refl
 
     steps_at : (found : Option (ActorOf O)) → get_elem? w.actors k ≡ found → Lawful O (stepped_at O k found w)
     steps_at none there = law

@@ -19,7 +19,7 @@ does_number m n a b e = cc
 module _ (O : System) where
   open O use {Lock, IsLock, sharing}
 
-  -- what an actor holds, and for what lock its request stands
+  -- what an actor holds, and the lock for which its request is pending
   abbrev pub held_of : ActorOf O → List Lock
   held_of Idle = []
   held_of (Does number a) = a.held
@@ -42,12 +42,12 @@ module _ (O : System) where
   pub is_requested_by : (actors : List (ActorOf O)) (j : ℕ) (m : ActorOf O) (lock : Lock) → get_elem? actors j ≡ some m → HasRequested O actors j lock → request_of m ≡ Some lock
   is_requested_by actors j m lock there asks = ap request_of (some-injective m (Does asks.number asks.attempt) (sym there ∙ asks.does)) ∙ asks.requests
 
-  -- a lock's word tells an actor's request by the lock that this one requests
+  -- a lock's word is right about an actor's request, given the lock that this one requests
   pub record TellsOwn (k : ℕ) (lock : Lock) (word : ℕ) (request : Option Lock) : Type 0 where
     pub made : sharing.requests k word ≡ true → request ≡ Some lock
     pub shown : ShowsRequests sharing → request ≡ Some lock → sharing.requests k word ≡ true
 
-  -- a word tells of the others what the word before told
+  -- a word has the same requests of the others as the word before
   pub record TellsOthers (k word after : ℕ) : Type 0 where
     pub made : (j : ℕ) → j < sharing.most → j ≢ k → sharing.requests j after ≡ true → sharing.requests j word ≡ true
     pub shown : ShowsRequests sharing → KeepsOthers sharing k word after
@@ -78,15 +78,16 @@ module _ (O : System) where
         | inr apart ↦ holds_else j lock apart holds
       ]
 
-      -- requests that stand in a word as they were made before, but for actor k's, which is told by its word
+      -- the requests in a word are as they were made before, except actor k's, which is right by
+      -- itself
       pub requests_here : (lock : Lock) (word value : ℕ) → ((j : ℕ) → j < sharing.most → TellsRequest O actors j lock word) → TellsOwn k lock value (request_in new.phase) → TellsOthers k word value → (j : ℕ) → j < sharing.most → TellsRequest O (set actors k (Does number new)) j lock value
       requests_here lock word value before own others j few = elim (one_or_two j k) [
         | inl e ↦ subst (λ (i : ℕ). TellsRequest O (set actors k (Does number new)) i lock value) (sym e) (record {
-          made = λ stands. requested_is (set actors k (Does number new)) k (Does number new) lock here (own.made stands);
+          made = λ valid. requested_is (set actors k (Does number new)) k (Does number new) lock here (own.made valid);
           shown = λ shows asks. own.shown shows (is_requested_by (set actors k (Does number new)) k (Does number new) lock here asks);
         })
         | inr apart ↦ record {
-          made = λ stands. requested_else j lock apart ((before j few).made (others.made j few apart stands));
+          made = λ valid. requested_else j lock apart ((before j few).made (others.made j few apart valid));
           shown = λ shows asks. others.shown shows j few apart ((before j few).shown shows (requested_before j lock apart asks));
         }
       ]
@@ -103,21 +104,21 @@ module _ (O : System) where
       by (inl t) = subst (λ (x : ℕ). IsSound O (renewed w other order k number new) x i b) (sym t.0) (subst (λ (x : ℕ). IsSound O (renewed w other order k number new) k x b) (does_number number i new b t.1) (subst (λ (x : AttemptOf O). IsSound O (renewed w other order k number new) k number x) (does_one number i new b t.1) own))
       by (inr t) = others j i b t.0 t.1
 
-    -- a lock's word tells the truth as before, if it is as before and so is what actor k has of the lock
+    -- a lock's word is right as before, if it is as before and so is what actor k has of the lock
     pub shared_on : (lock : Lock) → IsShared O w lock → word_at O other lock ≡ word_at O w.words lock → (IsIn lock (held_of m) → IsIn lock new.held) → (request_of m ≡ Some lock) ↔ (request_in new.phase ≡ Some lock) → k < sharing.most → IsShared O (renewed w other order k number new) lock
     shared_on lock shared same more asks few = record {
       is_word = subst sharing.IsWord (sym same) shared.is_word;
       named = λ j e. holds_on w.actors k number new m there j lock more (shared.named j (sym (ap sharing.holder same) ∙ e));
       requested = requests_here w.actors k number new m there lock (word_at O w.words lock) (word_at O other lock) shared.requested (record {
-        made = λ stands. asks.0 (is_requested_by w.actors k m lock there ((shared.requested k few).made (sym (ap (sharing.requests k) same) ∙ stands)));
+        made = λ valid. asks.0 (is_requested_by w.actors k m lock there ((shared.requested k few).made (sym (ap (sharing.requests k) same) ∙ valid)));
         shown = λ shows e. ap (sharing.requests k) same ∙ (shared.requested k few).shown shows (requested_is w.actors k m lock there (asks.1 e));
       }) (record {
-        made = λ j low apart stands. sym (ap (sharing.requests j) same) ∙ stands;
+        made = λ j low apart valid. sym (ap (sharing.requests j) same) ∙ valid;
         shown = λ shows j low apart stood. ap (sharing.requests j) same ∙ stood;
       });
     }
 
-    -- or if it is a new word that tells the truth of what actor k has of it now
+    -- or if it is a new word that is right about what actor k has of it now
     pub shared_here : (lock : Lock) (value : ℕ) → IsShared O w lock → word_at O other lock ≡ value → sharing.IsWord value → ((j : ℕ) → sharing.holder value ≡ suc j → Holds O (set w.actors k (Does number new)) j lock) → TellsOwn k lock value (request_in new.phase) → TellsOthers k (word_at O w.words lock) value → IsShared O (renewed w other order k number new) lock
     shared_here lock value shared is word_is named own others =
         let requested = requests_here w.actors k number new m there lock (word_at O w.words lock) value shared.requested own others in

@@ -1,15 +1,15 @@
--- how many steps an attempt takes that is never put off
+-- how many steps an attempt takes that is never denied a lock
 use Rattle.std.proofs.Common.{◌≡◌, ℕ, suc, ◌+◌, ◌-◌, ◌*◌, ◌<◌, ◌≤◌, ◌^◌, Bool, true, false, List, [], ◌∷◌, ◌++◌, length, length-append, refl, sym, ap, subst, arith}
 use Rattle.std.specs.Prelude.{Option, Some, None, Result, Ok, Err}
 use Rattle.turns.specs.Seen.{Seen, AreReadWords}
 use Rattle.turns.specs.Script.{Script, Ends, TestThen, SeizeThen, AsksAtMost, is_held, value_read, left, left_of_test, left_of_seizing, first_wanted, walk}
 use Rattle.turns.specs.System.{System, IsSystem, AreWords}
-use Rattle.turns.specs.Attempt.{AttemptOf, IsAnswerTo, Stands, StandsIn, act, act_in, begin, change, changed, closing_act, come_to, free_act, freed, goes_on, left_in, operated, read_in, rest_of, seen_of}
+use Rattle.turns.specs.Attempt.{AttemptOf, IsAnswerTo, IsValid, IsValidIn, act, act_in, begin, change, changed, closing_act, walk_result, free_act, giving_back, goes_on, effects_left_in, operated, read_in, rest_of, seen_of}
 use Rattle.turns.specs.World.{World}
 use Rattle.turns.specs.Law.{FitsIn, IsSound}
-use Rattle.turns.specs.Bounds.{AreBounded, AreSteady, EndsIn, IsSteady}
+use Rattle.turns.specs.Bounds.{AreBounded, AreSteady, AllEndsHave, IsSteady}
 use Rattle.turns.specs.declared.answer.Answer.{Answer}
-use Rattle.turns.specs.declared.answer.Answer.TheVariants.{Asked, Seized, Held, Preferred, Again, Value, Turn as TurnNumber, Done}
+use Rattle.turns.specs.declared.answer.Answer.TheVariants.{Requested, Seized, Held, Preferred, Changed, Value, Turn as TurnNumber, Done}
 use Rattle.turns.specs.declared.phase.Phase.{Phase}
 use Rattle.turns.specs.declared.phase.Phase.TheVariants.{Requests, Seizes as SeizesNext, Tests as TestsNext, Turns, Withdraws, GivesBack, Operates}
 use Rattle.turns.specs.declared.reading.Reading.{Reading}
@@ -22,26 +22,26 @@ use Rattle.turns.proofs.Words.{read_more, run_ends, value_read-below}
 
 module _ {Lock A : Type 0} (same : Lock → Lock → Bool) (Has : A → Type 0) (seen : Seen Lock) (read : AreReadWords seen.readings) where
   -- what is left of a script ends as the script does
-  left_ends : (script : Script Lock A) → EndsIn Has script → EndsIn Has (left same seen script)
-  unfolding EndsIn left left_of_test left_of_seizing
+  left_ends : (script : Script Lock A) → AllEndsHave Has script → AllEndsHave Has (left same seen script)
+  unfolding AllEndsHave left left_of_test left_of_seizing
   left_ends (Ends found) has = has
   left_ends (TestThen word script) has = at (value_read seen.readings word) refl (λ value below. left_ends (script value) (has value below)) where
-    at : (o : Option ℕ) → value_read seen.readings word ≡ o → ((value : ℕ) → value < 2 ^ 64 → EndsIn Has (left same seen (script value))) → EndsIn Has (left_of_test script (λ value. left same seen (script value)) word o)
+    at : (o : Option ℕ) → value_read seen.readings word ≡ o → ((value : ℕ) → value < 2 ^ 64 → AllEndsHave Has (left same seen (script value))) → AllEndsHave Has (left_of_test script (λ value. left same seen (script value)) word o)
     at None is later = has
     at (Some value) is later = later value (value_read-below seen.readings word value read is)
   left_ends (SeizeThen lock script) has = at (is_held same seen.held lock) (left_ends script has) where
-    at : (b : Bool) → EndsIn Has (left same seen script) → EndsIn Has (left_of_seizing script (left same seen script) lock b)
+    at : (b : Bool) → AllEndsHave Has (left same seen script) → AllEndsHave Has (left_of_seizing script (left same seen script) lock b)
     at false later = has
     at true later = later
 
-  first_end : (script : Script Lock A) (found : A) → EndsIn Has script → first_wanted script ≡ Ok found → Has found
-  unfolding EndsIn first_wanted
+  first_end : (script : Script Lock A) (found : A) → AllEndsHave Has script → first_wanted script ≡ Ok found → Has found
+  unfolding AllEndsHave first_wanted
   first_end (Ends end) found has e = let one : end ≡ found = cc in subst Has one has
   first_end (TestThen word script) found has e = absurd cc
   first_end (SeizeThen lock script) found has e = absurd cc
 
   -- and so does a walk through it
-  pub walk_ends : (script : Script Lock A) (found : A) → EndsIn Has script → walk same seen script ≡ Ok found → Has found
+  pub walk_ends : (script : Script Lock A) (found : A) → AllEndsHave Has script → walk same seen script ≡ Ok found → Has found
   unfolding walk
   walk_ends script found has e = first_end (left same seen script) found (left_ends script has) e
 
@@ -57,7 +57,7 @@ closing_done (effect ∷ effects) held Done fits = refl
 closing_done (effect ∷ effects) held answer fits = absurd fits
 
 module _ (O : System) where
-  freed_job : (a : AttemptOf O) (held : List O.Lock) → (freed O a held).job ≡ a.job
+  freed_job : (a : AttemptOf O) (held : List O.Lock) → (giving_back O a held).job ≡ a.job
   freed_job a [] = refl
   freed_job a (lock ∷ held) = refl
 
@@ -72,14 +72,14 @@ module _ (O : System) where
 
   -- an attempt's job stays
   changed_job : (a : AttemptOf O) (phase : Phase O.Lock ℕ) (answer : Answer) → (changed O a phase answer).job ≡ a.job
-  changed_job a (Requests lock) (Asked word) = refl
+  changed_job a (Requests lock) (Requested word) = refl
   changed_job a (Requests lock) (Held holder) = refl
   changed_job a (Requests lock) (Preferred other) = refl
-  changed_job a (SeizesNext lock expected) Seized = let b : AttemptOf O = record a { held = a.held ++ lock ∷ [] } in goes_on_job b (come_to O b)
+  changed_job a (SeizesNext lock expected) Seized = let b : AttemptOf O = record a { held = a.held ++ lock ∷ [] } in goes_on_job b (walk_result O b)
   changed_job a (SeizesNext lock expected) (Held holder) = refl
   changed_job a (SeizesNext lock expected) (Preferred other) = refl
-  changed_job a (SeizesNext lock expected) (Again word) = refl
-  changed_job a (TestsNext word) (Value value) = let b : AttemptOf O = record a { readings = a.readings ++ record { word = word; value = value } ∷ [] } in goes_on_job b (come_to O b)
+  changed_job a (SeizesNext lock expected) (Changed word) = refl
+  changed_job a (TestsNext word) (Value value) = let b : AttemptOf O = record a { readings = a.readings ++ record { word = word; value = value } ∷ [] } in goes_on_job b (walk_result O b)
   changed_job a Turns (TurnNumber number) = refl
   changed_job a (Withdraws lock) Done = freed_job a a.held
   changed_job a GivesBack Done = freed_job a (rest_of a.held)
@@ -92,11 +92,11 @@ module _ (O : System) where
 module _ (O : System) (is : IsSystem O) (tests seizings effects : ℕ) (bounded : AreBounded O tests seizings effects) where
   open O use {Lock, Job, Effect, Decision}
 
-  -- so many steps are enough for a whole job
+  -- this many steps are enough for a whole job
   abbrev pub whole_job : ℕ
   whole_job = 3 * seizings + tests + effects + 1
 
-  -- so many are enough for what is left of its script, its turn, its effects and its frees
+  -- this many are enough for what is left of its script, its turn, its effects and its frees
   pub record HasRoom (enough : ℕ) (a : AttemptOf O) : Type 0 where
     pub more_tests : ℕ
     pub more_seizings : ℕ
@@ -104,7 +104,7 @@ module _ (O : System) (is : IsSystem O) (tests seizings effects : ℕ) (bounded 
     pub asks : AsksAtMost more_tests more_seizings (left O.same (seen_of a) (O.script a.job))
     pub fits : 3 * more_seizings + more_tests + effects + 1 + length a.held ≤ enough
 
-  -- so many steps are enough for an attempt in a phase
+  -- this many steps are enough for an attempt in a phase
   abbrev pub WithinIn : ℕ → AttemptOf O → Phase Lock ℕ → Type 0
   WithinIn enough a (Requests lock) = HasRoom enough a
   WithinIn enough a (SeizesNext lock expected) = HasRoom (suc enough) a
@@ -117,11 +117,11 @@ module _ (O : System) (is : IsSystem O) (tests seizings effects : ℕ) (bounded 
   abbrev pub IsWithin : ℕ → AttemptOf O → Type 0
   IsWithin enough a = WithinIn enough a a.phase
 
-  -- a decision has few effects
+  -- a decision has at most `effects` effects
   few_effects : (job : Job) (seen : Seen Lock) (decision : Decision) → O.IsJob job → AreReadWords seen.readings → walk O.same seen (O.script job) ≡ Ok decision → length (O.effects_of decision) ≤ effects
   few_effects job seen decision right read come = walk_ends O.same (λ d. length (O.effects_of d) ≤ effects) seen read (O.script job) decision (bounded.effects job right) come
 
-  within_on : (enough : ℕ) (a : AttemptOf O) (to : Result Decision (Wanted Lock ℕ)) → O.IsJob a.job → come_to O a ≡ to → HasRoom enough a → IsWithin enough (goes_on O a to)
+  within_on : (enough : ℕ) (a : AttemptOf O) (to : Result Decision (Wanted Lock ℕ)) → O.IsJob a.job → walk_result O a ≡ to → HasRoom enough a → IsWithin enough (goes_on O a to)
   within_on enough a (Ok decision) right come room = (room.read, omega (arith, few_effects a.job (seen_of a) decision right room.read come, room.fits))
   within_on enough a (Err (Seize lock)) right come room = record { more_tests = room.more_tests; more_seizings = room.more_seizings; read = room.read; asks = room.asks; fits = room.fits }
   within_on enough a (Err (Test word)) right come room = record { more_tests = room.more_tests; more_seizings = room.more_seizings; read = room.read; asks = room.asks; fits = room.fits }
@@ -135,12 +135,12 @@ module _ (O : System) (is : IsSystem O) (tests seizings effects : ℕ) (bounded 
       let room = room_anywhere (begin O job) right (λ r none. absurd none) in
       record { more_tests = room.more_tests; more_seizings = room.more_seizings; read = room.read; asks = room.asks; fits = omega (arith, room.fits) }
 
-  within_freed : (enough : ℕ) (a : AttemptOf O) (held : List Lock) → O.IsJob a.job → length held + whole_job ≤ enough → IsWithin enough (freed O a held)
+  within_freed : (enough : ℕ) (a : AttemptOf O) (held : List Lock) → O.IsJob a.job → length held + whole_job ≤ enough → IsWithin enough (giving_back O a held)
   within_freed enough a [] right fits = within_begin enough a.job right (omega arith)
   within_freed enough a (lock ∷ held) right fits = fits
 
-  -- a lock that was wanted is held: one seizing less
-  pub room_seized : (enough : ℕ) (a : AttemptOf O) (lock : Lock) → come_to O a ≡ Err (Seize lock) → HasRoom (suc (suc enough)) a → HasRoom enough (record a { held = a.held ++ lock ∷ [] })
+  -- a lock that was needed is held: one seize less
+  pub room_seized : (enough : ℕ) (a : AttemptOf O) (lock : Lock) → walk_result O a ≡ Err (Seize lock) → HasRoom (suc (suc enough)) a → HasRoom enough (record a { held = a.held ++ lock ∷ [] })
   unfolding walk
   room_seized enough a lock come room =
       let more : Seen Lock = record { held = a.held ++ lock ∷ []; readings = a.readings } in
@@ -155,8 +155,8 @@ module _ (O : System) (is : IsSystem O) (tests seizings effects : ℕ) (bounded 
         fits = omega (arith, room.fits, one.one, length-append a.held (lock ∷ []));
       }
 
-  -- a word that was wanted is read: one test less
-  room_read : (enough : ℕ) (a : AttemptOf O) (reading : Reading ℕ) → reading.value < 2 ^ 64 → come_to O a ≡ Err (Test reading.word) → HasRoom (suc enough) a → HasRoom enough (record a { readings = a.readings ++ reading ∷ [] })
+  -- a word that was needed is read: one test less
+  room_read : (enough : ℕ) (a : AttemptOf O) (reading : Reading ℕ) → reading.value < 2 ^ 64 → walk_result O a ≡ Err (Test reading.word) → HasRoom (suc enough) a → HasRoom enough (record a { readings = a.readings ++ reading ∷ [] })
   unfolding walk
   room_read enough a reading below come room =
       let more : Seen Lock = record { held = a.held; readings = a.readings ++ reading ∷ [] } in
@@ -192,45 +192,45 @@ module _ (O : System) (is : IsSystem O) (tests seizings effects : ℕ) (bounded 
       let all : length a.held ≡ length held = ap (length {A = Lock}) those in
       record { less = enough - 1; one = omega arith; within = subst (WithinIn (enough - 1) (operated a (effect ∷ left))) (sym at) (omega (arith, all)) }
 
-  made_given : (enough : ℕ) (a : AttemptOf O) (held : List Lock) → a.held ≡ held → O.IsJob a.job → length held + whole_job ≤ enough → IsAnswerTo (free_act {Effect = Effect} held) Done → HasMadeOne enough (freed O a (rest_of held))
+  made_given : (enough : ℕ) (a : AttemptOf O) (held : List Lock) → a.held ≡ held → O.IsJob a.job → length held + whole_job ≤ enough → IsAnswerTo (free_act {Effect = Effect} held) Done → HasMadeOne enough (giving_back O a (rest_of held))
   made_given enough a [] those right fits answer = absurd answer
   made_given enough a (lock ∷ held) those right fits answer = record { less = enough - 1; one = omega arith; within = within_freed (enough - 1) a held right (omega arith) }
 
   -- a steady answer to an attempt's step leaves one step less
-  pub made_in : (enough : ℕ) (a : AttemptOf O) (phase : Phase Lock ℕ) (answer : Answer) → O.IsJob a.job → a.phase ≡ phase → StandsIn O a phase → WithinIn enough a phase → IsAnswerTo (act_in phase a) answer → IsSteady answer → HasMadeOne enough (changed O a phase answer)
-  made_in enough a (Requests lock) (Asked word) right at stands room fits steady = record {
+  pub made_in : (enough : ℕ) (a : AttemptOf O) (phase : Phase Lock ℕ) (answer : Answer) → O.IsJob a.job → a.phase ≡ phase → IsValidIn O a phase → WithinIn enough a phase → IsAnswerTo (act_in phase a) answer → IsSteady answer → HasMadeOne enough (changed O a phase answer)
+  made_in enough a (Requests lock) (Requested word) right at valid room fits steady = record {
     less = enough - 1;
     one = omega (arith, room.fits);
     within = record { more_tests = room.more_tests; more_seizings = room.more_seizings; read = room.read; asks = room.asks; fits = omega (arith, room.fits) };
   }
-  made_in enough a (Requests lock) (Held holder) right at stands room fits steady = absurd steady
-  made_in enough a (Requests lock) (Preferred other) right at stands room fits steady = absurd steady
-  made_in enough a (Requests lock) answer right at stands room fits steady = absurd fits
-  made_in enough a (SeizesNext lock expected) Seized right at stands room fits steady =
+  made_in enough a (Requests lock) (Held holder) right at valid room fits steady = absurd steady
+  made_in enough a (Requests lock) (Preferred other) right at valid room fits steady = absurd steady
+  made_in enough a (Requests lock) answer right at valid room fits steady = absurd fits
+  made_in enough a (SeizesNext lock expected) Seized right at valid room fits steady =
       let b : AttemptOf O = record a { held = a.held ++ lock ∷ [] } in
-      let after = room_seized (enough - 1) a lock stands (room_more (suc enough) (suc (suc (enough - 1))) a (omega arith) room) in
-      record { less = enough - 1; one = omega (arith, after.fits); within = within_on (enough - 1) b (come_to O b) right refl after }
-  made_in enough a (SeizesNext lock expected) (Held holder) right at stands room fits steady = absurd steady
-  made_in enough a (SeizesNext lock expected) (Preferred other) right at stands room fits steady = absurd steady
-  made_in enough a (SeizesNext lock expected) (Again word) right at stands room fits steady = absurd steady
-  made_in enough a (SeizesNext lock expected) answer right at stands room fits steady = absurd fits
-  made_in enough a (TestsNext word) (Value value) right at stands room fits steady =
+      let after = room_seized (enough - 1) a lock valid (room_more (suc enough) (suc (suc (enough - 1))) a (omega arith) room) in
+      record { less = enough - 1; one = omega (arith, after.fits); within = within_on (enough - 1) b (walk_result O b) right refl after }
+  made_in enough a (SeizesNext lock expected) (Held holder) right at valid room fits steady = absurd steady
+  made_in enough a (SeizesNext lock expected) (Preferred other) right at valid room fits steady = absurd steady
+  made_in enough a (SeizesNext lock expected) (Changed word) right at valid room fits steady = absurd steady
+  made_in enough a (SeizesNext lock expected) answer right at valid room fits steady = absurd fits
+  made_in enough a (TestsNext word) (Value value) right at valid room fits steady =
       let reading : Reading ℕ = record { word = word; value = value } in
       let b : AttemptOf O = record a { readings = a.readings ++ reading ∷ [] } in
-      let after = room_read (enough - 1) a reading fits stands (room_more enough (suc (enough - 1)) a (omega arith) room) in
-      record { less = enough - 1; one = omega (arith, room.fits); within = within_on (enough - 1) b (come_to O b) right refl after }
-  made_in enough a (TestsNext word) answer right at stands room fits steady = absurd fits
-  made_in enough a Turns (TurnNumber number) right at stands room fits steady = record { less = enough - 1; one = omega (arith, room.1); within = omega (arith, room.1) }
-  made_in enough a Turns answer right at stands room fits steady = absurd fits
-  made_in enough a (Withdraws lock) Done right at stands room fits steady = record { less = enough - 1; one = omega arith; within = within_freed (enough - 1) a a.held right (omega arith) }
-  made_in enough a (Withdraws lock) answer right at stands room fits steady = absurd fits
-  made_in enough a GivesBack Done right at stands room fits steady = made_given enough a a.held refl right room fits
-  made_in enough a GivesBack answer right at stands room fits steady = let done : answer ≡ Done = free_done Effect a.held answer fits in absurd cc
-  made_in enough a (Operates turn) Done right at stands room fits steady = made_operated enough turn a a.effects a.held at refl refl room fits
-  made_in enough a (Operates turn) answer right at stands room fits steady = let done : answer ≡ Done = closing_done a.effects a.held answer fits in absurd cc
+      let after = room_read (enough - 1) a reading fits valid (room_more enough (suc (enough - 1)) a (omega arith) room) in
+      record { less = enough - 1; one = omega (arith, room.fits); within = within_on (enough - 1) b (walk_result O b) right refl after }
+  made_in enough a (TestsNext word) answer right at valid room fits steady = absurd fits
+  made_in enough a Turns (TurnNumber number) right at valid room fits steady = record { less = enough - 1; one = omega (arith, room.1); within = omega (arith, room.1) }
+  made_in enough a Turns answer right at valid room fits steady = absurd fits
+  made_in enough a (Withdraws lock) Done right at valid room fits steady = record { less = enough - 1; one = omega arith; within = within_freed (enough - 1) a a.held right (omega arith) }
+  made_in enough a (Withdraws lock) answer right at valid room fits steady = absurd fits
+  made_in enough a GivesBack Done right at valid room fits steady = made_given enough a a.held refl right room fits
+  made_in enough a GivesBack answer right at valid room fits steady = let done : answer ≡ Done = free_done Effect a.held answer fits in absurd cc
+  made_in enough a (Operates turn) Done right at valid room fits steady = made_operated enough turn a a.effects a.held at refl refl room fits
+  made_in enough a (Operates turn) answer right at valid room fits steady = let done : answer ≡ Done = closing_done a.effects a.held answer fits in absurd cc
 
-  pub made_one : (enough : ℕ) (a : AttemptOf O) (answer : Answer) → O.IsJob a.job → Stands O a → IsWithin enough a → IsAnswerTo (act a) answer → IsSteady answer → HasMadeOne enough (change O a answer)
-  made_one enough a answer right stands within fits steady = made_in enough a a.phase answer right refl stands within fits steady
+  pub made_one : (enough : ℕ) (a : AttemptOf O) (answer : Answer) → O.IsJob a.job → IsValid O a → IsWithin enough a → IsAnswerTo (act a) answer → IsSteady answer → HasMadeOne enough (change O a answer)
+  made_one enough a answer right valid within fits steady = made_in enough a a.phase answer right refl valid within fits steady
 
   -- what it has read fits its words
   within_read : (enough : ℕ) (a : AttemptOf O) (phase : Phase Lock ℕ) → WithinIn enough a phase → AreReadWords (read_in phase a.readings)
@@ -243,25 +243,25 @@ module _ (O : System) (is : IsSystem O) (tests seizings effects : ℕ) (bounded 
   within_read enough a (Operates turn) within = λ r none. absurd none
 
   -- steady answers, one after another, are no more than are enough
-  pub steady_within : (enough : ℕ) (a : AttemptOf O) (answers : List Answer) → O.IsJob a.job → Stands O a → IsWithin enough a → AreSteady O a answers → length answers ≤ enough
-  steady_within enough a [] right stands within steady = omega arith
-  steady_within enough a (answer ∷ answers) right stands within (fits, steady, later) =
-      let one = made_one enough a answer right stands within fits steady in
-      let rest = steady_within one.less (change O a answer) answers (job_stays O a answer right) (stands_change O is a answer right (within_read enough a a.phase within) stands) one.within later in
+  pub steady_within : (enough : ℕ) (a : AttemptOf O) (answers : List Answer) → O.IsJob a.job → IsValid O a → IsWithin enough a → AreSteady O a answers → length answers ≤ enough
+  steady_within enough a [] right valid within steady = omega arith
+  steady_within enough a (answer ∷ answers) right valid within (fits, steady, later) =
+      let one = made_one enough a answer right valid within fits steady in
+      let rest = steady_within one.less (change O a answer) answers (job_stays O a answer right) (stands_change O is a answer right (within_read enough a a.phase within) valid) one.within later in
       omega (arith, one.one, rest)
 
   -- wherever it is, an attempt ends in a whole job's steps once what it holds is freed
-  within_in : (a : AttemptOf O) (phase : Phase Lock ℕ) → O.IsJob a.job → StandsIn O a phase → AreReadWords (read_in phase a.readings) → length (left_in phase a.effects) ≤ effects → WithinIn (1 + length a.held + whole_job) a phase
-  within_in a (Requests lock) right stands read few = room_more (whole_job + length a.held) (1 + length a.held + whole_job) a (omega arith) (room_anywhere a right read)
-  within_in a (SeizesNext lock expected) right stands read few = room_more (whole_job + length a.held) (suc (1 + length a.held + whole_job)) a (omega arith) (room_anywhere a right read)
-  within_in a (TestsNext word) right stands read few = room_more (whole_job + length a.held) (1 + length a.held + whole_job) a (omega arith) (room_anywhere a right read)
-  within_in a Turns right stands read few = (read, omega (arith, ap (length {A = Effect}) stands.effects, few_effects a.job (seen_of a) stands.decision right read stands.come))
-  within_in a (Withdraws lock) right stands read few = omega arith
-  within_in a GivesBack right stands read few = omega arith
-  within_in a (Operates turn) right stands read few = omega (arith, few)
+  within_in : (a : AttemptOf O) (phase : Phase Lock ℕ) → O.IsJob a.job → IsValidIn O a phase → AreReadWords (read_in phase a.readings) → length (effects_left_in phase a.effects) ≤ effects → WithinIn (1 + length a.held + whole_job) a phase
+  within_in a (Requests lock) right valid read few = room_more (whole_job + length a.held) (1 + length a.held + whole_job) a (omega arith) (room_anywhere a right read)
+  within_in a (SeizesNext lock expected) right valid read few = room_more (whole_job + length a.held) (suc (1 + length a.held + whole_job)) a (omega arith) (room_anywhere a right read)
+  within_in a (TestsNext word) right valid read few = room_more (whole_job + length a.held) (1 + length a.held + whole_job) a (omega arith) (room_anywhere a right read)
+  within_in a Turns right valid read few = (read, omega (arith, ap (length {A = Effect}) valid.effects, few_effects a.job (seen_of a) valid.decision right read valid.come))
+  within_in a (Withdraws lock) right valid read few = omega arith
+  within_in a GivesBack right valid read few = omega arith
+  within_in a (Operates turn) right valid read few = omega (arith, few)
 
-  -- of few effects few are left
-  left_few : (w : World O) (k number : ℕ) (a : AttemptOf O) (phase : Phase Lock ℕ) → O.IsJob a.job → FitsIn O w k number a phase → length (left_in phase a.effects) ≤ effects
+  -- at most `effects` effects are left
+  left_few : (w : World O) (k number : ℕ) (a : AttemptOf O) (phase : Phase Lock ℕ) → O.IsJob a.job → FitsIn O w k number a phase → length (effects_left_in phase a.effects) ≤ effects
   left_few w k number a (Requests lock) right fits = omega arith
   left_few w k number a (SeizesNext lock expected) right fits = omega arith
   left_few w k number a (TestsNext word) right fits = omega arith
@@ -274,4 +274,4 @@ module _ (O : System) (is : IsSystem O) (tests seizings effects : ℕ) (bounded 
 
   pub within_anywhere : (w : World O) (k number : ℕ) (a : AttemptOf O) → AreWords w.words → IsSound O w k number a → IsWithin (1 + length a.held + whole_job) a
   within_anywhere w k number a are sound =
-      within_in a a.phase sound.job sound.stands (are_read O w.words a.held (read_in a.phase a.readings) are sound.read) (left_few w k number a a.phase sound.job sound.fits)
+      within_in a a.phase sound.job sound.valid (are_read O w.words a.held (read_in a.phase a.readings) are sound.read) (left_few w k number a a.phase sound.job sound.fits)

@@ -53,7 +53,7 @@ module _ (O : System) (system : IsSystem O) (w : World O) (law : Lawful O w) (k 
     sound = law.sound k number old there
 
     decided : HasDecided O old
-    decided = sound.stands
+    decided = sound.valid
 
     may : MayMake O held effects
     may = sound.fits
@@ -150,7 +150,7 @@ module _ (O : System) (system : IsSystem O) (w : World O) (law : Lawful O w) (k 
       held = λ lock within. let h = sound.held lock within in record { there = h.there; names = holders lock h.there ∙ h.names };
       distinct = sound.distinct;
       read = λ r none. absurd none;
-      stands = stands_change O system old (TurnNumber found) sound.job (are_read O w.words held readings law.are_words sound.read) sound.stands;
+      valid = stands_change O system old (TurnNumber found) sound.job (are_read O w.words held readings law.are_words sound.read) sound.valid;
       fits = record {
         under = under;
         fit = may.fit;
@@ -167,7 +167,7 @@ module _ (O : System) (system : IsSystem O) (w : World O) (law : Lawful O w) (k 
         let answer : r.reply ≡ (whole state r.job).reply = says ∙ decides.reply ∙ ap (λ (j : Job). (whole state j).reply) (sym is) in
         let last : (whole state job).state ≡ after O O.opening (w.order ++ r ∷ []) = ap (λ (j : Job). (whole state j).state) (sym is) ∙ sym (after_more O O.opening w.order r) in
         let shown : Shows (perform_all O words effects) (whole state job).state = subst (λ (l : List Effect). Shows (perform_all O words l) (whole state job).state) (sym decided.effects) decides.shows in
-        let known : IsRecorded O (w.order ++ r ∷ []) k number found new = record { place = length w.order; recorded = r; stands = get_last w.order r; turn_is = turn; actor = actor; number_is = numbered; job = is; reply = replied } in
+        let known : IsRecorded O (w.order ++ r ∷ []) k number found new = record { place = length w.order; recorded = r; at_place = get_last w.order r; turn_is = turn; actor = actor; number_is = numbered; job = is; reply = replied } in
         record {
           few = subst (λ (l : ℕ). l ≤ O.sharing.most) (sym (length-set w.actors k (Does number new))) law.few;
           size = other_long;

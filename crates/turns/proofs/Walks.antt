@@ -6,12 +6,12 @@ use Rattle.turns.specs.Script.{Script, Ends, TestThen, SeizeThen, ◌>>=◌, run
 use Rattle.turns.specs.declared.reading.Reading.{Reading}
 use Rattle.turns.specs.declared.wanted.Wanted.{Wanted}
 
--- what was found goes on, what was wanted is still wanted
+-- a result is passed on, and what was needed is still needed
 abbrev pub then_walk : {Lock A B : Type 0} → Result A (Wanted Lock ℕ) → (A → Result B (Wanted Lock ℕ)) → Result B (Wanted Lock ℕ)
 then_walk (Ok found) next = next found
 then_walk (Err wanted) next = Err wanted
 
--- a script and then another end as the other does from where the first one ends
+-- one script and then another end as the other does after the first one's end
 pub run_bind : {Lock A B : Type 0} (words : List ℕ) (script : Script Lock A) (next : A → Script Lock B) → run words (script >>= next) ≡ run words (next (run words script))
 unfolding run ◌>>=◌
 run_bind words (Ends found) next = refl
@@ -47,11 +47,11 @@ module _ {Lock : Type 0} (same : Lock → Lock → Bool) where
   walk_bind seen (TestThen word script) next = bind_test seen word (value_read seen.readings word) script next (λ value. walk_bind seen (script value) next)
   walk_bind seen (SeizeThen lock script) next = bind_seizing seen lock (is_held same seen.held lock) script next (walk_bind seen script next)
 
-  -- it goes on where the first one was gone through
+  -- it goes on if the first one was walked through
   pub walk_goes_on : {A B : Type 0} (seen : Seen Lock) (script : Script Lock A) (next : A → Script Lock B) (found : A) → walk same seen script ≡ Ok found → walk same seen (script >>= next) ≡ walk same seen (next found)
   walk_goes_on seen script next found e = rw (walk_bind seen script next, e) refl
 
-  -- and it stops where the first one stopped
+  -- and it stops if the first one stopped
   pub walk_stops : {A B : Type 0} (seen : Seen Lock) (script : Script Lock A) (next : A → Script Lock B) (wanted : Wanted Lock ℕ) → walk same seen script ≡ Err wanted → walk same seen (script >>= next) ≡ Err wanted
   walk_stops seen script next wanted e = rw (walk_bind seen script next, e) refl
 

@@ -7,10 +7,10 @@ use mathlib.Core.Option.{some}
 use lib.ListN.{get_elem?}
 use Rattle.turns.specs.Operations.{applied, FitsWord}
 use Rattle.turns.specs.Script.{Script, Ends, TestThen, SeizeThen, run, value_read}
-use Rattle.turns.specs.Bounds.{EndsIn}
+use Rattle.turns.specs.Bounds.{AllEndsHave}
 use Rattle.turns.specs.Seen.{AreReadWords}
 use Rattle.turns.specs.System.{System, AreWords, FitWords, effect_on}
-use Rattle.turns.specs.World.{ActorOf, left_of, value_after, completed_word, completed_from}
+use Rattle.turns.specs.World.{ActorOf, effects_left_of, value_after, completed_word, completed_from}
 use Rattle.turns.specs.declared.operation.Operation.{Operation}
 use Rattle.turns.specs.declared.operation.Operation.TheVariants.{Load, Or, And, Add, CompareExchange}
 use Rattle.turns.specs.declared.reading.Reading.{Reading}
@@ -60,8 +60,8 @@ pub read_more : (readings : List (Reading ℕ)) (last : Reading ℕ) → AreRead
 read_more readings last are below r within = elim (in_more r last readings within) [ inl front ↦ are r front | inr e ↦ subst (λ (x : Reading ℕ). x.value < 2 ^ 64) (sym e) below ]
 
 -- on words, a script ends as each of its ends does
-pub run_ends : {Lock A : Type 0} (Has : A → Type 0) (words : List ℕ) (script : Script Lock A) → AreWords words → EndsIn Has script → Has (run words script)
-unfolding run EndsIn
+pub run_ends : {Lock A : Type 0} (Has : A → Type 0) (words : List ℕ) (script : Script Lock A) → AreWords words → AllEndsHave Has script → Has (run words script)
+unfolding run AllEndsHave
 run_ends Has words (Ends found) are has = has
 run_ends Has words (TestThen word script) are has = run_ends Has words (script (slice_index words word)) are (has (slice_index words word) (are word))
 run_ends Has words (SeizeThen lock script) are has = run_ends Has words script are has
@@ -80,12 +80,12 @@ module _ (O : System) where
 
   -- each actor's effects that are left fit their words
   abbrev pub AllFit : List (ActorOf O) → Type 0
-  AllFit actors = (k : ℕ) (m : ActorOf O) → get_elem? actors k ≡ some m → FitWords O (left_of O m)
+  AllFit actors = (k : ℕ) (m : ActorOf O) → get_elem? actors k ≡ some m → FitWords O (effects_left_of O m)
 
   completed_word-below : (actors : List (ActorOf O)) (word value : ℕ) → AllFit actors → value < 2 ^ 64 → completed_word O actors word value < 2 ^ 64
   completed_word-below [] word value fit below = below
   completed_word-below (m ∷ actors) word value fit below =
-      completed_word-below actors word (value_after O (left_of O m) word value) (λ k other at. fit (suc k) other at) (made_below (left_of O m) (fit 0 m refl) word value below)
+      completed_word-below actors word (value_after O (effects_left_of O m) word value) (λ k other at. fit (suc k) other at) (made_below (effects_left_of O m) (fit 0 m refl) word value below)
 
   -- so the completed words are words
   pub completed_below : (actors : List (ActorOf O)) (word : ℕ) (words : List ℕ) → AllFit actors → AreWords words → AreWords (completed_from O actors word words)

@@ -3,57 +3,45 @@ use Rattle.turns.specs.Seen.{Seen}
 use Rattle.turns.specs.Script.{walk}
 use Rattle.turns.specs.Sharing.{with_request}
 use Rattle.turns.specs.System.{System}
+use Rattle.turns.specs.declared.act.Act.{Act}
+use Rattle.turns.specs.declared.act.Act.TheVariants.{Finished, Request, Seize, Withdraw, Free, Test, Turn, Make}
 use Rattle.turns.specs.declared.answer.Answer.{Answer}
-use Rattle.turns.specs.declared.answer.Answer.TheVariants.{Asked, Seized, Held, Preferred, Again, Value, Turn as TurnNumber, Done}
+use Rattle.turns.specs.declared.answer.Answer.TheVariants.{Requested, Seized, Held, Preferred, Changed, Value, Turn as TurnNumber, Done}
 use Rattle.turns.specs.declared.judgement.Judgement.{Judgement}
 use Rattle.turns.specs.declared.judgement.Judgement.TheVariants as judgement
 use Rattle.turns.specs.declared.phase.Phase.{Phase}
 use Rattle.turns.specs.declared.phase.Phase.TheVariants.{Requests, Seizes, Tests, Turns, Withdraws, GivesBack, Operates}
 use Rattle.turns.specs.declared.reading.Reading.{Reading}
 use Rattle.turns.specs.declared.wanted.Wanted.{Wanted}
-use Rattle.turns.specs.declared.wanted.Wanted.TheVariants.{Seize, Test}
+use Rattle.turns.specs.declared.wanted.Wanted.TheVariants as wanted
 
--- an attempt at a job: what an actor knows of its job since it last began it
+-- an attempt at a job: what an actor knows of its job since it last began
 pub record Attempt (Lock Job Reply Effect : Type 0) : Type 0 where
   pub job : Job
   pub readings : List (Reading ℕ)
   pub held : List Lock
   pub phase : Phase Lock ℕ
-  -- what was decided, if it is decided: the reply, and the effects that are still to be made
+  -- the decision, if there is one: the reply, and the effects that are still to be made
   pub reply : Option Reply
   pub effects : List Effect
 
--- an atomic step: what it is, and by that the one word that it acts on
-pub data Act (Lock Effect : Type 0) : Type 0 where
-  -- none: the job is done, and nothing is held
-  Rest : Act Lock Effect
-  -- request a lock; seize it if its word is as expected; withdraw the request; free the lock
-  Ask : Lock → Act Lock Effect
-  Take : Lock → ℕ → Act Lock Effect
-  Leave : Lock → Act Lock Effect
-  Free : Lock → Act Lock Effect
-  -- test a word; take the turn; make an effect
-  Look : ℕ → Act Lock Effect
-  Turn : Act Lock Effect
-  Make : Effect → Act Lock Effect
-
--- what is held is freed, first seized first freed
+-- the next free: locks are freed in the order of seizing
 abbrev pub free_act : {Lock Effect : Type 0} → List Lock → Act Lock Effect
-free_act [] = Rest
+free_act [] = Finished
 free_act (lock ∷ held) = Free lock
 
--- past the turn the effects are made in their order, and then what is held is freed
+-- the next step past the turn: effects are made in their order, and then locks are freed
 abbrev pub closing_act : {Lock Effect : Type 0} → List Effect → List Lock → Act Lock Effect
 closing_act [] held = free_act held
 closing_act (effect ∷ effects) held = Make effect
 
 abbrev pub act_in : {Lock Job Reply Effect : Type 0} → Phase Lock ℕ → Attempt Lock Job Reply Effect
     → Act Lock Effect
-act_in (Requests lock) a = Ask lock
-act_in (Seizes lock expected) a = Take lock expected
-act_in (Tests word) a = Look word
+act_in (Requests lock) a = Request lock
+act_in (Seizes lock expected) a = Seize lock expected
+act_in (Tests word) a = Test word
 act_in Turns a = Turn
-act_in (Withdraws lock) a = Leave lock
+act_in (Withdraws lock) a = Withdraw lock
 act_in GivesBack a = free_act a.held
 act_in (Operates turn) a = closing_act a.effects a.held
 
@@ -61,27 +49,27 @@ act_in (Operates turn) a = closing_act a.effects a.held
 abbrev pub act : {Lock Job Reply Effect : Type 0} → Attempt Lock Job Reply Effect → Act Lock Effect
 act a = act_in a.phase a
 
--- whether a step is a request for a lock or the seizing of one
+-- the step requests or seizes a lock
 abbrev pub IsSeizing : {Lock Effect : Type 0} → Act Lock Effect → Type 0
-IsSeizing (Ask lock) = ⊤
-IsSeizing (Take lock expected) = ⊤
-IsSeizing Rest = ⊥
-IsSeizing (Leave lock) = ⊥
+IsSeizing (Request lock) = ⊤
+IsSeizing (Seize lock expected) = ⊤
+IsSeizing Finished = ⊥
+IsSeizing (Withdraw lock) = ⊥
 IsSeizing (Free lock) = ⊥
-IsSeizing (Look word) = ⊥
+IsSeizing (Test word) = ⊥
 IsSeizing Turn = ⊥
 IsSeizing (Make effect) = ⊥
 
--- what it has come by
+-- what an attempt holds and has read
 abbrev pub seen_of : {Lock Job Reply Effect : Type 0} → Attempt Lock Job Reply Effect → Seen Lock
 seen_of a = record { held = a.held; readings = a.readings }
 
--- the first of what is held is freed
+-- the locks held once the first one is freed
 abbrev pub rest_of : {Lock : Type 0} → List Lock → List Lock
 rest_of [] = []
 rest_of (lock ∷ held) = held
 
--- the lock for which its request stands
+-- the lock for which its request is pending
 abbrev pub request_in : {Lock : Type 0} → Phase Lock ℕ → Option Lock
 request_in (Seizes lock expected) = Some lock
 request_in (Withdraws lock) = Some lock
@@ -91,7 +79,7 @@ request_in Turns = None
 request_in GivesBack = None
 request_in (Operates turn) = None
 
--- the lock that it is to request, or to try to seize
+-- the lock that its next step requests or seizes
 abbrev pub asked_in : {Lock : Type 0} → Phase Lock ℕ → Option Lock
 asked_in (Requests lock) = Some lock
 asked_in (Seizes lock expected) = Some lock
@@ -101,7 +89,7 @@ asked_in (Withdraws lock) = None
 asked_in GivesBack = None
 asked_in (Operates turn) = None
 
--- the number of its turn, once it has turned
+-- the number of its turn, once it has taken it
 abbrev pub turn_in : {Lock : Type 0} → Phase Lock ℕ → Option ℕ
 turn_in (Operates turn) = Some turn
 turn_in (Requests lock) = None
@@ -111,17 +99,17 @@ turn_in Turns = None
 turn_in (Withdraws lock) = None
 turn_in GivesBack = None
 
--- the effects that are still to be made: none before its turn
-abbrev pub left_in : {Lock Effect : Type 0} → Phase Lock ℕ → List Effect → List Effect
-left_in (Operates turn) effects = effects
-left_in (Requests lock) effects = []
-left_in (Seizes lock expected) effects = []
-left_in (Tests word) effects = []
-left_in Turns effects = []
-left_in (Withdraws lock) effects = []
-left_in GivesBack effects = []
+-- the effects that are still to be made: none before the turn
+abbrev pub effects_left_in : {Lock Effect : Type 0} → Phase Lock ℕ → List Effect → List Effect
+effects_left_in (Operates turn) effects = effects
+effects_left_in (Requests lock) effects = []
+effects_left_in (Seizes lock expected) effects = []
+effects_left_in (Tests word) effects = []
+effects_left_in Turns effects = []
+effects_left_in (Withdraws lock) effects = []
+effects_left_in GivesBack effects = []
 
--- the readings that still count: none past the turn, or once it is put off
+-- the readings that still count: none past the turn, or in giving back
 abbrev pub read_in : {Lock : Type 0} → Phase Lock ℕ → List (Reading ℕ) → List (Reading ℕ)
 read_in (Requests lock) readings = readings
 read_in (Seizes lock expected) readings = readings
@@ -141,7 +129,7 @@ reply_in Turns reply = None
 reply_in (Withdraws lock) reply = None
 reply_in GivesBack reply = None
 
--- the first moment of an attempt: nothing held, nothing read, nothing decided
+-- the beginning of an attempt: nothing held, nothing read, nothing decided
 abbrev pub begin_with : {Lock Job Reply Effect : Type 0} → Lock → Job
     → Attempt Lock Job Reply Effect
 begin_with first job = record {
@@ -153,40 +141,41 @@ begin_with first job = record {
   effects = [];
 }
 
--- given up: nothing read or decided is remembered
+-- the attempt without all that it has read and decided
 abbrev pub forgotten : {Lock Job Reply Effect : Type 0} → Attempt Lock Job Reply Effect
     → Attempt Lock Job Reply Effect
 forgotten a = record a { readings = []; reply = None; effects = [] }
 
--- put off: the request for this lock is to be withdrawn
-abbrev pub put_off : {Lock Job Reply Effect : Type 0} → Attempt Lock Job Reply Effect → Lock
+-- the attempt once it is denied this lock: it withdraws its request next
+abbrev pub denied : {Lock Job Reply Effect : Type 0} → Attempt Lock Job Reply Effect → Lock
     → Attempt Lock Job Reply Effect
-put_off a lock = record (forgotten a) { phase = Withdraws lock }
+denied a lock = record (forgotten a) { phase = Withdraws lock }
 
--- past the turn, an effect is made; with none left, the first of what is held is freed
+-- the attempt after a step past the turn: an effect was made, or, with none left, the first lock
+-- was freed
 abbrev pub operated : {Lock Job Reply Effect : Type 0} → Attempt Lock Job Reply Effect → List Effect
     → Attempt Lock Job Reply Effect
 operated a [] = record a { held = rest_of a.held }
 operated a (effect ∷ effects) = record a { effects = effects }
 
--- an actor that may go on does so by this answer
-abbrev pub unless_put_off : Answer → Judgement → Answer
-unless_put_off answer judgement.Free = answer
-unless_put_off answer (judgement.Held holder) = Held holder
-unless_put_off answer (judgement.Preferred other) = Preferred other
+-- this answer if the judgement lets the actor go on, and otherwise that the lock is denied
+abbrev pub unless_denied : Answer → Judgement → Answer
+unless_denied answer judgement.Free = answer
+unless_denied answer (judgement.Held holder) = Held holder
+unless_denied answer (judgement.Preferred other) = Preferred other
 
--- an answer is of the step's kind, and a value that was tested fits a word
+-- the answer is of the step's kind, and the value of a tested word fits 64 bits
 abbrev pub IsAnswerTo : {Lock Effect : Type 0} → Act Lock Effect → Answer → Type 0
-IsAnswerTo (Ask lock) (Asked word) = ⊤
-IsAnswerTo (Ask lock) (Held holder) = ⊤
-IsAnswerTo (Ask lock) (Preferred other) = ⊤
-IsAnswerTo (Take lock expected) Seized = ⊤
-IsAnswerTo (Take lock expected) (Held holder) = ⊤
-IsAnswerTo (Take lock expected) (Preferred other) = ⊤
-IsAnswerTo (Take lock expected) (Again word) = ⊤
-IsAnswerTo (Look word) (Value value) = value < 2 ^ 64
+IsAnswerTo (Request lock) (Requested word) = ⊤
+IsAnswerTo (Request lock) (Held holder) = ⊤
+IsAnswerTo (Request lock) (Preferred other) = ⊤
+IsAnswerTo (Seize lock expected) Seized = ⊤
+IsAnswerTo (Seize lock expected) (Held holder) = ⊤
+IsAnswerTo (Seize lock expected) (Preferred other) = ⊤
+IsAnswerTo (Seize lock expected) (Changed word) = ⊤
+IsAnswerTo (Test word) (Value value) = value < 2 ^ 64
 IsAnswerTo Turn (TurnNumber number) = ⊤
-IsAnswerTo (Leave lock) Done = ⊤
+IsAnswerTo (Withdraw lock) Done = ⊤
 IsAnswerTo (Make effect) Done = ⊤
 IsAnswerTo (Free lock) Done = ⊤
 IsAnswerTo _ _ = ⊥
@@ -200,57 +189,57 @@ module _ (O : System) where
   abbrev pub begin : Job → AttemptOf
   begin job = begin_with (O.first job) job
 
-  -- what its job comes to by what it has come by
-  abbrev pub come_to : AttemptOf → Result Decision (Wanted Lock ℕ)
-  come_to a = walk O.same (seen_of a) (O.script a.job)
+  -- what the walk of its script comes to, on what it holds and has read
+  abbrev pub walk_result : AttemptOf → Result Decision (Wanted Lock ℕ)
+  walk_result a = walk O.same (seen_of a) (O.script a.job)
 
-  -- its walk comes to an end, so the attempt has decided, or to what it wants next
+  -- the attempt continued with the result of its walk: it has decided, or needs something next
   abbrev pub goes_on : AttemptOf → Result Decision (Wanted Lock ℕ) → AttemptOf
   goes_on a (Ok decision) =
       record a { phase = Turns; reply = Some (reply_of decision); effects = effects_of decision }
-  goes_on a (Err (Seize lock)) = record a { phase = Requests lock }
-  goes_on a (Err (Test word)) = record a { phase = Tests word }
+  goes_on a (Err (wanted.Seize lock)) = record a { phase = Requests lock }
+  goes_on a (Err (wanted.Test word)) = record a { phase = Tests word }
 
   abbrev pub walks_on : AttemptOf → AttemptOf
-  walks_on a = goes_on a (come_to a)
+  walks_on a = goes_on a (walk_result a)
 
-  -- what is held is given back, and with nothing held the job begins anew
-  abbrev pub freed : AttemptOf → List Lock → AttemptOf
-  freed a [] = begin a.job
-  freed a (lock ∷ held) = record a { held = lock ∷ held; phase = GivesBack }
+  -- the attempt in giving back, with these locks still held: with none left its job begins anew
+  abbrev pub giving_back : AttemptOf → List Lock → AttemptOf
+  giving_back a [] = begin a.job
+  giving_back a (lock ∷ held) = record a { held = lock ∷ held; phase = GivesBack }
 
-  -- the change that an answer makes in a phase; no other answer comes in it
+  -- the attempt changed by an answer in a phase; an answer of another kind changes nothing
   abbrev pub changed : AttemptOf → Phase Lock ℕ → Answer → AttemptOf
-  changed a (Requests lock) (Asked word) = record a { phase = Seizes lock word }
-  changed a (Requests lock) (Held holder) = put_off a lock
-  changed a (Requests lock) (Preferred other) = put_off a lock
+  changed a (Requests lock) (Requested word) = record a { phase = Seizes lock word }
+  changed a (Requests lock) (Held holder) = denied a lock
+  changed a (Requests lock) (Preferred other) = denied a lock
   changed a (Seizes lock expected) Seized = walks_on (record a { held = a.held ++ lock ∷ [] })
-  changed a (Seizes lock expected) (Held holder) = put_off a lock
-  changed a (Seizes lock expected) (Preferred other) = put_off a lock
-  changed a (Seizes lock expected) (Again word) = record a { phase = Seizes lock word }
+  changed a (Seizes lock expected) (Held holder) = denied a lock
+  changed a (Seizes lock expected) (Preferred other) = denied a lock
+  changed a (Seizes lock expected) (Changed word) = record a { phase = Seizes lock word }
   changed a (Tests word) (Value value) =
       walks_on (record a { readings = a.readings ++ record { word = word; value = value } ∷ [] })
   changed a Turns (TurnNumber number) = record a { phase = Operates number }
-  changed a (Withdraws lock) Done = freed a a.held
-  changed a GivesBack Done = freed a (rest_of a.held)
+  changed a (Withdraws lock) Done = giving_back a a.held
+  changed a GivesBack Done = giving_back a (rest_of a.held)
   changed a (Operates turn) Done = operated a a.effects
   changed a _ _ = a
 
-  -- the attempt once its next step was answered
+  -- the attempt after the answer to its next step
   abbrev pub change : AttemptOf → Answer → AttemptOf
   change a answer = changed a a.phase answer
 
-  -- what actor k is told of its step that found this number
+  -- the answer to actor k's step, which found this number in its word
   abbrev pub answer_to : ℕ → Act Lock Effect → ℕ → Answer
-  answer_to k Rest found = Done
-  answer_to k (Ask lock) found =
-      unless_put_off (Asked (with_request sharing k found))
+  answer_to k Finished found = Done
+  answer_to k (Request lock) found =
+      unless_denied (Requested (with_request sharing k found))
       (sharing.judged k (with_request sharing k found))
-  answer_to k (Take lock expected) found =
-      if found == expected then Seized else unless_put_off (Again found) (sharing.judged k found)
-  answer_to k (Leave lock) found = Done
+  answer_to k (Seize lock expected) found =
+      if found == expected then Seized else unless_denied (Changed found) (sharing.judged k found)
+  answer_to k (Withdraw lock) found = Done
   answer_to k (Free lock) found = Done
-  answer_to k (Look word) found = Value found
+  answer_to k (Test word) found = Value found
   answer_to k Turn found = TurnNumber found
   answer_to k (Make effect) found = Done
 
@@ -258,12 +247,12 @@ module _ (O : System) where
   abbrev pub next : ℕ → AttemptOf → ℕ → AttemptOf
   next k a found = change a (answer_to k (act a) found)
 
-  -- begun anew before its turn, once what it holds was given back; past its turn nothing changes
+  -- the attempt once it is given up: it gives back and begins anew; past its turn nothing changes
   abbrev pub restarted_in : Phase Lock ℕ → AttemptOf → AttemptOf
-  restarted_in (Requests lock) a = freed (forgotten a) a.held
-  restarted_in (Seizes lock expected) a = put_off a lock
-  restarted_in (Tests word) a = freed (forgotten a) a.held
-  restarted_in Turns a = freed (forgotten a) a.held
+  restarted_in (Requests lock) a = giving_back (forgotten a) a.held
+  restarted_in (Seizes lock expected) a = denied a lock
+  restarted_in (Tests word) a = giving_back (forgotten a) a.held
+  restarted_in Turns a = giving_back (forgotten a) a.held
   restarted_in (Withdraws lock) a = a
   restarted_in GivesBack a = a
   restarted_in (Operates turn) a = a
@@ -271,15 +260,15 @@ module _ (O : System) where
   abbrev pub restarted : AttemptOf → AttemptOf
   restarted a = restarted_in a.phase a
 
-  -- its job is decided, on effects under what is held
+  -- its walk comes to a decision, of which it has the reply and the effects
   pub record HasDecided (a : AttemptOf) : Type 0 where
     pub decision : Decision
-    pub come : come_to a ≡ Ok decision
+    pub come : walk_result a ≡ Ok decision
     pub reply : a.reply ≡ Some (reply_of decision)
     pub effects : a.effects ≡ effects_of decision
 
-  -- it took its turn with the decision that its job came to then, of whose effects those left are
-  -- the end
+  -- it took its turn with a decision that a walk of its script came to; the effects left are the
+  -- last of that decision's
   pub record HasTurned (a : AttemptOf) : Type 0 where
     pub seen : Seen Lock
     pub decision : Decision
@@ -288,15 +277,15 @@ module _ (O : System) where
     pub reply : a.reply ≡ Some (reply_of decision)
     pub effects : effects_of decision ≡ made ++ a.effects
 
-  -- an attempt stands, in a phase, where its job brings it
-  abbrev pub StandsIn : AttemptOf → Phase Lock ℕ → Type 0
-  StandsIn a (Requests lock) = come_to a ≡ Err (Seize lock)
-  StandsIn a (Seizes lock expected) = come_to a ≡ Err (Seize lock)
-  StandsIn a (Tests word) = come_to a ≡ Err (Test word)
-  StandsIn a Turns = HasDecided a
-  StandsIn a (Withdraws lock) = IsLock lock
-  StandsIn a GivesBack = ¬ (a.held ≡ [])
-  StandsIn a (Operates turn) = HasTurned a
+  -- an attempt is valid in a phase: before the turn, the phase is what its walk comes to
+  abbrev pub IsValidIn : AttemptOf → Phase Lock ℕ → Type 0
+  IsValidIn a (Requests lock) = walk_result a ≡ Err (wanted.Seize lock)
+  IsValidIn a (Seizes lock expected) = walk_result a ≡ Err (wanted.Seize lock)
+  IsValidIn a (Tests word) = walk_result a ≡ Err (wanted.Test word)
+  IsValidIn a Turns = HasDecided a
+  IsValidIn a (Withdraws lock) = IsLock lock
+  IsValidIn a GivesBack = ¬ (a.held ≡ [])
+  IsValidIn a (Operates turn) = HasTurned a
 
-  abbrev pub Stands : AttemptOf → Type 0
-  Stands a = StandsIn a a.phase
+  abbrev pub IsValid : AttemptOf → Type 0
+  IsValid a = IsValidIn a a.phase

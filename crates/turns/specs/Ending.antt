@@ -2,7 +2,8 @@ use Rattle.std.specs.Prelude.{◌≡◌, ℕ, ◌==◌, Bool, false, List, ◌++
 use mathlib.Core.Option.{some}
 use lib.ListN.{get_elem?}
 use Rattle.turns.specs.System.{System}
-use Rattle.turns.specs.Attempt.{AttemptOf, Rest, act}
+use Rattle.turns.specs.Attempt.{AttemptOf, act}
+use Rattle.turns.specs.declared.act.Act.TheVariants.{Finished}
 use Rattle.turns.specs.World.{World, Does}
 use Rattle.turns.specs.Runs.{Move, Assigns, Steps, Backs, run_from}
 use Rattle.turns.specs.declared.phase.Phase.TheVariants.{Operates}
@@ -18,7 +19,8 @@ abbrev pub own_steps : {Job : Type 0} → ℕ → List (Move Job) → ℕ
 own_steps k moves = count_by (is_step_of k) moves
 
 module _ (O : System) where
-  -- at some moment of these moves actor k has come to the end of its job: nothing is left of it
+  -- after a first part of these moves actor k has ended the job of this turn: nothing is left of
+  -- it
   pub record ComesToEnd (w : World O) (moves : List (Move O.Job)) (k number turn : ℕ) (job : O.Job)
       : Type 0 where
     pub before : List (Move O.Job)
@@ -28,4 +30,4 @@ module _ (O : System) where
     pub there : get_elem? (run_from O w before).actors k ≡ some (Does number ended)
     pub phase : ended.phase ≡ Operates turn
     pub job_is : ended.job ≡ job
-    pub rests : act ended ≡ Rest
+    pub rests : act ended ≡ Finished

@@ -11,5 +11,5 @@ pub mod Runs
 pub mod Sharings
 pub mod Bounds
 pub mod Ending
-pub mod PutOff
+pub mod Denied
 pub mod Outcomes

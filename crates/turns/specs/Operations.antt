@@ -10,7 +10,7 @@ applied (And mask) found = bit_and found mask
 applied (Add more) found = (found + more) % 2 ^ 64
 applied (CompareExchange expected new) found = if found == expected then new else found
 
--- what an operation may put into a word has 64 bits
+-- an operation leaves 64 bits in a word of 64 bits
 abbrev pub FitsWord : Operation → Type 0
 FitsWord Load = ⊤
 FitsWord (Or bits) = bits < 2 ^ 64

@@ -2,29 +2,31 @@ use Rattle.std.specs.Prelude.{ℕ, Bool, true, false, List, [], ◌∷◌, ⊤, 
 use mathlib.Core.Option.{Option, some, none}
 use lib.ListN.{get_elem?}
 use Rattle.turns.specs.System.{System}
-use Rattle.turns.specs.Attempt.{Act, Rest, act}
+use Rattle.turns.specs.Attempt.{act}
+use Rattle.turns.specs.declared.act.Act.{Act}
+use Rattle.turns.specs.declared.act.Act.TheVariants.{Finished}
 use Rattle.turns.specs.World.{World, ActorOf, Idle, Does, moved, assigned, given_back, fresh_world}
 
--- what may happen next: a job is assigned to an actor under a number, an actor makes its next step,
--- or it gives back
+-- a move: a job is assigned to an actor under a number, an actor makes its next step, or an actor
+-- gives back
 pub data Move (Job : Type 0) : Type 0 where
   Assigns : ℕ → ℕ → Job → Move Job
   Steps : ℕ → Move Job
   Backs : ℕ → Move Job
 
-abbrev pub is_rest : {Lock Effect : Type 0} → Act Lock Effect → Bool
-is_rest Rest = true
-is_rest _ = false
+abbrev pub is_finished : {Lock Effect : Type 0} → Act Lock Effect → Bool
+is_finished Finished = true
+is_finished _ = false
 
 module _ (O : System) where
-  abbrev pub is_free : ActorOf O → Bool
-  is_free Idle = true
-  is_free (Does number a) = is_rest (act a)
+  abbrev pub is_available : ActorOf O → Bool
+  is_available Idle = true
+  is_available (Does number a) = is_finished (act a)
 
-  -- at the actor of this number, if there is one; a job goes to a free actor only
+  -- a move of the actor with this number, if there is one; a job goes to an available actor only
   abbrev pub assigned_at : ℕ → ℕ → O.Job → Option (ActorOf O) → World O → World O
   assigned_at k number job none w = w
-  assigned_at k number job (some m) w = if is_free m then assigned O k number job w else w
+  assigned_at k number job (some m) w = if is_available m then assigned O k number job w else w
 
   abbrev pub stepped_at : ℕ → Option (ActorOf O) → World O → World O
   stepped_at k none w = w
@@ -41,12 +43,12 @@ module _ (O : System) where
   after_move w (Steps k) = stepped_at k (get_elem? w.actors k) w
   after_move w (Backs k) = backed_at k (get_elem? w.actors k) w
 
-  -- moves of any actors, one after another
+  -- the world after moves of any actors, one after another
   abbrev pub run_from : World O → List (Move O.Job) → World O
   run_from w [] = w
   run_from w (move ∷ moves) = run_from (after_move w move) moves
 
-  -- a run of so many actors
+  -- a run of `count` actors
   abbrev pub run_of : ℕ → List (Move O.Job) → World O
   run_of count moves = run_from (fresh_world O count) moves
 

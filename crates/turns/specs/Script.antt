@@ -7,8 +7,8 @@ use Rattle.turns.specs.declared.wanted.Wanted.TheVariants.{Seize, Test}
 
 infixl 20 ◌>>=◌
 infixl 20 ◌>>◌
--- what a job is to do until it can decide: it ends with what it found, or tests a word and goes on
--- by its value, or seizes a lock and goes on
+-- a job as a decision tree: a script ends with what it found, or tests a word and goes on by its
+-- value, or seizes a lock and goes on
 pub data Script (Lock A : Type 0) : Type 0 where
   Ends : A → Script Lock A
   TestThen : ℕ → (ℕ → Script Lock A) → Script Lock A
@@ -32,42 +32,42 @@ test word = TestThen word Ends
 abbrev pub seize : {Lock : Type 0} → Lock → Script Lock ⊤
 seize lock = SeizeThen lock (Ends tt)
 
--- a script that goes on by each word's value as this makes it
+-- the script that takes each word's value through `change`
 unfoldable pub read_with : {Lock A : Type 0} → (ℕ → ℕ → ℕ) → Script Lock A → Script Lock A
 read_with change (Ends found) = Ends found
 read_with change (TestThen word script) =
     TestThen word (λ value. read_with change (script (change word value)))
 read_with change (SeizeThen lock script) = SeizeThen lock (read_with change script)
 
--- the end of a script on given words, all locks being free
+-- what a script ends with on given words, if all locks are free
 unfoldable pub run : {Lock A : Type 0} → List ℕ → Script Lock A → A
 run words (Ends found) = found
 run words (TestThen word script) = run words (script (slice_index words word))
 run words (SeizeThen lock script) = run words script
 
--- whether a lock is held, where `same` tells whether two locks are one
+-- whether a lock is held; `same` tells whether two locks are one
 unfoldable pub is_held : {Lock : Type 0} → (Lock → Lock → Bool) → List Lock → Lock → Bool
 is_held same held lock = list_any (λ own. same own lock) held
 
--- what was read in a word, if it was read: the first reading stands
+-- the value read in a word, if it was read: that of its first reading
 unfoldable pub value_read : List (Reading ℕ) → ℕ → Option ℕ
 value_read readings word =
     option_map (λ reading. reading.value) (find (λ reading. reading.word == word) readings)
 
--- a test is left to do where its word was not read
+-- a test is left to do if its word was not read
 unfoldable pub left_of_test : {Lock A : Type 0} → (ℕ → Script Lock A) → (ℕ → Script Lock A) → ℕ
     → Option ℕ → Script Lock A
 left_of_test script left word None = TestThen word script
 left_of_test script left word (Some value) = left value
 
--- a seizing is left to do where its lock is not held
+-- a seize is left to do if its lock is not held
 unfoldable pub left_of_seizing : {Lock A : Type 0} → Script Lock A → Script Lock A → Lock → Bool
     → Script Lock A
 left_of_seizing script left lock false = SeizeThen lock script
 left_of_seizing script left lock true = left
 
--- what is left of a script for an attempt: a lock that it holds is not seized again, and a word
--- that it has read is not tested again
+-- what is left of a script for an attempt: it doesn't seize a lock again that it holds, nor test a
+-- word again that it has read
 unfoldable pub left : {Lock A : Type 0} → (Lock → Lock → Bool) → Seen Lock → Script Lock A
     → Script Lock A
 left same seen (Ends found) = Ends found
@@ -77,18 +77,18 @@ left same seen (TestThen word script) =
 left same seen (SeizeThen lock script) =
     left_of_seizing script (left same seen script) lock (is_held same seen.held lock)
 
--- the end of a script, or what it wants first
+-- what a script ends with, or the first thing that it needs
 unfoldable pub first_wanted : {Lock A : Type 0} → Script Lock A → Result A (Wanted Lock ℕ)
 first_wanted (Ends found) = Ok found
 first_wanted (TestThen word script) = Err (Test word)
 first_wanted (SeizeThen lock script) = Err (Seize lock)
 
--- the walk of an attempt through a script: to its end, or to what it wants next
+-- the walk of an attempt through a script: to the script's end, or to what the attempt needs next
 unfoldable pub walk : {Lock A : Type 0} → (Lock → Lock → Bool) → Seen Lock → Script Lock A
     → Result A (Wanted Lock ℕ)
 walk same seen script = first_wanted (left same seen script)
 
--- whatever is read in words of 64 bits, a script has no more tests and no more seizings than these
+-- the script has at most `tests` tests and `seizings` seizes, whatever values of 64 bits it reads
 unfoldable pub AsksAtMost : {Lock A : Type 0} → ℕ → ℕ → Script Lock A → Type 0
 AsksAtMost tests seizings (Ends found) = ⊤
 AsksAtMost zero seizings (TestThen word script) = ⊥

@@ -4,37 +4,39 @@ use Rattle.turns.specs.declared.operation.Operation.{Operation}
 use Rattle.turns.specs.declared.judgement.Judgement.{Judgement}
 use Rattle.turns.specs.declared.judgement.Judgement.TheVariants.{Free, Held, Preferred}
 
--- how actors share a lock's word, whatever the bits
+-- a way in which actors share a lock's word
 pub record Sharing : Type 1 where
-  -- this many actors may share it
+  -- how many actors may share it
   pub most : ℕ
-  -- a number that a lock's word may be
+  -- the numbers that a lock's word may be
   pub IsWord : ℕ → Type 0
   -- 0, or one more than the number of the actor that holds the lock
   pub holder : ℕ → ℕ
-  -- whether actor k's request stands
+  -- whether the word has actor k's request
   pub requests : ℕ → ℕ → Bool
   -- the operations by which actor k requests the lock, and withdraws its request
   pub request : ℕ → Operation
   pub withdrawal : ℕ → Operation
-  -- what actor k puts in place of the word by which it seizes the lock
+  -- the word that actor k puts in place of this one to seize the lock
   pub taken : ℕ → ℕ → ℕ
   -- the operation by which its holder frees the lock
   pub freeing : Operation
-  -- what the word says to actor k, whose request stands
+  -- whether actor k, which requests the lock, may seize it by this word
   pub judged : ℕ → ℕ → Judgement
 
--- the word with actor k's request, and without it; once its holder has freed the lock
+-- the word with actor k's request
 abbrev pub with_request : Sharing → ℕ → ℕ → ℕ
 with_request S k word = applied (S.request k) word
 
+-- the word without actor k's request
 abbrev pub without_request : Sharing → ℕ → ℕ → ℕ
 without_request S k word = applied (S.withdrawal k) word
 
+-- the word once its holder has freed the lock
 abbrev pub without_holder : Sharing → ℕ → ℕ
 without_holder S word = applied S.freeing word
 
--- a judgement is true of the word
+-- a judgement is true by the word
 abbrev pub IsTrueOf : Sharing → ℕ → ℕ → Judgement → Type 0
 IsTrueOf S k word Free = S.holder word ≡ 0
 IsTrueOf S k word (Held other) = S.holder word ≡ suc other
@@ -47,7 +49,7 @@ pub record IsUnused (S : Sharing) (word : ℕ) : Type 0 where
   pub free : S.holder word ≡ 0
   pub unasked : (j : ℕ) → j < S.most → S.requests j word ≡ false
 
--- of the requests in the word after a step, none but actor k's is new
+-- no request is new in the word after a step, except actor k's
 abbrev pub AddsOnly : Sharing → ℕ → ℕ → ℕ → Type 0
 AddsOnly S k word after =
     (j : ℕ) → j < S.most → S.requests j after ≡ true → (j ≡ k) ⊎ (S.requests j word ≡ true)
@@ -67,7 +69,7 @@ abbrev pub KeepsOthers : Sharing → ℕ → ℕ → ℕ → Type 0
 KeepsOthers S k word after =
     (j : ℕ) → j < S.most → j ≢ k → S.requests j word ≡ true → S.requests j after ≡ true
 
--- what must hold of them
+-- the rules that a sharing has to keep
 pub record IsSharing (S : Sharing) : Type 0 where
   -- a request keeps the holder
   pub asked_is : (k word : ℕ) → k < S.most → S.IsWord word → S.IsWord (with_request S k word)
@@ -92,15 +94,15 @@ pub record IsSharing (S : Sharing) : Type 0 where
   pub freed_is : (word : ℕ) → S.IsWord word → S.IsWord (without_holder S word)
   pub freed_holder : (word : ℕ) → S.IsWord word → S.holder (without_holder S word) ≡ 0
   pub freed_requests : (word : ℕ) → S.IsWord word → AddsNone S word (without_holder S word)
-  -- judgements are true, and an actor that requests alone what nobody holds may go on
+  -- judgements are true, and an actor may go on if it alone requests a lock that nobody holds
   pub judged_true : (k word : ℕ) → k < S.most → S.IsWord word → IsTrueOf S k word (S.judged k word)
   pub alone_free : (k word : ℕ) → k < S.most → S.IsWord word → S.holder word ≡ 0
       → ((j : ℕ) → j < S.most → S.requests j word ≡ true → j ≡ k) → S.judged k word ≡ Free
   -- a lock's word has 64 bits
   pub word_below : (word : ℕ) → S.IsWord word → word < 2 ^ 64
 
--- what must hold too where each request is to be seen in the word, from the step that makes it to
--- that which withdraws it or seizes the lock
+-- a sharing shows requests: each is in the word from the step that makes it to the one that
+-- withdraws it or seizes the lock
 pub record ShowsRequests (S : Sharing) : Type 0 where
   pub asked_own : (k word : ℕ) → k < S.most → S.IsWord word
       → S.requests k (with_request S k word) ≡ true

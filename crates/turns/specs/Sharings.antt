@@ -5,37 +5,39 @@ use Rattle.turns.specs.declared.operation.Operation.TheVariants.{Load, Or, And}
 use Rattle.turns.specs.declared.judgement.Judgement.{Judgement}
 use Rattle.turns.specs.declared.judgement.Judgement.TheVariants.{Free, Held, Preferred}
 
--- an actor's request is a bit of its own, above the lowest eight
+-- the bit of an actor's request, above the lowest eight
 abbrev pub request_bit : ℕ → ℕ
 request_bit k = 2 ^ (8 + k)
 
--- the first of the actors j, j + 1, .., `count` of them, whose request stands in a word
+-- the first of `count` actors, from j on, that has a request in the word
 abbrev pub first_request : ℕ → ℕ → ℕ → Option ℕ
 first_request word j zero = None
 first_request word j (suc count) =
     if bit_at word (8 + j) == 1 then Some j else first_request word (suc j) count
 
--- the least actor below this one whose request stands in a word
+-- the lowest actor below this one that has a request in the word
 unfoldable pub lower_request : ℕ → ℕ → Option ℕ
 lower_request k word = first_request word 0 k
 
--- nobody holds the lock: the least lower actor that requests it is preferred
+-- the judgement if nobody holds the lock: a lower actor that requests it is preferred
 abbrev pub by_request : Option ℕ → Judgement
 by_request None = Free
 by_request (Some other) = Preferred other
 
--- by 0, or one more than the number of the actor that holds the lock
+-- the judgement by the holder, which is 0, or one more than the number of the actor that holds the
+-- lock
 abbrev pub by_holder : ℕ → Option ℕ → Judgement
 by_holder zero lower = by_request lower
 by_holder (suc holder) lower = Held holder
 
--- what a lock's word, whose lowest six bits are its holder, says to an actor that requests it
+-- the judgement of a lock's word for an actor that requests the lock; the lowest six bits are the
+-- holder
 unfoldable pub judged : ℕ → ℕ → Judgement
 judged k word = by_holder (word % 64) (lower_request k word)
 
--- the own request becomes the own hold
-abbrev pub taken_by : ℕ → ℕ → ℕ
-taken_by k word = bit_or (bit_and word (2 ^ 64 - 1 - request_bit k)) (1 + k)
+-- the word once actor k has seized the lock: its request is cleared, and it is the holder
+abbrev pub seized_by : ℕ → ℕ → ℕ
+seized_by k word = bit_or (bit_and word (2 ^ 64 - 1 - request_bit k)) (1 + k)
 
 -- a lock's word: the lowest six bits name a holder of 48, each of the bits 8 to 55 is a request,
 -- and no other bit is set
@@ -53,13 +55,13 @@ preferring = record {
   requests = λ k word. bit_at word (8 + k) == 1;
   request = λ k. Or (request_bit k);
   withdrawal = λ k. And (2 ^ 64 - 1 - request_bit k);
-  taken = taken_by;
+  taken = seized_by;
   freeing = And (2 ^ 64 - 1 - 63);
   judged = judged;
 }
 
--- any number of actors, none of whose requests is seen: a lock's word is 0, or one more than the
--- number of the actor that holds it, and to request is to look
+-- up to `most` actors, whose requests aren't shown: a lock's word is 0, or one more than the
+-- number of the actor that holds it, and a request only looks at the word
 abbrev pub plain : ℕ → Sharing
 plain most = record {
   most = most;

@@ -19,7 +19,7 @@ pub record SystemOver (Lock Job Reply Effect : Type 0) : Type 1 where
   pub State : Type 0
   pub whole : State → Job → Whole State Reply
   pub opening : State
-  -- the words that it opens on
+  -- the initial words
   pub initial : List ℕ
   -- the jobs step by step: the lock that a job seizes first, and what it does until it decides
   pub IsLock : Lock → Type 0
@@ -30,12 +30,12 @@ pub record SystemOver (Lock Job Reply Effect : Type 0) : Type 1 where
   -- a decision's reply, and its effects in their order
   pub reply_of : Decision → Reply
   pub effects_of : Decision → List Effect
-  -- an effect's word, the operation that makes it there, and the number that it must find
+  -- an effect's word, the operation that makes it there, and the number that it relies on finding
   pub effect_word : Effect → ℕ
   pub operation_of : Effect → Operation
   pub Due : Effect → ℕ → Type 0
-  -- the words: how many there are, which lock protects a word, where each lock's own word stands
-  -- and how it is shared, the turn word
+  -- the words: how many there are, which lock protects a word, each lock's own word and how it is
+  -- shared, and the turn word
   pub size : ℕ
   pub Protects : Lock → ℕ → Type 0
   pub lock_word : Lock → ℕ
@@ -44,7 +44,7 @@ pub record SystemOver (Lock Job Reply Effect : Type 0) : Type 1 where
   -- these words show this state
   pub Shows : List ℕ → State → Type 0
 
--- a system of jobs, with its types beside it
+-- a system of jobs together with its types
 pub record System : Type 1 where
   pub Lock : Type 0
   pub Job : Type 0
@@ -53,12 +53,12 @@ pub record System : Type 1 where
   pub over : SystemOver Lock Job Reply Effect
   pub open over use *
 
--- the system over types that are known
+-- a system over given types
 abbrev pub system_of : {Lock Job Reply Effect : Type 0} → SystemOver Lock Job Reply Effect → System
 system_of {Lock} {Job} {Reply} {Effect} over =
     record { Lock = Lock; Job = Job; Reply = Reply; Effect = Effect; over = over }
 
--- each of these numbers fits a word
+-- each of these numbers fits 64 bits
 abbrev pub AreWords : List ℕ → Type 0
 AreWords words = (n : ℕ) → slice_index words n < 2 ^ 64
 
@@ -90,29 +90,29 @@ module _ (O : System) where
   abbrev pub effect_on : Effect → ℕ → ℕ
   effect_on effect value = applied (O.operation_of effect) value
 
-  -- the word is one that some of these locks protects
+  -- the word is under one of these locks
   pub record IsUnder (locks : List Lock) (number : ℕ) : Type 0 where
     pub lock : Lock
     pub protects : Protects lock number
     pub held : IsIn lock locks
 
-  -- each effect changes a word that some of these locks protects
+  -- each effect is on a word under one of these locks
   abbrev pub AreUnder : List Lock → List Effect → Type 0
   AreUnder held effects =
       (effect : Effect) → IsIn effect effects → IsUnder held (effect_word effect)
 
-  -- each effect's operation puts no more than 64 bits into its word
+  -- each effect leaves 64 bits in its word
   abbrev pub FitWords : List Effect → Type 0
   FitWords effects = (effect : Effect) → IsIn effect effects → FitsWord (O.operation_of effect)
 
-  -- effects that may be made with these locks held: each on a word that some of them protects, in
-  -- which it leaves 64 bits
+  -- the effects may be made with these locks held: they are on words under them, in which they
+  -- leave 64 bits
   pub record MayMake (held : List Lock) (effects : List Effect) : Type 0 where
     pub under : AreUnder held effects
     pub fit : FitWords effects
 
-  -- with these locks held, a script tests only words that what is seized by then protects, and,
-  -- whatever is read in words of 64 bits, its ends fit what is held then
+  -- from these locks on, the script tests only words under the locks seized by then, and each of
+  -- its ends fits these locks, whatever values of 64 bits it reads
   unfoldable pub KeepsTo : {A : Type 0} → (List Lock → A → Type 0) → List Lock → Script Lock A
       → Type 0
   KeepsTo Fits held (Ends found) = Fits held found
@@ -120,42 +120,43 @@ module _ (O : System) where
       IsUnder held word × ((value : ℕ) → value < 2 ^ 64 → KeepsTo Fits held (script value))
   KeepsTo Fits held (SeizeThen lock script) = IsLock lock × KeepsTo Fits (held ++ lock ∷ []) script
 
-  -- a decision has effects that may be made with these locks held
+  -- the decision's effects may be made with these locks held
   abbrev pub DecidesUnder : List Lock → Decision → Type 0
   DecidesUnder held decision = MayMake held (effects_of decision)
 
-  -- the words after an effect, and after effects one after another
+  -- the words after an effect
   abbrev pub perform : List ℕ → Effect → List ℕ
   perform words effect =
       slice_set words (effect_word effect)
       (effect_on effect (slice_index words (effect_word effect)))
 
+  -- the words after effects, one after another
   unfoldable pub perform_all : List ℕ → List Effect → List ℕ
   perform_all words effects = fold perform words effects
 
-  -- each effect finds what it must when it is made
+  -- each effect finds what it relies on when it is made
   abbrev pub AreDue : List ℕ → List Effect → Type 0
   AreDue words [] = ⊤
   AreDue words (effect ∷ effects) =
       Due effect (slice_index words (effect_word effect)) × AreDue (perform words effect) effects
 
-  -- a decision is that of the job done whole: its reply, and effects that lead to words that show
-  -- its state
+  -- the decision is that of the job done whole: it has its reply, and effects that find what they
+  -- rely on and lead to words that show its state
   pub record DecidesAs (words : List ℕ) (after : Whole State Reply)
       (decision : Decision) : Type 0 where
     pub reply : reply_of decision ≡ after.reply
     pub shows : O.Shows (perform_all words (effects_of decision)) after.state
     pub due : AreDue words (effects_of decision)
 
-  -- two lists of words have the same under every lock
+  -- two lists of words are the same under every lock
   pub record AreAlike (words other : List ℕ) : Type 0 where
     pub this_length : length words ≡ size
     pub that_length : length other ≡ size
     pub under : (number : ℕ) (lock : Lock) → Protects lock number
         → slice_index words number ≡ slice_index other number
 
-  -- where the words stand: all within `size`, a lock's own word and the turn word under no lock,
-  -- each word under at most one
+  -- the layout of the words: all are within `size`, lock words and the turn word are apart and
+  -- under no lock, and each word is under at most one
   pub record AreApart : Type 0 where
     pub one_lock_word : (a b : Lock) → IsLock a → IsLock b → O.lock_word a ≡ O.lock_word b → a ≡ b
     pub lock_word_there : (a : Lock) → IsLock a → O.lock_word a < size
@@ -167,8 +168,8 @@ module _ (O : System) where
     pub lock_there : (number : ℕ) (lock : Lock) → Protects lock number → IsLock lock
     pub one_protector : (number : ℕ) (a b : Lock) → Protects a number → Protects b number → a ≡ b
 
-  -- what must hold of the words that a system opens on: they have 64 bits and show its opening
-  -- state, nobody holds or requests a lock, and no turn was taken
+  -- what has to hold of the initial words: they have 64 bits and show the opening state, nobody
+  -- holds or requests a lock, and no turn was taken
   pub record IsInitial : Type 0 where
     pub initial_length : length O.initial ≡ size
     pub are_words : AreWords O.initial
@@ -177,19 +178,19 @@ module _ (O : System) where
         IsUnused O.sharing (slice_index O.initial (O.lock_word lock))
     pub no_turn : slice_index O.initial O.turn_word ≡ 0
 
-  -- what must hold of a system
+  -- what has to be shown of a system
   pub record IsSystem : Type 0 where
     pub sharing : IsSharing O.sharing
     pub same : (a b : Lock) → (O.same a b ≡ true) ↔ (a ≡ b)
     pub words : AreApart
-    -- a job seizes its first lock first, and keeps to what it holds
+    -- a job first seizes its first lock, and tests and decides only under the locks that it holds
     pub first : (job : Job) → O.IsJob job → first_wanted (O.script job) ≡ Err (Seize (O.first job))
     pub keeps : (job : Job) → O.IsJob job → KeepsTo DecidesUnder [] (O.script job)
-    -- run alone on words of 64 bits that show a state, a job decides as it does whole
+    -- run alone on words of 64 bits that show a state, a job decides as it does when done whole
     pub decides : (job : Job) (words : List ℕ) (state : State) → O.IsJob job →
         length words ≡ size → AreWords words → O.Shows words state →
         DecidesAs words (O.whole state job) (run words (O.script job))
-    -- what words show is told by the words under locks
+    -- the words under locks alone tell what state the words show
     pub looks : (words other : List ℕ) (state : State) → AreAlike words other → O.Shows words state
         → O.Shows other state
     pub opens : IsInitial

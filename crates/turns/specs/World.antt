@@ -1,7 +1,9 @@
 use Rattle.std.specs.Prelude.{ℕ, suc, Option, Some, None, List, [], ◌∷◌, ◌++◌, set, replicate, slice_index, slice_set}
 use Rattle.turns.specs.Operations.{applied}
 use Rattle.turns.specs.System.{fold_effects, System, effect_on}
-use Rattle.turns.specs.Attempt.{Attempt, Act, Rest, Ask, Take, Leave, Free, Look, Turn, Make, AttemptOf, act, next, left_in, begin, restarted}
+use Rattle.turns.specs.Attempt.{Attempt, AttemptOf, act, next, effects_left_in, begin, restarted}
+use Rattle.turns.specs.declared.act.Act.{Act}
+use Rattle.turns.specs.declared.act.Act.TheVariants.{Finished, Request, Seize, Withdraw, Free, Test, Turn, Make}
 use Rattle.turns.specs.declared.operation.Operation.{Operation}
 use Rattle.turns.specs.declared.operation.Operation.TheVariants.{Load, Add, CompareExchange}
 use Rattle.turns.specs.declared.phase.Phase.{Phase}
@@ -12,7 +14,7 @@ pub data Actor (Lock Job Reply Effect : Type 0) : Type 0 where
   Idle : Actor Lock Job Reply Effect
   Does : ℕ → Attempt Lock Job Reply Effect → Actor Lock Job Reply Effect
 
--- the record of a turn: its number, whose it was, the job with its number, and the reply
+-- the record of a turn: the turn's number, the actor, the job's number, the job and the reply
 pub record Record (Job Reply : Type 0) : Type 0 where
   pub turn : ℕ
   pub actor : ℕ
@@ -35,33 +37,34 @@ module _ (O : System) where
     -- the records of the turns taken, in their order
     pub order : List RecordOf
 
-  -- the word of a step
+  -- the number of the word that a step is made on
   abbrev pub place : Act Lock Effect → ℕ
-  place Rest = turn_word
-  place (Ask lock) = lock_word lock
-  place (Take lock expected) = lock_word lock
-  place (Leave lock) = lock_word lock
+  place Finished = turn_word
+  place (Request lock) = lock_word lock
+  place (Seize lock expected) = lock_word lock
+  place (Withdraw lock) = lock_word lock
   place (Free lock) = lock_word lock
-  place (Look word) = word
+  place (Test word) = word
   place Turn = turn_word
   place (Make effect) = effect_word effect
 
-  -- the one atomic operation by which actor k makes the step there; at rest it changes nothing
+  -- the one atomic operation by which actor k makes the step there; with no next step it changes
+  -- nothing
   abbrev pub operation : ℕ → Act Lock Effect → Operation
-  operation k Rest = Load
-  operation k (Ask lock) = sharing.request k
-  operation k (Take lock expected) = CompareExchange expected (sharing.taken k expected)
-  operation k (Leave lock) = sharing.withdrawal k
+  operation k Finished = Load
+  operation k (Request lock) = sharing.request k
+  operation k (Seize lock expected) = CompareExchange expected (sharing.taken k expected)
+  operation k (Withdraw lock) = sharing.withdrawal k
   operation k (Free lock) = sharing.freeing
-  operation k (Look word) = Load
+  operation k (Test word) = Load
   operation k Turn = Add 1
   operation k (Make effect) = O.operation_of effect
 
-  -- what actor k's step makes of the number found
+  -- what actor k's step leaves in a word in which it finds this number
   abbrev pub becomes : ℕ → Act Lock Effect → ℕ → ℕ
   becomes k act found = applied (operation k act) found
 
-  -- the record of a turn, else none
+  -- the record of a turn, if there is a reply
   abbrev pub turn_record : ℕ → ℕ → Job → Option Reply → ℕ → List RecordOf
   turn_record k number job None found = []
   turn_record k number job (Some reply) found =
@@ -76,7 +79,7 @@ module _ (O : System) where
   added_in k number a GivesBack found = []
   added_in k number a (Operates turn) found = []
 
-  -- the word set, the actor set, the record added
+  -- the world after actor k's step on this word, in which it found this number
   abbrev pub moved_by : ℕ → ℕ → AttemptOf O → World → ℕ → ℕ → World
   moved_by k number a w word found = record {
     words = slice_set w.words word (becomes k (act a) found);
@@ -95,30 +98,31 @@ module _ (O : System) where
   abbrev pub with_actor : ℕ → ActorOf → World → World
   with_actor k m w = record w { actors = set w.actors k m }
 
-  -- a job is assigned to actor k under a number; actor k gives back
+  -- the world once a job is assigned to actor k under a number
   abbrev pub assigned : ℕ → ℕ → Job → World → World
   assigned k number job w = with_actor k (Does number (begin O job)) w
 
+  -- the world once actor k gives back
   abbrev pub given_back : ℕ → ℕ → AttemptOf O → World → World
   given_back k number a w = with_actor k (Does number (restarted O a)) w
 
-  -- so many actors, all idle, on the words that the system opens on
+  -- the opening world of `count` actors: all are idle, on the initial words
   abbrev pub fresh_world : ℕ → World
   fresh_world count = record { words = O.initial; actors = replicate count Idle; order = [] }
 
   -- the effects that an actor has left to make
-  abbrev pub left_of : ActorOf → List Effect
-  left_of Idle = []
-  left_of (Does number a) = left_in a.phase a.effects
+  abbrev pub effects_left_of : ActorOf → List Effect
+  effects_left_of Idle = []
+  effects_left_of (Does number a) = effects_left_in a.phase a.effects
 
-  -- what effects make of the number in a word
+  -- what effects, one after another, make of the number in a word
   abbrev pub value_after : List Effect → ℕ → ℕ → ℕ
   value_after = fold_effects effect_word (effect_on O)
 
   abbrev pub completed_word : List ActorOf → ℕ → ℕ → ℕ
   completed_word [] word value = value
   completed_word (m ∷ actors) word value =
-      completed_word actors word (value_after (left_of m) word value)
+      completed_word actors word (value_after (effects_left_of m) word value)
 
   abbrev pub completed_from : List ActorOf → ℕ → List ℕ → List ℕ
   completed_from actors word [] = []
@@ -129,7 +133,7 @@ module _ (O : System) where
   abbrev pub completed : World → List ℕ
   completed w = completed_from w.actors 0 w.words
 
-  -- the state after records
+  -- the state after the jobs of these records, each done whole
   abbrev pub after : State → List RecordOf → State
   after state [] = state
   after state (r ∷ order) = after (O.whole state r.job).state order

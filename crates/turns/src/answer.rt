@@ -1,19 +1,69 @@
-/// What came of a step. A request or a seizing is judged by the lock's own word.
+ghost use Rattle.std.specs.Prelude.{◌≡◌, ◌<◌, ◌==◌, if◌then◌else◌};
+ghost use Rattle.turns.specs.Attempt.{unless_denied as unless_denied_by};
+ghost use Rattle.turns.specs.Sharing.{with_request};
+ghost use Rattle.turns.specs.Sharings.{preferring};
+
+use crate::judgement::Judgement;
+use crate::lock_word::asked_by;
+
+/// The answer to a step. Whether a request or a seize is denied depends on the lock's own word
+/// alone.
 #[derive(Clone, Copy, Debug, PartialEq, Eq)]
 pub enum Answer {
-    /// The request stands, and this is the lock's word with it.
-    Asked(u64),
+    /// The request is made, and this is the lock's word with it.
+    Requested(u64),
+    /// The lock is seized.
     Seized,
-    /// This actor holds the lock.
+    /// The lock is denied: this actor holds it.
     Held(u32),
-    /// Nobody holds the lock, but this actor of a lower number requests it too.
+    /// The lock is denied: nobody holds it, but this actor of a lower number requests it too.
     Preferred(u32),
-    /// The lock's word was another than expected: this one, by which it is still to be had.
-    Again(u64),
-    /// What the tested word has.
+    /// The lock isn't seized: its word was not as expected but this one, by which it may still be
+    /// seized.
+    Changed(u64),
+    /// The value of the tested word.
     Value(u64),
-    /// The turn number that was found.
+    /// The number of the turn, as found in the turn word.
     Turn(u64),
-    /// Any other step was made.
+    /// A step of another kind was made.
     Done,
+}
+
+impl Answer {
+    /// This answer if the judgement lets the actor go on; otherwise that the lock is denied.
+    fn unless_denied(self, judgement: Judgement) -> Self
+        ensures { result ≡ unless_denied_by self judgement }
+    {
+        match judgement {
+            Judgement::Free => self,
+            Judgement::Held(holder) => Answer::Held(holder),
+            Judgement::Preferred(other) => Answer::Preferred(other),
+        }
+    }
+
+    /// The answer to an actor's request, which found this number in the lock's word.
+    pub fn to_request(actor: u32, found: u64) -> Self
+        requires { actor < 48 }
+        ensures { result ≡ unless_denied_by
+            (Answer.Requested (with_request preferring actor found))
+            (preferring.judged actor (with_request preferring actor found)) }
+    {
+        let word = asked_by(actor, found);
+        Answer::Requested(word).unless_denied(Judgement::of(actor, word))
+    }
+
+    /// The answer to an actor's attempt to seize a lock: it expected one number in the lock's
+    /// word, and found the other.
+    pub fn to_seizing(actor: u32, expected: u64, found: u64) -> Self
+        requires { actor < 48 }
+        ensures { result
+            ≡ (if found == expected then Answer.Seized
+            else unless_denied_by (Answer.Changed found) (preferring.judged actor found)) }
+    {
+        if found == expected {
+            Answer::Seized
+        } else {
+            Answer::Changed(found).unless_denied(Judgement::of(actor, found))
+        }
+    }
 }

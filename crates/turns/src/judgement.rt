@@ -1,10 +1,10 @@
 ghost use Rattle.std.specs.Prelude.{◌≡◌, ◌<◌, ◌≤◌, ◌^◌, None};
 ghost use Rattle.turns.specs.Sharings.{by_holder, judged, preferring, lower_request as lower_request_of};
 
-/// What a lock's word says to an actor that requests the lock.
+/// Whether an actor that requests a lock may seize it, by the lock's word.
 #[derive(Clone, Copy, Debug, PartialEq, Eq)]
 pub enum Judgement {
-    /// It may go on.
+    /// It may seize the lock.
     Free,
     /// This actor holds the lock.
     Held(u32),
@@ -19,6 +19,7 @@ fn requests(actor: u32, word: u64) -> bool
     word >> (8 + actor) & 1 == 1
 }
 
+/// The lowest actor below this one that has a request in the word.
 fn lower_request(actor: u32, word: u64) -> Option<u32>
     requires { actor < 48 }
     ensures { result ≡ lower_request_of actor word }
@@ -32,7 +33,8 @@ fn lower_request(actor: u32, word: u64) -> Option<u32>
 }
 
 impl Judgement {
-    /// Judges the word of a lock that is shared by requests and preference, for an actor below 48.
+    /// Judges the word of a lock that is shared by requests and preference (see `lock_word`), for
+    /// an actor below 48.
     #[tactic(auto, unfolding(crate::specs::Sharings::judged))]
     pub fn of(actor: u32, word: u64) -> Self
         requires { actor < 48 }
@@ -48,7 +50,8 @@ impl Judgement {
         }
     }
 
-    /// Judges the word of a lock that is shared without requests, for any actor.
+    /// Judges the word of a lock that is shared without requests, for any actor: the word is 0, or
+    /// one more than the number of the holder.
     pub fn plain(word: u64) -> Self
         requires { word ≤ 2 ^ 32 }
         ensures { result ≡ by_holder word None }

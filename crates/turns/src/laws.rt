@@ -9,16 +9,17 @@ ghost use Rattle.turns.specs.Among.{IsIn};
 ghost use Rattle.turns.specs.Seen.{Seen, AreReadFrom, AreReadWords};
 ghost use Rattle.turns.specs.Script.{run, walk};
 ghost use Rattle.turns.specs.System.{System, IsSystem, IsUnder};
-ghost use Rattle.turns.specs.Attempt.{AttemptOf, Free, Make, Rest, act, answer_to, begin, change};
-ghost use Rattle.turns.specs.Attempt.{IsAnswerTo, IsSeizing, Stands, read_in, restarted};
+ghost use Rattle.turns.specs.Attempt.{AttemptOf, act, answer_to, begin, change};
+ghost use Rattle.turns.specs.declared.act.Act.TheVariants.{Free, Make, Finished};
+ghost use Rattle.turns.specs.Attempt.{IsAnswerTo, IsSeizing, IsValid, read_in, restarted};
 ghost use Rattle.turns.specs.World.{World, ActorOf, RecordOf, Does, moved, place, added};
-ghost use Rattle.turns.specs.World.{assigned, given_back, fresh_world, completed, after, left_of, value_after};
-ghost use Rattle.turns.specs.Law.{Lawful, IsFree, IsLegal, IsRecorded, WasDecided};
+ghost use Rattle.turns.specs.World.{assigned, given_back, fresh_world, completed, after, effects_left_of, value_after};
+ghost use Rattle.turns.specs.Law.{Lawful, IsAvailable, IsLegal, IsRecorded, WasDecided};
 ghost use Rattle.turns.specs.Law.{Holds, HasRequested, MaySeize, holder_at, word_at};
 ghost use Rattle.turns.specs.Runs.{Move, AreMoves, after_move, run_from, run_of};
 ghost use Rattle.turns.specs.Bounds.{AreBounded, AreSteady, IsAside, after_steps};
 ghost use Rattle.turns.specs.Ending.{ComesToEnd, own_steps};
-ghost use Rattle.turns.specs.PutOff.{IsPutOffBy};
+ghost use Rattle.turns.specs.Denied.{IsDeniedBy};
 ghost use Rattle.turns.specs.Sharing.{IsSharing, ShowsRequests};
 ghost use Rattle.turns.specs.Sharings.{plain, preferring};
 
@@ -27,21 +28,22 @@ use crate::judgement::Judgement;
 use crate::phase::Phase;
 use crate::reading::Reading;
 
-/// A family of systems: one for each setting, as an office for each plan.
+/// A family of systems, one for each setting, like an office for each plan.
 pub trait Family {
     ghost Setting: { Type 0 };
 
     ghost system: { Setting → System };
 }
 
-/// A system opens lawfully, and each assignment to an actor that is free, each step and each give
-/// back of any actor keeps it so.
+/// The invariant (`Lawful`) holds of the world in which a system opens, and each assignment to an
+/// available actor, each step and each giving back keeps it. A turn adds its record at the end of
+/// the order, and no other step adds one.
 pub fn every_move_keeps_the_law<F: Family>()
     ensures opens { (setting : F.Setting) → let O = F.system setting in
         (count : ℕ) → IsSystem O → count ≤ O.sharing.most → Lawful O (fresh_world O count) }
     ensures assigns { (setting : F.Setting) → let O = F.system setting in
         (w : World O) (k number : ℕ) (m : ActorOf O) (job : O.Job)
-        → IsSystem O → Lawful O w → get_elem? w.actors k ≡ some m → IsFree O m → O.IsJob job
+        → IsSystem O → Lawful O w → get_elem? w.actors k ≡ some m → IsAvailable O m → O.IsJob job
         → Lawful O (assigned O k number job w) }
     ensures moves { (setting : F.Setting) → let O = F.system setting in
         (w : World O) (k number : ℕ) (a : AttemptOf O)
@@ -56,7 +58,7 @@ pub fn every_move_keeps_the_law<F: Family>()
         → (moved O k number a w).order ≡ w.order ++ added O k number a w }
 {}
 
-/// Whatever moves any actors make, in whatever order, the world that they come to is lawful.
+/// Every run is lawful, whatever moves the actors make in whatever order.
 pub fn every_run_is_lawful<F: Family>()
     ensures { (setting : F.Setting) → let O = F.system setting in
         (count : ℕ) (moves : List (Move O.Job))
@@ -64,7 +66,7 @@ pub fn every_run_is_lawful<F: Family>()
         → Lawful O (run_of O count moves) }
 {}
 
-/// Whatever moves are made, the order before them begins the order after them.
+/// Whatever moves are made, the order before them is a prefix of the order after them.
 pub fn the_order_only_grows<F: Family>()
     ensures each { (setting : F.Setting) → let O = F.system setting in
         (w : World O) (move : Move O.Job)
@@ -74,11 +76,14 @@ pub fn the_order_only_grows<F: Family>()
         → (later : List (RecordOf O)) × ((run_from O w moves).order ≡ w.order ++ later) }
 {}
 
-/// Jobs act at one step: the order of turns is legal, each reply being that of the job done whole
-/// on the state after the jobs before it; the words, once all effects that turned jobs have left
-/// are made, show the state after all of them, and so do the words themselves where no lock is
-/// held, where no actor past its turn has an effect left to make, or where every actor is free. Each
-/// word has 64 bits.
+/// Jobs are linearizable: each acts as if it were done whole at its turn.
+///
+/// The order of turns is legal: each reply is that of the job done whole on the state after the
+/// jobs before it. The words show the state after all of these jobs, once all effects that turned
+/// jobs have left are made. The words themselves show it if no lock is held, if no actor past its
+/// turn has an effect left to make, or if every actor is available. A word under the locks of one
+/// actor lacks only the effects that this one has left. The turn word counts the order modulo
+/// 2^64, and each word has 64 bits.
 pub fn jobs_act_at_their_turns<F: Family>()
     ensures legal { (setting : F.Setting) → let O = F.system setting in
         (w : World O) → Lawful O w → IsLegal O 0 O.opening w.order }
@@ -96,7 +101,7 @@ pub fn jobs_act_at_their_turns<F: Family>()
         (w : World O) (k number : ℕ) (a : AttemptOf O) (n : ℕ)
         → IsSystem O → Lawful O w → get_elem? w.actors k ≡ some (Does number a) → IsUnder O a.held n
         → slice_index (completed O w) n
-        ≡ value_after O (left_of O (Does number a)) n (slice_index w.words n) }
+        ≡ value_after O (effects_left_of O (Does number a)) n (slice_index w.words n) }
     ensures made { (setting : F.Setting) → let O = F.system setting in
         (w : World O)
         → Lawful O w
@@ -105,13 +110,13 @@ pub fn jobs_act_at_their_turns<F: Family>()
         → O.Shows w.words (after O O.opening w.order) }
     ensures idle { (setting : F.Setting) → let O = F.system setting in
         (w : World O)
-        → Lawful O w → ((k : ℕ) (m : ActorOf O) → get_elem? w.actors k ≡ some m → IsFree O m)
+        → Lawful O w → ((k : ℕ) (m : ActorOf O) → get_elem? w.actors k ≡ some m → IsAvailable O m)
         → O.Shows w.words (after O O.opening w.order) }
 {}
 
-/// A lock's word tells the truth: it names an actor exactly where that one holds the lock, and an
-/// actor's request stands in it only where that one requested it and has neither seized it nor
-/// withdrawn; where the sharing shows requests, it stands there exactly then.
+/// A lock's word names an actor exactly if that actor holds the lock. It has an actor's request
+/// only if that actor has requested the lock, and has neither seized it nor withdrawn; exactly
+/// then, if the sharing shows requests.
 pub fn lock_words_tell_the_truth<F: Family>()
     ensures word { (setting : F.Setting) → let O = F.system setting in
         (w : World O) (lock : O.Lock) → Lawful O w → O.IsLock lock
@@ -128,8 +133,8 @@ pub fn lock_words_tell_the_truth<F: Family>()
         → (O.sharing.requests k (word_at O w.words lock) ≡ true) ↔ HasRequested O w.actors k lock }
 {}
 
-/// A protected word is tested or changed by its lock's holder alone; what an actor has read before
-/// its turn is still what the words have; each effect finds what it is due to find.
+/// Only a lock's holder tests or changes the words under it. What an actor has read before its
+/// turn is still what the words have. Each effect finds what it relies on.
 pub fn words_are_their_holders<F: Family>()
     ensures alone { (setting : F.Setting) → let O = F.system setting in
         (w : World O) (k number : ℕ) (a : AttemptOf O) (lock : O.Lock)
@@ -152,13 +157,15 @@ pub fn words_are_their_holders<F: Family>()
         → O.Due effect (slice_index w.words (O.effect_word effect)) }
 {}
 
-/// Past its turn an actor requests and seizes nothing, and its record stands in the order with its
-/// reply and its turn; the effects that it has left are the end of its decision's, as `Stands`
-/// says, and what it decided is what its script decides on words that show the state before its
-/// turn; what is under the locks that it holds is what the effects that it has made make of those
-/// words. No effect comes before the turn. While a request stands before the turn, the word that is
-/// expected of the lock is one by which the actor may seize it. A lock is freed only in giving
-/// back, or past the turn with no effect left, and what is held stays held until it is freed.
+/// The order of an attempt's steps.
+///
+/// No effect comes before the turn, and past the turn nothing is requested or seized, and nothing
+/// is given back. Past its turn an attempt has its record in the order, with its reply and its
+/// turn. Its decision is its script's on words that show the state before its turn; the effects
+/// that it has left are the last of that decision's, and those made have turned these words into
+/// what is now under its locks. Before its turn, the word expected of a requested lock is one by
+/// which the actor may seize it. A lock is held until it is freed, which happens only in giving
+/// back, or past the turn with no effect left. Each answer is of its step's kind.
 pub fn attempts_keep_their_order<F: Family>()
     ensures seizes { (setting : F.Setting) → let O = F.system setting in
         (a : AttemptOf O) (turn : ℕ) → a.phase ≡ Phase.Operates turn → ¬ IsSeizing (act a) }
@@ -185,7 +192,7 @@ pub fn attempts_keep_their_order<F: Family>()
         → a.phase ≡ Phase.Seizes lock expected
         → MaySeize O k expected }
     ensures answers { (setting : F.Setting) → let O = F.system setting in
-        (k : ℕ) (a : AttemptOf O) (found : ℕ) → act a ≢ Rest → found < 2 ^ 64
+        (k : ℕ) (a : AttemptOf O) (found : ℕ) → act a ≢ Finished → found < 2 ^ 64
         → IsAnswerTo (act a) (answer_to O k (act a) found) }
     ensures frees { (setting : F.Setting) → let O = F.system setting in
         (a : AttemptOf O) (lock : O.Lock) → act a ≡ Free lock
@@ -196,39 +203,40 @@ pub fn attempts_keep_their_order<F: Family>()
         → IsIn lock (change O a answer).held }
 {}
 
-/// An actor is put off only by whom the lock's own word named at that step: it is told who holds
-/// the lock, or who is preferred, by the word as its step left it.
-pub fn put_off_actors_are_told_by_whom<F: Family>()
+/// A denial follows from the lock's own word: as the step left it, the word says that the actor
+/// named in the answer holds the lock, or is preferred.
+pub fn denials_name_who_is_in_the_way<F: Family>()
     ensures held { (setting : F.Setting) → let O = F.system setting in
         (k : ℕ) (a : AttemptOf O) (found holder : ℕ)
         → answer_to O k (act a) found ≡ Answer.Held holder
-        → IsPutOffBy O k (act a) found (Judgement.Held holder) }
+        → IsDeniedBy O k (act a) found (Judgement.Held holder) }
     ensures preferred { (setting : F.Setting) → let O = F.system setting in
         (k : ℕ) (a : AttemptOf O) (found other : ℕ)
         → answer_to O k (act a) found ≡ Answer.Preferred other
-        → IsPutOffBy O k (act a) found (Judgement.Preferred other) }
+        → IsDeniedBy O k (act a) found (Judgement.Preferred other) }
 {}
 
-/// An attempt stands where its job brings it, whatever comes of its steps, as long as each number that it
-/// has read fits a word.
-pub fn attempts_stand_where_their_jobs_bring_them<F: Family>()
+/// An attempt is valid from its beginning on, through any answers and restarts, as long as each
+/// number that it has read fits 64 bits. Each attempt in a lawful world is valid.
+pub fn attempts_agree_with_their_scripts<F: Family>()
     ensures begins { (setting : F.Setting) → let O = F.system setting in
-        (job : O.Job) → IsSystem O → O.IsJob job → Stands O (begin O job) }
+        (job : O.Job) → IsSystem O → O.IsJob job → IsValid O (begin O job) }
     ensures changes { (setting : F.Setting) → let O = F.system setting in
         (a : AttemptOf O) (answer : Answer)
-        → IsSystem O → O.IsJob a.job → AreReadWords (read_in a.phase a.readings) → Stands O a
-        → Stands O (change O a answer) }
+        → IsSystem O → O.IsJob a.job → AreReadWords (read_in a.phase a.readings) → IsValid O a
+        → IsValid O (change O a answer) }
     ensures restarts { (setting : F.Setting) → let O = F.system setting in
         (a : AttemptOf O)
-        → IsSystem O → O.IsJob a.job → AreReadWords (read_in a.phase a.readings) → Stands O a
-        → Stands O (restarted O a) }
+        → IsSystem O → O.IsJob a.job → AreReadWords (read_in a.phase a.readings) → IsValid O a
+        → IsValid O (restarted O a) }
     ensures sound { (setting : F.Setting) → let O = F.system setting in
         (w : World O) (k number : ℕ) (a : AttemptOf O)
         → Lawful O w → get_elem? w.actors k ≡ some (Does number a)
-        → Stands O a }
+        → IsValid O a }
 {}
 
-/// A walk over readings that are what given words have ends as the script does on those words.
+/// A walk that decides, on readings that are what given words have, decides as the script does on
+/// those words.
 pub fn walks_end_as_scripts_do<F: Family>()
     ensures { (setting : F.Setting) → let O = F.system setting in
         (words : List ℕ) (seen : Seen O.Lock) (job : O.Job) (decision : O.Decision)
@@ -236,11 +244,11 @@ pub fn walks_end_as_scripts_do<F: Family>()
         → run words (O.script job) ≡ decision }
 {}
 
-/// Where each job tests at most so many words, seizes at most so many locks and has at most so many
-/// effects, an attempt that is never put off, and never tries a seizing again, ends within three
-/// steps a lock (request, seizing, freeing), one a test, one an effect, and its turn. Of one that
-/// gives back, or is anywhere else on its way, the same holds once what it holds is freed and its
-/// request withdrawn.
+/// An attempt that is never denied a lock and never retries a seize is short. If each job tests at
+/// most `tests` words, seizes at most `seizings` locks and has at most `effects` effects, it ends
+/// within three steps a lock (request, seize, free), one a test, one an effect, and its turn. An
+/// attempt that has begun already, or gives back, needs at most one step more for each lock that
+/// it holds, and one for its request.
 pub fn steady_attempts_are_short<F: Family>()
     ensures fresh { (setting : F.Setting) → let O = F.system setting in
         (tests seizings effects : ℕ) (job : O.Job) (answers : List Answer)
@@ -255,8 +263,8 @@ pub fn steady_attempts_are_short<F: Family>()
         → length answers ≤ 1 + length a.held + (3 * seizings + tests + effects + 1) }
 {}
 
-/// A job past its turn ends: within as many of its own steps as it has effects and locks left,
-/// whatever moves are made in between.
+/// A job past its turn ends within as many of its actor's own steps as it has effects and locks
+/// left, whatever other moves are made in between.
 pub fn jobs_past_their_turns_end<F: Family>()
     ensures { (setting : F.Setting) → let O = F.system setting in
         (w : World O) (k number turn : ℕ) (a : AttemptOf O) (moves : List (Move O.Job))
@@ -265,8 +273,8 @@ pub fn jobs_past_their_turns_end<F: Family>()
         → ComesToEnd O w moves k number turn a.job }
 {}
 
-/// An actor that is left alone ends its job: where each other actor is idle, or at the beginning of
-/// its job with nothing held and no request standing, so many steps bring it to its end.
+/// An actor that is left alone ends its job in a bounded number of steps. No other actor may hold
+/// a lock or have a pending request.
 pub fn actors_left_alone_end<F: Family>()
     ensures { (setting : F.Setting) → let O = F.system setting in
         (tests seizings effects : ℕ) (w : World O) (k number : ℕ) (a : AttemptOf O) (count : ℕ)
@@ -275,19 +283,20 @@ pub fn actors_left_alone_end<F: Family>()
         → ((j : ℕ) (m : ActorOf O) → ¬ (j ≡ k) → get_elem? w.actors j ≡ some m → IsAside O m)
         → 2 + length a.held + (3 * seizings + tests + effects + 1) ≤ count
         → (ended : ActorOf O)
-        × (get_elem? (after_steps O k count w).actors k ≡ some ended) × IsFree O ended }
+        × (get_elem? (after_steps O k count w).actors k ≡ some ended) × IsAvailable O ended }
 {
     every_move_keeps_the_law::<F>();
 }
 
-/// To share a lock's word by requests, of which that of the lowest actor is preferred, is a way to
-/// share it, and one that shows requests.
+/// Sharing a lock's word by requests, of which the lowest actor's is preferred, keeps the rules of
+/// a sharing, and shows requests.
 pub fn preferring_is_a_sharing()
     ensures sharing { IsSharing preferring }
     ensures requests { ShowsRequests preferring }
 {}
 
-/// To share a lock's word by compare and exchange alone, without requests, is a way to share it.
+/// Sharing a lock's word by compare-and-exchange alone, without requests, keeps the rules of a
+/// sharing.
 pub fn plain_is_a_sharing()
     ensures { (most : ℕ) → most < 2 ^ 64 → IsSharing (plain most) }
 {}

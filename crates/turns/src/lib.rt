@@ -1,13 +1,15 @@
-//! Jobs over many shared words act one at a time.
+//! The law of jobs over shared words: jobs that many actors do at once act one at a time.
 //!
-//! Actors do jobs at once. A job reads and changes words that locks protect; an actor asks for a lock,
-//! seizes it, tests words, decides, takes its turn, makes its effects and frees its locks, and each of
-//! these steps is one atomic operation on one word. The law: whatever the order of all actors' steps,
-//! each job acts as if it were done whole at its turn.
+//! A job reads and changes words that locks protect. Its actor requests a lock, seizes it, tests
+//! words, decides, takes its turn, makes its effects and frees its locks, and each of these steps
+//! is one atomic operation on one word. The law: in whatever order the actors make their steps,
+//! each job acts as if it were done whole at its turn. So the jobs are linearizable, and the turn
+//! is the linearization point.
 //!
-//! What a system has to be is `specs/System.antt`, what holds of it then is [`laws`].
+//! `specs/System.antt` says what a system of jobs has to be, and [`laws`] what holds of it then.
 #![tactic(auto)]
 
+pub use act::Act;
 pub use answer::Answer;
 pub use judgement::Judgement;
 pub use operation::Operation;
@@ -15,6 +17,7 @@ pub use phase::Phase;
 pub use reading::Reading;
 pub use wanted::Wanted;
 
+mod act;
 mod answer;
 mod judgement;
 pub mod laws;

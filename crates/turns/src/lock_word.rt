@@ -1,9 +1,10 @@
-//! The word of a lock that up to 48 actors share by requests and preference: the lowest six bits are 0, or
-//! one more than the number of the actor that holds the lock, and bit 8 + `actor` is the actor's request.
+//! The word of a lock that up to 48 actors share by requests and preference: the lowest six bits
+//! are 0, or one more than the number of the actor that holds the lock, and bit 8 + `actor` is the
+//! actor's request.
 
 ghost use Rattle.std.specs.Prelude.{◌≡◌, ◌<◌};
 ghost use Rattle.turns.specs.Sharing.{with_request, without_holder as freed_word, without_request};
-ghost use Rattle.turns.specs.Sharings.{preferring, request_bit as request_bit_of, taken_by as taken_by_of};
+ghost use Rattle.turns.specs.Sharings.{preferring, request_bit as request_bit_of, seized_by as seized_by_of};
 
 /// The bit of an actor's request.
 pub fn request_bit(actor: u32) -> u64
@@ -29,10 +30,11 @@ pub fn withdrawn_by(actor: u32, word: u64) -> u64
     word & !request_bit(actor)
 }
 
-/// The word once the actor has seized the lock, which nobody held: its request becomes its hold.
-pub fn taken_by(actor: u32, word: u64) -> u64
+/// The word once the actor has seized the lock, which nobody held: its request is cleared, and it
+/// is the holder.
+pub fn seized_by(actor: u32, word: u64) -> u64
     requires { actor < 48 }
-    ensures { result ≡ taken_by_of actor word }
+    ensures { result ≡ seized_by_of actor word }
 {
     withdrawn_by(actor, word) | u64::from(1 + actor)
 }

@@ -4,20 +4,20 @@ ghost use Rattle.turns.specs.Operations.{applied};
 /// An atomic operation on a shared word.
 #[derive(Clone, Copy, Debug, PartialEq, Eq)]
 pub enum Operation {
-    /// The word stays as it is.
+    /// Leaves the word as it is.
     Load,
     /// Sets these bits.
     Or(u64),
     /// Keeps only these bits.
     And(u64),
-    /// Adds this much, and wraps beyond 64 bits.
+    /// Adds this number, modulo 2^64.
     Add(u64),
-    /// Puts `new` in place of `expected`, and leaves any other number.
+    /// Replaces `expected` by `new`, and leaves any other number.
     CompareExchange { expected: u64, new: u64 },
 }
 
 impl Operation {
-    /// What it makes of the number that it finds.
+    /// The number that the operation leaves in a word in which it found `found`.
     pub fn apply(self, found: u64) -> u64
         ensures { result ≡ applied self found }
     {

@@ -1,4 +1,4 @@
-/// What a job lacks to go on: a lock `L`, or the value of a word `W`.
+/// What a walk needs next: a lock `L` to seize, or a word `W` to test.
 #[derive(Clone, Copy, Debug, PartialEq, Eq)]
 pub enum Wanted<L, W> {
     Seize(L),

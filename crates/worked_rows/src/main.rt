@@ -1,6 +1,6 @@
-//! Rows that were worked out by hand: traffic with its records, texts of records with what an audit finds
-//! in them or how they are drawn, plans that are refused. Each row of the files in `data` is given to the
-//! engine, and what the engine writes is compared with the row.
+//! Runs the engine on rows that were worked out by hand or by a small model: traffic with its
+//! records, texts of records with their audits or drawings, and plans that are refused. The rows
+//! are in the files of `data`, and what the engine writes is compared with them.
 #![tactic(auto)]
 
 mod row;
@@ -9,7 +9,7 @@ mod work;
 use row::{plan_of, row_of};
 use std::{fs, io};
 use toml::Value;
-use work::came_of;
+use work::run_row;
 
 const FILES: [&str; 12] = [
     "forms.toml",
@@ -17,7 +17,7 @@ const FILES: [&str; 12] = [
     "replies.toml",
     "refusals.toml",
     "plans.toml",
-    "slips.toml",
+    "diagnostics.toml",
     "audits.toml",
     "records.toml",
     "walks.toml",
@@ -33,7 +33,7 @@ fn main(rt: HostRuntime) -> io::Result<()> {
         match toml::table_from_str(rt.alloc(), &text) {
             Ok(table) => {
                 let rows = table.get("rows").and_then(|rows| rows.as_array());
-                tell_all(&rt, &example, rows.map_or(&[], |rows| rows.as_slice()))?;
+                run_all(&rt, &example, rows.map_or(&[], |rows| rows.as_slice()))?;
             }
             Err(_) => println!(rt; "{file} can't be read")?,
         }
@@ -41,19 +41,22 @@ fn main(rt: HostRuntime) -> io::Result<()> {
     Ok(())
 }
 
-/// Prints for each row whether the engine did as expected.
-fn tell_all(rt: &HostRuntime, example: &str, rows: &[Value]) -> io::Result<()> {
+/// Runs each row, and prints whether the engine did as expected.
+fn run_all(rt: &HostRuntime, example: &str, rows: &[Value]) -> io::Result<()> {
     for value in rows {
         let plan = plan_of(rt.alloc(), value, example)?;
         match row_of(value, &plan) {
             Some(row) => {
-                let came = came_of(rt.alloc(), &row)?;
-                if came.is_as_expected(&row) {
+                let found = run_row(rt.alloc(), &row)?;
+                if found.is_as_expected(&row) {
                     println!(rt; "{}: as worked out", row.name)?;
                 } else {
-                    let text = str::from_utf8(&came.text).unwrap_or("no text");
-                    let slip = came.slip.as_deref().unwrap_or("no slip");
-                    println!(rt; "{}: {}, {slip}, and this:\n{text}", row.name, came.status)?;
+                    let text = str::from_utf8(&found.text).unwrap_or("no text");
+                    let diagnostic = found.diagnostic.as_deref().unwrap_or("no diagnostic");
+                    println!(rt;
+                        "{}: {}, {diagnostic}, and this:\n{text}",
+                        row.name, found.status
+                    )?;
                 }
             }
             None => println!(rt; "a row that can't be read")?,

@@ -1,4 +1,4 @@
-use crossbar5::{Look, Telling};
+use crossbar5::{Detail, Look};
 use std::alloc::{AllocError, Global};
 use toml::Value;
 
@@ -8,12 +8,12 @@ pub enum Verb {
     Replay,
     /// A replay, and then an audit of what it wrote.
     ReplayAndAudit,
-    Walk(Telling),
+    Walk(Detail),
     Audit,
     Draw(Look),
 }
 
-/// What the engine is given, and what is expected of it.
+/// What the engine is given, and what it is expected to do.
 #[derive(Drop)]
 pub struct Row<'a> {
     pub name: &'a str,
@@ -27,8 +27,8 @@ pub struct Row<'a> {
     pub reasons: &'a str,
     /// The exit status that the program ends with.
     pub status: i64,
-    /// The sentence on what is refused, where the row says it.
-    pub slip: Option<&'a str>,
+    /// The sentence on what is refused, if the row has it.
+    pub diagnostic: Option<&'a str>,
 }
 
 fn text_at<'a>(value: &'a Value, key: &str) -> Option<&'a str> {
@@ -39,8 +39,8 @@ fn verb_of(word: &str) -> Option<Verb> {
     match word {
         "replay" => Some(Verb::Replay),
         "replay and audit" => Some(Verb::ReplayAndAudit),
-        "walk" => Some(Verb::Walk(Telling::Each)),
-        "walk in short" => Some(Verb::Walk(Telling::Short)),
+        "walk" => Some(Verb::Walk(Detail::Each)),
+        "walk in short" => Some(Verb::Walk(Detail::Short)),
         "audit" => Some(Verb::Audit),
         "draw" => Some(Verb::Draw(Look::Text)),
         "draw in SVG" => Some(Verb::Draw(Look::Drawing)),
@@ -49,7 +49,7 @@ fn verb_of(word: &str) -> Option<Verb> {
     }
 }
 
-/// Adds a line of the example plan, or what the row has in its place: nothing, if that is empty.
+/// Adds a line of the plan, with the row's value if it has one. An empty value drops the line.
 fn add_line(plan: &mut String, value: &Value, line: &str) -> Result<(), AllocError> {
     let (key, _) = line.split_once(" = ").unwrap_or((line, ""));
     match text_at(value, key) {
@@ -60,7 +60,7 @@ fn add_line(plan: &mut String, value: &Value, line: &str) -> Result<(), AllocErr
     Ok(())
 }
 
-/// The row's plan: its own, or the example with the lines that the row replaces.
+/// The row's plan: its own text, or the example with the lines that the row replaces.
 pub fn plan_of(alloc: Global, value: &Value, example: &str) -> Result<String, AllocError> {
     if let Some(plan) = text_at(value, "plan") {
         return String::from_str(alloc, plan);
@@ -72,8 +72,8 @@ pub fn plan_of(alloc: Global, value: &Value, example: &str) -> Result<String, Al
     Ok(plan)
 }
 
-/// A row by its keys, under its plan. It is a replay by two markers for all jobs, without traffic and with
-/// status 0, if it doesn't say otherwise.
+/// Reads a row with its plan. The defaults are a replay by two markers for all jobs, no input, and
+/// status 0. None if the name or the output is missing, or the verb is unknown.
 pub fn row_of<'a>(value: &'a Value, plan: &'a str) -> Option<Row<'a>> {
     Some(Row {
         name: text_at(value, "name")?,
@@ -86,6 +86,6 @@ pub fn row_of<'a>(value: &'a Value, plan: &'a str) -> Option<Row<'a>> {
         status: value
             .get("status")
             .map_or(0, |status| status.as_integer().unwrap_or(0)),
-        slip: text_at(value, "slip"),
+        diagnostic: text_at(value, "diagnostic"),
     })
 }

@@ -1,86 +1,92 @@
 use crate::row::{Row, Verb};
-use crossbar5::{Answer, Counted, EngineFault, Status, Task, answer_task, kinds_of};
+use crossbar5::{Counted, EngineFault, Response, Status, Task, answer_task, kinds_of};
 use std::alloc::{AllocError, Global};
 
 /// What the engine made of a row.
 #[derive(Drop)]
-pub struct Came {
+pub struct RowResult {
     pub text: Vec<u8>,
-    /// Why nothing was drawn, if so.
+    /// Why nothing was drawn. Otherwise empty.
     pub reasons: Vec<u8>,
     pub status: i64,
-    /// The sentence on what was refused, or none.
-    pub slip: Option<String>,
+    /// The sentence on what was refused, if there is one.
+    pub diagnostic: Option<String>,
 }
 
-impl Came {
-    /// Whether it is exactly what the row expects.
+impl RowResult {
+    /// Whether this is what the row expects. The sentence is compared only if the row has one.
     pub fn is_as_expected(&self, row: &Row<'_>) -> bool {
         self.text.as_slice() == row.output.as_bytes()
             && self.reasons.as_slice() == row.reasons.as_bytes()
             && self.status == row.status
-            && (row.slip.is_none() || self.slip.as_deref() == row.slip)
+            && (row.diagnostic.is_none() || self.diagnostic.as_deref() == row.diagnostic)
     }
 }
 
-/// Gives a row to the engine.
-pub fn came_of(alloc: Global, row: &Row<'_>) -> Result<Came, AllocError> {
+/// Runs the engine on a row. If it fails, the text is its fault, and the status is 1.
+pub fn run_row(alloc: Global, row: &Row<'_>) -> Result<RowResult, AllocError> {
     match done(alloc, row) {
-        Ok(came) => Ok(came),
-        Err(fault) => Ok(Came {
+        Ok(found) => Ok(found),
+        Err(fault) => Ok(RowResult {
             text: fault.to_string(alloc)?.into_bytes(),
             reasons: Vec::new(alloc),
             status: 1,
-            slip: None,
+            diagnostic: None,
         }),
     }
 }
 
-fn done(alloc: Global, row: &Row<'_>) -> Result<Came, EngineFault> {
+/// Does the row's task or tasks.
+fn done(alloc: Global, row: &Row<'_>) -> Result<RowResult, EngineFault> {
     let input = row.input.as_bytes();
     let kinds = kinds_of(alloc, row.markers)?;
     let replay = Task::Replay { kinds: &kinds };
     match row.verb {
         Verb::Replay => written(alloc, replay, row.plan, input),
-        Verb::Walk(telling) => {
+        Verb::Walk(detail) => {
             let kinds = kinds.as_slice();
-            written(alloc, Task::Walk { kinds, telling }, row.plan, input)
+            written(alloc, Task::Walk { kinds, detail }, row.plan, input)
         }
         Verb::Audit => written(alloc, Task::Audit, row.plan, input),
         Verb::Draw(look) => written(alloc, Task::Draw { look }, row.plan, input),
         Verb::ReplayAndAudit => {
-            let mut came = written(alloc, replay, row.plan, input)?;
-            let audit = written(alloc, Task::Audit, row.plan, &came.text)?;
-            if came.status == 0 {
-                came.status = audit.status;
+            let mut found = written(alloc, replay, row.plan, input)?;
+            let audit = written(alloc, Task::Audit, row.plan, &found.text)?;
+            if found.status == 0 {
+                found.status = audit.status;
             }
-            Ok(came)
+            Ok(found)
         }
     }
 }
 
-/// What the engine writes of a task, the status, and the sentence beside it.
-fn written(alloc: Global, task: Task<'_>, plan: &str, input: &[u8]) -> Result<Came, EngineFault> {
+/// Does a task with the engine.
+fn written(
+    alloc: Global,
+    task: Task<'_>,
+    plan: &str,
+    input: &[u8],
+) -> Result<RowResult, EngineFault> {
     let mut source = Counted::new(input);
     let mut sink = Counted::new(Vec::new(alloc));
-    let Answer {
+    let Response {
         status,
-        slip,
+        diagnostic,
         reasons,
     } = answer_task(alloc, task, plan.as_bytes(), &mut source, &mut sink)?;
-    let slip = match slip {
-        Some(slip) => Some(slip.to_string(alloc)?),
+    let diagnostic = match diagnostic {
+        Some(diagnostic) => Some(diagnostic.to_string(alloc)?),
         None => None,
     };
-    Ok(Came {
+    Ok(RowResult {
         text: sink.into_inner(),
         reasons,
         status: status_number(status),
-        slip,
+        diagnostic,
     })
 }
 
-/// The exit status that the program has for it.
+/// The program's exit status for a status of the engine.
 fn status_number(status: Status) -> i64 {
     match status {
         Status::Fine => 0,

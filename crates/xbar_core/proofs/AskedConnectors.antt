@@ -1,4 +1,4 @@
--- what a marker is told of a connector that it asks for is true
+-- a denial is true: of the holder of the connector that was asked for, or of another's request
 use Rattle.std.proofs.Common.{◌≡◌, ◌≢◌, ℕ, ◌+◌, ◌<◌, ◌%◌, Bool, true, false, List, [], ◌∷◌, bit_or, slice_index, refl, sym, ◌∙◌, ap, subst, arith, inl, inr, eq-eqb}
 use Rattle.std.specs.Int.{bit_at}
 use Rattle.std.specs.Prelude.{◌==◌, Option, Some, None, if◌then◌else◌}
@@ -6,19 +6,19 @@ use Rattle.std.proofs.lemmas.Bool.{eqb-true, eqb-false, ne_eqb}
 use Rattle.std.proofs.lemmas.Option.{same_Some}
 use Rattle.turns.specs.Attempt.{IsSeizing, act, act_in, asked_in, closing_act, free_act}
 use Rattle.turns.specs.Law.{FitsIn}
-use Rattle.turns.specs.PutOff.{IsPutOffBy}
-use Rattle.turns.specs.Runs.{is_rest}
+use Rattle.turns.specs.Denied.{IsDeniedBy}
+use Rattle.turns.specs.Runs.{is_finished}
 use Rattle.turns.specs.Sharing.{IsTrueOf}
-use Rattle.turns.specs.Sharings.{judged, preferring, request_bit, taken_by}
+use Rattle.turns.specs.Sharings.{judged, preferring, request_bit, seized_by}
 use Rattle.turns.specs.World.{Does, place}
 use Rattle.turns.specs.declared.answer.Answer.{Answer}
-use Rattle.turns.specs.declared.answer.Answer.TheVariants.{Asked, Seized, Held, Preferred, Again, Value, Turn, Done}
+use Rattle.turns.specs.declared.answer.Answer.TheVariants.{Requested, Seized, Held, Preferred, Changed, Value, Turn, Done}
 use Rattle.turns.specs.declared.judgement.Judgement.{Judgement}
 use Rattle.turns.specs.declared.judgement.Judgement.TheVariants as judgement
 use Rattle.turns.specs.declared.phase.Phase.TheVariants.{Requests, Seizes, Tests, Turns, Withdraws, GivesBack, Operates}
 use Rattle.turns.proofs.FirstRequests.{judged_true}
 use Rattle.turns.proofs.Lists.{there_below}
-use Rattle.turns.proofs.PutOff.{put_off_held, put_off_preferred}
+use Rattle.turns.proofs.Denied.{put_off_held, put_off_preferred}
 use Rattle.turns.proofs.LockWords.{asked_holder, asked_others, asked_own, asked_requests}
 use Rattle.xbar_equip.specs.Conn.{IsConn}
 use Rattle.xbar_equip.specs.declared.conn.Conn.{Conn}
@@ -38,21 +38,22 @@ use Rattle.xbar_core.proofs.Connectors.{conn_word, tells_truth}
 use Rattle.xbar_core.proofs.Steps.{has_come}
 use Rattle.xbar_core.proofs.Worlds.{answer_is}
 
--- a request of a lower marker stands in a word with a request of its own only where it stood before
+-- a lower marker's request is in a word with the own request only if it was there before
 lower_stood : (k word j : ℕ) → k < 48 → j < k → (bit_at (bit_or word (request_bit k)) (8 + j) == 1) ≡ true → bit_at word (8 + j) ≡ 1
 lower_stood k word j few lower set = elim (asked_requests k word j (omega arith) set) [
   | inl one ↦ absurd (omega (arith, one, lower))
-  | inr stands ↦ eqb-true (bit_at word (8 + j)) 1 stands
+  | inr valid ↦ eqb-true (bit_at word (8 + j)) 1 valid
 ]
 
--- and each that stood before stands in it
+-- and each request that was there before still is
 still_stands : (k word j : ℕ) → j < 48 → (bit_at word (8 + j) == 1) ≡ true → (bit_at (bit_or word (request_bit k)) (8 + j) == 1) ≡ true
 still_stands k word j few set = by (j == k) refl where
   by : (own : Bool) → (j == k) ≡ own → (bit_at (bit_or word (request_bit k)) (8 + j) == 1) ≡ true
   by true same = subst (λ (m : ℕ). (bit_at (bit_or word (request_bit k)) (8 + m) == 1) ≡ true) (sym (eqb-true j k same)) (asked_own k word)
   by false other = asked_others k word j few (eqb-false j k other) set
 
--- a marker at this attempt asks for a connector, and is told this of a word that has the connector's holder and all requests for it, and of those of lower markers no others
+-- a marker at this attempt asks for a connector and gets this judgement of a word; the word has
+-- the connector's holder and all requests for it, and of lower markers no other requests
 pub record IsJudged (e : Exchange) (k : ℕ) (a : Attempt) (j : Judgement) : Type 0 where
   pub conn : Conn
   pub asked : asked_in a.phase ≡ Some conn
@@ -71,9 +72,9 @@ module _ (plan : Tables) (e : Exchange) (lawful : IsLawfulExchange plan e) (k nu
   fits_in : (phase : Phase) → a.phase ≡ phase → FitsIn (office plan) (world plan e) k number a phase
   fits_in phase is = subst (FitsIn (office plan) (world plan e) k number a) is (lawful.sound k number a (actor_at e k number a at)).fits
 
-  -- the next step, on the word that it finds, puts the marker off by this judgement
+  -- the next step, on the word that it finds, is denied by this judgement
   abbrev PutsOff : Phase → Judgement → Type 0
-  PutsOff phase j = let step = act_in phase a in IsPutOffBy (office plan) k step (slice_index e.words (place (office plan) step)) j
+  PutsOff phase j = let step = act_in phase a in IsDeniedBy (office plan) k step (slice_index e.words (place (office plan) step)) j
 
   asks_in : (phase : Phase) (j : Judgement) → PutsOff phase j → IsSeizing (act_in phase a)
   asks_in phase j by = elim by.asks [
@@ -81,7 +82,7 @@ module _ (plan : Tables) (e : Exchange) (lawful : IsLawfulExchange plan e) (k nu
     | inr takes ↦ subst (IsSeizing {Lock = Conn} {Effect = Effect}) (sym takes.1) tt
   ]
 
-  -- who frees what it holds, or makes its effects, asks for nothing
+  -- an attempt that frees what it holds, or makes its effects, asks for nothing
   free_asks : (held : List Conn) → IsSeizing {Lock = Conn} {Effect = Effect} (free_act held) → ⊥
   free_asks [] asks = asks
   free_asks (conn ∷ held) asks = asks
@@ -109,7 +110,7 @@ module _ (plan : Tables) (e : Exchange) (lawful : IsLawfulExchange plan e) (k nu
     asked = ap asked_in is;
     range = (fits_in (Seizes conn expected) is).0;
     word = conn_word e conn;
-    judges = ap (λ (same : Bool). judged k (if same then taken_by k expected else conn_word e conn)) (sym (ne_eqb (conn_word e conn) expected differs)) ∙ by.says;
+    judges = ap (λ (same : Bool). judged k (if same then seized_by k expected else conn_word e conn)) (sym (ne_eqb (conn_word e conn) expected differs)) ∙ by.says;
     holder = refl;
     lower = λ other less set. eqb-true (bit_at (conn_word e conn) (8 + other)) 1 set;
     all = λ other below set. eq-eqb (bit_at (conn_word e conn) (8 + other)) 1 set;
@@ -129,7 +130,8 @@ module _ (plan : Tables) (e : Exchange) (lawful : IsLawfulExchange plan e) (k nu
   judged_in GivesBack j is by = absurd (free_asks a.held (asks_in GivesBack j by))
   judged_in (Operates turn) j is by = absurd (close_asks a.effects a.held (asks_in (Operates turn) j by))
 
-  -- by the law, who is refused a connector, or told of a preferred marker, asks for a connector, whose own word said so
+  -- by the law, a marker that is refused a connector, or to which another is preferred, asks for a
+  -- connector, and that one's own word says so
   pub judged_held : (holder : ℕ) → answer_of k (next_step a) e.words ≡ Held holder → IsJudged e k a (judgement.Held holder)
   judged_held holder is = judged_in a.phase (judgement.Held holder) refl (put_off_held (office plan) k _ holder (act a) (sym (answer_is plan k e.words a) ∙ is))
 
@@ -137,7 +139,7 @@ module _ (plan : Tables) (e : Exchange) (lawful : IsLawfulExchange plan e) (k nu
   judged_preferred other is = judged_in a.phase (judgement.Preferred other) refl (put_off_preferred (office plan) k _ other (act a) (sym (answer_is plan k e.words a) ∙ is))
 
   module _ (j : Judgement) (seen : IsJudged e k a j) where
-    -- and what it is told is true of the word that was judged
+    -- and the judgement is true of the word
     true_of : IsTrueOf preferring k seen.word j
     true_of = subst (IsTrueOf preferring k seen.word) seen.judges (judged_true k seen.word)
 
@@ -154,7 +156,8 @@ module _ (plan : Tables) (e : Exchange) (lawful : IsLawfulExchange plan e) (k nu
       subst (λ (c : Conn). AsksFor e k c × Holds e holder c) one
       (asks (judgement.Held holder) seen, ((tells_truth plan e lawful seen.conn seen.range).holder holder).0 (omega (arith, names, kept)))
 
-  -- where another is preferred it has a lower number and has requested the connector, and nobody holds it
+  -- if another marker is preferred, it has a lower number and has requested the connector, and
+  -- nobody holds it
   pub is_preferred : (other : ℕ) → answer_of k (next_step a) e.words ≡ Preferred other → (conn : Conn) × AsksFor e k conn × (other < k) × HasRequested e other conn × ((j : ℕ) → ¬ Holds e j conn)
   is_preferred other is =
       let seen = judged_preferred other is in
@@ -186,12 +189,12 @@ module _ (k number : ℕ) (a after : Attempt) where
   refused_answer : (answer : Answer) (holder : ℕ) (conn : Conn) → event_of k number a after answer ≡ event.Refused conn holder → (answer ≡ Held holder) × (asked_in a.phase ≡ Some conn)
   refused_answer (Held told) holder conn ends = let same = by_refusal told holder (asked_in a.phase) conn ends in (ap Held same.0, same.1)
   refused_answer (Preferred other) holder conn ends = absurd cc
-  refused_answer (Asked word) holder conn ends = absurd cc
+  refused_answer (Requested word) holder conn ends = absurd cc
   refused_answer Seized holder conn ends = absurd cc
-  refused_answer (Again word) holder conn ends = absurd cc
+  refused_answer (Changed word) holder conn ends = absurd cc
   refused_answer (Value value) holder conn ends = absurd cc
   refused_answer (Turn turn) holder conn ends = absurd cc
-  refused_answer Done holder conn ends = absurd (done_goes (is_rest (act after)) (event.Refused conn holder) (λ r same. cc) (λ same. cc) ends)
+  refused_answer Done holder conn ends = absurd (done_goes (is_finished (act after)) (event.Refused conn holder) (λ r same. cc) (λ same. cc) ends)
 
   not_preferred : (told other : ℕ) (asked : Option Conn) → refused_by told asked ≡ event.Preferred other → ⊥
   not_preferred told other None ends = cc
@@ -200,12 +203,12 @@ module _ (k number : ℕ) (a after : Attempt) where
   pub preferred_answer : (answer : Answer) (other : ℕ) → event_of k number a after answer ≡ event.Preferred other → answer ≡ Preferred other
   preferred_answer (Held told) other ends = absurd (not_preferred told other (asked_in a.phase) ends)
   preferred_answer (Preferred told) other ends = cc
-  preferred_answer (Asked word) other ends = absurd cc
+  preferred_answer (Requested word) other ends = absurd cc
   preferred_answer Seized other ends = absurd cc
-  preferred_answer (Again word) other ends = absurd cc
+  preferred_answer (Changed word) other ends = absurd cc
   preferred_answer (Value value) other ends = absurd cc
   preferred_answer (Turn turn) other ends = absurd cc
-  preferred_answer Done other ends = absurd (done_goes (is_rest (act after)) (event.Preferred other) (λ r same. cc) (λ same. cc) ends)
+  preferred_answer Done other ends = absurd (done_goes (is_finished (act after)) (event.Preferred other) (λ r same. cc) (λ same. cc) ends)
 
 -- a refusal tells the truth
 pub refusal_true : (plan : Tables) (e : Exchange) (k holder : ℕ) (conn : Conn) → IsLawfulExchange plan e → event_at_step plan k e ≡ event.Refused conn holder → AsksFor e k conn × Holds e holder conn

@@ -2,8 +2,9 @@
 use Rattle.std.proofs.Common.{◌≡◌, ℕ, suc, ◌+◌, ◌<◌, Bool, true, false, List, [], ◌∷◌, length, refl, sym, ◌∙◌, ap, subst, arith}
 use Rattle.std.specs.Prelude.{Option, Some, None, is_some, if◌then◌else◌, slice_get}
 use Rattle.turns.specs.Attempt as generic
-use Rattle.turns.specs.Attempt.{act, act_in, change, changed, forgotten, free_act, freed, request_in, rest_of, restarted, restarted_in, turn_in}
-use Rattle.turns.specs.Runs.{is_rest}
+use Rattle.turns.specs.declared.act.Act.TheVariants as act_is
+use Rattle.turns.specs.Attempt.{act, act_in, change, changed, forgotten, free_act, giving_back, request_in, rest_of, restarted, restarted_in, turn_in}
+use Rattle.turns.specs.Runs.{is_finished}
 use Rattle.turns.specs.World.{Idle, Does}
 use Rattle.turns.specs.declared.answer.Answer.{Answer}
 use Rattle.turns.specs.declared.phase.Phase.TheVariants.{Requests, Seizes, Tests, Turns, Withdraws, GivesBack, Operates}
@@ -12,7 +13,7 @@ use Rattle.xbar_plan.specs.Tables.{Tables}
 use Rattle.xbar_jobs.specs.Attempt.{Act, Attempt, Phase, next_step, step_of}
 use Rattle.xbar_jobs.specs.Office.{office}
 use Rattle.xbar_jobs.specs.declared.effect.Effect.{Effect}
-use Rattle.xbar_core.specs.AtWork.{told_of, IsBackingAt, IsBackingBy, IsBackingIn, gives_up, gives_up_at, is_turned}
+use Rattle.xbar_core.specs.AtWork.{answer_to_step, IsBackingAt, IsBackingBy, IsBackingIn, gives_up, gives_up_at, is_turned}
 use Rattle.xbar_core.specs.Exchange.{Exchange, Marker, OfPlan, Work, is_idle}
 use Rattle.xbar_core.specs.Holding.{IsAt}
 use Rattle.xbar_core.specs.Moves.{backed_as, begun_anew, frees_left, given_at, given_back, given_by, request_count, after_step, steps}
@@ -26,7 +27,7 @@ use Rattle.xbar_core.proofs.Worlds.{answer_is, found_by}
 abbrev pub left_in : Attempt → ℕ
 left_in a = request_count (request_in a.phase) + length a.held
 
--- an attempt is on its way back, with one thing less than so many to give up
+-- an attempt is on its way back, with one thing less to give up than before
 abbrev IsOneLess : Attempt → ℕ → Type 0
 IsOneLess b before = IsBackingIn b b.phase × (suc (left_in b) ≡ before)
 
@@ -41,13 +42,13 @@ by_backing Has a withdraws gives requests Turns backs = absurd backs
 by_backing Has a withdraws gives requests (Operates turn) backs = absurd backs
 
 module _ (plan : Tables) where
-  freed_less : (a : Attempt) (held : List Conn) → IsOneLess (freed (office plan) a held) (suc (length held))
+  freed_less : (a : Attempt) (held : List Conn) → IsOneLess (giving_back (office plan) a held) (suc (length held))
   freed_less a [] = (refl, refl)
   freed_less a (conn ∷ held) = ((λ e. cc), omega arith)
 
   given_less : (k found : ℕ) (a : Attempt) (held : List Conn) → a.held ≡ held → ¬ (held ≡ []) → IsOneLess (changed (office plan) a GivesBack (generic.answer_to (office plan) k (free_act held) found)) (length held)
   given_less k found a [] at not = absurd (not refl)
-  given_less k found a (conn ∷ held) at not = subst (λ (all : List Conn). IsOneLess (freed (office plan) a (rest_of all)) (suc (length held))) (sym at) (freed_less a held)
+  given_less k found a (conn ∷ held) at not = subst (λ (all : List Conn). IsOneLess (giving_back (office plan) a (rest_of all)) (suc (length held))) (sym at) (freed_less a held)
 
   abbrev Lessens : ℕ → ℕ → Attempt → Phase → Type 0
   Lessens k found a phase = gives_up (step_of (act_in phase a)) ≡ true → IsOneLess (changed (office plan) a phase (generic.answer_to (office plan) k (act_in phase a) found)) (request_count (request_in phase) + length a.held)
@@ -59,25 +60,25 @@ module _ (plan : Tables) where
       (λ conn none goes. absurd cc)
 
   -- with each step there is one thing less to give up
-  pub one_less : (k : ℕ) (words : List ℕ) (a : Attempt) → IsBackingIn a a.phase → gives_up (next_step a) ≡ true → IsOneLess (change (office plan) a (told_of k words a)) (left_in a)
+  pub one_less : (k : ℕ) (words : List ℕ) (a : Attempt) → IsBackingIn a a.phase → gives_up (next_step a) ≡ true → IsOneLess (change (office plan) a (answer_to_step k words a)) (left_in a)
   one_less k words a backs goes = subst (λ (answer : Answer). IsOneLess (change (office plan) a answer) (left_in a)) (sym (answer_is plan k words a)) (less_in k (found_by plan words a) a a.phase backs goes)
 
 -- a step that gives up is one
-pub gives_up_goes : (next : Act) → gives_up (step_of next) ≡ true → is_rest next ≡ false
-gives_up_goes generic.Rest e = absurd cc
-gives_up_goes (generic.Ask conn) e = refl
-gives_up_goes (generic.Take conn expected) e = refl
-gives_up_goes (generic.Leave conn) e = refl
-gives_up_goes (generic.Free conn) e = refl
-gives_up_goes (generic.Look word) e = refl
-gives_up_goes generic.Turn e = refl
-gives_up_goes (generic.Make effect) e = refl
+pub gives_up_goes : (next : Act) → gives_up (step_of next) ≡ true → is_finished next ≡ false
+gives_up_goes act_is.Finished e = absurd cc
+gives_up_goes (act_is.Request conn) e = refl
+gives_up_goes (act_is.Seize conn expected) e = refl
+gives_up_goes (act_is.Withdraw conn) e = refl
+gives_up_goes (act_is.Free conn) e = refl
+gives_up_goes (act_is.Test word) e = refl
+gives_up_goes act_is.Turn e = refl
+gives_up_goes (act_is.Make effect) e = refl
 
 pub no_more : (held : List Conn) → length held ≡ 0 → held ≡ []
 no_more [] e = refl
 no_more (conn ∷ held) e = absurd (omega arith)
 
--- where nothing is given up any more, nothing is left to give up
+-- if the next step gives up nothing, nothing is left to give up
 none_freed : (held : List Conn) → ¬ (held ≡ []) → gives_up (step_of (free_act held)) ≡ false → ⊥
 none_freed [] not e = not refl
 none_freed (conn ∷ held) not e = cc
@@ -123,7 +124,7 @@ module _ (plan : Tables) (e : Exchange) (k : ℕ) (back : IsBacking e k) where
   gave_up goes =
       let n = back.number in
       let a = back.attempt in
-      let b = change (office plan) a (told_of k e.words a) in
+      let b = change (office plan) a (answer_to_step k e.words a) in
       let less = one_less plan k e.words a back.backs goes in
       let now = gone_on plan e k n a back.at (gives_up_goes (act a) goes) in
       record { backs = backing_at _ k n b now less.0; one = ap suc (left_is _ k n b now) ∙ less.1 ∙ sym (left_is e k n a back.at) }
@@ -192,15 +193,15 @@ module _ (first now next : OfPlan) (k : ℕ) (m : Marker) (there : slice_get now
 
 module _ (plan : Tables) where
   -- a marker that is not past its turn is on its way back once it is to begin anew
-  freed_backs : (a : Attempt) (held : List Conn) → IsBackingIn (freed (office plan) a held) (freed (office plan) a held).phase × (left_in (freed (office plan) a held) ≡ length held)
+  freed_backs : (a : Attempt) (held : List Conn) → IsBackingIn (giving_back (office plan) a held) (giving_back (office plan) a held).phase × (left_in (giving_back (office plan) a held) ≡ length held)
   freed_backs a [] = (refl, omega arith)
   freed_backs a (conn ∷ held) = ((λ e. cc), omega arith)
 
-  stays_back : (held : List Conn) → is_rest (free_act {Effect = Effect} held) ≡ false → held ≡ [] → ⊥
+  stays_back : (held : List Conn) → is_finished (free_act {Effect = Effect} held) ≡ false → held ≡ [] → ⊥
   stays_back [] goes none = cc
   stays_back (conn ∷ held) goes none = cc
 
-  pub anew_in : (a : Attempt) (phase : Phase) → a.phase ≡ phase → is_rest (act_in phase a) ≡ false → is_some (turn_in phase) ≡ false
+  pub anew_in : (a : Attempt) (phase : Phase) → a.phase ≡ phase → is_finished (act_in phase a) ≡ false → is_some (turn_in phase) ≡ false
       → let b = restarted_in (office plan) phase a in IsBackingIn b b.phase × (left_in b ≡ request_count (request_in phase) + length a.held)
   anew_in a (Requests conn) at goes is = let back = freed_backs (forgotten a) a.held in (back.0, omega (arith, back.1))
   anew_in a (Seizes conn expected) at goes is = (tt, refl)
@@ -210,7 +211,7 @@ module _ (plan : Tables) where
   anew_in a GivesBack at goes is = (subst (IsBackingIn a) (sym at) (stays_back a.held goes), ap (λ (phase : Phase). request_count (request_in phase) + length a.held) at)
   anew_in a (Operates turn) at goes is = absurd cc
 
--- what a marker answers that is asked to give back
+-- what each answer of a marker that is asked to give back says of its work
 abbrev pub Answers : Work → Given → Type 0
 Answers work given.Given = (is_idle work ≡ false) × (is_turned work ≡ false)
 Answers work given.PastTurn = (is_idle work ≡ false) × (is_turned work ≡ true)
@@ -218,8 +219,8 @@ Answers work given.Idle = is_idle work ≡ true
 
 pub answers : (work : Work) → Answers work (given_by work)
 answers Idle = refl
-answers (Does n a) = by (is_rest (act a)) (is_some (turn_in a.phase)) refl refl where
-  by : (idle past : Bool) → is_rest (act a) ≡ idle → is_some (turn_in a.phase) ≡ past → Answers (Does n a) (if idle then given.Idle else (if past then given.PastTurn else given.Given))
+answers (Does n a) = by (is_finished (act a)) (is_some (turn_in a.phase)) refl refl where
+  by : (idle past : Bool) → is_finished (act a) ≡ idle → is_some (turn_in a.phase) ≡ past → Answers (Does n a) (if idle then given.Idle else (if past then given.PastTurn else given.Given))
   by true past rests is = rests
   by false true goes is = (goes, is)
   by false false goes is = (goes, is)
@@ -236,7 +237,7 @@ module _ (plan : Tables) (e : Exchange) (k : ℕ) where
   gives = at_job_has (λ what. what ≡ given.Given → Gives e k) given.Idle (λ m n a. given_by (Does n a)) e k (λ is. absurd cc)
       (λ n a at is. record { number = n; attempt = a; at = at; told = subst (Answers (Does n a)) is (answers (Does n a)) })
 
-  -- where it gives back, it begins anew once all is given up
+  -- if it gives back, it begins anew once all is given up
   pub anew : given_at e k ≡ given.Given → IsBackingAt (slice_get (begun_anew plan k e).markers k) × (frees_left (begun_anew plan k e) k ≡ frees_left e k)
   anew is =
       let has = gives is in
@@ -249,7 +250,7 @@ module _ (plan : Tables) (e : Exchange) (k : ℕ) where
   unfolding given_back
   back_goes is = ap (λ (what : Given). backed_as what (steps plan k (frees_left e k) (begun_anew plan k e)) e) is
 
-  -- where a marker does not give back, nothing changes
+  -- if a marker does not give back, nothing changes
   pub back_rests : ¬ (given_at e k ≡ given.Given) → given_back plan k e ≡ e
   unfolding given_back
   back_rests not = by (given_at e k) not where

@@ -1,7 +1,7 @@
 -- a marker that gives back is at the very beginning of its job
 use Rattle.std.proofs.Common.{◌≡◌, ℕ, zero, suc, ◌+◌, true, List, [], ◌∷◌, length, refl, sym, ◌∙◌, ap, subst, arith}
 use Rattle.turns.specs.Attempt as generic
-use Rattle.turns.specs.Attempt.{act, act_in, begin_with, change, changed, forgotten, free_act, freed, request_in, rest_of, restarted, restarted_in}
+use Rattle.turns.specs.Attempt.{act, act_in, begin_with, change, changed, forgotten, free_act, giving_back, request_in, rest_of, restarted, restarted_in}
 use Rattle.turns.specs.World.{Does}
 use Rattle.turns.specs.declared.answer.Answer.{Answer}
 use Rattle.turns.specs.declared.phase.Phase.TheVariants.{Requests, Seizes, Tests, Turns, Withdraws, GivesBack, Operates}
@@ -11,7 +11,7 @@ use Rattle.xbar_office.specs.declared.job.Job.{Job}
 use Rattle.xbar_jobs.specs.Attempt.{Attempt, Phase, step_of}
 use Rattle.xbar_jobs.specs.Jobs.{first_conn}
 use Rattle.xbar_jobs.specs.Office.{office}
-use Rattle.xbar_core.specs.AtWork.{IsBackingIn, gives_up, told_of}
+use Rattle.xbar_core.specs.AtWork.{IsBackingIn, gives_up, answer_to_step}
 use Rattle.xbar_core.specs.Exchange.{Exchange}
 use Rattle.xbar_core.specs.Holding.{IsAt}
 use Rattle.xbar_core.specs.Moves.{begun_anew, frees_left, given_at, given_back, given_by, request_count, after_step, steps}
@@ -31,7 +31,7 @@ record Begins (job : Job) (a : Attempt) : Type 0 where
   pub begins : (conn : Conn) → a.phase ≡ Requests conn → a ≡ begun job
 
 module _ (plan : Tables) where
-  freed_begins : (a : Attempt) (job : Job) (held : List Conn) → a.job ≡ job → Begins job (freed (office plan) a held)
+  freed_begins : (a : Attempt) (job : Job) (held : List Conn) → a.job ≡ job → Begins job (giving_back (office plan) a held)
   freed_begins a job [] is = record { job_is = is; begins = λ conn at. ap begun is }
   freed_begins a job (conn ∷ held) is = record { job_is = is; begins = λ other at. absurd cc }
 
@@ -72,7 +72,7 @@ module _ (plan : Tables) where
     back_to_begin zero e a at is backs left = subst (IsAt e k number) (none_begun a is a.phase backs refl left) at
     back_to_begin (suc count) e a at is backs left =
         let goes = goes_with a count backs left in
-        let b : Attempt = change (office plan) a (told_of k e.words a) in
+        let b : Attempt = change (office plan) a (answer_to_step k e.words a) in
         let less = one_less plan k e.words a backs goes in
         let begins : Begins job b = subst (λ (answer : Answer). Begins job (change (office plan) a answer)) (sym (answer_is plan k e.words a)) (back_begins (found_by plan e.words a) a is.job_is a.phase backs goes) in
         back_to_begin count (after_step plan k e) b (gone_on plan e k number a at (gives_up_goes (act a) goes)) begins less.0 (omega (arith, less.1, left))

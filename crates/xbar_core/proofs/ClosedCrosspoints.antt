@@ -3,7 +3,7 @@ use Rattle.std.proofs.Common.{◌≡◌, ◌≢◌, ℕ, zero, suc, ◌<◌, ◌
 use mathlib.Core.Option.{some, some-injective}
 use lib.ListN.{get_elem?}
 use Rattle.turns.specs.Among.{IsIn}
-use Rattle.turns.specs.Attempt.{left_in}
+use Rattle.turns.specs.Attempt.{effects_left_in}
 use Rattle.turns.specs.Law as law
 use Rattle.turns.specs.System.{IsUnder}
 use Rattle.turns.specs.World.{Does}
@@ -43,7 +43,7 @@ pub record HasLeft (e : Exchange) (c : Crosspoint) : Type 0 where
 
 module _ (plan : Tables) (laws : IsLawful plan) (e : Exchange) (lawful : IsLawfulExchange plan e) where
   module _ (c : Crosspoint) (closed : IsClosed e.words c) where
-    -- such a marker holds the connector of the crosspoint's word
+    -- a marker that has it left holds the connector of the crosspoint's word
     opener_named : (conn : Conn) → Protects conn c.word → (has : HasLeft e c) → law.holder_at (office plan) e.words conn ≡ suc has.k
     opener_named conn protects has =
         let under = (decided plan laws e lawful has.k has.number has.turn has.attempt has.at has.past).left_under (Open c) has.left in
@@ -76,10 +76,10 @@ module _ (plan : Tables) (laws : IsLawful plan) (e : Exchange) (lawful : IsLawfu
           let both : ◌≡◌ {A = Work} (Does has.number has.attempt) (Does number a) = some-injective _ _ (sym there ∙ does) in
           cc
 
-      completed_is : slice_index (completed plan e) c.word ≡ made_of (left_in a.phase a.effects) c.word (slice_index e.words c.word)
+      completed_is : slice_index (completed plan e) c.word ≡ made_of (effects_left_in a.phase a.effects) c.word (slice_index e.words c.word)
       completed_is = held_word (office plan) (office_is plan laws) (world plan e) lawful k number a c.word does under
 
-      by_waiting : left_in a.phase a.effects ≡ [] → ((turn : ℕ) → a.phase ≢ Operates turn) → IsLeftOrStays
+      by_waiting : effects_left_in a.phase a.effects ≡ [] → ((turn : ℕ) → a.phase ≢ Operates turn) → IsLeftOrStays
       by_waiting none waits = inr (
         (λ has. waits has.turn (sym (ap (λ (one : Attempt). one.phase) (same_attempt has)) ∙ has.past)),
         stays_by (completed_is ∙ ap (λ (effects : List Effect). made_of effects c.word (slice_index e.words c.word)) none),
@@ -95,7 +95,7 @@ module _ (plan : Tables) (laws : IsLawful plan) (e : Exchange) (lawful : IsLawfu
               (λ has. never.0 (subst (λ (one : Attempt). IsIn (Open c) one.effects) (same_attempt has) has.left)),
               ap (λ word. field_of (shape_at c.word) word c.field) (
                   completed_is
-                  ∙ ap (λ (phase : Phase). made_of (left_in phase a.effects) c.word (slice_index e.words c.word)) past
+                  ∙ ap (λ (phase : Phase). made_of (effects_left_in phase a.effects) c.word (slice_index e.words c.word)) past
                   ∙ sym (perform_index (office plan) e.words a.effects c.word (λ effect within. below effect (did.left_under effect within)))) ∙ never.1,
             )
           ] where

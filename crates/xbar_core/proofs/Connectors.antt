@@ -1,4 +1,4 @@
--- a connector's word tells who holds it and whose request for it stands
+-- a connector's word tells which marker holds it, and which markers have requested it
 use Rattle.std.proofs.Common.{◌≡◌, ℕ, zero, suc, ◌+◌, ◌<◌, ◌≤◌, ◌%◌, ◌⊎◌, slice_index, inl, inr, refl, arith, eq-eqb}
 use Rattle.std.specs.Int.{bit_at}
 use Rattle.std.proofs.lemmas.Bool.{eqb-true}
@@ -39,7 +39,7 @@ module _ (plan : Tables) (e : Exchange) (lawful : IsLawfulExchange plan e) (conn
     pub free_word : ((k : ℕ) → ¬ Holds e k conn) → conn_word e conn % 64 ≡ 0
     free_word free = elim (zero_or_more (conn_word e conn % 64)) [ inl none ↦ none | inr more ↦ absurd (free more.0 (holds_named more.0 more.1)) ]
 
-    -- a request stands where it was made
+    -- a request is in the word if it was made
     asks_set : (k : ℕ) → k < 48 → bit_at (conn_word e conn) (8 + k) ≡ 1 → HasRequested e k conn
     asks_set k few set =
         let asks = (shared.requested k few).made (eq-eqb (bit_at (conn_word e conn) (8 + k)) 1 set) in

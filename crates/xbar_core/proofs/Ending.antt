@@ -2,9 +2,10 @@
 use Rattle.std.proofs.Common.{◌≡◌, ℕ, zero, suc, ◌+◌, ◌≤◌, Bool, true, false, List, [], ◌∷◌, length, refl, sym, ◌∙◌, ap, subst, arith}
 use Rattle.std.specs.Prelude.{Some, slice_get}
 use Rattle.turns.specs.Attempt as generic
-use Rattle.turns.specs.Attempt.{Rest, act, act_in, change, changed, closing_act, operated}
-use Rattle.turns.specs.Law.{IsFree}
-use Rattle.turns.specs.Runs.{is_rest}
+use Rattle.turns.specs.Attempt.{act, act_in, change, changed, closing_act, operated}
+use Rattle.turns.specs.declared.act.Act.TheVariants.{Finished}
+use Rattle.turns.specs.Law.{IsAvailable}
+use Rattle.turns.specs.Runs.{is_finished}
 use Rattle.turns.specs.World.{Idle, Does}
 use Rattle.turns.specs.declared.answer.Answer.{Answer}
 use Rattle.turns.specs.declared.phase.Phase.TheVariants.{Operates}
@@ -13,7 +14,7 @@ use Rattle.xbar_plan.specs.Tables.{Tables}
 use Rattle.xbar_jobs.specs.Attempt.{Attempt, Phase}
 use Rattle.xbar_jobs.specs.Office.{office}
 use Rattle.xbar_jobs.specs.declared.effect.Effect.{Effect}
-use Rattle.xbar_core.specs.AtWork.{told_of}
+use Rattle.xbar_core.specs.AtWork.{answer_to_step}
 use Rattle.xbar_core.specs.Exchange.{Exchange, Marker, Work, is_idle}
 use Rattle.xbar_core.specs.Holding.{IsAt}
 use Rattle.xbar_core.specs.Moves.{after_answer, steps}
@@ -27,7 +28,7 @@ pub record IsIdleAt (e : Exchange) (k : ℕ) : Type 0 where
   pub there : slice_get e.markers k ≡ Some marker
   pub idle : is_idle marker.work ≡ true
 
--- an attempt past its turn, with so much left to make and to free
+-- an attempt past its turn, with this many effects to make and connectors to free
 record HasLeft (turn : ℕ) (b : Attempt) (left : ℕ) : Type 0 where
   pub phase : b.phase ≡ Operates turn
   pub one : suc (length b.effects + length b.held) ≡ left
@@ -43,7 +44,7 @@ module _ (plan : Tables) where
   stays_idle k count e m there idle = subst (λ (x : Exchange). IsIdleAt x k) (sym (steps_idle k count e m there idle)) (record { marker = m; there = there; idle = idle })
 
   -- past the turn there is one thing less to make or to free with each step
-  closing_less : (k found turn : ℕ) (a : Attempt) (effects : List Effect) (held : List Conn) → a.phase ≡ Operates turn → a.effects ≡ effects → a.held ≡ held → is_rest (closing_act effects held) ≡ false
+  closing_less : (k found turn : ℕ) (a : Attempt) (effects : List Effect) (held : List Conn) → a.phase ≡ Operates turn → a.effects ≡ effects → a.held ≡ held → is_finished (closing_act effects held) ≡ false
       → HasLeft turn (changed (office plan) a (Operates turn) (generic.answer_to (office plan) k (closing_act effects held) found)) (length effects + length held)
   closing_less k found turn a [] [] at these those goes = absurd cc
   closing_less k found turn a [] (conn ∷ held) at these those goes =
@@ -54,27 +55,27 @@ module _ (plan : Tables) where
       let same : length a.held ≡ length held = ap (length {A = Conn}) those in
       subst (λ (all : List Effect). HasLeft turn (operated a all) (length (effect ∷ effects) + length held)) (sym these) (record { phase = at; one = omega (arith, same) })
 
-  one_closed : (k turn : ℕ) (words : List ℕ) (a : Attempt) → a.phase ≡ Operates turn → is_rest (act a) ≡ false → HasLeft turn (change (office plan) a (told_of k words a)) (length a.effects + length a.held)
+  one_closed : (k turn : ℕ) (words : List ℕ) (a : Attempt) → a.phase ≡ Operates turn → is_finished (act a) ≡ false → HasLeft turn (change (office plan) a (answer_to_step k words a)) (length a.effects + length a.held)
   one_closed k turn words a at goes =
       subst (λ (answer : Answer). HasLeft turn (change (office plan) a answer) (length a.effects + length a.held)) (sym (answer_is plan k words a))
       (subst (λ (phase : Phase). HasLeft turn (changed (office plan) a phase (generic.answer_to (office plan) k (act_in phase a) (found_by plan words a))) (length a.effects + length a.held)) (sym at)
-      (closing_less k (found_by plan words a) turn a a.effects a.held at refl refl (subst (λ (phase : Phase). is_rest (act_in phase a) ≡ false) at goes)))
+      (closing_less k (found_by plan words a) turn a a.effects a.held at refl refl (subst (λ (phase : Phase). is_finished (act_in phase a) ≡ false) at goes)))
 
   -- so it ends, whatever the others do
-  ends_if : (k turn n count : ℕ) (e : Exchange) (a : Attempt) (idle : Bool) → is_rest (act a) ≡ idle → IsAt e k n a → a.phase ≡ Operates turn → length a.effects + length a.held ≤ count → IsIdleAt (steps plan k count e) k
+  ends_if : (k turn n count : ℕ) (e : Exchange) (a : Attempt) (idle : Bool) → is_finished (act a) ≡ idle → IsAt e k n a → a.phase ≡ Operates turn → length a.effects + length a.held ≤ count → IsIdleAt (steps plan k count e) k
   unfolding steps
   ends_if k turn n count e a true rest at phase few = stays_idle k count e at.marker at.there (ap is_idle at.work ∙ rest)
   ends_if k turn n zero e a false goes at phase few = let left = one_closed k turn e.words a phase goes in absurd (omega (arith, left.one))
   ends_if k turn n (suc less) e a false goes at phase few =
       let left = one_closed k turn e.words a phase goes in
-      let b = change (office plan) a (told_of k e.words a) in
+      let b = change (office plan) a (answer_to_step k e.words a) in
       subst (λ (x : Exchange). IsIdleAt (steps plan k less x) k) (sym (step_made plan e k n a at goes))
-      (ends_if k turn n less (after_answer plan k at.marker n a (told_of k e.words a) e) b (is_rest (act b)) refl (now_at plan e k n a (told_of k e.words a) at) left.phase (omega (arith, left.one)))
+      (ends_if k turn n less (after_answer plan k at.marker n a (answer_to_step k e.words a) e) b (is_finished (act b)) refl (now_at plan e k n a (answer_to_step k e.words a) at) left.phase (omega (arith, left.one)))
 
   pub past_ends : (k turn n count : ℕ) (e : Exchange) (a : Attempt) → IsAt e k n a → a.phase ≡ Operates turn → length a.effects + length a.held ≤ count → IsIdleAt (steps plan k count e) k
-  past_ends k turn n count e a at phase few = ends_if k turn n count e a (is_rest (act a)) refl at phase few
+  past_ends k turn n count e a at phase few = ends_if k turn n count e a (is_finished (act a)) refl at phase few
 
   -- a marker that is free for a job is idle
-  pub free_idle : (work : Work) → IsFree (office plan) work → is_idle work ≡ true
+  pub free_idle : (work : Work) → IsAvailable (office plan) work → is_idle work ≡ true
   free_idle Idle free = refl
-  free_idle (Does n a) free = ap is_rest free
+  free_idle (Does n a) free = ap is_finished free

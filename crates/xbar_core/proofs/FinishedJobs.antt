@@ -2,12 +2,12 @@
 use Rattle.std.proofs.Common.{◌≡◌, ℕ, ◌^◌, ◌<◌, Bool, true, false, List, [], ◌∷◌, length, map, refl, sym, ◌∙◌, ap, subst}
 use Rattle.std.specs.Prelude.{Option, Some, None, option_map, slice_get, unwrap_or}
 use Rattle.std.proofs.lemmas.Option.{same_Some, slice_get-map}
-use Rattle.turns.specs.Attempt.{act, change, changed, freed, operated, rest_of, turn_in}
+use Rattle.turns.specs.Attempt.{act, change, changed, giving_back, operated, rest_of, turn_in}
 use Rattle.turns.specs.Law.{FitsIn, IsRecorded}
-use Rattle.turns.specs.Runs.{is_rest}
+use Rattle.turns.specs.Runs.{is_finished}
 use Rattle.turns.specs.World as worlds
 use Rattle.turns.specs.declared.answer.Answer.{Answer}
-use Rattle.turns.specs.declared.answer.Answer.TheVariants.{Asked, Seized, Held, Preferred, Again, Value, Turn, Done}
+use Rattle.turns.specs.declared.answer.Answer.TheVariants.{Requested, Seized, Held, Preferred, Changed, Value, Turn, Done}
 use Rattle.turns.specs.declared.phase.Phase.TheVariants.{Requests, Seizes, Tests, Turns, Withdraws, GivesBack, Operates}
 use Rattle.turns.proofs.Orders.{get_before}
 use Rattle.xbar_equip.specs.declared.conn.Conn.{Conn}
@@ -19,7 +19,7 @@ use Rattle.xbar_office.proofs.AuditedRecords.{turn_at}
 use Rattle.xbar_jobs.specs.Attempt.{Attempt, Phase}
 use Rattle.xbar_jobs.specs.Office.{office}
 use Rattle.xbar_jobs.specs.declared.effect.Effect.{Effect}
-use Rattle.xbar_core.specs.AtWork.{told_of}
+use Rattle.xbar_core.specs.AtWork.{answer_to_step}
 use Rattle.xbar_core.specs.Exchange.{Exchange, IsLawfulExchange, turned, world}
 use Rattle.xbar_core.specs.Holding.{IsAt}
 use Rattle.xbar_core.specs.Moves.{event_at_step, event_of, finished, moved_on, record_of, refused_by, after_step}
@@ -56,7 +56,7 @@ module _ (k number : ℕ) (after : Attempt) (r : Record) where
   by_refusal holder None e = cc
   by_refusal holder (Some conn) e = cc
 
-  -- a step finishes a job only if nothing was to be told of it
+  -- a step finishes a job only if its answer is Done
   record IsLast (answer : Answer) : Type 0 where
     pub told : answer ≡ Done
     pub finished : HasFinished k number after r
@@ -64,14 +64,15 @@ module _ (k number : ℕ) (after : Attempt) (r : Record) where
   by_answer : (a : Attempt) (answer : Answer) → event_of k number a after answer ≡ event.Finished r → IsLast answer
   by_answer a (Held holder) e = absurd (by_refusal holder _ e)
   by_answer a (Preferred other) e = absurd cc
-  by_answer a (Asked word) e = absurd cc
+  by_answer a (Requested word) e = absurd cc
   by_answer a Seized e = absurd cc
-  by_answer a (Again word) e = absurd cc
+  by_answer a (Changed word) e = absurd cc
   by_answer a (Value value) e = absurd cc
   by_answer a (Turn turn) e = absurd cc
-  by_answer a Done e = record { told = refl; finished = by_rest (is_rest (act after)) e }
+  by_answer a Done e = record { told = refl; finished = by_rest (is_finished (act after)) e }
 
--- the attempt after a step of which nothing was told is of the same job; past its turn it was so before, with the same reply
+-- the attempt after a step with the answer Done is of the same job; past its turn it was so
+-- before, with the same reply
 record IsAfter (a after : Attempt) : Type 0 where
   pub job : after.job ≡ a.job
   pub past : (turn : ℕ) → after.phase ≡ Operates turn → (a.phase ≡ Operates turn) × (after.reply ≡ a.reply)
@@ -80,7 +81,7 @@ is_itself : (a : Attempt) → IsAfter a a
 is_itself a = record { job = refl; past = λ turn at. (at, refl) }
 
 module _ (plan : Tables) where
-  is_freed : (a : Attempt) (held : List Conn) → IsAfter a (freed (office plan) a held)
+  is_freed : (a : Attempt) (held : List Conn) → IsAfter a (giving_back (office plan) a held)
   is_freed a [] = record { job = refl; past = λ turn at. absurd cc }
   is_freed a (conn ∷ held) = record { job = refl; past = λ turn at. absurd cc }
 
@@ -98,10 +99,10 @@ module _ (plan : Tables) where
   is_changed a (Operates turn) = is_operated a a.effects
 
   -- an attempt whose step finishes its job is past its turn
-  at_end : (k number : ℕ) (words : List ℕ) (a : Attempt) (r : Record) → event_of k number a (change (office plan) a (told_of k words a)) (told_of k words a) ≡ event.Finished r → HasFinished k number a r
+  at_end : (k number : ℕ) (words : List ℕ) (a : Attempt) (r : Record) → event_of k number a (change (office plan) a (answer_to_step k words a)) (answer_to_step k words a) ≡ event.Finished r → HasFinished k number a r
   at_end k number words a r e =
-      let last = by_answer k number (change (office plan) a (told_of k words a)) r a (told_of k words a) e in
-      let is : IsAfter a (change (office plan) a (told_of k words a)) = subst (λ (answer : Answer). IsAfter a (change (office plan) a answer)) (sym last.told) (is_changed a a.phase) in
+      let last = by_answer k number (change (office plan) a (answer_to_step k words a)) r a (answer_to_step k words a) e in
+      let is : IsAfter a (change (office plan) a (answer_to_step k words a)) = subst (λ (answer : Answer). IsAfter a (change (office plan) a answer)) (sym last.told) (is_changed a a.phase) in
       let ended = last.finished in
       let before = is.past ended.turn ended.phase in
       record { turn = ended.turn; phase = before.0; reply = sym before.1 ∙ ended.reply; turn_is = ended.turn_is; marker = ended.marker; number_is = ended.number_is; job = ended.job ∙ is.job }
@@ -114,13 +115,13 @@ module _ (plan : Tables) where
       let one = one_job e k come.number number come.attempt a come.at at in
       (ended.marker, ended.number_is ∙ one.0, ended.job ∙ ap (λ (b : Attempt). b.job) one.1)
 
--- the record of a turn that stands at a place
+-- the record at this place is that of a turn
 pub record IsTurn (records : List Record) (place : ℕ) (now : worlds.Record Job Reply) : Type 0 where
   pub found : Record
   pub there : slice_get records place ≡ Some found
   pub turn : turned found ≡ now
 
--- where a turn stands, its record does
+-- at the place of a turn is its record
 pub turn_there : (records : List Record) (place : ℕ) (now : worlds.Record Job Reply) (at : Option Record) → slice_get records place ≡ at → option_map turned at ≡ Some now → IsTurn records place now
 turn_there records place now None there is = absurd cc
 turn_there records place now (Some found) there is = record { found = found; there = there; turn = cc }
@@ -150,7 +151,7 @@ module _ (plan : Tables) (e : Exchange) (k : ℕ) (r : Record) (lawful : IsLawfu
   finished_there number a at ended =
       let sound = lawful.sound k number a (actor_at e k number a at) in
       let known = (subst (FitsIn (office plan) (world plan e) k number a) ended.phase sound.fits).recorded in
-      let found = turn_there e.records known.place known.recorded (slice_get e.records known.place) refl (sym (slice_get-map turned e.records known.place) ∙ known.stands) in
+      let found = turn_there e.records known.place known.recorded (slice_get e.records known.place) refl (sym (slice_get-map turned e.records known.place) ∙ known.at_place) in
       (known.place, found.there ∙ ap Some (is_recorded plan (map turned e.records) k number a r ended known found.found found.turn))
 
   finished_by : length e.records < 2 ^ 64 → HasCome plan e k (event.Finished r) → slice_get (after_step plan k e).records r.turn ≡ Some r

@@ -1,7 +1,8 @@
 -- a connector is freed in giving back, or past the turn once all effects are made, and no protected word is changed by it
 use Rattle.std.proofs.Common.{◌≡◌, ℕ, ◌<◌, ◌⊎◌, List, [], ◌∷◌, slice_index, inl, inr, refl, ◌∙◌, ap, arith}
-use Rattle.turns.specs.Attempt.{Free, act, act_in, closing_act}
-use Rattle.turns.specs.Runs.{is_rest}
+use Rattle.turns.specs.Attempt.{act, act_in, closing_act}
+use Rattle.turns.specs.declared.act.Act.TheVariants.{Free}
+use Rattle.turns.specs.Runs.{is_finished}
 use Rattle.turns.specs.World.{place}
 use Rattle.turns.specs.declared.phase.Phase.TheVariants.{Requests, Seizes, Tests, Turns, Withdraws, GivesBack, Operates}
 use Rattle.turns.proofs.Lists.{index_other}
@@ -42,6 +43,6 @@ pub free_spares : (plan : Tables) (e : Exchange) (k number n : ℕ) (a : Attempt
 free_spares plan e k number n a conn at frees below =
     let own = ap (λ (next : Act). place (office plan) next) frees in
     let behind = conn_behind plan conn in
-    ap (λ (x : Exchange). slice_index x.words n) (step_made plan e k number a at (ap (λ (next : Act). is_rest next) frees))
+    ap (λ (x : Exchange). slice_index x.words n) (step_made plan e k number a at (ap (λ (next : Act). is_finished next) frees))
     ∙ ap (λ (words : List ℕ). slice_index words n) (words_are plan k e.words a)
     ∙ index_other e.words _ n _ (λ same. omega (arith, same, own, behind, below))

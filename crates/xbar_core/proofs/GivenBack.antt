@@ -3,10 +3,10 @@ use Rattle.std.proofs.Common.{◌≡◌, ◌≢◌, ℕ, zero, suc, ◌+◌, ◌
 use Rattle.std.specs.Prelude.{⊤, slice_get}
 use Rattle.turns.specs.Among.{IsIn}
 use Rattle.turns.specs.Attempt as generic
-use Rattle.turns.specs.Attempt.{act, act_in, change, changed, forgotten, free_act, freed, request_in, rest_of, restarted, restarted_in}
+use Rattle.turns.specs.Attempt.{act, act_in, change, changed, forgotten, free_act, giving_back, request_in, rest_of, restarted, restarted_in}
 use Rattle.turns.specs.World.{added_in, place}
 use Rattle.turns.specs.declared.answer.Answer.{Answer}
-use Rattle.turns.specs.declared.answer.Answer.TheVariants.{Asked, Held, Preferred, Done}
+use Rattle.turns.specs.declared.answer.Answer.TheVariants.{Requested, Held, Preferred, Done}
 use Rattle.turns.specs.declared.phase.Phase.TheVariants.{Requests, Seizes, Tests, Turns, Withdraws, GivesBack, Operates}
 use Rattle.turns.proofs.Lists.{index_other}
 use Rattle.xbar_equip.specs.Word.{ConnWord, word_number}
@@ -17,7 +17,7 @@ use Rattle.xbar_office.specs.declared.reply.Record.{Record}
 use Rattle.xbar_jobs.specs.Attempt.{Attempt, Phase}
 use Rattle.xbar_jobs.specs.Office.{office}
 use Rattle.xbar_jobs.specs.declared.effect.Effect.{Effect}
-use Rattle.xbar_core.specs.AtWork.{told_of, IsBackingAt, IsBackingIn}
+use Rattle.xbar_core.specs.AtWork.{answer_to_step, IsBackingAt, IsBackingIn}
 use Rattle.xbar_core.specs.Exchange.{Exchange, turned}
 use Rattle.xbar_core.specs.Holding.{Holds, HasRequested, IsAt}
 use Rattle.xbar_core.specs.Moves.{after_answer, backed_as, begun_anew, frees_left, given_at, given_back, added_record, request_count, after_step, steps}
@@ -33,7 +33,7 @@ use Rattle.xbar_core.proofs.Worlds.{added_at, answer_is, found_by, words_are}
 module _ (plan : Tables) (k : ℕ) (Has : Exchange → Type 0) where
   -- each step of a marker on its way back keeps it
   abbrev KeepsBack : Type 0
-  KeepsBack = (x : Exchange) (n : ℕ) (a : Attempt) → Has x → (at : IsAt x k n a) → IsBackingIn a a.phase → Has (after_answer plan k at.marker n a (told_of k x.words a) x)
+  KeepsBack = (x : Exchange) (n : ℕ) (a : Attempt) → Has x → (at : IsAt x k n a) → IsBackingIn a a.phase → Has (after_answer plan k at.marker n a (answer_to_step k x.words a) x)
 
   -- it is kept, and the marker has nothing left to give up
   record IsBack (x : Exchange) : Type 0 where
@@ -88,7 +88,7 @@ module _ (plan : Tables) (e : Exchange) (k : ℕ) where
       by [] none within = within
       by (other ∷ held) none within = omega (arith, none)
 
-    -- and no request of it stands
+    -- and it has no request
     none_requested : ¬ HasRequested (given_back plan k e) k conn
     none_requested asks =
         let left = bare asks.number asks.attempt asks.at in
@@ -105,7 +105,7 @@ module _ (plan : Tables) (e : Exchange) (k : ℕ) where
       (λ x number a is at. marker_else x.markers k j _ other ∙ is) e refl
 
 module _ (plan : Tables) where
-  freed_job : (a : Attempt) (held : List Conn) → (freed (office plan) a held).job ≡ a.job
+  freed_job : (a : Attempt) (held : List Conn) → (giving_back (office plan) a held).job ≡ a.job
   freed_job a [] = refl
   freed_job a (conn ∷ held) = refl
 
@@ -125,7 +125,7 @@ module _ (plan : Tables) where
   back_job a (Tests word) answer backs = absurd backs
   back_job a Turns answer backs = absurd backs
   back_job a (Operates turn) answer backs = absurd backs
-  back_job a (Requests conn) (Asked word) backs = refl
+  back_job a (Requests conn) (Requested word) backs = refl
   back_job a (Requests conn) (Held holder) backs = refl
   back_job a (Requests conn) (Preferred other) backs = refl
   back_job a (Withdraws conn) Done backs = freed_job a a.held
@@ -140,13 +140,13 @@ module _ (plan : Tables) where
   no_records [] none = refl
   no_records (r ∷ records) none = absurd cc
 
-  back_records : (k n : ℕ) (words : List ℕ) (a : Attempt) → IsBackingIn a a.phase → added_record k n a (told_of k words a) ≡ []
+  back_records : (k n : ℕ) (words : List ℕ) (a : Attempt) → IsBackingIn a a.phase → added_record k n a (answer_to_step k words a) ≡ []
   back_records k n words a backs =
       let found : ℕ = found_by plan words a in
       ap (added_record k n a) (answer_is plan k words a)
       ∙ no_records (added_record k n a (generic.answer_to (office plan) k (act a) found)) (added_at plan k n found a a.phase ∙ adds_none k n found a a.phase backs)
 
-  -- and its steps are on words of connectors, behind the protected ones
+  -- and its steps are on words of connectors, after the protected ones
   pub conn_behind : (conn : Conn) → 416 ≤ word_number (ConnWord conn)
   conn_behind (Llf frame) = omega arith
   conn_behind (Tlf frame) = omega arith
@@ -177,7 +177,7 @@ module _ (plan : Tables) where
     -- and keeps its job, under its number
     pub job_stays : (number : ℕ) (a : Attempt) → IsAt e k number a → (b : Attempt) × IsAt (given_back plan k e) k number b × (b.job ≡ a.job)
     job_stays number a at = back_has plan k Has
-        (λ x n c has here backs. goes x n c has here _ _ (now_at plan x k n c (told_of k x.words c) here) (back_job c c.phase (told_of k x.words c) backs))
+        (λ x n c has here backs. goes x n c has here _ _ (now_at plan x k n c (answer_to_step k x.words c) here) (back_job c c.phase (answer_to_step k x.words c) backs))
         (λ x n c has here. goes x n c has here _ _ (set_at x k n here.marker (restarted (office plan) c) here.there) (anew_job c c.phase))
         e (a, at, refl) where
           Has : Exchange → Type 0

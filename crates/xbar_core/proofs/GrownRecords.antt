@@ -4,7 +4,7 @@ use Rattle.std.specs.Prelude.{Option, Some, None, slice_get}
 use Rattle.xbar_plan.specs.Tables.{Tables}
 use Rattle.xbar_office.specs.declared.job.Job.{Job}
 use Rattle.xbar_office.specs.declared.reply.Record.{Record}
-use Rattle.xbar_core.specs.AtWork.{told_of}
+use Rattle.xbar_core.specs.AtWork.{answer_to_step}
 use Rattle.xbar_core.specs.Exchange.{Exchange, Marker}
 use Rattle.xbar_core.specs.Moves.{assigned, added_record, refusal, after_step}
 use Rattle.xbar_core.specs.Runs.{Assigns, BeginsAnew, GivesBack, Move, Settles, Steps, after_move, run_from, unless_refused}
@@ -33,7 +33,7 @@ module _ (plan : Tables) (first : List Record) where
   step_begins : (k : ℕ) → KeepsSteps plan (Begin first) k
   step_begins k e begins = elim (step_cases plan e k) [
     | inl same ↦ subst (Begin first) (sym same) begins
-    | inr made ↦ more_begin e (added_record k made.number made.attempt (told_of k e.words made.attempt)) (after_step plan k e) (ap (λ (x : Exchange). x.records) made.is) begins
+    | inr made ↦ more_begin e (added_record k made.number made.attempt (answer_to_step k e.words made.attempt)) (after_step plan k e) (ap (λ (x : Exchange). x.records) made.is) begins
   ]
 
   restart_begins : (k : ℕ) → KeepsRestarts plan (Begin first) k

@@ -42,7 +42,7 @@ module _ (plan : Tables) where
     turn = turn;
     past = past;
     recorded = found.found;
-    stands = found.there;
+    at_place = found.there;
     turn_is = ap (λ (t : worlds.Record Job Reply). t.turn) found.turn ∙ known.turn_is;
     marker = ap (λ (t : worlds.Record Job Reply). t.actor) found.turn ∙ known.actor;
     number_is = ap (λ (t : worlds.Record Job Reply). t.number) found.turn ∙ known.number_is;
@@ -99,7 +99,7 @@ module _ (plan : Tables) where
           let under = (fits_in (Operates turn) past).under effect (subst (IsIn effect) (sym left) (inl refl)) in
           absurd (free under.lock under.held)
 
-    -- where no connector is held no effect is left, so the words show the set after the records
+    -- if no connector is held, no effect is left, so the words show the set after the records
     pub free_shows : ((k : ℕ) (conn : Conn) → ¬ Holds e k conn) → ShowsOffice plan e.words (after plan e.records)
     free_shows free = made_show plan e lawful (λ k number turn a at past.
         effect_held k number a at turn a.effects past refl (λ conn held. free k conn (record { number = number; attempt = a; at = at; held = held })))
@@ -118,7 +118,7 @@ module _ (plan : Tables) where
     past_recorded k number turn a at past =
         let fits : IsOperating (office plan) e.words (map turned e.records) k number turn a = fits_in k number a at (Operates turn) past in
         let known : IsRecorded (office plan) (map turned e.records) k number turn a = fits.recorded in
-        let found : IsTurn e.records known.place known.recorded = turn_there e.records known.place known.recorded (slice_get e.records known.place) refl (sym (slice_get-map turned e.records known.place) ∙ known.stands) in (
+        let found : IsTurn e.records known.place known.recorded = turn_there e.records known.place known.recorded (slice_get e.records known.place) refl (sym (slice_get-map turned e.records known.place) ∙ known.at_place) in (
           known.place,
           past_turn e k number turn a at past known found,
         )

@@ -44,7 +44,7 @@ module _ (plan : Tables) (Has : Exchange → Type 0) (k : ℕ) (restart_keeps : 
   begun_keeps e has = at_marker_has Has e (λ m. with_work k m (work_anew plan m.work) e) (slice_get e.markers k) has (λ m there. anew_keeps e m has there)
 
 module _ (plan : Tables) (Has : Exchange → Type 0) (k : ℕ) (step_keeps : KeepsSteps plan Has k) where
-  -- so many steps
+  -- several steps
   pub steps_keep : (count : ℕ) (e : Exchange) → Has e → Has (steps plan k count e)
   unfolding steps
   steps_keep zero e has = has

@@ -1,13 +1,15 @@
--- what every office keeps that markers drive: it is lawful, its attempts stand where their jobs bring them, and there is room for the records to come
+-- what every office of markers keeps: it is lawful, its attempts are valid, and there is room for
+-- the records to come
 use Rattle.std.proofs.Common.{◌≡◌, ◌≢◌, ℕ, zero, suc, ◌+◌, ◌<◌, ◌≤◌, ◌⊎◌, List, [], ◌∷◌, length, length-append, length-set, inl, inr, refl, sym, ◌∙◌, ap, subst, arith}
 use Rattle.std.specs.Prelude.{Option, Some, None, is_some, if◌then◌else◌, slice_get, slice_set, true, false}
 use Rattle.std.proofs.lemmas.List.{length-map}
 use Rattle.std.proofs.lemmas.Option.{none-some, same_Some, slice_get_within}
 use Rattle.turns.specs.Attempt as generic
-use Rattle.turns.specs.Attempt.{Ask, Take, act, act_in, begin_with, change, changed, closing_act, free_act, operated, restarted, restarted_in, turn_in, IsAnswerTo, Rest, forgotten, freed}
+use Rattle.turns.specs.Attempt.{act, act_in, begin_with, change, changed, closing_act, free_act, operated, restarted, restarted_in, turn_in, IsAnswerTo, forgotten, giving_back}
+use Rattle.turns.specs.declared.act.Act.TheVariants.{Request, Seize, Finished}
 use Rattle.turns.specs.World as worlds
 use Rattle.turns.specs.World.{Idle, Does, added_in, place}
-use Rattle.turns.specs.Runs.{is_rest}
+use Rattle.turns.specs.Runs.{is_finished}
 use Rattle.turns.specs.declared.answer.Answer.{Answer}
 use Rattle.turns.specs.declared.answer.Answer.TheVariants.{Value, Done}
 use Rattle.turns.specs.declared.phase.Phase.TheVariants.{Requests, Seizes, Tests, Turns, Withdraws, GivesBack, Operates}
@@ -22,10 +24,10 @@ use Rattle.xbar_office.specs.declared.reply.Reply.{Reply}
 use Rattle.xbar_jobs.specs.Attempt.{Attempt, Phase}
 use Rattle.xbar_jobs.specs.Jobs.{first_conn}
 use Rattle.xbar_jobs.specs.Office.{office}
-use Rattle.xbar_jobs.specs.Standing.{Stands}
+use Rattle.xbar_jobs.specs.Standing.{IsValid}
 use Rattle.xbar_jobs.specs.declared.effect.Effect.{Effect}
 use Rattle.xbar_jobs.proofs.AttemptStands.{stands_after, stands_again, stands_begun}
-use Rattle.xbar_core.specs.AtWork.{told_of}
+use Rattle.xbar_core.specs.AtWork.{answer_to_step}
 use Rattle.xbar_core.specs.Exchange.{Exchange, IsLawfulExchange, Marker, Work, fresh_exchange, turned}
 use Rattle.xbar_core.specs.Holding.{IsAt}
 use Rattle.xbar_core.specs.Moves.{added_record, refusal, after_step, with_work, work_anew}
@@ -42,29 +44,29 @@ module _ (plan : Tables) where
   abbrev pub AreStanding : List Marker → Type 0
   AreStanding markers = (k : ℕ) (m : Marker) → slice_get markers k ≡ Some m → StandsAt plan m.work
 
-  -- with one marker set that stands, all stand
+  -- with one marker set to a valid attempt, all are valid
   pub stands_set : (markers : List Marker) (k : ℕ) (m was : Marker) → slice_get markers k ≡ Some was → StandsAt plan m.work → AreStanding markers → AreStanding (slice_set markers k m)
-  stands_set markers k m was there stands all j other at = by (one_or_two j k) where
+  stands_set markers k m was there valid all j other at = by (one_or_two j k) where
     by : (j ≡ k) ⊎ (j ≢ k) → StandsAt plan other.work
     by (inl one) =
         let same : m ≡ other = same_Some m other (sym (marker_set markers k m was there) ∙ ap (slice_get (slice_set markers k m)) (sym one) ∙ at) in
-        subst (λ (o : Marker). StandsAt plan o.work) same stands
+        subst (λ (o : Marker). StandsAt plan o.work) same valid
     by (inr two) = all j other (sym (marker_else markers k j m two) ∙ at)
 
   -- the job of a lawful office's marker is one
   job_there : (e : Exchange) (k n : ℕ) (a : Attempt) → IsLawfulExchange plan e → IsAt e k n a → IsJob a.job
   job_there e k n a law at = (law.sound k n a (actor_at e k n a at)).job
 
-  -- what it is told of its next step answers that step
-  told_fits : (e : Exchange) (k : ℕ) (a : Attempt) → IsLawfulExchange plan e → is_rest (act a) ≡ false →
-      IsAnswerTo (act a) (told_of k e.words a)
+  -- the answer to its next step is of that step's kind
+  told_fits : (e : Exchange) (k : ℕ) (a : Attempt) → IsLawfulExchange plan e → is_finished (act a) ≡ false →
+      IsAnswerTo (act a) (answer_to_step k e.words a)
   told_fits e k a law goes =
-      let acts : act a ≢ Rest = λ rests. let two : true ≡ false = ap is_rest (sym rests) ∙ goes in cc in
+      let acts : act a ≢ Finished = λ rests. let two : true ≡ false = ap is_finished (sym rests) ∙ goes in cc in
       subst (λ (answer : Answer). IsAnswerTo (act a) answer) (sym (answer_is plan k e.words a))
       (answers_fit (office plan) k (act a) (found_by plan e.words a) acts (law.are_words (place (office plan) (act a))))
 
-  pub stands_there : (e : Exchange) (k n : ℕ) (a : Attempt) → IsExchange plan e → IsAt e k n a → Stands plan a
-  stands_there e k n a was at = subst (StandsAt plan) at.work (was.stands k at.marker at.there)
+  pub stands_there : (e : Exchange) (k n : ℕ) (a : Attempt) → IsExchange plan e → IsAt e k n a → IsValid plan a
+  stands_there e k n a was at = subst (StandsAt plan) at.work (was.valid k at.marker at.there)
 
   operated_waits : (a : Attempt) (turn : ℕ) (effects : List Effect) → a.phase ≡ Operates turn → waits_in (operated a effects).phase ≤ 0
   operated_waits a turn [] at = subst (λ (phase : Phase). waits_in phase ≤ 0) (sym at) (omega arith)
@@ -81,15 +83,15 @@ module _ (plan : Tables) where
 
   -- with a turn there is one record more, and one turn less to come
   fewer_in : (k n found : ℕ) (a : Attempt) (phase : Phase) → a.phase ≡ phase → waits_in (changed (office plan) a phase (generic.answer_to (office plan) k (act_in phase a) found)).phase + length (added_in (office plan) k n a phase found) ≤ waits_in phase
-  fewer_in k n found a (Requests conn) at = let most = waits_most (changed (office plan) a (Requests conn) (generic.answer_to (office plan) k (Ask conn) found)).phase in omega (arith, most)
-  fewer_in k n found a (Seizes conn expected) at = let most = waits_most (changed (office plan) a (Seizes conn expected) (generic.answer_to (office plan) k (Take conn expected) found)).phase in omega (arith, most)
+  fewer_in k n found a (Requests conn) at = let most = waits_most (changed (office plan) a (Requests conn) (generic.answer_to (office plan) k (Request conn) found)).phase in omega (arith, most)
+  fewer_in k n found a (Seizes conn expected) at = let most = waits_most (changed (office plan) a (Seizes conn expected) (generic.answer_to (office plan) k (Seize conn expected) found)).phase in omega (arith, most)
   fewer_in k n found a (Tests word) at = let most = waits_most (changed (office plan) a (Tests word) (Value found)).phase in omega (arith, most)
   fewer_in k n found a Turns at = let few = few_recorded k n found a.job a.reply in omega (arith, few)
   fewer_in k n found a (Withdraws conn) at = let most = waits_most (changed (office plan) a (Withdraws conn) Done).phase in omega (arith, most)
   fewer_in k n found a GivesBack at = let most = waits_most (changed (office plan) a GivesBack (generic.answer_to (office plan) k (free_act a.held) found)).phase in omega (arith, most)
   fewer_in k n found a (Operates turn) at = let none = closed_waits k found turn a a.effects a.held at in omega (arith, none)
 
-  pub fewer : (k n : ℕ) (words : List ℕ) (a : Attempt) → waits_in (change (office plan) a (told_of k words a)).phase + length (added_record k n a (told_of k words a)) ≤ waits_in a.phase
+  pub fewer : (k n : ℕ) (words : List ℕ) (a : Attempt) → waits_in (change (office plan) a (answer_to_step k words a)).phase + length (added_record k n a (answer_to_step k words a)) ≤ waits_in a.phase
   fewer k n words a =
       let found : ℕ = found_by plan words a in
       let one = fewer_in k n found a a.phase refl in
@@ -100,29 +102,29 @@ module _ (plan : Tables) where
   module _ (laws : IsLawful plan) where
     -- a step keeps it
     pub kept_stepped : (e : Exchange) (k : ℕ) → IsExchange plan e → IsExchange plan (after_step plan k e)
-    kept_stepped e k was = record { lawful = lawful_stepped plan e k laws was.lawful; stands = stands } where
-      stands : AreStanding (after_step plan k e).markers
-      stands = elim (step_cases plan e k) [
-        | inl same ↦ subst (λ (x : Exchange). AreStanding x.markers) (sym same) was.stands
+    kept_stepped e k was = record { lawful = lawful_stepped plan e k laws was.lawful; valid = valid } where
+      valid : AreStanding (after_step plan k e).markers
+      valid = elim (step_cases plan e k) [
+        | inl same ↦ subst (λ (x : Exchange). AreStanding x.markers) (sym same) was.valid
         | inr made ↦
             let a = made.attempt in
             subst (λ (x : Exchange). AreStanding x.markers) (sym made.is)
             (stands_set e.markers k _ made.at.marker made.at.there
-            (stands_after plan a (told_of k e.words a) laws (job_there e k made.number a was.lawful made.at) (told_fits e k a was.lawful made.goes) (stands_there e k made.number a was made.at)) was.stands)
+            (stands_after plan a (answer_to_step k e.words a) laws (job_there e k made.number a was.lawful made.at) (told_fits e k a was.lawful made.goes) (stands_there e k made.number a was made.at)) was.valid)
       ]
 
     -- so does a marker that is to give back, and begins its job anew
     pub kept_restarted : (k : ℕ) → KeepsRestarts plan (IsExchange plan) k
     kept_restarted k e n a was at = record {
       lawful = restarted_lawful plan laws k e n a was.lawful at;
-      stands = stands_set e.markers k _ at.marker at.there (stands_again plan a laws (job_there e k n a was.lawful at) (stands_there e k n a was at)) was.stands;
+      valid = stands_set e.markers k _ at.marker at.there (stands_again plan a laws (job_there e k n a was.lawful at) (stands_there e k n a was at)) was.valid;
     }
 
     -- and a job that is assigned
     pub kept_assigned : (e : Exchange) (k n : ℕ) (m : Marker) (job : Job) → IsExchange plan e → IsJob job → slice_get e.markers k ≡ Some m → refusal e k job ≡ None → IsExchange plan (with_work k m (Does n (begin_with (first_conn job) job)) e)
     kept_assigned e k n m job was in_range there free = record {
       lawful = subst (IsLawfulExchange plan) (assigned_is e k m there n job) (lawful_assigned plan e k n job laws was.lawful in_range free);
-      stands = stands_set e.markers k _ m there (stands_begun plan job laws in_range) was.stands;
+      valid = stands_set e.markers k _ m there (stands_begun plan job laws in_range) was.valid;
     }
 
   -- a step leaves room for the records to come
@@ -131,8 +133,8 @@ module _ (plan : Tables) where
     | inl same ↦ subst (λ (x : Exchange). HasRoom x room) (sym same) fits
     | inr made ↦
         let a = made.attempt in
-        let after = change (office plan) a (told_of k e.words a) in
-        let size = length-append e.records (added_record k made.number a (told_of k e.words a)) in
+        let after = change (office plan) a (answer_to_step k e.words a) in
+        let size = length-append e.records (added_record k made.number a (answer_to_step k e.words a)) in
         let one = waiting_set e.markers k (record made.at.marker { work = Does made.number after }) made.at.marker made.at.there in
         let was = ap waits made.at.work in
         let less = fewer k made.number e.words a in
@@ -169,7 +171,7 @@ module _ (plan : Tables) where
   pub kept_opened : (kinds : List Kind) → IsLawful plan → length kinds ≤ 48 → IsExchange plan (fresh_exchange kinds)
   kept_opened kinds laws few = record {
     lawful = lawful_opened plan kinds laws few;
-    stands = λ k m there. subst (StandsAt plan) (sym (idle_opened kinds k m there)) tt;
+    valid = λ k m there. subst (StandsAt plan) (sym (idle_opened kinds k m there)) tt;
   }
 
 -- nobody waits for a turn in an office that opens

@@ -1,9 +1,10 @@
 -- an attempt keeps what it holds until it frees it
 use Rattle.std.proofs.Common.{◌≢◌, List, [], ◌∷◌, ◌++◌, inl, inr, sym, ap, subst}
 use Rattle.turns.specs.Among.{IsIn}
-use Rattle.turns.specs.Attempt.{Free, act, act_in, change, changed, closing_act, free_act, freed, operated, rest_of, walks_on}
+use Rattle.turns.specs.Attempt.{act, act_in, change, changed, closing_act, free_act, giving_back, operated, rest_of, walks_on}
+use Rattle.turns.specs.declared.act.Act.TheVariants.{Free}
 use Rattle.turns.specs.declared.answer.Answer.{Answer}
-use Rattle.turns.specs.declared.answer.Answer.TheVariants.{Asked, Seized, Held, Preferred, Again, Value, Turn, Done}
+use Rattle.turns.specs.declared.answer.Answer.TheVariants.{Requested, Seized, Held, Preferred, Changed, Value, Turn, Done}
 use Rattle.turns.specs.declared.phase.Phase.TheVariants.{Requests, Seizes, Tests, Turns, Withdraws, GivesBack, Operates}
 use Rattle.turns.proofs.Lists.{in_front}
 use Rattle.turns.proofs.Sound.{freed_held, walks_held}
@@ -24,22 +25,22 @@ kept_operated a conn [] within other = kept_freed conn a.held within other
 kept_operated a conn (effect ∷ effects) within other = within
 
 module _ (plan : Tables) where
-  kept_back : (a : Attempt) (conn : Conn) (held : List Conn) → IsIn conn held → IsIn conn (freed (office plan) a held).held
+  kept_back : (a : Attempt) (conn : Conn) (held : List Conn) → IsIn conn held → IsIn conn (giving_back (office plan) a held).held
   kept_back a conn held within = subst (IsIn conn) (sym (freed_held (office plan) a held)) within
 
   kept_on : (a : Attempt) (conn : Conn) → IsIn conn a.held → IsIn conn (walks_on (office plan) a).held
   kept_on a conn within = subst (IsIn conn) (sym (walks_held (office plan) a)) within
 
-  -- whatever it is told in whatever phase
+  -- whatever the answer and the phase
   kept_in : (a : Attempt) (phase : Phase) (answer : Answer) (conn : Conn) → IsIn conn a.held → act_in phase a ≢ Free conn → IsIn conn (changed (office plan) a phase answer).held
-  kept_in a (Requests asked) (Asked word) conn within other = within
+  kept_in a (Requests asked) (Requested word) conn within other = within
   kept_in a (Requests asked) (Held holder) conn within other = within
   kept_in a (Requests asked) (Preferred marker) conn within other = within
   kept_in a (Seizes asked expected) Seized conn within other =
       kept_on (record a { held = a.held ++ asked ∷ [] }) conn (in_front conn a.held (asked ∷ []) within)
   kept_in a (Seizes asked expected) (Held holder) conn within other = within
   kept_in a (Seizes asked expected) (Preferred marker) conn within other = within
-  kept_in a (Seizes asked expected) (Again word) conn within other = within
+  kept_in a (Seizes asked expected) (Changed word) conn within other = within
   kept_in a (Tests word) (Value value) conn within other =
       kept_on (record a { readings = a.readings ++ record { word = word; value = value } ∷ [] }) conn within
   kept_in a Turns (Turn number) conn within other = within

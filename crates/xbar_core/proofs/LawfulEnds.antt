@@ -8,7 +8,7 @@ use Rattle.turns.specs.Bounds as bounds
 use Rattle.turns.specs.Law.{FitsIn, IsOperating, IsSound}
 use Rattle.turns.specs.Runs as runs
 use Rattle.turns.specs.Script.{run}
-use Rattle.turns.specs.Runs.{is_rest}
+use Rattle.turns.specs.Runs.{is_finished}
 use Rattle.turns.specs.World.{ActorOf, Does, World}
 use Rattle.turns.specs.declared.phase.Phase.TheVariants.{Operates}
 use Rattle.turns.proofs.AloneEnds.{alone_ends}
@@ -41,7 +41,7 @@ use Rattle.xbar_core.proofs.Stepping.{step_idle}
 use Rattle.xbar_core.proofs.WorldMoves.{has_to_give, steps_in_world}
 use Rattle.xbar_core.proofs.Worlds.{lawful_stepped}
 
--- the place of a connector's word among such words
+-- the place of a connector's word among the connectors' words
 abbrev place_of : Conn → ℕ
 place_of conn = word_number (ConnWord conn) - 416
 
@@ -78,8 +78,8 @@ module _ (plan : Tables) (laws : IsLawful plan) (e : Exchange) (lawful : IsLawfu
 module _ (plan : Tables) where
   -- a marker at an attempt stays at one
   next_at : (e : Exchange) (k number : ℕ) (a : Attempt) → IsAt e k number a → (b : Attempt) × IsAt (after_step plan k e) k number b
-  next_at e k number a at = by (is_rest (act a)) refl where
-    by : (rest : Bool) → is_rest (act a) ≡ rest → (b : Attempt) × IsAt (after_step plan k e) k number b
+  next_at e k number a at = by (is_finished (act a)) refl where
+    by : (rest : Bool) → is_finished (act a) ≡ rest → (b : Attempt) × IsAt (after_step plan k e) k number b
     by true rests = (a, subst (λ (x : Exchange). IsAt x k number a) (sym (step_idle plan e k at.marker at.there (ap is_idle at.work ∙ rests))) at)
     by false goes = (_, gone_on plan e k number a at goes)
 
@@ -102,7 +102,7 @@ module _ (plan : Tables) where
     aside_idle e k number a lawful at bare aside =
         let none : length a.held ≡ 0 = ap (length {A = Conn}) bare in
         let end = alone_ends (office plan) (office_is plan laws) most_readings most_seizings most_effects (jobs_bounded plan laws)
-        (λ w j n b now stands. keeps (office plan) (office_is plan laws) w now j n b stands) k number (world plan e) a most_steps_alone lawful (actor_at e k number a at) aside (omega (arith, none)) in
+        (λ w j n b now valid. keeps (office plan) (office_is plan laws) w now j n b valid) k number (world plan e) a most_steps_alone lawful (actor_at e k number a at) aside (omega (arith, none)) in
         let there = ap (λ (w : World (office plan)). get_elem? w.actors k) (steps_same most_steps_alone e k number a lawful at) ∙ end.1 in
         let found = marker_there (steps plan k most_steps_alone e).markers k end.0 there in
         record { marker = found.marker; there = found.there; idle = ap is_idle found.at ∙ free_idle plan end.0 end.2 }

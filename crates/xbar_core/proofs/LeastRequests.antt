@@ -19,35 +19,35 @@ use Rattle.xbar_core.proofs.Connectors.{tells_truth}
 use Rattle.xbar_core.proofs.Jobs.{one_job}
 use Rattle.xbar_core.proofs.Steps.{has_come}
 
--- whether marker j's request stands in a word
-abbrev stands : ℕ → ℕ → Bool
-stands word j = bit_at word (8 + j) == 1
+-- whether marker j's request is in a word
+abbrev valid : ℕ → ℕ → Bool
+valid word j = bit_at word (8 + j) == 1
 
 -- of the requests from one on, the first is found
-first_least : (word from count other j : ℕ) → first_request word from count ≡ Some other → from ≤ j → j < other → stands word j ≡ true → ⊥
+first_least : (word from count other j : ℕ) → first_request word from count ≡ Some other → from ≤ j → j < other → valid word j ≡ true → ⊥
 first_least word from zero other j found above below set = absurd cc
 first_least word from (suc count) other j found above below set =
-    by (stands word from) refl found (λ later next. first_least word (suc from) count other j later next below set) where
-      by : (b : Bool) → stands word from ≡ b → (if b then Some from else first_request word (suc from) count) ≡ Some other → (first_request word (suc from) count ≡ Some other → suc from ≤ j → ⊥) → ⊥
+    by (valid word from) refl found (λ later next. first_least word (suc from) count other j later next below set) where
+      by : (b : Bool) → valid word from ≡ b → (if b then Some from else first_request word (suc from) count) ≡ Some other → (first_request word (suc from) count ≡ Some other → suc from ≤ j → ⊥) → ⊥
       by true here is later = let one : from ≡ other = cc in omega (arith, one, above, below)
       by false here is later = at (one_or_two from j) where
         at : (from ≡ j) ⊎ (from ≢ j) → ⊥
-        at (inl one) = let both : ◌≡◌ {A = Bool} true false = sym set ∙ ap (stands word) (sym one) ∙ here in cc
+        at (inl one) = let both : ◌≡◌ {A = Bool} true false = sym set ∙ ap (valid word) (sym one) ∙ here in cc
         at (inr two) = later is (omega (arith, two, above))
 
--- so no lower one's stands where a marker is preferred
-request_least : (word k other j : ℕ) (found : Option ℕ) → first_request word 0 k ≡ found → by_request found ≡ judgement.Preferred other → j < other → stands word j ≡ true → ⊥
+-- so if a marker is preferred, no lower one's request is there
+request_least : (word k other j : ℕ) (found : Option ℕ) → first_request word 0 k ≡ found → by_request found ≡ judgement.Preferred other → j < other → valid word j ≡ true → ⊥
 request_least word k other j None is judges below set = absurd cc
 request_least word k other j (Some first) is judges below set = let one : first ≡ other = cc in first_least word 0 k first j is (omega arith) (omega (arith, one, below)) set
 
-judged_least : (word k other j : ℕ) → judged k word ≡ judgement.Preferred other → j < other → stands word j ≡ true → ⊥
+judged_least : (word k other j : ℕ) → judged k word ≡ judgement.Preferred other → j < other → valid word j ≡ true → ⊥
 unfolding judged lower_request
 judged_least word k other j judges below set = by (word % 64) judges where
   by : (holder : ℕ) → by_holder holder (first_request word 0 k) ≡ judgement.Preferred other → ⊥
   by zero is = request_least word k other j (first_request word 0 k) refl is below set
   by (suc holder) is = cc
 
--- the word that was judged has all requests, so no lower one stands for the connector that was asked for
+-- the word that was judged has all requests, so no lower marker has requested the connector
 pub preferred_least : (plan : Tables) (e : Exchange) (k other : ℕ) → IsLawfulExchange plan e → event_at_step plan k e ≡ event.Preferred other → (conn : Conn) → AsksFor e k conn → (j : ℕ) → j < other → ¬ HasRequested e j conn
 preferred_least plan e k other lawful told conn asks j below requests =
     let come = has_come plan e k (event.Preferred other) (λ same. cc) told in

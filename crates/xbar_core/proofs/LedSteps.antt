@@ -1,12 +1,13 @@
 -- the steps that an attempt makes by itself are its marker's next steps in the office
 use Rattle.std.proofs.Common.{◌≡◌, ℕ, zero, suc, ◌+◌, false, List, [], ◌∷◌, ◌++◌, append-nil, arith, refl, sym, ◌∙◌, ap}
 use Rattle.std.specs.Prelude.{Some, slice_get, slice_set}
-use Rattle.turns.specs.Attempt.{IsAnswerTo, Rest, Ask, Take, Leave, Free, Look, Turn, Make, act, change}
-use Rattle.turns.specs.Runs.{is_rest}
+use Rattle.turns.specs.Attempt.{IsAnswerTo, act, change}
+use Rattle.turns.specs.declared.act.Act.TheVariants.{Finished, Request, Seize, Withdraw, Free, Test, Turn, Make}
+use Rattle.turns.specs.Runs.{is_finished}
 use Rattle.turns.specs.World.{Does}
 use Rattle.turns.specs.declared.answer.Answer.{Answer}
 use Rattle.turns.specs.declared.answer.Answer.TheVariants as answer
-use Rattle.attempts.specs.Live.{IsNoTurn, LeadsTo, Moment, stepped, told}
+use Rattle.attempts.specs.WalkOnWords.{IsNoTurn, LeadsTo, Moment, stepped, answer_at}
 use Rattle.xbar_plan.specs.Tables.{Tables}
 use Rattle.xbar_office.specs.declared.reply.Record.{Record}
 use Rattle.xbar_jobs.specs.Attempt.{Act, Attempt, next_step}
@@ -29,35 +30,35 @@ set_again (m ∷ markers) (suc k) first last = ap (λ (all : List Marker). m ∷
 
 module _ (plan : Tables) (k : ℕ) where
   -- at rest there is no step
-  not_rest : (one : Act) → IsNoTurn (office plan) one → is_rest one ≡ false
-  not_rest Rest goes = absurd goes
-  not_rest (Ask conn) goes = refl
-  not_rest (Take conn expected) goes = refl
-  not_rest (Leave conn) goes = refl
+  not_rest : (one : Act) → IsNoTurn (office plan) one → is_finished one ≡ false
+  not_rest Finished goes = absurd goes
+  not_rest (Request conn) goes = refl
+  not_rest (Seize conn expected) goes = refl
+  not_rest (Withdraw conn) goes = refl
   not_rest (Free conn) goes = refl
-  not_rest (Look word) goes = refl
+  not_rest (Test word) goes = refl
   not_rest Turn goes = absurd goes
   not_rest (Make effect) goes = refl
 
   -- and only a turn is answered by one
-  no_record : (number : ℕ) (a : Attempt) (one : Act) (told : Answer) → IsNoTurn (office plan) one → IsAnswerTo one told → added_record k number a told ≡ []
-  no_record number a one (answer.Asked word) goes answers = refl
+  no_record : (number : ℕ) (a : Attempt) (one : Act) (answer_at : Answer) → IsNoTurn (office plan) one → IsAnswerTo one answer_at → added_record k number a answer_at ≡ []
+  no_record number a one (answer.Requested word) goes answers = refl
   no_record number a one answer.Seized goes answers = refl
   no_record number a one (answer.Held holder) goes answers = refl
   no_record number a one (answer.Preferred other) goes answers = refl
-  no_record number a one (answer.Again word) goes answers = refl
+  no_record number a one (answer.Changed word) goes answers = refl
   no_record number a one (answer.Value value) goes answers = refl
   no_record number a one answer.Done goes answers = refl
-  no_record number a Rest (answer.Turn turn) goes answers = absurd goes
-  no_record number a (Ask conn) (answer.Turn turn) goes answers = absurd answers
-  no_record number a (Take conn expected) (answer.Turn turn) goes answers = absurd answers
-  no_record number a (Leave conn) (answer.Turn turn) goes answers = absurd answers
+  no_record number a Finished (answer.Turn turn) goes answers = absurd goes
+  no_record number a (Request conn) (answer.Turn turn) goes answers = absurd answers
+  no_record number a (Seize conn expected) (answer.Turn turn) goes answers = absurd answers
+  no_record number a (Withdraw conn) (answer.Turn turn) goes answers = absurd answers
   no_record number a (Free conn) (answer.Turn turn) goes answers = absurd answers
-  no_record number a (Look word) (answer.Turn turn) goes answers = absurd answers
+  no_record number a (Test word) (answer.Turn turn) goes answers = absurd answers
   no_record number a Turn (answer.Turn turn) goes answers = absurd goes
   no_record number a (Make effect) (answer.Turn turn) goes answers = absurd answers
 
-  -- where its words and the attempt are these, and all else is as in an office
+  -- an office with these words and this attempt of marker k, and all else as before
   abbrev pub with_moment : Exchange → Marker → ℕ → Moment (office plan) → Exchange
   with_moment e m number x = record { words = x.words; markers = slice_set e.markers k (record m { work = Does number x.attempt }); records = e.records }
 
@@ -65,22 +66,22 @@ module _ (plan : Tables) (k : ℕ) where
     abbrev at_moment : (x : Moment (office plan)) → IsAt (with_moment e m number x) k number x.attempt
     at_moment x = record { marker = record m { work = Does number x.attempt }; there = marker_set e.markers k _ was there; work = refl }
 
-    one_led : (x : Moment (office plan)) → IsNoTurn (office plan) (act x.attempt) → IsAnswerTo (act x.attempt) (told (office plan) k x) → after_step plan k (with_moment e m number x) ≡ with_moment e m number (stepped (office plan) k x)
+    one_led : (x : Moment (office plan)) → IsNoTurn (office plan) (act x.attempt) → IsAnswerTo (act x.attempt) (answer_at (office plan) k x) → after_step plan k (with_moment e m number x) ≡ with_moment e m number (stepped (office plan) k x)
     one_led x goes answers =
         let a : Attempt = x.attempt in
         let here : Marker = record m { work = Does number a } in
         step_made plan (with_moment e m number x) k number a (at_moment x) (not_rest (act a) goes)
         ∙ ap (λ (t : Answer). record { words = words_after k (next_step a) x.words; markers = slice_set (slice_set e.markers k here) k (record m { work = Does number (change (office plan) a t) }); records = e.records ++ added_record k number a t }) (answer_is plan k x.words a)
-        ∙ ap (λ (all : List Record). record { words = words_after k (next_step a) x.words; markers = slice_set (slice_set e.markers k here) k (record m { work = Does number (change (office plan) a (told (office plan) k x)) }); records = all }) (ap (λ (more : List Record). e.records ++ more) (no_record number a (act a) (told (office plan) k x) goes answers) ∙ append-nil e.records)
-        ∙ ap (λ (all : List Marker). record { words = words_after k (next_step a) x.words; markers = all; records = e.records }) (set_again e.markers k here (record m { work = Does number (change (office plan) a (told (office plan) k x)) }))
-        ∙ ap (λ (all : List ℕ). record { words = all; markers = slice_set e.markers k (record m { work = Does number (change (office plan) a (told (office plan) k x)) }); records = e.records }) (words_led plan k a x.words)
+        ∙ ap (λ (all : List Record). record { words = words_after k (next_step a) x.words; markers = slice_set (slice_set e.markers k here) k (record m { work = Does number (change (office plan) a (answer_at (office plan) k x)) }); records = all }) (ap (λ (more : List Record). e.records ++ more) (no_record number a (act a) (answer_at (office plan) k x) goes answers) ∙ append-nil e.records)
+        ∙ ap (λ (all : List Marker). record { words = words_after k (next_step a) x.words; markers = all; records = e.records }) (set_again e.markers k here (record m { work = Does number (change (office plan) a (answer_at (office plan) k x)) }))
+        ∙ ap (λ (all : List ℕ). record { words = all; markers = slice_set e.markers k (record m { work = Does number (change (office plan) a (answer_at (office plan) k x)) }); records = e.records }) (words_led plan k a x.words)
 
     all_led : (count : ℕ) (x last : Moment (office plan)) → LeadsTo (office plan) k count x last → steps plan k count (with_moment e m number x) ≡ with_moment e m number last
     unfolding steps LeadsTo
     all_led zero x last leads = ap (with_moment e m number) leads
     all_led (suc count) x last leads = ap (steps plan k count) (one_led x leads.0 leads.1.0) ∙ all_led count (stepped (office plan) k x) last leads.1.1
 
-  -- so many steps of the marker set the words and its attempt, and leave the records
+  -- the marker's steps set the words and its attempt, and leave the records
   pub steps_led : (e : Exchange) (number : ℕ) (a : Attempt) (at : IsAt e k number a) (count : ℕ) (last : Moment (office plan)) → LeadsTo (office plan) k count (record { attempt = a; words = e.words }) last → steps plan k count e ≡ with_moment e at.marker number last
   steps_led e number a at count last leads =
       let here : slice_set e.markers k (record at.marker { work = Does number a }) ≡ e.markers = ap (λ (w : Work). slice_set e.markers k (record at.marker { work = w })) (sym at.work) ∙ marker_same e.markers k at.marker at.there in
@@ -101,7 +102,7 @@ module _ (plan : Tables) (k : ℕ) where
       ∙ ap (λ (x : Marker). record { words = words; markers = slice_set e.markers k (record { kind = x.kind; work = Does number after }); records = e.records }) (sym is)
       ∙ sym (steps_led e number a at count (record { attempt = after; words = words }) leads)
 
-  -- and where nothing is made
+  -- without a step nothing changes
   pub marker_rests : (e : Exchange) (m same : Marker) → slice_get e.markers k ≡ Some m → same ≡ m → record { words = e.words; markers = slice_set e.markers k same; records = e.records } ≡ steps plan k 0 e
   unfolding steps
   marker_rests e m same there is = ap (λ (all : List Marker). record { words = e.words; markers = all; records = e.records }) (ap (slice_set e.markers k) is ∙ marker_same e.markers k m there)

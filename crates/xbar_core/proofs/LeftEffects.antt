@@ -18,7 +18,7 @@ use Rattle.xbar_jobs.specs.Office.{office}
 use Rattle.xbar_jobs.specs.declared.effect.Effect.{Effect}
 use Rattle.xbar_jobs.specs.declared.effect.Effect.TheVariants.{Close, Open, SetBit, ClearBit}
 
--- two crosspoints stand at one field, or not
+-- two crosspoints are at one field, or not
 one_field : (c d : Crosspoint) → ((c.word ≡ d.word) × (c.field ≡ d.field)) ⊎ (c.word ≡ d.word → c.field ≢ d.field)
 one_field c d = elim (cases_eq c.word d.word) [
   | inl word ↦ elim (cases_eq c.field d.field) [ inl field ↦ inl (word, field) | inr other ↦ inr (λ same. other) ]
@@ -83,7 +83,7 @@ module _ (plan : Tables) (c : Crosspoint) (below : c.word < 400) (range : c.fiel
   ]
 
 module _ (plan : Tables) (n v : ℕ) (range : v < 10) where
-  -- once crosspoints are opened, a field is 0, or it is as it was and none of them stands there
+  -- once crosspoints are opened, a field is 0, or it is as it was and none of them is there
   abbrev pub IsSpared : List Crosspoint → ℕ → Type 0
   IsSpared cs word =
       (field_of (shape_at n) (made_of (map Open cs) n word) v ≡ 0)

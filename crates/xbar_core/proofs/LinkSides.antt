@@ -1,4 +1,4 @@
--- which crosspoints stand at a link, and of which paths they are
+-- which crosspoints are at a link, and of which paths they are
 use Rattle.std.proofs.Common.{◌≡◌, ℕ, inl, inr, refl, sym, ◌∙◌, ap, subst, arith}
 use Rattle.turns.specs.Among.{IsIn}
 use Rattle.xbar_equip.specs.Crosspoint.{crosspoints}
@@ -133,6 +133,6 @@ module _ (p q : Path) (link : Link) (c : Crosspoint) (has : HasLink q link) wher
   words_of (inr (inr (inr (inr (inr (inl e)))))) = on_same _ e (place_words p q (trunk_linked p q (has_same _ e)))
   words_of (inr (inr (inr (inr (inr (inr none)))))) = absurd none
 
--- and a path that has a link has a crosspoint on each word at which one stands there
+-- and a path that has a link has a crosspoint on each word that has one at the link
 pub word_at_link : (link : Link) (c : Crosspoint) (q : Path) → IsAtLink link c → HasLink q link → HasOnWord q c.word
 word_at_link link c q at has = words_of at.path q link c has at.joins

@@ -54,7 +54,7 @@ rest_idle first now k count left within so_far idle =
       by None none = let size = so_far.size in absurd (none_within now.exchange.markers k (omega arith) none)
       by (Some m) there = steps_idle first.plan k left now.exchange m there (sym (idle m there))
 
--- where none was made nothing has changed
+-- if no step was made, nothing has changed
 pub none_ran : (first now : OfPlan) (k made : ℕ) → made ≤ 0 → now ≡ record first { exchange = steps first.plan k made first.exchange } → now ≡ first
 unfolding steps
 none_ran first now k made none is = let zero_made : made ≡ 0 = omega arith in is ∙ ap (λ (n : ℕ). record first { exchange = steps first.plan k n first.exchange }) zero_made
@@ -64,7 +64,7 @@ pub one_made : (first now next : OfPlan) (k : ℕ) → now ≡ first → next �
 unfolding steps
 one_made first now next k same is = is ∙ ap (λ (o : OfPlan). record o { exchange = after_step o.plan k o.exchange }) same
 
--- so many markers were changed
+-- the first `made` markers were changed
 pub record AreChanged (change : Tables → ℕ → Exchange → Exchange) (first now : OfPlan) (made : ℕ) : Type 0 where
   pub plan : now.plan ≡ first.plan
   pub size : length now.exchange.markers ≡ length first.exchange.markers

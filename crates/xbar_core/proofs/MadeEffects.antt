@@ -1,9 +1,10 @@
--- where markers past their turns have no effect left, the words show the set after the records as they are
+-- if markers past their turns have no effect left, the words show the set after the records as
+-- they are
 use Rattle.std.proofs.Common.{◌≡◌, ◌≢◌, ◌⊎◌, ℕ, suc, List, [], ◌∷◌, inl, inr, ◌∙◌, ap, refl, subst}
 use mathlib.Core.Option.{some}
 use lib.ListN.{get_elem?}
-use Rattle.turns.specs.Attempt.{left_in}
-use Rattle.turns.specs.World.{Idle, Does, completed_from, completed_word, left_of, value_after}
+use Rattle.turns.specs.Attempt.{effects_left_in}
+use Rattle.turns.specs.World.{Idle, Does, completed_from, completed_word, effects_left_of, value_after}
 use Rattle.turns.specs.declared.phase.Phase.TheVariants.{Requests, Seizes, Tests, Turns, Withdraws, GivesBack, Operates}
 use Rattle.turns.proofs.Completed.{all_spare}
 use Rattle.xbar_plan.specs.Tables.{Tables}
@@ -22,7 +23,7 @@ abbrev pub AreMade : Exchange → Type 0
 AreMade e = (k number turn : ℕ) (a : Attempt) → IsAt e k number a → a.phase ≡ Operates turn → a.effects ≡ []
 
 -- a phase is past the turn, or no effect is left in it
-pub past_or_not : (phase : Phase) (effects : List Effect) → ((turn : ℕ) × (phase ≡ Operates turn)) ⊎ ((left_in phase effects ≡ []) × ((turn : ℕ) → phase ≢ Operates turn))
+pub past_or_not : (phase : Phase) (effects : List Effect) → ((turn : ℕ) × (phase ≡ Operates turn)) ⊎ ((effects_left_in phase effects ≡ []) × ((turn : ℕ) → phase ≢ Operates turn))
 past_or_not (Operates turn) effects = inl (turn, refl)
 past_or_not (Requests conn) effects = inr (refl, λ turn same. cc)
 past_or_not (Seizes conn expected) effects = inr (refl, λ turn same. cc)
@@ -31,15 +32,15 @@ past_or_not Turns effects = inr (refl, λ turn same. cc)
 past_or_not (Withdraws conn) effects = inr (refl, λ turn same. cc)
 past_or_not GivesBack effects = inr (refl, λ turn same. cc)
 
-none_in : (phase : Phase) (effects : List Effect) → ((turn : ℕ) → phase ≡ Operates turn → effects ≡ []) → left_in phase effects ≡ []
+none_in : (phase : Phase) (effects : List Effect) → ((turn : ℕ) → phase ≡ Operates turn → effects ≡ []) → effects_left_in phase effects ≡ []
 none_in phase effects none = elim (past_or_not phase effects) [
-  | inl past ↦ ap (λ (phase : Phase). left_in phase effects) past.1 ∙ none past.0 past.1
+  | inl past ↦ ap (λ (phase : Phase). effects_left_in phase effects) past.1 ∙ none past.0 past.1
   | inr waits ↦ waits.0
 ]
 
 module _ (plan : Tables) where
   abbrev NoneLeft : List Work → Type 0
-  NoneLeft actors = (j : ℕ) (work : Work) → get_elem? actors j ≡ some work → left_of (office plan) work ≡ []
+  NoneLeft actors = (j : ℕ) (work : Work) → get_elem? actors j ≡ some work → effects_left_of (office plan) work ≡ []
 
   -- so nothing is to be completed
   word_made : (actors : List Work) (word value : ℕ) → NoneLeft actors → completed_word (office plan) actors word value ≡ value

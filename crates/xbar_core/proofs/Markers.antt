@@ -10,7 +10,7 @@ use Rattle.xbar_jobs.specs.Attempt.{Phase}
 use Rattle.xbar_core.specs.Exchange.{Marker, Work}
 use Rattle.xbar_core.specs.Standing.{waiting, waits, waits_in}
 
--- the marker that an item of a list of actors stands for
+-- the marker that an item of a list of actors is
 pub record StandsFor (markers : List Marker) (k : ℕ) (work : Work) : Type 0 where
   pub marker : Marker
   pub there : slice_get markers k ≡ Some marker

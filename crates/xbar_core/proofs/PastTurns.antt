@@ -4,8 +4,9 @@ use Rattle.std.specs.Prelude.{◌==◌, cond, Option, Some, None, slice_get}
 use Rattle.std.proofs.lemmas.Bool.{eqb-true}
 use Rattle.std.proofs.lemmas.List.Sums.{sum_by-cons}
 use Rattle.turns.specs.Attempt as generic
-use Rattle.turns.specs.Attempt.{Free, Rest, act, act_in, change, changed, closing_act, operated, restarted, restarted_in}
-use Rattle.turns.specs.Runs.{is_rest}
+use Rattle.turns.specs.Attempt.{act, act_in, change, changed, closing_act, operated, restarted, restarted_in}
+use Rattle.turns.specs.declared.act.Act.TheVariants.{Free, Finished}
+use Rattle.turns.specs.Runs.{is_finished}
 use Rattle.turns.specs.World.{Does}
 use Rattle.turns.specs.declared.answer.Answer.TheVariants.{Done}
 use Rattle.turns.specs.declared.phase.Phase.TheVariants.{Operates}
@@ -17,7 +18,7 @@ use Rattle.xbar_office.specs.declared.job.Job.{Job}
 use Rattle.xbar_jobs.specs.Attempt.{Act, Attempt, Phase}
 use Rattle.xbar_jobs.specs.Office.{office}
 use Rattle.xbar_jobs.specs.declared.effect.Effect.{Effect}
-use Rattle.xbar_core.specs.AtWork.{told_of}
+use Rattle.xbar_core.specs.AtWork.{answer_to_step}
 use Rattle.xbar_core.specs.Ends.{ComesToEnd, is_step_of, own_steps}
 use Rattle.xbar_core.specs.Exchange.{Exchange, is_idle}
 use Rattle.xbar_core.specs.Holding.{IsAt}
@@ -39,7 +40,7 @@ module _ (plan : Tables) (e : Exchange) (k number turn : ℕ) (a : Attempt) (con
       ap (λ (phase : Phase). act_in phase a) past
       ∙ (λ i. closing_act (none i) (first i))
 
-  others_held : change (office plan) a (told_of k e.words a) ≡ record a { held = held }
+  others_held : change (office plan) a (answer_to_step k e.words a) ≡ record a { held = held }
   others_held =
       ap (change (office plan) a) (answer_is plan k e.words a ∙ ap (λ (next : Act). generic.answer_to (office plan) k next (found_by plan e.words a)) frees_first)
       ∙ ap (λ (phase : Phase). changed (office plan) a phase Done) past
@@ -48,16 +49,16 @@ module _ (plan : Tables) (e : Exchange) (k number turn : ℕ) (a : Attempt) (con
 
   -- and then it holds the others
   frees_one : IsAt (after_step plan k e) k number (record a { held = held })
-  frees_one = subst (IsAt (after_step plan k e) k number) others_held (gone_on plan e k number a at (ap (λ (next : Act). is_rest next) frees_first))
+  frees_one = subst (IsAt (after_step plan k e) k number) others_held (gone_on plan e k number a at (ap (λ (next : Act). is_finished next) frees_first))
 
 -- with nothing left, an attempt past its turn is at rest
-none_rests : (effects : List Effect) (held : List Conn) → length effects + length held ≤ 0 → closing_act effects held ≡ Rest
+none_rests : (effects : List Effect) (held : List Conn) → length effects + length held ≤ 0 → closing_act effects held ≡ Finished
 none_rests [] [] few = refl
 none_rests [] (conn ∷ held) few = absurd (omega arith)
 none_rests (effect ∷ effects) held few = absurd (omega arith)
 
 module _ (plan : Tables) (k number turn : ℕ) (job : Job) where
-  -- marker k is past its turn at this job, with no more than so much left of it
+  -- marker k is past its turn at this job, with at most `left` effects and connectors left
   record HasLeft (left : ℕ) (e : Exchange) : Type 0 where
     pub attempt : Attempt
     pub at : IsAt e k number attempt
@@ -87,8 +88,8 @@ module _ (plan : Tables) (k number turn : ℕ) (job : Job) where
     less_by [] [] these those =
         let none : length a.effects ≡ 0 = ap (length {A = Effect}) these in
         let bare : length a.held ≡ 0 = ap (length {A = Conn}) those in
-        let rests : act a ≡ Rest = ap (λ (phase : Phase). act_in phase a) has.past ∙ (λ i. closing_act (these i) (those i)) in
-        subst (HasLeft (left - 1)) (sym (step_idle plan e k has.at.marker has.at.there (ap is_idle has.at.work ∙ ap (λ (next : Act). is_rest next) rests)))
+        let rests : act a ≡ Finished = ap (λ (phase : Phase). act_in phase a) has.past ∙ (λ i. closing_act (these i) (those i)) in
+        subst (HasLeft (left - 1)) (sym (step_idle plan e k has.at.marker has.at.there (ap is_idle has.at.work ∙ ap (λ (next : Act). is_finished next) rests)))
         (record { attempt = a; at = has.at; past = has.past; job_is = has.job_is; few = omega (arith, none, bare) })
     less_by [] (conn ∷ held) these those =
         let none : length a.effects ≡ 0 = ap (length {A = Effect}) these in
@@ -136,7 +137,7 @@ module _ (plan : Tables) (k number turn : ℕ) (job : Job) where
     by (inr two) = same_left left e after (marker_else e.markers j k _ two) has
 
   -- no job is assigned to a marker that has something left
-  assigned_keeps : (left : ℕ) (e : Exchange) (j n : ℕ) (new : Job) (has : HasLeft left e) → is_rest (act has.attempt) ≡ false → (why : Option AssignFault) → refusal e j new ≡ why → HasLeft left (unless_refused why (assigned j n new e) e)
+  assigned_keeps : (left : ℕ) (e : Exchange) (j n : ℕ) (new : Job) (has : HasLeft left e) → is_finished (act has.attempt) ≡ false → (why : Option AssignFault) → refusal e j new ≡ why → HasLeft left (unless_refused why (assigned j n new e) e)
   assigned_keeps left e j n new has goes (Some fault) refused = has
   assigned_keeps left e j n new has goes None free = by (one_or_two k j) where
     busy : refusal e k new ≡ None → ⊥
@@ -152,7 +153,7 @@ module _ (plan : Tables) (k number turn : ℕ) (job : Job) where
     by (inr two) = same_left left e (assigned j n new e) (other two) has
 
   -- by a step of it there is one thing less, and by any other move no more
-  move_less : (left rest : ℕ) (e : Exchange) (move : Move) (has : HasLeft left e) → is_rest (act has.attempt) ≡ false → left ≤ cond (is_step_of k move) 1 0 + rest → HasLeft rest (after_move plan e move)
+  move_less : (left rest : ℕ) (e : Exchange) (move : Move) (has : HasLeft left e) → is_finished (act has.attempt) ≡ false → left ≤ cond (is_step_of k move) 1 0 + rest → HasLeft rest (after_move plan e move)
   move_less left rest e (Assigns j n new) has goes few = more_left left rest _ (omega arith) (assigned_keeps left e j n new has goes (refusal e j new) refl)
   move_less left rest e (Steps j) has goes few = by (j == k) refl few where
     by : (own : Bool) → (j == k) ≡ own → left ≤ cond own 1 0 + rest → HasLeft rest (after_step plan j e)
@@ -163,7 +164,7 @@ module _ (plan : Tables) (k number turn : ℕ) (job : Job) where
   move_less left rest e Settles has goes few = more_left left rest _ (omega arith) (settled_keeps plan (HasLeft left) (step_keeps left) (restart_keeps left) e has)
 
   -- with no more left than its steps to come, it comes to its end
-  ended_now : (left : ℕ) (e : Exchange) (moves : List Move) (has : HasLeft left e) → act has.attempt ≡ Rest → ComesToEnd plan e moves k number turn job
+  ended_now : (left : ℕ) (e : Exchange) (moves : List Move) (has : HasLeft left e) → act has.attempt ≡ Finished → ComesToEnd plan e moves k number turn job
   ended_now left e moves has rests = record { before = []; later = moves; split = refl; ended = has.attempt; there = has.at; phase = has.past; job_is = has.job_is; rests = rests }
 
   comes_to_end : (left : ℕ) (e : Exchange) (moves : List Move) → HasLeft left e → left ≤ own_steps k moves → ComesToEnd plan e moves k number turn job
@@ -172,12 +173,12 @@ module _ (plan : Tables) (k number turn : ℕ) (job : Job) where
       ended_now left e [] has (ap (λ (phase : Phase). act_in phase has.attempt) has.past ∙ none_rests has.attempt.effects has.attempt.held (omega (arith, none, few)))
   comes_to_end left e (move ∷ moves) has few =
       let more = sum_by-cons (λ (m : Move). cond (is_step_of k m) 1 0) move moves in
-      by (is_rest (act has.attempt)) refl
+      by (is_finished (act has.attempt)) refl
       (λ goes. comes_to_end (own_steps k moves) (after_move plan e move) moves (move_less left (own_steps k moves) e move has goes (omega (arith, more, few))) (omega arith)) where
         later : ComesToEnd plan (after_move plan e move) moves k number turn job → ComesToEnd plan e (move ∷ moves) k number turn job
         later end = record { before = move ∷ end.before; later = end.later; split = ap (λ (all : List Move). move ∷ all) end.split; ended = end.ended; there = end.there; phase = end.phase; job_is = end.job_is; rests = end.rests }
 
-        by : (rest : Bool) → is_rest (act has.attempt) ≡ rest → (is_rest (act has.attempt) ≡ false → ComesToEnd plan (after_move plan e move) moves k number turn job) → ComesToEnd plan e (move ∷ moves) k number turn job
+        by : (rest : Bool) → is_finished (act has.attempt) ≡ rest → (is_finished (act has.attempt) ≡ false → ComesToEnd plan (after_move plan e move) moves k number turn job) → ComesToEnd plan e (move ∷ moves) k number turn job
         by true rests end = ended_now left e (move ∷ moves) has (rest_is (act has.attempt) rests)
         by false goes end = later (end goes)
 

@@ -3,9 +3,10 @@ use Rattle.std.proofs.Common.{◌≡◌, ℕ, ◌<◌, false, List, [], ◌∷�
 use Rattle.std.specs.Prelude.{Option, Some}
 use Rattle.turns.specs.Among.{IsIn}
 use Rattle.turns.specs.Attempt as generic
-use Rattle.turns.specs.Attempt.{HasDecided, Make, StandsIn, act, act_in, change, changed, closing_act, left_in, operated, read_in}
+use Rattle.turns.specs.Attempt.{HasDecided, IsValidIn, act, act_in, change, changed, closing_act, effects_left_in, operated, read_in}
+use Rattle.turns.specs.declared.act.Act.TheVariants.{Make}
 use Rattle.turns.specs.Law.{IsSound}
-use Rattle.turns.specs.Runs.{is_rest}
+use Rattle.turns.specs.Runs.{is_finished}
 use Rattle.turns.specs.Seen.{AreReadFrom}
 use Rattle.turns.specs.System.{perform_all}
 use Rattle.turns.specs.World.{Does, becomes, value_after as worlds_made, place}
@@ -27,7 +28,7 @@ use Rattle.xbar_jobs.specs.Opening.{ReleasesJust}
 use Rattle.xbar_jobs.specs.declared.effect.Effect.{Effect}
 use Rattle.xbar_jobs.proofs.OfficeSystem.{office_is}
 use Rattle.xbar_jobs.proofs.ReleasedWords.{a_release_opens_just_its_call}
-use Rattle.xbar_core.specs.AtWork.{told_of}
+use Rattle.xbar_core.specs.AtWork.{answer_to_step}
 use Rattle.xbar_core.specs.Exchange.{Exchange, IsLawfulExchange, world}
 use Rattle.xbar_core.specs.Holding.{IsAt, completed}
 use Rattle.xbar_core.specs.Moves.{after_answer, after_step}
@@ -42,7 +43,7 @@ module _ (plan : Tables) (laws : IsLawful plan) (e : Exchange) (lawful : IsLawfu
 
   -- just before its turn a marker has decided
   decided : HasDecided (office plan) a
-  decided = subst (StandsIn (office plan) a) turns sound.stands
+  decided = subst (IsValidIn (office plan) a) turns sound.valid
 
   -- as many words are completed as there are
   completed_size : length (completed plan e) ≡ 453
@@ -57,7 +58,7 @@ module _ (plan : Tables) (laws : IsLawful plan) (e : Exchange) (lawful : IsLawfu
       let counts : IsIn r (read_in a.phase a.readings) = subst (λ (phase : Phase). IsIn r (read_in phase a.readings)) (sym turns) within in
       let read = sound.read r counts in
       let below = subst (λ (size : ℕ). r.word < size) (sym lawful.size) (system.words.word_there r.word read.under.lock read.under.protects) in
-      let nothing : worlds_made (office plan) (left_in a.phase a.effects) r.word (slice_index e.words r.word) ≡ slice_index e.words r.word = ap (λ (phase : Phase). worlds_made (office plan) (left_in phase a.effects) r.word (slice_index e.words r.word)) turns in
+      let nothing : worlds_made (office plan) (effects_left_in a.phase a.effects) r.word (slice_index e.words r.word) ≡ slice_index e.words r.word = ap (λ (phase : Phase). worlds_made (office plan) (effects_left_in phase a.effects) r.word (slice_index e.words r.word)) turns in
       completed_index (office plan) w r.word below
       ∙ only_one (office plan) w.actors k r.word (slice_index e.words r.word) (Does number a) there (others_spare (office plan) system w lawful k number a there r.word read.under)
       ∙ nothing ∙ read.value
@@ -73,10 +74,10 @@ module _ (plan : Tables) (e : Exchange) (k number turn : ℕ) (a : Attempt) (eff
   makes_first : act a ≡ Make effect
   makes_first = ap (λ (phase : Phase). act_in phase a) past ∙ ap (λ (some : List Effect). closing_act some a.held) left
 
-  goes_on : is_rest (act a) ≡ false
-  goes_on = ap (λ (next : Act). is_rest next) makes_first
+  goes_on : is_finished (act a) ≡ false
+  goes_on = ap (λ (next : Act). is_finished next) makes_first
 
-  is_stepped : after_step plan k e ≡ after_answer plan k at.marker number a (told_of k e.words a) e
+  is_stepped : after_step plan k e ≡ after_answer plan k at.marker number a (answer_to_step k e.words a) e
   is_stepped = step_made plan e k number a at goes_on
 
   -- on its word, and on no other
@@ -88,10 +89,10 @@ module _ (plan : Tables) (e : Exchange) (k number turn : ℕ) (a : Attempt) (eff
       ∙ ap (λ (next : Act). slice_set e.words (place (office plan) next) (becomes (office plan) k next (slice_index e.words (place (office plan) next)))) makes_first
 
   -- and then the others are left
-  told_done : told_of k e.words a ≡ Done
+  told_done : answer_to_step k e.words a ≡ Done
   told_done = answer_is plan k e.words a ∙ ap (λ (next : Act). generic.answer_to (office plan) k next (slice_index e.words (place (office plan) next))) makes_first
 
-  others_left : change (office plan) a (told_of k e.words a) ≡ record a { effects = effects }
+  others_left : change (office plan) a (answer_to_step k e.words a) ≡ record a { effects = effects }
   others_left =
       ap (change (office plan) a) told_done
       ∙ ap (λ (phase : Phase). changed (office plan) a phase Done) past

@@ -6,7 +6,7 @@ use mathlib.Core.Option.{some}
 use lib.ListN.{get_elem?}
 use Rattle.turns.specs.Attempt.{act, begin_with, turn_in}
 use Rattle.turns.specs.Bounds.{IsAside}
-use Rattle.turns.specs.Runs.{is_rest}
+use Rattle.turns.specs.Runs.{is_finished}
 use Rattle.turns.specs.World.{ActorOf, Idle, Does}
 use Rattle.turns.specs.declared.phase.Phase.TheVariants.{Operates}
 use Rattle.turns.proofs.Lists.{one_or_two}
@@ -60,7 +60,7 @@ record IsPastAt (e : Exchange) (k : ℕ) : Type 0 where
   pub past : attempt.phase ≡ Operates turn
 
 module _ (e : Exchange) (k : ℕ) where
-  -- a marker past its turn is at such an attempt
+  -- a marker past its turn is at an attempt that is
   past_at : IsPast e k → IsPastAt e k
   past_at = at_job_has (λ what. what ≡ given.PastTurn → IsPastAt e k) given.Idle (λ m n a. given_by (Does n a)) e k (λ past. absurd cc)
       (λ n a at past. by n a at (turn_in a.phase) refl (subst (Answers (Does n a)) past (answers (Does n a))).1) where
@@ -81,8 +81,8 @@ module _ (e : Exchange) (k : ℕ) where
 
     -- any other is left alone
     past_alone : ¬ IsPast e k → ended_past_turn plan k e ≡ e
-    past_alone not = at_job_has (λ x. x ≡ e) e (λ m n a. ended_if (is_some (turn_in a.phase))) e k refl (λ n a at. by n a at (is_some (turn_in a.phase)) (is_rest (act a)) refl refl) where
-      by : (n : ℕ) (a : Attempt) (at : IsAt e k n a) (past rest : Bool) → is_some (turn_in a.phase) ≡ past → is_rest (act a) ≡ rest → ended_if past ≡ e
+    past_alone not = at_job_has (λ x. x ≡ e) e (λ m n a. ended_if (is_some (turn_in a.phase))) e k refl (λ n a at. by n a at (is_some (turn_in a.phase)) (is_finished (act a)) refl refl) where
+      by : (n : ℕ) (a : Attempt) (at : IsAt e k n a) (past rest : Bool) → is_some (turn_in a.phase) ≡ past → is_finished (act a) ≡ rest → ended_if past ≡ e
       by n a at false rest is goes = refl
       by n a at true true is rests = steps_idle plan k most_steps_alone e at.marker at.there (ap is_idle at.work ∙ rests)
       by n a at true false is goes =
@@ -111,7 +111,7 @@ module _ (plan : Tables) (laws : IsLawful plan) where
   past_lawful k e lawful = past_turn_keeps plan (IsLawfulExchange plan) k (λ x is. lawful_stepped plan x k laws is) e lawful
 
   module _ (n : ℕ) where
-    -- a lawful office of so many markers, of which all have this
+    -- a lawful office of `n` markers, all of which have this
     record IsOffice (Done : Work → Type 0) (e : Exchange) : Type 0 where
       pub lawful : IsLawfulExchange plan e
       pub size : length e.markers ≡ n
@@ -127,7 +127,7 @@ module _ (plan : Tables) (laws : IsLawful plan) where
       by (inl one) = does m (subst (λ (i : ℕ). slice_get after.markers i ≡ Some m) one there)
       by (inr two) = all j m (sym (others j two) ∙ there)
 
-    -- what so many steps of a marker keep
+    -- an office after a number of steps of a marker
     record AreSteps (k : ℕ) (before after : Exchange) : Type 0 where
       pub count : ℕ
       pub is : after ≡ steps plan k count before

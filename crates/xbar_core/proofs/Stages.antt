@@ -20,7 +20,7 @@ pub record IsStage (Makes : ℕ → Exchange → Exchange → Type 0) (Has : Exc
   pub does : (k : ℕ) (before after : Exchange) (m : Marker) → Makes k before after → Has before → slice_get after.markers k ≡ Some m → Done m.work
 
 module _ (Makes : ℕ → Exchange → Exchange → Type 0) where
-  -- where each makes but one office of another, so do they all
+  -- if each marker leads to only one office, so do they all
   each_one : ((k : ℕ) (before one other : Exchange) → Makes k before one → Makes k before other → one ≡ other) → (count : ℕ) (before one other : Exchange) → EachMakes Makes count before one → EachMakes Makes count before other → one ≡ other
   each_one alone zero before one other this that = this ∙ sym that
   each_one alone (suc k) before one other this that =
@@ -38,7 +38,7 @@ module _ (Makes : ℕ → Exchange → Exchange → Type 0) where
     each_keeps zero before after made has = subst Has (sym made) has
     each_keeps (suc k) before after made has = stage.keeps k made.0 after made.2 (each_keeps k before made.0 made.1 has)
 
-    -- once so many have made it, these have it
+    -- once `count` markers have made the stage, these have this
     pub each_does : (count : ℕ) (before after : Exchange) → EachMakes Makes count before after → Has before → (j : ℕ) (m : Marker) → j < count → slice_get after.markers j ≡ Some m → Done m.work
     each_does zero before after made has j m below there = absurd (omega arith)
     each_does (suc k) before after made has j m below there = by (one_or_two j k) (λ less at. each_does k before made.0 made.1 has j m less at) where
@@ -55,7 +55,7 @@ past_or_not e k = by (given_at e k) refl where
   by given.Idle is = inr (λ past. let two : ◌≡◌ {A = Given} given.Idle given.PastTurn = sym is ∙ past in cc)
 
 module _ (plan : Tables) where
-  -- where marker k is idle, its steps change nothing
+  -- if marker k is idle, its steps change nothing
   step_still : (k : ℕ) (e : Exchange) → ((m : Marker) → slice_get e.markers k ≡ Some m → is_idle m.work ≡ true) → after_step plan k e ≡ e
   step_still k e idle = elim (step_cases plan e k) [
     | inl same ↦ same
@@ -67,7 +67,7 @@ module _ (plan : Tables) where
   steps_still k zero e idle = refl
   steps_still k (suc count) e idle = ap (steps plan k count) (step_still k e idle) ∙ steps_still k count e idle
 
-  -- so many steps and then so many more
+  -- a number of steps, and then a number of more
   steps_more : (k one more : ℕ) (e : Exchange) → steps plan k (one + more) e ≡ steps plan k more (steps plan k one e)
   unfolding steps
   steps_more k zero more e = let none : 0 + more ≡ more = omega arith in ap (λ (n : ℕ). steps plan k n e) none

@@ -2,13 +2,13 @@
 use Rattle.std.proofs.Common.{◌≡◌, ◌≢◌, ℕ, ◌⊎◌, Bool, true, false, length, length-set, inl, inr, refl, sym, ap, subst, ◌∙◌}
 use Rattle.std.specs.Prelude.{if◌then◌else◌, slice_get}
 use Rattle.turns.specs.Attempt.{act, change}
-use Rattle.turns.specs.Runs.{is_rest}
+use Rattle.turns.specs.Runs.{is_finished}
 use Rattle.turns.specs.World.{Does}
 use Rattle.turns.specs.declared.answer.Answer.{Answer}
 use Rattle.xbar_plan.specs.Tables.{Tables}
 use Rattle.xbar_jobs.specs.Attempt.{Attempt}
 use Rattle.xbar_jobs.specs.Office.{office}
-use Rattle.xbar_core.specs.AtWork.{told_of}
+use Rattle.xbar_core.specs.AtWork.{answer_to_step}
 use Rattle.xbar_core.specs.Exchange.{Exchange, Marker}
 use Rattle.xbar_core.specs.Holding.{IsAt}
 use Rattle.xbar_core.specs.Moves.{after_answer, after_step}
@@ -20,31 +20,31 @@ pub record IsMade (plan : Tables) (e : Exchange) (k : ℕ) (after : Exchange) : 
   pub number : ℕ
   pub attempt : Attempt
   pub at : IsAt e k number attempt
-  pub goes : is_rest (act attempt) ≡ false
-  pub is : after ≡ after_answer plan k at.marker number attempt (told_of k e.words attempt) e
+  pub goes : is_finished (act attempt) ≡ false
+  pub is : after ≡ after_answer plan k at.marker number attempt (answer_to_step k e.words attempt) e
 
 module _ (plan : Tables) (e : Exchange) (k : ℕ) where
   -- nothing is made by an idle marker
   abbrev pub made_if : Bool → Marker → ℕ → Attempt → Exchange
-  made_if idle m n a = if idle then e else after_answer plan k m n a (told_of k e.words a) e
+  made_if idle m n a = if idle then e else after_answer plan k m n a (answer_to_step k e.words a) e
 
   pub step_cases : (after_step plan k e ≡ e) ⊎ IsMade plan e k (after_step plan k e)
   unfolding after_step
-  step_cases = at_job_has Cases e (λ m n a. made_if (is_rest (act a)) m n a) e k (inl refl) (λ n a at. by n a at (is_rest (act a)) refl) where
+  step_cases = at_job_has Cases e (λ m n a. made_if (is_finished (act a)) m n a) e k (inl refl) (λ n a at. by n a at (is_finished (act a)) refl) where
     Cases : Exchange → Type 0
     Cases after = (after ≡ e) ⊎ IsMade plan e k after
 
-    by : (n : ℕ) (a : Attempt) (at : IsAt e k n a) (idle : Bool) → is_rest (act a) ≡ idle → Cases (made_if idle at.marker n a)
+    by : (n : ℕ) (a : Attempt) (at : IsAt e k n a) (idle : Bool) → is_finished (act a) ≡ idle → Cases (made_if idle at.marker n a)
     by n a at true rest = inl refl
     by n a at false rest = inr (record { number = n; attempt = a; at = at; goes = rest; is = refl })
 
   -- the step of an attempt
-  pub step_at : (n : ℕ) (a : Attempt) (at : IsAt e k n a) → after_step plan k e ≡ made_if (is_rest (act a)) at.marker n a
+  pub step_at : (n : ℕ) (a : Attempt) (at : IsAt e k n a) → after_step plan k e ≡ made_if (is_finished (act a)) at.marker n a
   unfolding after_step
-  step_at n a at = at_job_is e (λ m i b. made_if (is_rest (act b)) m i b) e k n a at
+  step_at n a at = at_job_is e (λ m i b. made_if (is_finished (act b)) m i b) e k n a at
 
   -- and of one of which something is left
-  pub step_made : (n : ℕ) (a : Attempt) (at : IsAt e k n a) → is_rest (act a) ≡ false → after_step plan k e ≡ after_answer plan k at.marker n a (told_of k e.words a) e
+  pub step_made : (n : ℕ) (a : Attempt) (at : IsAt e k n a) → is_finished (act a) ≡ false → after_step plan k e ≡ after_answer plan k at.marker n a (answer_to_step k e.words a) e
   step_made n a at goes = step_at n a at ∙ ap (λ (idle : Bool). made_if idle at.marker n a) goes
 
 -- and then it has gone on by its answer
@@ -55,9 +55,9 @@ now_at plan e k n a told at = record {
   work = refl;
 }
 
-pub gone_on : (plan : Tables) (e : Exchange) (k n : ℕ) (a : Attempt) → IsAt e k n a → is_rest (act a) ≡ false → IsAt (after_step plan k e) k n (change (office plan) a (told_of k e.words a))
+pub gone_on : (plan : Tables) (e : Exchange) (k n : ℕ) (a : Attempt) → IsAt e k n a → is_finished (act a) ≡ false → IsAt (after_step plan k e) k n (change (office plan) a (answer_to_step k e.words a))
 gone_on plan e k n a at goes =
-    let told = told_of k e.words a in
+    let told = answer_to_step k e.words a in
     subst (λ (x : Exchange). IsAt x k n (change (office plan) a told)) (sym (step_made plan e k n a at goes)) (now_at plan e k n a told at)
 
 -- as many markers stay

@@ -4,7 +4,7 @@ use Rattle.std.specs.Prelude.{Option, Some, None, slice_get, slice_set, if◌the
 use Rattle.std.proofs.Math.Seq.{take-append_seam}
 use Rattle.std.proofs.lemmas.Option.{slice_get_read}
 use Rattle.turns.specs.Attempt.{act, change}
-use Rattle.turns.specs.Runs.{is_rest}
+use Rattle.turns.specs.Runs.{is_finished}
 use Rattle.turns.specs.World.{Idle, Does}
 use Rattle.turns.specs.declared.answer.Answer.{Answer}
 use Rattle.xbar_plan.specs.Tables.{Tables}
@@ -13,7 +13,7 @@ use Rattle.xbar_jobs.specs.Attempt.{Attempt, counted, next_step, with_count}
 use Rattle.xbar_jobs.specs.Office.{office}
 use Rattle.xbar_jobs.specs.OnWords.{words_after}
 use Rattle.xbar_jobs.specs.declared.step.Step.{Step}
-use Rattle.xbar_core.specs.AtWork.{next_step_at, told_of}
+use Rattle.xbar_core.specs.AtWork.{next_step_at, answer_to_step}
 use Rattle.xbar_core.specs.Exchange.{Exchange, Marker, Work as TheWork, at_marker, is_idle, on_job}
 use Rattle.xbar_core.specs.Moves.{IsAnswered, event_at_step, event_by, event_of, added_record, after_step, steps}
 use Rattle.xbar_core.specs.declared.event.Event.{Event}
@@ -34,7 +34,7 @@ step_whole plan e k len words new markers records same whole keeps is =
     ap (λ (all : List ℕ). record { words = all; markers = markers; records = records }) (written e.words new len whole (keeps ∙ ap (length {A = ℕ}) same))
     ∙ is ∙ ap (λ (all : List ℕ). after_step plan k (record e { words = all })) same
 
--- so many steps on all of the words
+-- several steps on all of the words
 pub steps_whole : (plan : Tables) (e : Exchange) (k count len : ℕ) (words new : List ℕ) (markers : List Marker) → words ≡ e.words → len ≡ length e.words → length new ≡ length words
     → record { words = new; markers = markers; records = e.records } ≡ steps plan k count (record e { words = words }) → record { words = take len (new ++ drop (length new) e.words); markers = markers; records = e.records } ≡ steps plan k count e
 steps_whole plan e k count len words new markers same whole keeps is =
@@ -48,7 +48,7 @@ marker_read markers k read within is = slice_get_read markers (length markers) k
 -- what comes of a step, by how the marker is answered
 module _ (plan : Tables) (k : ℕ) (words : List ℕ) (before after : TheWork) (told : Option Answer) (answered : IsAnswered plan k words before after told) where
   abbrev event_if : Bool → ℕ → Attempt → Event
-  event_if idle n a = if idle then event.Idle else event_of k n a (change (office plan) a (told_of k words a)) (told_of k words a)
+  event_if idle n a = if idle then event.Idle else event_of k n a (change (office plan) a (answer_to_step k words a)) (answer_to_step k words a)
 
   pub event_idle : told ≡ None → event.Idle ≡ event_by plan k words before
   event_idle none = by before (subst (IsAnswered plan k words before after) none answered) where
@@ -69,8 +69,8 @@ module _ (plan : Tables) (e : Exchange) (k : ℕ) (m : Marker) (there : slice_ge
   -- an idle marker makes no step
   pub step_idle : is_idle m.work ≡ true → after_step plan k e ≡ e
   unfolding after_step
-  step_idle idle = ap (at_marker e (λ o. on_job e (λ n a. made_if plan e k (is_rest (act a)) o n a) o.work)) there ∙ by m.work idle where
-    by : (work : TheWork) → is_idle work ≡ true → on_job e (λ n a. made_if plan e k (is_rest (act a)) m n a) work ≡ e
+  step_idle idle = ap (at_marker e (λ o. on_job e (λ n a. made_if plan e k (is_finished (act a)) o n a) o.work)) there ∙ by m.work idle where
+    by : (work : TheWork) → is_idle work ≡ true → on_job e (λ n a. made_if plan e k (is_finished (act a)) m n a) work ≡ e
     by Idle is = refl
     by (Does n a) is = ap (λ (idle : Bool). made_if plan e k idle m n a) is
 
@@ -80,21 +80,21 @@ module _ (plan : Tables) (e : Exchange) (k : ℕ) (m : Marker) (there : slice_ge
       ∙ ap (λ (markers : List Marker). record { words = e.words; markers = markers; records = e.records }) (marker_same e.markers k m there)
       ∙ sym (step_idle idle)
 
-  -- what comes of a step is told by the marker's work
+  -- the event of a step depends on the marker's work
   pub event_there : event_by plan k e.words m.work ≡ event_at_step plan k e
   event_there = ap (at_marker event.Idle (λ o. event_by plan k e.words o.work)) (sym there)
 
-  -- marker k is not idle: its word, its work and the records are as told
+  -- marker k is not idle: its word, its work and the records are those after its step
   pub step_goes : (kind : Kind) (work after : Work) (words : List ℕ) (records : List Record)
       → m ≡ record { kind = kind; work = Does work.job_no work.program.attempt }
-      → is_rest (act work.program.attempt) ≡ false
-      → after ≡ record work { program = with_count (counted work.program.count) (change (office plan) work.program.attempt (told_of k e.words work.program.attempt)) }
+      → is_finished (act work.program.attempt) ≡ false
+      → after ≡ record work { program = with_count (counted work.program.count) (change (office plan) work.program.attempt (answer_to_step k e.words work.program.attempt)) }
       → words ≡ words_after k (next_step work.program.attempt) e.words
-      → records ≡ e.records ++ added_record k work.job_no work.program.attempt (told_of k e.words work.program.attempt)
+      → records ≡ e.records ++ added_record k work.job_no work.program.attempt (answer_to_step k e.words work.program.attempt)
       → record { words = words; markers = slice_set e.markers k (record { kind = kind; work = Does after.job_no after.program.attempt }); records = records } ≡ after_step plan k e
   step_goes kind work after words records at goes after_is words_is records_is =
       let a = work.program.attempt in
-      let told = told_of k e.words a in
+      let told = answer_to_step k e.words a in
       let was : Marker = record { kind = kind; work = Does work.job_no a } in
       (λ i. record { words = words_is i; markers = slice_set e.markers k (record { kind = kind; work = Does (after_is i).job_no (after_is i).program.attempt }); records = records_is i })
       ∙ sym (step_made plan e k work.job_no a (record { marker = was; there = there ∙ ap Some at; work = refl }) goes)

@@ -20,7 +20,7 @@ use Rattle.xbar_jobs.proofs.CallCrosspoints.{call_opens, of_call}
 use Rattle.xbar_core.proofs.Among.{among_equip}
 use Rattle.xbar_core.proofs.LetGo.{AreGone, IsGone, LetsGo, Nothing, Paths}
 
--- crosspoints are opened just where they are among those that are opened
+-- a crosspoint among those that effects open is one of these
 pub in_opens : (c : Crosspoint) (cs : List Crosspoint) → IsIn (Open c) (map Open cs) → IsIn c cs
 in_opens c [] within = within
 in_opens c (d ∷ cs) (inl same) = inl cc

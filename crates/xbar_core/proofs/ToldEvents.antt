@@ -3,7 +3,7 @@ use Rattle.std.proofs.Common.{◌≡◌, ℕ, false, List, [], ◌∷◌, refl, 
 use Rattle.std.specs.Prelude.{Some}
 use Rattle.turns.specs.Attempt.{act, change}
 use Rattle.turns.specs.Law.{FitsIn}
-use Rattle.turns.specs.Runs.{is_rest}
+use Rattle.turns.specs.Runs.{is_finished}
 use Rattle.turns.specs.declared.phase.Phase.TheVariants.{Operates}
 use Rattle.xbar_equip.specs.declared.conn.Conn.{Conn}
 use Rattle.xbar_plan.specs.Tables.{Tables}
@@ -11,7 +11,7 @@ use Rattle.xbar_office.specs.declared.reply.Record.{Record}
 use Rattle.xbar_office.specs.declared.reply.Reply.{Reply}
 use Rattle.xbar_jobs.specs.Attempt.{Attempt}
 use Rattle.xbar_jobs.specs.Office.{office}
-use Rattle.xbar_core.specs.AtWork.{told_of}
+use Rattle.xbar_core.specs.AtWork.{answer_to_step}
 use Rattle.xbar_core.specs.Exchange.{Exchange, IsLawfulExchange, world}
 use Rattle.xbar_core.specs.Holding.{IsAt}
 use Rattle.xbar_core.specs.Moves.{event_at_step, event_of}
@@ -20,11 +20,11 @@ use Rattle.xbar_core.specs.declared.event.Event.TheVariants as event
 use Rattle.xbar_core.proofs.Actors.{actor_at}
 
 module _ (plan : Tables) where
-  -- what an attempt's step comes to by what it is told
+  -- the event of an attempt's step, by the answer
   abbrev pub come_of : ℕ → ℕ → List ℕ → Attempt → Event
-  come_of k number words a = event_of k number a (change (office plan) a (told_of k words a)) (told_of k words a)
+  come_of k number words a = event_of k number a (change (office plan) a (answer_to_step k words a)) (answer_to_step k words a)
 
-  pub event_is : (e : Exchange) (k number : ℕ) (a : Attempt) → IsAt e k number a → is_rest (act a) ≡ false → event_at_step plan k e ≡ come_of k number e.words a
+  pub event_is : (e : Exchange) (k number : ℕ) (a : Attempt) → IsAt e k number a → is_finished (act a) ≡ false → event_at_step plan k e ≡ come_of k number e.words a
   event_is e k number a at goes = rw (at.there, at.work, goes) refl
 
   -- the free of the last connector past the turn finishes the job
@@ -40,7 +40,7 @@ module _ (plan : Tables) where
       let b : Attempt = record a { phase = Operates turn; effects = []; held = conn ∷ []; reply = Some reply } in
       let is : a ≡ b = λ i. record a { phase = past i; effects = none i; held = last i; reply = fits.recorded.reply i } in (
         record { turn = turn; marker = k; job_no = number; job = a.job; reply = reply },
-        event_is e k number a at (ap (λ (c : Attempt). is_rest (act c)) is)
+        event_is e k number a at (ap (λ (c : Attempt). is_finished (act c)) is)
             ∙ ap (come_of k number e.words) is
             ∙ last_comes k number turn e.words a conn reply,
       )

@@ -1,4 +1,5 @@
--- the paths that a call adds end at trunks, so the register's path that it gives back is not among them
+-- the paths that a call adds end at trunks, so the register's path that it lets go is not among
+-- them
 use Rattle.std.proofs.Common.{◌≡◌, ◌≢◌, ℕ, ◌⊎◌, Bool, true, false, List, inl, inr, refl, sym, ◌∙◌, ap, subst}
 use Rattle.std.specs.Prelude.{Option, Some, None, if◌then◌else◌, slice_get}
 use Rattle.std.specs.List.{list_all}

@@ -83,7 +83,7 @@ module _ (plan : Tables) (laws : IsLawful plan) (e : Exchange) (lawful : IsLawfu
   known = fits.recorded
 
   abbrev found : IsTurn e.records known.place known.recorded
-  found = turn_there e.records known.place known.recorded (slice_get e.records known.place) refl (sym (slice_get-map turned e.records known.place) ∙ known.stands)
+  found = turn_there e.records known.place known.recorded (slice_get e.records known.place) refl (sym (slice_get-map turned e.records known.place) ∙ known.at_place)
 
   job_is : found.found.job ≡ a.job
   job_is = ap (λ (t : worlds.Record Job Reply). t.job) found.turn ∙ known.job

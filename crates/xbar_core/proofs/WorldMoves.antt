@@ -2,8 +2,8 @@
 use Rattle.std.proofs.Common.{◌≡◌, ◌≢◌, ℕ, zero, suc, Bool, true, false, List, [], ◌∷◌, ◌++◌, append-nil, map, slice_set, refl, sym, ◌∙◌, ap, subst}
 use Rattle.std.specs.Prelude.{Option, Some, None, slice_get}
 use Rattle.std.proofs.lemmas.Option.{none-some}
-use Rattle.turns.specs.Attempt.{StandsIn, act, act_in, begin_with, closing_act, free_act, restarted}
-use Rattle.turns.specs.Runs.{is_rest}
+use Rattle.turns.specs.Attempt.{IsValidIn, act, act_in, begin_with, closing_act, free_act, restarted}
+use Rattle.turns.specs.Runs.{is_finished}
 use Rattle.turns.specs.World as worlds
 use Rattle.turns.specs.World.{Does, World, moved}
 use Rattle.turns.specs.declared.phase.Phase.TheVariants.{Requests, Seizes, Tests, Turns, Withdraws, GivesBack, Operates}
@@ -31,11 +31,11 @@ abbrev pub HasToGive : Attempt → Type 0
 HasToGive a = a.phase ≡ GivesBack → a.held ≢ []
 
 -- with nothing left to free, nothing is held
-none_held : (held : List Conn) → is_rest (free_act {Effect = Effect} held) ≡ true → held ≡ []
+none_held : (held : List Conn) → is_finished (free_act {Effect = Effect} held) ≡ true → held ≡ []
 none_held [] rests = refl
 none_held (conn ∷ held) rests = absurd cc
 
-none_left : (effects : List Effect) (held : List Conn) → is_rest (closing_act effects held) ≡ true → (effects ≡ []) × (held ≡ [])
+none_left : (effects : List Effect) (held : List Conn) → is_finished (closing_act effects held) ≡ true → (effects ≡ []) × (held ≡ [])
 none_left [] held rests = (refl, none_held held rests)
 none_left (effect ∷ effects) held rests = absurd cc
 
@@ -57,7 +57,7 @@ module _ (plan : Tables) (e : Exchange) (k number : ℕ) (a : Attempt) (at : IsA
       ∙ ap (λ (actors : List Work). record { words = e.words; actors = actors; order = map turned e.records ++ [] }) (ap (λ (c : Attempt). slice_set (works e.markers) k (Does number c)) (sym is) ∙ actors_same)
       ∙ ap (λ (order : List (worlds.Record Job Reply)). record { words = e.words; actors = works e.markers; order = order }) (append-nil (map turned e.records))
 
-  rest_moves : HasToGive a → (phase : Phase) → a.phase ≡ phase → is_rest (act_in phase a) ≡ true → moved (office plan) k number a (world plan e) ≡ world plan e
+  rest_moves : HasToGive a → (phase : Phase) → a.phase ≡ phase → is_finished (act_in phase a) ≡ true → moved (office plan) k number a (world plan e) ≡ world plan e
   rest_moves gives (Requests conn) is rests = absurd cc
   rest_moves gives (Seizes conn expected) is rests = absurd cc
   rest_moves gives (Tests word) is rests = absurd cc
@@ -68,8 +68,8 @@ module _ (plan : Tables) (e : Exchange) (k number : ℕ) (a : Attempt) (at : IsA
 
   -- a step is that step of its world
   pub steps_in_world : HasToGive a → world plan (after_step plan k e) ≡ moved (office plan) k number a (world plan e)
-  steps_in_world gives = by (is_rest (act a)) refl where
-    by : (rest : Bool) → is_rest (act a) ≡ rest → world plan (after_step plan k e) ≡ moved (office plan) k number a (world plan e)
+  steps_in_world gives = by (is_finished (act a)) refl where
+    by : (rest : Bool) → is_finished (act a) ≡ rest → world plan (after_step plan k e) ≡ moved (office plan) k number a (world plan e)
     by true rests = ap (world plan) (step_idle plan e k at.marker at.there (ap is_idle at.work ∙ rests)) ∙ sym (rest_moves gives a.phase refl rests)
     by false goes = ap (world plan) (step_made plan e k number a at goes) ∙ sym (moved_is plan e k number at.marker a)
 
@@ -81,9 +81,9 @@ module _ (plan : Tables) (e : Exchange) (k number : ℕ) (a : Attempt) (at : IsA
 
   -- in a lawful office a marker that gives back holds something
   pub has_to_give : IsLawfulExchange plan e → HasToGive a
-  has_to_give lawful gives = subst (StandsIn (office plan) a) gives (lawful.sound k number a (actor_at e k number a at)).stands
+  has_to_give lawful gives = subst (IsValidIn (office plan) a) gives (lawful.sound k number a (actor_at e k number a at)).valid
 
--- with no such actor, none is set
+-- without an actor of this number, none is set
 none_set : (markers : List Marker) (k : ℕ) (work : Work) → slice_get markers k ≡ None → slice_set (works markers) k work ≡ works markers
 none_set [] k work none = refl
 none_set (m ∷ markers) zero work none = absurd (none-some m (sym none))

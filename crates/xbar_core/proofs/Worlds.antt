@@ -2,12 +2,12 @@
 use Rattle.std.proofs.Common.{◌≡◌, ℕ, ◌≤◌, Bool, true, false, List, [], ◌∷◌, ◌++◌, length, map, replicate, slice_index, inl, inr, refl, sym, ◌∙◌, ap, subst}
 use Rattle.std.specs.Prelude.{Option, Some, None, ◌==◌, if◌then◌else◌, slice_get, slice_set}
 use Rattle.turns.specs.Attempt as generic
-use Rattle.turns.specs.Attempt.{act, act_in, change, closing_act, free_act, unless_put_off as told_by}
-use Rattle.turns.specs.Law.{IsFree, Lawful}
+use Rattle.turns.specs.Attempt.{act, act_in, change, closing_act, free_act, unless_denied as told_by}
+use Rattle.turns.specs.Law.{IsAvailable, Lawful}
 use Rattle.turns.specs.World as worlds
 use Rattle.turns.specs.World.{Idle, Does, added_in, becomes, moved, place, with_actor}
 use Rattle.turns.specs.declared.answer.Answer.{Answer}
-use Rattle.turns.specs.declared.answer.Answer.TheVariants.{Asked, Seized, Again}
+use Rattle.turns.specs.declared.answer.Answer.TheVariants.{Requested, Seized, Changed}
 use Rattle.turns.specs.declared.judgement.Judgement.{Judgement}
 use Rattle.turns.specs.declared.judgement.Judgement.TheVariants as judgement
 use Rattle.turns.specs.declared.phase.Phase.TheVariants.{Requests, Seizes, Tests, Turns, Withdraws, GivesBack, Operates}
@@ -47,12 +47,12 @@ turned_more [] more = refl
 turned_more (r ∷ records) more = ap (λ (all : List (worlds.Record Job Reply)). turned r ∷ all) (turned_more records more)
 
 -- a judged request or seizing adds no record
-adds_asked : (k n word : ℕ) (a : Attempt) (j : Judgement) → added_record k n a (told_by (Asked word) j) ≡ []
+adds_asked : (k n word : ℕ) (a : Attempt) (j : Judgement) → added_record k n a (told_by (Requested word) j) ≡ []
 adds_asked k n word a judgement.Free = refl
 adds_asked k n word a (judgement.Held holder) = refl
 adds_asked k n word a (judgement.Preferred other) = refl
 
-adds_seized : (k n word : ℕ) (a : Attempt) (b : Bool) (j : Judgement) → added_record k n a (if b then Seized else told_by (Again word) j) ≡ []
+adds_seized : (k n word : ℕ) (a : Attempt) (b : Bool) (j : Judgement) → added_record k n a (if b then Seized else told_by (Changed word) j) ≡ []
 adds_seized k n word a true j = refl
 adds_seized k n word a false judgement.Free = refl
 adds_seized k n word a false (judgement.Held holder) = refl
@@ -108,7 +108,7 @@ works_opened [] = refl
 works_opened (kind ∷ kinds) = ap (λ (all : List Work). Idle ∷ all) (works_opened kinds)
 
 -- a marker that is idle is free for a job
-pub idle_free : (plan : Tables) (work : Work) → is_idle work ≡ true → IsFree (office plan) work
+pub idle_free : (plan : Tables) (work : Work) → is_idle work ≡ true → IsAvailable (office plan) work
 idle_free plan Idle e = tt
 idle_free plan (Does number a) e = rest_is (act a) e
 
@@ -127,7 +127,7 @@ taken e k job = at_marker_has Takes (Some NoMarker) (λ m. refusal_of m job) (sl
   by m there true is free = record { marker = m; there = there; idle = is }
   by m there false is free = absurd cc
 
--- an office with a marker set is lawful where its world is
+-- an office with a marker set is lawful if its world is
 set_lawful : (plan : Tables) (e : Exchange) (k : ℕ) (m : Marker) (work : Work) → Lawful (office plan) (with_actor (office plan) k work (world plan e)) → IsLawfulExchange plan (with_work k m work e)
 set_lawful plan e k m work law =
     subst (λ (actors : List Work). Lawful (office plan) (record { words = e.words; actors = actors; order = map turned e.records })) (sym (works_set e.markers k (record m { work = work }))) law

@@ -11,16 +11,16 @@ use Rattle.xbar_jobs.specs.declared.step.Step.TheVariants as step
 use Rattle.xbar_core.specs.Exchange.{Marker, Work as TheWork, at_marker, on_job}
 use Rattle.xbar_core.specs.declared.work.Work.{Work}
 
--- what a marker is at that has this work, or none
+-- a marker's work in the definitions: none, or its job's number with the attempt at it
 abbrev pub work_of : Option Work → TheWork
 work_of None = Idle
 work_of (Some work) = Does work.job_no work.program.attempt
 
--- what marker k is told of the next step of its attempt
-abbrev pub told_of : ℕ → List ℕ → Attempt → Answer
-told_of k words a = answer_of k (next_step a) words
+-- the answer to the next step of marker k's attempt
+abbrev pub answer_to_step : ℕ → List ℕ → Attempt → Answer
+answer_to_step k words a = answer_of k (next_step a) words
 
--- the connector that a step asks for
+-- the connector that a step requests or tries to seize
 abbrev pub conn_asked : Step → Option Conn
 conn_asked (step.Request conn) = Some conn
 conn_asked (step.Seize conn expected) = Some conn
@@ -44,18 +44,20 @@ gives_up (step.Close word bits) = false
 gives_up (step.Open word mask) = false
 gives_up step.Finished = false
 
--- whether a marker is past its turn; whether its next step gives up a request or a connector
+-- whether a marker's job has taken its turn
 abbrev pub is_turned : TheWork → Bool
 is_turned work = on_job false (λ number a. is_some (turn_in a.phase)) work
 
+-- whether a marker's next step withdraws a request or frees a connector
 abbrev pub gives_up_at : TheWork → Bool
 gives_up_at work = on_job false (λ number a. gives_up (next_step a)) work
 
--- the step that a marker makes next; Finished where it has no job, or nothing is left of it
+-- a marker's next step; Finished if it has no job, or nothing is left of it
 abbrev pub next_step_at : TheWork → Step
 next_step_at work = on_job step.Finished (λ number a. next_step a) work
 
--- a marker that is to begin its job anew gives up its request, or a connector, or is there already
+-- an attempt on its way back to its job's beginning: it withdraws its request, frees a connector,
+-- or is there already
 abbrev pub IsBackingIn : Attempt → Phase → Type 0
 IsBackingIn a (Withdraws conn) = ⊤
 IsBackingIn a GivesBack = ¬ (a.held ≡ [])
@@ -65,8 +67,10 @@ IsBackingIn a (Tests word) = ⊥
 IsBackingIn a Turns = ⊥
 IsBackingIn a (Operates turn) = ⊥
 
+-- a marker with this work is on its way back to its job's beginning
 abbrev pub IsBackingBy : TheWork → Type 0
 IsBackingBy work = on_job ⊥ (λ number a. IsBackingIn a a.phase) work
 
+-- there is a marker, and it is on its way back to its job's beginning
 abbrev pub IsBackingAt : Option Marker → Type 0
 IsBackingAt found = at_marker ⊥ (λ m. IsBackingBy m.work) found

@@ -1,6 +1,7 @@
 use Rattle.std.specs.Prelude.{◌≡◌, ℕ, zero, suc, ◌==◌, Bool, true, false, Some, List, ◌++◌, length, slice_get}
 use Rattle.std.specs.List.{count_by}
-use Rattle.turns.specs.Attempt.{Rest, act}
+use Rattle.turns.specs.Attempt.{act}
+use Rattle.turns.specs.declared.act.Act.TheVariants.{Finished}
 use Rattle.turns.specs.declared.phase.Phase.TheVariants.{Operates}
 use Rattle.xbar_plan.specs.Tables.{Tables}
 use Rattle.xbar_office.specs.declared.job.Job.{Job}
@@ -17,11 +18,11 @@ abbrev pub is_step_of : ℕ → Move → Bool
 is_step_of k (runs.Steps j) = j == k
 is_step_of k _ = false
 
--- how many of these moves are
+-- how many of these moves are steps of marker k
 abbrev pub own_steps : ℕ → List Move → ℕ
 own_steps k moves = count_by (is_step_of k) moves
 
--- at some moment of these moves marker k has come to the end of its job: nothing is left of it
+-- at some point of these moves, marker k has come to the end of its job: nothing is left of it
 pub record ComesToEnd (plan : Tables) (e : Exchange) (moves : List Move) (k number turn : ℕ)
     (job : Job) : Type 0 where
   pub before : List Move
@@ -31,7 +32,7 @@ pub record ComesToEnd (plan : Tables) (e : Exchange) (moves : List Move) (k numb
   pub there : IsAt (run_from plan e before) k number ended
   pub phase : ended.phase ≡ Operates turn
   pub job_is : ended.job ≡ job
-  pub rests : act ended ≡ Rest
+  pub rests : act ended ≡ Finished
 
 -- marker k makes steps until nothing is left of its job
 pub record RunsToEnd (plan : Tables) (k : ℕ) (before after : Exchange) : Type 0 where
@@ -52,7 +53,7 @@ pub record EndsIfPast (plan : Tables) (k : ℕ) (before after : Exchange) : Type
 abbrev pub GivesBack : Tables → ℕ → Exchange → Exchange → Type 0
 GivesBack plan k before after = after ≡ given_back plan k before
 
--- the first so many markers, in the order of their numbers, each make one office of another
+-- the markers below a number, in the order of their numbers, each lead from one office to another
 abbrev pub EachMakes : (ℕ → Exchange → Exchange → Type 0) → ℕ → Exchange → Exchange → Type 0
 EachMakes Makes zero before after = after ≡ before
 EachMakes Makes (suc k) before after =

@@ -2,7 +2,7 @@ use Rattle.std.specs.Prelude.{ℕ, Bool, true, Option, Some, None, List, [], map
 use Rattle.turns.specs.Law.{Lawful}
 use Rattle.turns.specs.World as worlds
 use Rattle.turns.specs.Attempt.{act}
-use Rattle.turns.specs.Runs.{is_rest}
+use Rattle.turns.specs.Runs.{is_finished}
 use Rattle.xbar_equip.specs.Word.{word_count}
 use Rattle.xbar_equip.specs.declared.conn.Conn.{Conn}
 use Rattle.xbar_plan.specs.Tables.{Tables}
@@ -14,25 +14,26 @@ use Rattle.xbar_jobs.specs.Office.{office}
 use Rattle.xbar_jobs.specs.declared.effect.Effect.{Effect}
 use Rattle.xbar_core.specs.declared.kind.Kind.{Kind}
 
--- what a marker is at: nothing, or an attempt at a job that was assigned to it under a number
+-- a marker's work: none, or the number of a job that was assigned to it, with its attempt
 abbrev pub Work : Type 0
 Work = worlds.Actor Conn Job Reply Effect
 
--- a marker is idle before its first job, and where nothing is left of its job
+-- a marker is idle before its first job, and once nothing is left of its job
 abbrev pub is_idle : Work → Bool
 is_idle worlds.Idle = true
-is_idle (worlds.Does number a) = is_rest (act a)
+is_idle (worlds.Does number a) = is_finished (act a)
 
+-- a marker: which jobs it takes, and its work
 pub record Marker : Type 0 where
   pub kind : Kind
   pub work : Work
 
--- something of a marker, if there is one of the number
+-- a value taken from a marker, or another one if no marker has the number
 abbrev pub at_marker {ℓ} : {A : Type ℓ} → A → (Marker → A) → Option Marker → A
 at_marker otherwise of_marker None = otherwise
 at_marker otherwise of_marker (Some m) = of_marker m
 
--- something of a marker's job, if it has one
+-- a value taken from a marker's job, or another one if it has none
 abbrev pub on_job {ℓ} : {A : Type ℓ} → A → (ℕ → Attempt → A) → Work → A
 on_job otherwise of_job worlds.Idle = otherwise
 on_job otherwise of_job (worlds.Does number a) = of_job number a
@@ -52,7 +53,7 @@ fresh_exchange kinds = record {
   records = [];
 }
 
--- the record of a turn, as any system of jobs has it
+-- the record of a turn in the form of `turns`
 abbrev pub turned : Record → worlds.Record Job Reply
 turned r = record {
   turn = r.turn;
@@ -62,7 +63,7 @@ turned r = record {
   reply = r.reply;
 }
 
--- the office as a world of actors at the jobs of its plan
+-- the office as a world of `turns`: its markers are the actors, at the jobs of its plan
 abbrev pub world : (plan : Tables) → Exchange → worlds.World (office plan)
 world plan e = record {
   words = e.words;
@@ -70,7 +71,7 @@ world plan e = record {
   order = map turned e.records;
 }
 
--- an office that its plan's markers can come to
+-- the office is lawful: its world satisfies the invariant
 abbrev pub IsLawfulExchange : Tables → Exchange → Type 0
 IsLawfulExchange plan e = Lawful (office plan) (world plan e)
 

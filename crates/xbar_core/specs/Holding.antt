@@ -10,7 +10,7 @@ use Rattle.xbar_jobs.specs.Attempt.{Attempt}
 use Rattle.xbar_jobs.specs.Office.{office}
 use Rattle.xbar_core.specs.Exchange.{Exchange, Marker, world}
 
--- marker k is at an attempt at the job of a number
+-- marker k is at this attempt, at the job of this number
 pub record IsAt (e : Exchange) (k number : ℕ) (a : Attempt) : Type 0 where
   pub marker : Marker
   pub there : slice_get e.markers k ≡ Some marker
@@ -30,15 +30,16 @@ pub record HasRequested (e : Exchange) (k : ℕ) (conn : Conn) : Type 0 where
   pub at : IsAt e k number attempt
   pub request : request_in attempt.phase ≡ Some conn
 
--- marker k requests a connector by its next step, or tries to seize it
+-- marker k's next step requests a connector or tries to seize it
 pub record AsksFor (e : Exchange) (k : ℕ) (conn : Conn) : Type 0 where
   pub number : ℕ
   pub attempt : Attempt
   pub at : IsAt e k number attempt
   pub asked : asked_in attempt.phase ≡ Some conn
 
--- a connector's word: in its lowest six bits one more than the number of the marker that holds it,
--- and 0 where none does; bit 8 + k where marker k has requested it; no other bits
+-- a connector's word tells the truth: its lowest six bits are one more than the number of the
+-- marker that holds the connector, and 0 if none does; bit 8 + k is set if marker k has requested
+-- it; no other bit is set
 pub record TellsTruth (e : Exchange) (conn : Conn) (word : ℕ) : Type 0 where
   pub holder : (k : ℕ) → (word % 64 ≡ k + 1) ↔ Holds e k conn
   pub free : ((k : ℕ) → ¬ Holds e k conn) → word % 64 ≡ 0

@@ -26,8 +26,8 @@ pub record Joint : Type 0 where
   pub crosspoint : Crosspoint
   pub link : Link
 
--- what the four crosspoints of a path join: the line to the line link, that to the junctor, that to
--- the trunk link, and that to the place
+-- what the four crosspoints of a path join: the line to the line link, that to the junctor, that
+-- to the trunk link, and that to the place
 abbrev pub joints : Path → List Joint
 joints path =
     let line = crosspoint_at
@@ -45,7 +45,7 @@ joints path =
     record { crosspoint = trunk_side; link = trunk_link path } ∷
     record { crosspoint = place; link = trunk_link path } ∷ []
 
--- a crosspoint stands at a link: it joins the link in some path
+-- a crosspoint is at a link: it joins the link in some path
 pub record IsAtLink (link : Link) (c : Crosspoint) : Type 0 where
   pub path : Path
   pub range : IsPath path
@@ -58,15 +58,15 @@ pub record IsClosed (words : List ℕ) (c : Crosspoint) : Type 0 where
   pub closed : 0 < c.value
   pub held : held_at words c.word c.field ≡ c.value
 
--- marker k is past its turn; the record of its job stands at this place, with its turn, marker,
--- number, job and reply
+-- marker k is past its turn; the record at this index is its job's, with its turn, marker, number,
+-- job and reply
 pub record IsPastTurn (e : Exchange) (k place : ℕ) (a : Attempt) : Type 0 where
   pub number : ℕ
   pub at : IsAt e k number a
   pub turn : ℕ
   pub past : a.phase ≡ Operates turn
   pub recorded : Record
-  pub stands : slice_get e.records place ≡ Some recorded
+  pub at_place : slice_get e.records place ≡ Some recorded
   pub turn_is : recorded.turn ≡ turn
   pub marker : recorded.marker ≡ k
   pub number_is : recorded.job_no ≡ number
@@ -85,13 +85,14 @@ pub record HasToOpen (plan : Tables) (e : Exchange) (path : Path) (c : Crosspoin
   pub left : IsIn (Open c) attempt.effects
 
 -- a crosspoint belongs to a path that has it: one of the set after all records, or one that is
--- taken out and is to be opened there
+-- taken out and has yet to be opened there
 pub record BelongsTo (plan : Tables) (e : Exchange) (path : Path) (c : Crosspoint) : Type 0 where
   pub has : IsIn c (crosspoints path)
   pub why : IsIn path (after plan e.records) ⊎ HasToOpen plan e path c
 
--- what a marker past its turn has left is the end of what a release of these paths opens,
--- crosspoint by crosspoint and then the member's bit, and each of it is closed when its turn comes
+-- the effects that a marker past its turn has left are the last ones of a release of these paths,
+-- which opens them crosspoint by crosspoint and then clears the member's bit; each crosspoint is
+-- closed, and the bit set, until its effect is made
 pub record OpensItsOwn (plan : Tables) (own : Path) (other : Option Path)
     (words : List ℕ) (effects : List Effect) : Type 0 where
   pub found : MemberPlace

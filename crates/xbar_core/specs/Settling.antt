@@ -5,29 +5,29 @@ use Rattle.xbar_jobs.specs.Standing.{most_effects, most_held, most_readings, mos
 use Rattle.xbar_core.specs.Exchange.{Exchange, at_marker, on_job}
 use Rattle.xbar_core.specs.Moves.{given_back, steps}
 
--- a marker that no other is in the way of has no more steps to its end: two to withdraw and to try
--- again, the frees, and those of the job anew
+-- the most steps to the end of its job of a marker with no other in its way: two to withdraw and
+-- to try again, the frees, and those of the job anew
 abbrev pub most_steps_alone : ℕ
 most_steps_alone = 2 + most_held + (3 * most_seizings + most_readings + most_effects + 1)
 
--- marker k is brought to the end of its job
+-- the office once marker k is brought to the end of its job
 abbrev pub ended : Tables → ℕ → Exchange → Exchange
 ended plan k e = steps plan k most_steps_alone e
 
--- if it is past its turn
+-- the same if marker k is past its turn; else nothing changes
 abbrev pub ended_past_turn : Tables → ℕ → Exchange → Exchange
 ended_past_turn plan k e =
     at_marker e (λ m. on_job e (λ number a.
     if is_some (turn_in a.phase) then ended plan k e else e) m.work)
     (slice_get e.markers k)
 
--- a change for each of the first so many markers, in the order of their numbers
+-- a change for each marker below a number, in the order of their numbers
 unfoldable pub for_each : (ℕ → Exchange → Exchange) → ℕ → Exchange → Exchange
 for_each change zero e = e
 for_each change (suc k) e = change k (for_each change k e)
 
--- an office settles: in the order of their numbers the markers past their turn come to their end,
--- then all others give back, then each comes to its end
+-- an office that has settled: in the order of their numbers the markers past their turn came to
+-- their end, then all others gave back, then each came to its end
 abbrev pub settled : Tables → Exchange → Exchange
 settled plan e =
     let count = length e.markers in

@@ -4,7 +4,8 @@ ghost use Rattle.xbar_core.specs.declared.assign_fault.AssignFault.TheVariants.{
 use std::alloc::AllocError;
 use thiserror::Error;
 
-/// Why a job can't be assigned to a marker. The first that applies is told.
+/// Why a job can't be assigned to a marker. If several reasons apply, the first of these is
+/// returned.
 #[derive(Debug, Drop, Clone, Copy, PartialEq, Eq, Error)]
 pub enum AssignFault {
     #[error("there is no such marker")]

@@ -1,22 +1,24 @@
 use xbar_equip::Conn;
 use xbar_office::Record;
 
-/// What came of a marker's step.
+/// The outcome of a marker's step.
 #[derive(Debug, Drop, PartialEq, Eq)]
 pub enum Event {
-    /// The marker is idle and made none.
+    /// The marker is idle and made no step.
     Idle,
-    /// Any other step was made, as one that requested, seized, tested, took the turn, withdrew or freed.
+    /// A step was made with none of the other outcomes, for example a test, the turn or an effect.
     Moved,
-    /// The connector that it asked for is held.
+    /// The connector that the marker requested or tried to seize is held.
     Refused {
         conn: Conn,
         /// The number of the marker that holds it.
         holder: u32,
     },
-    /// The connector that it asked for is free, and was asked for by this marker too, which is preferred.
+    /// The connector that the marker requested or tried to seize is free, but this marker has
+    /// requested it too and has priority.
     Preferred(u32),
-    /// The last connector of a job that has turned is free again; the marker is idle.
+    /// The last connector of a job past its turn was freed, and the marker is idle. This is the
+    /// job's record.
     Finished(Record),
 }
 
@@ -24,8 +26,8 @@ impl Event {
     ghost use Rattle.std.specs.Prelude.{◌≡◌};
     ghost use Rattle.xbar_core.specs.Moves.{refused_by};
 
-    /// What came of a step that asked for this connector, if it asked for one, and found it held by
-    /// this marker.
+    /// The outcome of a step that found the connector that it asked for held by `holder`. `Moved`
+    /// if it asked for none.
     pub fn of_refusal(asked: Option<Conn>, holder: u32) -> Self
         ensures { result ≡ refused_by holder asked }
     {

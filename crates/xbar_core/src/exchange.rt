@@ -23,14 +23,14 @@ use xbar_office::laws::job_is_in_range;
 use xbar_office::{Job, Record};
 use xbar_plan::Plan;
 
-/// The most markers that an office has.
+/// The largest number of markers of an office.
 pub const MOST_MARKERS: usize = 48;
 
-/// A marker that no other is in the way of has no more steps to its end: two to withdraw and to try
-/// again, 19 frees, and the 114 of the job anew.
+/// The most steps to the end of its job of a marker with no other in its way: two to withdraw and
+/// to try again, 18 frees, and the 114 of the job anew.
 const MOST_STEPS_ALONE: u32 = 134;
 
-/// An office of 1 to 48 markers, on words of its own.
+/// An office of 1 to 48 markers, with its own words.
 #[derive(Debug, Drop)]
 pub struct Exchange<'p> {
     plan: &'p Plan,
@@ -67,7 +67,8 @@ fn markers_of(alloc: Global, kinds: &[Kind]) -> Result<Vec<Marker>, AllocError>
 }
 
 impl<'p> Exchange<'p> {
-    /// Opens an office with no path, whose markers are idle and of these kinds.
+    /// Opens an office without paths, with an idle marker of each of these kinds. Fails with
+    /// `Markers` unless there are 1 to 48.
     pub fn open(alloc: Global, plan: &'p Plan, kinds: &[Kind]) -> Result<Self, OpenFault>
         ensures ok { IfOk result
             (λ exchange. exchange
@@ -78,7 +79,7 @@ impl<'p> Exchange<'p> {
         if kinds.is_empty() || kinds.len() > MOST_MARKERS {
             return Err(OpenFault::Markers);
         }
-        // Called for its clauses alone.
+        // Called only for its contract.
         xbar_plan::laws::every_plan_is_lawful(plan);
         let markers = markers_of(alloc, kinds)?;
         Ok(Exchange {
@@ -96,7 +97,7 @@ impl<'p> Exchange<'p> {
         self.plan
     }
 
-    /// The records of the jobs that have turned, in turn order.
+    /// The records of the jobs that have taken their turn, in turn order.
     pub fn records(&self) -> &[Record]
         ensures records { result.now ≡ self.now.exchange.records }
         ensures few { length result.now < 2 ^ 64 }
@@ -105,7 +106,7 @@ impl<'p> Exchange<'p> {
         self.records.as_slice()
     }
 
-    /// All 453 words, each at the place of its number.
+    /// All 453 words, each at the index of its number.
     pub fn words(&self) -> &[u64]
         ensures words { result.now ≡ self.now.exchange.words }
         ensures count { length result.now ≡ word_count }
@@ -114,7 +115,7 @@ impl<'p> Exchange<'p> {
         self.words.as_slice()
     }
 
-    /// The markers have the numbers below this one.
+    /// The number of markers, which are numbered from 0 on.
     pub fn marker_count(&self) -> u32
         ensures { result ≡ length self.now.exchange.markers }
     {
@@ -128,7 +129,7 @@ impl<'p> Exchange<'p> {
         &self.markers[marker as usize]
     }
 
-    /// What jobs the marker takes.
+    /// Which jobs the marker takes.
     pub fn kind(&self, marker: u32) -> Kind
         requires { marker < length self.now.exchange.markers }
         ensures { (m : TheMarker) → slice_get self.now.exchange.markers marker ≡ Some m →
@@ -146,7 +147,7 @@ impl<'p> Exchange<'p> {
         self.marker(marker).is_idle()
     }
 
-    /// The step that the marker makes next: `Finished` where it is idle.
+    /// The marker's next step: `Finished` if it is idle.
     pub fn next_step(&self, marker: u32) -> Step
         requires { marker < length self.now.exchange.markers }
         ensures { (m : TheMarker) → slice_get self.now.exchange.markers marker ≡ Some m →
@@ -173,7 +174,7 @@ impl<'p> Exchange<'p> {
         self.marker(marker).is_giving_up()
     }
 
-    /// Why the job can't be assigned to the marker.
+    /// Why the job can't be assigned to the marker. None if it can.
     fn refuses(&self, marker: u32, job: &Job) -> Option<AssignFault>
         ensures { result ≡ refusal self.now.exchange marker job.now }
     {
@@ -184,8 +185,8 @@ impl<'p> Exchange<'p> {
         }
     }
 
-    /// Assigns a job to a marker under a number, and takes the memory for the records of all turns
-    /// that are to come. Where it is refused nothing changes.
+    /// Assigns a job to a marker under a number, and reserves memory for the records of all turns
+    /// to come. On an error nothing changes.
     pub fn assign(&mut self, marker: u32, job_no: u32, job: Job) -> Result<(), AssignFault>
         ensures ok { OnOk result ((refusal self.old.exchange marker job ≡ None)
             × (self.new
@@ -197,10 +198,10 @@ impl<'p> Exchange<'p> {
         if let Some(fault) = self.refuses(marker, &job) {
             return Err(fault);
         }
-        // Called for their clauses alone.
+        // Called only for their contracts.
         xbar_plan::laws::every_plan_is_lawful(self.plan);
         job_is_in_range(&job);
-        // Each marker has one turn to come at most.
+        // Each marker has at most one turn to come.
         self.records.reserve(self.markers.len())?;
         self.markers[marker as usize].begin(job_no, job);
         Ok(())
@@ -212,7 +213,7 @@ impl<'p> Exchange<'p> {
         ensures { self.new
             ≡ record self.old { exchange = after_step self.old.plan marker self.old.exchange } }
     {
-        // Called for its clauses alone.
+        // Called only for its contract.
         xbar_plan::laws::every_plan_is_lawful(self.plan);
         self.markers[marker as usize].advance(
             self.plan,
@@ -222,14 +223,14 @@ impl<'p> Exchange<'p> {
         );
     }
 
-    /// Makes the marker's next step, and tells what came of it. An idle marker makes none.
+    /// Makes the marker's next step, and returns its outcome. An idle marker makes none.
     pub fn step(&mut self, marker: u32) -> Event
         requires { marker < length self.old.exchange.markers }
         ensures step { self.new
             ≡ record self.old { exchange = after_step self.old.plan marker self.old.exchange } }
         ensures event { result ≡ event_at_step self.old.plan marker self.old.exchange }
     {
-        // Called for its clauses alone.
+        // Called only for its contract.
         xbar_plan::laws::every_plan_is_lawful(self.plan);
         let own = &mut self.markers[marker as usize];
         let step = own.next_step();
@@ -238,19 +239,20 @@ impl<'p> Exchange<'p> {
         own.event(marker, step, answer)
     }
 
-    /// The marker is to begin its job anew, unless it is past its turn: its next steps withdraw its
-    /// request and free what it holds. `give_back` makes these steps too.
+    /// Restarts the marker's job, unless it is past its turn: its next steps withdraw its request
+    /// and free what it holds, and then it begins anew. `give_back` does this, and makes these
+    /// steps too.
     pub fn restart(&mut self, marker: u32)
         requires { marker < length self.old.exchange.markers }
         ensures { self.new
             ≡ record self.old { exchange = begun_anew self.old.plan marker self.old.exchange } }
     {
-        // Called for its clauses alone.
+        // Called only for its contract.
         xbar_plan::laws::every_plan_is_lawful(self.plan);
         self.markers[marker as usize].restart();
     }
 
-    /// The marker withdraws its request, and frees all that it holds.
+    /// Has a marker that was restarted withdraw its request, and free all that it holds.
     fn give_up(&mut self, marker: u32)
         requires within { marker < length self.old.exchange.markers }
         requires backs { IsBackingAt (slice_get self.old.exchange.markers marker) }
@@ -264,7 +266,7 @@ impl<'p> Exchange<'p> {
         }
     }
 
-    /// Has the marker give back what it holds, if it is not past its turn; it keeps its job.
+    /// Has the marker give back what it holds, unless it is past its turn. It keeps its job.
     pub fn give_back(&mut self, marker: u32) -> Given
         requires { marker < length self.old.exchange.markers }
         ensures back { self.new
@@ -279,22 +281,21 @@ impl<'p> Exchange<'p> {
         given
     }
 
-    /// Makes the marker's next steps up to its turn, or past it, as many as it comes to by itself and
-    /// no more than this, and gives their number.
+    /// Makes the marker's next steps up to its turn or past it, at most `most`, as far as it goes
+    /// on by itself. Returns their number.
     fn run(&mut self, marker: u32, most: u32) -> u32
         requires { marker < length self.old.exchange.markers }
         ensures steps { self.new
             ≡ record self.old { exchange = steps self.old.plan marker result self.old.exchange } }
         ensures most { result ≤ most }
     {
-        // Called for its clauses alone.
+        // Called only for its contract.
         xbar_plan::laws::every_plan_is_lawful(self.plan);
         let words = self.words.as_mut_slice();
         self.markers[marker as usize].run(self.plan, marker, words, most)
     }
 
-    /// Makes some of the marker's next steps, one at least and no more than this, and gives their
-    /// number.
+    /// Makes at least one and at most `most` of the marker's next steps, and returns their number.
     fn some_steps(&mut self, marker: u32, most: u32) -> u32
         requires marker { marker < length self.old.exchange.markers }
         requires most { 0 < most }
@@ -311,7 +312,7 @@ impl<'p> Exchange<'p> {
         1
     }
 
-    /// Makes so many steps of the marker. They end at once where it is idle.
+    /// Makes `count` steps of the marker, fewer if it is idle before.
     pub fn steps(&mut self, marker: u32, count: u32)
         requires { marker < length self.old.exchange.markers }
         ensures { self.new
@@ -335,7 +336,7 @@ impl<'p> Exchange<'p> {
         self.steps(marker, MOST_STEPS_ALONE);
     }
 
-    /// The marker, if it is past its turn, comes to the end of its job.
+    /// Brings the marker to the end of its job, if it is past its turn.
     fn end_past_turn(&mut self, marker: u32)
         requires { marker < length self.old.exchange.markers }
         ensures { self.new ≡ record self.old {
@@ -383,8 +384,9 @@ impl<'p> Exchange<'p> {
         }
     }
 
-    /// Brings every job to its end: in the order of their numbers the markers past their turn come to
-    /// their end, then all others give back, and then each of them does its job alone.
+    /// Brings every job to its end, in the order of the markers' numbers: first the markers past
+    /// their turn end their jobs, then all others give back, and then each of them does its job
+    /// alone.
     pub fn settle(&mut self)
         ensures settled { self.new
             ≡ record self.old { exchange = settled self.old.plan self.old.exchange } }
@@ -392,7 +394,7 @@ impl<'p> Exchange<'p> {
         ensures idle { (k : ℕ) (m : TheMarker) → slice_get self.new.exchange.markers k ≡ Some m →
             is_idle_work m.work ≡ true }
     {
-        // Called for its clauses alone.
+        // Called only for its contract.
         xbar_plan::laws::every_plan_is_lawful(self.plan);
         self.end_all_past_turn();
         self.give_back_all();

@@ -2,7 +2,7 @@ ghost use Rattle.std.specs.Prelude.{◌≡◌};
 
 use xbar_office::Job;
 
-/// What jobs a marker takes: early offices had one kind of marker, later ones split it in two.
+/// Which jobs a marker takes. Early offices had one kind of marker, later ones two.
 #[derive(Clone, Copy, Debug, PartialEq, Eq)]
 pub enum Kind {
     /// Dial tone jobs.

@@ -1,9 +1,10 @@
-//! What holds of every office of many markers, whatever moves its markers make in whatever order. Each
+//! Laws of every office of many markers, whatever moves its markers make in whatever order. Each
 //! function does nothing: its contract is the law.
 
 ghost use Rattle.std.specs.Prelude.{◌≡◌, ◌↔◌, ◌+◌, ◌<◌, ◌≤◌, ◌⊎◌, ◌^◌, ◌%◌, ◌∷◌, ◌++◌, ◌≢◌, ℕ, List, [], Option, Some, None, true, length, slice_get, slice_index};
 ghost use Rattle.turns.specs.Among.{IsIn};
-ghost use Rattle.turns.specs.Attempt.{Free, IsSeizing, Make, act, begin_with, change, read_in};
+ghost use Rattle.turns.specs.Attempt.{IsSeizing, act, begin_with, change, read_in};
+ghost use Rattle.turns.specs.declared.act.Act.TheVariants.{Free, Make};
 ghost use Rattle.turns.specs.System.{perform_all};
 ghost use Rattle.turns.specs.World as worlds;
 ghost use Rattle.turns.specs.declared.answer.Answer.{Answer};
@@ -41,8 +42,8 @@ ghost use Rattle.xbar_core.specs.declared.event.Event.{Event};
 ghost use Rattle.xbar_core.specs.declared.given.Given.{Given};
 ghost use Rattle.xbar_core.specs.declared.kind.Kind.{Kind};
 
-/// An office opens lawfully, and each assignment, each step of a marker, each beginning anew, each give back
-/// and each settling keeps it so. A step adds the record of its turn, if it is one, at the end.
+/// A new office is lawful, and each assignment, step, restart, give back and settling keeps it
+/// lawful. A step that is a turn adds its record at the end; any other step adds none.
 pub fn every_move_keeps_the_law()
     ensures opens { (plan : Tables) (kinds : List Kind) → IsLawful plan → length kinds ≤ 48 →
         IsLawfulExchange plan (fresh_exchange kinds) }
@@ -62,17 +63,18 @@ pub fn every_move_keeps_the_law()
         ≡ e.records ++ added_record k number a (answer_of k (next_step a) e.words) }
 {}
 
-/// Whatever moves any markers make, in whatever order, the office that they come to is lawful.
+/// Whatever moves any markers make, in whatever order, the office after them is lawful.
 pub fn every_run_is_lawful()
     ensures { (plan : Tables) (kinds : List Kind) (moves : List Move) → IsLawful plan →
         length kinds ≤ 48 → AreMoves moves → IsLawfulExchange plan (run_of plan kinds moves) }
 {}
 
-/// Jobs act at one step: the records are those of the one-marker office, which does the jobs whole, one
-/// after another in turn order; the turn word counts them; and the words show the set after them, once all
-/// effects are made that markers past their turns have left: as they are, where none is left. So they do
-/// where no connector is held, as where all markers are idle. Turn numbers are counted modulo 2^64, so they
-/// are places only in shorter lists.
+/// Jobs act at one step, their turn. The records are those of the one-marker office, which does
+/// the jobs whole, one after another in turn order, and the turn word counts them. Once all
+/// effects are made that markers past their turns have left, the words show the set of paths after
+/// these records. If no effect is left, they show it as they are: so it is if no connector is
+/// held, as when all markers are idle. Turn numbers are counted modulo 2^64, so they are indices
+/// only in shorter lists.
 pub fn jobs_act_at_their_turns()
     ensures jobs { (plan : Tables) (e : Exchange) → IsLawfulExchange plan e →
         AreJobs (jobs_of e.records) }
@@ -95,14 +97,15 @@ pub fn jobs_act_at_their_turns()
         ShowsOffice plan e.words (after plan e.records) }
 {}
 
-/// A connector's word tells who holds it and whose request for it stands.
+/// A connector's word tells which marker holds the connector, and which markers have requested it.
 pub fn connectors_tell_the_truth()
     ensures { (plan : Tables) (e : Exchange) (conn : Conn) → IsLawfulExchange plan e → IsConn conn →
         TellsTruth e conn (slice_index e.words (word_number (ConnWord conn))) }
 {}
 
-/// A protected word is tested or changed by the holder of its connector alone. What a marker has read
-/// before its turn is still what the words have. A step that frees a connector changes none.
+/// Only the holder of a connector tests or changes the words that the connector protects. What a
+/// marker has read before its turn is still in the words. A step that frees a connector changes no
+/// protected word.
 pub fn words_are_their_holders()
     ensures alone { (plan : Tables) (e : Exchange) (k number : ℕ) (a : Attempt) (conn : Conn) →
         IsLawfulExchange plan e → IsAt e k number a → Protects conn (step_word (next_step a)) →
@@ -118,8 +121,9 @@ pub fn words_are_their_holders()
         → slice_index (after_step plan k e).words n ≡ slice_index e.words n }
 {}
 
-/// No connector is requested or seized past the turn, and no effect comes before it. A marker keeps each
-/// connector that it has seized until it frees it: in giving back, or past its turn once no effect is left.
+/// An attempt requests and seizes no connector past its turn, and makes no effect before it. It
+/// keeps each connector that it has seized until it frees it: when it gives back, or past its turn
+/// once no effect is left.
 pub fn attempts_keep_their_order()
     ensures seizes { (a : Attempt) (turn : ℕ) → a.phase ≡ Phase.Operates turn →
         ¬ IsSeizing (act a) }
@@ -132,8 +136,8 @@ pub fn attempts_keep_their_order()
         ⊎ ((turn : ℕ) × (a.phase ≡ Phase.Operates turn) × (a.effects ≡ [])) }
 {}
 
-/// A job past its turn has its record in the order, with its turn, marker, number, job and reply, whether it
-/// has finished or not; a job that finishes has it at the place of its turn.
+/// A job past its turn has a record with its turn, marker, number, job and reply, whether it has
+/// finished or not. The record of a job that finishes is at the index of its turn.
 pub fn turned_jobs_are_recorded()
     ensures turned { (plan : Tables) (e : Exchange) (k number turn : ℕ) (a : Attempt) →
         IsLawfulExchange plan e → IsAt e k number a → a.phase ≡ Phase.Operates turn →
@@ -146,9 +150,9 @@ pub fn turned_jobs_are_recorded()
         (r.marker ≡ k) × (r.job_no ≡ number) × (r.job ≡ a.job) }
 {}
 
-/// A marker that gives back, as it may up to its turn, holds no connector afterwards and has no request
-/// standing, and is at its job's very beginning. Whether it does or not, it still has its job, under its
-/// number, and no record, no other marker and no protected word changes.
+/// A marker that gives back, as it may up to its turn, then holds no connector, has no request,
+/// and is at the very beginning of its job. Whether it gives back or not, it keeps its job under
+/// its number, and no record, no other marker and no protected word changes.
 pub fn giving_back_frees_all()
     ensures free { (plan : Tables) (e : Exchange) (k : ℕ) (conn : Conn) →
         given_at e k ≡ Given.Given →
@@ -166,8 +170,9 @@ pub fn giving_back_frees_all()
         → IsAt (given_back plan k e) k number (begin_with (first_conn a.job) a.job) }
 {}
 
-/// A marker is refused a connector that another holds, the one that is named; and another is preferred
-/// that has a lower number and has requested the connector, which nobody holds: of those the lowest.
+/// If a marker is refused a connector, the marker that is named holds it. If another marker is
+/// preferred, nobody holds the connector, and the one that is named has requested it, has a lower
+/// number, and has the lowest of all that have requested it.
 pub fn events_tell_the_truth()
     ensures refused { (plan : Tables) (e : Exchange) (k holder : ℕ) (conn : Conn) →
         IsLawfulExchange plan e → event_at_step plan k e ≡ Event.Refused conn holder →
@@ -181,9 +186,9 @@ pub fn events_tell_the_truth()
         → (conn : Conn) → AsksFor e k conn → (j : ℕ) → j < other → ¬ HasRequested e j conn }
 {}
 
-/// No link ever carries two calls. At each moment, half-done jobs included, each closed crosspoint belongs
-/// to a path: one of the set after all records, or one that a marker past its turn takes out and has still
-/// to open there. All closed crosspoints at one link belong to one path.
+/// No link ever carries two calls. At each moment, also amid jobs, each closed crosspoint belongs
+/// to a path: one of the set after all records, or one that a marker past its turn takes out and
+/// has yet to open there. All closed crosspoints at one link belong to one path.
 pub fn no_link_carries_two_calls()
     ensures belongs { (plan : Tables) (e : Exchange) (c : Crosspoint) → IsLawful plan →
         IsLawfulExchange plan e → IsClosed e.words c → (path : Path) × BelongsTo plan e path c }
@@ -193,10 +198,11 @@ pub fn no_link_carries_two_calls()
         × ((d : Crosspoint) → IsClosed e.words d → IsAtLink link d → BelongsTo plan e path d) }
 {}
 
-/// A release opens exactly its own crosspoints: what is fixed at its turn is the opening of the paths that
-/// its reply names, crosspoint by crosspoint, and the clearing of their member's bit, each closed or set
-/// when its turn comes, and nothing else; each step makes the first of what is left; and up to its end what
-/// is left is the end of it.
+/// A release opens exactly its own crosspoints. Its effects are fixed at its turn: to open the
+/// paths that its reply names, crosspoint by crosspoint, then to clear their member's bit, and
+/// nothing else. Each crosspoint is closed, and the bit set, until its effect is made. Each step
+/// makes the first effect that is left, and the effects left are always the last ones of this
+/// list.
 pub fn a_release_opens_its_own_crosspoints()
     ensures turn { (plan : Tables) (e : Exchange) (k number : ℕ) (a : Attempt)
         (line : Line) (own : Path) (other : Option Path) (cards : List Card) →
@@ -216,7 +222,8 @@ pub fn a_release_opens_its_own_crosspoints()
         OpensItsOwn plan own other e.words a.effects }
 {}
 
-/// Whatever moves are made, the records before them begin the records after them.
+/// Records are only ever added at the end: those before any moves are a prefix of those after
+/// them.
 pub fn records_only_grow()
     ensures moved { (plan : Tables) (e : Exchange) (move : Move)
         → (later : List Record) × ((after_move plan e move).records ≡ e.records ++ later) }
@@ -224,8 +231,9 @@ pub fn records_only_grow()
         → (later : List Record) × ((run_from plan e moves).records ≡ e.records ++ later) }
 {}
 
-/// A job past its turn comes to its end within as many steps of its marker as it has effects and connectors
-/// left, whatever other moves come in between. The step that frees its last connector tells its record.
+/// A job past its turn comes to its end within as many steps of its marker as it has effects and
+/// connectors left, whatever other moves come in between. The step that frees its last connector
+/// reports its record.
 pub fn jobs_past_their_turns_end()
     ensures ends { (plan : Tables) (e : Exchange) (moves : List Move) (k number turn : ℕ)
         (a : Attempt) → IsAt e k number a → a.phase ≡ Phase.Operates turn
@@ -237,9 +245,9 @@ pub fn jobs_past_their_turns_end()
         → (r : Record) × (event_at_step plan k e ≡ Event.Finished r) }
 {}
 
-/// An office that settles brings each job to its end: in the order of their numbers the markers past their
-/// turn run to their end, then all others give back, and then each runs to its end. There is but one office
-/// that this leads to.
+/// An office that settles brings each job to its end, in the order of the markers' numbers: first
+/// the markers past their turn run to their end, then all others give back, and then each runs to
+/// its end. Only one office can result.
 pub fn settling_ends_all_jobs()
     ensures settles { (plan : Tables) (e : Exchange) → IsLawful plan → IsLawfulExchange plan e
         → Settles plan e (settled plan e) }
@@ -249,8 +257,8 @@ pub fn settling_ends_all_jobs()
         → Settles plan e one → Settles plan e other → one ≡ other }
 {}
 
-/// A move of the office is that move of its world: a step, if a marker that gives back holds something
-/// still, as each does in a lawful office; to begin a job anew; and to be assigned one.
+/// A step, a restart and an assignment in the office are those moves of its world. Of a step this
+/// holds if a marker that gives back still holds a connector, as it does in every lawful office.
 pub fn moves_are_those_of_its_world()
     ensures steps { (plan : Tables) (e : Exchange) (k number : ℕ) (a : Attempt) → IsAt e k number a
         → (a.phase ≡ Phase.GivesBack → a.held ≢ [])

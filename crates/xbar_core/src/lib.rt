@@ -1,4 +1,4 @@
-//! Many markers at once, as plain data: the office's words, its markers, and the moves that they make.
+//! Many markers at once, as plain data: the office's words, its markers, and their moves.
 #![tactic(auto)]
 
 pub use assign_fault::AssignFault;

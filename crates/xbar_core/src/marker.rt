@@ -21,7 +21,7 @@ use xbar_jobs::{Answer, Step};
 use xbar_office::{Job, Record};
 use xbar_plan::Plan;
 
-/// A marker: its kind, and the job that it has, or the last one that it had.
+/// A marker: its kind, and its job, or the last one that it had.
 #[derive(Debug, Drop)]
 pub struct Marker {
     kind: Kind,
@@ -45,14 +45,14 @@ impl Marker {
         Marker { kind, work: None }
     }
 
-    /// What jobs it takes.
+    /// Which jobs the marker takes.
     pub fn kind(&self) -> Kind
         ensures { result ≡ self.now.kind }
     {
         self.kind
     }
 
-    /// Whether it has no job, or nothing is left of it.
+    /// Whether the marker has no job, or nothing is left of it.
     pub fn is_idle(&self) -> bool
         ensures { result ≡ is_idle_at self.now.work }
     {
@@ -62,7 +62,7 @@ impl Marker {
         }
     }
 
-    /// The step that it makes next: `Finished` where it has no job, or nothing is left of it.
+    /// The marker's next step: `Finished` if it has no job, or nothing is left of it.
     pub fn next_step(&self) -> Step
         ensures { result ≡ next_step_at self.now.work }
     {
@@ -72,7 +72,7 @@ impl Marker {
         }
     }
 
-    /// Whether its job has taken its turn.
+    /// Whether the marker's job has taken its turn.
     pub fn is_past_turn(&self) -> bool
         ensures { result ≡ is_turned self.now.work }
     {
@@ -82,7 +82,7 @@ impl Marker {
         }
     }
 
-    /// Whether its next step withdraws a request, or frees a connector.
+    /// Whether the marker's next step withdraws a request, or frees a connector.
     pub fn is_giving_up(&self) -> bool
         ensures { result ≡ gives_up_at self.now.work }
     {
@@ -92,7 +92,7 @@ impl Marker {
         }
     }
 
-    /// What comes of asking it to give back.
+    /// The outcome of asking the marker to give back.
     pub fn given(&self) -> Given
         ensures { result ≡ given_by self.now.work }
     {
@@ -105,7 +105,7 @@ impl Marker {
         }
     }
 
-    /// Why it can't be assigned the job.
+    /// Why the marker can't be assigned the job. None if it can.
     pub fn refuses(&self, job: &Job) -> Option<AssignFault>
         ensures { result ≡ refusal_of self.now job.now }
     {
@@ -118,7 +118,7 @@ impl Marker {
         }
     }
 
-    /// It has this job from now on, under a number, and is at its beginning.
+    /// Gives the marker a job under a number. It is at the job's beginning.
     pub fn begin(&mut self, job_no: u32, job: Job)
         ensures { self.new
             ≡ record self.old { work = Does job_no (begin_with (first_conn job) job) } }
@@ -126,7 +126,8 @@ impl Marker {
         self.work = Some(Work::begin(job_no, job));
     }
 
-    /// Begins its job anew, once all that it holds is given back. Past the turn nothing changes.
+    /// Restarts the job: the next steps give back all that is held, and then it begins anew. Past
+    /// the turn nothing changes.
     pub fn restart(&mut self)
         ensures { (plan : Tables) →
             self.new ≡ record self.old { work = work_anew plan self.old.work } }
@@ -136,7 +137,7 @@ impl Marker {
         }
     }
 
-    /// What came of its step that was answered so.
+    /// The outcome of the step that was just made, by its answer.
     fn event_of(&self, number: u32, step: Step, answer: Answer) -> Event
         ensures { (n : ℕ) (a after : Attempt) → step ≡ next_step a → self.now.work ≡ Does n after →
             result ≡ event_of number n a after answer }
@@ -147,7 +148,7 @@ impl Marker {
         }
     }
 
-    /// What came of its step, by what `advance` answered.
+    /// The outcome of the step that was just made, by what `advance` returned.
     pub fn event(&self, number: u32, step: Step, answer: Option<Answer>) -> Event
         ensures { (plan : Tables) (words : List ℕ) (before : TheWork) → step ≡ next_step_at before →
             IsAnswered plan number words before self.now.work answer →
@@ -159,8 +160,8 @@ impl Marker {
         }
     }
 
-    /// Makes its next step, as the marker of this number, and gives the answer to it. An idle marker
-    /// makes none. There is room for the record of its turn.
+    /// Makes the next step as marker `number`, and returns its answer. None if the marker is idle.
+    /// `records` must have room for the record of its turn.
     pub fn advance(
         &mut self,
         plan: &Plan,
@@ -190,8 +191,8 @@ impl Marker {
         }
     }
 
-    /// Makes its next steps by itself, as the marker of this number: as many as its job comes to, and
-    /// no more than this. Gives their number.
+    /// Makes next steps as marker `number`, at most `most`, as far as its job goes on by itself.
+    /// Returns their number.
     pub fn run(&mut self, plan: &Plan, number: u32, words: &mut [u64], most: u32) -> u32
         requires plan { StandsAt plan.now self.old.work }
         requires number { number < 48 }

@@ -7,7 +7,7 @@ use thiserror::Error;
 /// Why an office can't be opened.
 #[derive(Debug, Drop, Clone, Copy, PartialEq, Eq, Error)]
 pub enum OpenFault {
-    /// An office has 1 to 48 markers.
+    /// There are no markers, or more than 48.
     #[error("an office has 1 to 48 markers")]
     Markers,
     #[error("memory ran out")]

@@ -1,15 +1,15 @@
 ghost use Rattle.std.specs.Prelude.{◌≡◌, ◌+◌, ◌<◌, ◌≤◌, ◌++◌, ℕ, false, is_some, length, option_to_list, vec_capacity};
 ghost use Rattle.turns.specs.Attempt.{act, change, restarted, turn_in};
-ghost use Rattle.turns.specs.Runs.{is_rest};
+ghost use Rattle.turns.specs.Runs.{is_finished};
 ghost use Rattle.turns.specs.declared.phase.Phase.{Phase};
-ghost use Rattle.attempts.specs.Live.{LeadsTo};
+ghost use Rattle.attempts.specs.WalkOnWords.{LeadsTo};
 ghost use Rattle.xbar_equip.specs.Word.{word_count};
 ghost use Rattle.xbar_plan.specs.Tables.{Tables};
 ghost use Rattle.xbar_jobs.specs.Attempt.{Attempt, counted, fresh, next_step, with_count};
 ghost use Rattle.xbar_jobs.specs.Office.{office};
 ghost use Rattle.xbar_jobs.specs.OnWords.{words_after};
-ghost use Rattle.xbar_jobs.specs.Standing.{Stands};
-ghost use Rattle.xbar_core.specs.AtWork.{conn_asked, gives_up as gives_up_of, told_of};
+ghost use Rattle.xbar_jobs.specs.Standing.{IsValid};
+ghost use Rattle.xbar_core.specs.AtWork.{conn_asked, gives_up as gives_up_of, answer_to_step};
 ghost use Rattle.xbar_core.specs.Moves.{event_of, own_record, added_record};
 ghost use Rattle.xbar_core.specs.Standing.{waits_in};
 
@@ -19,7 +19,7 @@ use xbar_jobs::{Answer, Program, Step};
 use xbar_office::{Job, Record};
 use xbar_plan::Plan;
 
-/// A job that was assigned to a marker, and how far the marker is with it.
+/// A job that was assigned to a marker, and the marker's attempt at it.
 #[derive(Debug, Drop)]
 pub struct Work {
     job_no: u32,
@@ -42,7 +42,7 @@ fn gives_up(step: Step) -> bool
     }
 }
 
-/// The connector that a step asks for.
+/// The connector that a step requests or tries to seize.
 fn asked_by(step: Step) -> Option<Conn>
     ensures { result ≡ conn_asked step }
 {
@@ -69,7 +69,7 @@ impl Work {
         }
     }
 
-    /// The step that is to be made next, `Finished` once nothing is left of the job.
+    /// The job's next step: `Finished` once nothing is left of the job.
     pub fn next_step(&self) -> Step
         ensures { result ≡ next_step self.now.program.attempt }
     {
@@ -78,7 +78,7 @@ impl Work {
 
     /// Whether nothing is left of the job.
     pub fn is_done(&self) -> bool
-        ensures { result ≡ is_rest (act self.now.program.attempt) }
+        ensures { result ≡ is_finished (act self.now.program.attempt) }
     {
         self.program.next() == Step::Finished
     }
@@ -90,14 +90,15 @@ impl Work {
         self.program.turn().is_some()
     }
 
-    /// Whether its next step withdraws a request, or frees a connector.
+    /// Whether the job's next step withdraws a request, or frees a connector.
     pub fn is_giving_up(&self) -> bool
         ensures { result ≡ gives_up_of (next_step self.now.program.attempt) }
     {
         gives_up(self.program.next())
     }
 
-    /// Begins the job anew, once all that it holds is given back. Past the turn nothing changes.
+    /// Restarts the job: the next steps give back all that is held, and then it begins anew. Past
+    /// the turn nothing changes.
     pub fn restart(&mut self)
         ensures { (plan : Tables) → self.new ≡ record self.old {
           program = with_count self.old.program.count
@@ -107,7 +108,7 @@ impl Work {
         self.program.restart();
     }
 
-    /// The job's record, once it has turned.
+    /// The job's record, once it has taken its turn.
     fn record(&self, marker: u32) -> Option<Record>
         ensures { option_to_list result
             ≡ own_record marker self.now.job_no self.now.program.attempt }
@@ -123,7 +124,7 @@ impl Work {
         })
     }
 
-    /// Adds the record of the turn that the job has just taken, if that is what it did.
+    /// Adds the job's record, if this was the answer to its turn.
     fn enter(&self, marker: u32, answer: Answer, records: &mut Vec<Record>)
         requires turned { (turn : ℕ) → answer ≡ Answer.Turn turn →
             self.now.program.attempt.phase ≡ Phase.Operates turn }
@@ -142,7 +143,7 @@ impl Work {
         }
     }
 
-    /// What came of a step that was answered so.
+    /// The outcome of the step that was just made, by its answer.
     pub fn event(&self, marker: u32, step: Step, answer: Answer) -> Event
         ensures { (a : Attempt) → step ≡ next_step a →
             result ≡ event_of marker self.now.job_no a self.now.program.attempt answer }
@@ -159,16 +160,16 @@ impl Work {
                     None => Event::Moved,
                 }
             }
-            Answer::Asked(_)
+            Answer::Requested(_)
             | Answer::Seized
-            | Answer::Again(_)
+            | Answer::Changed(_)
             | Answer::Value(_)
             | Answer::Turn(_) => Event::Moved,
         }
     }
 
-    /// Makes the job's next step on the words, and gives the answer to it. A turn adds its record, for
-    /// which there is room.
+    /// Makes the job's next step on the words, and returns its answer. A turn adds the job's
+    /// record, for which `records` must have room.
     pub fn step(
         &mut self,
         plan: &Plan,
@@ -176,8 +177,8 @@ impl Work {
         words: &mut [u64],
         records: &mut Vec<Record>,
     ) -> Answer
-        requires plan { Stands plan.now self.old.program.attempt }
-        requires goes_on { is_rest (act self.old.program.attempt) ≡ false }
+        requires plan { IsValid plan.now self.old.program.attempt }
+        requires goes_on { is_finished (act self.old.program.attempt) ≡ false }
         requires marker { marker < 48 }
         requires words { length words.old ≡ word_count }
         requires room { length records.old.items + waits_in self.old.program.attempt.phase
@@ -185,15 +186,15 @@ impl Work {
         ensures work { self.new ≡ record self.old {
           program = with_count (counted self.old.program.count)
               (change (office plan.now) self.old.program.attempt
-              (told_of marker words.old self.old.program.attempt));
+              (answer_to_step marker words.old self.old.program.attempt));
         } }
         ensures words { words.new
             ≡ words_after marker (next_step self.old.program.attempt) words.old }
         ensures records { records.new.items ≡ records.old.items
             ++ added_record marker self.old.job_no self.old.program.attempt
-            (told_of marker words.old self.old.program.attempt) }
+            (answer_to_step marker words.old self.old.program.attempt) }
         ensures room { vec_capacity records.old ≤ vec_capacity records.new }
-        ensures answer { result ≡ told_of marker words.old self.old.program.attempt }
+        ensures answer { result ≡ answer_to_step marker words.old self.old.program.attempt }
     {
         let answer = self.program.next().make(marker, words);
         self.program.take(plan, answer);
@@ -201,8 +202,8 @@ impl Work {
         answer
     }
 
-    /// Whether its next step is one that it makes by itself: past its turn each is, and before it
-    /// those of its script, unless another marker holds or requests the connector.
+    /// Whether `Program::run` may make the next step: a request for a connector that nobody holds
+    /// or requests, a test, an effect, or a free past the turn.
     fn goes_on(&self, words: &[u64]) -> bool {
         match self.program.next() {
             Step::Request(conn) => { words.get(usize::from(conn_word(conn).number())) == Some(&0) }
@@ -212,11 +213,11 @@ impl Work {
         }
     }
 
-    /// Makes the job's next steps on the words by itself, as many as its program comes to and no more
-    /// than this, and gives their number. None of them is its turn.
-    #[tactic(auto, using(attempts::proofs::LiveRuns::made_none))]
+    /// Makes the job's next steps on the words, at most `most`, as far as it goes on by itself.
+    /// Returns their number. None of them is the turn.
+    #[tactic(auto, using(attempts::proofs::WalkRuns::made_none))]
     pub fn run(&mut self, plan: &Plan, marker: u32, words: &mut [u64], most: u32) -> u32
-        requires plan { Stands plan.now self.old.program.attempt }
+        requires plan { IsValid plan.now self.old.program.attempt }
         requires marker { marker < 48 }
         requires words { length words.old ≡ word_count }
         ensures job { self.new.job_no ≡ self.old.job_no }

@@ -39,6 +39,6 @@ written_more text k n d within below before here =
     take_more text k 0 within ∙ ap (λ front. front ++ get_or text k 0 ∷ []) before ∙ ap (λ x. digits k n ++ x ∷ []) here
     ∙ rw add-one (sym (digits-snoc k n d below))
 
--- the same of the test that all are digits
+-- one more byte: whether all so far are digits
 pub tested_more : (text : List ℕ) (k : ℕ) → k < length text → are_digits (take k text) ≡ true → IsTrue (is_ascii_digit (get_or text k 0)) → are_digits (take (k + 1) text) ≡ true
 tested_more text k within before here = list_all_more is_ascii_digit text k 0 within ∙ ap (λ b. b && is_ascii_digit (get_or text k 0)) before ∙ here

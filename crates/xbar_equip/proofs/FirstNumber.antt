@@ -30,7 +30,7 @@ from_here test k bound here later j from below =
 unfoldable pub Finds : (ℕ → Bool) → ℕ → ℕ → Option ℕ → Type 0
 Finds test k count found = MatchOption found (NonePasses test k count) (λ r. IsFirst test k count r)
 
--- the search from suc k on, where k fails
+-- if k fails, the search from k on finds what the search from suc k on finds
 later_found : (test : ℕ → Bool) (k count : ℕ) (found : Option ℕ) → test k ≡ false → Finds test (suc k) count found → Finds test k (suc count) found
 unfolding Finds
 later_found test k count None here none = λ j from below. from_here test k (suc k + count) here none j from (omega arith)
@@ -41,7 +41,7 @@ later_found test k count (Some r) here is = record {
   earlier = from_here test k r here is.earlier;
 }
 
--- the search at k: by what the test says there
+-- the search from k on, by the result of the test at k
 here_found : (test : ℕ → Bool) (k count : ℕ) (b : Bool) → test k ≡ b → Finds test (suc k) count (first_from test (suc k) count) → Finds test k (suc count) (if b then Some k else first_from test (suc k) count)
 unfolding Finds
 here_found test k count true here rest = record { from = omega arith; below = omega arith; passes = here; earlier = λ j from below. absurd (omega arith) }
@@ -62,12 +62,13 @@ pub first_below-law : (test : ℕ → Bool) (count : ℕ) → IsFirstBelow test 
 unfolding first_below
 first_below-law test count = plain test count (first_from test 0 count) (first_from-finds test 0 count)
 
--- the law of the channel test: the first number of the order, as the channel that it stands for
+-- the law of the channel test: the first number that passes, as the channel at that position of
+-- the order
 pub in_turn-law : (test : ℕ → Bool) (turn : ℕ → ℕ) (found : Option ℕ) → IsFirstBelow test 10 found → MatchOption (option_map turn found) ((j : ℕ) → j < 10 → test j ≡ false) (λ channel. (k : ℕ) × (k < 10) × (channel ≡ turn k) × (test k ≡ true) × ((j : ℕ) → j < k → test j ≡ false))
 in_turn-law test turn None none = none
 in_turn-law test turn (Some k) is = (k, is.0, refl, is.1, is.2)
 
--- the search answers a number that passes, where none before it does
+-- the search finds a number that passes if none before it does
 pub first_below-found : (test : ℕ → Bool) (count k : ℕ) → k < count → test k ≡ true → ((j : ℕ) → j < k → test j ≡ false) → first_below test count ≡ Some k
 first_below-found test count k below passes earlier = one_first (first_below test count) (first_below-law test count) where
   one_first : (found : Option ℕ) → IsFirstBelow test count found → found ≡ Some k
@@ -77,7 +78,7 @@ first_below-found test count k below passes earlier = one_first (first_below tes
     | inr from ↦ elim (at_or_after k r from) [ inl same ↦ ap Some (sym same) | inr after ↦ absurd (true≢false (sym passes ∙ is.2 k after)) ]
   ]
 
--- and none where none passes
+-- and nothing if none passes
 pub first_below-none : (test : ℕ → Bool) (count : ℕ) → ((j : ℕ) → j < count → test j ≡ false) → first_below test count ≡ None
 first_below-none test count none = no_first (first_below test count) (first_below-law test count) where
   no_first : (found : Option ℕ) → IsFirstBelow test count found → found ≡ None
@@ -91,7 +92,7 @@ module _ (test : ℕ → Bool) (count k : ℕ) where
   answer : Option ℕ → ℕ
   answer found = unwrap_or (option_map (λ j. k + 1 + j) found) k
 
-  -- the first number after one that passes is the next
+  -- the first number after k that passes is the next
   pub next_below-found : (next : ℕ) → k + 1 ≤ next → next < count → test next ≡ true → ((j : ℕ) → k + 1 + j < next → test (k + 1 + j) ≡ false) → next_below test count k ≡ next
   unfolding after answer
   next_below-found next from below passes earlier =
@@ -100,7 +101,7 @@ module _ (test : ℕ → Bool) (count k : ℕ) where
       let found = first_below-found after (count - (k + 1)) step (omega arith) (ap test here ∙ passes) (λ j before. earlier j (omega arith)) in
       ap answer found ∙ here
 
-  -- where none passes after it, it is the next itself
+  -- if none after k passes, the next is k itself
   pub next_below-none : ((j : ℕ) → k + 1 + j < count → test (k + 1 + j) ≡ false) → next_below test count k ≡ k
   unfolding after answer
   next_below-none none = ap answer (first_below-none after (count - (k + 1)) (λ j before. none j (omega arith)))

@@ -30,13 +30,13 @@ each_more P xs last before here x within = elim (in_either x xs (last ∷ []) wi
   | inr back ↦ elim back [ inl e ↦ subst P (sym e) here | inr none ↦ absurd none ]
 ]
 
--- an item that stands somewhere is among the items
+-- an item at some index is one of the items
 pub item_in : {A : Type 0} (xs : List A) (i : ℕ) (x : A) → slice_get xs i ≡ Some x → IsIn x xs
 item_in [] i x e = cc
 item_in (y ∷ xs) zero x e = let same : x ≡ y = cc in inl same
 item_in (y ∷ xs) (suc i) x e = inr (item_in xs i x e)
 
--- what one item of a list gives is among what all give
+-- what f gives for one item is among what it gives for all
 pub in_flat_map : {A B : Type 0} (f : A → List B) (xs : List A) (x : A) (y : B) → IsIn x xs → IsIn y (f x) → IsIn y (flat_map f xs)
 in_flat_map f [] x y within own = absurd within
 in_flat_map {A} f (a ∷ xs) x y (inl e) own = in_front y (f a) (flat_map f xs) (subst (λ (z : A). IsIn y (f z)) e own)
@@ -57,17 +57,17 @@ pub all_more : {A : Type 0} (p : A → Bool) (xs : List A) (i : ℕ) (x : A) →
 all_more p xs i x within read passes before =
     list_all_more p xs i x within ∙ both_hold (list_all p (take i xs)) (p (get_or xs i x)) before (ap p (sym read) ∙ passes)
 
--- where those up to the end pass, all do
+-- if the items up to the end pass, all do
 pub all_taken : {A : Type 0} (p : A → Bool) (xs : List A) (i : ℕ) → length xs ≤ i → list_all p (take i xs) ≡ true → list_all p xs ≡ true
 all_taken p xs i past all = ap (list_all p) (sym (take_all i xs past)) ∙ all
 
--- an item that passes makes some item pass
+-- if one item passes, some item passes
 pub any_passes : {A : Type 0} (p : A → Bool) (xs : List A) (x : A) → IsIn x xs → p x ≡ true → list_any p xs ≡ true
 any_passes p [] x within passes = absurd within
 any_passes p (y ∷ xs) x (inl e) passes = either_holds (p y) (list_any p xs) (inl (ap p (sym e) ∙ passes))
 any_passes p (y ∷ xs) x (inr later) passes = either_holds (p y) (list_any p xs) (inr (any_passes p xs x later passes))
 
--- where the test finds only the item itself, an item that is found is among the items
+-- if only x passes the test and some item passes, x is one of the items
 pub any_is_in : {A : Type 0} (p : A → Bool) (x : A) → ((y : A) → p y ≡ true → y ≡ x) → (xs : List A) → list_any p xs ≡ true → IsIn x xs
 any_is_in p x only [] some = cc
 any_is_in p x only (y ∷ xs) some = elim (either (p y) (list_any p xs) some) [
@@ -75,7 +75,7 @@ any_is_in p x only (y ∷ xs) some = elim (either (p y) (list_any p xs) some) [
   | inr there ↦ inr (any_is_in p x only xs there)
 ]
 
--- what a search finds is among the items, and passes
+-- what a search finds is one of the items, and passes
 pub found_passes : {A : Type 0} (p : A → Bool) (xs : List A) (x : A) → find p xs ≡ Some x → IsIn x xs × (p x ≡ true)
 found_passes p [] x e = cc
 found_passes {A} p (y ∷ xs) x e = of (p y) refl (found_passes p xs x) e where

@@ -9,7 +9,7 @@ use Rattle.xbar_equip.specs.declared.path.Path.{Path}
 use Rattle.xbar_equip.specs.declared.crosspoint.Crosspoint.{Crosspoint}
 use Rattle.xbar_equip.proofs.WordNumbers.{distinct}
 
--- the link that a field of a switch's word stands for; other words have no fields
+-- the link that a field of a switch's word is for; other words have no fields
 abbrev pub field_link : Word → ℕ → Link
 field_link (LineSwitch frame switch) field = record { kind = LineLink; frame = frame; at = switch; channel = field }
 field_link (LineJunctor frame channel) field = record { kind = Junctor; frame = frame; at = field; channel = channel }
@@ -21,7 +21,7 @@ field_link w field = record { kind = LineLink; frame = 0; at = 0; channel = 0 }
 abbrev pub HasLink : Path → Link → Type 0
 HasLink path link = (line_link path ≡ link) ⊎ (junctor path ≡ link) ⊎ (trunk_link path ≡ link)
 
--- a crosspoint of a path stands at a field of a switch, whose link is the path's
+-- a crosspoint of a path is at a field of a switch whose link is one of the path's
 pub record StandsAtLink (path : Path) (c : Crosspoint) : Type 0 where
   pub switch : Word
   pub is_word : IsWord switch
@@ -58,7 +58,7 @@ stands path c in_range (inr (inr (inr (inr none)))) = absurd none
 kinds : (a b : Link) → a ≡ b → a.kind ≡ b.kind
 kinds a b e = ap (λ (l : Link). l.kind) e
 
--- two paths with one link share a part
+-- two paths with a link in common share a part
 pub share : (p q : Path) (link : Link) → HasLink p link → HasLink q link → SharesPart p q
 share p q link (inl a) (inl b) = inr (inr (inl (a ∙ sym b)))
 share p q link (inr (inl a)) (inr (inl b)) = inr (inr (inr (inl (a ∙ sym b))))
@@ -70,7 +70,7 @@ share p q link (inr (inl a)) (inr (inr b)) = let e = kinds _ _ (a ∙ sym b) in 
 share p q link (inr (inr a)) (inl b) = let e = kinds _ _ (a ∙ sym b) in cc
 share p q link (inr (inr a)) (inr (inl b)) = let e = kinds _ _ (a ∙ sym b) in cc
 
--- paths whose crosspoints meet at one field of one word share a part
+-- paths with crosspoints at the same field of the same word share a part
 pub meet : (p q : Path) (c d : Crosspoint) → IsPath p → IsPath q → IsIn c (crosspoints p) → IsIn d (crosspoints q) → c.word ≡ d.word → c.field ≡ d.field → SharesPart p q
 meet p q c d in_p in_q c_in d_in word field =
     let at_p = stands p c in_p c_in in

@@ -24,7 +24,7 @@ both_equal Less b e = cc
 both_equal Equal b e = (refl, e)
 both_equal Greater b e = cc
 
--- by three parts in turn: where they compare alike, each part does
+-- if a comparison by three parts finds no difference, each part compares equal
 three_equal : (a b c : Ordering) → ordering_then a (ordering_then b c) ≡ Equal → (a ≡ Equal) × (b ≡ Equal) × (c ≡ Equal)
 three_equal a b c e =
     let first = both_equal a (ordering_then b c) e in
@@ -47,7 +47,7 @@ exact_place a b e =
     let appearance = exact_unsigned a.appearance b.appearance parts.2 in
     λ i. record { frame = frame i; switch = switch i; appearance = appearance i }
 
--- paths that compare alike are one
+-- paths that compare equal are the same
 pub exact_path : (p q : Path) → path_cmp p q ≡ Equal → p ≡ q
 exact_path p q e =
     let parts = three_equal (line_cmp p.line q.line) (nat_cmp p.channel q.channel) (place_cmp p.place q.place) e in
@@ -64,6 +64,6 @@ never_before_itself p e = clash (path_cmp p p) e (path_cmp_total.antisymm p p) w
   clash Equal a b = cc
   clash Greater a b = cc
 
--- the order the other way round
+-- if p comes after q, q comes before p
 pub before_of_after : (p q : Path) → path_cmp p q ≡ Greater → path_cmp q p ≡ Less
 before_of_after p q e = path_cmp_total.antisymm q p ∙ ap ordering_reverse e

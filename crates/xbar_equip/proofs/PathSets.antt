@@ -9,18 +9,18 @@ use Rattle.xbar_equip.specs.Paths.{IsSet, IsBeforeAll, with_path, without_path}
 use Rattle.xbar_equip.specs.declared.path.Path.{Path}
 use Rattle.xbar_equip.proofs.PathOrder.{path_cmp_total, exact_path, never_before_itself, before_of_after}
 
--- the path that the first comes before all of includes each that is in the list
+-- a path that comes before all of a list comes before each of its items
 pub before-in : (p : Path) (paths : List Path) (q : Path) → IsBeforeAll p paths → IsIn q paths → path_cmp p q ≡ Less
 before-in p [] q before within = absurd within
 before-in p (r ∷ paths) q before (inl e) = ap (path_cmp p) e ∙ before.0
 before-in p (r ∷ paths) q before (inr within) = before-in p paths q before.1 within
 
--- what comes before a path comes before all that the path comes before
+-- a path that comes before q comes before all that q comes before
 pub before-trans : (p q : Path) (paths : List Path) → path_cmp p q ≡ Less → IsBeforeAll q paths → IsBeforeAll p paths
 before-trans p q [] less before = tt
 before-trans p q (r ∷ paths) less before = (path_cmp_total.trans p q r less before.0, before-trans p q paths less before.1)
 
--- a path that comes before all is not among them
+-- a path that comes before all of a list is not in it
 pub before-apart : (p : Path) (paths : List Path) → IsBeforeAll p paths → IsIn p paths → ⊥
 before-apart p paths before within = never_before_itself p (before-in p paths p before within)
 
@@ -47,7 +47,8 @@ pub in-with : (paths : List Path) (path q : Path) → (q ≡ path) ⊎ IsIn q pa
 in-with [] path q within = within
 in-with (p ∷ paths) path q within = in_with_at (path_cmp path p) path p q paths refl (in-with paths path q) within
 
--- what comes before a path and before all of a list comes before all of the list with the path
+-- a path that comes before another path and before all of a list comes before all of the list with
+-- that path added
 before_with_at : (o : Ordering) (first path p : Path) (paths : List Path) → path_cmp first path ≡ Less → IsBeforeAll first (p ∷ paths) → IsBeforeAll first (with_path paths path) → IsBeforeAll first (match_ordering o (path ∷ p ∷ paths) (p ∷ paths) (p ∷ with_path paths path))
 before_with_at Less first path p paths less before later = (less, before)
 before_with_at Equal first path p paths less before later = before
@@ -111,19 +112,20 @@ pub set-without : (paths : List Path) (path : Path) → IsSet paths → IsSet (w
 set-without [] path set = tt
 set-without (p ∷ paths) path set = set_without_at (path_cmp path p) path p paths set (set-without paths path set.1)
 
--- the first paths of two sets with the same paths are one
+-- the first paths of two sets with the same paths are the same
 firsts : (p q : Path) (a b : List Path) → IsBeforeAll p a → IsBeforeAll q b → IsIn p (q ∷ b) → IsIn q (p ∷ a) → p ≡ q
 firsts p q a b before_a before_b (inl same) there = same
 firsts p q a b before_a before_b (inr later) (inl same) = sym same
 firsts p q a b before_a before_b (inr later) (inr earlier) =
     absurd (never_before_itself p (path_cmp_total.trans p q p (before-in p a q before_a earlier) (before-in q b p before_b later)))
 
--- what is in both sets beside the first path is in the rest of the other
+-- if two sets have the same first path, a later path of the one that is in the other is a later
+-- path there
 in_rest : (p q x : Path) (a b : List Path) → p ≡ q → IsBeforeAll p a → IsIn x a → IsIn x (q ∷ b) → IsIn x b
 in_rest p q x a b same before within (inl first) = absurd (before-apart p a before (subst (λ (y : Path). IsIn y a) (first ∙ sym same) within))
 in_rest p q x a b same before within (inr there) = there
 
--- two sets with the same paths are one list
+-- two sets with the same paths are the same list
 pub same_set : (a b : List Path) → IsSet a → IsSet b → ((x : Path) → IsIn x a ↔ IsIn x b) → a ≡ b
 same_set [] [] set_a set_b same = refl
 same_set [] (q ∷ b) set_a set_b same = absurd ((same q).1 (inl refl))

@@ -17,7 +17,7 @@ use Rattle.xbar_equip.specs.declared.path.Path.{Path}
 number_eq-itself : (n : ℕ) → (n == n) ≡ true
 number_eq-itself n = eq-eqb n n refl
 
--- the test finds two lines equal exactly where they are one
+-- the test finds two lines equal exactly if they are the same
 pub line_eq-exact : (a b : Line) → (line_eq a b ≡ true) ↔ (a ≡ b)
 line_eq-exact a b = (one, λ same. ap (line_eq a) (sym same) ∙ itself a) where
   one : line_eq a b ≡ true → a ≡ b
@@ -49,7 +49,7 @@ place_eq-exact a b = (one, λ same. ap (place_eq a) (sym same) ∙ itself a) whe
   itself l = both_hold (l.frame == l.frame && l.switch == l.switch) (l.appearance == l.appearance)
       (both_hold (l.frame == l.frame) (l.switch == l.switch) (number_eq-itself l.frame) (number_eq-itself l.switch)) (number_eq-itself l.appearance)
 
--- the same of kinds of link
+-- kinds of link that the test finds equal are the same
 kind_eq-one : (a b : LinkKind) → kind_eq a b ≡ true → a ≡ b
 kind_eq-one LineLink LineLink e = refl
 kind_eq-one Junctor Junctor e = refl
@@ -89,7 +89,7 @@ link_eq-exact a b = (one, λ same. ap (link_eq a) (sym same) ∙ itself a) where
       (both_hold (kind_eq l.kind l.kind) (l.frame == l.frame) (kind_eq-itself l.kind) (number_eq-itself l.frame)) (number_eq-itself l.at))
       (number_eq-itself l.channel)
 
--- a path has a link exactly where it is one of its three
+-- a path has a link exactly if the link is one of its three
 pub has_link-exact : (link : Link) (path : Path) → (has_link link path ≡ true) ↔ ((line_link path ≡ link) ⊎ (junctor path ≡ link) ⊎ (trunk_link path ≡ link))
 has_link-exact link path = (one, has) where
   l : Bool
@@ -115,12 +115,12 @@ has_link-exact link path = (one, has) where
   has (inr (inl e)) = either_holds (l || j) t (inl (either_holds l j (inr ((link_eq-exact (junctor path) link).1 e))))
   has (inr (inr e)) = either_holds (l || j) t (inr ((link_eq-exact (trunk_link path) link).1 e))
 
--- where none of the paths has it, it is idle
+-- what no path has is idle
 pub idle-none : (has : Path → Bool) (paths : List Path) → ((p : Path) → IsIn p paths → has p ≡ false) → is_idle has paths ≡ true
 idle-none has [] none = refl
 idle-none has (p ∷ paths) none = ap (λ b. not (b || list_any has paths)) (none p (inl refl)) ∙ idle-none has paths (λ q within. none q (inr within))
 
--- where it is idle, none of the paths has it
+-- what is idle no path has
 pub none-idle : (has : Path → Bool) (paths : List Path) → is_idle has paths ≡ true → (p : Path) → IsIn p paths → has p ≡ false
 none-idle has [] idle p within = absurd within
 none-idle has (q ∷ paths) idle p (inl same) = ap has same ∙ (not_either (has q) (list_any has paths) idle).0

@@ -58,7 +58,7 @@ path_in_range path e =
     let x = three (is_line path.line) (nat_lt path.channel 10) (is_trunk_place path.place) e in
     record { line = line_in_range path.line x.0; channel = ltb-true path.channel 10 x.1; place = place_in_range path.place x.2 }
 
--- each item of a list is in range where all pass the test
+-- each item of a list is in range if all pass the test
 pub lines_in_range : (lines : List Line) → list_all is_line lines ≡ true → (line : Line) → IsIn line lines → IsLine line
 lines_in_range lines all line within = line_in_range line (each_passes is_line lines line all within)
 

@@ -1,4 +1,4 @@
--- Texts and their lines.
+-- texts and their lines
 use Rattle.std.proofs.Common.{◌≡◌, ℕ, Bool, true, false, cond, List, [], ◌∷◌, ◌++◌, refl, sym, ap, ◌∙◌, append_assoc}
 use Rattle.std.specs.Prelude.{◌==◌, not, flat_map}
 use Rattle.std.specs.List.{list_all, onto_first}
@@ -10,7 +10,7 @@ plain : (x : ℕ) (b : Bool) (text : List ℕ) → not b ≡ true → cond b ((x
 plain x true text h = cc
 plain x false text h = refl
 
--- a byte that is no end of a line is the first of its line
+-- a byte that is not a line feed goes to the front of the first line
 more_of_line : (x : ℕ) (text : List ℕ) → not (x == 10) ≡ true → lines (x ∷ text) ≡ onto_first x (lines text)
 unfolding lines
 more_of_line x text h = plain x (x == 10) text h
@@ -19,7 +19,7 @@ end_of_line : (rest : List ℕ) → lines (10 ∷ rest) ≡ (10 ∷ []) ∷ line
 unfolding lines
 end_of_line rest = refl
 
--- no text has no line
+-- the empty text has no lines
 pub lines_of_nothing : lines [] ≡ []
 unfolding lines
 lines_of_nothing = refl
@@ -36,7 +36,7 @@ whole_line_first line rest w =
     let text : line ++ rest ≡ w.front ++ 10 ∷ rest = ap (λ (l : List ℕ). l ++ rest) w.line_is ∙ append_assoc w.front (10 ∷ []) rest in
     ap lines text ∙ lines_of_more w.front rest w.lacks ∙ ap (λ (l : List ℕ). l ∷ lines rest) (sym w.line_is)
 
--- what ends with no end of a line is a line too
+-- a text without a line feed is one line
 pub lines_of_rest : (x : ℕ) (text : List ℕ) → Lacks 10 (x ∷ text) → lines (x ∷ text) ≡ (x ∷ text) ∷ []
 lines_of_rest x [] h = more_of_line x [] (both (not (x == 10)) true h).0 ∙ ap (onto_first x) lines_of_nothing
 lines_of_rest x (y ∷ text) h =
@@ -55,7 +55,7 @@ joined_by x true text e h =
 joined_by x false text e h =
     ap (flat_map (λ (l : List ℕ). l)) (more_of_line x text (ap not e)) ∙ first_of x (lines text) ∙ ap (λ (more : List ℕ). x ∷ more) h
 
--- the lines of a text, one behind the other, are the text
+-- the lines of a text, joined, are the text
 pub joined_lines : (text : List ℕ) → flat_map (λ (l : List ℕ). l) (lines text) ≡ text
 joined_lines [] = ap (flat_map (λ (l : List ℕ). l)) lines_of_nothing
 joined_lines (x ∷ text) = joined_by x (x == 10) text refl (joined_lines text)

@@ -8,7 +8,7 @@ use Rattle.xbar_equip.specs.declared.conn.Conn.TheVariants.{Llf, Tlf, Group}
 ap₂ : {A B C : Type 0} (f : A → B → C) {a a' : A} {b b' : B} → a ≡ a' → b ≡ b' → f a b ≡ f a' b'
 ap₂ f {a} {a'} {b} {b'} p q = ap (λ x. f x b) p ∙ ap (λ y. f a' y) q
 
--- the connectors' words stand between the groups' words and the turn word
+-- the numbers of connectors' words are between those of the groups' words and the turn word
 pub conn_range : (c : Conn) → IsConn c → (416 ≤ word_number (ConnWord c)) × (word_number (ConnWord c) < 452)
 conn_range (Llf f) a = (omega arith, omega arith)
 conn_range (Tlf f) a = (omega arith, omega arith)
@@ -20,7 +20,7 @@ distinct_conns (Tlf f) (Tlf g) a b e = ap Tlf (omega arith)
 distinct_conns (Group f) (Group g) a b e = ap Group (omega arith)
 distinct_conns c d a b e = absurd (omega arith)
 
--- no two words have one number
+-- distinct words have distinct numbers
 pub distinct : (v w : Word) → IsWord v → IsWord w → word_number v ≡ word_number w → v ≡ w
 distinct (LineSwitch f s) (LineSwitch g t) a b e = ap₂ LineSwitch (omega arith) (omega arith)
 distinct (LineJunctor f s) (LineJunctor g t) a b e = ap₂ LineJunctor (omega arith) (omega arith)
@@ -42,7 +42,7 @@ pub record Named (n : ℕ) : Type 0 where
 named : {n : ℕ} (w : Word) → IsWord w → word_number w ≡ n → Named n
 named w h e = record { word = w; is_word = h; number = e }
 
--- each number of a word is a word's
+-- each number below the count of words is the number of a word
 pub each_named : (n : ℕ) → n < word_count → Named n
 each_named n h = elim (cases_lt n 200) [ inl a ↦ line_side a | inr a ↦ elim (cases_lt n 400) [ inl b ↦ trunk_side a b | inr b ↦ others a b ] ] where
   line_side : n < 200 → Named n

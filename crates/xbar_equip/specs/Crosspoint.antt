@@ -3,14 +3,14 @@ use Rattle.xbar_equip.specs.Word.{Word, word_number, LineSwitch, LineJunctor, Tr
 use Rattle.xbar_equip.specs.declared.path.Path.{Path}
 use Rattle.xbar_equip.specs.declared.crosspoint.Crosspoint.{Crosspoint}
 
--- field `field` of a switch's word holds one more than the place that it is joined to
+-- the crosspoint that joins field `field` of a switch to a place: closed, the field holds one plus
+-- the place
 abbrev pub crosspoint_at : Word → ℕ → ℕ → Crosspoint
 crosspoint_at switch field place =
     record { word = word_number switch; field = field; value = 1 + place }
 
--- the four crosspoints of a path, in the order in which they are closed and opened: the line to its
--- line link, the line link to the junctor, the junctor to the trunk link, the trunk link to the
--- place
+-- the four crosspoints of a path, in the order in which they are closed and opened: line to line
+-- link, line link to junctor, junctor to trunk link, trunk link to trunk place
 abbrev pub crosspoints : Path → List Crosspoint
 crosspoints path =
     crosspoint_at (LineSwitch path.line.frame path.line.switch) path.channel path.line.x ∷

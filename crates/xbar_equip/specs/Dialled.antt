@@ -1,17 +1,18 @@
 use Rattle.std.specs.Prelude.{ℕ, ◌<◌, ◌/◌, ◌%◌, ◌^◌, List}
 use Rattle.xbar_equip.specs.Digits.{digits}
 
--- what a caller dials has seven digits
+-- a dialled number has seven digits
 abbrev pub IsDialled : ℕ → Type 0
 IsDialled dialled = dialled < 10 ^ 7
 
+-- the seven digits, with leading zeros
 abbrev pub dialled_text : ℕ → List ℕ
 dialled_text dialled = digits 7 dialled
 
--- the first three digits
+-- the office code: the first three digits
 abbrev pub code_of : ℕ → ℕ
 code_of dialled = dialled / 10 ^ 4
 
--- the last four digits, a directory number
+-- the directory number: the last four digits
 abbrev pub number_of : ℕ → ℕ
 number_of dialled = dialled % 10 ^ 4

@@ -1,4 +1,4 @@
--- tests by which the code tells two things apart: they are equivalences, since they are exact
+-- the code's equality tests are equivalence relations, since they are exact
 use Rattle.std.specs.Prelude.{◌≡◌, ◌↔◌, Bool, true, false}
 use Rattle.std.specs.Cmp.{IsPartialEquivalence, IsEquivalence, partial_equiv_from_equiv}
 use Rattle.std.proofs.Common.{refl, sym, ◌∙◌, ap}
@@ -8,7 +8,7 @@ use Rattle.xbar_equip.specs.Conn.{conn_eq}
 use Rattle.xbar_equip.specs.declared.conn.Conn.{Conn}
 use Rattle.xbar_equip.specs.declared.conn.Conn.TheVariants.{Llf, Tlf, Group}
 
--- a test that is exact is an equivalence
+-- an exact equality test is an equivalence relation
 pub exact-equivalence : {K : Type 0} (test : K → K → Bool)
     → ((x y : K) → (test x y ≡ true) ↔ (x ≡ y)) → IsEquivalence test
 exact-equivalence {K} test exact = record {
@@ -21,7 +21,7 @@ exact-equivalence {K} test exact = record {
   of x y false true e f = absurd (true≢false (sym ((exact x y).1 (sym ((exact y x).0 f))) ∙ e))
   of x y false false e f = e ∙ sym f
 
--- the test finds two connectors equal exactly where they are one
+-- connectors that the test finds equal are the same
 conn_eq-one : (a b : Conn) → conn_eq a b ≡ true → a ≡ b
 conn_eq-one (Llf a) (Llf b) e = ap Llf (eqb-true a b e)
 conn_eq-one (Tlf a) (Tlf b) e = ap Tlf (eqb-true a b e)
@@ -33,16 +33,20 @@ conn_eq-one (Tlf a) (Group b) e = absurd (true≢false (sym e))
 conn_eq-one (Group a) (Llf b) e = absurd (true≢false (sym e))
 conn_eq-one (Group a) (Tlf b) e = absurd (true≢false (sym e))
 
+-- the test finds a connector equal to itself
 pub conn_eq-itself : (conn : Conn) → conn_eq conn conn ≡ true
 conn_eq-itself (Llf frame) = eq-eqb frame frame refl
 conn_eq-itself (Tlf frame) = eq-eqb frame frame refl
 conn_eq-itself (Group group) = eq-eqb group group refl
 
+-- the test finds two connectors equal exactly if they are the same
 pub conn_eq-exact : (a b : Conn) → (conn_eq a b ≡ true) ↔ (a ≡ b)
 conn_eq-exact a b = (conn_eq-one a b, λ same. ap (conn_eq a) (sym same) ∙ conn_eq-itself a)
 
+-- the test is an equivalence relation
 pub conn-equivalence : IsEquivalence conn_eq
 conn-equivalence = exact-equivalence conn_eq conn_eq-exact
 
+-- and a partial one
 pub conn-partial_equivalence : IsPartialEquivalence conn_eq
 conn-partial_equivalence = partial_equiv_from_equiv conn-equivalence

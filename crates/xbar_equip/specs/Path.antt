@@ -8,7 +8,7 @@ use Rattle.xbar_equip.specs.Link.{Link}
 use Rattle.xbar_equip.specs.declared.link.LinkKind.TheVariants.{LineLink, Junctor, TrunkLink}
 use Rattle.xbar_equip.specs.declared.path.Path.{Path}
 
--- each of its numbers lies in its range
+-- the numbers of the path are in range
 pub record IsPath (path : Path) : Type 0 where
   pub line : IsLine path.line
   pub channel : IsChannel path.channel
@@ -18,7 +18,7 @@ pub record IsPath (path : Path) : Type 0 where
 abbrev pub path_by : Line → TrunkPlace → ℕ → Path
 path_by line place channel = record { line = line; channel = channel; place = place }
 
--- from the line's switch: the line link of the path's channel
+-- the path's line link, from the line's switch
 abbrev pub line_link : Path → Link
 line_link path = record {
   kind = LineLink;
@@ -27,7 +27,7 @@ line_link path = record {
   channel = path.channel;
 }
 
--- between the two frames: the junctor of the path's channel
+-- the path's junctor, between its two frames
 abbrev pub junctor : Path → Link
 junctor path = record {
   kind = Junctor;
@@ -36,7 +36,7 @@ junctor path = record {
   channel = path.channel;
 }
 
--- to the trunk's switch: the trunk link of the path's channel
+-- the path's trunk link, to the trunk place's switch
 abbrev pub trunk_link : Path → Link
 trunk_link path = record {
   kind = TrunkLink;
@@ -52,13 +52,13 @@ SharesPart p q =
     (p.line ≡ q.line) ⊎ (p.place ≡ q.place) ⊎ (line_link p ≡ line_link q) ⊎ (junctor p ≡ junctor q)
     ⊎ (trunk_link p ≡ trunk_link q)
 
--- line, channel and place, joined by dashes, as `3041-0-417`
+-- the text of a path: line, channel and place, joined by dashes, as in `3041-0-417`
 abbrev pub path_text : Path → List ℕ
 path_text path =
     line_text path.line ++ codes "-" ++ channel_text path.channel ++ codes "-"
     ++ place_text path.place
 
--- by line, then by channel, then by place: the order of the texts
+-- the order of paths, by line, then channel, then place, which is also the order of their texts
 abbrev pub path_cmp : Path → Path → Ordering
 path_cmp p q =
     ordering_then (line_cmp p.line q.line)

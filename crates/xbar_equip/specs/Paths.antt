@@ -11,65 +11,64 @@ use Rattle.xbar_equip.specs.Path.{path_by, path_cmp, line_link, junctor, trunk_l
 use Rattle.xbar_equip.specs.First.{first_below}
 use Rattle.xbar_equip.specs.declared.path.Path.{Path}
 
--- each of the paths comes after this one in the order of paths
+-- the path comes before each of the paths in the order of paths
 abbrev pub IsBeforeAll : Path → List Path → Type 0
 IsBeforeAll path [] = Unit {0}
 IsBeforeAll path (p ∷ paths) = (path_cmp path p ≡ Less) × IsBeforeAll path paths
 
--- a set of paths is a list of them in their order, each once: two sets with the same paths are one
--- list
+-- a set of paths is a list of them in order, each once, so two sets with the same paths are the
+-- same list
 abbrev pub IsSet : List Path → Type 0
 IsSet [] = Unit {0}
 IsSet (p ∷ paths) = IsBeforeAll p paths × IsSet paths
 
--- the set with the path
+-- the set with the path added
 abbrev pub with_path : List Path → Path → List Path
 with_path [] path = path ∷ []
 with_path (p ∷ paths) path =
     match_ordering (path_cmp path p) (path ∷ p ∷ paths) (p ∷ paths) (p ∷ with_path paths path)
 
--- the set without the path
+-- the set with the path removed
 abbrev pub without_path : List Path → Path → List Path
 without_path [] path = []
 without_path (p ∷ paths) path =
     match_ordering (path_cmp path p) (p ∷ paths) paths (p ∷ without_path paths path)
 
--- whether a path has this line
+-- whether the path has this line
 abbrev pub has_line : Line → Path → Bool
 has_line line path = line_eq path.line line
 
--- whether a path has this place
+-- whether the path has this trunk place
 abbrev pub has_place : TrunkPlace → Path → Bool
 has_place place path = place_eq path.place place
 
--- whether a path has this link
+-- whether the path has this link
 abbrev pub has_link : Link → Path → Bool
 has_link link path =
     link_eq (line_link path) link || link_eq (junctor path) link || link_eq (trunk_link path) link
 
--- a line, a place or a link is idle where no path has it
+-- a line, a place or a link is idle if no path has it
 abbrev pub is_idle : (Path → Bool) → List Path → Bool
 is_idle has paths = not (list_any has paths)
 
--- whether the three links of a path are idle
+-- whether the three links of the path are idle
 abbrev pub has_idle_links : List Path → Path → Bool
 has_idle_links paths path =
     is_idle (has_link (line_link path)) paths && is_idle (has_link (junctor path)) paths
     && is_idle (has_link (trunk_link path)) paths
 
--- channel number k, counted from 0, in the order start, start + 1, .. round ten
+-- channel number k, counted from 0, of the order start, start + 1, .., with 0 after 9
 abbrev pub channel_in_turn : ℕ → ℕ → ℕ
 channel_in_turn start k = (start + k) % 10
 
--- the channel test: the first channel in that order whose line link, junctor and trunk link are
--- idle
+-- the channel test: the first channel in that order, if any, whose line link, junctor and trunk
+-- link are idle
 abbrev pub channel_test : List Path → Line → TrunkPlace → ℕ → Option ℕ
 channel_test paths line place start =
     option_map (channel_in_turn start)
     (first_below (λ k. has_idle_links paths (path_by line place (channel_in_turn start k))) 10)
 
--- what the channel test found is an idle channel, and no earlier one of the order is; where it
--- found none, none is
+-- `found` is the first channel in that order whose three links are idle, or None if there is none
 abbrev pub IsFirstIdleChannel : List Path → Line → TrunkPlace → ℕ → Option ℕ → Type 0
 IsFirstIdleChannel paths line place start found =
     MatchOption found ((j : ℕ) → j < 10 → is_idle_in_turn j ≡ false)
@@ -78,6 +77,6 @@ IsFirstIdleChannel paths line place start found =
       is_idle_in_turn : ℕ → Bool
       is_idle_in_turn k = has_idle_links paths (path_by line place (channel_in_turn start k))
 
--- two of the paths that share a part are one
+-- paths of the list that share a part are the same path
 abbrev pub AreApart : List Path → Type 0
 AreApart paths = (p q : Path) → IsIn p paths → IsIn q paths → SharesPart p q → p ≡ q

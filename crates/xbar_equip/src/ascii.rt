@@ -4,7 +4,7 @@ ghost use Rattle.std.specs.Fmt.{DisplaysOnOk, DisplaysStyledOnOk, formatter_spec
 
 use std::{fmt, str};
 
-/// Writes a text under the options of its place, as in `{:>8}`.
+/// Writes ASCII text with the formatter's options applied, for example the width of `{:>8}`.
 pub fn pad_ascii<W: fmt::Write>(f: &mut fmt::Formatter<W>, text: &[u8]) -> fmt::Result
     requires { IsAscii text.now }
     ensures writes { DisplaysOnOk W.write_str_gives f.old result (Some text.now) f.new }

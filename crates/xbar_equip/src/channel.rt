@@ -10,8 +10,10 @@ use crate::fault::EquipFault;
 use std::fmt;
 use std::marker::Model;
 
-/// One of the ten channels between a line switch and a trunk switch: the number that a path's line link,
-/// junctor and trunk link share. Its text is one digit.
+/// A channel, 0 to 9: the number that the line link, the junctor and the trunk link of a path
+/// share.
+///
+/// Its text is one digit.
 #[derive(Clone, Copy, Debug, PartialEq, Eq, PartialOrd, Ord)]
 pub struct Channel {
     number: u8,
@@ -31,7 +33,7 @@ impl Model for Channel {
 }
 
 impl Channel {
-    /// Channel 0 to 9.
+    /// The channel with this number, 0 to 9.
     pub fn new(number: u8) -> Self
         requires { number < 10 }
         ensures { result ≡ number }
@@ -39,7 +41,7 @@ impl Channel {
         Channel { number }
     }
 
-    /// Reads one digit, as `7`.
+    /// Parses one digit, for example `7`.
     pub fn parse(text: &[u8]) -> Result<Self, EquipFault>
         ensures reads { (channel : ℕ) → IsChannel channel → text.now ≡ channel_text channel →
             result ≡ Ok channel }
@@ -56,7 +58,7 @@ impl Channel {
         })
     }
 
-    /// The digit's byte.
+    /// The ASCII digit.
     pub fn text(self) -> [u8; 1]
         ensures text { result ≡ channel_text self }
         ensures ascii { IsAscii result }
@@ -64,7 +66,8 @@ impl Channel {
         [b'0' + self.number]
     }
 
-    /// 0 to 9, and the number of the fields of its line link and its trunk link.
+    /// The channel's number, 0 to 9, which is also the number of its field in a line switch and in
+    /// a trunk switch.
     pub fn number(self) -> u8
         ensures value { result ≡ self }
         ensures range { IsChannel self }

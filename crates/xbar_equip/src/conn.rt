@@ -1,18 +1,20 @@
 ghost use Rattle.std.specs.Prelude.{◌≡◌};
 
-/// A connector, by which a marker reaches a frame's switches or a group's busy bits. It serves one marker at
-/// a time, which seizes it, reads and changes what it protects, and frees it.
+/// A connector: the lock of a frame's switches or of a trunk group's busy bits.
+///
+/// One marker at a time seizes a connector, reads and changes the words that it protects, and
+/// frees it.
 #[derive(Clone, Copy, Debug)]
 pub enum Conn {
-    /// Of a line link frame, 0 to 9.
+    /// The connector of a line link frame, 0 to 9.
     Llf(u8),
-    /// Of a trunk link frame, 0 to 9.
+    /// The connector of a trunk link frame, 0 to 9.
     Tlf(u8),
-    /// Of a trunk group, 0 to 15.
+    /// The connector of a trunk group, 0 to 15.
     Group(u8),
 }
 
-// By hand, so that proofs tell two of them apart by the definition.
+// Not derived, so that proofs can compare connectors by the definition `conn_eq`.
 impl PartialEq for Conn {
     ghost use Rattle.xbar_equip.specs.Conn.{conn_eq};
     ghost use Rattle.xbar_equip.specs.Equivalences.{conn-partial_equivalence};
@@ -39,7 +41,7 @@ impl Eq for Conn {
     ghost laws = { conn-equivalence };
 }
 
-/// What stands in the free places of a list of connectors.
+/// A placeholder for the unused entries of a list of connectors.
 impl Default for Conn {
     fn default() -> Self
         ensures { result ≡ Conn.Llf 0 }

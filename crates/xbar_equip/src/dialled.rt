@@ -11,7 +11,7 @@ use crate::fault::EquipFault;
 use std::fmt;
 use std::marker::Model;
 
-/// What a caller dials: seven digits, a code of three and a directory number of four.
+/// The seven digits that a caller dials: an office code of three and a directory number of four.
 #[derive(Clone, Copy, Debug, PartialEq, Eq)]
 pub struct Dialled {
     number: u32,
@@ -31,7 +31,7 @@ impl Model for Dialled {
 }
 
 impl Dialled {
-    /// Of the seven digits as a number, 0 to 9,999,999; leading zeros are digits too.
+    /// The seven digits of `number`, 0 to 9,999,999, with leading zeros.
     pub fn new(number: u32) -> Self
         requires { number < 10 ^ 7 }
         ensures { result ≡ number }
@@ -39,7 +39,7 @@ impl Dialled {
         Dialled { number }
     }
 
-    /// Reads seven digits, as `5551234`.
+    /// Parses seven digits, for example `5551234`.
     pub fn parse(text: &[u8]) -> Result<Self, EquipFault>
         ensures reads { (dialled : ℕ) → IsDialled dialled → text.now ≡ dialled_text dialled →
             result ≡ Ok dialled }
@@ -55,7 +55,7 @@ impl Dialled {
         Ok(Dialled { number })
     }
 
-    /// The bytes of the seven digits, with leading zeros.
+    /// The seven ASCII digits, with leading zeros.
     pub fn text(self) -> [u8; 7]
         ensures text { result ≡ dialled_text self }
         ensures ascii { IsAscii result }
@@ -72,7 +72,7 @@ impl Dialled {
         ]
     }
 
-    /// The seven digits as a number, 0 to 9,999,999.
+    /// The seven digits as one number, 0 to 9,999,999.
     pub fn value(self) -> u32
         ensures value { result ≡ self }
         ensures range { IsDialled self }
@@ -80,7 +80,7 @@ impl Dialled {
         self.number
     }
 
-    /// The first three digits, 0 to 999: the office code, by which a call is routed.
+    /// The office code, by which a call is routed: the first three digits, 0 to 999.
     pub fn code(self) -> u16
         ensures value { result ≡ code_of self }
         ensures range { result < 1000 }
@@ -88,7 +88,7 @@ impl Dialled {
         (self.number / 10_000) as u16
     }
 
-    /// The last four digits: in a call within this office the called number.
+    /// The last four digits: the called number, if the call is within this office.
     pub fn number(self) -> DirNo
         ensures { result ≡ number_of self }
     {

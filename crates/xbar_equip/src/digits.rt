@@ -4,7 +4,7 @@ ghost use Rattle.xbar_equip.specs.Digits.{digit, digits, are_digits};
 
 use crate::fault::EquipFault;
 
-/// The value of a digit's byte.
+/// The value of an ASCII digit, 0 to 9.
 pub fn digit_value(byte: u8) -> Result<u8, EquipFault>
     ensures value { MatchResult result (λ value. (value < 10) × (byte ≡ digit value))
         (λ fault. fault ≡ EquipFault.NotDigit) }
@@ -18,7 +18,7 @@ pub fn digit_value(byte: u8) -> Result<u8, EquipFault>
     }
 }
 
-/// The number that digits write, the highest digit first.
+/// The number that decimal digits represent, the highest digit first. Empty text is 0.
 pub fn number(text: &[u8]) -> Result<u32, EquipFault>
     requires { length text.now ≤ 9 }
     ensures value { MatchResult result (λ number. (number < 10 ^ length text.now) ×

@@ -10,8 +10,9 @@ use crate::fault::EquipFault;
 use std::fmt;
 use std::marker::Model;
 
-/// A directory number, 0000 to 9999: what the office's own telephones are called by. It leads to one line or
-/// to several, which are hunted in turn.
+/// A directory number, 0000 to 9999, by which the office's own telephones are called.
+///
+/// A plan gives each number in use one or more lines, which are hunted in order.
 #[derive(Clone, Copy, Debug, PartialEq, Eq, PartialOrd, Ord)]
 pub struct DirNo {
     number: u16,
@@ -31,7 +32,7 @@ impl Model for DirNo {
 }
 
 impl DirNo {
-    /// Of the four digits as a number, 0 to 9999.
+    /// The directory number with the four digits of `number`, 0 to 9999.
     pub fn new(number: u16) -> Self
         requires { number < 10 ^ 4 }
         ensures { result ≡ number }
@@ -39,7 +40,7 @@ impl DirNo {
         DirNo { number }
     }
 
-    /// Reads four digits, as `0042`.
+    /// Parses four digits, for example `0042`.
     pub fn parse(text: &[u8]) -> Result<Self, EquipFault>
         ensures reads { (dir_no : ℕ) → IsDirNo dir_no → text.now ≡ dir_no_text dir_no →
             result ≡ Ok dir_no }
@@ -54,7 +55,7 @@ impl DirNo {
         Ok(DirNo { number })
     }
 
-    /// The bytes of the four digits, with leading zeros.
+    /// The four ASCII digits, with leading zeros.
     pub fn text(self) -> [u8; 4]
         ensures text { result ≡ dir_no_text self }
         ensures ascii { IsAscii result }

@@ -1,14 +1,15 @@
 use std::error::Error;
 use std::fmt;
 
-/// Why a text names nothing in the office. Of several, the first in this order is answered.
+/// Why a text could not be parsed. If several variants apply, the first of them in this order is
+/// returned.
 #[derive(Clone, Copy, Debug, PartialEq, Eq)]
 pub enum EquipFault {
-    /// The text has a wrong number of bytes.
+    /// The text has the wrong number of bytes.
     Length,
-    /// A byte is no digit, or a link's text doesn't begin with `LL`, `JU` or `TL`.
+    /// A byte is not a digit, or a link's text doesn't begin with `LL`, `JU` or `TL`.
     NotDigit,
-    /// A line's third digit is above 5, or its fourth above 4.
+    /// The third digit of a line is above 5, or its fourth above 4.
     Range,
 }
 

@@ -1,4 +1,4 @@
-//! What holds of the definitions themselves, for the crates above. Each function does nothing: its
+//! Laws of the definitions in `specs/`, for use by other crates. Each function does nothing; its
 //! contract is the law.
 
 ghost use Rattle.std.specs.Prelude.{◌≡◌, ◌≢◌, ◌<◌, ◌↔◌, ◌⊎◌, ℕ, Bool, IsTrue, true, false, List};
@@ -23,27 +23,28 @@ use crate::link::{Link, LinkKind};
 use crate::path::Path;
 use crate::ten::Ten;
 
-/// No two words have one number.
+/// Distinct words have distinct numbers.
 pub fn word_numbers_are_distinct()
     ensures { (v w : Word) → IsWord v → IsWord w → word_number v ≡ word_number w → v ≡ w }
 {}
 
-/// Each number below the count of words is the number of a word.
+/// Each number below `word_count` is the number of a word.
 pub fn each_number_has_a_word()
     ensures { (n : ℕ) → n < word_count → (w : Word) × IsWord w × (word_number w ≡ n) }
 {}
 
-/// The search for the first number below a count that passes a test.
+/// `first_below` finds the first number below the count that passes the test.
 pub fn first_below_is_the_first()
     ensures { (test : ℕ → Bool) (count : ℕ) → IsFirstBelow test count (first_below test count) }
 {}
 
-/// The search for the next number after one that passes a test.
+/// `next_below` finds the first number after `k` and below the count that passes the test, or `k`
+/// if none does.
 pub fn next_below_is_the_next()
     ensures { (test : ℕ → Bool) (count k : ℕ) → IsNextBelow test count k (next_below test count k) }
 {}
 
-/// The tests of two lines, places, links, kinds of link or connectors tell whether they are one.
+/// The equality tests of lines, trunk places, links, link kinds and connectors are exact.
 pub fn equality_tests_are_equality()
     ensures line { (a b : Line) → (line_eq a b ≡ true) ↔ (a ≡ b) }
     ensures place { (a b : TrunkPlace) → (place_eq a b ≡ true) ↔ (a ≡ b) }
@@ -52,7 +53,7 @@ pub fn equality_tests_are_equality()
     ensures conn { (a b : Conn) → (conn_eq a b ≡ true) ↔ (a ≡ b) }
 {}
 
-/// A line, a place or a link is idle exactly where no path of the set has it.
+/// A line, a place or a link is idle exactly if no path of the set has it.
 pub fn idle_is_in_no_path()
     ensures idle { (has : Path → Bool) (paths : List Path) → (is_idle has paths ≡ true) ↔
         ((path : Path) → IsIn path paths → has path ≡ false) }
@@ -63,26 +64,26 @@ pub fn idle_is_in_no_path()
         ((line_link path ≡ link) ⊎ (junctor path ≡ link) ⊎ (trunk_link path ≡ link)) }
 {}
 
-/// The channel test answers the first channel in its order whose three links are idle.
+/// The channel test finds the first channel in its order whose three links are idle.
 pub fn channel_test_finds_the_first_idle_channel()
     ensures { (paths : List Path) (line : Line) (place : TrunkPlace) (start : ℕ) →
         IsFirstIdleChannel paths line place start (channel_test paths line place start) }
 {}
 
-/// Paths with crosspoints at one field of one word share a part.
+/// Two paths with crosspoints at the same field of the same word share a part.
 pub fn paths_that_meet_share_a_part()
     ensures { (p q : Path) (c d : Crosspoint) → IsPath p → IsPath q → IsIn c (crosspoints p) →
         IsIn d (crosspoints q) → c.word ≡ d.word → c.field ≡ d.field → SharesPart p q }
 {}
 
-/// A path added to a set is in it, with those that were there.
+/// Adding a path to a set gives a set of that path and all the paths that were there.
 pub fn with_path_adds_the_path()
     ensures set { (paths : List Path) (path : Path) → IsSet paths → IsSet (with_path paths path) }
     ensures paths { (paths : List Path) (path other : Path) → IsIn other (with_path paths path) ↔
         ((other ≡ path) ⊎ IsIn other paths) }
 {}
 
-/// A path removed from a set is no longer in it, and the others are.
+/// Removing a path from a set gives a set of all the other paths.
 pub fn without_path_removes_the_path()
     ensures set { (paths : List Path) (path : Path) → IsSet paths →
         IsSet (without_path paths path) }
@@ -90,33 +91,33 @@ pub fn without_path_removes_the_path()
         IsIn other (without_path paths path) ↔ (IsIn other paths × (other ≢ path)) }
 {}
 
-/// Two sets with the same paths are one list.
+/// Two sets with the same paths are the same list.
 pub fn sets_with_the_same_paths_are_one()
     ensures { (a b : List Path) → IsSet a → IsSet b → ((path : Path) → IsIn path a ↔ IsIn path b) →
         a ≡ b }
 {}
 
-/// A line's numbers lie in their ranges.
+/// The numbers of a line are in range.
 pub fn line_is_in_range(line: Len)
     ensures { IsLine line }
 {}
 
-/// A trunk place's numbers lie in their ranges.
+/// The numbers of a trunk place are in range.
 pub fn place_is_in_range(place: Ten)
     ensures { IsTrunkPlace place }
 {}
 
-/// A link's numbers lie in their ranges.
+/// The numbers of a link are in range.
 pub fn link_is_in_range(link: Link)
     ensures { IsLink link }
 {}
 
-/// A channel's number lies in its range.
+/// The number of a channel is in range.
 pub fn channel_is_in_range(channel: Channel)
     ensures { IsChannel channel }
 {}
 
-/// The numbers of a path's line, channel and place lie in their ranges.
+/// The numbers of a path's line, channel and place are in range.
 pub fn path_is_in_range(path: &Path)
     ensures { IsPath path.now }
 {
@@ -125,7 +126,7 @@ pub fn path_is_in_range(path: &Path)
     place_is_in_range(path.place);
 }
 
-/// The same of each line of a list.
+/// The numbers of each line of a list are in range.
 #[tactic(auto, using(crate::proofs::Lists::all_more, crate::proofs::Ranges::line_passes))]
 pub fn lines_are_in_range(lines: &[Len])
     ensures each { (line : Line) → IsIn line lines.now → IsLine line }
@@ -136,7 +137,7 @@ pub fn lines_are_in_range(lines: &[Len])
     }
 }
 
-/// The same of each trunk place of a list.
+/// The numbers of each trunk place of a list are in range.
 #[tactic(auto, using(crate::proofs::Lists::all_more, crate::proofs::Ranges::place_passes))]
 pub fn places_are_in_range(places: &[Ten])
     ensures each { (place : TrunkPlace) → IsIn place places.now → IsTrunkPlace place }
@@ -147,7 +148,7 @@ pub fn places_are_in_range(places: &[Ten])
     }
 }
 
-/// The same of each link of a list.
+/// The numbers of each link of a list are in range.
 #[tactic(auto, using(crate::proofs::Lists::all_more, crate::proofs::Ranges::link_passes))]
 pub fn links_are_in_range(links: &[Link])
     ensures each { (link : TheLink) → IsIn link links.now → IsLink link }
@@ -158,7 +159,7 @@ pub fn links_are_in_range(links: &[Link])
     }
 }
 
-/// The same of each path of a list.
+/// The numbers of each path of a list are in range.
 #[tactic(auto, using(crate::proofs::Lists::all_more, crate::proofs::Ranges::path_passes))]
 pub fn paths_are_in_range(paths: &[Path])
     ensures { (path : Path) → IsIn path paths.now → IsPath path }

@@ -9,11 +9,11 @@ use crate::fault::EquipFault;
 use std::fmt;
 use std::marker::Model;
 
-/// Where a line stands, its line equipment number: a line link frame, a line switch of it, and a place on
-/// that switch. Ten frames of ten switches with thirty places serve 3,000 lines.
+/// A line equipment number (LEN): a line, by its line link frame, line switch and place on that
+/// switch. There are ten frames of ten switches with thirty places, for 3,000 lines.
 ///
-/// Its text has four digits: the frame, the horizontal group, which is the switch, the vertical
-/// group and the vertical file.
+/// Its text has four digits: the frame, the horizontal group (the switch), the vertical group and
+/// the vertical file.
 #[derive(Clone, Copy, Debug, PartialEq, Eq, PartialOrd, Ord)]
 pub struct Len {
     frame: u8,
@@ -34,7 +34,7 @@ impl Model for Len {
 }
 
 impl Len {
-    /// Of frame 0 to 9, switch 0 to 9 and place 0 to 29.
+    /// The line at frame 0 to 9, switch 0 to 9 and place 0 to 29.
     pub fn new(frame: u8, switch: u8, x: u8) -> Self
         requires frame { frame < 10 }
         requires switch { switch < 10 }
@@ -44,7 +44,7 @@ impl Len {
         Len { frame, switch, x }
     }
 
-    /// Reads four digits, as `3041`.
+    /// Parses four digits, for example `3041`.
     pub fn parse(text: &[u8]) -> Result<Self, EquipFault>
         ensures reads { (line : Line) → IsLine line → text.now ≡ line_text line → result ≡ Ok line }
         ensures only { IfOk result (λ line. IsLine line × (text.now ≡ line_text line)) }
@@ -65,7 +65,7 @@ impl Len {
         Ok(Len { frame, switch, x })
     }
 
-    /// The bytes of the four digits, as `3041`.
+    /// The four ASCII digits, for example `3041`.
     pub fn text(self) -> [u8; 4]
         ensures text { result ≡ line_text self }
         ensures ascii { IsAscii result }
@@ -86,7 +86,7 @@ impl Len {
         self.frame
     }
 
-    /// The line switch, 0 to 9: the horizontal group.
+    /// The line switch, 0 to 9, also called the horizontal group.
     pub fn switch(self) -> u8
         ensures value { result ≡ self.switch }
         ensures range { IsLine self }
@@ -102,15 +102,16 @@ impl Len {
         self.x
     }
 
-    /// The vertical group, 0 to 5: which five of the switch's places the line is among, and the text's third
-    /// digit.
+    /// The vertical group, 0 to 5: the line's block of five places on the switch, and the third
+    /// digit of the text.
     pub fn vertical_group(self) -> u8
         ensures { result ≡ self.x / 5 }
     {
         self.x / 5
     }
 
-    /// The vertical file, 0 to 4: the line among those five, and the text's fourth digit.
+    /// The vertical file, 0 to 4: the line's place in its vertical group, and the fourth digit of
+    /// the text.
     pub fn vertical_file(self) -> u8
         ensures { result ≡ self.x % 5 }
     {

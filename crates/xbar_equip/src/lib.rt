@@ -1,4 +1,5 @@
-//! The equipment of a No. 5 Crossbar office: numbers and their texts, paths, and the shared words.
+//! The equipment of a No. 5 Crossbar office: its numbers and their texts, paths, and the numbers
+//! of the shared words.
 #![tactic(auto)]
 
 pub use channel::Channel;

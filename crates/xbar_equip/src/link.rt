@@ -9,19 +9,21 @@ use crate::fault::EquipFault;
 use std::fmt;
 use std::marker::Model;
 
-/// The three kinds of link that a path takes.
+/// The kind of a link. A path has one link of each kind.
 #[derive(Clone, Copy, Debug, PartialEq, Eq)]
 pub enum LinkKind {
-    /// From a line switch to the line junctor switches of its frame.
+    /// From a line switch to a line junctor switch of the same frame.
     LineLink,
     /// From a line link frame to a trunk link frame.
     Junctor,
-    /// From the trunk junctor switches of a frame to a trunk switch of it.
+    /// From a trunk junctor switch to a trunk switch of the same frame.
     TrunkLink,
 }
 
-/// A link, which one path at a time takes; a plan may list it as out of order. There are a thousand of each
-/// kind. Its text has two letters for its kind, `LL`, `JU` or `TL`, and three digits, as `JU340`.
+/// A link, which at most one path uses at a time. There are 1,000 of each kind, and a plan may
+/// list a link as out of order.
+///
+/// Its text has two letters for the kind, `LL`, `JU` or `TL`, and three digits, as in `JU340`.
 #[derive(Clone, Copy, Debug, PartialEq, Eq)]
 pub struct Link {
     kind: LinkKind,
@@ -53,8 +55,9 @@ impl Model for Link {
 }
 
 impl Link {
-    /// Of a kind and three numbers, each 0 to 9: a line or trunk link has frame, switch and channel, a junctor
-    /// line link frame, trunk link frame and channel.
+    /// The link of this kind with these numbers, each 0 to 9. A line link or trunk link has a
+    /// frame, a switch and a channel; a junctor has a line link frame, a trunk link frame and a
+    /// channel.
     pub fn new(kind: LinkKind, frame: u8, at: u8, channel: u8) -> Self
         requires frame { frame < 10 }
         requires at { at < 10 }
@@ -69,7 +72,7 @@ impl Link {
         }
     }
 
-    /// Reads two letters and three digits, as `JU340`.
+    /// Parses two letters and three digits, for example `JU340`.
     pub fn parse(text: &[u8]) -> Result<Self, EquipFault>
         ensures reads { (link : TheLink) → IsLink link → text.now ≡ link_text link →
             result ≡ Ok link }
@@ -94,7 +97,7 @@ impl Link {
         })
     }
 
-    /// The bytes of the two letters and three digits.
+    /// The two letters and three digits in ASCII.
     pub fn text(self) -> [u8; 5]
         ensures text { result ≡ link_text self }
         ensures ascii { IsAscii result }
@@ -113,14 +116,14 @@ impl Link {
         ]
     }
 
-    /// Which of the three stages of a path the link is on.
+    /// The kind of the link.
     pub fn kind(self) -> LinkKind
         ensures { result ≡ self.kind }
     {
         self.kind
     }
 
-    /// The frame that the link is on, 0 to 9; of a junctor the line link frame.
+    /// The frame that the link is on, 0 to 9. For a junctor, the line link frame.
     pub fn frame(self) -> u8
         ensures value { result ≡ self.frame }
         ensures range { IsLink self }
@@ -128,7 +131,7 @@ impl Link {
         self.frame
     }
 
-    /// The switch on that frame, 0 to 9; of a junctor the trunk link frame.
+    /// The switch on that frame, 0 to 9. For a junctor, the trunk link frame.
     pub fn at(self) -> u8
         ensures value { result ≡ self.at }
         ensures range { IsLink self }
@@ -136,7 +139,7 @@ impl Link {
         self.at
     }
 
-    /// The number of the link among the ten there, 0 to 9.
+    /// The channel, 0 to 9, which numbers the ten links there.
     pub fn channel(self) -> u8
         ensures value { result ≡ self.channel }
         ensures range { IsLink self }

@@ -12,14 +12,16 @@ use crate::word::{line_junctor, line_switch, trunk_junctor, trunk_switch};
 use std::fmt;
 
 /// A path through the office: from a line, by a line link, a junctor and a trunk link of one
-/// channel, to a trunk place. Its text is `LEN-n-TEN`, as `3041-0-417`.
+/// channel, to a trunk place.
+///
+/// Its text is `LEN-n-TEN`, for example `3041-0-417`.
 #[derive(Clone, Copy, Debug, PartialEq, Eq, PartialOrd, Ord)]
 pub struct Path {
-    /// Where it begins.
+    /// The line that the path begins at.
     pub line: Len,
     /// The channel that its three links share.
     pub channel: Channel,
-    /// Where it ends, at a trunk or a register.
+    /// The trunk place that the path ends at, that of a trunk or of a register.
     pub place: Ten,
 }
 
@@ -27,7 +29,7 @@ impl Path {
     ghost use Rattle.xbar_equip.specs.Path.{IsPath, line_link as line_link_of, junctor as junctor_of, trunk_link as trunk_link_of, path_text};
     ghost use Rattle.xbar_equip.specs.Crosspoint.{crosspoints as crosspoints_of};
 
-    /// From the line's switch to the line junctor switch of the channel.
+    /// The line link, from the line's switch to the line junctor switch of the channel.
     pub fn line_link(&self) -> Link
         ensures { result ≡ line_link_of self.now }
     {
@@ -39,7 +41,7 @@ impl Path {
         )
     }
 
-    /// From the line link frame to the trunk link frame.
+    /// The junctor, from the line link frame to the trunk link frame.
     pub fn junctor(&self) -> Link
         ensures { result ≡ junctor_of self.now }
     {
@@ -51,7 +53,7 @@ impl Path {
         )
     }
 
-    /// From the trunk junctor switch of the channel to the place's switch.
+    /// The trunk link, from the trunk junctor switch of the channel to the place's switch.
     pub fn trunk_link(&self) -> Link
         ensures { result ≡ trunk_link_of self.now }
     {
@@ -63,7 +65,7 @@ impl Path {
         )
     }
 
-    /// The four crosspoints in the order in which they are closed and opened: on the line switch,
+    /// The four crosspoints, in the order in which they are closed and opened: on the line switch,
     /// the line junctor switch, the trunk junctor switch and the trunk switch.
     pub fn crosspoints(&self) -> [Crosspoint; 4]
         ensures crosspoints { result ≡ crosspoints_of self.now }
@@ -96,7 +98,7 @@ impl Path {
         ]
     }
 
-    /// The bytes of line, channel and place, joined by dashes, as `3041-0-417`.
+    /// The texts of line, channel and place, joined by dashes, for example `3041-0-417`.
     pub fn text(&self) -> [u8; 10]
         ensures text { result ≡ path_text self.now }
         ensures ascii { IsAscii result }

@@ -10,8 +10,10 @@ use crate::fault::EquipFault;
 use std::fmt;
 use std::marker::Model;
 
-/// Where a trunk or a register stands, its trunk equipment number: a trunk link frame, a trunk switch of it,
-/// and an appearance on that switch. There are a thousand. Its text has these three digits.
+/// A trunk equipment number (TEN): the place of a trunk or a register, by its trunk link frame,
+/// trunk switch and appearance on that switch. There are 1,000 places.
+///
+/// Its text has these three digits.
 #[derive(Clone, Copy, Debug, PartialEq, Eq, PartialOrd, Ord)]
 pub struct Ten {
     frame: u8,
@@ -40,7 +42,7 @@ impl Model for Ten {
 }
 
 impl Ten {
-    /// Of frame, switch and appearance, each 0 to 9.
+    /// The trunk place with this frame, switch and appearance, each 0 to 9.
     pub fn new(frame: u8, switch: u8, appearance: u8) -> Self
         requires frame { frame < 10 }
         requires switch { switch < 10 }
@@ -54,7 +56,7 @@ impl Ten {
         }
     }
 
-    /// Reads three digits, as `417`.
+    /// Parses three digits, for example `417`.
     pub fn parse(text: &[u8]) -> Result<Self, EquipFault>
         ensures reads { (place : TrunkPlace) → IsTrunkPlace place → text.now ≡ place_text place →
             result ≡ Ok place }
@@ -72,7 +74,7 @@ impl Ten {
         })
     }
 
-    /// The bytes of the three digits, as `417`.
+    /// The three ASCII digits, for example `417`.
     pub fn text(self) -> [u8; 3]
         ensures text { result ≡ place_text self }
         ensures ascii { IsAscii result }

@@ -6,8 +6,7 @@ use crate::conn::Conn;
 use std::marker::Model;
 use std::ops::Range;
 
-/// How many shared words an office has: the list of all of them has this length, and word number `n` is its
-/// item `n`.
+/// The number of shared words of an office. Word number `n` is item `n` of the list of all words.
 pub const WORD_COUNT: usize = 453;
 
 /// The number of one of the office's shared words, below `WORD_COUNT`.
@@ -30,7 +29,8 @@ impl Model for WordNo {
 }
 
 impl WordNo {
-    /// Word 0 to 452, in the order line link frames, trunk link frames, groups, connectors, turn word.
+    /// The word with this number, 0 to 452. The order is: line link frames, trunk link frames,
+    /// groups, connectors, turn word.
     pub fn new(number: u16) -> Self
         requires { number < word_count }
         ensures { result ≡ number }
@@ -38,7 +38,7 @@ impl WordNo {
         WordNo { number }
     }
 
-    /// 0 to 452: where the word stands in the list of all words.
+    /// The word's index in the list of all words, 0 to 452.
     pub fn number(self) -> u16
         ensures value { result ≡ self }
         ensures range { self < word_count }
@@ -47,7 +47,7 @@ impl WordNo {
     }
 }
 
-/// What stands in the free places of a list of words.
+/// A placeholder for the unused entries of a list of words.
 impl Default for WordNo {
     fn default() -> Self
         ensures { result ≡ 0 }
@@ -56,8 +56,10 @@ impl Default for WordNo {
     }
 }
 
-/// Words 0 to 199, ten of each twenty: the switch between the lines of a horizontal group and their ten line
-/// links. Field `n` is for line link `n`.
+/// The word of a line switch: the switch between the lines of a horizontal group and their ten
+/// line links. Field `n` is for line link `n`.
+///
+/// Line switches are words 0 to 199, the first ten of each twenty.
 pub fn line_switch(frame: u8, switch: u8) -> WordNo
     requires frame { frame < 10 }
     requires switch { switch < 10 }
@@ -66,8 +68,10 @@ pub fn line_switch(frame: u8, switch: u8) -> WordNo
     WordNo::new(20 * u16::from(frame) + u16::from(switch))
 }
 
-/// Words 0 to 199, the other ten: the switch between the ten line links of a channel and the junctors to the
-/// ten trunk link frames. Field `n` is for trunk link frame `n`.
+/// The word of a line junctor switch: the switch between the ten line links of a channel and the
+/// junctors to the ten trunk link frames. Field `n` is for trunk link frame `n`.
+///
+/// Line junctor switches are words 0 to 199, the last ten of each twenty.
 pub fn line_junctor(frame: u8, channel: u8) -> WordNo
     requires frame { frame < 10 }
     requires channel { channel < 10 }
@@ -76,8 +80,10 @@ pub fn line_junctor(frame: u8, channel: u8) -> WordNo
     WordNo::new(20 * u16::from(frame) + 10 + u16::from(channel))
 }
 
-/// Words 200 to 399, ten of each twenty: the switch between ten trunk links and ten appearances of trunks and
-/// registers. Field `n` is for trunk link `n`.
+/// The word of a trunk switch: the switch between ten trunk links and ten appearances of trunks
+/// and registers. Field `n` is for trunk link `n`.
+///
+/// Trunk switches are words 200 to 399, the first ten of each twenty.
 pub fn trunk_switch(frame: u8, switch: u8) -> WordNo
     requires frame { frame < 10 }
     requires switch { switch < 10 }
@@ -86,8 +92,10 @@ pub fn trunk_switch(frame: u8, switch: u8) -> WordNo
     WordNo::new(200 + 20 * u16::from(frame) + u16::from(switch))
 }
 
-/// Words 200 to 399, the other ten: the switch between the junctors from the ten line link frames and the ten
-/// trunk links of a channel. Field `n` is for line link frame `n`.
+/// The word of a trunk junctor switch: the switch between the junctors from the ten line link
+/// frames and the ten trunk links of a channel. Field `n` is for line link frame `n`.
+///
+/// Trunk junctor switches are words 200 to 399, the last ten of each twenty.
 pub fn trunk_junctor(frame: u8, channel: u8) -> WordNo
     requires frame { frame < 10 }
     requires channel { channel < 10 }
@@ -96,7 +104,8 @@ pub fn trunk_junctor(frame: u8, channel: u8) -> WordNo
     WordNo::new(200 + 20 * u16::from(frame) + 10 + u16::from(channel))
 }
 
-/// Words 400 to 415: the busy bits of a trunk group. Bit `k` is 1 where member `k` is busy.
+/// The word with the busy bits of a trunk group, word 400 to 415. Bit `k` is 1 if member `k` is
+/// busy.
 pub fn group_word(group: u8) -> WordNo
     requires { group < 16 }
     ensures { result ≡ word_number (GroupWord group) }
@@ -104,7 +113,7 @@ pub fn group_word(group: u8) -> WordNo
     WordNo::new(400 + u16::from(group))
 }
 
-/// 416 to 451, for the connectors that there are: the number of a connector's own word.
+/// The number of a connector's own word, 416 to 451 for a connector that exists.
 pub fn conn_number(conn: Conn) -> u16
     ensures { result ≡ word_number (ConnWord conn) }
 {
@@ -115,7 +124,7 @@ pub fn conn_number(conn: Conn) -> u16
     }
 }
 
-/// Words 416 to 451: who holds a connector and who asks for it.
+/// The own word of a connector, word 416 to 451: who holds the connector and who requests it.
 pub fn conn_word(conn: Conn) -> WordNo
     requires { IsConn conn }
     ensures { result ≡ word_number (ConnWord conn) }
@@ -123,15 +132,15 @@ pub fn conn_word(conn: Conn) -> WordNo
     WordNo::new(conn_number(conn))
 }
 
-/// Word 452, which counts turns.
+/// The turn word, word 452, which counts turns.
 pub fn turn_word() -> WordNo
     ensures { result ≡ word_number TurnWord }
 {
     WordNo::new(452)
 }
 
-/// The connector that a marker holds whenever it reads or changes the word. The connectors' own
-/// words and the turn word have none.
+/// The connector that protects a word: a marker holds it whenever it reads or changes the word. No
+/// connector protects the connectors' own words or the turn word.
 pub fn protects(word: WordNo) -> Option<Conn>
     ensures exact { (named : Word) → IsWord named → word ≡ word_number named →
         result ≡ protector named }
@@ -146,8 +155,8 @@ pub fn protects(word: WordNo) -> Option<Conn>
     }
 }
 
-/// The words that a connector protects, which stand one after another: twenty of a frame, one of a
-/// group. Of a connector that there isn't it may be none.
+/// The words that a connector protects, which are consecutive: twenty of a frame, one of a group.
+/// The range may be empty for a connector that doesn't exist.
 pub fn words_under(conn: Conn) -> Range<usize>
     ensures there { result.end ≤ word_count }
     ensures exact { (named : Word) → IsWord named → IsConn conn → (protector named ≡ Some conn)

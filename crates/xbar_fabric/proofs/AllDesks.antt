@@ -12,14 +12,14 @@ use Rattle.xbar_office.specs.declared.reply.Record.{Record}
 use Rattle.xbar_office.specs.declared.reply.Reply.{Reply}
 use Rattle.xbar_jobs.specs.Office.{ShowsOffice, office}
 use Rattle.xbar_core.specs.Exchange.{is_idle}
-use Rattle.xbar_fabric.specs.Meetings.{AreAllIdle, HasClosed}
+use Rattle.xbar_fabric.specs.Meetings.{AreAllIdle, FabricHasClosed}
 use Rattle.xbar_fabric.specs.Views.{AreBelow, DeskView, FabricView, IsDeskOf, RoomDesk, entered, own, view_at}
 use Rattle.xbar_fabric.proofs.Meets.{after_entered, words_after}
 use Rattle.xbar_fabric.proofs.Offices.{Order, begins_entered, is_history, own_same}
 use Rattle.xbar_fabric.proofs.ToldSteps.{free_idle}
 use Rattle.xbar_fabric.proofs.UnusedWords.{unused_word}
 
--- a desk below and one above stand at the same place
+-- a desk below and one above are at the same place
 abbrev pub IsPair : Option RoomDesk → Option DeskView → Type 0
 IsPair None None = ⊤
 IsPair (Some d) (Some desk) = view_at desk.kind d ≡ desk
@@ -77,7 +77,7 @@ module _ (plan : Tables) where
   theirs_entered n (x ∷ order) all r (inl same) = subst (λ (y : Record). y.marker < n) (sym same) (all x (inl refl))
   theirs_entered n (x ∷ order) all r (inr later) = theirs_entered n order (λ y among. all y (inr among)) r later
 
-  pub has_closed : (below : List RoomDesk) (all : List DeskView) (words : List ℕ) → AreBelow below all → desks.HasClosed (office plan) below words → HasClosed plan all words
+  pub has_closed : (below : List RoomDesk) (all : List DeskView) (words : List ℕ) → AreBelow below all → desks.HasClosed (office plan) below words → FabricHasClosed plan all words
   has_closed below all words are closed =
       let ended = closed.ended in
       record {

@@ -1,11 +1,11 @@
--- the step by which nothing is left of a job tells its record
+-- the step after which nothing is left of a job reports its record
 use Rattle.std.proofs.Common.{◌≡◌, ◌≢◌, ℕ, Bool, true, false, List, [], ◌∷◌, ◌++◌, refl, subst}
 use Rattle.std.specs.Prelude.{◌==◌, Result, Ok, Err, if◌then◌else◌}
-use Rattle.turns.specs.Attempt.{HasDecided, act, act_in, answer_to, changed, closing_act, come_to, free_act, goes_on, next, unless_put_off, walks_on}
-use Rattle.turns.specs.Runs.{is_rest}
+use Rattle.turns.specs.Attempt.{HasDecided, act, act_in, answer_to, changed, closing_act, walk_result, free_act, goes_on, next, unless_denied, walks_on}
+use Rattle.turns.specs.Runs.{is_finished}
 use Rattle.turns.specs.Script.{Script, Ends, TestThen, SeizeThen, first_wanted, is_held, left, left_of_seizing, walk}
 use Rattle.turns.specs.Seen.{Seen}
-use Rattle.turns.specs.declared.answer.Answer.TheVariants.{Asked, Seized, Again, Done}
+use Rattle.turns.specs.declared.answer.Answer.TheVariants.{Requested, Seized, Changed, Done}
 use Rattle.turns.specs.declared.judgement.Judgement.{Judgement}
 use Rattle.turns.specs.declared.judgement.Judgement.TheVariants as judgement
 use Rattle.turns.specs.declared.phase.Phase.TheVariants.{Requests, Seizes, Tests, Turns, Withdraws, GivesBack, Operates}
@@ -34,31 +34,31 @@ module _ (plan : Tables) where
   decides_none a conn first decided none = first_seizes _ ((office plan).script a.job) conn decided.decision none first decided.come
 
   -- an attempt that goes on is not at rest
-  goes_on_busy : (a : Attempt) (to : Result Decision (Wanted Conn ℕ)) → is_rest (act (goes_on (office plan) a to)) ≡ true → ⊥
+  goes_on_busy : (a : Attempt) (to : Result Decision (Wanted Conn ℕ)) → is_finished (act (goes_on (office plan) a to)) ≡ true → ⊥
   goes_on_busy a (Ok decision) rests = cc
   goes_on_busy a (Err (Seize conn)) rests = cc
   goes_on_busy a (Err (Test word)) rests = cc
 
-  walked_busy : (a : Attempt) → is_rest (act (walks_on (office plan) a)) ≡ true → ⊥
-  walked_busy a rests = goes_on_busy a (come_to (office plan) a) rests
+  walked_busy : (a : Attempt) → is_finished (act (walks_on (office plan) a)) ≡ true → ⊥
+  walked_busy a rests = goes_on_busy a (walk_result (office plan) a) rests
 
-  asked_busy : (a : Attempt) (conn : Conn) (word : ℕ) (j : Judgement) → is_rest (act (changed (office plan) a (Requests conn) (unless_put_off (Asked word) j))) ≡ true → ⊥
+  asked_busy : (a : Attempt) (conn : Conn) (word : ℕ) (j : Judgement) → is_finished (act (changed (office plan) a (Requests conn) (unless_denied (Requested word) j))) ≡ true → ⊥
   asked_busy a conn word judgement.Free rests = cc
   asked_busy a conn word (judgement.Held holder) rests = cc
   asked_busy a conn word (judgement.Preferred other) rests = cc
 
-  seized_busy : (a : Attempt) (conn : Conn) (expected word : ℕ) (same : Bool) (j : Judgement) → is_rest (act (changed (office plan) a (Seizes conn expected) (if same then Seized else unless_put_off (Again word) j))) ≡ true → ⊥
+  seized_busy : (a : Attempt) (conn : Conn) (expected word : ℕ) (same : Bool) (j : Judgement) → is_finished (act (changed (office plan) a (Seizes conn expected) (if same then Seized else unless_denied (Changed word) j))) ≡ true → ⊥
   seized_busy a conn expected word true j rests = walked_busy (record a { held = a.held ++ conn ∷ [] }) rests
   seized_busy a conn expected word false judgement.Free rests = cc
   seized_busy a conn expected word false (judgement.Held holder) rests = cc
   seized_busy a conn expected word false (judgement.Preferred other) rests = cc
 
-  closed_bare : (effects : List Effect) (held : List Conn) → is_rest (closing_act effects held) ≡ true → held ≡ []
+  closed_bare : (effects : List Effect) (held : List Conn) → is_finished (closing_act effects held) ≡ true → held ≡ []
   closed_bare [] [] rests = refl
   closed_bare [] (conn ∷ held) rests = absurd cc
   closed_bare (effect ∷ effects) held rests = absurd cc
 
-  -- to free is answered by nothing, and so is each step past the turn
+  -- a free is answered with Done, and so is each step past the turn
   pub freed_done : (k found : ℕ) (held : List Conn) → answer_to (office plan) k (free_act held) found ≡ Done
   freed_done k found [] = refl
   freed_done k found (conn ∷ held) = refl
@@ -67,9 +67,9 @@ module _ (plan : Tables) where
   closed_done k found [] held = freed_done k found held
   closed_done k found (effect ∷ effects) held = refl
 
-  -- nothing is to be told of the step after which an attempt is at rest
+  -- the answer to a step after which an attempt is at rest is Done
   rests_done : (k found : ℕ) (a : Attempt) (phase : Phase) → (phase ≡ Turns → a.held ≢ [])
-      → is_rest (act (changed (office plan) a phase (answer_to (office plan) k (act_in phase a) found))) ≡ true → answer_to (office plan) k (act_in phase a) found ≡ Done
+      → is_finished (act (changed (office plan) a phase (answer_to (office plan) k (act_in phase a) found))) ≡ true → answer_to (office plan) k (act_in phase a) found ≡ Done
   rests_done k found a (Requests conn) holds rests = absurd (asked_busy a conn _ _ rests)
   rests_done k found a (Seizes conn expected) holds rests = absurd (seized_busy a conn expected found (found == expected) _ rests)
   rests_done k found a (Tests word) holds rests = absurd (walked_busy (record a { readings = a.readings ++ record { word = word; value = found } ∷ [] }) rests)
@@ -78,5 +78,5 @@ module _ (plan : Tables) where
   rests_done k found a GivesBack holds rests = freed_done k found a.held
   rests_done k found a (Operates turn) holds rests = closed_done k found a.effects a.held
 
-  pub ends_done : (k found : ℕ) (a : Attempt) → (a.phase ≡ Turns → a.held ≢ []) → is_rest (act (next (office plan) k a found)) ≡ true → answer_to (office plan) k (act a) found ≡ Done
+  pub ends_done : (k found : ℕ) (a : Attempt) → (a.phase ≡ Turns → a.held ≢ []) → is_finished (act (next (office plan) k a found)) ≡ true → answer_to (office plan) k (act a) found ≡ Done
   ends_done k found a holds rests = rests_done k found a a.phase holds rests

@@ -3,7 +3,7 @@ use Rattle.std.proofs.Common.{◌≡◌, ℕ, zero, suc, Bool, true, false, refl
 use Rattle.std.specs.Prelude.{is_some, if◌then◌else◌}
 use Rattle.atomic_table.specs.Seated.{TableId}
 use Rattle.turns.specs.Attempt.{act, begin_with, change, turn_in}
-use Rattle.turns.specs.Runs.{is_rest}
+use Rattle.turns.specs.Runs.{is_finished}
 use Rattle.turns.specs.World.{Idle, Does}
 use Rattle.turns.specs.declared.phase.Phase.TheVariants.{Requests, Seizes, Tests, Turns, Withdraws, GivesBack, Operates}
 use Rattle.desks.specs.Desks as desks
@@ -16,7 +16,7 @@ use Rattle.xbar_core.specs.Exchange.{Work}
 use Rattle.xbar_core.specs.Moves.{event_of, given_by}
 use Rattle.xbar_core.specs.declared.given.Given.TheVariants as given
 use Rattle.xbar_core.specs.declared.kind.Kind.{Kind}
-use Rattle.xbar_fabric.specs.Advances.{HasGivenBack, HasMade}
+use Rattle.xbar_fabric.specs.Advances.{MarkerHasGivenBack, MarkerHasMade}
 use Rattle.xbar_fabric.proofs.Offices.{Order}
 use Rattle.xbar_fabric.proofs.Steps.{desk_at, has_stepped}
 
@@ -26,8 +26,8 @@ not_turned false true is = absurd cc
 not_turned false false is = refl
 
 module _ (plan : Tables) (table : TableId) (kind : Kind) (k : ℕ) where
-  -- so many steps of the desk below are so many of the marker
-  has_made : (count : ℕ) (before after : Work) (seen seen_after : Order) → desks.HasMade (office plan) k count before after seen seen_after → HasMade count (desk_at table plan kind k before seen) (desk_at table plan kind k after seen_after)
+  -- steps of the desk below are as many steps of the marker
+  has_made : (count : ℕ) (before after : Work) (seen seen_after : Order) → desks.HasMade (office plan) k count before after seen seen_after → MarkerHasMade count (desk_at table plan kind k before seen) (desk_at table plan kind k after seen_after)
   has_made zero before after seen seen_after made = λ i. desk_at table plan kind k (made.0 i) (made.1 i)
   has_made (suc count) before after seen seen_after (between, seen_between, answer, made, asks, step) = (
     desk_at table plan kind k between seen_between,
@@ -47,11 +47,11 @@ module _ (plan : Tables) (table : TableId) (kind : Kind) (k : ℕ) where
   begins_anew a GivesBack early = refl
   begins_anew a (Operates turn) early = absurd cc
 
-  pub gives_back : (before after : Work) (seen seen_after : Order) → given_by before ≡ given.Given → desks.HasGivenBack (office plan) k before after seen seen_after → HasGivenBack (desk_at table plan kind k before seen) (desk_at table plan kind k after seen_after)
+  pub gives_back : (before after : Work) (seen seen_after : Order) → given_by before ≡ given.Given → desks.HasGivenBack (office plan) k before after seen seen_after → MarkerHasGivenBack (desk_at table plan kind k before seen) (desk_at table plan kind k after seen_after)
   gives_back Idle after seen seen_after gives back = absurd cc
   gives_back (Does number a) after seen seen_after gives back = record {
     count = back.count;
     few = back.few;
     made = has_made back.count _ after seen seen_after back.made;
-    begins = back.after_is ∙ ap (λ (b : Attempt). Does number b) (begins_anew a a.phase (not_turned (is_rest (act a)) (is_some (turn_in a.phase)) gives));
+    begins = back.after_is ∙ ap (λ (b : Attempt). Does number b) (begins_anew a a.phase (not_turned (is_finished (act a)) (is_some (turn_in a.phase)) gives));
   }

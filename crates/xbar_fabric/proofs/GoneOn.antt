@@ -1,13 +1,13 @@
--- what comes of a step of which the answer alone is told
+-- what a step promises of which only the answer is reported
 use Rattle.std.proofs.Common.{◌≡◌, ℕ, Bool, true, false, refl, sym, ◌∙◌}
 use Rattle.std.specs.Prelude.{IfNone, IfSome, Option, Some, None}
 use Rattle.atomic_table.specs.Seated.{TableId}
 use Rattle.turns.specs.Law.{IsLegal}
-use Rattle.turns.specs.Runs.{is_free}
+use Rattle.turns.specs.Runs.{is_available}
 use Rattle.turns.specs.World as worlds
 use Rattle.turns.specs.declared.answer.Answer.{Answer}
 use Rattle.desks.specs.Desks as desks
-use Rattle.desks.specs.declared.progress.Told.{Told}
+use Rattle.desks.specs.declared.progress.JobRecord.{JobRecord}
 use Rattle.desks.proofs.Ending.{tells_at_end, told_at_end}
 use Rattle.xbar_plan.specs.Tables.{Tables}
 use Rattle.xbar_plan.specs.Lawful.{IsLawful}
@@ -28,7 +28,7 @@ module _ (plan : Tables) (table : TableId) (kind : Kind) (k : ℕ) (before after
 
   module _ (answer : Answer) (step : desks.HasStepped (office plan) k before after seen seen_after answer) where
     -- a step after which something is left of the job
-    on_its_way : is_free (office plan) after ≡ false → Answered (Some answer)
+    on_its_way : is_available (office plan) after ≡ false → Answered (Some answer)
     unfolding moves has_stepped
     on_its_way goes = record {
       event = _;
@@ -38,28 +38,28 @@ module _ (plan : Tables) (table : TableId) (kind : Kind) (k : ℕ) (before after
     }
 
     -- the last step of the job
-    at_end : IsLawful plan → (free : is_free (office plan) after ≡ true) → (told : worlds.Record Job Reply) → desks.IsTold (office plan) k after seen_after told → Answered (Some answer)
+    at_end : IsLawful plan → (free : is_available (office plan) after ≡ true) → (reported : worlds.Record Job Reply) → desks.IsReported (office plan) k after seen_after reported → Answered (Some answer)
     unfolding finishes_job has_stepped
-    at_end laws free told is_told = record {
+    at_end laws free reported is_told = record {
       event = _;
-      advanced = finishes_job plan table kind k before after seen seen_after answer step told laws free is_told;
+      advanced = finishes_job plan table kind k before after seen seen_after answer step reported laws free is_told;
       idle = λ idle. absurd (never_idle plan table kind k before after seen seen_after answer step idle);
       answered = λ _. is_answered plan kind k before after seen seen_after answer step;
     }
 
-    pub step_answered : IsLawful plan → IsLegal (office plan) 0 (office plan).opening seen_after → desks.EndsIn (office plan) seen_after k after → Answered (Some answer)
-    step_answered laws legal ends = by (is_free (office plan) after) refl where
-      tells : is_free (office plan) after ≡ true → (it : Option (Told Job Reply)) → desks.told_of (office plan) k after ≡ it → Answered (Some answer)
+    pub step_answered : IsLawful plan → IsLegal (office plan) 0 (office plan).opening seen_after → desks.HasEndedIn (office plan) seen_after k after → Answered (Some answer)
+    step_answered laws legal ends = by (is_available (office plan) after) refl where
+      tells : is_available (office plan) after ≡ true → (it : Option (JobRecord Job Reply)) → desks.job_record_of (office plan) k after ≡ it → Answered (Some answer)
       tells free None none = absurd (tells_at_end (office plan) k after seen_after ends free none)
-      tells free (Some told) is = at_end laws free (desks.told_record told) (told_at_end (office plan) k after seen_after told legal ends free (sym is))
+      tells free (Some reported) is = at_end laws free (desks.as_record reported) (told_at_end (office plan) k after seen_after reported legal ends free (sym is))
 
-      by : (free : Bool) → is_free (office plan) after ≡ free → Answered (Some answer)
+      by : (free : Bool) → is_available (office plan) after ≡ free → Answered (Some answer)
       by false goes = on_its_way goes
-      by true free = tells free (desks.told_of (office plan) k after) refl
+      by true free = tells free (desks.job_record_of (office plan) k after) refl
 
   -- an idle desk makes no step, and has no answer
-  pub has_answered : IsLawful plan → IsLegal (office plan) 0 (office plan).opening seen_after → (Same : Type 0) → (Same → (after ≡ before) × (seen_after ≡ seen)) → (answer : Option Answer) → IfNone answer ((is_free (office plan) before ≡ true) × Same)
-      → IfSome answer (desks.HasStepped (office plan) k before after seen seen_after) → IfSome answer (λ a. desks.EndsIn (office plan) seen_after k after) → Answered answer
+  pub has_answered : IsLawful plan → IsLegal (office plan) 0 (office plan).opening seen_after → (Same : Type 0) → (Same → (after ≡ before) × (seen_after ≡ seen)) → (answer : Option Answer) → IfNone answer ((is_available (office plan) before ≡ true) × Same)
+      → IfSome answer (desks.HasStepped (office plan) k before after seen seen_after) → IfSome answer (λ a. desks.HasEndedIn (office plan) seen_after k after) → Answered answer
   has_answered laws legal Same same None none stepped ends =
       let idle : is_idle before ≡ true = free_idle plan before ∙ none.0 in
       record {

@@ -3,7 +3,7 @@ use Rattle.std.proofs.Common.{◌≡◌, ℕ, zero, suc, Bool, true, false, List
 use Rattle.std.specs.Prelude.{Option, Some, None, is_some, option_map, slice_get, unwrap_or}
 use Rattle.std.proofs.lemmas.Option.{same_Some}
 use Rattle.turns.specs.Attempt.{act, change, turn_in}
-use Rattle.turns.specs.Runs.{is_rest}
+use Rattle.turns.specs.Runs.{is_finished}
 use Rattle.turns.specs.World.{Idle, Does}
 use Rattle.turns.specs.declared.answer.Answer.{Answer}
 use Rattle.turns.specs.declared.answer.Answer.TheVariants as answer
@@ -13,7 +13,7 @@ use Rattle.xbar_office.specs.declared.reply.Record.{Record}
 use Rattle.xbar_office.specs.declared.reply.Reply.{Reply}
 use Rattle.xbar_jobs.specs.Attempt.{Attempt}
 use Rattle.xbar_jobs.specs.Office.{office}
-use Rattle.xbar_core.specs.AtWork.{told_of}
+use Rattle.xbar_core.specs.AtWork.{answer_to_step}
 use Rattle.xbar_core.specs.Exchange.{Exchange, Marker, Work, is_idle, on_job}
 use Rattle.xbar_core.specs.Moves.{added_record, after_step, event_of, finished, given_by, moved_on, own_record, record_of, refused_by, work_anew}
 use Rattle.xbar_core.specs.declared.event.Event.{Event}
@@ -21,7 +21,7 @@ use Rattle.xbar_core.specs.declared.event.Event.TheVariants as event
 use Rattle.xbar_core.specs.declared.given.Given.TheVariants as given
 use Rattle.xbar_core.proofs.StepCases.{IsMade, gone_on, step_cases}
 use Rattle.xbar_core.proofs.Steps.{has_come}
-use Rattle.xbar_fabric.specs.Advances.{HasAdvanced, HasGivenBack, HasMade, HasStepped, at_beginning}
+use Rattle.xbar_fabric.specs.Advances.{MarkerHasAdvanced, MarkerHasGivenBack, MarkerHasMade, MarkerHasStepped, at_beginning}
 use Rattle.xbar_fabric.specs.Histories.{job_at, turned_of}
 use Rattle.xbar_fabric.specs.Views.{DeskView, marker_of, mine, own}
 use Rattle.xbar_fabric.proofs.GivenBack.{not_turned}
@@ -39,7 +39,7 @@ pub record HasGrown (before after : DeskView) : Type 0 where
   pub turned_is : turned_of after ≡ turned_of before ++ more
   pub job : job_at after.work ≡ job_at before.work
 
--- where nothing changed there are no more
+-- if nothing has changed there are no more
 still_grown : (before after : DeskView) → after ≡ before → HasGrown before after
 still_grown before after same = record {
   more = [];
@@ -59,7 +59,7 @@ both_grown before between after one other = record {
   job = other.job ∙ one.job;
 }
 
-module _ (before after : DeskView) (event : Event) (step : HasStepped before after event) where
+module _ (before after : DeskView) (event : Event) (step : MarkerHasStepped before after event) where
   abbrev now : Exchange
   now = after_step before.plan before.marker step.office
 
@@ -93,24 +93,24 @@ module _ (before after : DeskView) (event : Event) (step : HasStepped before aft
   one_made made =
       let n = made.number in
       let a = made.attempt in
-      let told = told_of before.marker step.office.words made.attempt in
+      let reported = answer_to_step before.marker step.office.words made.attempt in
       let later = gone_on before.plan step.office before.marker n a made.at made.goes in
       let was : before.work ≡ Does made.number made.attempt = ap (λ (o : Marker). o.work) (same_Some (marker_of before) made.at.marker (sym step.amid.there ∙ made.at.there)) ∙ made.at.work in
-      let work = work_now (Does n (change (office before.plan) a told)) later.marker later.work later.there in
+      let work = work_now (Does n (change (office before.plan) a reported)) later.marker later.work later.there in
       record {
-        more = added_record before.marker made.number made.attempt (told_of before.marker step.office.words made.attempt);
+        more = added_record before.marker made.number made.attempt (answer_to_step before.marker step.office.words made.attempt);
         marker = marker_same;
         mine_is = mine_now
             ∙ ap (λ (x : Exchange). own before.marker x.records) made.is
-            ∙ own_append before.marker step.office.records (added_record before.marker n a told)
-            ∙ ap (λ (l : List Record). l ++ own before.marker (added_record before.marker n a told)) step.amid.own_is
-            ∙ ap (λ (l : List Record). mine before ++ l) (own_added before.marker n a told);
+            ∙ own_append before.marker step.office.records (added_record before.marker n a reported)
+            ∙ ap (λ (l : List Record). l ++ own before.marker (added_record before.marker n a reported)) step.amid.own_is
+            ∙ ap (λ (l : List Record). mine before ++ l) (own_added before.marker n a reported);
         turned_is = turned_now
             ∙ ap (turned_at before.marker) work
             ∙ step_grows before.plan before.marker n step.office.words a
-            ∙ ap (λ (w : Work). turned_at before.marker w ++ added_record before.marker n a told) (sym was);
+            ∙ ap (λ (w : Work). turned_at before.marker w ++ added_record before.marker n a reported) (sym was);
         job = ap job_at work
-            ∙ ap (λ (job : Job). Some (n, job)) (changed_job before.plan before.marker n a a.phase told)
+            ∙ ap (λ (job : Job). Some (n, job)) (changed_job before.plan before.marker n a a.phase reported)
             ∙ ap job_at (sym was);
       }
 
@@ -122,12 +122,12 @@ module _ (before after : DeskView) (event : Event) (step : HasStepped before aft
   ]
 
 -- by many
-pub steps_grown : (count : ℕ) (before after : DeskView) → HasMade count before after → HasGrown before after
+pub steps_grown : (count : ℕ) (before after : DeskView) → MarkerHasMade count before after → HasGrown before after
 steps_grown zero before after same = still_grown before after same
 steps_grown (suc count) before after (between, event, made, asks, step) = both_grown before between after (steps_grown count before between made) (step_grown between after event step)
 
 -- and by an advance
-pub advance_grown : (before after : DeskView) (event : Event) → HasAdvanced before after event → HasGrown before after
+pub advance_grown : (before after : DeskView) (event : Event) → MarkerHasAdvanced before after event → HasGrown before after
 advance_grown before after event advanced = by (is_idle before.work) refl where
   by : (idle : Bool) → is_idle before.work ≡ idle → HasGrown before after
   by true idle = still_grown before after (advanced.idle idle).0
@@ -152,18 +152,18 @@ module _ (k number : ℕ) (after : Attempt) (r : Record) where
   by_refusal holder None is = cc
   by_refusal holder (Some conn) is = cc
 
-  -- what is told of a job at its end is its record
-  own_at_end : (a : Attempt) (told : Answer) → event_of k number a after told ≡ event.Finished r → own_record k number after ≡ r ∷ []
+  -- the record that a job's last step reports is the job's
+  own_at_end : (a : Attempt) (reported : Answer) → event_of k number a after reported ≡ event.Finished r → own_record k number after ≡ r ∷ []
   own_at_end a (answer.Held holder) is = absurd (by_refusal holder _ is)
   own_at_end a (answer.Preferred other) is = absurd cc
-  own_at_end a (answer.Asked word) is = absurd cc
+  own_at_end a (answer.Requested word) is = absurd cc
   own_at_end a answer.Seized is = absurd cc
-  own_at_end a (answer.Again word) is = absurd cc
+  own_at_end a (answer.Changed word) is = absurd cc
   own_at_end a (answer.Value value) is = absurd cc
   own_at_end a (answer.Turn turn) is = absurd cc
-  own_at_end a answer.Done is = by_rest (is_rest (act after)) is
+  own_at_end a answer.Done is = by_rest (is_finished (act after)) is
 
-step_ends : (before after : DeskView) (r : Record) → is_idle before.work ≡ false → HasStepped before after (event.Finished r) → turned_of after ≡ r ∷ []
+step_ends : (before after : DeskView) (r : Record) → is_idle before.work ≡ false → MarkerHasStepped before after (event.Finished r) → turned_of after ≡ r ∷ []
 step_ends before after r busy step =
     let come = has_come before.plan step.office before.marker (event.Finished r) (λ same. cc) (sym step.event_is) in
     let was : before.work ≡ Does come.number come.attempt = ap (λ (o : Marker). o.work) (same_Some (marker_of before) come.at.marker (sym step.amid.there ∙ come.at.there)) ∙ come.at.work in
@@ -173,8 +173,8 @@ step_ends before after r busy step =
     ∙ ap (turned_at before.marker) (work_now before after (event.Finished r) step _ later.marker later.work later.there)
     ∙ own_at_end before.marker come.number _ r come.attempt _ come.comes
 
--- the record of a desk's job at its end is the one that it is told
-pub advance_ends : (before after : DeskView) (r : Record) → HasAdvanced before after (event.Finished r) → turned_of after ≡ r ∷ []
+-- the record of a desk's job at its end is the one that is reported
+pub advance_ends : (before after : DeskView) (r : Record) → MarkerHasAdvanced before after (event.Finished r) → turned_of after ≡ r ∷ []
 advance_ends before after r advanced = by (is_idle before.work) refl where
   by : (idle : Bool) → is_idle before.work ≡ idle → turned_of after ≡ r ∷ []
   by true idle = let none = (advanced.idle idle).1 in absurd cc
@@ -183,7 +183,7 @@ advance_ends before after r advanced = by (is_idle before.work) refl where
 -- a job that is given back has not turned
 early_bare : (k : ℕ) (work : Work) → given_by work ≡ given.Given → turned_at k work ≡ []
 early_bare k Idle gives = refl
-early_bare k (Does number a) gives = by (turn_in a.phase) (not_turned (is_rest (act a)) (is_some (turn_in a.phase)) gives) where
+early_bare k (Does number a) gives = by (turn_in a.phase) (not_turned (is_finished (act a)) (is_some (turn_in a.phase)) gives) where
   by : (turned : Option ℕ) → is_some turned ≡ false → unwrap_or (option_map (λ turn. record_of turn k number a) turned) [] ≡ []
   by None none = refl
   by (Some turn) none = absurd cc
@@ -198,7 +198,7 @@ none_behind [] more is = sym is
 none_behind (r ∷ l) more is = absurd cc
 
 -- to give back adds no record
-pub back_adds_none : (before after : DeskView) → given_by before.work ≡ given.Given → HasGivenBack before after → (turned_of before ≡ []) × (mine after ≡ mine before)
+pub back_adds_none : (before after : DeskView) → given_by before.work ≡ given.Given → MarkerHasGivenBack before after → (turned_of before ≡ []) × (mine after ≡ mine before)
 back_adds_none before after gives back =
     let start : DeskView = record before { work = work_anew before.plan before.work } in
     let grown = steps_grown back.count start after back.made in

@@ -1,4 +1,4 @@
--- where a marker's next own record stands, and so what turn it has
+-- the place of a marker's next own record, and so its turn
 use Rattle.std.proofs.Common.{◌≡◌, ℕ, ◌+◌, ◌<◌, ◌≤◌, ◌^◌, Bool, true, false, List, [], ◌∷◌, ◌++◌, length, length-append, sym, ◌∙◌, ap, subst, arith}
 use Rattle.std.specs.Prelude.{◌==◌, if◌then◌else◌}
 use Rattle.std.proofs.lemmas.List.{append_cancel_left}
@@ -9,7 +9,7 @@ use Rattle.xbar_fabric.specs.Histories.{IsHistory}
 use Rattle.xbar_fabric.specs.Views.{DeskView, mine, own}
 use Rattle.xbar_fabric.proofs.OwnRecords.{own_append}
 
--- records behind others have the turns from there on
+-- records after others have the turns from there on
 turns_behind : (turn : ℕ) (records more : List Record) → HaveTurns turn (records ++ more) → HaveTurns (turn + length records) more
 turns_behind turn [] more have = subst (λ (n : ℕ). HaveTurns n more) (omega arith) have
 turns_behind turn (r ∷ records) more have = subst (λ (n : ℕ). HaveTurns n more) (omega arith) (turns_behind (turn + 1) records more have.1)

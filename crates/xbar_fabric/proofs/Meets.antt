@@ -15,7 +15,7 @@ use Rattle.xbar_jobs.specs.Office.{ShowsOffice, office}
 use Rattle.xbar_core.specs.Exchange.{Exchange, Work}
 use Rattle.xbar_core.specs.declared.kind.Kind.{Kind}
 use Rattle.xbar_core.proofs.Records.{after_same}
-use Rattle.xbar_fabric.specs.Meetings.{AreWordsAfter, HaveMet, IsFree, IsShut}
+use Rattle.xbar_fabric.specs.Meetings.{AreWordsAfter, MarkersHaveMet, IsFreeConn, FabricIsShut}
 use Rattle.xbar_fabric.specs.Views.{entered}
 use Rattle.xbar_fabric.proofs.Offices.{Order, begins_entered, is_history, is_lawful, length-entered, length-made, marker_made, office_of, own_same, turned_entered}
 use Rattle.xbar_fabric.proofs.Steps.{desk_at}
@@ -26,7 +26,7 @@ module _ (plan : Tables) where
   after_entered order = ap (worlds.after (office plan) []) (sym (turned_entered order)) ∙ after_same plan [] (map entered order)
 
   pub have_met : (t u : TableId) (kind other_kind : Kind) (i j : ℕ) (w v w_after v_after : Work) (one other one_after other_after : Order) → desks.HaveMet (office plan) i j one other one_after other_after
-      → HaveMet (desk_at t plan kind i w one) (desk_at u plan other_kind j v other) (desk_at t plan kind i w_after one_after) (desk_at u plan other_kind j v_after other_after)
+      → MarkersHaveMet (desk_at t plan kind i w one) (desk_at u plan other_kind j v other) (desk_at t plan kind i w_after one_after) (desk_at u plan other_kind j v_after other_after)
   have_met t u kind other_kind i j w v w_after v_after one other one_after other_after met = record {
     history = is_history plan one_after (rw met.same met.legal);
     same = ap (map entered) (sym met.same);
@@ -37,7 +37,7 @@ module _ (plan : Tables) where
   }
 
   pub words_after : (order : Order) (words : List ℕ) → length words ≡ 453 → AreWords words → slice_index words (word_number TurnWord) ≡ length order % 2 ^ 64
-      → (((conn : Conn) → IsConn conn → IsFree words conn) → ShowsOffice plan words (worlds.after (office plan) [] order)) → AreWordsAfter plan (map entered order) words
+      → (((conn : Conn) → IsConn conn → IsFreeConn words conn) → ShowsOffice plan words (worlds.after (office plan) [] order)) → AreWordsAfter plan (map entered order) words
   words_after order words size fit counted shows = record {
     count = size;
     are_words = fit;
@@ -45,7 +45,7 @@ module _ (plan : Tables) where
     shows = λ free. subst (ShowsOffice plan words) (after_entered order) (shows free);
   }
 
-  pub is_shut : (t : TableId) (kind : Kind) (count k : ℕ) (work : Work) (seen : Order) (words : List ℕ) → desks.IsShut (office plan) count k work seen words → IsShut count (desk_at t plan kind k work seen) words
+  pub is_shut : (t : TableId) (kind : Kind) (count k : ℕ) (work : Work) (seen : Order) (words : List ℕ) → desks.IsShut (office plan) count k work seen words → FabricIsShut count (desk_at t plan kind k work seen) words
   is_shut t kind count k work seen words shut = record {
     office = e;
     amid = record {

@@ -2,9 +2,9 @@
 use Rattle.std.proofs.Common.{◌≡◌, ℕ, Bool, true, false, List, [], ◌∷◌, ◌++◌, append-nil, refl, sym, ◌∙◌, ap, subst}
 use Rattle.std.specs.Prelude.{◌==◌, Option, Some, None, Result, Ok, Err, if◌then◌else◌, option_map, unwrap_or}
 use Rattle.std.proofs.lemmas.Bool.{eq-eqb}
-use Rattle.turns.specs.Attempt.{act, act_in, answer_to, change, changed, freed, goes_on, operated, rest_of, turn_in, unless_put_off}
+use Rattle.turns.specs.Attempt.{act, act_in, answer_to, change, changed, giving_back, goes_on, operated, rest_of, turn_in, unless_denied}
 use Rattle.turns.specs.declared.answer.Answer.{Answer}
-use Rattle.turns.specs.declared.answer.Answer.TheVariants.{Asked, Seized, Held, Preferred, Again, Value, Turn, Done}
+use Rattle.turns.specs.declared.answer.Answer.TheVariants.{Requested, Seized, Held, Preferred, Changed, Value, Turn, Done}
 use Rattle.turns.specs.declared.judgement.Judgement.{Judgement}
 use Rattle.turns.specs.declared.judgement.Judgement.TheVariants as judgement
 use Rattle.turns.specs.declared.phase.Phase.TheVariants.{Requests, Seizes, Tests, Turns, Withdraws, GivesBack, Operates}
@@ -19,12 +19,12 @@ use Rattle.xbar_jobs.specs.Office.{office}
 use Rattle.xbar_jobs.specs.declared.decision.Decision.{Decision}
 use Rattle.xbar_jobs.specs.declared.effect.Effect.{Effect}
 use Rattle.xbar_jobs.proofs.StepActs.{act_answer}
-use Rattle.xbar_core.specs.AtWork.{told_of}
+use Rattle.xbar_core.specs.AtWork.{answer_to_step}
 use Rattle.xbar_core.specs.Moves.{added_record, own_record, record_of}
 use Rattle.xbar_fabric.specs.Views.{own}
 use Rattle.xbar_fabric.proofs.Finishing.{closed_done, freed_done}
 
--- the own records of two lists, one behind the other
+-- the own records of two lists, one after the other
 pub own_append : (k : ℕ) (records more : List Record) → own k (records ++ more) ≡ own k records ++ own k more
 own_append k [] more = refl
 own_append k (r ∷ records) more = by (r.marker == k) (own_append k records more) where
@@ -42,9 +42,9 @@ pub own_added : (k number : ℕ) (a : Attempt) (answer : Answer) → own k (adde
 own_added k number a (Turn turn) = own_of turn k number a a.reply refl
 own_added k number a (Held holder) = refl
 own_added k number a (Preferred other) = refl
-own_added k number a (Asked word) = refl
+own_added k number a (Requested word) = refl
 own_added k number a Seized = refl
-own_added k number a (Again word) = refl
+own_added k number a (Changed word) = refl
 own_added k number a (Value value) = refl
 own_added k number a Done = refl
 
@@ -63,16 +63,16 @@ module _ (plan : Tables) (k number : ℕ) where
   goes_bare a (Err (Seize conn)) = refl
   goes_bare a (Err (Test word)) = refl
 
-  freed_bare : (a : Attempt) (held : List Conn) → own_record k number (freed (office plan) a held) ≡ []
+  freed_bare : (a : Attempt) (held : List Conn) → own_record k number (giving_back (office plan) a held) ≡ []
   freed_bare a [] = refl
   freed_bare a (conn ∷ held) = refl
 
-  asked_grows : (a : Attempt) (conn : Conn) (word : ℕ) (j : Judgement) → Grows a (Requests conn) (unless_put_off (Asked word) j)
+  asked_grows : (a : Attempt) (conn : Conn) (word : ℕ) (j : Judgement) → Grows a (Requests conn) (unless_denied (Requested word) j)
   asked_grows a conn word judgement.Free = refl
   asked_grows a conn word (judgement.Held holder) = refl
   asked_grows a conn word (judgement.Preferred other) = refl
 
-  seized_grows : (a : Attempt) (conn : Conn) (expected word : ℕ) (same : Bool) (j : Judgement) → Grows a (Seizes conn expected) (if same then Seized else unless_put_off (Again word) j)
+  seized_grows : (a : Attempt) (conn : Conn) (expected word : ℕ) (same : Bool) (j : Judgement) → Grows a (Seizes conn expected) (if same then Seized else unless_denied (Changed word) j)
   seized_grows a conn expected word true j = goes_bare (record a { held = a.held ++ conn ∷ [] }) _
   seized_grows a conn expected word false judgement.Free = refl
   seized_grows a conn expected word false (judgement.Held holder) = refl
@@ -95,10 +95,10 @@ module _ (plan : Tables) (k number : ℕ) where
   phase_grows found a (Operates turn) at = subst (Grows a (Operates turn)) (sym (closed_done plan k found a.effects a.held)) (done_grows a turn at)
 
   -- after its step the attempt has the record that it had, and the one that the step adds
-  pub step_grows : (words : List ℕ) (a : Attempt) → own_record k number (change (office plan) a (told_of k words a)) ≡ own_record k number a ++ added_record k number a (told_of k words a)
+  pub step_grows : (words : List ℕ) (a : Attempt) → own_record k number (change (office plan) a (answer_to_step k words a)) ≡ own_record k number a ++ added_record k number a (answer_to_step k words a)
   step_grows words a = subst (Grows a a.phase) (sym (act_answer plan k (act a) _)) (phase_grows _ a a.phase refl)
 
-  freed_job : (a : Attempt) (held : List Conn) → (freed (office plan) a held).job ≡ a.job
+  freed_job : (a : Attempt) (held : List Conn) → (giving_back (office plan) a held).job ≡ a.job
   freed_job a [] = refl
   freed_job a (conn ∷ held) = refl
 
@@ -111,15 +111,15 @@ module _ (plan : Tables) (k number : ℕ) where
   operated_job a [] = refl
   operated_job a (effect ∷ effects) = refl
 
-  -- whatever it is told, an attempt is at its job
+  -- whatever the answer, an attempt stays at its job
   pub changed_job : (a : Attempt) (phase : Phase) (answer : Answer) → (changed (office plan) a phase answer).job ≡ a.job
-  changed_job a (Requests conn) (Asked word) = refl
+  changed_job a (Requests conn) (Requested word) = refl
   changed_job a (Requests conn) (Held holder) = refl
   changed_job a (Requests conn) (Preferred other) = refl
   changed_job a (Seizes conn expected) Seized = goes_job (record a { held = a.held ++ conn ∷ [] }) _
   changed_job a (Seizes conn expected) (Held holder) = refl
   changed_job a (Seizes conn expected) (Preferred other) = refl
-  changed_job a (Seizes conn expected) (Again word) = refl
+  changed_job a (Seizes conn expected) (Changed word) = refl
   changed_job a (Tests word) (Value value) = goes_job (record a { readings = a.readings ++ record { word = word; value = value } ∷ [] }) _
   changed_job a Turns (Turn number) = refl
   changed_job a (Withdraws conn) Done = freed_job a a.held

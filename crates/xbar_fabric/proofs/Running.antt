@@ -3,7 +3,7 @@ use Rattle.std.proofs.Common.{◌≡◌, ◌<◌, ℕ, zero, suc, false, arith, 
 use Rattle.atomic_table.specs.Seated.{TableId}
 use Rattle.turns.specs.Attempt.{change}
 use Rattle.turns.specs.Law.{IsLegal}
-use Rattle.turns.specs.Runs.{is_free}
+use Rattle.turns.specs.Runs.{is_available}
 use Rattle.turns.specs.declared.answer.Answer.{Answer}
 use Rattle.desks.specs.Desks as desks
 use Rattle.xbar_plan.specs.Tables.{Tables}
@@ -12,7 +12,7 @@ use Rattle.xbar_jobs.specs.Office.{office}
 use Rattle.xbar_core.specs.Exchange.{Work, is_idle}
 use Rattle.xbar_core.specs.Moves.{event_of}
 use Rattle.xbar_core.specs.declared.kind.Kind.{Kind}
-use Rattle.xbar_fabric.specs.Advances.{HasRun}
+use Rattle.xbar_fabric.specs.Advances.{MarkerHasRun}
 use Rattle.xbar_fabric.specs.Views.{HasJobNo}
 use Rattle.xbar_fabric.proofs.GoneOn.{step_answered}
 use Rattle.xbar_fabric.proofs.Offices.{Order}
@@ -31,7 +31,7 @@ module _ (plan : Tables) (table : TableId) (kind : Kind) (k : ℕ) where
   busy before after seen seen_after answer step = subst (λ (m : Work). is_idle m ≡ false) (sym step.before_is) (goes_on_at plan kind k before after seen seen_after answer step)
 
   -- steps after which something is left of the job
-  on_their_way : (count : ℕ) (before after : Work) (seen seen_after : Order) → desks.HasMade (office plan) k count before after seen seen_after → is_free (office plan) after ≡ false → HasRun count (desk_at table plan kind k before seen) (desk_at table plan kind k after seen_after)
+  on_their_way : (count : ℕ) (before after : Work) (seen seen_after : Order) → desks.HasMade (office plan) k count before after seen seen_after → is_available (office plan) after ≡ false → MarkerHasRun count (desk_at table plan kind k before seen) (desk_at table plan kind k after seen_after)
   on_their_way zero before after seen seen_after made goes = λ i. desk_at table plan kind k (made.0 i) (made.1 i)
   on_their_way (suc count) before after seen seen_after (between, seen_between, answer, made, asks, step) goes =
       let its = busy between after seen_between seen_after answer step in (
@@ -44,16 +44,16 @@ module _ (plan : Tables) (table : TableId) (kind : Kind) (k : ℕ) where
       )
 
   -- and with the last one, which may end the job
-  pub runs : (count : ℕ) (before after : Work) (seen seen_after : Order) → IsLawful plan → IsLegal (office plan) 0 (office plan).opening seen_after → (0 < count → desks.EndsIn (office plan) seen_after k after)
-      → desks.HasMade (office plan) k count before after seen seen_after → HasRun count (desk_at table plan kind k before seen) (desk_at table plan kind k after seen_after)
+  pub runs : (count : ℕ) (before after : Work) (seen seen_after : Order) → IsLawful plan → IsLegal (office plan) 0 (office plan).opening seen_after → (0 < count → desks.HasEndedIn (office plan) seen_after k after)
+      → desks.HasMade (office plan) k count before after seen seen_after → MarkerHasRun count (desk_at table plan kind k before seen) (desk_at table plan kind k after seen_after)
   runs zero before after seen seen_after laws legal ends made = λ i. desk_at table plan kind k (made.0 i) (made.1 i)
   runs (suc count) before after seen seen_after laws legal ends (between, seen_between, answer, made, asks, step) =
       let its = busy between after seen_between seen_after answer step in
-      let told = step_answered plan table kind k between after seen_between seen_after answer step laws legal (ends (omega arith)) in (
+      let reported = step_answered plan table kind k between after seen_between seen_after answer step laws legal (ends (omega arith)) in (
         desk_at table plan kind k between seen_between,
-        told.event,
+        reported.event,
         on_their_way count before between seen seen_between made (sym (free_idle plan between) ∙ its),
         its,
         asks,
-        told.advanced,
+        reported.advanced,
       )

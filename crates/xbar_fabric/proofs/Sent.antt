@@ -3,8 +3,8 @@ use denote.Param as param
 use denote.Param.Send as send
 use denote.RattleType.{RattleType}
 use denote.Struct.Declared as declared
-use Rattle.desk_attempts.proofs.ahead.Ahead.TheSendSync as attempt_sent
-use Rattle.desk_attempts.specs.contracts.ahead.Ahead as attempt
+use Rattle.desk_attempts.proofs.speculation.Speculation.TheSendSync as attempt_sent
+use Rattle.desk_attempts.specs.contracts.speculation.Speculation as attempt
 use Rattle.desk_attempts.specs.contracts.jobs.Attempts as attempts
 use Rattle.desk_attempts.specs.contracts.jobs.AttemptsJobs.TheImpl as jobs
 use Rattle.atomic_table.below.core.specs.contracts.clone.Clone+copy.TheImpl as copies

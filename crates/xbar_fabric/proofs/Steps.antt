@@ -1,8 +1,9 @@
 -- a desk's step is its marker's step in an office
 use Rattle.std.proofs.Common.{◌≡◌, ◌≢◌, ℕ, Bool, false, map, refl, sym, ◌∙◌, ap, subst}
 use Rattle.std.specs.Prelude.{Some, if◌then◌else◌, slice_get, slice_index}
-use Rattle.turns.specs.Attempt.{Rest, Ask, Take, Leave, Free, Look, Turn, Make, act, answer_to, change}
-use Rattle.turns.specs.Runs.{is_rest}
+use Rattle.turns.specs.Attempt.{act, answer_to, change}
+use Rattle.turns.specs.declared.act.Act.TheVariants.{Finished, Request, Seize, Withdraw, Free, Test, Turn, Make}
+use Rattle.turns.specs.Runs.{is_finished}
 use Rattle.turns.specs.World.{World, Does, moved}
 use Rattle.turns.specs.declared.answer.Answer.{Answer}
 use Rattle.desks.specs.Desks as desks
@@ -18,7 +19,7 @@ use Rattle.xbar_jobs.specs.Attempt.{Act, Attempt, next_step}
 use Rattle.xbar_jobs.specs.Office.{office}
 use Rattle.xbar_jobs.specs.OnWords.{step_answer}
 use Rattle.xbar_jobs.proofs.StepActs.{act_answer, act_word}
-use Rattle.xbar_core.specs.AtWork.{told_of}
+use Rattle.xbar_core.specs.AtWork.{answer_to_step}
 use Rattle.xbar_core.specs.Exchange.{Exchange, IsLawfulExchange, Work, world}
 use Rattle.xbar_core.specs.Holding.{IsAt}
 use Rattle.xbar_core.specs.Moves as moves
@@ -30,17 +31,17 @@ use Rattle.xbar_core.proofs.Markers.{marker_set}
 use Rattle.xbar_core.proofs.StepCases.{step_made}
 use Rattle.xbar_core.proofs.Stepping.{event_there}
 use Rattle.xbar_core.proofs.WorldMoves.{has_to_give, steps_in_world}
-use Rattle.xbar_fabric.specs.Advances.{HasStepped}
+use Rattle.xbar_fabric.specs.Advances.{MarkerHasStepped}
 use Rattle.xbar_fabric.specs.Views.{DeskView, IsAmid, entered, view_at}
 use Rattle.xbar_fabric.proofs.Offices.{Order, begins_entered, entered_turned, is_lawful, marker_at, marker_made, office_of, own_same, world_is}
 
-busy_act : (x : Act) → x ≢ Rest → is_rest x ≡ false
-busy_act Rest goes = absurd (goes refl)
-busy_act (Ask conn) goes = refl
-busy_act (Take conn expected) goes = refl
-busy_act (Leave conn) goes = refl
+busy_act : (x : Act) → x ≢ Finished → is_finished x ≡ false
+busy_act Finished goes = absurd (goes refl)
+busy_act (Request conn) goes = refl
+busy_act (Seize conn expected) goes = refl
+busy_act (Withdraw conn) goes = refl
 busy_act (Free conn) goes = refl
-busy_act (Look word) goes = refl
+busy_act (Test word) goes = refl
 busy_act Turn goes = refl
 busy_act (Make effect) goes = refl
 
@@ -88,16 +89,16 @@ module _ (plan : Tables) (kind : Kind) (k : ℕ) (before after : Work) (seen see
     work = step.before_is;
   }
 
-  pub goes_on_at : is_rest (act a) ≡ false
+  pub goes_on_at : is_finished (act a) ≡ false
   goes_on_at = busy_act (act a) step.goes_on
 
-  answered : told_of k e.words a ≡ answer_to (office plan) k (act a) (number_found (office plan) step.world a)
+  answered : answer_to_step k e.words a ≡ answer_to (office plan) k (act a) (number_found (office plan) step.world a)
   answered = ap (λ (n : ℕ). step_answer k (next_step a) (slice_index step.world.words n)) (act_word plan (act a)) ∙ act_answer plan k (act a) (number_found (office plan) step.world a)
 
-  pub told : told_of k e.words a ≡ answer
-  told = answered ∙ sym step.answer_is
+  pub reported : answer_to_step k e.words a ≡ answer
+  reported = answered ∙ sym step.answer_is
 
-  after_is : Does step.number (change (office plan) a (told_of k e.words a)) ≡ after
+  after_is : Does step.number (change (office plan) a (answer_to_step k e.words a)) ≡ after
   after_is = ap (λ (t : Answer). Does step.number (change (office plan) a t)) answered ∙ sym step.after_is
 
   pub there_after : slice_get (after_step plan k e).markers k ≡ Some (marker_at kind after)
@@ -119,8 +120,8 @@ module _ (plan : Tables) (kind : Kind) (k : ℕ) (before after : Work) (seen see
   came =
       sym (event_there plan e k at.marker at.there)
       ∙ ap (event_by plan k e.words) step.before_is
-      ∙ ap (λ (idle : Bool). if idle then event.Idle else event_of k step.number a (change (office plan) a (told_of k e.words a)) (told_of k e.words a)) goes_on_at
-      ∙ ap (λ (t : Answer). event_of k step.number a (change (office plan) a t) t) told
+      ∙ ap (λ (idle : Bool). if idle then event.Idle else event_of k step.number a (change (office plan) a (answer_to_step k e.words a)) (answer_to_step k e.words a)) goes_on_at
+      ∙ ap (λ (t : Answer). event_of k step.number a (change (office plan) a t) t) reported
 
   pub amid : (table : TableId) → IsAmid (desk_at table plan kind k before seen) e
   amid table = record {
@@ -134,10 +135,10 @@ module _ (plan : Tables) (kind : Kind) (k : ℕ) (before after : Work) (seen see
   pub is_answered : moves.IsAnswered plan k e.words before after (Some answer)
   is_answered =
       subst (λ (m : Work). moves.IsAnswered plan k e.words m after (Some answer)) (sym step.before_is)
-      (goes_on_at, sym told, sym after_is ∙ ap (λ (t : Answer). Does step.number (change (office plan) a t)) told)
+      (goes_on_at, sym reported, sym after_is ∙ ap (λ (t : Answer). Does step.number (change (office plan) a t)) reported)
 
   -- the step, with what comes of it
-  unfoldable pub has_stepped : (table : TableId) (what : Event) → what ≡ event_of k step.number a (change (office plan) a answer) answer → HasStepped (desk_at table plan kind k before seen) (desk_at table plan kind k after seen_after) what
+  unfoldable pub has_stepped : (table : TableId) (what : Event) → what ≡ event_of k step.number a (change (office plan) a answer) answer → MarkerHasStepped (desk_at table plan kind k before seen) (desk_at table plan kind k after seen_after) what
   has_stepped table what is = record {
     office = e;
     amid = amid table;

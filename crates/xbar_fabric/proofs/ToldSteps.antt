@@ -1,17 +1,17 @@
--- what an advance promises, by what the desk below it tells
+-- what an advance promises, by what the desk below it reports
 use Rattle.std.proofs.Common.{◌≡◌, ◌≢◌, ℕ, ◌<◌, ◌^◌, Bool, true, false, List, [], ◌∷◌, ◌++◌, length, length-append, map, refl, sym, ◌∙◌, ap, inl, inr, subst, arith, append-nil, append_assoc}
 use Rattle.std.specs.Prelude.{Option, Some, None, option_map, option_to_list, slice_get, unwrap_or}
 use mathlib.Core.Option.{some}
 use lib.ListN.{get_elem?}
 use Rattle.atomic_table.specs.Seated.{TableId}
 use Rattle.turns.specs.Among.{IsIn}
-use Rattle.turns.specs.Attempt.{StandsIn, act, change, turn_in}
-use Rattle.turns.specs.Runs.{is_free, is_rest}
+use Rattle.turns.specs.Attempt.{IsValidIn, act, change, turn_in}
+use Rattle.turns.specs.Runs.{is_available, is_finished}
 use Rattle.turns.specs.World as worlds
 use Rattle.turns.specs.World.{Idle, Does, added_in}
 use Rattle.turns.proofs.Runs.{rest_is}
 use Rattle.turns.specs.declared.answer.Answer.{Answer}
-use Rattle.turns.specs.declared.answer.Answer.TheVariants.{Asked, Seized, Held, Preferred, Again, Value, Turn, Done}
+use Rattle.turns.specs.declared.answer.Answer.TheVariants.{Requested, Seized, Held, Preferred, Changed, Value, Turn, Done}
 use Rattle.turns.specs.declared.phase.Phase.TheVariants.{Turns, Operates}
 use Rattle.desks.specs.Desks as desks
 use Rattle.desks.specs.Kept.{number_found}
@@ -33,15 +33,15 @@ use Rattle.xbar_core.specs.declared.event.Event.TheVariants as event
 use Rattle.xbar_core.specs.declared.kind.Kind.{Kind}
 use Rattle.xbar_core.proofs.FinishedJobs.{finished_at, finishes}
 use Rattle.xbar_core.proofs.Steps.{step_adds}
-use Rattle.xbar_fabric.specs.Advances.{HasAdvanced}
-use Rattle.xbar_fabric.specs.Histories.{IsTold}
+use Rattle.xbar_fabric.specs.Advances.{MarkerHasAdvanced}
+use Rattle.xbar_fabric.specs.Histories.{IsReportedRecord}
 use Rattle.xbar_fabric.specs.Views.{DeskView, entered}
 use Rattle.xbar_fabric.proofs.Finishing.{decides_none, ends_done}
 use Rattle.xbar_fabric.proofs.Offices.{Order, begins_entered, own_entered}
 use Rattle.xbar_fabric.proofs.Steps.{at, came, desk_at, e, has_stepped, lawful, seen_is}
 
--- an actor is free where its marker is idle
-pub free_idle : (plan : Tables) (work : Work) → is_idle work ≡ is_free (office plan) work
+-- an actor is available if its marker is idle
+pub free_idle : (plan : Tables) (work : Work) → is_idle work ≡ is_available (office plan) work
 free_idle plan Idle = refl
 free_idle plan (Does number a) = refl
 
@@ -49,7 +49,7 @@ free_idle plan (Does number a) = refl
 pub does_same : (number other : ℕ) (a b : Attempt) → ◌≡◌ {A = Work} (Does number a) (Does other b) → (number ≡ other) × (a ≡ b)
 does_same number other a b is = (cc, cc)
 
--- a step finishes a job only where nothing is left of it
+-- a step finishes a job only if nothing is left of it
 refusal_goes : (holder : ℕ) (conn : Option Conn) (r : Record) → refused_by holder conn ≡ event.Finished r → ⊥
 refusal_goes holder None r is = cc
 refusal_goes holder (Some conn) r is = cc
@@ -58,18 +58,18 @@ on_goes : (k number : ℕ) (after : Attempt) (r : Record) (rests : Bool) → mov
 on_goes k number after r true is = refl
 on_goes k number after r false is = absurd cc
 
-pub finished_rests : (k number : ℕ) (a after : Attempt) (r : Record) (answer : Answer) → event_of k number a after answer ≡ event.Finished r → is_rest (act after) ≡ true
+pub finished_rests : (k number : ℕ) (a after : Attempt) (r : Record) (answer : Answer) → event_of k number a after answer ≡ event.Finished r → is_finished (act after) ≡ true
 finished_rests k number a after r (Held holder) is = absurd (refusal_goes holder _ r is)
 finished_rests k number a after r (Preferred other) is = absurd cc
-finished_rests k number a after r (Asked word) is = absurd cc
+finished_rests k number a after r (Requested word) is = absurd cc
 finished_rests k number a after r Seized is = absurd cc
-finished_rests k number a after r (Again word) is = absurd cc
+finished_rests k number a after r (Changed word) is = absurd cc
 finished_rests k number a after r (Value value) is = absurd cc
 finished_rests k number a after r (Turn turn) is = absurd cc
-finished_rests k number a after r Done is = on_goes k number after r (is_rest (act after)) is
+finished_rests k number a after r Done is = on_goes k number after r (is_finished (act after)) is
 
--- what an attempt past its turn tells at its end
-told_at_end : (k number turn : ℕ) (after : Attempt) (reply : Reply) → after.phase ≡ Operates turn → after.reply ≡ Some reply → is_rest (act after) ≡ true
+-- the event of the last step of an attempt past its turn
+told_at_end : (k number turn : ℕ) (after : Attempt) (reply : Reply) → after.phase ≡ Operates turn → after.reply ≡ Some reply → is_finished (act after) ≡ true
     → event_of k number after after Done ≡ event.Finished (record { turn = turn; marker = k; job_no = number; job = after.job; reply = reply })
 told_at_end k number turn after reply phase replied rests =
     ap (moved_on k number after) rests
@@ -90,7 +90,7 @@ module _ (plan : Tables) (table : TableId) (kind : Kind) (k : ℕ) (before after
   new = desk_at table plan kind k after seen_after
 
   -- an idle desk makes no step
-  pub stays : is_free (office plan) before ≡ true → after ≡ before → seen_after ≡ seen → HasAdvanced old new event.Idle
+  pub stays : is_available (office plan) before ≡ true → after ≡ before → seen_after ≡ seen → MarkerHasAdvanced old new event.Idle
   stays free same same_seen =
       let idle : is_idle before ≡ true = free_idle plan before ∙ free in
       record {
@@ -107,8 +107,8 @@ module _ (plan : Tables) (table : TableId) (kind : Kind) (k : ℕ) (before after
     after_is : after ≡ Does step.number next_attempt
     after_is = step.after_is ∙ ap (λ (t : Answer). Does step.number (change (office plan) step.attempt t)) (sym step.answer_is)
 
-    pub busy_now : is_free (office plan) after ≡ false → is_rest (act next_attempt) ≡ false
-    busy_now goes = subst (λ (m : Work). is_free (office plan) m ≡ false) after_is goes
+    pub busy_now : is_available (office plan) after ≡ false → is_finished (act next_attempt) ≡ false
+    busy_now goes = subst (λ (m : Work). is_available (office plan) m ≡ false) after_is goes
 
     pub never_idle : is_idle before ≡ true → ⊥
     never_idle idle = step.goes_on (rest_is (act step.attempt) (subst (λ (m : Work). is_idle m ≡ true) step.before_is idle))
@@ -119,7 +119,7 @@ module _ (plan : Tables) (table : TableId) (kind : Kind) (k : ℕ) (before after
         begins_entered seen seen_after (step.begins.0 ++ added, step.seen_is ∙ ap (λ (l : Order). l ++ added) step.begins.1 ∙ append_assoc seen step.begins.0 added)
 
     -- a step after which something is left of the job
-    unfoldable pub moves : (what : Event) → what ≡ event_of k step.number step.attempt next_attempt answer → is_free (office plan) after ≡ false → HasAdvanced old new what
+    unfoldable pub moves : (what : Event) → what ≡ event_of k step.number step.attempt next_attempt answer → is_available (office plan) after ≡ false → MarkerHasAdvanced old new what
     moves what is goes = record {
       idle = λ idle. absurd (never_idle idle);
       stepped = λ _. has_stepped plan kind k before after seen seen_after answer step table what is;
@@ -130,37 +130,37 @@ module _ (plan : Tables) (table : TableId) (kind : Kind) (k : ℕ) (before after
           absurd cc;
     }
 
-    -- the last step of the job, which tells this
-    module _ (told : worlds.Record Job Reply) (laws : IsLawful plan) (ends : is_free (office plan) after ≡ true) (is_told : desks.IsTold (office plan) k after seen_after told) where
-      same : (step.number ≡ told.number) × (next_attempt ≡ is_told.attempt)
-      same = does_same step.number told.number next_attempt is_told.attempt (sym after_is ∙ is_told.after_is)
+    -- the last step of the job, which reports this
+    module _ (reported : worlds.Record Job Reply) (laws : IsLawful plan) (ends : is_available (office plan) after ≡ true) (is_told : desks.IsReported (office plan) k after seen_after reported) where
+      same : (step.number ≡ reported.number) × (next_attempt ≡ is_told.attempt)
+      same = does_same step.number reported.number next_attempt is_told.attempt (sym after_is ∙ is_told.after_is)
 
-      rests_now : is_rest (act next_attempt) ≡ true
-      rests_now = subst (λ (m : Work). is_free (office plan) m ≡ true) after_is ends
+      rests_now : is_finished (act next_attempt) ≡ true
+      rests_now = subst (λ (m : Work). is_available (office plan) m ≡ true) after_is ends
 
       holds_some : step.attempt.phase ≡ Turns → step.attempt.held ≢ []
       holds_some turns =
           let there = subst (λ (m : Work). get_elem? step.world.actors k ≡ some m) step.before_is step.there in
           let sound = step.lawful.sound k step.number step.attempt there in
-          decides_none plan step.attempt _ ((office_is plan laws).first step.attempt.job sound.job) (subst (StandsIn (office plan) step.attempt) turns sound.stands)
+          decides_none plan step.attempt _ ((office_is plan laws).first step.attempt.job sound.job) (subst (IsValidIn (office plan) step.attempt) turns sound.valid)
 
       answer_done : answer ≡ Done
       answer_done =
           let found = number_found (office plan) step.world step.attempt in
-          step.answer_is ∙ ends_done plan k found step.attempt holds_some (subst (λ (t : Answer). is_rest (act (change (office plan) step.attempt t)) ≡ true) step.answer_is rests_now)
+          step.answer_is ∙ ends_done plan k found step.attempt holds_some (subst (λ (t : Answer). is_finished (act (change (office plan) step.attempt t)) ≡ true) step.answer_is rests_now)
 
-      pub what_is : event.Finished (entered told) ≡ event_of k step.number step.attempt next_attempt answer
+      pub what_is : event.Finished (entered reported) ≡ event_of k step.number step.attempt next_attempt answer
       what_is =
-          let phase : next_attempt.phase ≡ Operates told.turn = ap (λ (a : Attempt). a.phase) same.1 ∙ is_told.phase in
-          let reply : next_attempt.reply ≡ Some told.reply = ap (λ (a : Attempt). a.reply) same.1 ∙ is_told.reply in
-          let job : next_attempt.job ≡ told.job = ap (λ (a : Attempt). a.job) same.1 ∙ is_told.job in
-          let record_is : entered told ≡ record { turn = told.turn; marker = k; job_no = step.number; job = next_attempt.job; reply = told.reply } =
-          λ i. record { turn = told.turn; marker = is_told.actor i; job_no = (sym same.0) i; job = (sym job) i; reply = told.reply } in
+          let phase : next_attempt.phase ≡ Operates reported.turn = ap (λ (a : Attempt). a.phase) same.1 ∙ is_told.phase in
+          let reply : next_attempt.reply ≡ Some reported.reply = ap (λ (a : Attempt). a.reply) same.1 ∙ is_told.reply in
+          let job : next_attempt.job ≡ reported.job = ap (λ (a : Attempt). a.job) same.1 ∙ is_told.job in
+          let record_is : entered reported ≡ record { turn = reported.turn; marker = k; job_no = step.number; job = next_attempt.job; reply = reported.reply } =
+          λ i. record { turn = reported.turn; marker = is_told.actor i; job_no = (sym same.0) i; job = (sym job) i; reply = reported.reply } in
           ap event.Finished record_is
-          ∙ sym (told_at_end k step.number told.turn next_attempt told.reply phase reply rests_now)
+          ∙ sym (told_at_end k step.number reported.turn next_attempt reported.reply phase reply rests_now)
           ∙ sym (ap (event_of k step.number step.attempt next_attempt) answer_done)
 
-      its_event : event_at_step plan k (e plan kind k before after seen seen_after answer step) ≡ event.Finished (entered told)
+      its_event : event_at_step plan k (e plan kind k before after seen seen_after answer step) ≡ event.Finished (entered reported)
       its_event = came plan kind k before after seen seen_after answer step ∙ sym what_is
 
       shorter : length new.seen < 2 ^ 64 → length (e plan kind k before after seen seen_after answer step).records < 2 ^ 64
@@ -169,25 +169,25 @@ module _ (plan : Tables) (table : TableId) (kind : Kind) (k : ℕ) (before after
           let long = ap (length {A = Record}) (seen_is plan kind k before after seen seen_after answer step ∙ step_adds plan office_at k step.number step.attempt (at plan kind k before after seen seen_after answer step)) in
           omega (arith, few, simp length-append at long)
 
-      pub tells : IsTold old new (entered told)
+      pub tells : IsReportedRecord old new (entered reported)
       tells =
           let office_at = e plan kind k before after seen seen_after answer step in
           let here = at plan kind k before after seen seen_after answer step in
-          let facts = finishes plan office_at k step.number step.attempt (entered told) here its_event in
+          let facts = finishes plan office_at k step.number step.attempt (entered reported) here its_event in
           record {
             marker = is_told.actor;
-            job = subst (λ (m : Work). on_job ⊥ (λ number a. (told.number ≡ number) × (told.job ≡ a.job)) m) (sym step.before_is) (facts.1, facts.2);
-            within = subst (IsIn (entered told)) (sym (own_entered k seen_after)) (own_told (parts.own k seen_after) told is_told.within);
-            stands = λ few. ap (λ (l : List Record). slice_get l told.turn) (seen_is plan kind k before after seen seen_after answer step)
-                ∙ finished_at plan office_at k (entered told) (lawful plan kind k before after seen seen_after answer step) (shorter few) its_event;
+            job = subst (λ (m : Work). on_job ⊥ (λ number a. (reported.number ≡ number) × (reported.job ≡ a.job)) m) (sym step.before_is) (facts.1, facts.2);
+            within = subst (IsIn (entered reported)) (sym (own_entered k seen_after)) (own_told (parts.own k seen_after) reported is_told.within);
+            at_place = λ few. ap (λ (l : List Record). slice_get l reported.turn) (seen_is plan kind k before after seen seen_after answer step)
+                ∙ finished_at plan office_at k (entered reported) (lawful plan kind k before after seen seen_after answer step) (shorter few) its_event;
           }
 
-      unfoldable pub finishes_job : HasAdvanced old new (event.Finished (entered told))
+      unfoldable pub finishes_job : MarkerHasAdvanced old new (event.Finished (entered reported))
       finishes_job = record {
         idle = λ idle. absurd (never_idle idle);
-        stepped = λ _. has_stepped plan kind k before after seen seen_after answer step table (event.Finished (entered told)) what_is;
+        stepped = λ _. has_stepped plan kind k before after seen seen_after answer step table (event.Finished (entered reported)) what_is;
         grown = grows;
         finished = λ r is.
-            let one : entered told ≡ r = cc in
-            (free_idle plan after ∙ ends, subst (IsTold old new) one tells);
+            let one : entered reported ≡ r = cc in
+            (free_idle plan after ∙ ends, subst (IsReportedRecord old new) one tells);
       }

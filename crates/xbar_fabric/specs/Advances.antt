@@ -12,12 +12,13 @@ use Rattle.xbar_core.specs.Moves as moves
 use Rattle.xbar_core.specs.Moves.{after_step, event_at_step, work_anew}
 use Rattle.xbar_core.specs.declared.event.Event.{Event}
 use Rattle.xbar_core.specs.declared.event.Event.TheVariants.{Idle, Finished}
-use Rattle.xbar_fabric.specs.Histories.{IsTold}
+use Rattle.xbar_fabric.specs.Histories.{IsReportedRecord}
 use Rattle.xbar_fabric.specs.Views.{DeskView, IsAmid, marker_of}
 
--- the desk's marker made its next step in an office amid which the desk stood: the desk is at what
--- the marker is at then, and has seen all records by then; this is what came of the step
-pub record HasStepped (before after : DeskView) (event : Event) : Type 0 where
+-- the desk's marker made its next step in an office that agreed with what the desk knew: the
+-- desk's marker is now what it is in the office after the step, the desk has seen all records by
+-- then, and this is the step's event
+pub record MarkerHasStepped (before after : DeskView) (event : Event) : Type 0 where
   pub office : Exchange
   pub amid : IsAmid before office
   pub same : after ≡ record before { work = after.work; seen = after.seen }
@@ -26,53 +27,53 @@ pub record HasStepped (before after : DeskView) (event : Event) : Type 0 where
   pub seen_is : after.seen ≡ (after_step before.plan before.marker office).records
   pub event_is : event ≡ event_at_step before.plan before.marker office
 
--- what came of an advance: no step of an idle desk, and any other's marker's next step; it has seen
--- what it had seen, and more; and a record is told of the step after which nothing is left of the
--- job
-pub record HasAdvanced (before after : DeskView) (event : Event) : Type 0 where
+-- an advance: an idle desk makes no step, any other makes its marker's next step; the desk has
+-- seen what it had seen, and more; and a record is reported only by a step after which nothing is
+-- left of the job
+pub record MarkerHasAdvanced (before after : DeskView) (event : Event) : Type 0 where
   pub idle : is_idle before.work ≡ true → (after ≡ before) × (event ≡ Idle)
-  pub stepped : is_idle before.work ≡ false → HasStepped before after event
+  pub stepped : is_idle before.work ≡ false → MarkerHasStepped before after event
   pub grown : Begins before.seen after.seen
   pub finished : (r : Record) → event ≡ Finished r →
-      (is_idle after.work ≡ true) × IsTold before after r
+      (is_idle after.work ≡ true) × IsReportedRecord before after r
 
--- how an advance was answered, if no more is told of it: not at all where the desk was idle, and
--- else as the marker is in the office in which it made the step
+-- the answer to an advance: None if the desk was idle, else that of the marker's step in the
+-- office in which it was made
 pub record IsAnswered (before after : DeskView) (answer : Option Answer) : Type 0 where
   pub event : Event
-  pub advanced : HasAdvanced before after event
+  pub advanced : MarkerHasAdvanced before after event
   pub idle : is_idle before.work ≡ true → answer ≡ None
   pub answered : (goes_on : is_idle before.work ≡ false) →
       moves.IsAnswered before.plan before.marker (advanced.stepped goes_on).office.words
       before.work after.work answer
 
--- so many advances of the desk, none of them while it was idle and none that asked for a connector,
--- between which other markers may move
-abbrev pub HasRun : ℕ → DeskView → DeskView → Type 0
-HasRun zero before after = after ≡ before
-HasRun (suc count) before after =
-    (between : DeskView) × (event : Event) × HasRun count before between
+-- a number of advances of the desk, none of them while it is idle and none that asks for a
+-- connector, between which other markers may move
+abbrev pub MarkerHasRun : ℕ → DeskView → DeskView → Type 0
+MarkerHasRun zero before after = after ≡ before
+MarkerHasRun (suc count) before after =
+    (between : DeskView) × (event : Event) × MarkerHasRun count before between
     × (is_idle between.work ≡ false) × (asked_by between.work ≡ None)
-    × HasAdvanced between after event
+    × MarkerHasAdvanced between after event
 
--- so many steps of the desk's marker, none of which asked for a connector, between
--- which other markers may move
-abbrev pub HasMade : ℕ → DeskView → DeskView → Type 0
-HasMade zero before after = after ≡ before
-HasMade (suc count) before after =
+-- a number of steps of the desk's marker, none of which asks for a connector, between which other
+-- markers may move
+abbrev pub MarkerHasMade : ℕ → DeskView → DeskView → Type 0
+MarkerHasMade zero before after = after ≡ before
+MarkerHasMade (suc count) before after =
     (between : DeskView) × (event : Event)
-    × HasMade count before between × (asked_by between.work ≡ None)
-    × HasStepped between after event
+    × MarkerHasMade count before between × (asked_by between.work ≡ None)
+    × MarkerHasStepped between after event
 
 -- a marker at the very beginning of its job
 abbrev pub at_beginning : Work → Work
 at_beginning work =
     on_job worlds.Idle (λ number a. Does number (begin_with (first_conn a.job) a.job)) work
 
--- the desk gave back: its marker was to begin its job anew, and made so many steps, one at most for
+-- the desk gave back: its marker's job was restarted, and the marker made at most one step for
 -- each connector that it held and one for its request; it is at the very beginning of its job now
-pub record HasGivenBack (before after : DeskView) : Type 0 where
+pub record MarkerHasGivenBack (before after : DeskView) : Type 0 where
   pub count : ℕ
   pub few : count ≤ on_job 0 (λ number a. 1 + length a.held) before.work
-  pub made : HasMade count (record before { work = work_anew before.plan before.work }) after
+  pub made : MarkerHasMade count (record before { work = work_anew before.plan before.work }) after
   pub begins : after.work ≡ at_beginning before.work

@@ -14,9 +14,9 @@ use Rattle.xbar_fabric.specs.Between.{IsOfficeOn}
 use Rattle.xbar_fabric.specs.Histories.{IsHistory}
 use Rattle.xbar_fabric.specs.Views.{DeskView, FabricView, IsAmid, IsDeskOf, mine, own}
 
--- two desks have met: both have seen one history now, which begins with what each had seen, and in
--- which each has no other records of its own
-pub record HaveMet (one other one_after other_after : DeskView) : Type 0 where
+-- two desks have met: both have now seen one history, which begins with what each had seen, and in
+-- which each has the same own records as before
+pub record MarkersHaveMet (one other one_after other_after : DeskView) : Type 0 where
   pub history : IsHistory one.plan one_after.seen
   pub same : other_after.seen ≡ one_after.seen
   pub one_begins : Begins one.seen one_after.seen
@@ -25,42 +25,42 @@ pub record HaveMet (one other one_after other_after : DeskView) : Type 0 where
   pub other_mine : mine other_after ≡ mine other
 
 -- no marker holds the connector, by its word
-abbrev pub IsFree : List ℕ → Conn → Type 0
-IsFree words conn = slice_index words (word_number (ConnWord conn)) % 64 ≡ 0
+abbrev pub IsFreeConn : List ℕ → Conn → Type 0
+IsFreeConn words conn = slice_index words (word_number (ConnWord conn)) % 64 ≡ 0
 
 -- no marker holds or requests the connector: its word is 0
 abbrev pub IsUnused : List ℕ → Conn → Type 0
 IsUnused words conn = slice_index words (word_number (ConnWord conn)) ≡ 0
 
--- the words of shared words that were shut, after these records: each has 64 bits, the turn word
--- counts the records, and where no connector is held the words show the set after them
+-- words after these records: each has 64 bits, the turn word counts the records, and if no
+-- connector is held the words show the set after them
 pub record AreWordsAfter (plan : Tables) (records : List Record) (words : List ℕ) : Type 0 where
   pub count : length words ≡ word_count
   pub are_words : AreWords words
   pub counted : slice_index words (word_number TurnWord) ≡ length records % 2 ^ 64
-  pub shows : ((conn : Conn) → IsConn conn → IsFree words conn)
+  pub shows : ((conn : Conn) → IsConn conn → IsFreeConn words conn)
       → ShowsOffice plan words (after plan records)
 
--- shared words of so many markers were shut with this desk, whatever the other desks were at: the
--- words are those of an office that the markers can come to, amid which the desk stood, and those
--- after the office's records, which are a history
-pub record IsShut (count : ℕ) (desk : DeskView) (words : List ℕ) : Type 0 where
+-- the shared words of `count` markers were shut with this desk, amid whatever jobs: they are the
+-- words of a lawful office that agrees with what the desk knew, and words after the office's
+-- records, which are a history
+pub record FabricIsShut (count : ℕ) (desk : DeskView) (words : List ℕ) : Type 0 where
   pub office : Exchange
   pub amid : IsAmid desk office
   pub office_is : IsOfficeOn desk.plan count words office
   pub history : IsHistory desk.plan office.records
   pub words_are : AreWordsAfter desk.plan office.records words
 
--- all desks of shared words, each idle and at the place of its marker
+-- all desks of the shared words, each idle and at the index of its marker
 pub record AreAllIdle (desks : List DeskView) (fabric : FabricView) : Type 0 where
   pub count : length desks ≡ fabric.count
   pub each : (k : ℕ) → IfSome (slice_get desks k)
       (λ desk. IsDeskOf desk fabric × (desk.marker ≡ k) × (is_idle desk.work ≡ true))
 
--- shared words were shut with all their desks: each connector's word is 0, the words show the set
--- after a history that begins with what each desk had seen, and its records are those of the desks'
--- own turns and no others
-pub record HasClosed (plan : Tables) (desks : List DeskView) (words : List ℕ) : Type 0 where
+-- the shared words were shut with all their desks: each connector's word is 0, the words show the
+-- set after a history that begins with what each desk had seen, and its records are those of the
+-- desks' own turns and no others
+pub record FabricHasClosed (plan : Tables) (desks : List DeskView) (words : List ℕ) : Type 0 where
   pub records : List Record
   pub history : IsHistory plan records
   pub theirs : (r : Record) → IsIn r records → r.marker < length desks

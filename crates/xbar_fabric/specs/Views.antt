@@ -13,15 +13,15 @@ use Rattle.xbar_jobs.specs.declared.effect.Effect.{Effect}
 use Rattle.xbar_core.specs.Exchange.{Exchange, IsLawfulExchange, Marker, Work, on_job}
 use Rattle.xbar_core.specs.declared.kind.Kind.{Kind}
 
--- shared words as their callers see them: their table, their plan, and how many desks they opened
--- with
+-- the shared words as callers see them: their table, their plan, and the number of desks that they
+-- were opened with
 pub record FabricView : Type 0 where
   pub table : TableId
   pub plan : Tables
   pub count : ℕ
 
--- a desk as its callers see it: its table and plan, which marker it is, of what kind and at what
--- work, and the records that it has seen
+-- a desk as callers see it: its table and plan, the number, kind and work of its marker, and the
+-- records that it has seen
 pub record DeskView : Type 0 where
   pub table : TableId
   pub plan : Tables
@@ -34,7 +34,7 @@ pub record DeskView : Type 0 where
 abbrev pub marker_of : DeskView → Marker
 marker_of desk = record { kind = desk.kind; work = desk.work }
 
--- a turn of any system of jobs, as the record of a job
+-- a record of `turns` as a record of the office
 abbrev pub entered : worlds.Record Job Reply → Record
 entered r = record {
   turn = r.turn;
@@ -44,15 +44,15 @@ entered r = record {
   reply = r.reply;
 }
 
--- the number of a marker's job has 32 bits
+-- the number of a marker's job, if it has one, fits 32 bits
 abbrev pub HasJobNo : Work → Type 0
 HasJobNo work = on_job ⊤ (λ number a. number < 2 ^ 32) work
 
--- a desk of the jobs that actors do, which knows no kind
+-- a desk of `desks`, which has no kind
 abbrev pub RoomDesk : Type 0
 RoomDesk = desks.DeskView Tables Conn Job Reply Effect
 
--- the desk that it is with this kind
+-- a desk of `desks` with a kind, as callers see it
 abbrev pub view_at : Kind → RoomDesk → DeskView
 view_at kind d = record {
   table = d.table;
@@ -63,7 +63,7 @@ view_at kind d = record {
   seen = map entered d.seen;
 }
 
--- these desks with their kinds, one by one, are those
+-- the desks of `desks` in the first list, each with its kind, are those of the second list
 abbrev pub AreBelow : List RoomDesk → List DeskView → Type 0
 AreBelow [] [] = ⊤
 AreBelow (d ∷ below) (desk ∷ others) = (view_at desk.kind d ≡ desk) × AreBelow below others
@@ -74,12 +74,12 @@ pub record IsDeskOf (desk : DeskView) (fabric : FabricView) : Type 0 where
   pub table_is : desk.table ≡ fabric.table
   pub plan_is : desk.plan ≡ fabric.plan
 
--- all of them are desks of these shared words
+-- all of these are desks of the shared words
 abbrev pub AreDesksOf : List DeskView → FabricView → Type 0
 AreDesksOf desks fabric = (k : ℕ) → IfSome (slice_get desks k) (λ desk. IsDeskOf desk fabric)
 
--- the desks of shared words that have just opened, from marker k on: idle, of these kinds, and with
--- nothing seen
+-- the desks of shared words that were just opened, from marker k on: idle, of these kinds, and
+-- with nothing seen
 abbrev pub new_desks : FabricView → ℕ → List Kind → List DeskView
 new_desks fabric k [] = []
 new_desks fabric k (kind ∷ kinds) = record {
@@ -100,9 +100,8 @@ own k (r ∷ records) = if r.marker == k then r ∷ own k records else own k rec
 abbrev pub mine : DeskView → List Record
 mine desk = own desk.marker desk.seen
 
--- an office that its plan's markers can come to, amid which a desk stands: this marker is as the
--- desk has it, the records begin with what the desk has seen, and of the marker's own there are no
--- others
+-- a lawful office agrees with what a desk knows: it has the desk's marker as the desk has it, its
+-- records begin with what the desk has seen, and it has no other records of this marker
 pub record IsAmid (desk : DeskView) (e : Exchange) : Type 0 where
   pub lawful : IsLawfulExchange desk.plan e
   pub there : slice_get e.markers desk.marker ≡ Some (marker_of desk)

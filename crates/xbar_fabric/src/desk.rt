@@ -15,7 +15,8 @@ use xbar_core::{AssignFault, Given, Kind};
 use xbar_office::Job;
 use xbar_office::laws::job_is_in_range;
 
-/// A marker, which a thread owns. It holds no borrow, and has a fixed size.
+/// A handle by which the thread that owns it acts as one marker. It borrows nothing, and has a
+/// fixed size.
 #[derive(Drop)]
 pub struct Desk {
     pub(crate) desk: desks::Desk<Office>,
@@ -41,7 +42,7 @@ impl Model for Desk {
 }
 
 impl Desk {
-    /// Which of the office's markers it is, from 0 on.
+    /// The number of the desk's marker, from 0 on.
     pub fn marker(&self) -> u32
         ensures marker { result ≡ self.now.marker }
         ensures history { IsHistory self.now.plan self.now.seen }
@@ -49,28 +50,29 @@ impl Desk {
         self.desk.number()
     }
 
-    /// What jobs it takes.
+    /// Which jobs the marker takes.
     pub fn kind(&self) -> Kind
         ensures { result ≡ self.now.kind }
     {
         self.kind
     }
 
-    /// Whether it may be assigned a job: it has none, or nothing is left of it.
+    /// Whether the marker may be assigned a job: it has none, or nothing is left of it.
     pub fn is_idle(&self) -> bool
         ensures { result ≡ is_idle_work self.now.work }
     {
         self.desk.is_idle()
     }
 
-    /// Whether its marker was put off, and has a request to withdraw or connectors to free.
+    /// Whether the marker was denied a connector, and still has a request to withdraw or
+    /// connectors to free.
     pub fn is_giving_up(&self) -> bool
         ensures { result ≡ gives_back self.now.work }
     {
         self.desk.is_giving_back()
     }
 
-    /// What comes of asking its marker to give back.
+    /// The outcome of asking the marker to give back.
     pub(crate) fn given(&self) -> Given
         ensures { result ≡ given_by self.now.work }
     {
@@ -85,7 +87,7 @@ impl Desk {
         }
     }
 
-    /// Why it can't be assigned the job.
+    /// Why the marker can't be assigned the job. None if it can.
     fn refuses(&self, job: &Job) -> Option<AssignFault>
         ensures { result ≡ refusal_of (marker_of self.now) job.now }
     {
@@ -98,8 +100,8 @@ impl Desk {
         }
     }
 
-    /// Assigns it a job under a number, or tells the first reason why not, `NotIdle` before
-    /// `WrongKind`. It takes no memory.
+    /// Assigns the marker a job under a number, or returns the first reason why not: `NotIdle`
+    /// before `WrongKind`. Allocates nothing.
     pub fn assign(&mut self, job_no: u32, job: Job) -> Result<(), AssignFault>
         ensures { MatchResult result
             (λ _. (refusal_of (marker_of self.old) job ≡ None) × (self.new
@@ -109,7 +111,7 @@ impl Desk {
         if let Some(fault) = self.refuses(&job) {
             return Err(fault);
         }
-        // Called for its clause alone.
+        // Called only for its contract.
         job_is_in_range(&job);
         self.desk.assign(u64::from(job_no), job);
         Ok(())

@@ -11,7 +11,7 @@ use std::marker::Model;
 use xbar_core::{Kind, MOST_MARKERS, OpenFault};
 use xbar_plan::Plan;
 
-/// The office's shared words, under a plan. Threads share a reference to them.
+/// The office's shared words, under a plan. Threads share it by reference.
 #[derive(Drop)]
 pub struct Fabric<'p> {
     pub(crate) plan: &'p Plan,
@@ -29,7 +29,7 @@ impl<'p> Model for Fabric<'p> {
     ghost invariant = { λ f. (f.room.setting ≡ f.plan.now) × (0 < f.room.count) };
 }
 
-/// Gives each of a room's new desks its kind.
+/// Makes the office's desks of a room's new desks, with these kinds.
 fn assort(room: &Room<Office>, rest: Vec<desks::Desk<Office>>, kinds: &[Kind], all: &mut Vec<Desk>)
     requires new { AreNew rest.items room.now }
     requires count { room.now.count ≡ length kinds.now }
@@ -48,8 +48,8 @@ fn assort(room: &Room<Office>, rest: Vec<desks::Desk<Office>>, kinds: &[Kind], a
 }
 
 impl<'p> Fabric<'p> {
-    /// Opens the shared words with all of them 0, and an idle desk of each of these kinds: desk `k`
-    /// is marker `k`.
+    /// Opens the shared words, all of them 0, with an idle desk of each of these kinds: desk `k`
+    /// is that of marker `k`. Fails with `Markers` unless there are 1 to 48.
     #[tactic(auto, using(crate::proofs::NewDesks::new_are_theirs))]
     pub fn open(
         alloc: Global,
@@ -67,7 +67,7 @@ impl<'p> Fabric<'p> {
         if kinds.is_empty() || kinds.len() > MOST_MARKERS {
             return Err(OpenFault::Markers);
         }
-        // Called for its clauses alone.
+        // Called only for its contract.
         xbar_plan::laws::every_plan_is_lawful(plan);
         let (room, rest) = Room::open(alloc, plan, kinds.len() as u32)?;
         let mut all = Vec::with_capacity(alloc, kinds.len())?;

@@ -1,5 +1,5 @@
-//! What holds between any two steps of threads, and of each step. The functions do nothing: their
-//! contracts are the laws.
+//! Laws of the shared words between any two steps of threads, and of each step. The functions do
+//! nothing: their contracts are the laws.
 
 ghost use Rattle.std.specs.Prelude.{◌≡◌, ◌≤◌, ◌<◌, ◌^◌, ℕ, List, [], ◌∷◌, ◌++◌, length};
 ghost use Rattle.std.specs.Prelude.{Option, Some};
@@ -21,7 +21,7 @@ ghost use Rattle.xbar_core.specs.Exchange.{Exchange};
 ghost use Rattle.xbar_core.specs.Holding.{AsksFor, HasRequested, Holds, IsAt};
 ghost use Rattle.xbar_core.specs.Links.{BelongsTo, IsAtLink, IsClosed, OpensItsOwn};
 ghost use Rattle.xbar_core.specs.Moves.{given_by};
-ghost use Rattle.xbar_fabric.specs.Advances.{HasAdvanced, HasGivenBack, HasStepped};
+ghost use Rattle.xbar_fabric.specs.Advances.{MarkerHasAdvanced, MarkerHasGivenBack, MarkerHasStepped};
 ghost use Rattle.xbar_fabric.specs.Between.{IsOfficeOn, Keeps, Known};
 ghost use Rattle.xbar_fabric.specs.Histories.{IsHistory, job_at, turned_of};
 ghost use Rattle.xbar_fabric.specs.Views.{DeskView, mine};
@@ -30,9 +30,9 @@ use turns::Phase;
 use xbar_core::{Event, Given};
 
 /// Whatever the table of shared words keeps between any two steps, there is an office with these
-/// words. In each such office, half-done jobs included, each closed crosspoint belongs to a path,
-/// all closed crosspoints at one link to one path, and a marker past its turn that releases a call
-/// has left to open just what its reply names.
+/// words. In each office with these words, also amid jobs, each closed crosspoint belongs to a
+/// path, all closed crosspoints at one link belong to one path, and a marker past its turn that
+/// releases a call has left to open only what its reply names.
 pub fn between_steps_there_is_an_office()
     ensures office { (plan : Tables) (count : ℕ) (words : List ℕ) (known : List (Known plan)) →
         Keeps plan count words known → (e : Exchange) × IsOfficeOn plan count words e }
@@ -54,37 +54,39 @@ pub fn between_steps_there_is_an_office()
     xbar_core::laws::a_release_opens_its_own_crosspoints();
 }
 
-/// In the office in which a step was made, who refuses a desk holds the connector that it asks for,
-/// and who is preferred to it has requested that connector, which nobody holds: of those that have,
-/// the lowest.
+/// What an answer says is true in the office in which the step was made. If a desk is refused a
+/// connector, the marker that is named holds it. If another marker is preferred, nobody holds the
+/// connector, and the one that is named has requested it and has the lowest number of all that
+/// have.
 pub fn steps_tell_the_truth()
     ensures refused { (before after : DeskView) (conn : Conn) (holder : ℕ)
-        → (step : HasStepped before after (Event.Refused conn holder))
+        → (step : MarkerHasStepped before after (Event.Refused conn holder))
         → AsksFor step.office before.marker conn × Holds step.office holder conn }
     ensures preferred { (before after : DeskView) (other : ℕ)
-        → (step : HasStepped before after (Event.Preferred other))
+        → (step : MarkerHasStepped before after (Event.Preferred other))
         → (conn : Conn) × AsksFor step.office before.marker conn × (other < before.marker)
         × HasRequested step.office other conn × ((j : ℕ) → ¬ Holds step.office j conn) }
     ensures least { (before after : DeskView) (other : ℕ)
-        → (step : HasStepped before after (Event.Preferred other)) → (conn : Conn)
+        → (step : MarkerHasStepped before after (Event.Preferred other)) → (conn : Conn)
         → AsksFor step.office before.marker conn → (j : ℕ) → j < other
         → ¬ HasRequested step.office j conn }
 {
     xbar_core::laws::events_tell_the_truth();
 }
 
-/// A desk's own records are those of the jobs that it did before, and then that of its job, once it
-/// has turned. It stays at this job, and to give back, as it may up to its turn, adds no record.
+/// A desk's own records are those of its earlier jobs, and then that of its job, once it has taken
+/// its turn. An advance leaves the desk at its job. To give back, as it may up to its turn, adds
+/// no record.
 pub fn own_records_are_of_own_jobs()
     ensures advance { (before after : DeskView) (event : Event) (earlier : List Record) →
-        HasAdvanced before after event → mine before ≡ earlier ++ turned_of before →
+        MarkerHasAdvanced before after event → mine before ≡ earlier ++ turned_of before →
         mine after ≡ earlier ++ turned_of after }
-    ensures job { (before after : DeskView) (event : Event) → HasAdvanced before after event →
+    ensures job { (before after : DeskView) (event : Event) → MarkerHasAdvanced before after event →
         job_at after.work ≡ job_at before.work }
     ensures finished { (before after : DeskView) (r : Record) →
-        HasAdvanced before after (Event.Finished r) → turned_of after ≡ r ∷ [] }
+        MarkerHasAdvanced before after (Event.Finished r) → turned_of after ≡ r ∷ [] }
     ensures given { (before after : DeskView) → given_by before.work ≡ Given.Given →
-        HasGivenBack before after → (turned_of before ≡ []) × (mine after ≡ mine before) }
+        MarkerHasGivenBack before after → (turned_of before ≡ []) × (mine after ≡ mine before) }
 {}
 
 /// A desk's next own record has a later turn than all that the desk had seen before.

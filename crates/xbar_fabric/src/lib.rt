@@ -1,4 +1,4 @@
-//! The office on words that threads share: each marker is a desk that a thread owns.
+//! The office on words that threads share. Each marker has a desk, which one thread owns.
 #![tactic(auto)]
 
 pub use desk::Desk;

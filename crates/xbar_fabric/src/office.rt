@@ -9,23 +9,23 @@ use xbar_jobs::{OfficeEffect, Offices, Operation};
 use xbar_office::{Job, Reply};
 use xbar_plan::Plan;
 
-/// The office's jobs by their scripts, which are those of `xbar_jobs`, on words that desks share.
+/// The scripts of `xbar_jobs`, run on words that desks share.
 pub struct SharedOffices;
 
-/// The office under a plan, as jobs that desks do.
+/// The office's jobs as `desks` runs them.
 pub type Office = Attempts<SharedOffices, 42, 19>;
 
 type Decision = <Offices as Scripts<42, 19>>::Decision;
 
-type Way = <Offices as Scripts<42, 19>>::Point;
+type Way = <Offices as Scripts<42, 19>>::ResumePoint;
 
 impl Scripts<42, 19> for SharedOffices {
-    ghost use Rattle.attempts.specs.SystemWith.{with};
+    ghost use Rattle.attempts.specs.SystemWith.{without_decisions};
     ghost use Rattle.xbar_plan.specs.Lawful.{IsLawful};
     ghost use Rattle.xbar_jobs.specs.Closing.{effects as effects_by};
     ghost use Rattle.xbar_jobs.specs.Jobs.{job_line};
     ghost use Rattle.xbar_jobs.specs.Office.{office_over};
-    ghost use Rattle.xbar_jobs.specs.Tracing.{Knows};
+    ghost use Rattle.xbar_jobs.specs.Tracing.{ResumePointIsValid};
 
     type Setting = Plan;
 
@@ -39,9 +39,9 @@ impl Scripts<42, 19> for SharedOffices {
 
     type Decision = Decision;
 
-    type Point = Way;
+    type ResumePoint = Way;
 
-    ghost system = { λ plan. with (office_over plan) };
+    ghost system = { λ plan. without_decisions (office_over plan) };
 
     ghost reply_of = { λ decision. decision.reply };
 
@@ -49,7 +49,7 @@ impl Scripts<42, 19> for SharedOffices {
 
     ghost IsSetting = { IsLawful };
 
-    ghost Knows = { λ _ job way seen. Knows (job_line job) way seen };
+    ghost ResumePointIsValid = { λ _ job way seen. ResumePointIsValid (job_line job) way seen };
 
     fn first(job: &Job) -> Conn {
         Offices::first(job)

@@ -1,5 +1,5 @@
 ghost use Rattle.std.specs.Prelude.{◌≡◌, ◌≤◌, [], MatchResult, vec_capacity, vec_len};
-ghost use Rattle.xbar_fabric.specs.Meetings.{AreAllIdle, HasClosed, IsShut};
+ghost use Rattle.xbar_fabric.specs.Meetings.{AreAllIdle, FabricHasClosed, FabricIsShut};
 ghost use Rattle.xbar_fabric.specs.Views.{AreBelow, IsDeskOf};
 
 use crate::desk::Desk;
@@ -8,19 +8,20 @@ use crate::office::Office;
 use std::alloc::Global;
 use xbar_equip::WORD_COUNT;
 
-/// There was no memory for a copy of the words: all is handed back unchanged.
+/// There was no memory for a copy of the words. The fabric and the desk are returned unchanged.
 #[derive(Drop)]
 pub struct ShutFault<'p> {
     pub fabric: Fabric<'p>,
     pub desk: Desk,
 }
 
-/// Shuts the shared words with one of their desks, whatever this and the others are at, and gives all
-/// 453, each at the place of its number: at every moment they are the words of an office.
+/// Shuts the shared words with one of their desks, which may be amid a job like the others, and
+/// returns all 453, each at the index of its number. They are the words of an office, as at every
+/// moment.
 pub fn shut<'p>(alloc: Global, fabric: Fabric<'p>, desk: Desk) -> Result<Vec<u64>, ShutFault<'p>>
     requires { IsDeskOf desk fabric }
     ensures { MatchResult result
-        (λ words. IsShut fabric.entry.count desk words.items)
+        (λ words. FabricIsShut fabric.entry.count desk words.items)
         (λ fault. (fault.fabric ≡ fabric.entry) × (fault.desk ≡ desk)) }
 {
     let Fabric { plan, room } = fabric;
@@ -34,14 +35,14 @@ pub fn shut<'p>(alloc: Global, fabric: Fabric<'p>, desk: Desk) -> Result<Vec<u64
     }
 }
 
-/// There was no memory to shut all desks at once: all is handed back unchanged.
+/// There was no memory to shut all desks at once. The fabric and the desks are returned unchanged.
 #[derive(Drop)]
 pub struct ShutAllFault<'p> {
     pub fabric: Fabric<'p>,
     pub desks: Vec<Desk>,
 }
 
-/// The desks below, which know no kind.
+/// Puts the desks of `desks`, which have no kind, into `rest`.
 fn take_apart(desks: Vec<Desk>, rest: &mut Vec<desks::Desk<Office>>)
     requires { (rest.old.items ≡ []) × (vec_len desks ≤ vec_capacity rest.old) }
     ensures below { AreBelow rest.new.items desks.items }
@@ -53,8 +54,8 @@ fn take_apart(desks: Vec<Desk>, rest: &mut Vec<desks::Desk<Office>>)
     }
 }
 
-/// Shuts the shared words with all of their desks, each idle and at the place of its marker, and
-/// gives all 453 words, each at the place of its number.
+/// Shuts the shared words with all of their desks, each idle and at the index of its marker, and
+/// returns all 453 words, each at the index of its number.
 pub fn shut_all<'p>(
     alloc: Global,
     fabric: Fabric<'p>,
@@ -62,7 +63,7 @@ pub fn shut_all<'p>(
 ) -> Result<Vec<u64>, ShutAllFault<'p>>
     requires { AreAllIdle desks.items fabric }
     ensures { MatchResult result
-        (λ words. HasClosed fabric.entry.plan desks.items words.items)
+        (λ words. FabricHasClosed fabric.entry.plan desks.items words.items)
         (λ fault. (fault.fabric ≡ fabric.entry) × (fault.desks ≡ desks)) }
 {
     let Ok(words) = Vec::with_capacity(alloc, WORD_COUNT) else {

@@ -5,7 +5,8 @@ use Rattle.turns.specs.Script.{AsksAtMost, Ends, TestThen, SeizeThen, ◌>>=◌,
 use Rattle.xbar_jobs.specs.Others.{SeizesOthers, others}
 use Rattle.xbar_jobs.specs.Script.{Script}
 
--- whatever is read, a script has no more tests, no more seizings, and no more of these than so many of connectors besides line link frames
+-- whatever is read, a script has at most `tests` tests and `seizings` seizings, at most `most` of
+-- these of connectors besides line link frames
 unfoldable pub Asks : {A : Type 0} → ℕ → ℕ → ℕ → Script A → Type 0
 Asks tests seizings most (Ends found) = ⊤
 Asks zero seizings most (TestThen word script) = ⊥
@@ -29,7 +30,7 @@ seizes_others (suc tests) seizings most (TestThen word script) asks = λ value. 
 seizes_others tests zero most (SeizeThen conn script) asks = absurd asks
 seizes_others tests (suc seizings) most (SeizeThen conn script) asks = (asks.0, seizes_others tests seizings (most - others conn) script asks.1)
 
--- a script that asks for no more than so much asks for no more than what is not less
+-- a script that keeps to some bounds keeps to greater ones
 pub asks_more : {A : Type 0} (tests seizings few most_tests most_seizings most : ℕ) (script : Script A) → tests ≤ most_tests → seizings ≤ most_seizings → few ≤ most → Asks tests seizings few script → Asks most_tests most_seizings most script
 unfolding Asks
 asks_more tests seizings few most_tests most_seizings most (Ends found) fewer fewer_seizings below asks = asks

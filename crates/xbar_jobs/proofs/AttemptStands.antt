@@ -1,10 +1,12 @@
--- whatever comes of its steps, an attempt stands where its job brings it, and has room
+-- whatever its steps' answers, an attempt stays valid, and has room
 use Rattle.std.proofs.Common.{ℕ, zero, suc, arith, subst}
-use Rattle.turns.specs.Attempt.{Act, IsAnswerTo, Look, act, begin_with, change, restarted}
+use Rattle.turns.specs.Attempt.{IsAnswerTo, act, begin_with, change, restarted}
+use Rattle.turns.specs.declared.act.Act.{Act}
+use Rattle.turns.specs.declared.act.Act.TheVariants.{Test}
 use Rattle.turns.specs.declared.answer.Answer.{Answer}
-use Rattle.turns.specs.declared.answer.Answer.TheVariants.{Asked, Seized, Held, Preferred, Again, Value, Turn, Done}
-use Rattle.attempts.specs.Live.{LeadsTo, Moment, stepped, told}
-use Rattle.attempts.specs.Taken.{FitsValue}
+use Rattle.turns.specs.declared.answer.Answer.TheVariants.{Requested, Seized, Held, Preferred, Changed, Value, Turn, Done}
+use Rattle.attempts.specs.WalkOnWords.{LeadsTo, Moment, stepped, answer_at}
+use Rattle.attempts.specs.Applied.{FitsValue}
 use Rattle.attempts.proofs.Places.{place_begin, place_change, place_restarted}
 use Rattle.xbar_plan.specs.Tables.{Tables}
 use Rattle.xbar_plan.specs.Lawful.{IsLawful}
@@ -13,47 +15,47 @@ use Rattle.xbar_office.specs.declared.job.Job.{Job}
 use Rattle.xbar_jobs.specs.Attempt.{Attempt}
 use Rattle.xbar_jobs.specs.Jobs.{first_conn}
 use Rattle.xbar_jobs.specs.Office.{office}
-use Rattle.xbar_jobs.specs.Standing.{Stands, most_readings, most_seizings}
+use Rattle.xbar_jobs.specs.Standing.{IsValid, most_readings, most_seizings}
 use Rattle.xbar_jobs.proofs.HoldsFew.{few_change, few_restarted, holds_begin, holds_change, holds_restarted}
 use Rattle.xbar_jobs.proofs.JobBounds.{jobs_bounded}
 use Rattle.xbar_jobs.proofs.OfficeSystem.{office_is}
 
 -- a value that answers a test fits a word
 pub answer_fits : {Lock Effect : Type 0} (act : Act Lock Effect) (answer : Answer) → IsAnswerTo act answer → FitsValue answer
-answer_fits (Look word) (Value value) fits = fits
+answer_fits (Test word) (Value value) fits = fits
 answer_fits act (Value value) fits = absurd fits
-answer_fits act (Asked word) fits = tt
+answer_fits act (Requested word) fits = tt
 answer_fits act Seized fits = tt
 answer_fits act (Held holder) fits = tt
 answer_fits act (Preferred other) fits = tt
-answer_fits act (Again word) fits = tt
+answer_fits act (Changed word) fits = tt
 answer_fits act (Turn number) fits = tt
 answer_fits act Done fits = tt
 
-pub stands_begun : (plan : Tables) (job : Job) → IsLawful plan → IsJob job → Stands plan (begin_with (first_conn job) job)
+pub stands_begun : (plan : Tables) (job : Job) → IsLawful plan → IsJob job → IsValid plan (begin_with (first_conn job) job)
 stands_begun plan job laws in_range = record {
   place = place_begin (office plan) (office_is plan laws) most_readings most_seizings (jobs_bounded plan laws).asks job in_range;
   few = omega arith;
   holds = holds_begin plan job laws;
 }
 
-pub stands_after : (plan : Tables) (a : Attempt) (answer : Answer) → IsLawful plan → IsJob a.job → IsAnswerTo (act a) answer → Stands plan a → Stands plan (change (office plan) a answer)
-stands_after plan a answer laws in_range fits stands = record {
-  place = place_change (office plan) (office_is plan laws) most_readings most_seizings (jobs_bounded plan laws).asks a answer (answer_fits (act a) answer fits) stands.place;
-  few = few_change plan laws a in_range stands.place.read answer stands.place.comes stands.holds stands.few;
-  holds = holds_change plan laws a in_range stands.place.read answer stands.place.comes stands.holds;
+pub stands_after : (plan : Tables) (a : Attempt) (answer : Answer) → IsLawful plan → IsJob a.job → IsAnswerTo (act a) answer → IsValid plan a → IsValid plan (change (office plan) a answer)
+stands_after plan a answer laws in_range fits valid = record {
+  place = place_change (office plan) (office_is plan laws) most_readings most_seizings (jobs_bounded plan laws).asks a answer (answer_fits (act a) answer fits) valid.place;
+  few = few_change plan laws a in_range valid.place.read answer valid.place.comes valid.holds valid.few;
+  holds = holds_change plan laws a in_range valid.place.read answer valid.place.comes valid.holds;
 }
 
-pub stands_again : (plan : Tables) (a : Attempt) → IsLawful plan → IsJob a.job → Stands plan a → Stands plan (restarted (office plan) a)
-stands_again plan a laws in_range stands = record {
-  place = place_restarted (office plan) (office_is plan laws) most_readings most_seizings (jobs_bounded plan laws).asks a stands.place;
-  few = few_restarted plan a stands.few;
-  holds = holds_restarted plan a laws stands.holds;
+pub stands_again : (plan : Tables) (a : Attempt) → IsLawful plan → IsJob a.job → IsValid plan a → IsValid plan (restarted (office plan) a)
+stands_again plan a laws in_range valid = record {
+  place = place_restarted (office plan) (office_is plan laws) most_readings most_seizings (jobs_bounded plan laws).asks a valid.place;
+  few = few_restarted plan a valid.few;
+  holds = holds_restarted plan a laws valid.holds;
 }
 
 -- so does one that made steps by its walk
-pub stands_led : (plan : Tables) → IsLawful plan → (marker count : ℕ) (m last : Moment (office plan)) → LeadsTo (office plan) marker count m last → Stands plan m.attempt → Stands plan last.attempt
+pub stands_led : (plan : Tables) → IsLawful plan → (marker count : ℕ) (m last : Moment (office plan)) → LeadsTo (office plan) marker count m last → IsValid plan m.attempt → IsValid plan last.attempt
 unfolding LeadsTo
-stands_led plan laws marker zero m last leads stands = subst (λ (x : Moment (office plan)). Stands plan x.attempt) leads stands
-stands_led plan laws marker (suc count) m last leads stands =
-    stands_led plan laws marker count (stepped (office plan) marker m) last leads.1.1 (stands_after plan m.attempt (told (office plan) marker m) laws stands.place.job leads.1.0 stands)
+stands_led plan laws marker zero m last leads valid = subst (λ (x : Moment (office plan)). IsValid plan x.attempt) leads valid
+stands_led plan laws marker (suc count) m last leads valid =
+    stands_led plan laws marker count (stepped (office plan) marker m) last leads.1.1 (stands_after plan m.attempt (answer_at (office plan) marker m) laws valid.place.job leads.1.0 valid)

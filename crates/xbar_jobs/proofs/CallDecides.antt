@@ -28,7 +28,7 @@ use Rattle.xbar_jobs.proofs.TestedParties.{AreTestedOn, TestedOn, party_of, part
 use Rattle.xbar_jobs.proofs.TracedRuns.{approach_runs}
 
 module _ (plan : Tables) (words : List ℕ) (paths : List Path) (laws : IsLawful plan) (size : 453 ≤ length words) (shows : ShowsOffice plan words paths) where
-  -- a line that is approached is passed over where it is in a path
+  -- a line that is approached is passed over if it is in a path
   busy_or_idle : (line : Line) (next : Script (Option Party)) → IsLine line → (b : Bool) → is_idle (has_line line) paths ≡ b
       → run words (unless_busy (party_of words line) next (channel_of (party_of words line))) ≡ (if b then Some (party_of words line) else run words next)
   unfolding run unless_busy

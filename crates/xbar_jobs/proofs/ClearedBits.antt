@@ -18,7 +18,7 @@ bit-cleared word k few = omega (arith, cleared_bit word k k few few, bit_at-pow_
 pub bit-uncleared : (word k i : ℕ) → k < 64 → i < 64 → i ≢ k → bit_at (bit_and word (2 ^ 64 - 1 - 2 ^ k)) i ≡ bit_at word i
 bit-uncleared word k i few below other = omega (arith, cleared_bit word k i few below, bit_at-pow_other k i other, bit_at-lt word i)
 
--- and no bit stands past these
+-- and no bit from 64 on is set
 pub bit-past : (word k i : ℕ) → 64 ≤ i → bit_at (bit_and word (2 ^ 64 - 1 - 2 ^ k)) i ≡ 0
 bit-past word k i past =
     let high : bit_at (2 ^ 64 - 1 - 2 ^ k) i ≡ 0 = bit_at_above (2 ^ 64 - 1 - 2 ^ k) 64 i (omega arith) past in

@@ -27,7 +27,7 @@ use Rattle.xbar_jobs.specs.Connecting.{alone}
 use Rattle.xbar_jobs.specs.Jobs.{TestsRows, job_line, script}
 use Rattle.xbar_jobs.specs.Script.{Script, Seen, as_if_made, walk}
 use Rattle.xbar_jobs.specs.Sides.{IsNextJunctor, party_after}
-use Rattle.xbar_jobs.specs.Tracing.{HasTraced, Knows, approach, channel_of, trace}
+use Rattle.xbar_jobs.specs.Tracing.{HasTraced, ResumePointIsValid, approach, channel_of, trace}
 use Rattle.xbar_jobs.specs.declared.decision.Decision.{Decision}
 use Rattle.xbar_jobs.specs.declared.leave.Leave.{Leave}
 use Rattle.xbar_jobs.specs.declared.party.Party.{Party}
@@ -76,17 +76,17 @@ unfolding KeepsRows hunt
 hunt_rows calling [] ranges = tt
 hunt_rows calling (line ∷ lines) ranges = calling_rows line (hunt calling lines) (line_eq line calling) (ranges 0 line refl) (hunt_rows calling lines (λ k other is. ranges (suc k) other is))
 
--- what was traced stays so with more that is come by
+-- what was traced stays traced as more is read and seized
 still_traced : (line : Line) (calling : Party) (own : Option Path) (seen more : Seen) → Extends conn_eq seen more → HasTraced line calling own seen → HasTraced line calling own more
 still_traced line calling own seen more extends has = record {
   approached = gone_through conn_eq seen more (approach line) calling extends has.approached;
   traced = gone_through conn_eq seen more (trace calling) own extends has.traced;
 }
 
-pub known_on : (line : Line) (way : Way) (seen more : Seen) → Extends conn_eq seen more → Knows line way seen → Knows line way more
-known_on line Begun seen more extends knows = tt
-known_on line (Approached calling) seen more extends knows = gone_through conn_eq seen more (approach line) calling extends knows
-known_on line (Traced calling own) seen more extends knows = still_traced line calling own seen more extends knows
+pub known_on : (line : Line) (way : Way) (seen more : Seen) → Extends conn_eq seen more → ResumePointIsValid line way seen → ResumePointIsValid line way more
+known_on line Begun seen more extends valid_point = tt
+known_on line (Approached calling) seen more extends valid_point = gone_through conn_eq seen more (approach line) calling extends valid_point
+known_on line (Traced calling own) seen more extends valid_point = still_traced line calling own seen more extends valid_point
 
 -- what is left of a completing job, once its own path was traced
 pub from_path : (plan : Tables) (line : Line) (dialled : ℕ) (calling : Party) (own : Option Path) (seen : Seen) → HasTraced line calling own seen → walk seen (complete_steps plan line dialled) ≡ walk seen (complete_from plan calling dialled own)
@@ -144,15 +144,15 @@ not_some None e = refl
 not_some (Some n) e = absurd cc
 
 -- a job that tests its rows in order goes on in a row, whatever a line junctor switch shows
-goes_in_row : (plan : Tables) (laws : IsLawful plan) (seen : Seen) (job : Job) (way : Way) (word next : ℕ) → IsJob job → TestsRows job way → Knows (job_line job) way seen → IsNextJunctor word next → value_read seen.readings next ≡ None → walk seen (script plan job) ≡ Err (Test word) → GoesOnTo conn_eq seen (script plan job) word next
+goes_in_row : (plan : Tables) (laws : IsLawful plan) (seen : Seen) (job : Job) (way : Way) (word next : ℕ) → IsJob job → TestsRows job way → ResumePointIsValid (job_line job) way seen → IsNextJunctor word next → value_read seen.readings next ≡ None → walk seen (script plan job) ≡ Err (Test word) → GoesOnTo conn_eq seen (script plan job) word next
 unfolding script
-goes_in_row plan laws seen (Dial line) way word next range rows knows is unread wants = row_goes_on seen word next _ (dial_rows plan line range) is unread wants
-goes_in_row plan laws seen (Complete line dialled) Begun word next range rows knows is unread wants = absurd rows
-goes_in_row plan laws seen (Complete line dialled) (Approached calling) word next range rows knows is unread wants = absurd rows
-goes_in_row plan laws seen (Complete line dialled) (Traced calling own) word next range rows knows is unread wants = traced_goes_on plan laws seen line dialled word next calling own is unread knows wants
-goes_in_row plan laws seen (Release line) way word next range rows knows is unread wants = absurd rows
+goes_in_row plan laws seen (Dial line) way word next range rows valid_point is unread wants = row_goes_on seen word next _ (dial_rows plan line range) is unread wants
+goes_in_row plan laws seen (Complete line dialled) Begun word next range rows valid_point is unread wants = absurd rows
+goes_in_row plan laws seen (Complete line dialled) (Approached calling) word next range rows valid_point is unread wants = absurd rows
+goes_in_row plan laws seen (Complete line dialled) (Traced calling own) word next range rows valid_point is unread wants = traced_goes_on plan laws seen line dialled word next calling own is unread valid_point wants
+goes_in_row plan laws seen (Release line) way word next range rows valid_point is unread wants = absurd rows
 
--- where it goes on, if it does
-pub row_found : (plan : Tables) (laws : IsLawful plan) (seen : Seen) (job : Job) (way : Way) (word : ℕ) (found : Option ℕ) → IsJob job → TestsRows job way → Knows (job_line job) way seen → walk seen (script plan job) ≡ Err (Test word) → IfSome found (λ next. IsNextJunctor word next) → IfSome found (λ next. value_read seen.readings next ≡ None) → IfSome found (GoesOnTo conn_eq seen (script plan job) word)
-row_found plan laws seen job way word None range rows knows wants is unread = tt
-row_found plan laws seen job way word (Some next) range rows knows wants is unread = goes_in_row plan laws seen job way word next range rows knows is unread wants
+-- the job goes on to the word that was found, if one was
+pub row_found : (plan : Tables) (laws : IsLawful plan) (seen : Seen) (job : Job) (way : Way) (word : ℕ) (found : Option ℕ) → IsJob job → TestsRows job way → ResumePointIsValid (job_line job) way seen → walk seen (script plan job) ≡ Err (Test word) → IfSome found (λ next. IsNextJunctor word next) → IfSome found (λ next. value_read seen.readings next ≡ None) → IfSome found (GoesOnTo conn_eq seen (script plan job) word)
+row_found plan laws seen job way word None range rows valid_point wants is unread = tt
+row_found plan laws seen job way word (Some next) range rows valid_point wants is unread = goes_in_row plan laws seen job way word next range rows valid_point is unread wants

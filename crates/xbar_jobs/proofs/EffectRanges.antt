@@ -14,7 +14,7 @@ use Rattle.xbar_jobs.specs.declared.effect.Effect.{Effect}
 use Rattle.xbar_jobs.specs.declared.effect.Effect.TheVariants.{Close, Open, ClearBit}
 use Rattle.xbar_jobs.specs.declared.leave.Leave.{Leave}
 
--- the effects of both lists are, where those of each are
+-- the effects of both lists are in range, if those of each are
 pub both_range : (effects others : List Effect) → AreEffects effects → AreEffects others → AreEffects (effects ++ others)
 both_range effects others front back effect within = elim (in_either effect effects others within) [ inl own ↦ front effect own | inr other ↦ back effect other ]
 

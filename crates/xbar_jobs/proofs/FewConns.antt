@@ -1,4 +1,4 @@
--- connectors of which none stands twice are ten line link frames at most, and the others
+-- distinct connectors are at most ten line link frames, and the others
 use Rattle.std.proofs.Common.{◌≡◌, ℕ, ◌+◌, ◌<◌, ◌≤◌, Bool, true, false, List, [], ◌∷◌, ◌++◌, length, map, eqb, inl, inr, refl, sym, ap, subst, arith}
 use Rattle.std.specs.Prelude.{◌||◌}
 use Rattle.std.specs.List.{AllByRecursion, IsDistinct, list_any}
@@ -11,7 +11,7 @@ use Rattle.xbar_equip.specs.declared.conn.Conn.TheVariants.{Llf, Tlf, Group}
 use Rattle.xbar_jobs.specs.Others.{others, others_in}
 use Rattle.xbar_jobs.specs.Standing.{AreConns, most_held, most_others}
 
--- items of which none stands twice, each at a place of its own, are no more than there are places
+-- distinct items, each at a place of its own, are no more than there are places
 module _ {A : Type 0} (place : A → ℕ) where
   none_at : (items : List A) (item : A) → ((other : A) → IsIn other items → place item ≡ place other → ⊥) → AllByRecursion (λ n. eqb (place item) n ≡ false) (map place items)
   none_at [] item apart = tt
@@ -71,7 +71,7 @@ frames_distinct (Llf frame ∷ conns) apart = ((λ within. apart.0 (frame_there 
 frames_distinct (Tlf frame ∷ conns) apart = frames_distinct conns apart.1
 frames_distinct (Group group ∷ conns) apart = frames_distinct conns apart.1
 
--- so there are few where the others are few
+-- so there are few if the others are few
 pub few_conns : (conns : List Conn) → AreConns conns → AreDistinct conns
     → others_in conns ≤ most_others → length conns ≤ most_held
 few_conns conns are apart few =

@@ -112,7 +112,7 @@ module _ (plan : Tables) (held : List Conn) where
     under = λ effect within. elim (in_either effect some others within) [ inl front ↦ first.under effect front | inr back ↦ second.under effect back ];
   }
 
-  -- what is done at a path's four crosspoints is covered, where the path is held
+  -- effects at a path's four crosspoints are covered, if the path is held
   module _ (change : Crosspoint → Effect) (is : (c : Crosspoint) → IsCrosspoint c → IsEffect (change c)) (at : (c : Crosspoint) → IsUnder (office plan) held c.word → IsUnder (office plan) held (effect_word (change c))) where
     path_covered : (path : Path) → IsHeldPath held path → AreCovered plan held (map change (crosspoints path))
     path_covered path own =

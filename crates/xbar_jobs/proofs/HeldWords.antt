@@ -34,7 +34,7 @@ module _ (plan : Tables) where
   pub group_under : (held : List Conn) (group : ℕ) → IsIn (Group group) held → group < 16 → IsUnder (office plan) held (word_number (GroupWord group))
   group_under held group own a = record { lock = Group group; protects = record { word = GroupWord group; there = a; named = refl; protects = refl }; held = own }
 
-  -- what was held is still held where a script ends
+  -- what was held is still held when a script ends
   pub stays_held : {A : Type 0} (Fits : List Conn → A → Type 0) (own held : List Conn) (script : Script A) → AreAmong own held → KeepsTo (office plan) Fits held script → KeepsTo (office plan) (λ conns found. AreAmong own conns × Fits conns found) held script
   unfolding KeepsTo
   stays_held Fits own held (Ends found) among keeps = (among, keeps)

@@ -2,10 +2,10 @@
 use Rattle.std.proofs.Common.{◌≡◌, ℕ, ◌-◌, ◌≤◌, Bool, true, false, List, [], ◌∷◌, ◌++◌, length, inl, inr, refl, sym, ◌∙◌, ap, subst, arith}
 use Rattle.std.specs.Prelude.{Option, Some, None, Result, Ok, Err}
 use Rattle.turns.specs.Seen.{AreReadWords}
-use Rattle.turns.specs.Attempt.{StandsIn, begin_with, change, changed, come_to, forgotten, freed, goes_on, operated, rest_of, restarted, restarted_in, seen_of}
+use Rattle.turns.specs.Attempt.{IsValidIn, begin_with, change, changed, walk_result, forgotten, giving_back, goes_on, operated, rest_of, restarted, restarted_in, seen_of}
 use Rattle.turns.specs.Script.{Ends, TestThen, SeizeThen, first_wanted, is_held, left, left_of_test, left_of_seizing, value_read, walk}
 use Rattle.turns.specs.declared.answer.Answer.{Answer}
-use Rattle.turns.specs.declared.answer.Answer.TheVariants.{Asked, Seized, Held, Preferred, Again, Value, Turn, Done}
+use Rattle.turns.specs.declared.answer.Answer.TheVariants.{Requested, Seized, Held, Preferred, Changed, Value, Turn, Done}
 use Rattle.turns.specs.declared.phase.Phase.TheVariants as phases
 use Rattle.turns.specs.declared.phase.Phase.TheVariants.{Requests, Turns, Withdraws, GivesBack, Operates}
 use Rattle.turns.specs.declared.reading.Reading.{Reading}
@@ -57,14 +57,14 @@ others_left {A} seen most (SeizeThen conn script) (one, seizes) = at (is_held co
   at false later = (one, seizes)
   at true later = others_more (most - others conn) most (left conn_eq seen script) (omega arith) later
 
--- with more that was come by, what is left then seizes no more
+-- once more was read or seized, what is left then seizes no more
 others_grown : {A : Type 0} (seen more : Seen) (most : ℕ) (script : Script A)
     → Grows conn_eq conn_eq-itself seen more → SeizesOthers most (left conn_eq seen script)
     → SeizesOthers most (left conn_eq more script)
 others_grown {A} seen more most script grows seizes =
     subst (λ (s : Script A). SeizesOthers most s) (sym (left_again conn_eq conn_eq-itself seen more script grows)) (others_left more most (left conn_eq seen script) seizes)
 
--- and with the connector that was wanted, less by that one
+-- and once the connector that was needed is held, it seizes one less
 others_seized : {A : Type 0} (seen more : Seen) (conn : Conn) (most : ℕ) (script rest : Script A)
     → Grows conn_eq conn_eq-itself seen more → is_held conn_eq more.held conn ≡ true
     → left conn_eq seen script ≡ rest → first_wanted rest ≡ Err (Seize conn)
@@ -94,7 +94,7 @@ module _ (plan : Tables) where
   }
 
   -- a connector more is a new one
-  pub holds_seized : (a : Attempt) (conn : Conn) → IsConn conn → come_to (office plan) a ≡ Err (Seize conn) → HoldsFew plan a → HoldsFew plan (record a { held = a.held ++ conn ∷ [] })
+  pub holds_seized : (a : Attempt) (conn : Conn) → IsConn conn → walk_result (office plan) a ≡ Err (Seize conn) → HoldsFew plan a → HoldsFew plan (record a { held = a.held ++ conn ∷ [] })
   unfolding walk
   holds_seized a conn range come holds =
       let more : Seen = record { held = a.held ++ conn ∷ []; readings = a.readings } in
@@ -134,7 +134,7 @@ module _ (plan : Tables) where
   holds_on a (Err (Test word)) holds = holds_at a (phases.Tests word) holds
 
   holds_freed : (a : Attempt) (held : List Conn) → IsLawful plan
-      → HoldsFewIn plan (freed (office plan) a held) (freed (office plan) a held).phase
+      → HoldsFewIn plan (giving_back (office plan) a held) (giving_back (office plan) a held).phase
   holds_freed a [] laws = holds_begin a.job laws
   holds_freed a (conn ∷ held) laws = tt
 
@@ -150,7 +150,7 @@ module _ (plan : Tables) where
   few_on a (Err (Test word)) few = few
 
   few_freed : (a : Attempt) (held : List Conn) → length held ≤ most_held
-      → length (freed (office plan) a held).held ≤ most_held
+      → length (giving_back (office plan) a held).held ≤ most_held
   few_freed a [] few = omega arith
   few_freed a (conn ∷ held) few = few
 
@@ -163,61 +163,61 @@ module _ (plan : Tables) where
   few_operated a [] few = fewer_rest a.held few
   few_operated a (effect ∷ effects) few = few
 
-  -- whatever comes of its step, an attempt that stands where its script brings it holds few again
+  -- whatever its step's answer, an attempt in the phase that its script comes to holds few again
   module _ (laws : IsLawful plan) (a : Attempt) (in_range : IsJob a.job) (read : AreReadWords a.readings) where
-    holds_more : (conn : Conn) → StandsIn (office plan) a (Requests conn) → HoldsFew plan a → HoldsFew plan (record a { held = a.held ++ conn ∷ [] })
+    holds_more : (conn : Conn) → IsValidIn (office plan) a (Requests conn) → HoldsFew plan a → HoldsFew plan (record a { held = a.held ++ conn ∷ [] })
     holds_more conn come holds = holds_seized a conn (wanted_lock (office plan) (office_is plan laws) a conn in_range read come) come holds
 
     holds_changed : (phase : Phase) (answer : Answer) → a.phase ≡ phase → HoldsFewIn plan a a.phase
-        → StandsIn (office plan) a phase → HoldsFewIn plan a phase
+        → IsValidIn (office plan) a phase → HoldsFewIn plan a phase
         → HoldsFewIn plan (changed (office plan) a phase answer) (changed (office plan) a phase answer).phase
-    holds_changed (Requests conn) (Asked told) at all stands holds = holds_at a (phases.Seizes conn told) holds
-    holds_changed (Requests conn) (Held holder) at all stands holds = tt
-    holds_changed (Requests conn) (Preferred other) at all stands holds = tt
-    holds_changed (phases.Seizes conn expected) Seized at all stands holds =
+    holds_changed (Requests conn) (Requested told) at all valid holds = holds_at a (phases.Seizes conn told) holds
+    holds_changed (Requests conn) (Held holder) at all valid holds = tt
+    holds_changed (Requests conn) (Preferred other) at all valid holds = tt
+    holds_changed (phases.Seizes conn expected) Seized at all valid holds =
         let more : Attempt = record a { held = a.held ++ conn ∷ [] } in
-        holds_on more (come_to (office plan) more) (holds_more conn stands holds)
-    holds_changed (phases.Seizes conn expected) (Held holder) at all stands holds = tt
-    holds_changed (phases.Seizes conn expected) (Preferred other) at all stands holds = tt
-    holds_changed (phases.Seizes conn expected) (Again told) at all stands holds = holds_at a (phases.Seizes conn told) holds
-    holds_changed (phases.Tests word) (Value value) at all stands holds =
+        holds_on more (walk_result (office plan) more) (holds_more conn valid holds)
+    holds_changed (phases.Seizes conn expected) (Held holder) at all valid holds = tt
+    holds_changed (phases.Seizes conn expected) (Preferred other) at all valid holds = tt
+    holds_changed (phases.Seizes conn expected) (Changed told) at all valid holds = holds_at a (phases.Seizes conn told) holds
+    holds_changed (phases.Tests word) (Value value) at all valid holds =
         let reading : Reading ℕ = record { word = word; value = value } in
         let more : Attempt = record a { readings = a.readings ++ reading ∷ [] } in
-        holds_on more (come_to (office plan) more) (holds_read a reading holds)
-    holds_changed Turns (Turn number) at all stands holds = tt
-    holds_changed (Withdraws conn) Done at all stands holds = holds_freed a a.held laws
-    holds_changed GivesBack Done at all stands holds = holds_freed a (rest_of a.held) laws
-    holds_changed (Operates turn) Done at all stands holds = holds_operated a turn a.effects at
-    holds_changed _ _ at all stands holds = all
+        holds_on more (walk_result (office plan) more) (holds_read a reading holds)
+    holds_changed Turns (Turn number) at all valid holds = tt
+    holds_changed (Withdraws conn) Done at all valid holds = holds_freed a a.held laws
+    holds_changed GivesBack Done at all valid holds = holds_freed a (rest_of a.held) laws
+    holds_changed (Operates turn) Done at all valid holds = holds_operated a turn a.effects at
+    holds_changed _ _ at all valid holds = all
 
-    pub holds_change : (answer : Answer) → StandsIn (office plan) a a.phase
+    pub holds_change : (answer : Answer) → IsValidIn (office plan) a a.phase
         → HoldsFewIn plan a a.phase
         → HoldsFewIn plan (change (office plan) a answer) (change (office plan) a answer).phase
-    holds_change answer stands holds = holds_changed a.phase answer refl holds stands holds
+    holds_change answer valid holds = holds_changed a.phase answer refl holds valid holds
 
-    few_changed : (phase : Phase) (answer : Answer) → StandsIn (office plan) a phase
+    few_changed : (phase : Phase) (answer : Answer) → IsValidIn (office plan) a phase
         → HoldsFewIn plan a phase → length a.held ≤ most_held
         → length (changed (office plan) a phase answer).held ≤ most_held
-    few_changed (phases.Seizes conn expected) Seized stands holds few =
+    few_changed (phases.Seizes conn expected) Seized valid holds few =
         let more : Attempt = record a { held = a.held ++ conn ∷ [] } in
-        few_on more (come_to (office plan) more) (few_held more (holds_more conn stands holds))
-    few_changed (phases.Tests word) (Value value) stands holds few =
+        few_on more (walk_result (office plan) more) (few_held more (holds_more conn valid holds))
+    few_changed (phases.Tests word) (Value value) valid holds few =
         let more : Attempt = record a { readings = a.readings ++ record { word = word; value = value } ∷ [] } in
-        few_on more (come_to (office plan) more) few
-    few_changed (Withdraws conn) Done stands holds few = few_freed a a.held few
-    few_changed GivesBack Done stands holds few = few_freed a (rest_of a.held) (fewer_rest a.held few)
-    few_changed (Operates turn) Done stands holds few = few_operated a a.effects few
-    few_changed (Requests conn) (Held holder) stands holds few = few
-    few_changed (Requests conn) (Preferred other) stands holds few = few
-    few_changed (phases.Seizes conn expected) (Held holder) stands holds few = few
-    few_changed (phases.Seizes conn expected) (Preferred other) stands holds few = few
-    few_changed Turns (Turn number) stands holds few = few
-    few_changed _ _ stands holds few = few
+        few_on more (walk_result (office plan) more) few
+    few_changed (Withdraws conn) Done valid holds few = few_freed a a.held few
+    few_changed GivesBack Done valid holds few = few_freed a (rest_of a.held) (fewer_rest a.held few)
+    few_changed (Operates turn) Done valid holds few = few_operated a a.effects few
+    few_changed (Requests conn) (Held holder) valid holds few = few
+    few_changed (Requests conn) (Preferred other) valid holds few = few
+    few_changed (phases.Seizes conn expected) (Held holder) valid holds few = few
+    few_changed (phases.Seizes conn expected) (Preferred other) valid holds few = few
+    few_changed Turns (Turn number) valid holds few = few
+    few_changed _ _ valid holds few = few
 
-    pub few_change : (answer : Answer) → StandsIn (office plan) a a.phase
+    pub few_change : (answer : Answer) → IsValidIn (office plan) a a.phase
         → HoldsFewIn plan a a.phase → length a.held ≤ most_held
         → length (change (office plan) a answer).held ≤ most_held
-    few_change answer stands holds few = few_changed a.phase answer stands holds few
+    few_change answer valid holds few = few_changed a.phase answer valid holds few
 
   -- and so does one that restarts
   few_restarted_in : (a : Attempt) (phase : Phase) → length a.held ≤ most_held

@@ -3,7 +3,7 @@ use Rattle.std.proofs.Common.{◌≡◌, ℕ, zero, suc, ◌<◌, List, [], ◌�
 use Rattle.std.specs.Prelude.{Option, Some, None, IfSome}
 use Rattle.turns.specs.Among.{IsIn}
 
--- what stands at a place of a list is one of its items
+-- what is at a place of a list is one of its items
 pub item_within : {A : Type 0} (items : List A) (at : ℕ) (item : A) → item ≡ slice_index_or items at item → at < length items → IsIn item items
 item_within [] at item is below = absurd (omega arith)
 item_within (first ∷ items) zero item is below = inl is

@@ -1,7 +1,7 @@
 -- how much each job asks for at most
 use Rattle.std.proofs.Common.{ℕ, ◌≤◌, List, [], ◌∷◌, ◌++◌, length, arith}
 use Rattle.std.specs.Prelude.{Option, Some, None}
-use Rattle.turns.specs.Bounds.{AreBounded, EndsIn}
+use Rattle.turns.specs.Bounds.{AreBounded, AllEndsHave}
 use Rattle.turns.specs.Script.{Ends, TestThen, SeizeThen, ◌>>=◌}
 use Rattle.turns.specs.System.{KeepsTo}
 use Rattle.xbar_equip.specs.Len.{Line}
@@ -75,8 +75,8 @@ pub job_seizes : (plan : Tables) (job : Job) → IsLawful plan → SeizesOthers 
 job_seizes plan job laws = seizes_others most_readings most_seizings most_others (script plan job) (script_asks plan job laws)
 
 -- what fits wherever a script ends holds of its ends
-pub ends_as_kept : (plan : Tables) {A : Type 0} (Fits : List Conn → A → Type 0) (Has : A → Type 0) (held : List Conn) (script : Script A) → ((conns : List Conn) (found : A) → Fits conns found → Has found) → KeepsTo (office plan) Fits held script → EndsIn Has script
-unfolding EndsIn KeepsTo
+pub ends_as_kept : (plan : Tables) {A : Type 0} (Fits : List Conn → A → Type 0) (Has : A → Type 0) (held : List Conn) (script : Script A) → ((conns : List Conn) (found : A) → Fits conns found → Has found) → KeepsTo (office plan) Fits held script → AllEndsHave Has script
+unfolding AllEndsHave KeepsTo
 ends_as_kept plan Fits Has held (Ends found) has keeps = has held found keeps
 ends_as_kept plan Fits Has held (TestThen word script) has keeps = λ value fits. ends_as_kept plan Fits Has held (script value) has (keeps.1 value fits)
 ends_as_kept plan Fits Has held (SeizeThen conn script) has keeps = ends_as_kept plan Fits Has (held ++ conn ∷ []) script has keeps.1

@@ -1,7 +1,7 @@
 -- what an attempt does past its turn is what the one-marker office does
 use Rattle.std.proofs.Common.{◌≡◌, ℕ, ◌<◌, ◌^◌, List, [], ◌∷◌, sym, ◌∙◌, ap, subst, refl, arith}
 use Rattle.std.specs.Prelude.{Some}
-use Rattle.turns.specs.Attempt.{HasDecided, IsAnswerTo, StandsIn, act, act_in, change, changed, closing_act, free_act, seen_of}
+use Rattle.turns.specs.Attempt.{HasDecided, IsAnswerTo, IsValidIn, act, act_in, change, changed, closing_act, free_act, seen_of}
 use Rattle.turns.specs.Script.{run}
 use Rattle.turns.specs.System.{AreDue, AreUnder, perform_all}
 use Rattle.turns.specs.declared.answer.Answer.{Answer}
@@ -28,19 +28,19 @@ use Rattle.xbar_jobs.proofs.ShownWords.{shown_below}
 
 -- an attempt that has decided does as the one-marker office does
 pub decided_does : (plan : Tables) (a : Attempt) → IsLawful plan → IsJob a.job → HasDecided (office plan) a → DoesAsOffice plan a
-decided_does plan a laws in_range stands words paths size shows read =
-    let decision = stands.decision in
-    let ends : run words (script plan a.job) ≡ decision = walk_run conn_eq words (seen_of a) (script plan a.job) decision read stands.come in
+decided_does plan a laws in_range valid words paths size shows read =
+    let decision = valid.decision in
+    let ends : run words (script plan a.job) ≡ decision = walk_run conn_eq words (seen_of a) (script plan a.job) decision read valid.come in
     let decides = subst (λ (d : Decision). DecidesOn plan words d (whole plan paths a.job)) ends (script_decides plan words paths a.job laws (omega arith) shows in_range) in
-    let same = sym stands.effects in
+    let same = sym valid.effects in
     let fits : HasReadWords (office plan) (seen_of a) = λ word value under is.
     subst (λ (n : ℕ). n < 2 ^ 64) (read_value words a.readings word value read is)
     (shown_below plan laws paths words shows under.lock word under.protects) in
     record {
-      reply = stands.reply ∙ ap Some decides.reply;
+      reply = valid.reply ∙ ap Some decides.reply;
       shows = subst (λ (all : List Effect). ShowsOffice plan (perform_all (office plan) words all) (whole plan paths a.job).paths) same decides.shows;
       due = subst (λ (all : List Effect). AreDue (office plan) words all) same decides.due;
-      under = subst (λ (all : List Effect). AreUnder (office plan) a.held all) same (decided_under plan (seen_of a) a.job decision laws in_range fits stands.come);
+      under = subst (λ (all : List Effect). AreUnder (office plan) a.held all) same (decided_under plan (seen_of a) a.job decision laws in_range fits valid.come);
     }
 
 no_turn_of_free : (held : List Conn) (number : ℕ) → IsAnswerTo {Effect = Effect} (free_act held) (Turn number) → ⊥
@@ -52,14 +52,14 @@ no_turn_past [] held number fits = no_turn_of_free held number fits
 no_turn_past (effect ∷ effects) held number fits = fits
 
 -- only an attempt that is to turn is answered with a turn
-turns : (plan : Tables) (a : Attempt) (phase : Phase) (number : ℕ) → a.phase ≡ phase → IsAnswerTo (act_in phase a) (Turn number) → StandsIn (office plan) a phase → (a.phase ≡ Turns) × HasDecided (office plan) a
-turns plan a (Requests conn) number is fits stands = absurd fits
-turns plan a (Seizes conn expected) number is fits stands = absurd fits
-turns plan a (Tests word) number is fits stands = absurd fits
-turns plan a Turns number is fits stands = (is, stands)
-turns plan a (Withdraws conn) number is fits stands = absurd fits
-turns plan a GivesBack number is fits stands = absurd (no_turn_of_free a.held number fits)
-turns plan a (Operates turn) number is fits stands = absurd (no_turn_past a.effects a.held number fits)
+turns : (plan : Tables) (a : Attempt) (phase : Phase) (number : ℕ) → a.phase ≡ phase → IsAnswerTo (act_in phase a) (Turn number) → IsValidIn (office plan) a phase → (a.phase ≡ Turns) × HasDecided (office plan) a
+turns plan a (Requests conn) number is fits valid = absurd fits
+turns plan a (Seizes conn expected) number is fits valid = absurd fits
+turns plan a (Tests word) number is fits valid = absurd fits
+turns plan a Turns number is fits valid = (is, valid)
+turns plan a (Withdraws conn) number is fits valid = absurd fits
+turns plan a GivesBack number is fits valid = absurd (no_turn_of_free a.held number fits)
+turns plan a (Operates turn) number is fits valid = absurd (no_turn_past a.effects a.held number fits)
 
 past_turn : (plan : Tables) (a : Attempt) (number : ℕ) → DoesAsOffice plan a → DoesAsOffice plan (record a { phase = Operates number })
 past_turn plan a number does words paths size shows read =
@@ -67,9 +67,9 @@ past_turn plan a number does words paths size shows read =
     record { reply = done.reply; shows = done.shows; due = done.due; under = done.under }
 
 -- with its turn an attempt does as the one-marker office does
-pub turn_does : (plan : Tables) (a : Attempt) (answer : Answer) (number : ℕ) → IsLawful plan → IsJob a.job → IsAnswerTo (act a) answer → StandsIn (office plan) a a.phase → answer ≡ Turn number → DoesAsOffice plan (change (office plan) a answer)
-turn_does plan a answer number laws in_range fits stands is =
+pub turn_does : (plan : Tables) (a : Attempt) (answer : Answer) (number : ℕ) → IsLawful plan → IsJob a.job → IsAnswerTo (act a) answer → IsValidIn (office plan) a a.phase → answer ≡ Turn number → DoesAsOffice plan (change (office plan) a answer)
+turn_does plan a answer number laws in_range fits valid is =
     let turned : IsAnswerTo (act a) (Turn number) = subst (λ (told : Answer). IsAnswerTo (act a) told) is fits in
-    let at = turns plan a a.phase number refl turned stands in
+    let at = turns plan a a.phase number refl turned valid in
     subst (λ (told : Answer). DoesAsOffice plan (change (office plan) a told)) (sym is)
     (subst (λ (phase : Phase). DoesAsOffice plan (changed (office plan) a phase (Turn number))) (sym at.0) (past_turn plan a number (decided_does plan a laws in_range at.1)))

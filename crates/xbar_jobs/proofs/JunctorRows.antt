@@ -39,7 +39,8 @@ BeginsWith number (Ends found) = ⊥
 BeginsWith number (TestThen word script) = word ≡ number
 BeginsWith number (SeizeThen conn script) = ⊥
 
--- where a script tests a line junctor switch and others of its frame follow, it goes on to the next one whatever it found
+-- if a script tests a line junctor switch and others of its frame follow, it goes on to the next
+-- one, whatever it found: it keeps rows
 unfoldable pub KeepsRows : {A : Type 0} → Script A → Type 0
 KeepsRows (Ends found) = ⊤
 KeepsRows (TestThen word script) = ((next : ℕ) → IsNextJunctor word next → (value : ℕ) → BeginsWith next (script value)) × ((value : ℕ) → KeepsRows (script value))
@@ -58,7 +59,7 @@ rows_bind (TestThen word script) next rows later =
     (λ number is value. begins_bind number (script value) next (rows.0 number is value), λ value. rows_bind (script value) next (rows.1 value) later)
 rows_bind (SeizeThen conn script) next rows later = rows_bind script next rows later
 
--- what is left of such a script is such a script
+-- if a script keeps rows, so does what is left of it
 rows_left : {A : Type 0} (seen : Seen) (script : Script A) → KeepsRows script → KeepsRows (left conn_eq seen script)
 unfolding KeepsRows left left_of_test left_of_seizing
 rows_left seen (Ends found) rows = rows
@@ -85,7 +86,7 @@ goes_on_at {A} more number next (TestThen word rest) rows is own unread wants =
     let same : word ≡ number = cc in
     rw (ap (value_read more.readings) same ∙ own.1) (begins_wanted more next (rest own.0) (rows.0 next (subst (λ (n : ℕ). IsNextJunctor n next) (sym same) is) own.0) unread)
 
--- once a line junctor switch was read, the next one is wanted, if it was not read before
+-- once a line junctor switch was read, the next one is needed next, if it was not read before
 next_is_wanted : {A : Type 0} (seen more : Seen) (number next : ℕ) (script : Script A) → KeepsRows script → Grows conn_eq conn_eq-itself seen more → IsNextJunctor number next → (value : ℕ) × (value_read more.readings number ≡ Some value) → value_read more.readings next ≡ None → walk conn_eq seen script ≡ Err (Test number) → walk conn_eq more script ≡ Err (Test next)
 unfolding walk
 next_is_wanted seen more number next script rows grows is own unread wants =
@@ -106,7 +107,8 @@ next_is_other number next is = at (number == next) refl where
   at true same = absurd (omega (arith, eqb-true number next same, is.this, is.that))
   at false other = other
 
--- so once the walk of such a script wants a line junctor switch, it goes on to the next one, whatever that one shows
+-- so if a script keeps rows and its walk needs a line junctor switch, it goes on to the next one,
+-- whatever the first shows
 pub row_goes_on : {A : Type 0} (seen : Seen) (word next : ℕ) (script : Script A) → KeepsRows script → IsNextJunctor word next → value_read seen.readings next ≡ None → walk conn_eq seen script ≡ Err (Test word) → GoesOnTo conn_eq seen script word next
 row_goes_on seen word next script rows is unread wants = λ value.
     let last : Reading ℕ = record { word = word; value = value } in
@@ -122,7 +124,7 @@ junctor_rows frame channel (suc (suc count)) sum = (
   λ value. rows_bind (test_junctors frame (channel + 1) (suc count)) (λ words. Ends (value ∷ words)) (junctor_rows frame (channel + 1) (suc count) (omega arith)) (λ words. tt),
 )
 
--- the tests of both sides are such rows
+-- the tests of both sides keep rows
 side_rows : (party : Party) → KeepsRows (test_side party)
 unfolding KeepsRows test_side
 side_rows party = rows_bind (test_junctors party.line.frame 0 10) _ (junctor_rows party.line.frame 0 10 refl) (λ words. tt)
@@ -194,7 +196,7 @@ try_rows plan aim parties None = tt
 try_rows plan aim parties (Some idle) =
     rows_bind (two_trials_steps plan parties (trunks_of plan idle.group idle.word) idle.first) _ (trials_rows plan parties (trunks_of plan idle.group idle.word) idle.first) (λ trials. tt)
 
--- whatever the parties and the groups are, connecting them is such a script
+-- whatever the parties and the groups are, connecting them keeps rows
 pub connect_rows : (plan : Tables) (aim : Aim) (parties : CallParties) (groups : List ℕ) → KeepsRows (connect plan aim parties groups)
 unfolding connect
 connect_rows plan aim parties groups = rows_bind (find_trunk plan groups) _ (find_rows plan groups) (λ idle. try_rows plan aim parties idle)

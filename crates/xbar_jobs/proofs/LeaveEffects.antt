@@ -126,15 +126,15 @@ module _ (plan : Tables) (words : List ℕ) (paths : List Path) (own : Path) (fo
   pub effects_show : ShowsOffice plan (perform_all (office plan) words (leave_effects (leave_of own other found))) rest
   effects_show = subst (λ (after : List ℕ). ShowsOffice plan after rest) (sym freed_words) freed_shows
 
-  -- the bit was 1 when its turn came
+  -- the bit is 1 until it is cleared
   bit_was_set : IsDue (ClearBit found.group found.index) (slice_index opened (400 + found.group))
   bit_was_set = group_before found.group numbers.0 found.index ∙ ap (λ b. if b then 1 else 0) (busy_before plan paths own found laws shows.lawful within here)
 
-  -- and each of them is due when its turn comes
+  -- and each of the effects is due when it is made
   pub effects_due : AreDue (office plan) words (leave_effects (leave_of own other found))
   effects_due = due-append plan words opens (ClearBit found.group found.index ∷ []) call_opened.due (bit_was_set, tt)
 
--- a call that is let go is told by its own path and its member's place
+-- a call that is let go is determined by its own path and its member's place
 pub leave_is : (plan : Tables) (paths : List Path) (leave : Leave) (is : IsLeave plan paths leave) → leave ≡ leave_of leave.own (other_path plan paths leave.own) is.found
 leave_is plan paths leave is = λ i. record { group = is.group i; index = is.index i; own = leave.own; other = is.other i }
 
@@ -145,7 +145,7 @@ leave_shows plan words paths leave laws long shows is =
     subst (λ (l : Leave). ShowsOffice plan (perform_all (office plan) words (leave_effects l)) (left paths l)) (sym (leave_is plan paths leave is))
     (effects_show plan words paths leave.own is.found laws long shows is.within is.here)
 
--- and each is due when its turn comes
+-- and each is due when it is made
 pub leave_due : (plan : Tables) (words : List ℕ) (paths : List Path) (leave : Leave) → IsLawful plan → 453 ≤ length words → ShowsOffice plan words paths → IsLeave plan paths leave
     → AreDue (office plan) words (leave_effects leave)
 leave_due plan words paths leave laws long shows is =

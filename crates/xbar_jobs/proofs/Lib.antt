@@ -1,7 +1,7 @@
 pub mod Items
 pub mod MadeWords
 pub mod EffectRanges
-pub mod Lives
+pub mod WalksOnWords
 pub mod SeenTests
 pub mod JunctorTests
 pub mod JunctorsMade
@@ -41,7 +41,7 @@ pub mod ClearedBits
 pub mod FreedMembers
 pub mod OpenedPaths
 pub mod LeaveEffects
-pub mod LeavingLives
+pub mod LeavingWalks
 pub mod ReleaseDecides
 pub mod CallDecides
 pub mod CompleteDecides
@@ -56,5 +56,5 @@ pub mod StepActs
 pub mod PastTurn
 pub mod JunctorRows
 pub mod CompletingRows
-pub mod TracedLives
+pub mod TracedWalks
 pub mod Programs

@@ -19,14 +19,14 @@ use Rattle.xbar_jobs.specs.Office.{office}
 use Rattle.xbar_jobs.specs.declared.effect.Effect.TheVariants.{Open}
 use Rattle.xbar_jobs.proofs.TakenMembers.{Adds as LeadsTo, nothing_added as nothing_opened}
 
--- opening crosspoints leaves the words on which none of them stands as they are
+-- opening crosspoints leaves every other word as it is
 pub open_all-elsewhere : (words : List ℕ) (cs : List Crosspoint) (n : ℕ) → ((c : Crosspoint) → IsIn c cs → n ≢ c.word) → get_or (fold open_at words cs) n 0 ≡ get_or words n 0
 open_all-elsewhere words [] n other = refl
 open_all-elsewhere words (c ∷ cs) n other =
     open_all-elsewhere (open_at words c) cs n (λ d within. other d (inr within))
     ∙ get_or-set_other words c.word n _ 0 (other c (inl refl))
 
--- opening a path leaves the words behind the switches as they are
+-- opening a path leaves the words after the switches as they are
 pub open_path-behind : (words : List ℕ) (path : Path) (n : ℕ) → IsPath path → 400 ≤ n → get_or (open_path words path) n 0 ≡ get_or words n 0
 unfolding open_path
 open_path-behind words path n range behind =
@@ -47,7 +47,7 @@ module _ (plan : Tables) where
   unfolding perform_all open_path
   perform_all-path_opens words path = refl
 
-  -- and each of them is due where each crosspoint is closed when its turn comes
+  -- and each of them is due, if each crosspoint is closed until then
   pub opens-due : (words : List ℕ) (cs : List Crosspoint) → EachOpens words cs → AreDue (office plan) words (map Open cs)
   opens-due words [] each = tt
   opens-due words (c ∷ cs) each = (each.0, opens-due (open_at words c) cs each.1)

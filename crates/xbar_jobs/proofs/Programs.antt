@@ -1,17 +1,18 @@
--- a program's attempt is one of the office, and stands as the law's does
+-- a program's attempt is one of the office, and valid
 use Rattle.std.proofs.Common.{◌≡◌, ℕ, zero, suc, List, [], ◌∷◌, inl, inr, refl, sym, ◌∙◌, ap, subst, arith}
 use Rattle.std.specs.Prelude.{Option, Some, None, IsSome, drop}
-use Rattle.turns.specs.Attempt.{IsAnswerTo, Rest, Ask, Take, Leave, Free, Look, Turn, Make, StandsIn, act, act_in, begin_with, change, closing_act, forgotten, free_act, freed, restarted, restarted_in}
+use Rattle.turns.specs.Attempt.{IsAnswerTo, IsValidIn, act, act_in, begin_with, change, closing_act, forgotten, free_act, giving_back, restarted, restarted_in}
+use Rattle.turns.specs.declared.act.Act.TheVariants.{Finished, Request, Seize, Withdraw, Free, Test, Turn, Make}
 use Rattle.turns.specs.System.{DecidesUnder}
 use Rattle.turns.specs.declared.answer.Answer.{Answer}
 use Rattle.turns.specs.declared.answer.Answer.TheVariants.{Turn as Turned}
 use Rattle.turns.specs.declared.phase.Phase.TheVariants.{Requests, Seizes, Tests, Turns, Withdraws, GivesBack, Operates}
 use Rattle.turns.proofs.Keeping.{WalkFits}
 use Rattle.turns.proofs.Standing.{come_fits, wanted_lock}
-use Rattle.attempts.specs.Live.{LeadsTo}
-use Rattle.attempts.specs.Standing as standing
-use Rattle.attempts.specs.Standing.{AreScripts, KnowsIn, effects_left}
-use Rattle.attempts.specs.SystemWith.{with}
+use Rattle.attempts.specs.WalkOnWords.{LeadsTo}
+use Rattle.attempts.specs.Validity as standing
+use Rattle.attempts.specs.Validity.{AreScripts, ResumePointIsValidIn, effects_left}
+use Rattle.attempts.specs.SystemWith.{without_decisions}
 use Rattle.attempts.proofs.Walking.{known_anywhere}
 use Rattle.xbar_equip.specs.Conn.{IsConn, conn_eq}
 use Rattle.xbar_equip.specs.declared.conn.Conn.{Conn}
@@ -26,8 +27,8 @@ use Rattle.xbar_jobs.specs.Jobs.{first_conn, job_line}
 use Rattle.xbar_jobs.specs.Keeping.{AreEffects}
 use Rattle.xbar_jobs.specs.Office.{office, office_over}
 use Rattle.xbar_jobs.specs.Script.{Seen}
-use Rattle.xbar_jobs.specs.Standing.{AreConns, Doing, HasReplyIn, IsAttempt, IsPhase, Stands, attempt_at, reply_of, most_readings, most_seizings}
-use Rattle.xbar_jobs.specs.Tracing.{Knows}
+use Rattle.xbar_jobs.specs.Standing.{AreConns, Doing, HasReplyIn, IsAttempt, IsPhase, IsValid, attempt_at, reply_of, most_readings, most_seizings}
+use Rattle.xbar_jobs.specs.Tracing.{ResumePointIsValid}
 use Rattle.xbar_jobs.specs.Turning.{DoesAsOffice, IsAct, IsStep}
 use Rattle.xbar_jobs.specs.declared.decision.Decision.{Decision}
 use Rattle.xbar_jobs.specs.declared.effect.Effect.{Effect}
@@ -41,12 +42,12 @@ use Rattle.xbar_jobs.proofs.OfficeSystem.{office_is}
 
 -- the step that makes an act is on what there is too
 pub act_step : (a : Act) → IsAct a → IsStep (step_of a)
-act_step Rest range = tt
-act_step (Ask conn) range = range
-act_step (Take conn expected) range = range
-act_step (Leave conn) range = range
+act_step Finished range = tt
+act_step (Request conn) range = range
+act_step (Seize conn expected) range = range
+act_step (Withdraw conn) range = range
 act_step (Free conn) range = range
-act_step (Look word) range = range
+act_step (Test word) range = range
 act_step Turn range = tt
 act_step (Make (Close c)) range = omega (arith, range.word)
 act_step (Make (Open c)) range = omega (arith, range.word)
@@ -88,20 +89,20 @@ left_effects decision d made is are = subst (λ (o : Option Decision). AreEffect
 pub none_left : (decision : Option Decision) (made : ℕ) → decision ≡ None → AreEffects (effects_left effects_of decision made)
 none_left decision made is = subst (λ (o : Option Decision). AreEffects (effects_left effects_of o made)) (sym is) (λ effect none. absurd none)
 
--- an attempt that stands is one of the office
+-- a valid attempt is one of the office
 module _ (plan : Tables) (laws : IsLawful plan) where
-  phase_range : (a : Attempt) (phase : Phase) → Stands plan a → StandsIn (office plan) a phase → IsPhase phase
-  phase_range a (Requests conn) stands comes = wanted_lock (office plan) (office_is plan laws) a conn stands.place.job stands.place.read comes
-  phase_range a (Seizes conn expected) stands comes = wanted_lock (office plan) (office_is plan laws) a conn stands.place.job stands.place.read comes
-  phase_range a (Tests word) stands comes =
-      let under = subst (WalkFits (office plan) (DecidesUnder (office plan)) a.held) comes (come_fits (office plan) (office_is plan laws) a stands.place.job stands.place.read) in
+  phase_range : (a : Attempt) (phase : Phase) → IsValid plan a → IsValidIn (office plan) a phase → IsPhase phase
+  phase_range a (Requests conn) valid comes = wanted_lock (office plan) (office_is plan laws) a conn valid.place.job valid.place.read comes
+  phase_range a (Seizes conn expected) valid comes = wanted_lock (office plan) (office_is plan laws) a conn valid.place.job valid.place.read comes
+  phase_range a (Tests word) valid comes =
+      let under = subst (WalkFits (office plan) (DecidesUnder (office plan)) a.held) comes (come_fits (office plan) (office_is plan laws) a valid.place.job valid.place.read) in
       (office_is plan laws).words.word_there word under.lock under.protects
-  phase_range a Turns stands comes = tt
-  phase_range a (Withdraws conn) stands comes = comes
-  phase_range a GivesBack stands comes = tt
-  phase_range a (Operates turn) stands comes = tt
+  phase_range a Turns valid comes = tt
+  phase_range a (Withdraws conn) valid comes = comes
+  phase_range a GivesBack valid comes = tt
+  phase_range a (Operates turn) valid comes = tt
 
-  has_reply : (a : Attempt) (phase : Phase) → StandsIn (office plan) a phase → HasReplyIn phase a.reply
+  has_reply : (a : Attempt) (phase : Phase) → IsValidIn (office plan) a phase → HasReplyIn phase a.reply
   has_reply a (Requests conn) comes = tt
   has_reply a (Seizes conn expected) comes = tt
   has_reply a (Tests word) comes = tt
@@ -110,12 +111,12 @@ module _ (plan : Tables) (laws : IsLawful plan) where
   has_reply a GivesBack comes = tt
   has_reply a (Operates turn) comes = subst IsSome (sym comes.reply) refl
 
-  pub is_attempt : (a : Attempt) → Stands plan a → AreEffects a.effects → IsAttempt a
-  is_attempt a stands effects = record {
-    job = stands.place.job;
-    phase = phase_range a a.phase stands stands.place.comes;
-    held = stands.place.held;
-    reply = has_reply a a.phase stands.place.comes;
+  pub is_attempt : (a : Attempt) → IsValid plan a → AreEffects a.effects → IsAttempt a
+  is_attempt a valid effects = record {
+    job = valid.place.job;
+    phase = phase_range a a.phase valid valid.place.comes;
+    held = valid.place.held;
+    reply = has_reply a a.phase valid.place.comes;
     effects = effects;
   }
 
@@ -135,7 +136,7 @@ attempt_begun job range = record {
 }
 
 -- and so is an attempt that restarts
-attempt_freed : (plan : Tables) (a : Attempt) (held : List Conn) → IsJob a.job → AreConns held → AreEffects a.effects → IsAttempt (freed (office plan) a held)
+attempt_freed : (plan : Tables) (a : Attempt) (held : List Conn) → IsJob a.job → AreConns held → AreEffects a.effects → IsAttempt (giving_back (office plan) a held)
 attempt_freed plan a [] job conns effects = attempt_begun a.job job
 attempt_freed plan a (conn ∷ held) job conns effects = record { job = job; phase = tt; held = conns; reply = tt; effects = effects }
 
@@ -152,23 +153,23 @@ pub attempt_restarted : (plan : Tables) (a new : Attempt) → IsAttempt a → ne
 attempt_restarted plan a new is made = subst IsAttempt (sym made) (attempt_restarted_in plan a a.phase refl is)
 
 abbrev KnowsHere : Job → Way → Seen → Type 0
-KnowsHere job way seen = Knows (job_line job) way seen
+KnowsHere job way seen = ResumePointIsValid (job_line job) way seen
 
 -- the jobs are scripts
-pub scripts_are : (plan : Tables) → IsLawful plan → AreScripts conn_eq reply_of effects_of (with (office_over plan)) KnowsHere most_readings most_seizings
+pub scripts_are : (plan : Tables) → IsLawful plan → AreScripts conn_eq reply_of effects_of (without_decisions (office_over plan)) KnowsHere most_readings most_seizings
 scripts_are plan laws = record {
   is_system = office_is plan laws;
   asks = (jobs_bounded plan laws).asks;
-  knows_on = λ job way seen more extends knows. known_on (job_line job) way seen more extends knows;
+  stays_valid = λ job way seen more extends valid_point. known_on (job_line job) way seen more extends valid_point;
 }
 
-pub stands_here : (plan : Tables) (p : Doing) → Stands plan (attempt_at p) → KnowsIn KnowsHere (attempt_at p) p.point p.phase → standing.Stands conn_eq reply_of effects_of (with (office_over plan)) KnowsHere most_readings most_seizings p
-stands_here plan p stands knows = record { place = stands.place; point = knows }
+pub stands_here : (plan : Tables) (p : Doing) → IsValid plan (attempt_at p) → ResumePointIsValidIn KnowsHere (attempt_at p) p.point p.phase → standing.IsValid conn_eq reply_of effects_of (without_decisions (office_over plan)) KnowsHere most_readings most_seizings p
+stands_here plan p valid valid_point = record { place = valid.place; point = valid_point }
 
 -- what a program that has just begun knows
-pub knows_begun : (p : Doing) (job : Job) → attempt_at p ≡ begin_with (first_conn job) job → ((seen : Seen) → Knows (job_line job) p.point seen) → KnowsIn KnowsHere (attempt_at p) p.point p.phase
+pub knows_begun : (p : Doing) (job : Job) → attempt_at p ≡ begin_with (first_conn job) job → ((seen : Seen) → ResumePointIsValid (job_line job) p.point seen) → ResumePointIsValidIn KnowsHere (attempt_at p) p.point p.phase
 knows_begun p job made always =
-    known_anywhere KnowsHere (attempt_at p) p.point p.phase (λ seen. subst (λ (j : Job). Knows (job_line j) p.point seen) (sym (ap (λ (a : Attempt). a.job) made)) (always seen))
+    known_anywhere KnowsHere (attempt_at p) p.point p.phase (λ seen. subst (λ (j : Job). ResumePointIsValid (job_line j) p.point seen) (sym (ap (λ (a : Attempt). a.job) made)) (always seen))
 
 -- whatever the plan, for what doesn't depend on it
 pub no_plan : Tables
@@ -184,30 +185,30 @@ count_is p before a made count = ap (counted_at (attempt_at p)) count ∙ ap (wi
 pub begun_is : (p : Doing) (job : Job) → attempt_at p ≡ begin_with (first_conn job) job → p.count ≡ 0 → counted_at (attempt_at p) p.count ≡ fresh job
 begun_is p job made count = ap (counted_at (attempt_at p)) count ∙ ap (λ (a : Attempt). counted_at a 0) made
 
--- what becomes of a program that was told something
+-- what becomes of a program by an answer
 pub record Told (plan : Tables) (p new : Doing) (answer : Answer) : Type 0 where
   pub change : attempt_at new ≡ change (office plan) (attempt_at p) answer
-  pub stands : Stands plan (attempt_at new)
+  pub valid : IsValid plan (attempt_at new)
   pub turn : (number : ℕ) → answer ≡ Turned number → DoesAsOffice plan (attempt_at new)
 
-pub told : (plan : Tables) → IsLawful plan → (p new : Doing) (answer : Answer) (a : Attempt) → attempt_at p ≡ a → IsJob p.job → IsAnswerTo (act a) answer → Stands plan a → attempt_at new ≡ change (office plan) (attempt_at p) answer → Told plan p new answer
-told plan laws p new answer a same job fits stands made =
+pub told : (plan : Tables) → IsLawful plan → (p new : Doing) (answer : Answer) (a : Attempt) → attempt_at p ≡ a → IsJob p.job → IsAnswerTo (act a) answer → IsValid plan a → attempt_at new ≡ change (office plan) (attempt_at p) answer → Told plan p new answer
+told plan laws p new answer a same job fits valid made =
     let fits_here = subst (λ (b : Attempt). IsAnswerTo (act b) answer) (sym same) fits in
-    let stands_now = subst (Stands plan) (sym same) stands in
+    let stands_now = subst (IsValid plan) (sym same) valid in
     record {
       change = made;
-      stands = subst (Stands plan) (sym made) (stands_after plan (attempt_at p) answer laws job fits_here stands_now);
+      valid = subst (IsValid plan) (sym made) (stands_after plan (attempt_at p) answer laws job fits_here stands_now);
       turn = λ number is. subst (DoesAsOffice plan) (sym made) (turn_does plan (attempt_at p) answer number laws job fits_here stands_now.place.comes is);
     }
 
 -- what becomes of a program that made steps by its walk
 pub record Ran (plan : Tables) (marker made : ℕ) (p new : Doing) (words after : List ℕ) : Type 0 where
   pub steps : LeadsTo (office plan) marker made (record { attempt = attempt_at p; words = words }) (record { attempt = attempt_at new; words = after })
-  pub stands : Stands plan (attempt_at new)
+  pub valid : IsValid plan (attempt_at new)
 
-pub ran : (plan : Tables) → IsLawful plan → (marker made : ℕ) (p new : Doing) (words after : List ℕ) (a : Attempt) → attempt_at p ≡ a → Stands plan a → LeadsTo (office plan) marker made (record { attempt = attempt_at p; words = words }) (record { attempt = attempt_at new; words = after }) → Ran plan marker made p new words after
-ran plan laws marker made p new words after a same stands leads =
+pub ran : (plan : Tables) → IsLawful plan → (marker made : ℕ) (p new : Doing) (words after : List ℕ) (a : Attempt) → attempt_at p ≡ a → IsValid plan a → LeadsTo (office plan) marker made (record { attempt = attempt_at p; words = words }) (record { attempt = attempt_at new; words = after }) → Ran plan marker made p new words after
+ran plan laws marker made p new words after a same valid leads =
     record {
       steps = leads;
-      stands = stands_led plan laws marker made (record { attempt = attempt_at p; words = words }) (record { attempt = attempt_at new; words = after }) leads (subst (Stands plan) (sym same) stands);
+      valid = stands_led plan laws marker made (record { attempt = attempt_at p; words = words }) (record { attempt = attempt_at new; words = after }) leads (subst (IsValid plan) (sym same) valid);
     }

@@ -35,7 +35,7 @@ pub data ComesTo (plan : Tables) (paths : List Path) (line : Line) (decision : D
   LetsGo : (leave : Leave) → path_of paths line ≡ Some leave.own → IsLeave plan paths leave → decision ≡ released leave → ComesTo plan paths line decision
 
 module _ (plan : Tables) (words : List ℕ) (paths : List Path) (laws : IsLawful plan) (shows : ShowsOffice plan words paths) where
-  -- the other party's path is found where the plan has another place beside the own one
+  -- the other party's path is found, if the plan has another place beside the own one
   other_runs : (place : Option TrunkPlace) → ((beside : TrunkPlace) → place ≡ Some beside → IsTrunkPlace beside) → run words (trace_other place) ≡ option_and_then (path_at paths) place
   unfolding run trace_other
   other_runs None range = refl

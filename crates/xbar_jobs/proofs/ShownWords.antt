@@ -40,7 +40,7 @@ module _ (plan : Tables) (laws : IsLawful plan) (paths : List Path) where
     at index high (Some member) is bit = absurd (omega (arith, (member-numbers plan laws number index member is).1))
 
   module _ (words : List ℕ) (shows : ShowsOffice plan words paths) where
-    -- nothing stands above the fields of a switch
+    -- no bit above the fields of a switch is set
     switch_below : (n : ℕ) → n < 400 → slice_index words n < 2 ^ 64
     switch_below n low = no_more-lt (shape_at n) (slice_index words n) (shows.switches.switch n low).above
 

@@ -39,7 +39,7 @@ close_all-elsewhere words (c ∷ cs) n other =
     close_all-elsewhere (close_at words c) cs n (λ d within. other d (inr within))
     ∙ get_or-set_other words c.word n _ 0 (other c (inl refl))
 
--- closing a path leaves the words behind the switches as they are
+-- closing a path leaves the words after the switches as they are
 pub close_path-behind : (words : List ℕ) (path : Path) (n : ℕ) → IsPath path → 400 ≤ n → get_or (close_path words path) n 0 ≡ get_or words n 0
 unfolding close_path
 close_path-behind words path n range behind =
@@ -86,12 +86,13 @@ module _ (plan : Tables) where
   unfolding perform_all close_path
   perform_all-path_closes words path = refl
 
-  -- and each of them is due where each goes to an open field
+  -- and each of them is due, if each closes an open field
   pub closes-due : (words : List ℕ) (cs : List Crosspoint) → EachCloses words cs → AreDue (office plan) words (map Close cs)
   closes-due words [] each = tt
   closes-due words (c ∷ cs) each = (each.0, closes-due (close_at words c) cs each.1)
 
-  -- effects by which the switches show a set of more paths, with all words behind them as they were
+  -- effects after which the switches show a set of more paths, and all words after the switches
+  -- are as they were
   pub record Adds (words : List ℕ) (effects : List Effect) (more : List Path) : Type 0 where
     pub switches : ShowsPaths (perform_all (office plan) words effects) more
     pub behind : (n : ℕ) → 400 ≤ n → get_or (perform_all (office plan) words effects) n 0 ≡ get_or words n 0
@@ -102,7 +103,7 @@ module _ (plan : Tables) where
   unfolding perform_all
   nothing_added words paths shows = record { switches = shows; behind = λ n above. refl; size = refl; due = tt }
 
-  -- a path that can stand is added by closing it
+  -- a path that may join the set is added by closing it
   one_added : (words : List ℕ) (paths : List Path) (path : Path) → 400 ≤ length words → ShowsPaths words paths → IsOrderlySet plan paths → CanStand plan paths path → Adds words (path_closes path) (with_path paths path)
   one_added words paths path long shows orderly can =
       let closed = sym (perform_all-path_closes words path) in
@@ -126,7 +127,7 @@ module _ (plan : Tables) where
         due = due-append words first others before.due after.due;
       }
 
-  -- such effects leave the groups' words as they were
+  -- these effects leave the groups' words as they were
   module _ (words : List ℕ) (paths more : List Path) (effects : List Effect) (long : 453 ≤ length words) (shows : ShowsOffice plan words paths) (added : Adds words effects more) where
     abbrev between : List ℕ
     between = perform_all (office plan) words effects
@@ -222,10 +223,10 @@ module _ (plan : Tables) where
     pub take_shows : ShowsOffice plan (perform_all (office plan) words (take_effects (record { group = group; index = index; paths = call }))) more
     take_shows = subst (λ (after : List ℕ). ShowsOffice plan after more) (sym taken_words) taken_shows
 
-    -- the bit was 0 when its turn came
+    -- the bit is 0 until it is set
     bit_was_clear : IsDue (SetBit group index) (slice_index closed (400 + group))
     bit_was_clear = group_before group group_range index ∙ ap (λ b. if b then 1 else 0) (idle_before plan paths group index call can)
 
-    -- and each of the effects is due when its turn comes
+    -- and each of the effects is due when it is made
     pub take_due : AreDue (office plan) words (take_effects (record { group = group; index = index; paths = call }))
     take_due = due-append words closes (SetBit group index ∷ []) call_added.due (bit_was_clear, tt)

@@ -29,7 +29,7 @@ junctors_run words frame channel (suc count) (suc n) below =
     ap (λ (found : List ℕ). slice_index found (suc n)) (junctors_first words frame channel count)
     ∙ junctors_run words frame (channel + 1) count n (omega arith) ∙ ap (λ (k : ℕ). word_of words (LineJunctor frame k)) later
 
--- so many words are as many after effects
+-- effects don't change the number of words
 pub length-junctors_after : (effects : List Effect) (frame channel : ℕ) (words : List ℕ) → length (junctors_after effects frame channel words) ≡ length words
 length-junctors_after effects frame channel [] = refl
 length-junctors_after effects frame channel (word ∷ words) = ap suc (length-junctors_after effects frame (channel + 1) words)

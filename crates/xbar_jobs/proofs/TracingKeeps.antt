@@ -17,7 +17,7 @@ use Rattle.xbar_switch.specs.Field.{field_of}
 use Rattle.xbar_switch.specs.Shape.{places}
 use Rattle.xbar_switch.specs.declared.shape.Shape.{Shape}
 use Rattle.xbar_switch.specs.declared.shape.Shape.TheVariants.{Line as LineShape, Other}
-use Rattle.xbar_match.specs.Traces.{field_at_place, place_at_field, place_told}
+use Rattle.xbar_match.specs.Traces.{field_at_place, place_at_field, place_of_value}
 use Rattle.xbar_plan.specs.Tables.{Tables}
 use Rattle.xbar_jobs.specs.Office.{office}
 use Rattle.xbar_jobs.specs.Tracing.{approach, channel_of, trace, trace_at, trace_back, trace_back_at, trace_back_by, trace_back_to, trace_by, trace_to}
@@ -42,7 +42,7 @@ place_below shape word v = of (field_of shape word v) where
   within place true is = ltb-true place (places shape) is
   within place false is = tt
 
-  of : (value : ℕ) → IfSome (place_told shape value) (λ place. place < places shape)
+  of : (value : ℕ) → IfSome (place_of_value shape value) (λ place. place < places shape)
   of zero = tt
   of (suc place) = within place (nat_lt place (places shape)) refl
 

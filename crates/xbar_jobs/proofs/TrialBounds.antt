@@ -67,7 +67,7 @@ second_trial_asks : (plan : Tables) (sides : Sides) (cards : List Card) (index :
 unfolding Asks second_trial_steps
 second_trial_asks plan sides cards index member = asks_end 2 1 1 (reach member) _ (reach_asks member) (λ trunk. tt)
 
--- where no member is listed it has none
+-- if there is no member of this index, it asks for nothing
 second_trial_at_asks : (plan : Tables) (sides : Sides) (trunks : Trunks) (cards : List Card) (index : ℕ) → Asks 2 1 1 (second_trial_at plan sides trunks cards index)
 unfolding Asks second_trial_at
 second_trial_at_asks plan sides trunks cards index = at (slice_get trunks.members index) where
@@ -119,7 +119,8 @@ try_asks plan aim parties (Some idle) =
     let trunks = trunks_of plan idle.group idle.word in
     asks_end 24 2 2 (two_trials_steps plan parties trunks idle.first) _ (two_trials_ask plan parties trunks idle.first) (λ trials. tt)
 
--- parties are connected by one of so many groups with a test and a seizing for each, and two trials
+-- parties are connected by one of `count` groups at most, with a test and a seizing for each, and
+-- two trials
 pub connect_asks : (plan : Tables) (aim : Aim) (parties : CallParties) (groups : List ℕ) (count : ℕ) → length groups ≤ count → Asks (count + 24) (count + 2) (count + 2) (connect plan aim parties groups)
 unfolding connect
 connect_asks plan aim parties groups count few =

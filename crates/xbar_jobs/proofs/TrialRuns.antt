@@ -83,15 +83,15 @@ module _ (plan : Tables) (words : List ℕ) (paths : List Path) (laws : IsLawful
   listed : (i : ℕ) (member : Member) → slice_get members i ≡ Some member → member_at plan group i ≡ Some member
   listed i member here = at_group i member (slice_get plan.groups group) here
 
-  -- the bits of a group's word tell which of its members are idle
+  -- the bits of a group's word show which of its members are idle
   pub bits_tell : (i : ℕ) → i < length members → is_bit_clear trunks.word i ≡ is_idle_at paths members i
   bits_tell i below = at (slice_get members i) refl where
     at : (o : Option Member) → slice_get members i ≡ o → is_bit_clear trunks.word i ≡ option_map_or (is_member_idle paths) o false
     at None here = absurd (there_is members i below here)
     at (Some member) here =
-        let stands = listed i member here in
-        let busy : is_busy_at plan paths group i ≡ not (is_member_idle paths member) = ap (λ (o : Option Member). option_map_or (λ m. not (is_member_idle paths m)) o false) stands in
-        ap (λ (bit : ℕ). bit == 0) (shows.groups group (member-numbers plan laws group i member stands).0 i)
+        let valid = listed i member here in
+        let busy : is_busy_at plan paths group i ≡ not (is_member_idle paths member) = ap (λ (o : Option Member). option_map_or (λ m. not (is_member_idle paths m)) o false) valid in
+        ap (λ (bit : ℕ). bit == 0) (shows.groups group (member-numbers plan laws group i member valid).0 i)
         ∙ bit_of (is_busy_at plan paths group i) ∙ ap not busy ∙ not-not (is_member_idle paths member)
 
   next_runs : (first : ℕ) → next_clear trunks first ≡ next_idle paths members first
@@ -107,10 +107,10 @@ module _ (plan : Tables) (words : List ℕ) (paths : List Path) (laws : IsLawful
     -- a trial's end by the words is its end on the set
     end_runs : (start i : ℕ) (member : Member) → slice_get members i ≡ Some member → trial_end plan sides start (trunk_of words member) ≡ trial plan paths start lines member
     end_runs start i member here =
-        let stands = listed i member here in
+        let valid = listed i member here in
         ap (end_of plan)
-        (joined plan words paths (omega (arith, size)) shows.switches shows.lawful.orderly.ranges parties tested member (place_at-range plan laws group i member member.first stands (inl refl))
-        (λ second paired. place_at-range plan laws group i member second stands (second-has member second paired)) start)
+        (joined plan words paths (omega (arith, size)) shows.switches shows.lawful.orderly.ranges parties tested member (place_at-range plan laws group i member member.first valid (inl refl))
+        (λ second paired. place_at-range plan laws group i member second valid (second-has member second paired)) start)
 
     second_trial_runs : (cards : List Card) (next : ℕ) → run words (second_trial_at plan sides trunks cards next) ≡ second_decides cards next (trial_at plan paths 5 lines members next)
     unfolding run second_trial_at second_trial_steps

@@ -3,19 +3,19 @@ use Rattle.std.proofs.Common.{◌≡◌, ℕ, ◌+◌, ◌<◌, ◌≤◌, List,
 use Rattle.std.specs.Prelude.{Option, Some, None, Ok, Err, ⊤}
 use Rattle.std.proofs.lemmas.List.{at_drop_all, at_drop_more}
 use Rattle.turns.specs.Script.{◌>>=◌, seize}
-use Rattle.attempts.proofs.LiveWalks.{live_end}
+use Rattle.attempts.proofs.WalksOnWords.{live_end}
 use Rattle.xbar_equip.specs.Conn.{conn_eq}
 use Rattle.xbar_equip.specs.Word.{GroupWord}
 use Rattle.xbar_equip.specs.declared.conn.Conn.TheVariants.{Group}
 use Rattle.xbar_plan.specs.Tables.{Tables}
 use Rattle.xbar_jobs.specs.Closing.{value_after}
-use Rattle.xbar_jobs.specs.Script.{Course, Script, Wanted, conn_word, live, test}
+use Rattle.xbar_jobs.specs.Script.{WalkState, Script, Wanted, conn_word, walk_on_words, test}
 use Rattle.xbar_jobs.specs.Trunks.{find_trunk, first_clear, idle_or, trunks_of}
 use Rattle.xbar_jobs.specs.declared.effect.Effect.{Effect}
 use Rattle.xbar_jobs.specs.declared.trunks.IdleGroup.{IdleGroup}
-use Rattle.xbar_jobs.proofs.Lives.{comes, goes_on, stops}
+use Rattle.xbar_jobs.proofs.WalksOnWords.{comes, goes_on, stops}
 
-module _ (plan : Tables) (made : List Effect) (groups : List ℕ) (at : ℕ) (below : at < length groups) (course : Course) (words : List ℕ) where
+module _ (plan : Tables) (made : List Effect) (groups : List ℕ) (at : ℕ) (below : at < length groups) (course : WalkState) (words : List ℕ) where
   abbrev group : ℕ
   group = slice_index groups at
 
@@ -25,39 +25,39 @@ module _ (plan : Tables) (made : List Effect) (groups : List ℕ) (at : ℕ) (be
   abbrev with_word : ℕ → Script (Option IdleGroup)
   with_word word = idle_or group word rest (first_clear (trunks_of plan group word))
 
-  turn : live made (find_trunk plan (drop at groups)) course words ≡ live made (seize (Group group) >>= λ _. test (GroupWord group) >>= with_word) course words
+  turn : walk_on_words made (find_trunk plan (drop at groups)) course words ≡ walk_on_words made (seize (Group group) >>= λ _. test (GroupWord group) >>= with_word) course words
   unfolding find_trunk
-  turn = at_drop_more (λ (left : List ℕ). live made (find_trunk plan left) course words) groups at 0 below
+  turn = at_drop_more (λ (left : List ℕ). walk_on_words made (find_trunk plan left) course words) groups at 0 below
 
   -- a group is seized first
-  pub seizing_stops : (wanted : Wanted) (more : Course) (after : List ℕ) → live made (seize (Group group)) course words ≡ comes (Err wanted) more after → live made (find_trunk plan (drop at groups)) course words ≡ comes (Err wanted) more after
+  pub seizing_stops : (wanted : Wanted) (more : WalkState) (after : List ℕ) → walk_on_words made (seize (Group group)) course words ≡ comes (Err wanted) more after → walk_on_words made (find_trunk plan (drop at groups)) course words ≡ comes (Err wanted) more after
   seizing_stops wanted more after is = turn ∙ stops made (seize (Group group)) _ course more words after wanted is
 
-  module _ (held : ⊤) (more : Course) (after : List ℕ) (own : live made (seize (Group group)) course words ≡ comes (Ok held) more after) where
-    seized : live made (find_trunk plan (drop at groups)) course words ≡ live made (test (GroupWord group) >>= with_word) more after
+  module _ (held : ⊤) (more : WalkState) (after : List ℕ) (own : walk_on_words made (seize (Group group)) course words ≡ comes (Ok held) more after) where
+    seized : walk_on_words made (find_trunk plan (drop at groups)) course words ≡ walk_on_words made (test (GroupWord group) >>= with_word) more after
     seized = turn ∙ goes_on made (seize (Group group)) _ course more words after held own
 
     -- then its word is tested
-    pub testing_stops : (wanted : Wanted) (last : Course) (now : List ℕ) → live made (test (GroupWord group)) more after ≡ comes (Err wanted) last now → live made (find_trunk plan (drop at groups)) course words ≡ comes (Err wanted) last now
+    pub testing_stops : (wanted : Wanted) (last : WalkState) (now : List ℕ) → walk_on_words made (test (GroupWord group)) more after ≡ comes (Err wanted) last now → walk_on_words made (find_trunk plan (drop at groups)) course words ≡ comes (Err wanted) last now
     testing_stops wanted last now is = seized ∙ stops made (test (GroupWord group)) with_word more last after now wanted is
 
-    module _ (word : ℕ) (last : Course) (now : List ℕ) (read : live made (test (GroupWord group)) more after ≡ comes (Ok word) last now) (found : Option ℕ) (is : found ≡ first_clear (trunks_of plan group word)) where
-      tested : live made (find_trunk plan (drop at groups)) course words ≡ live made (idle_or group word rest found) last now
-      tested = seized ∙ goes_on made (test (GroupWord group)) with_word more last after now word read ∙ ap (λ (o : Option ℕ). live made (idle_or group word rest o) last now) (sym is)
+    module _ (word : ℕ) (last : WalkState) (now : List ℕ) (read : walk_on_words made (test (GroupWord group)) more after ≡ comes (Ok word) last now) (found : Option ℕ) (is : found ≡ first_clear (trunks_of plan group word)) where
+      tested : walk_on_words made (find_trunk plan (drop at groups)) course words ≡ walk_on_words made (idle_or group word rest found) last now
+      tested = seized ∙ goes_on made (test (GroupWord group)) with_word more last after now word read ∙ ap (λ (o : Option ℕ). walk_on_words made (idle_or group word rest o) last now) (sym is)
 
-      -- it is taken where it has an idle member
-      pub idle_taken : (first : ℕ) → found ≡ Some first → live made (find_trunk plan (drop at groups)) course words ≡ comes (Ok (Some (record { group = group; word = word; first = first }))) last now
+      -- it is taken if it has an idle member
+      pub idle_taken : (first : ℕ) → found ≡ Some first → walk_on_words made (find_trunk plan (drop at groups)) course words ≡ comes (Ok (Some (record { group = group; word = word; first = first }))) last now
       unfolding idle_or
-      idle_taken first has = tested ∙ ap (λ (o : Option ℕ). live made (idle_or group word rest o) last now) has ∙ live_end conn_eq conn_word 42 19 (value_after made) _ last now
+      idle_taken first has = tested ∙ ap (λ (o : Option ℕ). walk_on_words made (idle_or group word rest o) last now) has ∙ live_end conn_eq conn_word 42 19 (value_after made) _ last now
 
-      -- and passed over where it has none
-      pub busy_passed : found ≡ None → live made (find_trunk plan (drop at groups)) course words ≡ live made rest last now
+      -- and passed over if it has none
+      pub busy_passed : found ≡ None → walk_on_words made (find_trunk plan (drop at groups)) course words ≡ walk_on_words made rest last now
       unfolding idle_or
-      busy_passed none = tested ∙ ap (λ (o : Option ℕ). live made (idle_or group word rest o) last now) none
+      busy_passed none = tested ∙ ap (λ (o : Option ℕ). walk_on_words made (idle_or group word rest o) last now) none
 
 -- after the last group there is none
-pub none_tried : (plan : Tables) (made : List Effect) (groups : List ℕ) (at : ℕ) (course : Course) (words : List ℕ) → length groups ≤ at → live made (find_trunk plan (drop at groups)) course words ≡ comes (Ok None) course words
+pub none_tried : (plan : Tables) (made : List Effect) (groups : List ℕ) (at : ℕ) (course : WalkState) (words : List ℕ) → length groups ≤ at → walk_on_words made (find_trunk plan (drop at groups)) course words ≡ comes (Ok None) course words
 unfolding find_trunk
 none_tried plan made groups at course words past =
-    at_drop_all (λ (left : List ℕ). live made (find_trunk plan left) course words) groups at past
+    at_drop_all (λ (left : List ℕ). walk_on_words made (find_trunk plan left) course words) groups at past
     ∙ live_end conn_eq conn_word 42 19 (value_after made) None course words

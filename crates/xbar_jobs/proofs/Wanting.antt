@@ -1,4 +1,4 @@
--- a walk wants no word that was read, and no connector that is held
+-- a walk needs no word that was read, and no connector that is held
 use Rattle.std.proofs.Common.{◌≡◌, ℕ, Bool, true, false, List, [], ◌∷◌, inl, inr, refl, sym, ◌∙◌, ap}
 use Rattle.std.specs.Prelude.{Option, Some, None, Err}
 use Rattle.turns.specs.Among.{IsIn}
@@ -11,7 +11,7 @@ use Rattle.xbar_equip.proofs.PathTests.{conn_eq-itself}
 use Rattle.xbar_jobs.specs.Script.{Script, Seen}
 use Rattle.turns.specs.declared.wanted.Wanted.TheVariants.{Seize, Test}
 
--- the word that a walk wants was not read
+-- the word that a walk needs next was not read
 pub wants_unread : {A : Type 0} (seen : Seen) (word : ℕ) (script : Script A) → walk conn_eq seen script ≡ Err (Test word) → value_read seen.readings word ≡ None
 unfolding walk left left_of_test left_of_seizing first_wanted
 wants_unread {A} seen word (Ends found) wants = cc
@@ -30,7 +30,7 @@ held_has [] conn within = absurd within
 held_has (own ∷ held) conn (inl e) = rw (ap (conn_eq own) e ∙ conn_eq-itself own) refl
 held_has (own ∷ held) conn (inr later) = rw (held_has held conn later) (or_true (conn_eq own conn))
 
--- nor was the connector that it wants seized
+-- the connector that it needs next is not held
 wants_unheld : {A : Type 0} (seen : Seen) (conn : Conn) (script : Script A) → walk conn_eq seen script ≡ Err (Seize conn) → is_held conn_eq seen.held conn ≡ false
 unfolding walk left left_of_test left_of_seizing first_wanted
 wants_unheld {A} seen conn (Ends found) wants = cc

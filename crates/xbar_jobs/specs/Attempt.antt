@@ -1,6 +1,8 @@
 use Rattle.std.specs.Prelude.{ℕ, ◌-◌, ◌^◌}
 use Rattle.turns.specs.Attempt as generic
-use Rattle.turns.specs.Attempt.{Rest, Ask, Take, Leave, Free, Look, Turn, Make, begin_with}
+use Rattle.turns.specs.declared.act.Act as declared
+use Rattle.turns.specs.Attempt.{begin_with}
+use Rattle.turns.specs.declared.act.Act.TheVariants.{Finished, Request, Seize, Withdraw, Free, Test, Turn, Make}
 use Rattle.turns.specs.declared.phase.Phase as phases
 use Rattle.attempts.specs.Counting as counting
 use Rattle.xbar_equip.specs.Word.{GroupWord, word_number}
@@ -15,17 +17,19 @@ use Rattle.xbar_jobs.specs.declared.effect.Effect.TheVariants.{Close, Open, SetB
 use Rattle.xbar_jobs.specs.declared.step.Step.{Step}
 use Rattle.xbar_jobs.specs.declared.step.Step.TheVariants as step
 
--- an attempt at a job of the office, and what it does next
+-- an attempt at a job of the office
 abbrev pub Attempt : Type 0
 Attempt = generic.Attempt Conn Job Reply Effect
 
+-- what an attempt does next
 abbrev pub Act : Type 0
-Act = generic.Act Conn Effect
+Act = declared.Act Conn Effect
 
+-- how far an attempt is
 abbrev pub Phase : Type 0
 Phase = phases.Phase Conn ℕ
 
--- an attempt, and how many atomic steps it took so far
+-- an attempt with the number of atomic steps that it took so far
 abbrev pub Counted : Type 0
 Counted = counting.Counted Conn Job Reply Effect
 
@@ -33,15 +37,16 @@ Counted = counting.Counted Conn Job Reply Effect
 abbrev pub fresh : Job → Counted
 fresh job = record { attempt = begin_with (first_conn job) job; count = 0 }
 
--- one step more is counted, as far as 32 bits count
+-- the count after one step more, which stays at the largest number of 32 bits
 abbrev pub counted : ℕ → ℕ
 counted count = counting.counted count
 
--- an attempt that took so many steps to come to this; what begins anew counts from 0
+-- an attempt with this count of steps; one that begins anew counts from 0
 abbrev pub with_count : ℕ → Attempt → Counted
 with_count count a = counting.with_count count a
 
--- the step that makes an effect: the bits that a close sets, the mask of those that an open keeps
+-- the step that makes an effect, with the bits that a close sets, or the mask of those that an
+-- open keeps
 abbrev pub effect_step : Effect → Step
 effect_step (Close c) = step.Close c.word (close_bits_of (shape_at c.word) c.field (c.value - 1))
 effect_step (Open c) = step.Open c.word (open_mask_of (shape_at c.word) c.field)
@@ -51,12 +56,12 @@ effect_step (ClearBit number index) =
 
 -- the step that makes an act
 abbrev pub step_of : Act → Step
-step_of Rest = step.Finished
-step_of (Ask conn) = step.Request conn
-step_of (Take conn expected) = step.Seize conn expected
-step_of (Leave conn) = step.Withdraw conn
+step_of Finished = step.Finished
+step_of (Request conn) = step.Request conn
+step_of (Seize conn expected) = step.Seize conn expected
+step_of (Withdraw conn) = step.Withdraw conn
 step_of (Free conn) = step.Free conn
-step_of (Look word) = step.Test word
+step_of (Test word) = step.Test word
 step_of Turn = step.Turn
 step_of (Make effect) = effect_step effect
 

@@ -23,7 +23,7 @@ use Rattle.xbar_jobs.specs.declared.take.Take.{Take}
 use Rattle.xbar_jobs.specs.declared.effect.Effect.{Effect}
 use Rattle.xbar_jobs.specs.declared.effect.Effect.TheVariants.{Close, Open, SetBit, ClearBit}
 
--- decided: nothing is let go and nothing is taken
+-- the decision to let nothing go and take nothing
 abbrev pub refused : End → Decision
 refused end = record { reply = plain_reply end; leave = None; take = None }
 
@@ -31,7 +31,8 @@ refused end = record { reply = plain_reply end; leave = None; take = None }
 abbrev pub take_of : ℕ → Choice → Take
 take_of number choice = record { group = number; index = choice.index; paths = choice.paths }
 
--- decided: the member of a group and the paths that two trials came to, or none
+-- the decision after two trials: to take the member and the paths that they chose, if they chose
+-- any
 abbrev pub tried : Aim → ℕ → Trials → Decision
 tried aim number trials = record {
   reply = trials_reply aim trials;
@@ -39,7 +40,7 @@ tried aim number trials = record {
   take = option_map (take_of number) trials.choice;
 }
 
--- a member of the plan is let go, with the path that ends there and the other party's
+-- a member of the plan to let go, with the path that ends there and the other party's
 abbrev pub leave_of : Path → Option Path → MemberPlace → Leave
 leave_of own other found = record {
   group = found.group;
@@ -48,7 +49,7 @@ leave_of own other found = record {
   other = other;
 }
 
--- decided: a call is let go, and nothing is taken
+-- the decision to let a call go and take nothing
 abbrev pub released : Leave → Decision
 released leave = record {
   reply = plain_reply (Released leave.own leave.other);
@@ -56,35 +57,37 @@ released leave = record {
   take = None;
 }
 
--- decided so, after a register is let go
+-- the same decision, with a register to let go first
 abbrev pub leaving : Leave → Decision → Decision
 leaving leave decision = record decision { leave = Some leave }
 
--- a path's four crosspoints are closed in their order
+-- the closes of a path's four crosspoints, in their order
 abbrev pub path_closes : Path → List Effect
 path_closes path = map Close (crosspoints path)
 
--- the called path's too, if there is one
+-- the closes of the called path, if there is one
 abbrev pub called_closes : Option Path → List Effect
 called_closes None = []
 called_closes (Some path) = path_closes path
 
--- what is taken is closed: the calling path, the called path, and then the member's bit is set
+-- the effects of taking: the calling path is closed, the called path, and then the member's bit is
+-- set
 abbrev pub take_effects : Take → List Effect
 take_effects take =
     path_closes take.paths.calling ++ called_closes take.paths.called
     ++ SetBit take.group take.index ∷ []
 
--- a path's four crosspoints are opened in their order
+-- the opens of a path's four crosspoints, in their order
 abbrev pub path_opens : Path → List Effect
 path_opens path = map Open (crosspoints path)
 
--- the other party's too, if there is one
+-- the opens of the other party's path, if there is one
 abbrev pub other_opens : Option Path → List Effect
 other_opens None = []
 other_opens (Some path) = path_opens path
 
--- what is let go is opened: the own path, the other party's, and then the member's bit is cleared
+-- the effects of letting go: the own path is opened, the other party's, and then the member's bit
+-- is cleared
 abbrev pub leave_effects : Leave → List Effect
 leave_effects leave =
     path_opens leave.own ++ other_opens leave.other ++ ClearBit leave.group leave.index ∷ []
@@ -101,22 +104,23 @@ effect_word (Open c) = c.word
 effect_word (SetBit number index) = word_number (GroupWord number)
 effect_word (ClearBit number index) = word_number (GroupWord number)
 
--- the operation that makes it there
+-- the operation that makes an effect on its word
 abbrev pub operation_of : Effect → Operation
 operation_of (Close c) = Or (close_bits_of (shape_at c.word) c.field (c.value - 1))
 operation_of (Open c) = And (open_mask_of (shape_at c.word) c.field)
 operation_of (SetBit number index) = Or (2 ^ index)
 operation_of (ClearBit number index) = And (2 ^ 64 - 1 - 2 ^ index)
 
--- what an effect makes of the number that it finds in its word
+-- the value that an effect leaves in its word, by the value that it finds there
 abbrev pub effect_on : Effect → ℕ → ℕ
 effect_on effect word = applied (operation_of effect) word
 
--- what effects, one after another, make of the number in a word
+-- the value of a word after effects are made one after another
 abbrev pub value_after : List Effect → ℕ → ℕ → ℕ
 value_after effects word value = fold_effects effect_word effect_on effects word value
 
--- an effect is due on its word: what it closes is open there, what it opens is closed
+-- an effect is due on its word: the field that it closes is open and the one that it opens is
+-- closed, the bit that it sets is 0 and the one that it clears is 1
 abbrev pub IsDue : Effect → ℕ → Type 0
 IsDue (Close c) word = field_of (shape_at c.word) word c.field ≡ 0
 IsDue (Open c) word = field_of (shape_at c.word) word c.field ≡ c.value

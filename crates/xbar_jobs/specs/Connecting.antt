@@ -14,16 +14,16 @@ use Rattle.xbar_jobs.specs.declared.party.CallParties.{CallParties}
 use Rattle.xbar_jobs.specs.declared.party.Party.{Party}
 use Rattle.xbar_jobs.specs.declared.trunks.IdleGroup.{IdleGroup}
 
--- a party that no other is called by
+-- the calling party alone, without a called one
 abbrev pub alone : Party → CallParties
 alone calling = record { calling = calling; called = None }
 
--- the end where no group has an idle member
+-- the end of a job for which no group has an idle member
 abbrev pub busy_end : Aim → End
 busy_end DialTone = RegistersBusy
 busy_end Connected = TrunksBusy
 
--- where a member is idle, two trials are made from the first idle one of its group on
+-- if a group has an idle member, two trials are made, the first on that member
 unfoldable pub try_trunk : Tables → Aim → CallParties → Option IdleGroup → Script Decision
 try_trunk plan aim parties None = Ends (refused (busy_end aim))
 try_trunk plan aim parties (Some idle) = do

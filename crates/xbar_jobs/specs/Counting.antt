@@ -10,7 +10,7 @@ use Rattle.xbar_jobs.specs.Office.{office}
 abbrev pub after_answer : Tables → Counted → Answer → Counted
 after_answer plan p answer = counting.after_answer (office plan) p answer
 
--- and after answers one after another, each to the step that is next then
+-- an attempt and its count after several answers, each to the step that is next then
 abbrev pub after_answers : Tables → Counted → List Answer → Counted
 after_answers plan p answers = counting.after_answers (office plan) p answers
 

@@ -19,7 +19,7 @@ use Rattle.xbar_jobs.specs.declared.party.Party.{Party}
 use Rattle.xbar_jobs.specs.declared.way.Way.{Way}
 use Rattle.xbar_jobs.specs.declared.way.Way.TheVariants.{Begun, Approached, Traced}
 
--- a line that has a path is busy; another gets a register
+-- a line that has a path is busy; any other is joined to a register
 unfoldable pub serve_idle_line : Tables → Party → Option ℕ → Script Decision
 serve_idle_line plan calling (Some channel) = Ends (refused LineBusy)
 serve_idle_line plan calling None = connect plan DialTone (alone calling) (register_group plan ∷ [])
@@ -40,14 +40,14 @@ job_line (Release line) = line
 abbrev pub first_conn : Job → Conn
 first_conn job = Llf (job_line job).frame
 
--- what a marker does of a job until it can decide
+-- what a marker does for a job until it can decide
 unfoldable pub script : Tables → Job → Script Decision
 script plan (Dial line) = dial_steps plan line
 script plan (Complete line dialled) = complete_steps plan line dialled
 script plan (Release line) = release_steps plan line
 
--- from here on a job tests line junctor switches in their rows alone: a dial tone job always, a
--- completing one once its own path was traced
+-- from this resume point on, a job tests line junctor switches only in whole rows: a dial tone job
+-- always, a completing one once the line's own path was traced
 abbrev pub TestsRows : Job → Way → Type 0
 TestsRows (Dial line) way = ⊤
 TestsRows (Complete line dialled) Begun = ⊥

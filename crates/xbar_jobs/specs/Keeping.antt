@@ -14,14 +14,15 @@ use Rattle.xbar_jobs.specs.declared.decision.Decision.{Decision}
 use Rattle.xbar_jobs.specs.declared.effect.Effect.{Effect}
 use Rattle.xbar_jobs.specs.declared.effect.Effect.TheVariants.{Close, Open, SetBit, ClearBit}
 
--- an effect on a crosspoint of the office, or on the bit of one of forty
--- members of one of sixteen groups
+-- an effect of the office: on one of its crosspoints, or on the bit of one of forty members of one
+-- of sixteen groups
 abbrev pub IsEffect : Effect → Type 0
 IsEffect (Close c) = IsCrosspoint c
 IsEffect (Open c) = IsCrosspoint c
 IsEffect (SetBit number index) = (number < 16) × (index < 40)
 IsEffect (ClearBit number index) = (number < 16) × (index < 40)
 
+-- all of these are effects of the office
 abbrev pub AreEffects : List Effect → Type 0
 AreEffects effects = (effect : Effect) → IsIn effect effects → IsEffect effect
 
@@ -30,7 +31,7 @@ pub record IsCovered (plan : Tables) (held : List Conn) (decision : Decision) : 
   pub effects : AreEffects (effects_of decision)
   pub under : AreUnder (office plan) held (effects_of decision)
 
--- what is wanted is there
+-- what a walk needs next is a connector or a word of the office
 abbrev pub IsWanted : Wanted → Type 0
 IsWanted (Seize conn) = IsConn conn
 IsWanted (Test word) = word < word_count

@@ -26,7 +26,7 @@ abbrev pub is_busy_at : Tables → List Path → ℕ → ℕ → Bool
 is_busy_at plan paths number index =
     option_map_or (λ member. not (is_member_idle paths member)) (member_at plan number index) false
 
--- a group's word has a bit for each member that is not idle, and no other bit
+-- a group's word has a bit set for each member that is not idle, and no other bit
 abbrev pub GroupShows : Tables → List Path → ℕ → ℕ → Type 0
 GroupShows plan paths number word =
     (index : ℕ) → bit_at word index ≡ (if is_busy_at plan paths number index then 1 else 0)
@@ -39,14 +39,14 @@ pub record ShowsOffice (plan : Tables) (words : List ℕ) (paths : List Path) : 
   pub groups : (number : ℕ) → number < 16
       → GroupShows plan paths number (word_of words (GroupWord number))
 
--- a connector protects the number of a word
+-- the connector protects the word of this number
 pub record Protects (conn : Conn) (number : ℕ) : Type 0 where
   pub word : Word
   pub there : IsWord word
   pub named : word_number word ≡ number
   pub protects : protector word ≡ Some conn
 
--- the office under a plan: its jobs one after another and step by step, and its words
+-- the office under a plan: its jobs whole and step by step, and its words
 abbrev pub office_over : Tables → SystemOver Conn Job Reply Effect
 office_over plan = record {
   IsJob = IsJob;
@@ -75,5 +75,6 @@ office_over plan = record {
   Shows = ShowsOffice plan;
 }
 
+-- the office under a plan, as a system of jobs over shared words
 abbrev pub office : Tables → System
 office plan = system_of (office_over plan)

@@ -1,9 +1,9 @@
 use Rattle.std.specs.Prelude.{ℕ, ◌-◌, ◌^◌, ◌==◌, List, bit_or, slice_index, slice_set, if◌then◌else◌}
-use Rattle.turns.specs.Attempt.{unless_put_off}
+use Rattle.turns.specs.Attempt.{unless_denied}
 use Rattle.turns.specs.Operations.{applied}
-use Rattle.turns.specs.Sharings.{judged, request_bit, taken_by}
+use Rattle.turns.specs.Sharings.{judged, request_bit, seized_by}
 use Rattle.turns.specs.declared.answer.Answer.{Answer}
-use Rattle.turns.specs.declared.answer.Answer.TheVariants.{Asked, Seized, Again, Value, Turn as TurnNumber, Done}
+use Rattle.turns.specs.declared.answer.Answer.TheVariants.{Requested, Seized, Changed, Value, Turn as TurnNumber, Done}
 use Rattle.xbar_equip.specs.Word.{ConnWord, TurnWord, word_number}
 use Rattle.turns.specs.declared.operation.Operation.{Operation}
 use Rattle.turns.specs.declared.operation.Operation.TheVariants.{Load, Or, And, Add, CompareExchange}
@@ -25,7 +25,7 @@ step_word Finished = word_number TurnWord
 -- the atomic operation that makes a marker's step on its word
 abbrev pub operation : ℕ → Step → Operation
 operation marker (Request conn) = Or (request_bit marker)
-operation marker (Seize conn expected) = CompareExchange expected (taken_by marker expected)
+operation marker (Seize conn expected) = CompareExchange expected (seized_by marker expected)
 operation marker (Withdraw conn) = And (2 ^ 64 - 1 - request_bit marker)
 operation marker (Test word) = Load
 operation marker Turn = Add 1
@@ -34,13 +34,13 @@ operation marker (Open word mask) = And mask
 operation marker (Free conn) = And (2 ^ 64 - 1 - 63)
 operation marker Finished = Load
 
--- what the marker is told of a step that found this number
+-- the answer to the marker's step, which found this value in its word
 abbrev pub step_answer : ℕ → Step → ℕ → Answer
 step_answer marker (Request conn) found =
-    unless_put_off (Asked (bit_or found (request_bit marker)))
+    unless_denied (Requested (bit_or found (request_bit marker)))
     (judged marker (bit_or found (request_bit marker)))
 step_answer marker (Seize conn expected) found =
-    if found == expected then Seized else unless_put_off (Again found) (judged marker found)
+    if found == expected then Seized else unless_denied (Changed found) (judged marker found)
 step_answer marker (Withdraw conn) found = Done
 step_answer marker (Test word) found = Value found
 step_answer marker Turn found = TurnNumber found
@@ -55,6 +55,6 @@ words_after marker step words =
     slice_set words (step_word step)
     (applied (operation marker step) (slice_index words (step_word step)))
 
--- what the marker is told of it
+-- the answer to the marker's step on these words
 abbrev pub answer_of : ℕ → Step → List ℕ → Answer
 answer_of marker step words = step_answer marker step (slice_index words (step_word step))

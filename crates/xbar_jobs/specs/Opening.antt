@@ -14,20 +14,20 @@ use Rattle.xbar_jobs.specs.Closing.{leave_effects, leave_of}
 use Rattle.xbar_jobs.specs.Office.{office}
 use Rattle.xbar_jobs.specs.declared.effect.Effect.{Effect}
 
--- the crosspoints of a call: those of a party's own path, and those of the
--- other party's, if there is one
+-- the crosspoints of a call: those of a party's own path, and those of the other party's, if there
+-- is one
 abbrev pub call_crosspoints : Path → Option Path → List Crosspoint
 call_crosspoints own other = crosspoints own ++ option_map_or crosspoints other []
 
--- the field is of one of these crosspoints
+-- field `v` of word `n` is that of one of these crosspoints
 pub record IsFieldOf (cs : List Crosspoint) (n v : ℕ) : Type 0 where
   pub c : Crosspoint
   pub within : IsIn c cs
   pub word : c.word ≡ n
   pub field : c.field ≡ v
 
--- some words differ from others just by these crosspoints, which are closed in the first and open
--- in the others, and by a member's bit, which was 1 and is 0
+-- the words after differ from the words before only in these crosspoints, which are closed before
+-- and open after, and in a member's bit, which is 1 before and 0 after
 pub record OpensJust (cs : List Crosspoint) (number index : ℕ) (words after : List ℕ) : Type 0 where
   pub closed : (c : Crosspoint) → IsIn c cs → held_at words c.word c.field ≡ c.value
   pub opened : (c : Crosspoint) → IsIn c cs → held_at after c.word c.field ≡ 0
@@ -40,8 +40,8 @@ pub record OpensJust (cs : List Crosspoint) (number index : ℕ) (words after : 
       ≡ bit_at (word_of words (GroupWord group)) member
   pub behind : (n : ℕ) → 416 ≤ n → slice_index after n ≡ slice_index words n
 
--- effects on some words are those of a release: they open the crosspoints of a call, each of which
--- is closed when its turn comes, clear the bit of the call's member, and change nothing else
+-- the effects on these words are those of a release: they open the crosspoints of a call, each of
+-- which is closed until then, clear the bit of the call's member, and change nothing else
 pub record ReleasesJust (plan : Tables) (own : Path) (other : Option Path) (words : List ℕ)
     (effects : List Effect) : Type 0 where
   pub found : MemberPlace

@@ -16,7 +16,7 @@ use Rattle.xbar_jobs.specs.declared.party.Party.{Party}
 use Rattle.xbar_jobs.specs.declared.trunk.Reached.{Reached}
 use Rattle.xbar_jobs.specs.declared.trunk.Trunk.{Trunk}
 
--- one side of a call: the party, with what the ten line junctor switches of its frame were
+-- one side of a call: the party, and the words of its frame's ten line junctor switches
 pub record Side : Type 0 where
   pub party : Party
   pub junctors : List ℕ
@@ -34,7 +34,7 @@ test_junctors frame channel (suc count) = do
   words ← test_junctors frame (channel + 1) count
   Ends (word ∷ words)
 
--- this line junctor switch is tested next after that one, in the order of a frame's ten
+-- the second word is the line junctor switch that follows the first, in the order of a frame's ten
 pub record IsNextJunctor (number next : ℕ) : Type 0 where
   pub frame : ℕ
   pub channel : ℕ
@@ -43,37 +43,42 @@ pub record IsNextJunctor (number next : ℕ) : Type 0 where
   pub this : number ≡ word_number (LineJunctor frame channel)
   pub that : next ≡ word_number (LineJunctor frame (channel + 1))
 
+-- test the line junctor switches of a party's frame
 unfoldable pub test_side : Party → Script Side
 test_side party = do
   junctors ← test_junctors party.line.frame 0 10
   Ends (record { party = party; junctors = junctors })
 
+-- test the called side, if there is a called party
 unfoldable pub test_called : Option Party → Script (Option Side)
 test_called None = Ends None
 test_called (Some party) = do
   side ← test_side party
   Ends (Some side)
 
--- test the line junctor switches of the calling party's frame, and of the called one's
+-- test the line junctor switches of the calling party's frame, and of the called one's, if there
+-- is one
 unfoldable pub test_sides : CallParties → Script Sides
 test_sides parties = do
   calling ← test_side parties.calling
   called ← test_called parties.called
   Ends (record { calling = calling; called = called })
 
+-- test the trunk switch of a place
 unfoldable pub test_place : TrunkPlace → Script Reached
 test_place place = do
   word ← test (TrunkSwitch place.frame place.switch)
   Ends (record { place = place; word = word })
 
+-- test the trunk switch of the second place, if there is one
 unfoldable pub test_second : Option TrunkPlace → Script (Option Reached)
 test_second None = Ends None
 test_second (Some place) = do
   reached ← test_place place
   Ends (Some reached)
 
--- reach a member: seize its trunk link frame, and test the trunk switch of its place, or of
--- its first and its second one
+-- reach a member: seize its trunk link frame, and test the trunk switch of its place, or of both
+-- its places
 unfoldable pub reach : Member → Script Trunk
 reach member = do
   seize (Tlf member.first.frame)
@@ -81,14 +86,15 @@ reach member = do
   second ← test_second member.second
   Ends (record { first = first; second = second })
 
--- the path from a side's line to a place by the first channel whose three fields are open
+-- the path from a side's line to a place by the first channel, from `start` on, whose three fields
+-- are open
 abbrev pub open_path : Side → ℕ → Reached → Option Path
 open_path side start reached =
     option_map (path_by side.party.line reached.place)
     (first_open_channel (match_words side.party.word side.junctors reached.word)
     reached.place.frame start)
 
--- a party's word as effects will leave it
+-- a party with its word as effects will leave it
 abbrev pub party_after : List Effect → Party → Party
 party_after effects party = record {
   line = party.line;
@@ -96,19 +102,21 @@ party_after effects party = record {
       party.word;
 }
 
--- the same of line junctor switches, from a channel on
+-- the words of line junctor switches, from a channel on, as effects will leave them
 abbrev pub junctors_after : List Effect → ℕ → ℕ → List ℕ → List ℕ
 junctors_after effects frame channel [] = []
 junctors_after effects frame channel (word ∷ words) =
     value_after effects (word_number (LineJunctor frame channel)) word
     ∷ junctors_after effects frame (channel + 1) words
 
+-- a side with its words as effects will leave them
 abbrev pub side_after : List Effect → Side → Side
 side_after effects side = record {
   party = party_after effects side.party;
   junctors = junctors_after effects side.party.line.frame 0 side.junctors;
 }
 
+-- a trunk place with its word as effects will leave it
 abbrev pub reached_after : List Effect → Reached → Reached
 reached_after effects reached = record {
   place = reached.place;
@@ -116,8 +124,8 @@ reached_after effects reached = record {
       reached.word;
 }
 
--- the called side is joined to the second place as the words will be once the calling path is
--- closed, with the same start
+-- the called side is joined to the second place, with the same start, on the words as they will be
+-- once the calling path is closed
 abbrev pub join_called : Option Side → ℕ → Option Reached → Path → Option CallPaths
 join_called (Some side) start (Some reached) calling =
     option_map (λ called. record { calling = calling; called = Some called })
@@ -126,7 +134,7 @@ join_called (Some side) start (Some reached) calling =
 join_called (Some side) start None calling = Some (record { calling = calling; called = None })
 join_called None start reached calling = Some (record { calling = calling; called = None })
 
--- the paths that join the sides to a member, where each of them finds a channel
+-- the paths that join the sides to a member, if each side finds a channel
 abbrev pub join : Sides → ℕ → Trunk → Option CallPaths
 join sides start trunk =
     option_and_then (join_called sides.called start trunk.second)

@@ -20,7 +20,7 @@ approach line = do
   word ← test (LineSwitch line.frame line.switch)
   Ends (record { line = line; word = word })
 
--- the channel of the path that a line has
+-- the channel of the path that a party's line has, if it has one
 abbrev pub channel_of : Party → Option ℕ
 channel_of party = field_at_place LineShape party.word party.line.x
 
@@ -34,7 +34,7 @@ trace_at line channel frame (Some switch) = do
       path_by line (record { frame = frame; switch = switch; appearance = appearance }) channel)
       (place_at_field Other word channel))
 
--- once channel and trunk link frame are known
+-- a line's path, once channel and trunk link frame are known
 unfoldable pub trace_to : Line → ℕ → Option ℕ → Script (Option Path)
 trace_to line channel None = Ends None
 trace_to line channel (Some frame) = do
@@ -42,14 +42,14 @@ trace_to line channel (Some frame) = do
   word ← test (TrunkJunctor frame channel)
   trace_at line channel frame (place_at_field Other word line.frame)
 
--- once the channel is known
+-- a line's path, once the channel is known
 unfoldable pub trace_by : Line → Option ℕ → Script (Option Path)
 trace_by line None = Ends None
 trace_by line (Some channel) = do
   word ← test (LineJunctor line.frame channel)
   trace_to line channel (field_at_place Other word line.switch)
 
--- trace a line's path from switch to switch; none where it breaks off
+-- trace a line's path from switch to switch; a path that breaks off counts as none
 unfoldable pub trace : Party → Script (Option Path)
 trace party = trace_by party.line (channel_of party)
 
@@ -59,11 +59,12 @@ pub record HasTraced (line : Line) (calling : Party) (own : Option Path) (seen :
   pub approached : walk seen (approach line) ≡ Ok calling
   pub traced : walk seen (trace calling) ≡ Ok own
 
--- what walks know by how far those before them have come
-abbrev pub Knows : Line → Way → Seen → Type 0
-Knows line Begun seen = ⊤
-Knows line (Approached calling) seen = walk seen (approach line) ≡ Ok calling
-Knows line (Traced calling own) seen = HasTraced line calling own seen
+-- a resume point is valid: what it says of the line and its path is what a walk finds in what was
+-- seen
+abbrev pub ResumePointIsValid : Line → Way → Seen → Type 0
+ResumePointIsValid line Begun seen = ⊤
+ResumePointIsValid line (Approached calling) seen = walk seen (approach line) ≡ Ok calling
+ResumePointIsValid line (Traced calling own) seen = HasTraced line calling own seen
 
 -- a trunk place's path, once channel, line link frame and line switch are known
 unfoldable pub trace_back_at : TrunkPlace → ℕ → ℕ → Option ℕ → Script (Option Path)
@@ -74,7 +75,7 @@ trace_back_at place channel frame (Some switch) = do
       (λ x. path_by (record { frame = frame; switch = switch; x = x }) place channel)
       (place_at_field LineShape word channel))
 
--- once channel and line link frame are known
+-- a trunk place's path, once channel and line link frame are known
 unfoldable pub trace_back_to : TrunkPlace → ℕ → Option ℕ → Script (Option Path)
 trace_back_to place channel None = Ends None
 trace_back_to place channel (Some frame) = do
@@ -82,7 +83,7 @@ trace_back_to place channel (Some frame) = do
   word ← test (LineJunctor frame channel)
   trace_back_at place channel frame (place_at_field Other word place.frame)
 
--- once the channel is known
+-- a trunk place's path, once the channel is known
 unfoldable pub trace_back_by : TrunkPlace → Option ℕ → Script (Option Path)
 trace_back_by place None = Ends None
 trace_back_by place (Some channel) = do

@@ -16,30 +16,30 @@ use Rattle.xbar_jobs.specs.Trunks.{Trunks, is_bit_clear}
 use Rattle.xbar_jobs.specs.declared.party.CallParties.{CallParties}
 use Rattle.xbar_jobs.specs.declared.trunk.Trunk.{Trunk}
 
--- how a trial on a member ends, by what its trunk switches and the
--- parties' line junctor switches were
+-- how a trial on a member ends, by the words of its trunk switches and of the parties' line
+-- junctor switches
 abbrev pub trial_end : Tables → Sides → ℕ → Trunk → TrialEnd
 trial_end plan sides start trunk = end_of plan (join sides start trunk)
 
--- the second trial reaches its member, starts at channel 5, and decides; the line junctor
--- switches are not tested again
+-- the second trial reaches its member, starts at channel 5, and decides; the line junctor switches
+-- are not tested again
 unfoldable pub second_trial_steps : Tables → Sides → List Card → ℕ → Member → Script Trials
 second_trial_steps plan sides cards index member = do
   trunk ← reach member
   Ends (second_decides cards index (trial_end plan sides 5 trunk))
 
--- a second trial on the member of this number
+-- the second trial on the member of this index
 unfoldable pub second_trial_at : Tables → Sides → Trunks → List Card → ℕ → Script Trials
 second_trial_at plan sides trunks cards index =
     option_map_or (second_trial_steps plan sides cards index) (slice_get trunks.members index)
     (Ends (second_decides cards index NoChannel))
 
--- the idle member that follows one next, by the group's word
+-- the next idle member after this one, by the group's word, or this one again if none follows
 abbrev pub next_clear : Trunks → ℕ → ℕ
 next_clear trunks index = next_below (is_bit_clear trunks.word) (length trunks.members) index
 
--- after the first trial: the second one is made where the first one failed, with what the first one
--- found in the line junctor switches
+-- after the first trial: if it failed, a second one is made on the line junctor switches that the
+-- first one has read
 unfoldable pub after_first_trial : Tables → Sides → Trunks → ℕ → TrialEnd → Script Trials
 after_first_trial plan sides trunks first (Chosen call) =
     Ends (first_decides first (Chosen call) first NoChannel)
@@ -48,15 +48,15 @@ after_first_trial plan sides trunks first (Faulty link) =
 after_first_trial plan sides trunks first NoChannel =
     second_trial_at plan sides trunks [] (next_clear trunks first)
 
--- the first trial reaches its member, tests the line junctor switches of the parties'
--- frames, and starts at channel 0
+-- the first trial reaches its member, tests the line junctor switches of the parties' frames, and
+-- starts at channel 0
 unfoldable pub first_trial_steps : Tables → CallParties → Trunks → ℕ → Member → Script Trials
 first_trial_steps plan parties trunks first member = do
   trunk ← reach member
   sides ← test_sides parties
   after_first_trial plan sides trunks first (trial_end plan sides 0 trunk)
 
--- two trials on a group's members, from one that is idle on
+-- up to two trials on a group's members: on this one, which is idle, and on the next idle one
 unfoldable pub two_trials_steps : Tables → CallParties → Trunks → ℕ → Script Trials
 two_trials_steps plan parties trunks first =
     option_map_or (first_trial_steps plan parties trunks first) (slice_get trunks.members first)

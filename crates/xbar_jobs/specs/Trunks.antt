@@ -10,15 +10,16 @@ use Rattle.turns.specs.Script.{Ends, ◌>>=◌, ◌>>◌, seize}
 use Rattle.xbar_jobs.specs.Script.{Script, test}
 use Rattle.xbar_jobs.specs.declared.trunks.IdleGroup.{IdleGroup}
 
--- a trunk group's members, with what the group's word was
+-- a trunk group's members, and the value of the group's word
 pub record Trunks : Type 0 where
   pub members : List Member
   pub word : ℕ
 
+-- the members of a group of the plan, with the value of the group's word
 abbrev pub trunks_of : Tables → ℕ → ℕ → Trunks
 trunks_of plan group word = record { members = members_of plan group; word = word }
 
--- a member is idle where its bit in the group's word is 0
+-- whether a member is idle: its bit in the group's word is 0
 abbrev pub is_bit_clear : ℕ → ℕ → Bool
 is_bit_clear word index = bit_at word index == 0
 
@@ -26,19 +27,19 @@ is_bit_clear word index = bit_at word index == 0
 abbrev pub first_clear : Trunks → Option ℕ
 first_clear trunks = first_below (is_bit_clear trunks.word) (length trunks.members)
 
--- its group and its first idle member are there
+-- the plan has this group, and the group has this member
 pub record IsOfPlan (plan : Tables) (idle : IdleGroup) : Type 0 where
   pub group : idle.group < length plan.groups
   pub first : idle.first < length (members_of plan idle.group)
 
--- a group that has an idle member is taken, and of one that has none the next ones are tried
+-- a group that has an idle member is taken; if it has none, the next groups are tried
 unfoldable pub idle_or : ℕ → ℕ → Script (Option IdleGroup) → Option ℕ → Script (Option IdleGroup)
 idle_or group word next None = next
 idle_or group word next (Some first) =
     Ends (Some (record { group = group; word = word; first = first }))
 
--- the first of some groups that has an idle member: each is seized and
--- its word tested, until one has
+-- the first of some groups that has an idle member: the groups are seized and their words tested
+-- in order, until one has
 unfoldable pub find_trunk : Tables → List ℕ → Script (Option IdleGroup)
 find_trunk plan [] = Ends None
 find_trunk plan (group ∷ groups) = do

@@ -7,6 +7,7 @@ use Rattle.xbar_equip.specs.declared.path.Path.{Path}
 use Rattle.xbar_plan.specs.Tables.{Tables}
 use Rattle.xbar_office.specs.Whole.{whole}
 use Rattle.turns.specs.Attempt as acts
+use Rattle.turns.specs.declared.act.Act.TheVariants as act_is
 use Rattle.xbar_jobs.specs.Attempt.{Act, Attempt}
 use Rattle.xbar_jobs.specs.Keeping.{IsEffect}
 use Rattle.xbar_jobs.specs.Office.{ShowsOffice, office}
@@ -14,8 +15,8 @@ use Rattle.xbar_jobs.specs.declared.step.Step.{Step}
 use Rattle.xbar_jobs.specs.declared.step.Step.TheVariants.{Request, Seize, Withdraw, Test, Turn, Close, Open, Free, Finished}
 
 -- on words that show these paths, the attempt does what the one-marker office does: its reply is
--- that office's, and the effects that it has left lead to words that show that office's paths; each
--- is due when its turn comes, on a word that is held
+-- that office's, and the effects that it has left lead to words that show that office's paths;
+-- each is due when it is made, on a word under a connector that is held
 pub record DoesAsWhole (plan : Tables) (words : List ℕ) (paths : List Path) (a : Attempt)
     : Type 0 where
   pub reply : a.reply ≡ Some (whole plan paths a.job).reply
@@ -24,13 +25,14 @@ pub record DoesAsWhole (plan : Tables) (words : List ℕ) (paths : List Path) (a
   pub due : AreDue (office plan) words a.effects
   pub under : AreUnder (office plan) a.held a.effects
 
--- whatever the words show, if they have what the attempt has read
+-- on any words that show a set of paths and agree with its readings, the attempt does what the
+-- one-marker office does
 abbrev pub DoesAsOffice : Tables → Attempt → Type 0
 DoesAsOffice plan a =
     (words : List ℕ) (paths : List Path) → length words ≡ word_count → ShowsOffice plan words paths
     → AreReadFrom words a.readings → DoesAsWhole plan words paths a
 
--- the connector of a step is one of the office's, and its word is one of the office's words
+-- a step's connector or word is one of the office's
 abbrev pub IsStep : Step → Type 0
 IsStep (Request conn) = IsConn conn
 IsStep (Seize conn expected) = IsConn conn
@@ -42,13 +44,13 @@ IsStep (Open word mask) = word < word_count
 IsStep (Free conn) = IsConn conn
 IsStep Finished = Unit {0}
 
--- and so is what an act is on
+-- an act's connector, word or effect is one of the office's
 abbrev pub IsAct : Act → Type 0
-IsAct acts.Rest = Unit {0}
-IsAct (acts.Ask conn) = IsConn conn
-IsAct (acts.Take conn expected) = IsConn conn
-IsAct (acts.Leave conn) = IsConn conn
-IsAct (acts.Free conn) = IsConn conn
-IsAct (acts.Look word) = word < word_count
-IsAct acts.Turn = Unit {0}
-IsAct (acts.Make effect) = IsEffect effect
+IsAct act_is.Finished = Unit {0}
+IsAct (act_is.Request conn) = IsConn conn
+IsAct (act_is.Seize conn expected) = IsConn conn
+IsAct (act_is.Withdraw conn) = IsConn conn
+IsAct (act_is.Free conn) = IsConn conn
+IsAct (act_is.Test word) = word < word_count
+IsAct act_is.Turn = Unit {0}
+IsAct (act_is.Make effect) = IsEffect effect

@@ -1,12 +1,12 @@
-//! A completing job, as far as an attempt has come with it.
+//! The walk of a completing job.
 
 ghost use Rattle.std.specs.Prelude.{◌≡◌, ◌<◌, IfSome, []};
 ghost use Rattle.xbar_office.specs.Trunks.{AreGroups};
 ghost use Rattle.xbar_plan.specs.Tables.{lines_of, route_of};
 ghost use Rattle.xbar_jobs.specs.Completing.{call as call_script, call_number as call_number_script, call_without as call_without_script, complete_steps, hunt as hunt_script, register_at as register_at_of};
 ghost use Rattle.xbar_jobs.specs.Keeping.{AreEffects};
-ghost use Rattle.xbar_jobs.specs.Script.{live};
-ghost use Rattle.xbar_jobs.specs.Tracing.{Knows};
+ghost use Rattle.xbar_jobs.specs.Script.{walk_on_words};
+ghost use Rattle.xbar_jobs.specs.Tracing.{ResumePointIsValid};
 ghost use Rattle.xbar_equip.specs.Dialled.{code_of};
 
 use crate::connecting::connect;
@@ -23,9 +23,9 @@ use xbar_equip::{Conn, Dialled, DirNo, Len, Path};
 use xbar_office::{Aim, End, leads_inside};
 use xbar_plan::{MemberPlace, Plan};
 
-/// The first of a number's lines that isn't the calling one and is in no path: each is approached in turn,
-/// until one is.
-#[tactic(auto, using(attempts::proofs::LiveWalks::live_bind, attempts::proofs::LiveWalks::live_end), unfolding(crate::specs::Completing::hunt, crate::specs::Completing::unless_calling, crate::specs::Completing::unless_busy))]
+/// Finds the first idle line of a number that isn't the calling line. Approaches the lines in
+/// order until one is idle.
+#[tactic(auto, using(attempts::proofs::WalksOnWords::live_bind, attempts::proofs::WalksOnWords::live_end), unfolding(crate::specs::Completing::hunt, crate::specs::Completing::unless_calling, crate::specs::Completing::unless_busy))]
 fn hunt(
     seen: &mut Seen,
     words: &mut [u64],
@@ -35,7 +35,7 @@ fn hunt(
 ) -> Result<Option<Party>, Wanted>
     requires made { AreEffects made.now }
     ensures { record { found = result; course = seen.new; words = words.new }
-        ≡ live made.now (hunt_script calling lines.now) seen.old words.old }
+        ≡ walk_on_words made.now (hunt_script calling lines.now) seen.old words.old }
 {
     for line in lines {
         if *line == calling {
@@ -49,8 +49,8 @@ fn hunt(
     Ok(None)
 }
 
-/// A call to a number of the office, by the lines that it has.
-#[tactic(auto, using(attempts::proofs::LiveWalks::live_bind, attempts::proofs::LiveWalks::live_end), unfolding(crate::specs::Completing::call_number, crate::specs::Completing::call_line))]
+/// Decides a call to a number of the office.
+#[tactic(auto, using(attempts::proofs::WalksOnWords::live_bind, attempts::proofs::WalksOnWords::live_end), unfolding(crate::specs::Completing::call_number, crate::specs::Completing::call_line))]
 fn call_number(
     plan: &Plan,
     seen: &mut Seen,
@@ -63,7 +63,7 @@ fn call_number(
     requires made { AreEffects made.now }
     requires groups { AreGroups plan.now groups.now }
     ensures { record { found = result; course = seen.new; words = words.new }
-        ≡ live made.now
+        ≡ walk_on_words made.now
         (call_number_script plan.now calling.now groups.now (lines_of plan.now number))
         seen.old words.old }
 {
@@ -80,8 +80,9 @@ fn call_number(
     connect(plan, seen, words, made, Aim::Connected, &parties, groups)
 }
 
-/// A call by the groups that the dialled code leads to: inside the office its number counts too.
-#[tactic(auto, using(attempts::proofs::LiveWalks::live_end), unfolding(crate::specs::Completing::call, crate::specs::Completing::call_by))]
+/// Decides a call by the trunk groups that its code leads to. Its number counts only if they lead
+/// inside the office.
+#[tactic(auto, using(attempts::proofs::WalksOnWords::live_end), unfolding(crate::specs::Completing::call, crate::specs::Completing::call_by))]
 fn call(
     plan: &Plan,
     seen: &mut Seen,
@@ -92,11 +93,11 @@ fn call(
 ) -> Result<Decision, Wanted>
     requires made { AreEffects made.now }
     ensures { record { found = result; course = seen.new; words = words.new }
-        ≡ live made.now
+        ≡ walk_on_words made.now
         (call_script plan.now calling.now dialled (route_of plan.now (code_of dialled)))
         seen.old words.old }
 {
-    // Called for its clauses alone.
+    // Called only for its contract.
     xbar_plan::laws::codes_lead_to_trunks();
     let Some(groups) = plan.route(dialled.code()) else {
         return Ok(Decision::refused(End::VacantCode));
@@ -109,9 +110,9 @@ fn call(
     }
 }
 
-/// A call whose register is let go: the register's group is seized, and the call is decided on the words as
-/// they will be once that is done.
-#[tactic(auto, using(attempts::proofs::LiveWalks::live_bind, attempts::proofs::LiveWalks::live_end), unfolding(crate::specs::Completing::call_without))]
+/// Seizes the register's group, and decides the call on the words as they will be once the
+/// register is let go.
+#[tactic(auto, using(attempts::proofs::WalksOnWords::live_bind, attempts::proofs::WalksOnWords::live_end), unfolding(crate::specs::Completing::call_without))]
 fn call_without(
     plan: &Plan,
     seen: &mut Seen,
@@ -123,7 +124,8 @@ fn call_without(
     requires group { leave.group < 16 }
     requires index { leave.index < 40 }
     ensures { record { found = result; course = seen.new; words = words.new }
-        ≡ live [] (call_without_script plan.now calling.now dialled leave) seen.old words.old }
+        ≡ walk_on_words []
+        (call_without_script plan.now calling.now dialled leave) seen.old words.old }
 {
     require_held(seen, words, Conn::Group(leave.group))?;
     let mut effects = Effects::new();
@@ -133,12 +135,12 @@ fn call_without(
     Ok(decision.leaving(leave))
 }
 
-/// The register at the end of a path, if it ends at one.
+/// The register at which a path ends, if it ends at one.
 fn register_at(plan: &Plan, own: &Path) -> Option<MemberPlace>
     ensures register { result ≡ register_at_of plan.now own.now }
     ensures range { IfSome result (λ found. (found.group < 16) × (found.index < 40)) }
 {
-    // Called for its clauses alone.
+    // Called only for its contract.
     xbar_plan::laws::member_places_are_in_range();
     let found = plan.member_of(own.place)?;
     if found.group == plan.register_group() {
@@ -148,8 +150,8 @@ fn register_at(plan: &Plan, own: &Path) -> Option<MemberPlace>
     }
 }
 
-/// Goes through a completing job, from where the walks before have come to.
-#[tactic(auto, using(attempts::proofs::LiveWalks::live_bind, attempts::proofs::LiveWalks::live_end), unfolding(crate::specs::Completing::complete_steps, crate::specs::Completing::complete_from, crate::specs::Completing::call_from))]
+/// Walks a completing job, from the resume point of the earlier walks.
+#[tactic(auto, using(attempts::proofs::WalksOnWords::live_bind, attempts::proofs::WalksOnWords::live_end), unfolding(crate::specs::Completing::complete_steps, crate::specs::Completing::complete_from, crate::specs::Completing::call_from))]
 // Not inlined into every walk: a dial tone job would pay for its locals.
 #[inline(never)]
 pub fn complete(
@@ -160,10 +162,10 @@ pub fn complete(
     dialled: Dialled,
     way: &mut Way,
 ) -> Result<Decision, Wanted>
-    requires { Knows line way.old seen.old.seen }
+    requires { ResumePointIsValid line way.old seen.old.seen }
     ensures walk { record { found = result; course = seen.new; words = words.new }
-        ≡ live [] (complete_steps plan.now line dialled) seen.old words.old }
-    ensures knows { Knows line way.new seen.new.seen }
+        ≡ walk_on_words [] (complete_steps plan.now line dialled) seen.old words.old }
+    ensures valid_point { ResumePointIsValid line way.new seen.new.seen }
 {
     let calling = way.approach(seen, words, line)?;
     let Some(own) = way.trace(seen, words, line, &calling)? else {

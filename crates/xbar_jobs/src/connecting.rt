@@ -1,10 +1,10 @@
-//! The joining of parties, as far as an attempt has come with it.
+//! The walk that joins the parties of a call.
 
 ghost use Rattle.std.specs.Prelude.{◌≡◌};
 ghost use Rattle.xbar_office.specs.Trunks.{AreGroups};
 ghost use Rattle.xbar_jobs.specs.Connecting.{busy_end as busy_end_of, connect as connect_script};
 ghost use Rattle.xbar_jobs.specs.Keeping.{AreEffects};
-ghost use Rattle.xbar_jobs.specs.Script.{live};
+ghost use Rattle.xbar_jobs.specs.Script.{walk_on_words};
 
 use crate::decision::Decision;
 use crate::effect::Effect;
@@ -15,6 +15,7 @@ use crate::trunks::{find_trunk, trunks_of};
 use xbar_office::{Aim, End};
 use xbar_plan::Plan;
 
+/// The end of a job for which no group has an idle member.
 fn busy_end(aim: Aim) -> End
     ensures { result ≡ busy_end_of aim }
 {
@@ -25,7 +26,7 @@ fn busy_end(aim: Aim) -> End
 }
 
 /// Joins the parties by a member of the first of these groups that has an idle one.
-#[tactic(auto, using(attempts::proofs::LiveWalks::live_bind, attempts::proofs::LiveWalks::live_end), unfolding(crate::specs::Connecting::connect, crate::specs::Connecting::try_trunk))]
+#[tactic(auto, using(attempts::proofs::WalksOnWords::live_bind, attempts::proofs::WalksOnWords::live_end), unfolding(crate::specs::Connecting::connect, crate::specs::Connecting::try_trunk))]
 pub fn connect(
     plan: &Plan,
     seen: &mut Seen,
@@ -38,7 +39,8 @@ pub fn connect(
     requires made { AreEffects made.now }
     requires groups { AreGroups plan.now groups.now }
     ensures { record { found = result; course = seen.new; words = words.new }
-        ≡ live made.now (connect_script plan.now aim parties.now groups.now) seen.old words.old }
+        ≡ walk_on_words made.now
+        (connect_script plan.now aim parties.now groups.now) seen.old words.old }
 {
     let Some(idle) = find_trunk(plan, seen, words, made, groups)? else {
         return Ok(Decision::refused(busy_end(aim)));

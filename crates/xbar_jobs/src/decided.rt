@@ -9,7 +9,7 @@ use crate::office_effect::OfficeEffect;
 use std::marker::Model;
 use xbar_office::Reply;
 
-/// A decision, with its effects listed.
+/// A decision with the list of its effects.
 #[derive(Debug, Drop)]
 pub struct Decided {
     decision: Decision,
@@ -46,7 +46,7 @@ impl Decided {
         &self.decision.reply
     }
 
-    /// The effect at a place among its effects, from 0 on.
+    /// The effect at index `place`, or None past the last one.
     pub fn effect(&self, place: usize) -> Option<OfficeEffect>
         ensures effect { result ≡ slice_get (effects_of self.now) place }
         ensures more { IfSome result (λ effect. place + 1 < 2 ^ 64) }
@@ -59,7 +59,7 @@ impl Decided {
         }
     }
 
-    /// Its effects are the office's. Called for its clause alone.
+    /// Does nothing. Called for its contract, that each effect is one of the office's.
     pub fn is_of_the_office(&self)
         ensures { AreEffects (effects_of self.now) }
     {

@@ -5,7 +5,7 @@ use crate::leave::Leave;
 use crate::take::Take;
 use xbar_office::{Aim, Choice, End, Reply, Trials};
 
-/// What a job has decided before its turn: its reply, what it lets go, and what it takes.
+/// What a job decides before its turn: its reply, what it lets go, and what it takes.
 #[derive(Debug, Drop)]
 pub struct Decision {
     pub reply: Reply,
@@ -16,7 +16,7 @@ pub struct Decision {
 impl Decision {
     ghost use Rattle.xbar_jobs.specs.Closing.{effects as effects_of_decision, leaving as leaving_by, refused as refused_by, released as released_by, take_of as take_by, tried as tried_by};
 
-    /// Nothing is let go and nothing is taken.
+    /// A decision that lets nothing go and takes nothing.
     pub fn refused(end: End) -> Self
         ensures { result ≡ refused_by end }
     {
@@ -27,7 +27,7 @@ impl Decision {
         }
     }
 
-    /// What the trials on a group came to.
+    /// The decision after the trials on a group: it takes the member that was chosen, if one was.
     pub fn tried(aim: Aim, group: u8, trials: Trials) -> Self
         ensures { result ≡ tried_by aim group trials }
     {
@@ -38,7 +38,7 @@ impl Decision {
         }
     }
 
-    /// A call is let go.
+    /// The decision of a release: it lets a call go and takes nothing.
     pub fn released(leave: Leave) -> Self
         ensures { result ≡ released_by leave }
     {
@@ -53,7 +53,7 @@ impl Decision {
         }
     }
 
-    /// The same, once something is let go.
+    /// The same decision, which also lets `leave` go.
     pub fn leaving(self, leave: Leave) -> Self
         ensures { result ≡ leaving_by leave self }
     {
@@ -63,7 +63,7 @@ impl Decision {
         }
     }
 
-    /// What is made for it past the turn, in this order.
+    /// The effects of the decision, in the order in which they are made past the turn.
     pub fn effects(&self) -> Effects
         requires { length (effects_of_decision self.now) ≤ 14 }
         ensures { result.items ≡ effects_of_decision self.now }

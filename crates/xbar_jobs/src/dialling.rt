@@ -1,9 +1,9 @@
-//! A dial tone job, as far as an attempt has come with it.
+//! The walk of a dial tone job.
 
 ghost use Rattle.std.specs.Prelude.{◌≡◌, []};
 ghost use Rattle.xbar_jobs.specs.Jobs.{dial_steps};
-ghost use Rattle.xbar_jobs.specs.Script.{live};
-ghost use Rattle.xbar_jobs.specs.Tracing.{Knows};
+ghost use Rattle.xbar_jobs.specs.Script.{walk_on_words};
+ghost use Rattle.xbar_jobs.specs.Tracing.{ResumePointIsValid};
 
 use crate::connecting::connect;
 use crate::decision::Decision;
@@ -14,9 +14,9 @@ use xbar_equip::Len;
 use xbar_office::{Aim, End};
 use xbar_plan::Plan;
 
-/// Goes through a dial tone job, from where the walks before have come to.
-#[tactic(auto, using(attempts::proofs::LiveWalks::live_bind, attempts::proofs::LiveWalks::live_end), unfolding(crate::specs::Jobs::dial_steps, crate::specs::Jobs::serve_idle_line))]
-// Not inlined into every walk, as the other jobs.
+/// Walks a dial tone job, from the resume point of the earlier walks.
+#[tactic(auto, using(attempts::proofs::WalksOnWords::live_bind, attempts::proofs::WalksOnWords::live_end), unfolding(crate::specs::Jobs::dial_steps, crate::specs::Jobs::serve_idle_line))]
+// Not inlined into every walk, like the other jobs.
 #[inline(never)]
 pub fn dial(
     plan: &Plan,
@@ -25,16 +25,16 @@ pub fn dial(
     line: Len,
     way: &mut Way,
 ) -> Result<Decision, Wanted>
-    requires { Knows line way.old seen.old.seen }
+    requires { ResumePointIsValid line way.old seen.old.seen }
     ensures walk { record { found = result; course = seen.new; words = words.new }
-        ≡ live [] (dial_steps plan.now line) seen.old words.old }
-    ensures knows { Knows line way.new seen.new.seen }
+        ≡ walk_on_words [] (dial_steps plan.now line) seen.old words.old }
+    ensures valid_point { ResumePointIsValid line way.new seen.new.seen }
 {
     let calling = way.approach(seen, words, line)?;
     if calling.channel().is_some() {
         return Ok(Decision::refused(End::LineBusy));
     }
-    // Called for its clauses alone.
+    // Called only for its contract.
     xbar_plan::laws::one_group_has_registers();
     let parties = CallParties::alone(&calling);
     let groups = [plan.register_group()];

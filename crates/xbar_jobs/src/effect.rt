@@ -10,25 +10,26 @@ use xbar_equip::{Crosspoint, WordNo, group_word};
 use xbar_match::shape_at;
 use xbar_switch::{close_bits, open_mask};
 
-/// What a job does to a word, past its turn.
+/// A write that a job makes to a word, past its turn.
 #[derive(Clone, Copy, Debug, PartialEq, Eq)]
 pub enum Effect {
-    /// A member of a trunk group, by the group's number and its own, is busy from here on.
+    /// Marks a member of a trunk group as busy, by the group's number and the member's index.
     SetBit { group: u8, index: u8 },
-    /// It is idle from here on.
+    /// Marks a member as idle.
     ClearBit { group: u8, index: u8 },
     Close(Crosspoint),
     Open(Crosspoint),
 }
 
-/// What stands in the free places of a list of effects: all its bytes are 0, and so are the list's.
+/// The effect that fills free places of a list. All its bytes are 0, and so are those of an empty
+/// list.
 impl Default for Effect {
     fn default() -> Self {
         Effect::SetBit { group: 0, index: 0 }
     }
 }
 
-/// The bits that a close sets.
+/// The bits that closing the crosspoint sets in its word.
 fn close_bits_of(crosspoint: &Crosspoint) -> u64
     requires { IsCrosspoint crosspoint.now }
     ensures { result ≡ close_bits_by (shape_by crosspoint.now.word) crosspoint.now.field
@@ -38,7 +39,7 @@ fn close_bits_of(crosspoint: &Crosspoint) -> u64
     close_bits(shape, crosspoint.field, crosspoint.value - 1)
 }
 
-/// The bits that an open keeps.
+/// The bits that opening the crosspoint keeps in its word.
 fn open_mask_of(crosspoint: &Crosspoint) -> u64
     requires { IsCrosspoint crosspoint.now }
     ensures { result ≡ open_mask_by (shape_by crosspoint.now.word) crosspoint.now.field }
@@ -50,7 +51,7 @@ impl Effect {
     ghost use Rattle.xbar_jobs.specs.Closing.{effect_word, operation_of};
     ghost use Rattle.xbar_jobs.specs.Keeping.{IsEffect};
 
-    /// The step that makes it.
+    /// The step that makes the effect.
     pub fn step(&self) -> Step
         requires { IsEffect self.now }
         ensures { result ≡ effect_step self.now }
@@ -64,7 +65,7 @@ impl Effect {
         }
     }
 
-    /// The word that it changes.
+    /// The word that the effect changes.
     pub fn word(&self) -> WordNo
         requires { IsEffect self.now }
         ensures { result ≡ effect_word self.now }
@@ -75,7 +76,7 @@ impl Effect {
         }
     }
 
-    /// The operation that makes it there.
+    /// The operation that makes the effect on its word.
     pub fn operation(&self) -> Operation
         requires { IsEffect self.now }
         ensures { result ≡ operation_of self.now }

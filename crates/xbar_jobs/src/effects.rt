@@ -11,14 +11,14 @@ use arrayvec::ArrayVec;
 use xbar_equip::{Path, WordNo};
 use xbar_match::effects_of;
 
-/// The most effects of a job, those of a call inside the office: five opens for its register, and nine
-/// closes for two paths and a member.
+/// The largest number of effects of a job. A call inside the office has 14: five to let its
+/// register go, and nine to take two paths and a member.
 pub const MOST_EFFECTS: usize = 14;
 
-/// The effects of a job, in their order.
+/// The effects of a job, in the order in which they are made.
 pub type Effects = ArrayVec<Effect, MOST_EFFECTS>;
 
-/// Adds the closing of a path.
+/// Adds the four closes of a path.
 pub fn close_path(effects: &mut Effects, path: &Path)
     requires { array_vec_len effects.old ≤ 10 }
     ensures effects { effects.new.items ≡ effects.old.items ++ path_closes path.now }
@@ -32,7 +32,7 @@ pub fn close_path(effects: &mut Effects, path: &Path)
     effects.push(Effect::Close(trunk));
 }
 
-/// Adds the opening of a path.
+/// Adds the four opens of a path.
 pub fn open_path(effects: &mut Effects, path: &Path)
     requires { array_vec_len effects.old ≤ 10 }
     ensures effects { effects.new.items ≡ effects.old.items ++ path_opens path.now }
@@ -46,7 +46,7 @@ pub fn open_path(effects: &mut Effects, path: &Path)
     effects.push(Effect::Open(trunk));
 }
 
-/// What effects, one after another, make of the number in a word.
+/// The value of a word after effects are made one after another, if it was `value` before.
 pub fn made(effects: &[Effect], word: WordNo, value: u64) -> u64
     requires { AreEffects effects.now }
     ensures { result ≡ made_of effects.now word value }

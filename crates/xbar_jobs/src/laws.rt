@@ -1,12 +1,12 @@
-//! What holds of jobs as steps, for the crates above. Each function does nothing: its contract is the
-//! law. What holds of every system of jobs is said by the laws of `turns`, of which an office under a
-//! lawful plan is one.
+//! Laws of jobs as steps, for the crates above. Each function does nothing: its contract is the
+//! law. An office under a lawful plan is a system of jobs, so the laws of `turns` hold of it too.
 
 ghost use Rattle.std.specs.Prelude.{◌≡◌, ◌+◌, ◌≤◌, ℕ, [], List, Err, Option, Some, None, length};
 ghost use mathlib.Core.Option.{some};
 ghost use lib.ListN.{get_elem?};
 ghost use Rattle.turns.specs.Among.{IsIn};
-ghost use Rattle.turns.specs.Attempt.{HasDecided, Free, act, answer_to as told_of, begin};
+ghost use Rattle.turns.specs.Attempt.{HasDecided, act, answer_to as told_of, begin};
+ghost use Rattle.turns.specs.declared.act.Act.TheVariants.{Free};
 ghost use Rattle.turns.specs.Bounds.{AreBounded, AreSteady};
 ghost use Rattle.turns.specs.Script.{value_read};
 ghost use Rattle.turns.specs.Seen.{AreReadFrom};
@@ -33,7 +33,7 @@ ghost use Rattle.xbar_jobs.specs.Opening.{ReleasesJust};
 ghost use Rattle.xbar_jobs.specs.Others.{SeizesOthers};
 ghost use Rattle.xbar_jobs.specs.Script.{Script, Seen, walk};
 ghost use Rattle.xbar_jobs.specs.declared.decision.Decision.{Decision};
-ghost use Rattle.xbar_jobs.specs.Standing.{Stands, most_effects, most_held, most_others, most_readings, most_seizings, most_steps};
+ghost use Rattle.xbar_jobs.specs.Standing.{IsValid, most_effects, most_held, most_others, most_readings, most_seizings, most_steps};
 ghost use Rattle.xbar_jobs.specs.Turning.{DoesAsOffice};
 ghost use Rattle.xbar_equip.specs.declared.conn.Conn.{Conn};
 
@@ -45,14 +45,14 @@ pub fn the_office_is_a_system()
     ensures { (plan : Tables) → IsLawful plan → IsSystem (office plan) }
 {}
 
-/// A job's script tests only words whose connectors it has seized by then, and its effects are
-/// on such words.
+/// A job's script tests a word only once it has seized the word's connector, and its effects are
+/// only on words whose connectors it has seized.
 pub fn scripts_keep_to_what_they_hold()
     ensures { (plan : Tables) (job : Job) → IsLawful plan → IsJob job
         → KeepsTo (office plan) (IsCovered plan) [] (script plan job) }
 {}
 
-/// What a walk wants is neither held nor read by then.
+/// What a walk needs next is neither held nor read yet.
 pub fn walks_want_what_is_not_there()
     ensures conn { (seen : Seen) (script : Script Decision) (conn : Conn)
         → walk seen script ≡ Err (Wanted.Seize conn) → ¬ IsIn conn seen.held }
@@ -60,7 +60,7 @@ pub fn walks_want_what_is_not_there()
         → walk seen script ≡ Err (Wanted.Test word) → value_read seen.readings word ≡ None }
 {}
 
-/// A step's word, its operation there and its answer are those of the marker's act.
+/// A step's word, operation and answer are those of the act that it makes.
 pub fn steps_do_what_their_acts_do()
     ensures word { (plan : Tables) (act : Act) → step_word (step_of act) ≡ place (office plan) act }
     ensures operation { (plan : Tables) (marker : ℕ) (act : Act) →
@@ -69,21 +69,21 @@ pub fn steps_do_what_their_acts_do()
         → step_answer marker (step_of act) found ≡ told_of (office plan) marker act found }
 {}
 
-/// Past the turn what is held is freed last: once no effect is left.
+/// Past its turn an attempt frees connectors last: once no effect is left.
 pub fn frees_come_last()
     ensures { (a : Attempt) (turn : ℕ) (conn : Conn) → a.phase ≡ Phase.Operates turn
         → act a ≡ Free conn → a.effects ≡ [] }
 {}
 
-/// Whatever words show: an attempt that has read them and decided has the one-marker
-/// office's reply, and effects that lead to words that show that office's paths.
+/// On any words that show a set of paths and agree with its readings, an attempt that has decided
+/// has the one-marker office's reply, and its effects lead to words that show that office's paths.
 pub fn decisions_are_the_one_marker_offices()
     ensures { (plan : Tables) (a : Attempt) → IsLawful plan → IsJob a.job
         → HasDecided (office plan) a → DoesAsOffice plan a }
 {}
 
-/// From its turn on a releasing marker opens just the crosspoints of the call that its reply names, each
-/// of which is closed, and clears its member's bit; nothing else changes.
+/// The effects of a release open exactly the crosspoints of the call that its reply names, each of
+/// which is closed, and clear its member's bit. Nothing else changes.
 pub fn a_release_opens_just_its_call()
     ensures { (plan : Tables) (a : Attempt) (line : Line) (own : Path) (other : Option Path)
         (words : List ℕ) (paths : List Path)
@@ -93,9 +93,9 @@ pub fn a_release_opens_just_its_call()
         → ReleasesJust plan own other words a.effects }
 {}
 
-/// An attempt that is never put off and never tries a seizing again ends within 128 steps; one that
-/// restarted, or is anywhere else on its way, does so once what it holds is freed and its request is
-/// withdrawn.
+/// An attempt that is never denied and never repeats a seizing ends within 128 steps. From any
+/// other point, also after a restart, it ends within 128 steps more than one for its request and
+/// one for each connector that it holds.
 pub fn steady_attempts_are_short()
     ensures fresh { (plan : Tables) (job : Job) (answers : List Answer) → IsLawful plan → IsJob job
         → AreSteady (office plan) (begin (office plan) job) answers → length answers ≤ most_steps }
@@ -109,25 +109,25 @@ pub fn steady_attempts_are_short()
     turns::laws::steady_attempts_are_short::<Offices>();
 }
 
-/// How much each job asks for at most: so many tests, seizings and effects.
+/// Each job has at most 42 tests, 19 seizings and 14 effects.
 pub fn jobs_are_bounded()
     ensures { (plan : Tables) → IsLawful plan
         → AreBounded (office plan) most_readings most_seizings most_effects }
 {}
 
-/// Whatever an attempt is told, it holds no more than 18 connectors: each of the ten line link frames
-/// once, and eight others, since no script seizes more others.
+/// Whatever answers it gets, an attempt holds at most 18 connectors: the ten line link frames,
+/// each at most once, and eight others, since no script seizes more than eight others.
 pub fn jobs_hold_few_connectors()
     ensures others { (plan : Tables) (job : Job) → IsLawful plan
         → SeizesOthers most_others (script plan job) }
-    ensures stands { (plan : Tables) (a : Attempt) → Stands plan a → length a.held ≤ most_held }
+    ensures valid { (plan : Tables) (a : Attempt) → IsValid plan a → length a.held ≤ most_held }
     ensures told { (plan : Tables) (job : Job) (answers : List Answer) → IsLawful plan → IsJob job
         → AreAnswers plan (fresh job).attempt answers
         → length (after_answers plan (fresh job) answers).attempt.held ≤ most_held }
 {}
 
-/// An attempt that is never put off and never tries a seizing again counts the steps that it took, and
-/// so to 128 at most.
+/// The count of an attempt that is never denied and never repeats a seizing is the number of its
+/// steps, so it is at most 128.
 pub fn counts_are_steps()
     ensures count { (plan : Tables) (job : Job) (answers : List Answer) → IsLawful plan → IsJob job
         → AreSteady (office plan) (begin (office plan) job) answers

@@ -6,13 +6,13 @@ use crate::effects::{Effects, open_path};
 use xbar_equip::Path;
 use xbar_plan::MemberPlace;
 
-/// A member of a trunk group that a job lets go, with the paths that led to it.
+/// A member of a trunk group that a job lets go, with the paths that lead to it.
 #[derive(Clone, Copy, Debug)]
 pub struct Leave {
     pub group: u8,
     pub index: u8,
     pub own: Path,
-    /// The other party's path, where the member is a pair.
+    /// The other party's path, if the member is a pair.
     pub other: Option<Path>,
 }
 
@@ -20,7 +20,7 @@ impl Leave {
     ghost use Rattle.xbar_jobs.specs.Closing.{leave_effects, leave_of};
     ghost use Rattle.xbar_jobs.specs.Keeping.{AreEffects};
 
-    /// What stands at the end of the own path is let go.
+    /// The member `found` at the end of the own path, with the paths that lead to it.
     pub fn of(own: &Path, other: &Option<Path>, found: &MemberPlace) -> Self
         ensures { result ≡ leave_of own.now other.now found.now }
     {
@@ -32,7 +32,7 @@ impl Leave {
         }
     }
 
-    /// Adds what is made for it past the turn, in this order.
+    /// Adds its effects: the opens of its paths, then the clearing of the member's bit.
     pub fn add_effects(&self, effects: &mut Effects)
         requires { array_vec_len effects.old + length (leave_effects self.now) ≤ 14 }
         ensures effects { effects.new.items ≡ effects.old.items ++ leave_effects self.now }

@@ -1,5 +1,5 @@
-//! A job as the single steps of a marker on the office's shared words. Whoever drives a `Program`
-//! makes each step that it asks for, and tells it what came of it.
+//! A job as single steps of a marker on the office's shared words. The caller of a `Program` makes
+//! each step that it asks for, and passes it the answer.
 #![tactic(auto)]
 
 pub use effect::Effect;

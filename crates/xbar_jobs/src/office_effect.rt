@@ -7,7 +7,8 @@ use std::marker::Model;
 use turns::Operation;
 use xbar_equip::WordNo;
 
-/// An effect on what the office has: on one of its crosspoints, or on the bit of a member of a group.
+/// An effect that is in range: on a crosspoint of the office, or on the bit of a member of a
+/// group.
 #[derive(Clone, Copy, Debug)]
 pub struct OfficeEffect {
     effect: Effect,
@@ -37,21 +38,21 @@ impl OfficeEffect {
         OfficeEffect { effect }
     }
 
-    /// The word that it changes.
+    /// The word that the effect changes.
     pub fn word(&self) -> WordNo
         ensures { result ≡ effect_word self.now }
     {
         self.effect.word()
     }
 
-    /// The operation that makes it there.
+    /// The operation that makes the effect on its word.
     pub fn operation(&self) -> Operation
         ensures { result ≡ operation_of self.now }
     {
         self.effect.operation()
     }
 
-    /// The step that makes it.
+    /// The step that makes the effect.
     pub fn step(&self) -> Step
         ensures { result ≡ effect_step self.now }
     {

@@ -9,7 +9,7 @@ use xbar_equip::Conn;
 use xbar_office::{Job, Reply};
 use xbar_plan::Plan;
 
-/// The offices as systems of jobs over shared words: one for each plan.
+/// The family of offices as systems of jobs over shared words: one for each plan.
 pub struct Offices;
 
 impl Family for Offices {
@@ -22,12 +22,12 @@ impl Family for Offices {
 }
 
 impl Scripts<42, 19> for Offices {
-    ghost use Rattle.attempts.specs.SystemWith.{with};
+    ghost use Rattle.attempts.specs.SystemWith.{without_decisions};
     ghost use Rattle.xbar_plan.specs.Lawful.{IsLawful};
     ghost use Rattle.xbar_jobs.specs.Closing.{effects as effects_by};
     ghost use Rattle.xbar_jobs.specs.Jobs.{job_line};
     ghost use Rattle.xbar_jobs.specs.Office.{office_over};
-    ghost use Rattle.xbar_jobs.specs.Tracing.{Knows};
+    ghost use Rattle.xbar_jobs.specs.Tracing.{ResumePointIsValid};
 
     type Setting = Plan;
 
@@ -41,9 +41,9 @@ impl Scripts<42, 19> for Offices {
 
     type Decision = Decided;
 
-    type Point = Way;
+    type ResumePoint = Way;
 
-    ghost system = { λ plan. with (office_over plan) };
+    ghost system = { λ plan. without_decisions (office_over plan) };
 
     ghost reply_of = { λ decision. decision.reply };
 
@@ -51,7 +51,7 @@ impl Scripts<42, 19> for Offices {
 
     ghost IsSetting = { IsLawful };
 
-    ghost Knows = { λ _ job way seen. Knows (job_line job) way seen };
+    ghost ResumePointIsValid = { λ _ job way seen. ResumePointIsValid (job_line job) way seen };
 
     fn first(job: &Job) -> Conn {
         first_conn(job)

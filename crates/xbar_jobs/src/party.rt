@@ -6,7 +6,7 @@ use crate::effects::made;
 use xbar_equip::{Len, line_switch};
 use xbar_match::find_line;
 
-/// A party to a call: its line, with what the line's switch was.
+/// A party to a call: its line, and the value of the line's switch word.
 #[derive(Clone, Copy, Debug)]
 pub struct Party {
     pub line: Len,
@@ -17,7 +17,7 @@ impl Party {
     ghost use Rattle.xbar_jobs.specs.Sides.{party_after};
     ghost use Rattle.xbar_jobs.specs.Tracing.{channel_of};
 
-    /// The channel of the path that the line has.
+    /// The channel of the line's path, or None if the line is idle.
     pub fn channel(&self) -> Option<u8>
         ensures channel { result ≡ channel_of self.now }
         ensures range { IfSome result (λ channel. channel < 10) }
@@ -25,7 +25,7 @@ impl Party {
         find_line(self.word, self.line.x())
     }
 
-    /// The party as effects will leave its word.
+    /// The party with its word as effects will leave it.
     pub fn after(&self, effects: &[Effect]) -> Self
         requires { AreEffects effects.now }
         ensures { result ≡ party_after effects.now self.now }
@@ -39,7 +39,7 @@ impl Party {
     }
 }
 
-/// The parties to a call: the calling one, and the called one where it is a line of the office.
+/// The parties to a call: the calling one, and the called one if it is a line of the office.
 #[derive(Clone, Copy)]
 pub struct CallParties {
     pub calling: Party,
@@ -49,7 +49,7 @@ pub struct CallParties {
 impl CallParties {
     ghost use Rattle.xbar_jobs.specs.Connecting.{alone as alone_of};
 
-    /// A party that is joined to no other line of the office.
+    /// The calling party alone, joined to no other line of the office.
     pub fn alone(calling: &Party) -> Self
         ensures { result ≡ alone_of calling.now }
     {

@@ -1,7 +1,6 @@
 ghost use Rattle.std.specs.Prelude.{◌≡◌, ◌<◌, ◌≤◌, ◌⊎◌, is_some, length, option_copied, true};
-ghost use Rattle.attempts.specs.Standing.{AreScripts, KnowsIn, Stands as StandsIn};
-ghost use Rattle.attempts.specs.Steps.{act_of};
-ghost use Rattle.attempts.specs.SystemWith.{with};
+ghost use Rattle.attempts.specs.Validity.{AreScripts, ResumePointIsValidIn, IsValid as IsValidAttempt};
+ghost use Rattle.attempts.specs.SystemWith.{without_decisions};
 ghost use Rattle.xbar_equip.specs.Conn.{conn_eq};
 ghost use Rattle.xbar_plan.specs.Lawful.{IsLawful};
 ghost use Rattle.xbar_jobs.specs.Attempt.{next_step, step_of as step_of_act};
@@ -9,15 +8,15 @@ ghost use Rattle.xbar_jobs.specs.Closing.{effects as effects_of};
 ghost use Rattle.xbar_jobs.specs.Jobs.{job_line};
 ghost use Rattle.xbar_jobs.specs.Keeping.{AreEffects};
 ghost use Rattle.xbar_jobs.specs.Office.{office_over};
-ghost use Rattle.xbar_jobs.specs.Standing.{IsAttempt, IsNextStep, Stands, attempt_at, most_readings, most_seizings, reply_of};
-ghost use Rattle.xbar_jobs.specs.Tracing.{Knows};
+ghost use Rattle.xbar_jobs.specs.Standing.{IsAttempt, IsNextStep, IsValid, attempt_at, most_readings, most_seizings, reply_of};
+ghost use Rattle.xbar_jobs.specs.Tracing.{ResumePointIsValid};
 ghost use Rattle.xbar_jobs.specs.Turning.{IsAct, IsStep};
 
 use crate::closing::close;
 use crate::office_effect::OfficeEffect;
 use crate::offices::Offices;
 use crate::step::Step;
-use attempts::{AttemptOf, begin, next, restart, run, take};
+use attempts::{AttemptOf, apply, begin, next, restart, run};
 use std::marker::Model;
 use turns::Answer;
 use xbar_equip::{Conn, WordNo};
@@ -25,12 +24,12 @@ use xbar_office::laws::job_is_in_range;
 use xbar_office::{Job, Reply};
 use xbar_plan::Plan;
 
-/// A marker's attempt at a job. It has a fixed size, and holds no borrow of the plan: the caller
-/// hands it one plan at every call.
+/// A marker's attempt at a job. It has a fixed size and doesn't borrow the plan: the caller passes
+/// the same plan to every call.
 #[derive(Debug, Drop)]
 pub struct Program {
     attempt: AttemptOf<Offices, 42, 19>,
-    /// The attempt's next step, which is asked for several times before it is made.
+    /// The attempt's next step, kept since callers ask for it several times before they make it.
     next: Step,
 }
 
@@ -45,7 +44,7 @@ impl Model for Program {
     ghost invariant = { λ a. IsProgram a.attempt a.next };
 }
 
-/// The effects that are left are the office's. Called for its clause alone.
+/// Does nothing. Called for its contract, that the effects that are left are the office's.
 fn effects_are(attempt: &AttemptOf<Offices, 42, 19>)
     ensures { AreEffects (attempt_at attempt.now).effects }
 {
@@ -55,42 +54,45 @@ fn effects_are(attempt: &AttemptOf<Offices, 42, 19>)
     }
 }
 
-/// What the attempt needs to go on by its job's script. Called for its clauses alone.
+/// Does nothing. Called for its contract, that the attempt may go on by its job's script.
 fn may_go_on(attempt: &AttemptOf<Offices, 42, 19>, plan: &Plan)
-    requires stands { Stands plan.now (attempt_at attempt.now) }
-    requires knows { KnowsIn (λ job way seen. Knows (job_line job) way seen)
+    requires valid { IsValid plan.now (attempt_at attempt.now) }
+    requires valid_point { ResumePointIsValidIn
+        (λ job way seen. ResumePointIsValid (job_line job) way seen)
         (attempt_at attempt.now) attempt.now.point attempt.now.phase }
     ensures lawful { IsLawful plan.now }
-    ensures scripts { AreScripts conn_eq reply_of effects_of (with (office_over plan.now))
-        (λ job way seen. Knows (job_line job) way seen) most_readings most_seizings }
-    ensures stands { StandsIn conn_eq reply_of effects_of (with (office_over plan.now))
-        (λ job way seen. Knows (job_line job) way seen) most_readings most_seizings attempt.now }
+    ensures scripts { AreScripts conn_eq reply_of effects_of
+        (without_decisions (office_over plan.now))
+        (λ job way seen. ResumePointIsValid (job_line job) way seen) most_readings most_seizings }
+    ensures valid { IsValidAttempt conn_eq reply_of effects_of (without_decisions (office_over plan.now))
+        (λ job way seen. ResumePointIsValid (job_line job) way seen) most_readings most_seizings
+        attempt.now }
 {
     let _ = attempt;
     xbar_plan::laws::every_plan_is_lawful(plan);
 }
 
-/// The step that makes what an attempt does next.
+/// The office's step that makes this act.
 #[tactic(auto, using(crate::proofs::Programs::act_step))]
 #[inline(always)]
-fn step_by(next: attempts::Step<Conn, OfficeEffect>) -> Step
-    requires { IsAct (act_of next) }
-    ensures step { result ≡ step_of_act (act_of next) }
+fn step_by(next: turns::Act<Conn, OfficeEffect>) -> Step
+    requires { IsAct next }
+    ensures step { result ≡ step_of_act next }
     ensures range { IsStep result }
 {
     match next {
-        attempts::Step::Rest => Step::Finished,
-        attempts::Step::Ask(conn) => Step::Request(conn),
-        attempts::Step::Take(conn, expected) => Step::Seize(conn, expected),
-        attempts::Step::Leave(conn) => Step::Withdraw(conn),
-        attempts::Step::Free(conn) => Step::Free(conn),
-        attempts::Step::Look(word) => Step::Test(WordNo::new(word as u16)),
-        attempts::Step::Turn => Step::Turn,
-        attempts::Step::Make(effect) => effect.step(),
+        turns::Act::Finished => Step::Finished,
+        turns::Act::Request(conn) => Step::Request(conn),
+        turns::Act::Seize(conn, expected) => Step::Seize(conn, expected),
+        turns::Act::Withdraw(conn) => Step::Withdraw(conn),
+        turns::Act::Free(conn) => Step::Free(conn),
+        turns::Act::Test(word) => Step::Test(WordNo::new(word as u16)),
+        turns::Act::Turn => Step::Turn,
+        turns::Act::Make(effect) => effect.step(),
     }
 }
 
-/// The step that an attempt of the office does next.
+/// The attempt's next step.
 #[tactic(auto, using(crate::proofs::Programs::made_range))]
 #[inline(always)]
 fn step_of(attempt: &AttemptOf<Offices, 42, 19>) -> Step
@@ -103,10 +105,10 @@ fn step_of(attempt: &AttemptOf<Offices, 42, 19>) -> Step
 impl Program {
     ghost use Rattle.std.specs.Prelude.{ℕ};
     ghost use Rattle.turns.specs.Attempt.{act, change, reply_in, restarted, turn_in, IsAnswerTo};
-    ghost use Rattle.turns.specs.Runs.{is_rest};
+    ghost use Rattle.turns.specs.Runs.{is_finished};
     ghost use Rattle.attempts.specs.Counting.{counted_by};
-    ghost use Rattle.attempts.specs.Live.{LeadsTo};
-    ghost use Rattle.attempts.specs.Running.{GoesFarEnough};
+    ghost use Rattle.attempts.specs.WalkOnWords.{LeadsTo};
+    ghost use Rattle.attempts.specs.Running.{RunsFarEnough};
     ghost use Rattle.xbar_equip.specs.Word.{word_count};
     ghost use Rattle.xbar_plan.specs.Tables.{Tables};
     ghost use Rattle.xbar_jobs.specs.Attempt.{fresh, with_count};
@@ -116,25 +118,25 @@ impl Program {
     ghost use Rattle.xbar_jobs.specs.Running.{GoesFar, RunsOn};
     ghost use Rattle.xbar_jobs.specs.Turning.{DoesAsOffice};
 
-    /// An attempt that has made no step, whatever the plan will be.
+    /// An attempt that has made no step. It is valid under every lawful plan.
     pub fn new(job: Job) -> Self
         ensures begin { result ≡ fresh job }
-        ensures plan { (plan : Tables) → IsLawful plan → Stands plan result.attempt }
+        ensures plan { (plan : Tables) → IsLawful plan → IsValid plan result.attempt }
     {
-        // Called for its clause alone.
+        // Called only for its contract.
         job_is_in_range(&job);
         let attempt = begin::<Offices, 42, 19>(job);
         let next = step_of(&attempt);
         Program { attempt, next }
     }
 
-    /// The step that the attempt wants made next.
+    /// The attempt's next step.
     pub fn next(&self) -> Step
         ensures step { result ≡ next_step self.now.attempt }
         ensures range { IsStep result }
         ensures word { step_word result < word_count }
     {
-        // Called for its clauses alone.
+        // Called only for its contract.
         let _word = self.next.word();
         self.next
     }
@@ -145,14 +147,14 @@ impl Program {
         self.attempt.job()
     }
 
-    /// The number of the turn, once it is taken.
+    /// The number of the job's turn, once it is taken.
     pub fn turn(&self) -> Option<u64>
         ensures { result ≡ turn_in self.now.attempt.phase }
     {
         self.attempt.turn()
     }
 
-    /// How the job ended; known from its turn on.
+    /// The job's reply, known from its turn on.
     pub fn reply(&self) -> Option<&Reply>
         ensures reply { option_copied result
             ≡ reply_in self.now.attempt.phase self.now.attempt.reply }
@@ -162,34 +164,34 @@ impl Program {
         Some(self.attempt.decision()?.reply())
     }
 
-    /// The atomic steps of this attempt so far. It stays at `u32::MAX` once there.
+    /// The number of atomic steps of this attempt so far. It saturates at `u32::MAX`.
     pub fn count(&self) -> u32
         ensures { result ≡ self.now.count }
     {
         self.attempt.count()
     }
 
-    /// Tells the attempt what came of its next step. All calls are handed one plan.
+    /// Applies the answer to the attempt's next step. All calls must be given the same plan.
     pub fn take(&mut self, plan: &Plan, answer: Answer)
         requires answer { IsAnswerTo (act self.old.attempt) answer }
-        requires plan { Stands plan.now self.old.attempt }
+        requires plan { IsValid plan.now self.old.attempt }
         ensures change { self.new ≡ after_answer plan.now self.old answer }
-        ensures plan { Stands plan.now self.new.attempt }
+        ensures plan { IsValid plan.now self.new.attempt }
         ensures turn { (number : ℕ) → answer ≡ Answer.Turn number
             → DoesAsOffice plan.now self.new.attempt }
     {
         may_go_on(&self.attempt, plan);
-        take::<Offices, 42, 19>(&mut self.attempt, plan, answer);
+        apply::<Offices, 42, 19>(&mut self.attempt, plan, answer);
         effects_are(&self.attempt);
         self.next = step_of(&self.attempt);
     }
 
-    /// Goes on through its script.
+    /// Goes on through its script by at most `most` steps, and returns their number.
     fn walk_on(&mut self, plan: &Plan, marker: u32, words: &mut [u64], most: u32) -> u32
         requires marker { marker < 48 }
-        requires plan { Stands plan.now self.old.attempt }
+        requires plan { IsValid plan.now self.old.attempt }
         ensures runs { RunsOn plan.now marker most result self.old words.old self.new words.new }
-        ensures far { GoesFarEnough (office plan.now).lock_word words.new most result
+        ensures far { RunsFarEnough (office plan.now).lock_word words.new most result
             self.old.attempt.phase self.new.attempt.phase }
     {
         may_go_on(&self.attempt, plan);
@@ -199,26 +201,28 @@ impl Program {
         made
     }
 
-    /// Past its turn makes its effects, and then frees what it holds.
+    /// Past its turn: makes the effects, then frees what is held. Returns the number of steps.
     fn close(&mut self, plan: &Plan, marker: u32, words: &mut [u64], most: u32) -> u32
         requires marker { marker < 48 }
-        requires plan { Stands plan.now self.old.attempt }
+        requires plan { IsValid plan.now self.old.attempt }
         requires turned { is_some (turn_in self.old.attempt.phase) ≡ true }
         requires words { length words.old ≡ word_count }
         ensures runs { RunsOn plan.now marker most result self.old words.old self.new words.new }
-        ensures far { (result ≡ most) ⊎ (is_rest (act self.new.attempt) ≡ true) }
+        ensures far { (result ≡ most) ⊎ (is_finished (act self.new.attempt) ≡ true) }
     {
         let made = close(&mut self.attempt, plan, marker, words, most);
         self.next = step_of(&self.attempt);
         made
     }
 
-    /// Makes its next steps on the words by itself, as this marker, where nobody else makes any in
-    /// between: as many as it comes to through its script, or past its turn all that are left, but no
-    /// more than this. Gives their number; none of them is its turn. All calls are handed one plan.
+    /// Makes the attempt's next steps on the words, with no other marker's steps in between, and
+    /// returns their number: at most `most`, and none of them the turn. Past its turn it makes all
+    /// that are left. In its script it goes on to the turn, or to a connector that isn't free. An
+    /// attempt that is about to seize, take its turn or give back makes none. All calls must be
+    /// given the same plan.
     pub fn run(&mut self, plan: &Plan, marker: u32, words: &mut [u64], most: u32) -> u32
         requires marker { marker < 48 }
-        requires plan { Stands plan.now self.old.attempt }
+        requires plan { IsValid plan.now self.old.attempt }
         requires words { length words.old ≡ word_count }
         ensures steps { LeadsTo (office plan.now) marker result
             (record { attempt = self.old.attempt; words = words.old })
@@ -227,7 +231,7 @@ impl Program {
         ensures far { GoesFar plan.now most result words.new self.old.attempt self.new.attempt
             (turn_in self.old.attempt.phase) }
         ensures count { self.new.count ≡ counted_by result self.old.count }
-        ensures plan { Stands plan.now self.new.attempt }
+        ensures plan { IsValid plan.now self.new.attempt }
     {
         if self.turn().is_some() {
             self.close(plan, marker, words, most)
@@ -236,12 +240,13 @@ impl Program {
         }
     }
 
-    /// Begins anew, once all that is held is given back. Past the turn nothing changes.
+    /// Restarts the job: the next steps give back all that is held, and then it begins anew. Past
+    /// the turn nothing changes.
     pub fn restart(&mut self)
         ensures change { (plan : Tables)
             → self.new ≡ with_count self.old.count (restarted (office plan) self.old.attempt) }
-        ensures plan { (plan : Tables) → IsLawful plan → Stands plan self.old.attempt
-            → Stands plan self.new.attempt }
+        ensures plan { (plan : Tables) → IsLawful plan → IsValid plan self.old.attempt
+            → IsValid plan self.new.attempt }
     {
         restart::<Offices, 42, 19>(&mut self.attempt);
         self.next = step_of(&self.attempt);

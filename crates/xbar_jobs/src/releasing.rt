@@ -1,9 +1,9 @@
-//! A release, as far as an attempt has come with it.
+//! The walk of a release.
 
 ghost use Rattle.std.specs.Prelude.{◌≡◌, []};
 ghost use Rattle.xbar_jobs.specs.Releasing.{release_from as release_from_script, release_steps, trace_other as trace_other_script};
-ghost use Rattle.xbar_jobs.specs.Script.{live};
-ghost use Rattle.xbar_jobs.specs.Tracing.{Knows};
+ghost use Rattle.xbar_jobs.specs.Script.{walk_on_words};
+ghost use Rattle.xbar_jobs.specs.Tracing.{ResumePointIsValid};
 
 use crate::decision::Decision;
 use crate::kinds::{Seen, Wanted};
@@ -15,15 +15,15 @@ use xbar_equip::{Conn, Len, Path, Ten};
 use xbar_office::End;
 use xbar_plan::Plan;
 
-/// The other party's path, traced back from the other place of a pair.
-#[tactic(auto, using(attempts::proofs::LiveWalks::live_end), unfolding(crate::specs::Releasing::trace_other))]
+/// Traces the other party's path back from the other place of a pair, if the member is one.
+#[tactic(auto, using(attempts::proofs::WalksOnWords::live_end), unfolding(crate::specs::Releasing::trace_other))]
 fn trace_other(
     seen: &mut Seen,
     words: &mut [u64],
     place: Option<Ten>,
 ) -> Result<Option<Path>, Wanted>
     ensures { record { found = result; course = seen.new; words = words.new }
-        ≡ live [] (trace_other_script place) seen.old words.old }
+        ≡ walk_on_words [] (trace_other_script place) seen.old words.old }
 {
     match place {
         None => Ok(None),
@@ -31,9 +31,9 @@ fn trace_other(
     }
 }
 
-/// Lets go what stands at the end of the line's own path: its group is seized, and of a pair the other party's
-/// path is traced.
-#[tactic(auto, using(attempts::proofs::LiveWalks::live_bind, attempts::proofs::LiveWalks::live_end), unfolding(crate::specs::Releasing::release_from, crate::specs::Releasing::release_member))]
+/// Lets go the member at the end of the line's own path: seizes its group, and traces the other
+/// party's path if it is a pair.
+#[tactic(auto, using(attempts::proofs::WalksOnWords::live_bind, attempts::proofs::WalksOnWords::live_end), unfolding(crate::specs::Releasing::release_from, crate::specs::Releasing::release_member))]
 fn release_from(
     plan: &Plan,
     seen: &mut Seen,
@@ -41,7 +41,7 @@ fn release_from(
     own: &Option<Path>,
 ) -> Result<Decision, Wanted>
     ensures { record { found = result; course = seen.new; words = words.new }
-        ≡ live [] (release_from_script plan.now own.now) seen.old words.old }
+        ≡ walk_on_words [] (release_from_script plan.now own.now) seen.old words.old }
 {
     let Some(own) = own else {
         return Ok(Decision::refused(End::NoCall));
@@ -49,15 +49,15 @@ fn release_from(
     let Some(found) = plan.member_of(own.place) else {
         return Ok(Decision::refused(End::NoCall));
     };
-    // Called for its clauses alone.
+    // Called only for its contract.
     xbar_plan::laws::member_places_are_in_range();
     require_held(seen, words, Conn::Group(found.group))?;
     let other = trace_other(seen, words, found.other)?;
     Ok(Decision::released(Leave::of(own, &other, &found)))
 }
 
-/// Goes through a release, from where the walks before have come to.
-#[tactic(auto, using(attempts::proofs::LiveWalks::live_bind), unfolding(crate::specs::Releasing::release_steps))]
+/// Walks a release, from the resume point of the earlier walks.
+#[tactic(auto, using(attempts::proofs::WalksOnWords::live_bind), unfolding(crate::specs::Releasing::release_steps))]
 // Not inlined into every walk: a dial tone job would pay for its locals.
 #[inline(never)]
 pub fn release(
@@ -67,10 +67,10 @@ pub fn release(
     line: Len,
     way: &mut Way,
 ) -> Result<Decision, Wanted>
-    requires { Knows line way.old seen.old.seen }
+    requires { ResumePointIsValid line way.old seen.old.seen }
     ensures walk { record { found = result; course = seen.new; words = words.new }
-        ≡ live [] (release_steps plan.now line) seen.old words.old }
-    ensures knows { Knows line way.new seen.new.seen }
+        ≡ walk_on_words [] (release_steps plan.now line) seen.old words.old }
+    ensures valid_point { ResumePointIsValid line way.new seen.new.seen }
 {
     let calling = way.approach(seen, words, line)?;
     let own = way.trace(seen, words, line, &calling)?;

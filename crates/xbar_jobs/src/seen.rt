@@ -1,10 +1,11 @@
-//! What a walk asks for: the first thing that is neither there nor to be had at once ends it.
+//! How a walk asks for connectors and words. The first one that it lacks and can't get at once
+//! ends it.
 
 ghost use Rattle.std.specs.Prelude.{◌≡◌, List, []};
 ghost use Rattle.turns.specs.Script.{TestThen, Ends, seize as seize_script};
 ghost use Rattle.xbar_equip.specs.Conn.{IsConn};
 ghost use Rattle.xbar_jobs.specs.Keeping.{AreEffects};
-ghost use Rattle.xbar_jobs.specs.Script.{live};
+ghost use Rattle.xbar_jobs.specs.Script.{walk_on_words};
 ghost use Rattle.xbar_jobs.specs.declared.effect.Effect.{Effect};
 
 use crate::effect::Effect;
@@ -12,25 +13,25 @@ use crate::effects::made as made_by;
 use crate::kinds::{Seen, Wanted};
 use xbar_equip::{Conn, WordNo, conn_word};
 
-/// Goes on where the connector is held, or can be seized at once.
+/// Makes sure that the connector is held. If it isn't, and can't be seized at once, the walk ends.
 pub fn require_held(seen: &mut Seen, words: &mut [u64], conn: Conn) -> Result<(), Wanted>
     requires { IsConn conn }
     ensures { (made : List Effect) →
         record { found = result; course = seen.new; words = words.new }
-        ≡ live made (seize_script conn) seen.old words.old }
+        ≡ walk_on_words made (seize_script conn) seen.old words.old }
 {
     seen.seize(conn, usize::from(conn_word(conn).number()), words)
 }
 
-/// Goes on with the word's value where it was read, or can be read at once.
+/// Returns the word's value. If it wasn't read, and can't be read at once, the walk ends.
 pub fn read(seen: &mut Seen, words: &[u64], word: WordNo) -> Result<u64, Wanted>
     ensures { record { found = result; course = seen.new; words = words.now }
-        ≡ live [] (TestThen word Ends) seen.old words.now }
+        ≡ walk_on_words [] (TestThen word Ends) seen.old words.now }
 {
     seen.test(usize::from(word.number()), words)
 }
 
-/// Goes on with the word's value as effects will leave it.
+/// Like `read`, but returns the word's value as effects will leave it.
 #[inline(always)]
 pub fn value_of(
     seen: &mut Seen,
@@ -40,7 +41,7 @@ pub fn value_of(
 ) -> Result<u64, Wanted>
     requires { AreEffects made.now }
     ensures { record { found = result; course = seen.new; words = words.now }
-        ≡ live made.now (TestThen word Ends) seen.old words.now }
+        ≡ walk_on_words made.now (TestThen word Ends) seen.old words.now }
 {
     match read(seen, words, word) {
         Ok(value) => Ok(made_by(made, word, value)),

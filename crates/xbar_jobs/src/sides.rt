@@ -1,8 +1,9 @@
-//! The sides of a call: what a marker knows of the parties' frames, and the paths that it finds by that.
+//! The sides of a call: what a marker has read in the parties' frames, and the paths that it finds
+//! by that.
 
 ghost use Rattle.std.specs.Prelude.{◌≡◌, ◌<◌, IfSome, option_map};
 ghost use Rattle.xbar_jobs.specs.Keeping.{AreEffects};
-ghost use Rattle.xbar_jobs.specs.Script.{live};
+ghost use Rattle.xbar_jobs.specs.Script.{walk_on_words};
 ghost use Rattle.xbar_jobs.specs.Sides.{IsNextJunctor, join as join_of, join_called as join_called_of, junctors_after as junctors_after_of, open_path as open_path_of, test_called as test_called_script, test_junctors as junctors_script, test_side as test_side_script, test_sides as test_sides_script};
 
 use crate::effect::Effect;
@@ -16,7 +17,7 @@ use xbar_equip::{Path, line_junctor};
 use xbar_match::match_channel;
 use xbar_office::CallPaths;
 
-/// One side of a call: the party, with what the ten line junctor switches of its frame were.
+/// One side of a call: the party, and the words of its frame's ten line junctor switches.
 #[derive(Drop)]
 pub struct Side {
     party: Party,
@@ -46,8 +47,8 @@ impl Model for Sides {
     ghost view = { λ a. record { calling = a.calling; called = a.called } };
 }
 
-/// The words of the ten line junctor switches of a frame.
-#[tactic(auto, using(attempts::proofs::LiveWalks::live_bind), unfolding(crate::specs::Sides::test_junctors))]
+/// Tests the ten line junctor switches of a frame in order, and returns their words.
+#[tactic(auto, using(attempts::proofs::WalksOnWords::live_bind), unfolding(crate::specs::Sides::test_junctors))]
 fn test_junctors(
     seen: &mut Seen,
     words: &[u64],
@@ -57,7 +58,7 @@ fn test_junctors(
     requires made { AreEffects made.now }
     requires frame { frame < 10 }
     ensures { record { found = result; course = seen.new; words = words.now }
-        ≡ live made.now (junctors_script frame 0 10) seen.old words.now }
+        ≡ walk_on_words made.now (junctors_script frame 0 10) seen.old words.now }
 {
     let mut row = [0; 10];
     for channel in 0..10 {
@@ -66,7 +67,8 @@ fn test_junctors(
     Ok(row)
 }
 
-/// The line junctor switch that is tested after this word, if the word is one and not a frame's last.
+/// The line junctor switch that is tested after this one. None if this word isn't a line junctor
+/// switch, or is the last of its frame.
 pub fn next_junctor(word: usize) -> Option<usize>
     ensures { IfSome result (λ next. IsNextJunctor word next) }
 {
@@ -79,6 +81,7 @@ pub fn next_junctor(word: usize) -> Option<usize>
     }
 }
 
+/// The words of a frame's line junctor switches as effects will leave them.
 fn junctors_after(effects: &[Effect], frame: u8, junctors: &[u64; 10]) -> [u64; 10]
     requires frame { frame < 10 }
     requires effects { AreEffects effects.now }
@@ -95,11 +98,12 @@ fn junctors_after(effects: &[Effect], frame: u8, junctors: &[u64; 10]) -> [u64; 
 impl Side {
     ghost use Rattle.xbar_jobs.specs.Sides.{side_after};
 
-    #[tactic(auto, using(attempts::proofs::LiveWalks::live_bind, attempts::proofs::LiveWalks::live_end), unfolding(crate::specs::Sides::test_side))]
+    /// Tests the line junctor switches of the party's frame.
+    #[tactic(auto, using(attempts::proofs::WalksOnWords::live_bind, attempts::proofs::WalksOnWords::live_end), unfolding(crate::specs::Sides::test_side))]
     fn test(seen: &mut Seen, words: &[u64], made: &[Effect], party: &Party) -> Result<Side, Wanted>
         requires made { AreEffects made.now }
         ensures { record { found = result; course = seen.new; words = words.now }
-            ≡ live made.now (test_side_script party.now) seen.old words.now }
+            ≡ walk_on_words made.now (test_side_script party.now) seen.old words.now }
     {
         let junctors = test_junctors(seen, words, made, party.line.frame())?;
         Ok(Side {
@@ -108,7 +112,7 @@ impl Side {
         })
     }
 
-    /// The side as effects will leave its words.
+    /// The side with its words as effects will leave them.
     fn after(&self, effects: &[Effect]) -> Self
         requires { AreEffects effects.now }
         ensures { result ≡ side_after effects.now self.now }
@@ -120,7 +124,7 @@ impl Side {
         }
     }
 
-    /// The path to a place by the first channel from `start` on whose three fields are open.
+    /// The path to a place by the first channel, from `start` on, whose three fields are open.
     fn open_path(&self, start: u8, reached: &Reached) -> Option<Path>
         requires { start < 10 }
         ensures { result ≡ open_path_of self.now start reached.now }
@@ -142,7 +146,8 @@ impl Side {
     }
 }
 
-#[tactic(auto, using(attempts::proofs::LiveWalks::live_bind, attempts::proofs::LiveWalks::live_end), unfolding(crate::specs::Sides::test_called))]
+/// Tests the called side, if there is a called party.
+#[tactic(auto, using(attempts::proofs::WalksOnWords::live_bind, attempts::proofs::WalksOnWords::live_end), unfolding(crate::specs::Sides::test_called))]
 fn test_called(
     seen: &mut Seen,
     words: &[u64],
@@ -151,7 +156,7 @@ fn test_called(
 ) -> Result<Option<Side>, Wanted>
     requires made { AreEffects made.now }
     ensures { record { found = result; course = seen.new; words = words.now }
-        ≡ live made.now (test_called_script party.now) seen.old words.now }
+        ≡ walk_on_words made.now (test_called_script party.now) seen.old words.now }
 {
     match party {
         None => Ok(None),
@@ -159,7 +164,8 @@ fn test_called(
     }
 }
 
-/// Joins the called side to the second place, as the words will be once the calling path is closed.
+/// Joins the called side to the second place, on the words as they will be once the calling path
+/// is closed.
 // Not inlined into every walk: a dial tone job would pay for its locals.
 #[inline(never)]
 fn join_called(
@@ -189,7 +195,7 @@ fn join_called(
 
 impl Sides {
     /// Tests the line junctor switches of the parties' frames.
-    #[tactic(auto, using(attempts::proofs::LiveWalks::live_bind, attempts::proofs::LiveWalks::live_end), unfolding(crate::specs::Sides::test_sides))]
+    #[tactic(auto, using(attempts::proofs::WalksOnWords::live_bind, attempts::proofs::WalksOnWords::live_end), unfolding(crate::specs::Sides::test_sides))]
     pub fn test(
         seen: &mut Seen,
         words: &[u64],
@@ -198,14 +204,14 @@ impl Sides {
     ) -> Result<Sides, Wanted>
         requires made { AreEffects made.now }
         ensures { record { found = result; course = seen.new; words = words.now }
-            ≡ live made.now (test_sides_script parties.now) seen.old words.now }
+            ≡ walk_on_words made.now (test_sides_script parties.now) seen.old words.now }
     {
         let calling = Side::test(seen, words, made, &parties.calling)?;
         let called = test_called(seen, words, made, &parties.called)?;
         Ok(Sides { calling, called })
     }
 
-    /// The paths that join the sides to a member, where each of them finds a channel.
+    /// The paths that join the sides to a member, if each side finds a channel.
     pub fn join(&self, start: u8, trunk: &Trunk) -> Option<CallPaths>
         requires { start < 10 }
         ensures { result ≡ join_of self.now start trunk.now }

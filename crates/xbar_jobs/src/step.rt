@@ -1,50 +1,39 @@
 ghost use Rattle.std.specs.Prelude.{◌≡◌, ◌≢◌, ◌<◌, length};
-ghost use Rattle.turns.specs.Attempt.{IsAnswerTo, unless_put_off};
+ghost use Rattle.turns.specs.Attempt.{IsAnswerTo};
 ghost use Rattle.xbar_equip.specs.Word.{word_count};
 ghost use Rattle.xbar_jobs.specs.OnWords.{step_word, operation as operation_of, step_answer, words_after, answer_of};
 ghost use Rattle.xbar_jobs.specs.Attempt.{Act, step_of};
 ghost use Rattle.xbar_jobs.specs.Turning.{IsStep};
 
-use turns::lock_word::{asked_by, request_bit, taken_by};
-use turns::{Answer, Judgement, Operation};
+use turns::lock_word::{request_bit, seized_by};
+use turns::{Answer, Operation};
 use xbar_equip::{Conn, WordNo, conn_word, turn_word};
 
 /// An atomic step: one operation on one word.
 #[derive(Clone, Copy, Debug, PartialEq, Eq)]
 pub enum Step {
-    /// Set the marker's request bit in the connector's word.
+    /// Sets the marker's request bit in the connector's word.
     Request(Conn),
-    /// Make the own request the own hold, if the connector's word still is this one.
+    /// Turns the marker's request into its hold, if the connector's word is still this value.
     Seize(Conn, u64),
-    /// Clear the marker's request bit.
+    /// Clears the marker's request bit.
     Withdraw(Conn),
-    /// Read the word.
+    /// Reads the word.
     Test(WordNo),
-    /// Add 1 to the turn word.
+    /// Adds 1 to the turn word.
     Turn,
-    /// Set these bits in the word.
+    /// Sets these bits in the word.
     Close(WordNo, u64),
-    /// Keep only these bits in the word.
+    /// Keeps only these bits in the word.
     Open(WordNo, u64),
-    /// Clear the holder in the connector's word.
+    /// Clears the holder in the connector's word.
     Free(Conn),
-    /// There is none: the job is done, and nothing is held.
+    /// No step: the job is done, and nothing is held.
     Finished,
 }
 
-/// The answer to a request or a seizing that may go on by this one.
-fn tell(answer: Answer, judgement: Judgement) -> Answer
-    ensures { result ≡ unless_put_off answer judgement }
-{
-    match judgement {
-        Judgement::Free => answer,
-        Judgement::Held(holder) => Answer::Held(holder),
-        Judgement::Preferred(other) => Answer::Preferred(other),
-    }
-}
-
 impl Step {
-    /// The word that the step is made on; that of `Finished` is the turn word, which it leaves as it is.
+    /// The word of the step. That of `Finished` is the turn word, which stays as it is.
     pub fn word(&self) -> WordNo
         requires { IsStep self.now }
         ensures word { result ≡ step_word self.now }
@@ -58,7 +47,7 @@ impl Step {
         }
     }
 
-    /// The operation that makes a marker's step on its word. A test is a load, and so is `Finished`.
+    /// The operation that makes a marker's step on its word. `Test` and `Finished` are loads.
     pub fn operation(&self, marker: u32) -> Operation
         requires { marker < 48 }
         ensures { result ≡ operation_of marker self.now }
@@ -67,7 +56,7 @@ impl Step {
             Step::Request(_) => Operation::Or(request_bit(marker)),
             Step::Seize(_, expected) => Operation::CompareExchange {
                 expected: *expected,
-                new: taken_by(marker, *expected),
+                new: seized_by(marker, *expected),
             },
             Step::Withdraw(_) => Operation::And(!request_bit(marker)),
             Step::Test(_) | Step::Finished => Operation::Load,
@@ -78,23 +67,14 @@ impl Step {
         }
     }
 
-    /// What the marker is told of its step that found this number.
+    /// The answer to the marker's step, which found this value in its word.
     pub fn answer(&self, marker: u32, found: u64) -> Answer
         requires { marker < 48 }
         ensures { result ≡ step_answer marker self.now found }
     {
         match self {
-            Step::Request(_) => {
-                let word = asked_by(marker, found);
-                tell(Answer::Asked(word), Judgement::of(marker, word))
-            }
-            Step::Seize(_, expected) => {
-                if found == *expected {
-                    Answer::Seized
-                } else {
-                    tell(Answer::Again(found), Judgement::of(marker, found))
-                }
-            }
+            Step::Request(_) => Answer::to_request(marker, found),
+            Step::Seize(_, expected) => Answer::to_seizing(marker, *expected, found),
             Step::Test(_) => Answer::Value(found),
             Step::Turn => Answer::Turn(found),
             Step::Withdraw(_)
@@ -105,7 +85,7 @@ impl Step {
         }
     }
 
-    /// Makes a marker's step on all of the office's words, and tells what came of it.
+    /// Makes a marker's step on the office's words, and returns the answer.
     pub fn make(&self, marker: u32, words: &mut [u64]) -> Answer
         requires step { IsStep self.now }
         requires marker { marker < 48 }

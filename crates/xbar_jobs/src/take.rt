@@ -16,7 +16,7 @@ pub struct Take {
 impl Take {
     ghost use Rattle.xbar_jobs.specs.Closing.{take_effects};
 
-    /// Adds what is made for it past the turn, in this order.
+    /// Adds its effects: the closes of its paths, then the setting of the member's bit.
     pub fn add_effects(&self, effects: &mut Effects)
         requires { array_vec_len effects.old + length (take_effects self.now) ≤ 14 }
         ensures { effects.new.items ≡ effects.old.items ++ take_effects self.now }

@@ -1,8 +1,8 @@
-//! Paths, traced from switch to switch as far as an attempt has come with them.
+//! The walks that approach a line and trace paths from switch to switch.
 
 ghost use Rattle.std.specs.Prelude.{◌≡◌, ◌<◌, IfSome, []};
 ghost use Rattle.xbar_jobs.specs.Keeping.{AreEffects};
-ghost use Rattle.xbar_jobs.specs.Script.{live};
+ghost use Rattle.xbar_jobs.specs.Script.{walk_on_words};
 ghost use Rattle.xbar_jobs.specs.Tracing.{approach as approach_script, trace as trace_script, trace_back as trace_back_script, trace_back_to as trace_back_to_script, trace_to as trace_to_script};
 
 use crate::effect::Effect;
@@ -14,9 +14,9 @@ use xbar_equip::{
 };
 use xbar_match::{find_number, line_place_of, place_of};
 
-/// Approaches a line: its frame is seized and its line switch tested.
-#[tactic(auto, using(attempts::proofs::LiveWalks::live_bind, attempts::proofs::LiveWalks::live_end), unfolding(crate::specs::Tracing::approach))]
-// Each walk begins with it.
+/// Approaches a line: seizes its frame and tests its line switch.
+#[tactic(auto, using(attempts::proofs::WalksOnWords::live_bind, attempts::proofs::WalksOnWords::live_end), unfolding(crate::specs::Tracing::approach))]
+// Inlined, since each walk begins with it.
 #[inline(always)]
 pub fn approach(
     seen: &mut Seen,
@@ -26,14 +26,15 @@ pub fn approach(
 ) -> Result<Party, Wanted>
     requires made { AreEffects made.now }
     ensures { record { found = result; course = seen.new; words = words.new }
-        ≡ live made.now (approach_script line) seen.old words.old }
+        ≡ walk_on_words made.now (approach_script line) seen.old words.old }
 {
     require_held(seen, words, Conn::Llf(line.frame()))?;
     let word = value_of(seen, words, made, line_switch(line.frame(), line.switch()))?;
     Ok(Party { line, word })
 }
 
-#[tactic(auto, using(attempts::proofs::LiveWalks::live_bind, attempts::proofs::LiveWalks::live_end), unfolding(crate::specs::Tracing::trace_to, crate::specs::Tracing::trace_at))]
+/// Traces a line's path on, once its channel and its trunk link frame are known.
+#[tactic(auto, using(attempts::proofs::WalksOnWords::live_bind, attempts::proofs::WalksOnWords::live_end), unfolding(crate::specs::Tracing::trace_to, crate::specs::Tracing::trace_at))]
 fn trace_to(
     seen: &mut Seen,
     words: &mut [u64],
@@ -44,7 +45,7 @@ fn trace_to(
     requires channel { channel < 10 }
     requires frame { IfSome frame (λ f. f < 10) }
     ensures { record { found = result; course = seen.new; words = words.new }
-        ≡ live [] (trace_to_script line channel frame) seen.old words.old }
+        ≡ walk_on_words [] (trace_to_script line channel frame) seen.old words.old }
 {
     let Some(frame) = frame else {
         return Ok(None);
@@ -65,12 +66,12 @@ fn trace_to(
     }
 }
 
-/// Traces a line's path from switch to switch. One that breaks off, which no lawful office shows, counts
-/// as none.
-#[tactic(auto, using(attempts::proofs::LiveWalks::live_bind, attempts::proofs::LiveWalks::live_end), unfolding(crate::specs::Tracing::trace, crate::specs::Tracing::trace_by))]
+/// Traces a line's path from switch to switch. A path that breaks off, which no lawful office
+/// shows, counts as none.
+#[tactic(auto, using(attempts::proofs::WalksOnWords::live_bind, attempts::proofs::WalksOnWords::live_end), unfolding(crate::specs::Tracing::trace, crate::specs::Tracing::trace_by))]
 pub fn trace(seen: &mut Seen, words: &mut [u64], party: &Party) -> Result<Option<Path>, Wanted>
     ensures { record { found = result; course = seen.new; words = words.new }
-        ≡ live [] (trace_script party.now) seen.old words.old }
+        ≡ walk_on_words [] (trace_script party.now) seen.old words.old }
 {
     let line = party.line;
     let Some(channel) = party.channel() else {
@@ -80,7 +81,8 @@ pub fn trace(seen: &mut Seen, words: &mut [u64], party: &Party) -> Result<Option
     trace_to(seen, words, line, channel, find_number(word, line.switch()))
 }
 
-#[tactic(auto, using(attempts::proofs::LiveWalks::live_bind, attempts::proofs::LiveWalks::live_end), unfolding(crate::specs::Tracing::trace_back_to, crate::specs::Tracing::trace_back_at))]
+/// Traces a trunk place's path on, once its channel and its line link frame are known.
+#[tactic(auto, using(attempts::proofs::WalksOnWords::live_bind, attempts::proofs::WalksOnWords::live_end), unfolding(crate::specs::Tracing::trace_back_to, crate::specs::Tracing::trace_back_at))]
 fn trace_back_to(
     seen: &mut Seen,
     words: &mut [u64],
@@ -91,7 +93,7 @@ fn trace_back_to(
     requires channel { channel < 10 }
     requires frame { IfSome frame (λ f. f < 10) }
     ensures { record { found = result; course = seen.new; words = words.new }
-        ≡ live [] (trace_back_to_script place channel frame) seen.old words.old }
+        ≡ walk_on_words [] (trace_back_to_script place channel frame) seen.old words.old }
 {
     let Some(frame) = frame else {
         return Ok(None);
@@ -113,10 +115,10 @@ fn trace_back_to(
 }
 
 /// Traces the path of a trunk place, whose frame is held, from switch to switch.
-#[tactic(auto, using(attempts::proofs::LiveWalks::live_bind, attempts::proofs::LiveWalks::live_end), unfolding(crate::specs::Tracing::trace_back, crate::specs::Tracing::trace_back_by))]
+#[tactic(auto, using(attempts::proofs::WalksOnWords::live_bind, attempts::proofs::WalksOnWords::live_end), unfolding(crate::specs::Tracing::trace_back, crate::specs::Tracing::trace_back_by))]
 pub fn trace_back(seen: &mut Seen, words: &mut [u64], place: Ten) -> Result<Option<Path>, Wanted>
     ensures { record { found = result; course = seen.new; words = words.new }
-        ≡ live [] (trace_back_script place) seen.old words.old }
+        ≡ walk_on_words [] (trace_back_script place) seen.old words.old }
 {
     let word = read(seen, words, trunk_switch(place.frame(), place.switch()))?;
     let Some(channel) = find_number(word, place.appearance()) else {

@@ -1,8 +1,8 @@
-//! Two trials on a trunk group, as far as an attempt has come with them.
+//! The walk of two trials on a trunk group.
 
 ghost use Rattle.std.specs.Prelude.{◌≡◌, ◌<◌, ◌≤◌, length};
 ghost use Rattle.xbar_jobs.specs.Keeping.{AreEffects};
-ghost use Rattle.xbar_jobs.specs.Script.{live};
+ghost use Rattle.xbar_jobs.specs.Script.{walk_on_words};
 ghost use Rattle.xbar_jobs.specs.Trials.{after_first_trial as after_first_script, first_trial_steps, second_trial_at as second_trial_at_script, second_trial_steps, trial_end as trial_end_of, two_trials_steps};
 
 use crate::effect::Effect;
@@ -14,8 +14,8 @@ use crate::trunks::{Trunks, next_clear};
 use xbar_office::{Card, Cards, TrialEnd, Trials};
 use xbar_plan::{Member, Plan};
 
-/// How a trial on a member ends, by what the trunk switches of its places and the line junctor switches
-/// were.
+/// How a trial on a member ends, by the words of its trunk switches and of the line junctor
+/// switches.
 fn trial_end(
     plan: &Plan,
     sides: &Sides,
@@ -30,7 +30,8 @@ fn trial_end(
     TrialEnd::of(plan, sides.join(start, &Trunk { first, second }))
 }
 
-#[tactic(auto, using(attempts::proofs::LiveWalks::live_bind, attempts::proofs::LiveWalks::live_end), unfolding(crate::specs::Trials::second_trial_steps))]
+/// Makes the second trial on this member, from channel 5 on.
+#[tactic(auto, using(attempts::proofs::WalksOnWords::live_bind, attempts::proofs::WalksOnWords::live_end), unfolding(crate::specs::Trials::second_trial_steps))]
 fn second_trial(
     plan: &Plan,
     seen: &mut Seen,
@@ -45,7 +46,7 @@ fn second_trial(
     requires index { index < 40 }
     requires cards { length cards ≤ 1 }
     ensures { record { found = result; course = seen.new; words = words.new }
-        ≡ live made.now (second_trial_steps plan.now sides.now cards index member.now)
+        ≡ walk_on_words made.now (second_trial_steps plan.now sides.now cards index member.now)
         seen.old words.old }
 {
     let trunk = reach(seen, words, made, member)?;
@@ -53,6 +54,7 @@ fn second_trial(
     Ok(Trials::second(cards, index as u8, end))
 }
 
+/// Makes the second trial on the member of this index.
 #[tactic(auto, unfolding(crate::specs::Trials::second_trial_at))]
 fn second_trial_at(
     plan: &Plan,
@@ -69,15 +71,15 @@ fn second_trial_at(
     requires size { length trunks.now.members ≤ 40 }
     requires cards { length cards ≤ 1 }
     ensures { record { found = result; course = seen.new; words = words.new }
-        ≡ live made.now (second_trial_at_script plan.now sides.now trunks.now cards index)
+        ≡ walk_on_words made.now (second_trial_at_script plan.now sides.now trunks.now cards index)
         seen.old words.old }
 {
     let member = &trunks.members[index];
     second_trial(plan, seen, words, made, sides, cards, index, member)
 }
 
-/// What follows the first trial: its own end, or a second trial by the same line junctor switches.
-#[tactic(auto, using(attempts::proofs::LiveWalks::live_end), unfolding(crate::specs::Trials::after_first_trial))]
+/// What follows the first trial: its choice, or a second trial on the same line junctor switches.
+#[tactic(auto, using(attempts::proofs::WalksOnWords::live_end), unfolding(crate::specs::Trials::after_first_trial))]
 fn after_first_trial(
     plan: &Plan,
     seen: &mut Seen,
@@ -92,7 +94,7 @@ fn after_first_trial(
     requires index { first < length trunks.now.members }
     requires size { length trunks.now.members ≤ 40 }
     ensures { record { found = result; course = seen.new; words = words.new }
-        ≡ live made.now (after_first_script plan.now sides.now trunks.now first end)
+        ≡ walk_on_words made.now (after_first_script plan.now sides.now trunks.now first end)
         seen.old words.old }
 {
     let cards = match end {
@@ -104,8 +106,8 @@ fn after_first_trial(
     second_trial_at(plan, seen, words, made, sides, trunks, cards, next)
 }
 
-/// Both trials, the first one on this member.
-#[tactic(auto, using(attempts::proofs::LiveWalks::live_bind), unfolding(crate::specs::Trials::first_trial_steps))]
+/// Makes the first trial on this member, and a second one if it fails.
+#[tactic(auto, using(attempts::proofs::WalksOnWords::live_bind), unfolding(crate::specs::Trials::first_trial_steps))]
 fn first_trial(
     plan: &Plan,
     seen: &mut Seen,
@@ -120,7 +122,8 @@ fn first_trial(
     requires index { first < length trunks.now.members }
     requires size { length trunks.now.members ≤ 40 }
     ensures { record { found = result; course = seen.new; words = words.new }
-        ≡ live made.now (first_trial_steps plan.now parties.now trunks.now first member.now)
+        ≡ walk_on_words made.now
+        (first_trial_steps plan.now parties.now trunks.now first member.now)
         seen.old words.old }
 {
     let trunk = reach(seen, words, made, member)?;
@@ -129,7 +132,7 @@ fn first_trial(
     after_first_trial(plan, seen, words, made, &sides, trunks, first, end)
 }
 
-/// Two trials on the group's members, from one that is idle on.
+/// Makes up to two trials on the group's members: on this idle one, and on the next idle one.
 #[tactic(auto, unfolding(crate::specs::Trials::two_trials_steps))]
 pub fn two_trials(
     plan: &Plan,
@@ -144,7 +147,7 @@ pub fn two_trials(
     requires index { first < length trunks.now.members }
     requires size { length trunks.now.members ≤ 40 }
     ensures { record { found = result; course = seen.new; words = words.new }
-        ≡ live made.now (two_trials_steps plan.now parties.now trunks.now first)
+        ≡ walk_on_words made.now (two_trials_steps plan.now parties.now trunks.now first)
         seen.old words.old }
 {
     first_trial(

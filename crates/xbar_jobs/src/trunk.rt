@@ -1,6 +1,6 @@
 ghost use Rattle.std.specs.Prelude.{◌≡◌};
 ghost use Rattle.xbar_jobs.specs.Keeping.{AreEffects};
-ghost use Rattle.xbar_jobs.specs.Script.{live};
+ghost use Rattle.xbar_jobs.specs.Script.{walk_on_words};
 ghost use Rattle.xbar_jobs.specs.Sides.{reach as reach_script, test_place as test_place_script, test_second as test_second_script};
 
 use crate::effect::Effect;
@@ -10,7 +10,7 @@ use crate::seen::{require_held, value_of};
 use xbar_equip::{Conn, Ten, trunk_switch};
 use xbar_plan::Member;
 
-/// A trunk place, with what the place's switch was.
+/// A trunk place, and the value of its switch word.
 #[derive(Clone, Copy)]
 pub struct Reached {
     pub place: Ten,
@@ -20,7 +20,7 @@ pub struct Reached {
 impl Reached {
     ghost use Rattle.xbar_jobs.specs.Sides.{reached_after};
 
-    /// The place as effects will leave its word.
+    /// The place with its word as effects will leave it.
     pub fn after(&self, effects: &[Effect]) -> Self
         requires { AreEffects effects.now }
         ensures { result ≡ reached_after effects.now self.now }
@@ -34,14 +34,15 @@ impl Reached {
     }
 }
 
-/// A member of a trunk group that was reached: its place, or of a pair both of its places.
+/// A member of a trunk group that was reached: its place, or both places of a pair.
 #[derive(Clone, Copy)]
 pub struct Trunk {
     pub first: Reached,
     pub second: Option<Reached>,
 }
 
-#[tactic(auto, using(attempts::proofs::LiveWalks::live_bind, attempts::proofs::LiveWalks::live_end), unfolding(crate::specs::Sides::test_place))]
+/// Tests the trunk switch of a place.
+#[tactic(auto, using(attempts::proofs::WalksOnWords::live_bind, attempts::proofs::WalksOnWords::live_end), unfolding(crate::specs::Sides::test_place))]
 fn test_place(
     seen: &mut Seen,
     words: &[u64],
@@ -50,7 +51,7 @@ fn test_place(
 ) -> Result<Reached, Wanted>
     requires made { AreEffects made.now }
     ensures { record { found = result; course = seen.new; words = words.now }
-        ≡ live made.now (test_place_script place) seen.old words.now }
+        ≡ walk_on_words made.now (test_place_script place) seen.old words.now }
 {
     let word = value_of(
         seen,
@@ -61,7 +62,8 @@ fn test_place(
     Ok(Reached { place, word })
 }
 
-#[tactic(auto, using(attempts::proofs::LiveWalks::live_bind, attempts::proofs::LiveWalks::live_end), unfolding(crate::specs::Sides::test_second))]
+/// Tests the trunk switch of the second place, if there is one.
+#[tactic(auto, using(attempts::proofs::WalksOnWords::live_bind, attempts::proofs::WalksOnWords::live_end), unfolding(crate::specs::Sides::test_second))]
 fn test_second(
     seen: &mut Seen,
     words: &[u64],
@@ -70,7 +72,7 @@ fn test_second(
 ) -> Result<Option<Reached>, Wanted>
     requires made { AreEffects made.now }
     ensures { record { found = result; course = seen.new; words = words.now }
-        ≡ live made.now (test_second_script place) seen.old words.now }
+        ≡ walk_on_words made.now (test_second_script place) seen.old words.now }
 {
     match place {
         None => Ok(None),
@@ -78,8 +80,8 @@ fn test_second(
     }
 }
 
-/// Reaches a member: its trunk link frame is seized, and the trunk switches of its places are tested.
-#[tactic(auto, using(attempts::proofs::LiveWalks::live_bind, attempts::proofs::LiveWalks::live_end), unfolding(crate::specs::Sides::reach))]
+/// Reaches a member: seizes its trunk link frame and tests the trunk switches of its places.
+#[tactic(auto, using(attempts::proofs::WalksOnWords::live_bind, attempts::proofs::WalksOnWords::live_end), unfolding(crate::specs::Sides::reach))]
 #[inline(always)]
 pub fn reach(
     seen: &mut Seen,
@@ -89,7 +91,7 @@ pub fn reach(
 ) -> Result<Trunk, Wanted>
     requires made { AreEffects made.now }
     ensures { record { found = result; course = seen.new; words = words.new }
-        ≡ live made.now (reach_script member.now) seen.old words.old }
+        ≡ walk_on_words made.now (reach_script member.now) seen.old words.old }
 {
     require_held(seen, words, Conn::Tlf(member.first.frame()))?;
     let first = test_place(seen, words, made, member.first)?;

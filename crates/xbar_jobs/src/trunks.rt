@@ -1,10 +1,10 @@
-//! Trunk groups, as a marker knows them by their words.
+//! Trunk groups, as a marker reads them from their words.
 
 ghost use Rattle.std.specs.Prelude.{◌≡◌, ◌<◌, ◌≤◌, IfOk, IfSome, length};
 ghost use Rattle.xbar_equip.specs.First.{first_below, next_below};
 ghost use Rattle.xbar_office.specs.Trunks.{AreGroups};
 ghost use Rattle.xbar_jobs.specs.Keeping.{AreEffects};
-ghost use Rattle.xbar_jobs.specs.Script.{live};
+ghost use Rattle.xbar_jobs.specs.Script.{walk_on_words};
 ghost use Rattle.xbar_jobs.specs.Trunks.{IsOfPlan, find_trunk as find_trunk_script, is_bit_clear as is_bit_clear_of, trunks_of as trunks_by};
 
 use crate::effect::Effect;
@@ -14,7 +14,8 @@ use std::marker::Model;
 use xbar_equip::{Conn, group_word};
 use xbar_plan::{Member, Plan};
 
-/// A group that has an idle member: what its word was, and its first idle member.
+/// A group that has an idle member: its number, its word's value, and its first idle member's
+/// index.
 #[derive(Clone, Copy)]
 pub struct IdleGroup {
     pub group: u8,
@@ -22,7 +23,7 @@ pub struct IdleGroup {
     pub first: u8,
 }
 
-/// The members of a trunk group, with what the group's word was.
+/// The members of a trunk group, and the value of the group's word.
 #[derive(Drop)]
 pub struct Trunks<'p> {
     pub members: &'p [Member],
@@ -44,7 +45,7 @@ fn is_bit_clear(word: u64, index: usize) -> bool
     word >> index & 1 == 0
 }
 
-/// The first of so many members whose bit is 0.
+/// The first of `count` members whose bit is 0.
 fn first_clear(word: u64, count: usize) -> Option<usize>
     requires { count ≤ 40 }
     ensures first { result ≡ first_below (is_bit_clear_of word) count }
@@ -58,7 +59,7 @@ fn first_clear(word: u64, count: usize) -> Option<usize>
     None
 }
 
-/// The next one after a member; that one again, where none follows.
+/// The next member whose bit is 0, or this one again if none follows.
 pub fn next_clear(word: u64, count: usize, index: usize) -> usize
     requires index { index < count }
     requires size { count ≤ 40 }
@@ -73,13 +74,13 @@ pub fn next_clear(word: u64, count: usize, index: usize) -> usize
     index
 }
 
-/// The members of a group of the plan, with what the group's word was.
+/// The members of a group of the plan, with the value of the group's word.
 pub fn trunks_of(plan: &Plan, group: u8, word: u64) -> Trunks<'_>
     requires { group < length plan.now.groups }
     ensures trunks { result ≡ trunks_by plan.now group word }
     ensures size { length result.members ≤ 40 }
 {
-    // Called for its clauses alone.
+    // Called only for its contract.
     xbar_plan::laws::groups_have_members();
     Trunks {
         members: plan.group(group).members(),
@@ -87,7 +88,8 @@ pub fn trunks_of(plan: &Plan, group: u8, word: u64) -> Trunks<'_>
     }
 }
 
-/// The first of some groups that has an idle member: each is seized and its word tested, until one has.
+/// Finds the first of some groups that has an idle member. Seizes the groups and tests their words
+/// in order, until one has.
 pub fn find_trunk(
     plan: &Plan,
     seen: &mut Seen,
@@ -98,10 +100,10 @@ pub fn find_trunk(
     requires made { AreEffects made.now }
     requires groups { AreGroups plan.now groups.now }
     ensures walk { record { found = result; course = seen.new; words = words.new }
-        ≡ live made.now (find_trunk_script plan.now groups.now) seen.old words.old }
+        ≡ walk_on_words made.now (find_trunk_script plan.now groups.now) seen.old words.old }
     ensures range { IfOk result (λ found. IfSome found (λ idle. IsOfPlan plan.now idle)) }
 {
-    // Called for their clauses alone.
+    // Called only for their contracts.
     xbar_plan::laws::every_plan_is_lawful(plan);
     xbar_plan::laws::groups_have_members();
     for group in groups {

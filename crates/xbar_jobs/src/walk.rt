@@ -5,9 +5,9 @@ ghost use Rattle.attempts.specs.Points.{GoesOnTo};
 ghost use Rattle.xbar_equip.specs.Conn.{conn_eq};
 ghost use Rattle.xbar_office.specs.Legal.{IsJob};
 ghost use Rattle.xbar_jobs.specs.Jobs.{TestsRows, script, first_conn as first_conn_of, job_line};
-ghost use Rattle.xbar_jobs.specs.Script.{live, walk as walk_of};
+ghost use Rattle.xbar_jobs.specs.Script.{walk_on_words, walk as walk_of};
 ghost use Rattle.xbar_jobs.specs.Sides.{IsNextJunctor};
-ghost use Rattle.xbar_jobs.specs.Tracing.{Knows};
+ghost use Rattle.xbar_jobs.specs.Tracing.{ResumePointIsValid};
 
 use crate::completing::complete;
 use crate::decided::Decided;
@@ -36,6 +36,7 @@ pub fn first_conn(job: &Job) -> Conn
     Conn::Llf(line_of(job).frame())
 }
 
+/// Walks a job of any kind.
 #[tactic(auto, unfolding(crate::specs::Jobs::script))]
 // Not inlined, so that a walk that stops early pays for few locals.
 #[inline(never)]
@@ -46,10 +47,10 @@ fn follow(
     job: &Job,
     way: &mut Way,
 ) -> Result<Decision, Wanted>
-    requires { Knows (job_line job.now) way.old seen.old.seen }
+    requires { ResumePointIsValid (job_line job.now) way.old seen.old.seen }
     ensures walk { record { found = result; course = seen.new; words = words.new }
-        ≡ live [] (script plan.now job.now) seen.old words.old }
-    ensures knows { Knows (job_line job.now) way.new seen.new.seen }
+        ≡ walk_on_words [] (script plan.now job.now) seen.old words.old }
+    ensures valid_point { ResumePointIsValid (job_line job.now) way.new seen.new.seen }
 {
     match job {
         Job::Dial(line) => dial(plan, seen, words, *line, way),
@@ -58,7 +59,7 @@ fn follow(
     }
 }
 
-/// Goes through a job with what an attempt has come by: to its decision, or to what it wants first.
+/// Walks a job on what the attempt holds and has read: to its decision, or to what it needs next.
 pub fn walk(
     plan: &Plan,
     seen: &mut Seen,
@@ -67,18 +68,19 @@ pub fn walk(
     way: &mut Way,
 ) -> Result<Decided, Wanted>
     requires job { IsJob job.now }
-    requires knows { Knows (job_line job.now) way.old seen.old.seen }
+    requires valid_point { ResumePointIsValid (job_line job.now) way.old seen.old.seen }
     ensures walk { record { found = result; course = seen.new; words = words.new }
-        ≡ live [] (script plan.now job.now) seen.old words.old }
-    ensures knows { Knows (job_line job.now) way.new seen.new.seen }
+        ≡ walk_on_words [] (script plan.now job.now) seen.old words.old }
+    ensures valid_point { ResumePointIsValid (job_line job.now) way.new seen.new.seen }
 {
     let decision = follow(plan, seen, words, job, way)?;
-    // Called for their clauses alone.
+    // Called only for their contracts.
     xbar_plan::laws::every_plan_is_lawful(plan);
     seen.fits_words();
     Ok(Decided::new(decision))
 }
 
+/// Whether the job, from here on, tests line junctor switches only in whole rows.
 fn tests_rows(job: &Job, way: &Way) -> bool
     ensures { IsTrue result → TestsRows job.now way.now }
 {
@@ -92,7 +94,7 @@ fn tests_rows(job: &Job, way: &Way) -> bool
     }
 }
 
-/// The line junctor switch after this word, where that isn't its frame's last, and it wasn't read.
+/// The line junctor switch after this one in its frame, if there is one that wasn't read yet.
 fn unread_after(seen: &Seen, word: usize) -> Option<usize>
     ensures next { IfSome result (λ next. IsNextJunctor word next) }
     ensures unread { IfSome result (λ next. value_read seen.now.seen.readings next ≡ None) }
@@ -105,15 +107,16 @@ fn unread_after(seen: &Seen, word: usize) -> Option<usize>
     }
 }
 
-/// The word that a job tests next once it has read the one that it wants, if that needs no walk: the
-/// ten line junctor switches of a frame are tested in order, whatever they show and whatever the plan is.
+/// The word that a job tests after the one that it needs next, if that is known without a walk.
+/// The ten line junctor switches of a frame are tested in order, whatever they show and whatever
+/// the plan is.
 pub fn next_in_row(plan: &Plan, seen: &Seen, job: &Job, way: &Way, word: usize) -> Option<usize>
     requires job { IsJob job.now }
-    requires knows { Knows (job_line job.now) way.now seen.now.seen }
+    requires valid_point { ResumePointIsValid (job_line job.now) way.now seen.now.seen }
     requires wants { walk_of seen.now.seen (script plan.now job.now) ≡ Err (Test word) }
     ensures { IfSome result (GoesOnTo conn_eq seen.now.seen (script plan.now job.now) word) }
 {
-    // Called for its clauses alone.
+    // Called only for its contract.
     xbar_plan::laws::every_plan_is_lawful(plan);
     if tests_rows(job, way) {
         unread_after(seen, word)

@@ -1,22 +1,22 @@
-//! How far a job's walks have come.
+//! The resume point of a job's walks.
 
 ghost use Rattle.std.specs.Prelude.{◌≡◌, Ok, []};
-ghost use Rattle.xbar_jobs.specs.Script.{live, walk};
-ghost use Rattle.xbar_jobs.specs.Tracing.{Knows, approach as approach_script, trace as trace_script};
+ghost use Rattle.xbar_jobs.specs.Script.{walk_on_words, walk};
+ghost use Rattle.xbar_jobs.specs.Tracing.{ResumePointIsValid, approach as approach_script, trace as trace_script};
 
 use crate::kinds::{Seen, Wanted};
 use crate::party::Party;
 use crate::tracing::{approach, trace};
 use xbar_equip::{Len, Path};
 
-/// How far a job's walks have come: the next one goes on from there.
+/// How far a job's walks have come. The next walk goes on from there.
 #[derive(Clone, Copy, Debug)]
 pub enum Way {
-    /// From the job's beginning.
+    /// Nothing was found yet.
     Begun,
     /// The calling line's switch was read.
     Approached { calling: Party },
-    /// Its own path was traced too, if it has one.
+    /// Its own path was traced too. None if it has no path.
     Traced { calling: Party, own: Option<Path> },
 }
 
@@ -36,18 +36,18 @@ impl Way {
         }
     }
 
-    /// Approaches the calling line, unless walks before have.
+    /// Approaches the calling line, unless an earlier walk has.
     pub fn approach(
         &mut self,
         seen: &mut Seen,
         words: &mut [u64],
         line: Len,
     ) -> Result<Party, Wanted>
-        requires { Knows line self.old seen.old.seen }
+        requires { ResumePointIsValid line self.old seen.old.seen }
         ensures walk { record { found = result; course = seen.new; words = words.new }
-            ≡ live [] (approach_script line) seen.old words.old }
+            ≡ walk_on_words [] (approach_script line) seen.old words.old }
         ensures found { walk seen.new.seen (approach_script line) ≡ result }
-        ensures knows { Knows line self.new seen.new.seen }
+        ensures valid_point { ResumePointIsValid line self.new seen.new.seen }
     {
         if let Way::Approached { calling } = *self {
             return Ok(calling);
@@ -60,7 +60,7 @@ impl Way {
         Ok(calling)
     }
 
-    /// Traces the calling line's own path, unless walks before have.
+    /// Traces the calling line's own path, unless an earlier walk has.
     pub fn trace(
         &mut self,
         seen: &mut Seen,
@@ -68,11 +68,11 @@ impl Way {
         line: Len,
         calling: &Party,
     ) -> Result<Option<Path>, Wanted>
-        requires knows { Knows line self.old seen.old.seen }
+        requires valid_point { ResumePointIsValid line self.old seen.old.seen }
         requires approached { walk seen.old.seen (approach_script line) ≡ Ok calling.now }
         ensures walk { record { found = result; course = seen.new; words = words.new }
-            ≡ live [] (trace_script calling.now) seen.old words.old }
-        ensures knows { Knows line self.new seen.new.seen }
+            ≡ walk_on_words [] (trace_script calling.now) seen.old words.old }
+        ensures valid_point { ResumePointIsValid line self.new seen.new.seen }
     {
         if let Way::Traced { own, .. } = *self {
             return Ok(own);

@@ -16,7 +16,7 @@ abbrev pub on_task : (CallRecords → ℕ) → Task → ℕ
 on_task h (task.Complete c) = h c
 on_task h task.Stop = 0
 
--- weights of calls, and of records, as such of calls with their records
+-- weights of calls, and of records, as weights of calls with their records
 abbrev pub on_call : (Call → ℕ) → CallRecords → ℕ
 on_call w c = w c.call
 

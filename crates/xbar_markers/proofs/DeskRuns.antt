@@ -1,4 +1,5 @@
--- seats in two parts, those that dial and those that complete calls, and what one of their workers does at the end
+-- thread states in two parts, those that dial and those that complete calls, and what one of their
+-- workers does at the end
 use Rattle.std.proofs.Common.{◌≡◌, ℕ, zero, suc, ◌+◌, ◌<◌, List, [], ◌∷◌, ◌++◌, map, length, take, drop, sym, refl, ap, ◌∙◌, subst, arith, All, flat_map, get_or, sum_by}
 use Rattle.std.proofs.lemmas.List.{get_or-drop, get_or-map, get_or-take, length-drop, length-map, length-take, map-append, map-set, take-append-drop}
 use Rattle.std.proofs.lemmas.List.Elements.{All-head}
@@ -9,113 +10,113 @@ use Rattle.fair_queue.specs.Tickets.{TicketView, with_fewer_parts}
 use Rattle.xbar_core.specs.declared.kind.Kind.{Kind}
 use Rattle.xbar_core.specs.declared.kind.Kind.TheVariants.{Completing, Dial}
 use Rattle.xbar_fabric.specs.Views.{DeskView, FabricView}
-use Rattle.xbar_markers.specs.Seats.{AreSeatsOf, HaveServed, IsSeat, IsThere, StayOf, desk_at, desks_at}
+use Rattle.xbar_markers.specs.ThreadStates.{AreStatesOf, HaveServed, IsThreadState, IsThere, StayOf, desk_at, desks_at}
 use Rattle.xbar_markers.specs.Shares.{HasServed, HasStopped, IsFilled, IsShareOf, in_tasks, out_of}
-use Rattle.xbar_markers.specs.Staff.{kinds_of}
+use Rattle.xbar_markers.specs.DesksByKind.{kinds_of}
 use Rattle.xbar_markers.specs.Work.{AreShort}
 use Rattle.xbar_markers.specs.Calls.{HasDialTone, IsServed, records_of}
 use Rattle.xbar_markers.specs.declared.call.Call.{Call}
 use Rattle.xbar_markers.specs.declared.call_records.CallRecords.{CallRecords}
 use Rattle.xbar_markers.specs.declared.queues.Queues.{Queues}
-use Rattle.xbar_markers.specs.declared.seat.Seat.{Seat}
+use Rattle.xbar_markers.specs.declared.thread_state.ThreadState.{ThreadState}
 use Rattle.xbar_markers.specs.declared.share.Share.{Share}
 use Rattle.xbar_markers.specs.declared.task.Task.{Task}
 use Rattle.xbar_markers.specs.declared.worker.Worker.{Worker}
-use Rattle.xbar_markers.proofs.StaffKinds.{are_split}
+use Rattle.xbar_markers.proofs.KindsOfDesks.{are_split}
 
 module _ {G : Type 0} where
-  -- the first seats are of the first desks, and the others of the others
-  pub first_seats : (n : ℕ) (befores : List DeskView) (seats : List (Seat DeskView G)) → AreSeatsOf befores seats → AreSeatsOf (take n befores) (take n seats)
-  first_seats zero befores seats are = tt
+  -- the first states are of the first desks, and the others of the others
+  pub first_seats : (n : ℕ) (befores : List DeskView) (states : List (ThreadState DeskView G)) → AreStatesOf befores states → AreStatesOf (take n befores) (take n states)
+  first_seats zero befores states are = tt
   first_seats (suc n) [] [] are = tt
-  first_seats (suc n) [] (seat ∷ seats) are = absurd are
+  first_seats (suc n) [] (state ∷ states) are = absurd are
   first_seats (suc n) (before ∷ befores) [] are = absurd are
-  first_seats (suc n) (before ∷ befores) (seat ∷ seats) are = (are.0, first_seats n befores seats are.1)
+  first_seats (suc n) (before ∷ befores) (state ∷ states) are = (are.0, first_seats n befores states are.1)
 
-  pub last_seats : (n : ℕ) (befores : List DeskView) (seats : List (Seat DeskView G)) → AreSeatsOf befores seats → AreSeatsOf (drop n befores) (drop n seats)
-  last_seats zero befores seats are = are
+  pub last_seats : (n : ℕ) (befores : List DeskView) (states : List (ThreadState DeskView G)) → AreStatesOf befores states → AreStatesOf (drop n befores) (drop n states)
+  last_seats zero befores states are = are
   last_seats (suc n) [] [] are = tt
-  last_seats (suc n) [] (seat ∷ seats) are = absurd are
+  last_seats (suc n) [] (state ∷ states) are = absurd are
   last_seats (suc n) (before ∷ befores) [] are = absurd are
-  last_seats (suc n) (before ∷ befores) (seat ∷ seats) are = last_seats n befores seats are.1
+  last_seats (suc n) (before ∷ befores) (state ∷ states) are = last_seats n befores states are.1
 
-  -- a seat of some kind is one of its desk's kind
-  abbrev AnySeat : FabricView → Queues → Seat DeskView G → Type 0
-  AnySeat fabric queues seat = IsSeat (desk_at seat).kind fabric queues seat
+  -- a thread state, of its desk's kind
+  abbrev AnySeat : FabricView → Queues → ThreadState DeskView G → Type 0
+  AnySeat fabric queues state = IsThreadState (desk_at state).kind fabric queues state
 
-  module _ (dialling completing : ℕ) (fabric : FabricView) (queues : Queues) (desks : List DeskView) (seats : List (Seat DeskView G))
-      (kinds : map (λ (d : DeskView). d.kind) desks ≡ kinds_of dialling completing) (theirs : map desk_at seats ≡ desks) (all : All (AnySeat fabric queues) seats) where
-    as_many : length seats ≡ dialling + completing
+  module _ (dialling completing : ℕ) (fabric : FabricView) (queues : Queues) (desks : List DeskView) (states : List (ThreadState DeskView G))
+      (kinds : map (λ (d : DeskView). d.kind) desks ≡ kinds_of dialling completing) (theirs : map desk_at states ≡ desks) (all : All (AnySeat fabric queues) states) where
+    as_many : length states ≡ dialling + completing
     as_many =
         let count = (are_split dialling completing desks kinds).count in
         let same = ap (length {A = DeskView}) theirs in
-        omega (arith, count, same, length-map seats (λ (s : Seat DeskView G). desk_at s))
+        omega (arith, count, same, length-map states (λ (s : ThreadState DeskView G). desk_at s))
 
-    kind_at : (i : ℕ) (e : Seat DeskView G) → i < length seats → get_or desks i (desk_at e) ≡ desk_at (get_or seats i e)
-    kind_at i e below = sym (ap (λ (l : List DeskView). get_or l i (desk_at e)) theirs) ∙ get_or-map desk_at seats i e (desk_at e) below
+    kind_at : (i : ℕ) (e : ThreadState DeskView G) → i < length states → get_or desks i (desk_at e) ≡ desk_at (get_or states i e)
+    kind_at i e below = sym (ap (λ (l : List DeskView). get_or l i (desk_at e)) theirs) ∙ get_or-map desk_at states i e (desk_at e) below
 
-    pub diallers : All (IsSeat Dial fabric queues) (take dialling seats)
+    pub diallers : All (IsThreadState Dial fabric queues) (take dialling states)
     diallers i e below =
         let count = as_many in
-        let near : i < dialling = omega (arith, below, length-take dialling seats) in
-        let within : i < length seats = omega (arith, near, count) in
-        let kind : (desk_at (get_or seats i e)).kind ≡ Dial = sym (ap (λ (d : DeskView). d.kind) (kind_at i e within)) ∙ (are_split dialling completing desks kinds).first i (desk_at e) near in
-        subst (IsSeat Dial fabric queues) (sym (get_or-take dialling seats i e near))
-        (subst (λ (k : Kind). IsSeat k fabric queues (get_or seats i e)) kind (all i e within))
+        let near : i < dialling = omega (arith, below, length-take dialling states) in
+        let within : i < length states = omega (arith, near, count) in
+        let kind : (desk_at (get_or states i e)).kind ≡ Dial = sym (ap (λ (d : DeskView). d.kind) (kind_at i e within)) ∙ (are_split dialling completing desks kinds).first i (desk_at e) near in
+        subst (IsThreadState Dial fabric queues) (sym (get_or-take dialling states i e near))
+        (subst (λ (k : Kind). IsThreadState k fabric queues (get_or states i e)) kind (all i e within))
 
-    pub completers : All (IsSeat Completing fabric queues) (drop dialling seats)
+    pub completers : All (IsThreadState Completing fabric queues) (drop dialling states)
     completers i e below =
         let count = as_many in
-        let within : dialling + i < length seats = omega (arith, below, length-drop dialling seats, count) in
-        let kind : (desk_at (get_or seats (dialling + i) e)).kind ≡ Completing =
+        let within : dialling + i < length states = omega (arith, below, length-drop dialling states, count) in
+        let kind : (desk_at (get_or states (dialling + i) e)).kind ≡ Completing =
         sym (ap (λ (d : DeskView). d.kind) (kind_at (dialling + i) e within))
         ∙ (are_split dialling completing desks kinds).last (dialling + i) (desk_at e) (omega arith) (omega (arith, within, count)) in
-        subst (IsSeat Completing fabric queues) (sym (get_or-drop dialling seats i e))
-        (subst (λ (k : Kind). IsSeat k fabric queues (get_or seats (dialling + i) e)) kind (all (dialling + i) e within))
+        subst (IsThreadState Completing fabric queues) (sym (get_or-drop dialling states i e))
+        (subst (λ (k : Kind). IsThreadState k fabric queues (get_or states (dialling + i) e)) kind (all (dialling + i) e within))
 
     -- as many of each as there are desks of the kind
-    pub first_count : length (take dialling seats) ≡ dialling
-    first_count = let count = as_many in omega (arith, count, length-take dialling seats)
+    pub first_count : length (take dialling states) ≡ dialling
+    first_count = let count = as_many in omega (arith, count, length-take dialling states)
 
-    pub last_count : length (drop dialling seats) ≡ completing
-    last_count = let count = as_many in omega (arith, count, length-drop dialling seats)
+    pub last_count : length (drop dialling states) ≡ completing
+    last_count = let count = as_many in omega (arith, count, length-drop dialling states)
 
-  abbrev worker_of : Seat DeskView G → Worker DeskView G
-  worker_of seat = seat.worker
+  abbrev worker_of : ThreadState DeskView G → Worker DeskView G
+  worker_of state = state.worker
 
-  -- the desks of the workers at seats are the desks at the seats
-  desks_there : (seats : List (Seat DeskView G)) → desks_at (map worker_of seats) ≡ map desk_at seats
+  -- the desks of the states' workers are the desks of the states
+  desks_there : (states : List (ThreadState DeskView G)) → desks_at (map worker_of states) ≡ map desk_at states
   desks_there [] = refl
-  desks_there (seat ∷ seats) = ap (λ (l : List DeskView). desk_at seat ∷ l) (desks_there seats)
+  desks_there (state ∷ states) = ap (λ (l : List DeskView). desk_at state ∷ l) (desks_there states)
 
-  -- who dials stands first
-  pub there_first : (fabric : FabricView) (queues : Queues) (dialled completed : List (Seat DeskView G)) → All (IsSeat Dial fabric queues) dialled → 0 < length dialled → IsThere Dial fabric (map worker_of dialled ++ map worker_of completed) 0
+  -- a worker that dials is first
+  pub there_first : (fabric : FabricView) (queues : Queues) (dialled completed : List (ThreadState DeskView G)) → All (IsThreadState Dial fabric queues) dialled → 0 < length dialled → IsThere Dial fabric (map worker_of dialled ++ map worker_of completed) 0
   there_first fabric queues [] completed all some = absurd (omega (arith, some))
-  there_first fabric queues (seat ∷ dialled) completed all some =
-      let first = All-head (IsSeat Dial fabric queues) seat dialled all in
+  there_first fabric queues (state ∷ dialled) completed all some =
+      let first = All-head (IsThreadState Dial fabric queues) state dialled all in
       (first.ready, first.kind_is)
 
-  -- and behind them who completes calls
-  pub there_next : (fabric : FabricView) (queues : Queues) (dialled completed : List (Seat DeskView G)) → All (IsSeat Completing fabric queues) completed → 0 < length completed
+  -- and after all that dial is one that completes calls
+  pub there_next : (fabric : FabricView) (queues : Queues) (dialled completed : List (ThreadState DeskView G)) → All (IsThreadState Completing fabric queues) completed → 0 < length completed
       → IsThere Completing fabric (map worker_of dialled ++ map worker_of completed) (length dialled)
   there_next fabric queues [] [] all some = absurd (omega (arith, some))
-  there_next fabric queues [] (seat ∷ completed) all some =
-      let first = All-head (IsSeat Completing fabric queues) seat completed all in
+  there_next fabric queues [] (state ∷ completed) all some =
+      let first = All-head (IsThreadState Completing fabric queues) state completed all in
       (first.ready, first.kind_is)
-  there_next fabric queues (seat ∷ dialled) completed all some = there_next fabric queues dialled completed all some
+  there_next fabric queues (state ∷ dialled) completed all some = there_next fabric queues dialled completed all some
 
-  -- what gathering the shares of seats does to a share
-  abbrev Gathers : List (Seat DeskView G) → Share → Share → Type 0
-  Gathers seats share after = (befores desks others : List DeskView) → IsShareOf befores desks share → AreSeatsOf others seats
-      → IsShareOf (befores ++ others) (desks ++ map desk_at seats) after
+  -- what gathering the shares of thread states does to a share
+  abbrev Gathers : List (ThreadState DeskView G) → Share → Share → Type 0
+  Gathers states share after = (befores desks others : List DeskView) → IsShareOf befores desks share → AreStatesOf others states
+      → IsShareOf (befores ++ others) (desks ++ map desk_at states) after
 
   -- once all shares are in one, it is that of all desks
-  pub all_gathered : (n : ℕ) (befores : List DeskView) (seats first last dialled completed : List (Seat DeskView G)) (whole one two : Share) (workers : List (Worker DeskView G))
-      → AreSeatsOf befores seats → first ≡ take n seats → last ≡ drop n seats → StayOf first dialled → StayOf last completed → IsShareOf [] [] whole → Gathers dialled whole one → Gathers completed one two
+  pub all_gathered : (n : ℕ) (befores : List DeskView) (states first last dialled completed : List (ThreadState DeskView G)) (whole one two : Share) (workers : List (Worker DeskView G))
+      → AreStatesOf befores states → first ≡ take n states → last ≡ drop n states → StayOf first dialled → StayOf last completed → IsShareOf [] [] whole → Gathers dialled whole one → Gathers completed one two
       → workers ≡ map worker_of dialled ++ map worker_of completed → IsShareOf befores (desks_at workers) two
-  all_gathered n befores seats first last dialled completed whole one two workers are first_is last_is stay_first stay_last none gathers_one gathers_two workers_are =
-      let of_first = stay_first (take n befores) (subst (AreSeatsOf (take n befores)) (sym first_is) (first_seats n befores seats are)) in
-      let of_last = stay_last (drop n befores) (subst (AreSeatsOf (drop n befores)) (sym last_is) (last_seats n befores seats are)) in
+  all_gathered n befores states first last dialled completed whole one two workers are first_is last_is stay_first stay_last none gathers_one gathers_two workers_are =
+      let of_first = stay_first (take n befores) (subst (AreStatesOf (take n befores)) (sym first_is) (first_seats n befores states are)) in
+      let of_last = stay_last (drop n befores) (subst (AreStatesOf (drop n befores)) (sym last_is) (last_seats n befores states are)) in
       let both = gathers_two (take n befores) (map desk_at dialled) (drop n befores) (gathers_one [] [] (take n befores) none of_first) of_last in
       let desks_are : desks_at workers ≡ map desk_at dialled ++ map desk_at completed =
       ap desks_at workers_are ∙ map-append (λ (w : Worker DeskView G). w.desk) (map worker_of dialled) (map worker_of completed)
@@ -157,7 +158,7 @@ nobodys share no_calls no_tasks none_put none_kept none_ended =
       ended = subst (All (IsServed (AreShort []))) (sym none_ended) (λ i d below. absurd (omega (arith, below)));
     }
 
--- nor is what is left of it once seats have their parts and the stops are put
+-- nor is the share that is left once the thread states have their parts and the stops are put
 pub nobodys_after : (queues : Queues) (calls : List Call) (n : ℕ) (filled hired after : Share) → IsFilled queues calls filled → hired.calls ≡ with_fewer_parts filled.calls n → hired.tasks ≡ with_fewer_parts filled.tasks n
     → hired.kept.items ≡ filled.kept.items → hired.ended.items ≡ filled.ended.items → HasStopped hired after → IsShareOf [] [] after
 nobodys_after queues calls n filled hired after is calls_are tasks_are kept_is ended_is stopped =

@@ -8,13 +8,13 @@ use Rattle.desks.specs.Parts.{Begins}
 use Rattle.xbar_office.specs.declared.job.Job.{Job}
 use Rattle.xbar_office.specs.declared.reply.Record.{Record}
 use Rattle.xbar_jobs.specs.Jobs.{first_conn}
-use Rattle.xbar_core.specs.AtWork.{told_of}
+use Rattle.xbar_core.specs.AtWork.{answer_to_step}
 use Rattle.xbar_core.specs.Exchange.{Exchange, Work}
 use Rattle.xbar_core.specs.Moves.{added_record, after_step, work_anew}
 use Rattle.xbar_core.specs.declared.event.Event.{Event}
 use Rattle.xbar_core.specs.declared.event.Event.TheVariants.{Finished}
 use Rattle.xbar_core.proofs.StepCases.{step_cases}
-use Rattle.xbar_fabric.specs.Advances.{HasAdvanced, HasGivenBack, HasMade, HasStepped, at_beginning}
+use Rattle.xbar_fabric.specs.Advances.{MarkerHasAdvanced, MarkerHasGivenBack, MarkerHasMade, MarkerHasStepped, at_beginning}
 use Rattle.xbar_fabric.specs.Histories.{job_at, turned_of}
 use Rattle.xbar_fabric.specs.Views.{DeskView, mine}
 use Rattle.xbar_markers.specs.Handing.{HasGiven, IsAtHand}
@@ -28,36 +28,36 @@ begins_both : (one two three : List Record) → Begins one two → Begins two th
 begins_both one two three (more, is) (later, then) = (more ++ later, then ∙ ap (λ (l : List Record). l ++ later) is ∙ append_assoc one more later)
 
 -- an office's records grow by a step
-records_grow : (before after : DeskView) (event : Event) (step : HasStepped before after event) → Begins step.office.records (after_step before.plan before.marker step.office).records
+records_grow : (before after : DeskView) (event : Event) (step : MarkerHasStepped before after event) → Begins step.office.records (after_step before.plan before.marker step.office).records
 records_grow before after event step = elim (step_cases before.plan step.office before.marker) [
   | inl same ↦ ([], ap (λ (x : Exchange). x.records) same ∙ sym (append-nil step.office.records))
-  | inr made ↦ (added_record before.marker made.number made.attempt (told_of before.marker step.office.words made.attempt), ap (λ (x : Exchange). x.records) made.is)
+  | inr made ↦ (added_record before.marker made.number made.attempt (answer_to_step before.marker step.office.words made.attempt), ap (λ (x : Exchange). x.records) made.is)
 ]
 
 -- and so does what a desk has seen
-step_begins : (before after : DeskView) (event : Event) → HasStepped before after event → Begins before.seen after.seen
+step_begins : (before after : DeskView) (event : Event) → MarkerHasStepped before after event → Begins before.seen after.seen
 step_begins before after event step =
     let all = begins_both before.seen step.office.records (after_step before.plan before.marker step.office).records step.amid.begins (records_grow before after event step) in
     (all.0, step.seen_is ∙ all.1)
 
 -- by many steps too
-steps_begin : (count : ℕ) (before after : DeskView) → HasMade count before after → Begins before.seen after.seen
+steps_begin : (count : ℕ) (before after : DeskView) → MarkerHasMade count before after → Begins before.seen after.seen
 steps_begin zero before after same = ([], ap (λ (d : DeskView). d.seen) same ∙ sym (append-nil before.seen))
 steps_begin (suc count) before after (between, event, made, asks, step) =
     begins_both before.seen between.seen after.seen (steps_begin count before between made) (step_begins between after event step)
 
 module _ (number : ℕ) (job : Job) (start : DeskView) where
-  -- the desk is at the job still, or has done it if the step told a record
-  pub at_hand : (desk after : DeskView) (told : Option Record) → IsDoing number job start desk → IsDoing number job start after → work.HasStepped desk after told
-      → ((r : Record) → HasAdvanced desk after (Finished r) → turned_of after ≡ r ∷ [])
+  -- the desk is at the job still, or has done it if the step reported a record
+  pub at_hand : (desk after : DeskView) (reported : Option Record) → IsDoing number job start desk → IsDoing number job start after → work.WorkerHasStepped desk after reported
+      → ((r : Record) → MarkerHasAdvanced desk after (Finished r) → turned_of after ≡ r ∷ [])
       → ((r : Record) → mine after ≡ mine start ++ r ∷ [] → length after.seen < 2 ^ 64 → (length start.seen ≤ r.turn) × (r.turn < length after.seen))
-      → IsAtHand start number job after told
+      → IsAtHand start number job after reported
   at_hand desk after None doing now step ends later = now
   at_hand desk after (Some r) doing now step ends later =
-      let advanced = subst (HasAdvanced desk after) (told_end step.event r step.told_is) step.advanced in
+      let advanced = subst (MarkerHasAdvanced desk after) (told_end step.event r step.told_is) step.advanced in
       let ended = ends r advanced in
-      let told = advanced.finished r refl in
-      has_done number job start after r now told.0 ended (later r (mine_at_end number job start after r now ended))
+      let reported = advanced.finished r refl in
+      has_done number job start after r now reported.0 ended (later r (mine_at_end number job start after r now ended))
 
   -- the beginning of the job that a desk is at
   begins_its_job : (at : Work) → job_at at ≡ Some (number, job) → at_beginning at ≡ Does number (begin_with (first_conn job) job)
@@ -65,7 +65,7 @@ module _ (number : ℕ) (job : Job) (start : DeskView) where
   begins_its_job (Does n a) is = ap (λ (p : ℕ × Job). Does p.0 (begin_with (first_conn p.1) p.1)) (same_Some (n, a.job) (number, job) is)
 
   -- a desk at the job that gives back
-  pub has_given : (desk after : DeskView) → IsDoing number job start desk → after ≡ record desk { work = after.work; seen = after.seen } → HasGivenBack desk after
+  pub has_given : (desk after : DeskView) → IsDoing number job start desk → after ≡ record desk { work = after.work; seen = after.seen } → MarkerHasGivenBack desk after
       → (turned_of desk ≡ []) × (mine after ≡ mine desk) → HasGiven start after number job
   has_given desk after doing same back (bare, mine_is) = record {
     same = same

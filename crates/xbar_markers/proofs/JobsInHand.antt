@@ -12,7 +12,7 @@ use Rattle.xbar_jobs.specs.Jobs.{first_conn}
 use Rattle.xbar_core.specs.Exchange.{Work, is_idle, on_job}
 use Rattle.xbar_core.specs.Moves.{own_record}
 use Rattle.xbar_core.specs.declared.event.Event.{Event}
-use Rattle.xbar_fabric.specs.Advances.{HasAdvanced, HasRun}
+use Rattle.xbar_fabric.specs.Advances.{MarkerHasAdvanced, MarkerHasRun}
 use Rattle.xbar_fabric.specs.Histories.{job_at, turned_of}
 use Rattle.xbar_fabric.specs.Views.{DeskView, FabricView, IsDeskOf, mine}
 use Rattle.xbar_markers.specs.Work.{HasDone, IsDoing}
@@ -40,10 +40,10 @@ turned_is_of k r (Does number a) is = by (turn_in a.phase) a.reply is where
 
 -- and so is of the job that the desk is at
 told_of_job : (number : ℕ) (job : Job) (r : Record) (work : Work) → job_at work ≡ Some (number, job) → on_job ⊥ (λ n a. (r.job_no ≡ n) × (r.job ≡ a.job)) work → (r.job_no ≡ number) × (r.job ≡ job)
-told_of_job number job r Idle at told = absurd told
-told_of_job number job r (Does n a) at told =
+told_of_job number job r Idle at reported = absurd reported
+told_of_job number job r (Does n a) at reported =
     let same = same_Some (n, a.job) (number, job) at in
-    (told.0 ∙ ap (λ (p : ℕ × Job). p.0) same, told.1 ∙ ap (λ (p : ℕ × Job). p.1) same)
+    (reported.0 ∙ ap (λ (p : ℕ × Job). p.0) same, reported.1 ∙ ap (λ (p : ℕ × Job). p.1) same)
 
 module _ (number : ℕ) (job : Job) (start : DeskView) where
   -- a desk that was just assigned the job is at it
@@ -73,9 +73,9 @@ module _ (number : ℕ) (job : Job) (start : DeskView) where
   }
 
   -- and after as many as are made at once, if no advance adds records but the job's, or leaves it
-  pub runs_on : ((before after : DeskView) (event : Event) (earlier : List Record) → HasAdvanced before after event → mine before ≡ earlier ++ turned_of before → mine after ≡ earlier ++ turned_of after)
-      → ((before after : DeskView) (event : Event) → HasAdvanced before after event → job_at after.work ≡ job_at before.work)
-      → (count : ℕ) (desk after : DeskView) → IsDoing number job start desk → HasRun count desk after → IsDoing number job start after
+  pub runs_on : ((before after : DeskView) (event : Event) (earlier : List Record) → MarkerHasAdvanced before after event → mine before ≡ earlier ++ turned_of before → mine after ≡ earlier ++ turned_of after)
+      → ((before after : DeskView) (event : Event) → MarkerHasAdvanced before after event → job_at after.work ≡ job_at before.work)
+      → (count : ℕ) (desk after : DeskView) → IsDoing number job start desk → MarkerHasRun count desk after → IsDoing number job start after
   runs_on own same zero desk after doing run = subst (IsDoing number job start) (sym run) doing
   runs_on own same (suc count) desk after doing (between, event, run, busy, asks, advanced) =
       let now = runs_on own same count desk between doing run in
@@ -85,7 +85,7 @@ module _ (number : ℕ) (job : Job) (start : DeskView) where
   pub mine_at_end : (after : DeskView) (r : Record) → IsDoing number job start after → turned_of after ≡ r ∷ [] → mine after ≡ mine start ++ r ∷ []
   mine_at_end after r doing ended = doing.mine_are ∙ ap (λ (l : List Record). mine start ++ l) ended
 
-  -- and where nothing is left of the job, it is done
+  -- and if nothing is left of the job, it is done
   pub has_done : (after : DeskView) (r : Record) → IsDoing number job start after → is_idle after.work ≡ true
       → turned_of after ≡ r ∷ [] → (length after.seen < 2 ^ 64 → (length start.seen ≤ r.turn) × (r.turn < length after.seen)) → HasDone start after number job r
   has_done after r doing idle ended turn =

@@ -114,7 +114,7 @@ module _ (h : Record → ℕ) where
       ap (sum_by h) (flat_map-append records_of xs ys)
       ∙ sum_by-append h (flat_map records_of xs) (flat_map records_of ys)
 
--- of two shares in each of which nothing is lost, nothing is lost where they are joined
+-- if nothing is lost in each of two shares, nothing is lost in the joined share
 both_balanced : (done more : List Record) (one other whole : Share) → IsJoined one other whole
     → IsBalanced done one → IsBalanced more other → IsBalanced (done ++ more) whole
 both_balanced done more one other whole joined first second =
@@ -149,7 +149,7 @@ both_balanced done more one other whole joined first second =
           );
     }
 
--- what is served stays so where fewer turn numbers are told apart
+-- what is served stays so under a stronger condition on turn numbers
 module _ {less more : Type 0} (weaken : more → less) where
   follows_still : (r before : Record) → Follows less r before → Follows more r before
   follows_still r before follows =

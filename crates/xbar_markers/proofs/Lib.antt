@@ -6,13 +6,13 @@ pub mod HeldTickets
 pub mod JobsInHand
 pub mod Joined
 pub mod KeptCalls
-pub mod Seats
+pub mod ThreadStates
 pub mod Sent
 pub mod SentDesks
 pub mod ServedSteps
 pub mod Serving
-pub mod StaffAgain
-pub mod StaffKinds
+pub mod DesksByKindAgain
+pub mod KindsOfDesks
 pub mod Stayed
 pub mod TakenTasks
 pub mod ToldRecords

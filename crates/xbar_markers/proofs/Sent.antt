@@ -1,5 +1,5 @@
--- A worker and its seat may go to any thread where its gate may: a desk may. So may what comes
--- back.
+-- A worker and its thread state may go to any thread to which the gate may: a desk may. So may
+-- what comes back.
 use denote.Param.Send as send
 use denote.RattleType.{RattleType}
 use denote.Struct.Declared as declared
@@ -16,12 +16,12 @@ use Rattle.std.specs.contracts.result.Result as result
 use Rattle.std.specs.contracts.vec.Vec as vec
 use Rattle.xbar_fabric.proofs.Sent.{desk_send}
 use Rattle.xbar_fabric.specs.contracts.desk.Desk as desk
-use Rattle.xbar_markers.proofs.seat.Seat.TheSendSync as seat_sent
+use Rattle.xbar_markers.proofs.thread_state.ThreadState.TheSendSync as seat_sent
 use Rattle.xbar_markers.proofs.worker.Worker.TheSendSync as worker_sent
-use Rattle.xbar_markers.specs.contracts.seat.Seat as seat
+use Rattle.xbar_markers.specs.contracts.thread_state.ThreadState as state
 use Rattle.xbar_markers.specs.contracts.worker.Worker as worker
 
--- a closure with five captures may go where each of them may
+-- a closure with five captures may go to any thread to which each of them may
 pub closure_send : {first second third fourth fifth : RattleType} (name : Sym)
     → send.IsSend first → send.IsSend second → send.IsSend third → send.IsSend fourth
     → send.IsSend fifth
@@ -31,9 +31,9 @@ closure_send {first} {second} {third} {fourth} {fifth} name one two three four f
     send.recorded_send (declared.field closure).row _ _ closure.to_one
     (send.struct_send (declared.shape closure) (one, (two, (three, (four, (five, tt))))))
 
--- rows of a seat, of seats, and of what may be there in the end
+-- rows of a thread state, of several, and of what may be there in the end
 abbrev pub seat_row : RattleType → RattleType
-seat_row gate = seat.the_row desk.the_row gate
+seat_row gate = state.the_row desk.the_row gate
 
 abbrev pub seats_row : RattleType → RattleType
 seats_row gate = vec.the_row (seat_row gate) global.the_row allocator.ghosts

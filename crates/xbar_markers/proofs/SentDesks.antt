@@ -16,7 +16,7 @@ use Rattle.xbar_fabric.specs.contracts.desk.Desk as desk
 use Rattle.xbar_office.proofs.reply.Record.TheSendSync as reply_sent
 use Rattle.xbar_office.specs.contracts.reply.Record as reply
 
--- a desk with something else may go where that may
+-- a desk with something else may go to any thread to which that may
 pub with_desk_send : (row : RattleType) (name : Sym) → send.IsSend row → send.IsSend (tuple.TupleAt name (desk.the_row ∷ row ∷ []))
 with_desk_send row name row_send =
     let pair = tuple.type_at name (desk.the_row ∷ row ∷ []) in

@@ -9,7 +9,7 @@ use Rattle.xbar_core.specs.Exchange.{is_idle}
 use Rattle.xbar_fabric.specs.Views.{DeskView}
 use Rattle.xbar_markers.specs.Calls.{Follows, HasDialTone, IsDialled, IsRecordOf, IsServed, IsToRelease, is_connected, is_dial_tone}
 use Rattle.xbar_markers.specs.Shares.{HasCompleted, HasPassedOn, HasServed}
-use Rattle.xbar_markers.specs.Work.{AreShort, HasWorked}
+use Rattle.xbar_markers.specs.Work.{AreShort, WorkerHasWorked}
 use Rattle.xbar_markers.specs.declared.call.Call.{Call}
 use Rattle.xbar_markers.specs.declared.call_records.CallRecords.{CallRecords}
 use Rattle.xbar_markers.specs.declared.share.Share.{Share}
@@ -117,7 +117,7 @@ undialled_served {short} {c} d no_tone = record {
 pub dialled_passed : (before after : DeskView) (call : Call) (c : CallRecords)
     (share between share_after : Share) → HasTakenCall call share between
     → HasPassedOn c between share_after → c.call ≡ call → HasDialTone c
-    → HasWorked before after (c.dial ∷ []) → HasServed before share after share_after
+    → WorkerHasWorked before after (c.dial ∷ []) → HasServed before share after share_after
 dialled_passed before after call c share between share_after taken passed is tone worked =
     let moved : HasMoved (call ∷ []) [] [] (c ∷ []) share share_after = record {
       calls_taken = ap (λ (t : TicketView Call). t.taken) (passed.calls ∙ taken.calls);
@@ -141,7 +141,7 @@ dialled_passed before after call c share between share_after taken passed is ton
 pub dialled_ended : (before after : DeskView) (call : Call) (c : CallRecords)
     (share between share_after : Share) → HasTakenCall call share between
     → HasEnded c between share_after → c.call ≡ call → IsDialled c
-    → is_dial_tone c.dial.reply.end ≡ false → HasWorked before after (c.dial ∷ [])
+    → is_dial_tone c.dial.reply.end ≡ false → WorkerHasWorked before after (c.dial ∷ [])
     → HasServed before share after share_after
 dialled_ended before after call c share between share_after taken ended is dialled no_tone worked =
     let served = IsServed (AreShort (after ∷ [])) in

@@ -6,12 +6,12 @@ use Rattle.xbar_office.specs.declared.reply.Record.{Record}
 use Rattle.xbar_fabric.specs.Views.{DeskView}
 use Rattle.xbar_markers.specs.Calls.{Follows, HasDialTone, IsRecordOf, IsServed, IsToRelease}
 use Rattle.xbar_markers.specs.Shares.{HasServed, IsBalanced, IsShareOf}
-use Rattle.xbar_markers.specs.Work.{AreShort, HasWorked}
+use Rattle.xbar_markers.specs.Work.{AreShort, WorkerHasWorked}
 use Rattle.xbar_markers.specs.declared.call_records.CallRecords.{CallRecords}
 use Rattle.xbar_markers.specs.declared.share.Share.{Share}
 use Rattle.xbar_markers.proofs.Works.{set_worked, short_after, short_before}
 
--- a call that is served is served also where turns are told apart in fewer cases
+-- a call that is served is also served under a stronger condition on turn numbers
 pub weaker_served : {short' short : Type 0} {c : CallRecords} → (short' → short)
     → IsServed short c → IsServed short' c
 weaker_served {short'} {short} {c} weaker served = record {
@@ -43,7 +43,7 @@ all_weaker_served short' short calls weaker served =
 
 -- what is new in a share that was served on: the records of its desk, and the calls that have ended
 pub has_served : (before after : DeskView) (share share_after : Share) (its : List Record)
-    (new : List CallRecords) → HasWorked before after its
+    (new : List CallRecords) → WorkerHasWorked before after its
     → ((done : List Record) → IsBalanced done share → IsBalanced (done ++ its) share_after)
     → (All HasDialTone share.kept.items → All HasDialTone share_after.kept.items)
     → share_after.ended.items ≡ share.ended.items ++ new

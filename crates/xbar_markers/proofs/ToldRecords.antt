@@ -1,13 +1,13 @@
--- what a step tells of a job's end
+-- what a step reports of a job's end
 use Rattle.std.proofs.Common.{◌≡◌, Some, sym, ap}
 use Rattle.std.proofs.lemmas.Option.{same_Some}
 use Rattle.xbar_office.specs.declared.reply.Record.{Record}
 use Rattle.xbar_core.specs.declared.event.Event.{Event}
 use Rattle.xbar_core.specs.declared.event.Event.TheVariants.{Idle, Moved, Refused, Preferred, Finished}
-use Rattle.xbar_markers.specs.Work.{record_told}
+use Rattle.xbar_markers.specs.Work.{reported_record}
 
--- where a step told a record, its job ended with that
-pub told_end : (event : Event) (r : Record) → Some r ≡ record_told event → event ≡ Finished r
+-- if a step reported a record, its job ended with that
+pub told_end : (event : Event) (r : Record) → Some r ≡ reported_record event → event ≡ Finished r
 told_end (Finished s) r is = ap Finished (sym (same_Some r s is))
 told_end Idle r is = absurd cc
 told_end Moved r is = absurd cc

@@ -1,4 +1,5 @@
--- where all desks of a fabric began with no records, the records by which they have grown are its history
+-- if all desks of a fabric began with no records, the records by which they have grown are its
+-- history
 use Rattle.std.proofs.Common.{◌≡◌, ℕ, zero, suc, ◌+◌, ◌<◌, Bool, true, false, List, [], ◌∷◌, inl, inr, sym, refl, ap, ◌∙◌, subst, arith, length, sum_by, All}
 use Rattle.std.proofs.Math.Dec.{eqb-suc-suc, eqb-suc-zero, eqb-zero-suc}
 use Rattle.std.proofs.lemmas.List.Sums.{sum_by-append, sum_by-cons}
@@ -10,7 +11,7 @@ use Rattle.xbar_office.specs.declared.reply.Record.{Record}
 use Rattle.xbar_core.specs.Kinds.{takes}
 use Rattle.xbar_core.specs.declared.kind.Kind.{Kind}
 use Rattle.xbar_fabric.specs.Views.{DeskView, FabricView, new_desks, own}
-use Rattle.xbar_markers.specs.Work.{HasWorked, HaveWorked}
+use Rattle.xbar_markers.specs.Work.{WorkerHasWorked, HaveWorked}
 
 -- whether n is k or more
 abbrev at_least : ℕ → ℕ → Bool
@@ -82,7 +83,7 @@ module _ (fabric : FabricView) (history : List Record) where
       subst (λ (n : ℕ). IfSome (slice_get desks j) (λ desk. own n history ≡ own n desk.seen)) (omega arith) (theirs (suc j))
 
   -- a desk that began with none has just these
-  here_is : (k : ℕ) (kind : Kind) (d : DeskView) (its : List Record) → HasWorked (record { table = fabric.table; plan = fabric.plan; marker = k; kind = kind; work = Idle; seen = [] }) d its → own (k + 0) history ≡ own (k + 0) d.seen → own (k + 0) history ≡ its
+  here_is : (k : ℕ) (kind : Kind) (d : DeskView) (its : List Record) → WorkerHasWorked (record { table = fabric.table; plan = fabric.plan; marker = k; kind = kind; work = Idle; seen = [] }) d its → own (k + 0) history ≡ own (k + 0) d.seen → own (k + 0) history ≡ its
   here_is k kind d its worked theirs =
       let marker : d.marker ≡ k + 0 = ap (λ (x : DeskView). x.marker) worked.same ∙ omega arith in
       theirs ∙ sym (ap (λ (n : ℕ). own n d.seen) marker) ∙ worked.mine_are

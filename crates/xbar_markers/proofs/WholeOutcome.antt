@@ -10,11 +10,11 @@ use Rattle.xbar_office.specs.Legal.{IsLegal, after}
 use Rattle.xbar_office.specs.declared.reply.Record.{Record}
 use Rattle.xbar_jobs.specs.Office.{ShowsOffice}
 use Rattle.xbar_core.specs.declared.kind.Kind.{Kind}
-use Rattle.xbar_fabric.specs.Meetings.{AreWordsAfter, HasClosed}
+use Rattle.xbar_fabric.specs.Meetings.{AreWordsAfter, FabricHasClosed}
 use Rattle.xbar_fabric.specs.Views.{DeskView, FabricView, new_desks, own}
 use Rattle.xbar_markers.specs.Calls.{AreServed}
 use Rattle.xbar_markers.specs.Outcomes.{AreTaken}
-use Rattle.xbar_markers.specs.Staff.{AreStaff, kinds_of}
+use Rattle.xbar_markers.specs.DesksByKind.{AreDesksByKind, kinds_of}
 use Rattle.xbar_markers.specs.Work.{AreShort, HaveWorked, IsReady}
 use Rattle.xbar_markers.specs.declared.call.Call.{Call}
 use Rattle.xbar_markers.proofs.Serving.{all_weaker_served}
@@ -32,8 +32,8 @@ module _ (fabric : FabricView) where
   ready_new k (kind ∷ kinds) zero d below = record { desk_of = record { table_is = refl; plan_is = refl }; idle = refl }
   ready_new k (kind ∷ kinds) (suc i) d below = ready_new (suc k) kinds i d (omega (arith, below))
 
-  pub new_staff : (dialling completing : ℕ) (desks : List DeskView) (kinds : List Kind) → desks ≡ new_desks fabric 0 kinds → kinds ≡ kinds_of dialling completing → 0 < dialling → 0 < completing → AreStaff desks fabric
-  new_staff dialling completing desks kinds are of some_dial some_complete = record {
+  pub new_by_kind : (dialling completing : ℕ) (desks : List DeskView) (kinds : List Kind) → desks ≡ new_desks fabric 0 kinds → kinds ≡ kinds_of dialling completing → 0 < dialling → 0 < completing → AreDesksByKind desks fabric
+  new_by_kind dialling completing desks kinds are of some_dial some_complete = record {
     dialling = dialling;
     completing = completing;
     kinds = ap (map (λ (d : DeskView). d.kind)) are ∙ kinds_new 0 kinds ∙ of;
@@ -61,7 +61,7 @@ module _ (fabric : FabricView) (plan : Tables) (kinds : List Kind) (befores desk
     (contained : (xs ys : List Record) (x : Record) → SameItems xs ys → Contains xs x → Contains ys x)
     (as_long : (xs ys : List Record) → SameItems xs ys → length xs ≡ length ys)
     (are : befores ≡ new_desks fabric 0 kinds) (worked : HaveWorked befores desks records) (order : IsNonDecreasingBy (λ (r : Record). r.turn) records)
-    (few : length records < 2 ^ 64) (closed : HasClosed plan desks words) where
+    (few : length records < 2 ^ 64) (closed : FabricHasClosed plan desks words) where
   began : HaveWorked (new_desks fabric 0 kinds) desks records
   began = subst (λ (l : List DeskView). HaveWorked l desks records) are worked
 

@@ -10,7 +10,7 @@ use Rattle.xbar_core.specs.Exchange.{is_idle}
 use Rattle.xbar_core.specs.Kinds.{takes}
 use Rattle.xbar_core.specs.declared.kind.Kind.{Kind}
 use Rattle.xbar_fabric.specs.Views.{DeskView, FabricView, mine}
-use Rattle.xbar_markers.specs.Work.{AreShort, HasDone, HasWorked, HaveWorked, IsReady}
+use Rattle.xbar_markers.specs.Work.{AreShort, HasDone, WorkerHasWorked, HaveWorked, IsReady}
 
 -- the record's job is one that this kind takes
 abbrev IsTaken : Kind → Record → Type 0
@@ -19,7 +19,7 @@ IsTaken kind r = takes kind r.job ≡ true
 -- a job that is done is work, of which this is the record
 pub done_worked : {before after : DeskView} {number : ℕ} {job : Job} {r : Record}
     → HasDone before after number job r → takes before.kind job ≡ true
-    → HasWorked before after (r ∷ [])
+    → WorkerHasWorked before after (r ∷ [])
 done_worked {before} {after} {number} {job} {r} done taken = record {
   same = done.same;
   idle = done.idle;
@@ -38,8 +38,8 @@ begins_on {A} a b c first second = (
 )
 
 -- work, and then other work
-pub worked_on : {a b c : DeskView} {xs ys : List Record} → HasWorked a b xs → HasWorked b c ys
-    → HasWorked a c (xs ++ ys)
+pub worked_on : {a b c : DeskView} {xs ys : List Record} → WorkerHasWorked a b xs → WorkerHasWorked b c ys
+    → WorkerHasWorked a c (xs ++ ys)
 worked_on {a} {b} {c} {xs} {ys} first second = record {
   same = second.same
       ∙ ap (λ (d : DeskView). record d { work = c.work; seen = c.seen }) first.same;
@@ -53,12 +53,12 @@ worked_on {a} {b} {c} {xs} {ys} first second = record {
 }
 
 -- a desk that has worked is of the same shared words and kind
-pub kind_worked : {d after : DeskView} {its : List Record} → HasWorked d after its
+pub kind_worked : {d after : DeskView} {its : List Record} → WorkerHasWorked d after its
     → after.kind ≡ d.kind
 kind_worked worked = ap (λ (x : DeskView). x.kind) worked.same
 
 pub ready_worked : {d after : DeskView} {its : List Record} {fabric : FabricView}
-    → HasWorked d after its → IsReady d fabric → IsReady after fabric
+    → WorkerHasWorked d after its → IsReady d fabric → IsReady after fabric
 ready_worked worked ready = record {
   desk_of = record {
     table_is = ap (λ (x : DeskView). x.table) worked.same ∙ ready.desk_of.table_is;
@@ -68,7 +68,7 @@ ready_worked worked ready = record {
 }
 
 -- no work
-pub none_worked : {d : DeskView} → is_idle d.work ≡ true → HasWorked d d []
+pub none_worked : {d : DeskView} → is_idle d.work ≡ true → WorkerHasWorked d d []
 none_worked {d} idle = record {
   same = refl;
   idle = idle;
@@ -81,7 +81,7 @@ pub same_on : {X : Type 0} (xs ys zs : List X) → SameItems xs ys → SameItems
     → SameItems xs zs
 same_on xs ys zs first second h = first h ∙ second h
 
--- it doesn't matter in which order the records of all desks stand
+-- the order of the records of all desks doesn't matter
 pub same_worked : (befores desks : List DeskView) (xs ys : List Record) → SameItems xs ys
     → HaveWorked befores desks xs → HaveWorked befores desks ys
 same_worked [] [] xs ys same worked = same_on [] xs ys worked same
@@ -101,7 +101,7 @@ some_is d x at = cc
 -- a desk among others works on
 pub set_worked : (befores desks : List DeskView) (k : ℕ) (d after : DeskView)
     (own more : List Record) → slice_get desks k ≡ Some d → HaveWorked befores desks own
-    → HasWorked d after more → HaveWorked befores (slice_set desks k after) (own ++ more)
+    → WorkerHasWorked d after more → HaveWorked befores (slice_set desks k after) (own ++ more)
 set_worked [] [] k d after own more at worked on = absurd (none_some at)
   where
     none_some : None ≡ Some d → ⊥
@@ -112,7 +112,7 @@ set_worked (b ∷ befores) (x ∷ desks) zero d after own more at worked on =
     let its = worked.0 in
     let others = worked.1 in
     let same : SameItems (its ++ others) own = worked.2 in
-    let was : HasWorked b d its = subst (λ (y : DeskView). HasWorked b y its) (some_is d x at)
+    let was : WorkerHasWorked b d its = subst (λ (y : DeskView). WorkerHasWorked b y its) (some_is d x at)
     worked.3 in (
       its ++ more,
       others,
@@ -135,7 +135,7 @@ set_worked (b ∷ befores) (x ∷ desks) (suc k) d after own more at worked on =
       set_worked befores desks k d after others more at worked.4 on,
     )
 
--- desks that have worked, and others behind them
+-- desks that have worked, and others after them
 pub append_worked : (bs ds bs' ds' : List DeskView) (xs ys : List Record) → HaveWorked bs ds xs
     → HaveWorked bs' ds' ys → HaveWorked (bs ++ bs') (ds ++ ds') (xs ++ ys)
 append_worked [] [] bs' ds' xs ys first second =
@@ -156,7 +156,7 @@ append_worked (b ∷ bs) (d ∷ ds) bs' ds' xs ys first second =
       append_worked bs ds bs' ds' others ys first.4 second,
     )
 
--- a desk that has seen fewer turns than can be told apart had seen no more before
+-- a desk that has seen fewer than 2^64 turns had seen no more before
 abbrev pub IsShort : DeskView → Type 0
 IsShort desk = length desk.seen < 2 ^ 64
 

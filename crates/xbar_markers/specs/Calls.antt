@@ -8,19 +8,21 @@ use Rattle.xbar_office.specs.declared.reply.Record.{Record}
 use Rattle.xbar_markers.specs.declared.call.Call.{Call}
 use Rattle.xbar_markers.specs.declared.call_records.CallRecords.{CallRecords}
 
+-- whether a job ended with dial tone
 abbrev pub is_dial_tone : End → Bool
 is_dial_tone (DialTone path trial) = true
 is_dial_tone _ = false
 
+-- whether a job ended with a connection
 abbrev pub is_connected : End → Bool
 is_connected (Connected calling called trial) = true
 is_connected _ = false
 
--- its number leaves room for those of its jobs
+-- a call's number leaves room for those of its jobs
 abbrev pub HasCallNo : Call → Type 0
 HasCallNo call = call.call_no < 2 ^ 30
 
--- the record is of the call's job k, this one
+-- the record is that of the call's job k, which is this job
 pub record IsRecordOf (call : Call) (k : ℕ) (job : Job) (r : Record) : Type 0 where
   pub number : r.job_no ≡ 3 * call.call_no + k
   pub job_is : r.job ≡ job
@@ -32,7 +34,7 @@ pub record IsDialled (c : CallRecords) : Type 0 where
   pub no_complete : c.complete ≡ None
   pub no_release : c.release ≡ None
 
--- its line has dial tone
+-- a call's dial tone job is done and no more, and its line has dial tone
 pub record HasDialTone (c : CallRecords) : Type 0 where
   pub dialled : IsDialled c
   pub tone : is_dial_tone c.dial.reply.end ≡ true
@@ -42,13 +44,13 @@ abbrev pub IsToRelease : CallRecords → Type 0
 IsToRelease c =
     (c.call.release ≡ true) × IsSomeAnd c.complete (λ r. is_connected r.reply.end ≡ true)
 
--- by the same marker, and, where turn numbers are told apart, later
+-- the record is by the same marker as the one before and, if no turn number comes twice, later
 pub record Follows (short : Type 0) (r before : Record) : Type 0 where
   pub marker : r.marker ≡ before.marker
   pub turn : short → before.turn < r.turn
 
--- all is done for the call: it was dialled; completed just if its line got dial tone; and released
--- just if that was asked for and it was connected, by the same marker and later
+-- all is done for the call: it was dialled; completed exactly if its line got dial tone; and
+-- released exactly if that was asked for and it was connected, by the same marker and later
 pub record IsServed (short : Type 0) (c : CallRecords) : Type 0 where
   pub dialled : IsRecordOf c.call 0 (Dial c.call.line) c.dial
   pub completed : MatchOption c.complete
@@ -60,10 +62,11 @@ pub record IsServed (short : Type 0) (c : CallRecords) : Type 0 where
       (λ r. IsToRelease c × IsRecordOf c.call 2 (Release c.call.line) r
       × IsSomeAnd c.complete (Follows short r))
 
+-- the records of a call's jobs
 abbrev pub records_of : CallRecords → List Record
 records_of c = c.dial ∷ option_to_list c.complete ++ option_to_list c.release
 
--- each of the calls was served once, and the records are those of their jobs and no others
+-- each of the calls was served once, and the records are exactly those of their jobs
 pub record AreServed (short : Type 0) (calls : List Call) (records : List Record) : Type 0 where
   pub by_call : List CallRecords
   pub each : All (IsServed short) by_call

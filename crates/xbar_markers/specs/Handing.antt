@@ -14,12 +14,13 @@ use Rattle.xbar_markers.specs.declared.handing.Handed.TheVariants.{Finished, Giv
 use Rattle.xbar_markers.specs.declared.handing.Then.{Then}
 use Rattle.xbar_markers.specs.declared.handing.Then.TheVariants.{GiveBack}
 
--- the desk is at this job under this number, or has done it, and then this is its record
+-- the desk is at this job under this number; or it has done it, and this is its record
 abbrev pub IsAtHand : DeskView → ℕ → Job → DeskView → Option Record → Type 0
 IsAtHand before number job after None = IsDoing number job before after
 IsAtHand before number job after (Some r) = HasDone before after number job r
 
--- what came of a job that was to be begun: it is at hand, or it was refused and nothing changed
+-- the outcome of beginning a job: the desk is at it or has done it; or the job was refused and
+-- nothing changed
 abbrev pub IsBegun : DeskView → ℕ → Job → DeskView → Result (Option Record) AssignFault → Type 0
 IsBegun before number job after begun = MatchResult begun
     (λ ended. (refusal_of (marker_of before) job ≡ None) × IsAtHand before number job after ended)
@@ -33,7 +34,7 @@ pub record HasGiven (before after : DeskView) (number : ℕ) (job : Job) : Type 
   pub seen : Begins before.seen after.seen
   pub mine_are : mine after ≡ mine before
 
--- what came of a job that was handed over: it was done, or, if that was asked for, given back
+-- the outcome of a job that was handed over: it was done, or, if that was asked for, given back
 abbrev pub IsHanded : DeskView → ℕ → Job → Then → DeskView → Handed → Type 0
 IsHanded before number job then after (Finished r) = HasDone before after number job r
 IsHanded before number job then after Given = (then ≡ GiveBack) × HasGiven before after number job

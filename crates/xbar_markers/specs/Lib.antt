@@ -2,7 +2,7 @@ pub mod Calls
 pub mod Tasks
 pub mod Work
 pub mod Shares
-pub mod Seats
-pub mod Staff
+pub mod ThreadStates
+pub mod DesksByKind
 pub mod Handing
 pub mod Outcomes

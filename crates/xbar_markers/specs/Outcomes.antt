@@ -11,7 +11,7 @@ use Rattle.xbar_core.specs.declared.kind.Kind.{Kind}
 use Rattle.xbar_fabric.specs.Meetings.{AreWordsAfter, IsUnused}
 use Rattle.xbar_fabric.specs.Views.{own}
 use Rattle.xbar_markers.specs.Calls.{AreServed}
-use Rattle.xbar_markers.specs.Staff.{kinds_of}
+use Rattle.xbar_markers.specs.DesksByKind.{kinds_of}
 use Rattle.xbar_markers.specs.declared.call.Call.{Call}
 use Rattle.xbar_markers.specs.declared.calling.Outcome.{Outcome}
 
@@ -21,8 +21,8 @@ pub record AreTaken (kinds : List Kind) (records : List Record) : Type 0 where
   pub each : (k : ℕ) → IfSome (slice_get kinds k)
       (λ kind. All (λ r. takes kind r.job ≡ true) (own k records))
 
--- what came of calls that so many markers did: a legal history of just these calls, the one-marker
--- office after it, and words that show it, in which each connector's word is 0
+-- the outcome of calls done by this many markers of each kind: a legal history of exactly these
+-- calls, the one-marker office after it, and words that show it, with 0 as each connector's word
 pub record IsOutcome (plan : Tables) (dialling completing : ℕ) (calls : List Call) (o : Outcome)
     : Type 0 where
   pub legal : IsLegal plan o.records.items

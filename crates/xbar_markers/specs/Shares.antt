@@ -6,7 +6,7 @@ use Rattle.xbar_office.specs.declared.reply.Record.{Record}
 use Rattle.xbar_core.specs.declared.kind.Kind.{Kind}
 use Rattle.xbar_fabric.specs.Views.{DeskView, FabricView}
 use Rattle.xbar_markers.specs.Calls.{HasDialTone, IsServed, records_of}
-use Rattle.xbar_markers.specs.Work.{AreShort, HasWorked, HaveWorked, IsReady}
+use Rattle.xbar_markers.specs.Work.{AreShort, WorkerHasWorked, HaveWorked, IsReady}
 use Rattle.xbar_markers.specs.declared.call.Call.{Call}
 use Rattle.xbar_markers.specs.declared.call_records.CallRecords.{CallRecords}
 use Rattle.xbar_markers.specs.declared.queues.Queues.{Queues}
@@ -14,27 +14,28 @@ use Rattle.xbar_markers.specs.declared.share.Share.{Share}
 use Rattle.xbar_markers.specs.declared.task.Task.{Task}
 use Rattle.xbar_markers.specs.declared.task.Task.TheVariants as task
 
--- the calls in tasks, and their records so far
+-- the call in a task, with its records so far
 abbrev pub in_task : Task → List CallRecords
 in_task (task.Complete c) = c ∷ []
 in_task task.Stop = []
 
+-- the calls in tasks, with their records so far
 abbrev pub in_tasks : List Task → List CallRecords
 in_tasks tasks = flat_map in_task tasks
 
--- the calls that a share passed on or has
+-- the calls that a share passed on or still has
 abbrev pub out_of : Share → List CallRecords
 out_of share = in_tasks share.tasks.put ++ share.kept.items ++ share.ended.items
 
 -- nothing is lost, and nothing comes twice: the calls that came are those that were passed on or
--- are here, and so are their records, together with those of the jobs that were done
+-- are still here, and so are their records, together with those of the jobs that were done
 pub record IsBalanced (done : List Record) (share : Share) : Type 0 where
   pub calls : SameItems (share.calls.taken ++ map (λ c. c.call) (in_tasks share.tasks.taken))
       (map (λ c. c.call) (out_of share))
   pub records : SameItems (done ++ flat_map records_of (in_tasks share.tasks.taken))
       (flat_map records_of (out_of share))
 
--- these desks, as they were before, did the work of which this is the share
+-- this is the share of the work that these desks have done since they were as before
 pub record IsShareOf (befores desks : List DeskView) (share : Share) : Type 0 where
   pub done : List Record
   pub worked : HaveWorked befores desks done
@@ -42,13 +43,13 @@ pub record IsShareOf (befores desks : List DeskView) (share : Share) : Type 0 wh
   pub kept : All HasDialTone share.kept.items
   pub ended : All (IsServed (AreShort desks)) share.ended.items
 
--- what one desk did, from this share to that one, whichever desks' share it is
+-- one desk's work leads from this share to that one, whichever desks' share it is
 abbrev pub HasServed : DeskView → Share → DeskView → Share → Type 0
 HasServed before share after share_after =
     (befores desks : List DeskView) (k : ℕ) → slice_get desks k ≡ Some before
     → IsShareOf befores desks share → IsShareOf befores (slice_set desks k after) share_after
 
--- tickets with as many parts, and no more calls put
+-- the tickets have as many parts as before, and no more calls were put
 pub record HasTickets (share after : Share) : Type 0 where
   pub calls_queue : after.calls.queue ≡ share.calls.queue
   pub calls_parts : after.calls.parts ≡ share.calls.parts
@@ -56,12 +57,12 @@ pub record HasTickets (share after : Share) : Type 0 where
   pub tasks_queue : after.tasks.queue ≡ share.tasks.queue
   pub tasks_parts : after.tasks.parts ≡ share.tasks.parts
 
--- the queues have two ends each
+-- the two ends of each queue belong together
 pub record AreOpen (queues : Queues) : Type 0 where
   pub calls : queues.calls_out ≡ queues.calls_in
   pub tasks : queues.tasks_out ≡ queues.tasks_in
 
--- the share has a part of the right to use each queue
+-- the share's tickets may be used with these queues
 pub record MayUse (share : Share) (queues : Queues) : Type 0 where
   pub calls : IsUsable share.calls queues.calls_in
   pub tasks : IsUsable share.tasks queues.tasks_in
@@ -83,7 +84,7 @@ pub record HasPassedOn (call : CallRecords) (share after : Share) : Type 0 where
       × (after.tasks.put ≡ share.tasks.put ++ task.Complete call ∷ [])
       ⊎ (after.kept.items ≡ share.kept.items ++ call ∷ []) × (after.tasks.put ≡ share.tasks.put)
 
--- nothing came yet, and every part of the right to use the queues is here
+-- a new share: nothing came yet, and it has every part of both tickets
 pub record IsNewShare (queues : Queues) (share : Share) : Type 0 where
   pub calls : share.calls ≡ first_ticket queues.calls_in.name
   pub tasks : share.tasks ≡ first_ticket queues.tasks_in.name
@@ -95,7 +96,7 @@ pub record HasCompleted (before after : DeskView) (call served : CallRecords) : 
   pub call_is : served.call ≡ call.call
   pub dial_is : served.dial ≡ call.dial
   pub served_all : IsServed (AreShort (after ∷ [])) served
-  pub worked : HasWorked before after
+  pub worked : WorkerHasWorked before after
       (option_to_list served.complete ++ option_to_list served.release)
 
 -- stops were put into the second queue, and nothing else was done

@@ -7,13 +7,13 @@ use Rattle.xbar_office.specs.declared.reply.Record.{Record}
 use Rattle.xbar_core.specs.Exchange.{is_idle}
 use Rattle.xbar_core.specs.declared.event.Event.{Event}
 use Rattle.xbar_core.specs.declared.event.Event.TheVariants.{Idle, Moved, Refused, Preferred, Finished}
-use Rattle.xbar_fabric.specs.Advances.{HasAdvanced}
+use Rattle.xbar_fabric.specs.Advances.{MarkerHasAdvanced}
 use Rattle.xbar_core.specs.Kinds.{takes}
 use Rattle.xbar_fabric.specs.Histories.{job_at, turned_of}
 use Rattle.xbar_fabric.specs.Views.{DeskView, FabricView, IsDeskOf, mine}
 
 -- the desk is at this job under this number, and has done nothing else since this start: its own
--- records are more by just the job's, once that has turned
+-- records have grown only by the job's, once it has taken its turn
 pub record IsDoing (number : ℕ) (job : Job) (start desk : DeskView) : Type 0 where
   pub same : desk ≡ record start { work = desk.work; seen = desk.seen }
   pub seen : Begins start.seen desk.seen
@@ -32,8 +32,9 @@ pub record HasDone (before after : DeskView) (number : ℕ) (job : Job) (r : Rec
   pub turn : length after.seen < 2 ^ 64
       → (length before.seen ≤ r.turn) × (r.turn < length after.seen)
 
--- the desk has worked, and is idle again: its own records are these more, of jobs that it takes
-pub record HasWorked (before after : DeskView) (its : List Record) : Type 0 where
+-- the desk has worked, and is idle again: its own records have grown by these, of jobs that it
+-- takes
+pub record WorkerHasWorked (before after : DeskView) (its : List Record) : Type 0 where
   pub same : after ≡ record before { work = after.work; seen = after.seen }
   pub idle : is_idle after.work ≡ true
   pub seen : Begins before.seen after.seen
@@ -45,10 +46,10 @@ abbrev pub HaveWorked : List DeskView → List DeskView → List Record → Type
 HaveWorked [] [] records = SameItems [] records
 HaveWorked (before ∷ befores) (after ∷ afters) records =
     (its : List Record) × (others : List Record) × SameItems (its ++ others) records
-    × HasWorked before after its × HaveWorked befores afters others
+    × WorkerHasWorked before after its × HaveWorked befores afters others
 HaveWorked _ _ records = ⊥
 
--- each has seen fewer turns than turn numbers tell apart
+-- each desk has seen fewer than 2^64 turns, so that no turn number comes twice
 abbrev pub AreShort : List DeskView → Type 0
 AreShort desks = All (λ desk. length desk.seen < 2 ^ 64) desks
 
@@ -57,17 +58,17 @@ pub record IsReady (desk : DeskView) (fabric : FabricView) : Type 0 where
   pub desk_of : IsDeskOf desk fabric
   pub idle : is_idle desk.work ≡ true
 
--- the record of the job that ended, if one did
-abbrev pub record_told : Event → Option Record
-record_told (Finished r) = Some r
-record_told Idle = None
-record_told Moved = None
-record_told (Refused conn holder) = None
-record_told (Preferred other) = None
+-- the record that an event reports, if a job ended
+abbrev pub reported_record : Event → Option Record
+reported_record (Finished r) = Some r
+reported_record Idle = None
+reported_record Moved = None
+reported_record (Refused conn holder) = None
+reported_record (Preferred other) = None
 
--- the desk advanced, and told the record of its job where that ended, and none else
-pub record HasStepped (before after : DeskView) (told : Option Record) : Type 0 where
+-- the desk advanced, and reported the record of its job if the job ended, and else none
+pub record WorkerHasStepped (before after : DeskView) (reported : Option Record) : Type 0 where
   pub event : Event
-  pub advanced : HasAdvanced before after event
+  pub advanced : MarkerHasAdvanced before after event
   pub same : after ≡ record before { work = after.work; seen = after.seen }
-  pub told_is : told ≡ record_told event
+  pub told_is : reported ≡ reported_record event

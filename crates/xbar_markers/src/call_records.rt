@@ -1,7 +1,7 @@
 use crate::call::Call;
 use xbar_office::Record;
 
-/// What was done for a call: the record of each of its jobs, as far as it came.
+/// The records of a call's jobs, as far as the call came.
 #[derive(Drop)]
 pub struct CallRecords {
     pub call: Call,

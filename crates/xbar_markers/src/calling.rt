@@ -1,4 +1,4 @@
-//! Calls in, and one legal history of just these calls out.
+//! Calls in, and one legal history of exactly these calls out.
 
 ghost use Rattle.std.specs.Prelude.{◌≡◌, ◌+◌, ◌≤◌, ◌<◌, ◌↔◌, Err, All, IfOk, vec_len};
 ghost use Rattle.xbar_markers.specs.Calls.{HasCallNo};
@@ -6,9 +6,9 @@ ghost use Rattle.xbar_markers.specs.Outcomes.{IsOutcome};
 
 use crate::call::Call;
 use crate::gate::Gate;
+use crate::opening::open_desks;
 use crate::run_fault::RunFault;
 use crate::running::run_desks;
-use crate::staff::open_staff;
 use fair_queue::laws::same_items_are_as_many;
 use std::alloc::Global;
 use std::sync::Wait;
@@ -17,20 +17,21 @@ use xbar_fabric::shut_all;
 use xbar_office::{Office, Record, audit};
 use xbar_plan::Plan;
 
-/// What came of calls.
+/// The result of a run of calls.
 #[derive(Drop)]
 pub struct Outcome<'p> {
     /// The records of all jobs, in turn order.
     pub records: Vec<Record>,
-    /// The one-marker office after them.
+    /// The one-marker office after these records.
     pub office: Office<'p>,
-    /// The shared words at the end, each at the place of its number.
+    /// The shared words at the end, each at the index of its number.
     pub words: Vec<u64>,
 }
 
-/// Does calls with so many markers that dial and so many that complete calls, each on a thread of
-/// its own. The first gates are for those that dial. The calls' numbers should be distinct, so that
-/// their jobs' are.
+/// Does calls with `dialling` markers that dial and `completing` markers that complete calls, each
+/// on its own thread. The first gates are for those that dial. The calls' numbers should be
+/// distinct, so that their jobs' are. Fails with `Markers` unless there is at least one of each
+/// and at most 48 in all.
 pub fn run_calls<'p, G: Gate + Send + Drop, R: Threads + Wait + Sync>(
     rt: &R,
     alloc: Global,
@@ -46,9 +47,9 @@ pub fn run_calls<'p, G: Gate + Send + Drop, R: Threads + Wait + Sync>(
     ensures markers { (result ≡ Err RunFault.Markers)
         ↔ ¬ ((0 < dialling) × (0 < completing) × (dialling + completing ≤ 48)) }
 {
-    // Called for its clauses alone.
+    // Called only for its contract.
     same_items_are_as_many::<Record>();
-    let (fabric, desks) = open_staff(alloc, plan, dialling, completing)?;
+    let (fabric, desks) = open_desks(alloc, plan, dialling, completing)?;
     let (desks, records) = run_desks(rt, alloc, &fabric, desks, calls, gates)?;
     let Ok(words) = shut_all(alloc, fabric, desks) else {
         return Err(RunFault::Memory);

@@ -1,4 +1,4 @@
-//! What those workers do who complete calls and release them.
+//! Workers that complete calls and release them.
 
 ghost use Rattle.std.specs.Prelude.{◌≡◌, ◌+◌, ◌*◌, ◌++◌, [], All, OnOk, Ok, false};
 ghost use Rattle.fair_queue.specs.Items.{SameItems};
@@ -28,7 +28,8 @@ fn is_connected(complete: &Record) -> bool
 }
 
 impl<G: Gate + Drop> Worker<Desk, G> {
-    /// Does what is left to do for a call whose line has dial tone.
+    /// Does what is left to do for a call with dial tone: completes it, and releases it if that is
+    /// asked for and it is connected.
     fn complete<R: Wait>(&mut self, rt: &R, fabric: &Fabric, call: DialledCall) -> CallRecords
         requires ready { IsReady self.old.desk fabric.now }
         requires kind { self.old.desk.kind ≡ Completing }
@@ -51,8 +52,8 @@ impl<G: Gate + Drop> Worker<Desk, G> {
         }
     }
 
-    /// Takes a task, waiting for one if so asked, and does it. Tells whether to go on: not where none
-    /// came, nor, for who waits, once told to stop.
+    /// Takes a task and does it. With `wait` it waits for a task. Returns whether to go on: not if
+    /// there was no task, nor after a stop if it waits.
     fn complete_next<R: Wait>(
         &mut self,
         rt: &R,
@@ -87,7 +88,7 @@ impl<G: Gate + Drop> Worker<Desk, G> {
         }
     }
 
-    /// Completes calls: waiting for them, until it is told to stop, or else while there are some.
+    /// Completes calls: with `wait` until it takes a stop, else until the queue is empty.
     pub fn complete_all<R: Wait>(
         &mut self,
         rt: &R,

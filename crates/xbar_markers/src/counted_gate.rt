@@ -1,7 +1,7 @@
 use crate::gate::Gate;
 use xbar_fabric::Watch;
 
-/// A gate, with how many steps its marker has made, which stays at `u64::MAX` once it is there.
+/// A gate, with the number of steps that its marker has made, saturating at `u64::MAX`.
 #[derive(Drop)]
 pub struct CountedGate<G: Drop> {
     gate: G,
@@ -21,7 +21,7 @@ impl<G: Drop> CountedGate<G> {
 }
 
 impl<G: Gate + Drop> CountedGate<G> {
-    /// Tells the gate of a job that is done.
+    /// Notifies the gate that a job is done.
     pub fn finish(&mut self, job_no: u32) {
         self.gate.finished(self.marker, job_no);
     }

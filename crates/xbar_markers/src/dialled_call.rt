@@ -5,8 +5,8 @@ use crate::call_records::CallRecords;
 use std::marker::Model;
 use xbar_office::Record;
 
-/// A call that was dialled, and no more: what goes from one worker to another, without the room that
-/// further records take.
+/// A call that was dialled, and no more: what goes from one worker to another, without room for
+/// further records.
 #[derive(Drop)]
 pub struct DialledCall {
     pub call: Call,
@@ -23,7 +23,7 @@ impl Model for DialledCall {
 }
 
 impl DialledCall {
-    /// With room for its further records.
+    /// Adds room for the call's further records.
     pub fn into_records(self) -> CallRecords
         ensures { result ≡ self }
     {

@@ -1,4 +1,4 @@
-//! What those workers do who take calls at the beginning.
+//! Workers that take calls from the first queue and dial them.
 
 ghost use Rattle.std.specs.Prelude.{◌≡◌, ◌+◌, ◌*◌, OnOk, Ok, false};
 ghost use Rattle.fair_queue.specs.Items.{SameItems};
@@ -22,7 +22,7 @@ use xbar_fabric::{Desk, Fabric};
 use xbar_office::{End, Job};
 
 impl<G: Gate + Drop> Worker<Desk, G> {
-    /// Does a call's first job.
+    /// Does a call's dial tone job.
     fn dial<R: Wait>(&mut self, rt: &R, fabric: &Fabric, call: Call) -> DialledCall
         requires ready { IsReady self.old.desk fabric.now }
         requires kind { self.old.desk.kind ≡ Dial }
@@ -36,8 +36,8 @@ impl<G: Gate + Drop> Worker<Desk, G> {
         DialledCall { call, dial }
     }
 
-    /// Takes a call, does its first job, and passes it on if its line has dial tone. Tells whether
-    /// there was a call.
+    /// Takes a call, does its dial tone job, and passes it on if its line has dial tone. Returns
+    /// whether there was a call.
     fn dial_next<R: Wait>(
         &mut self,
         rt: &R,
@@ -65,7 +65,7 @@ impl<G: Gate + Drop> Worker<Desk, G> {
         Ok(true)
     }
 
-    /// Does the first jobs of calls until there are no more.
+    /// Does the dial tone jobs of calls until the queue is empty.
     pub fn dial_all<R: Wait>(
         &mut self,
         rt: &R,

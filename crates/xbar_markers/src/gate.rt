@@ -1,10 +1,10 @@
-/// Told of a marker's steps and jobs by the thread that makes them. It may wait.
+/// Notified of a marker's steps and jobs, by the thread that makes them. It may wait.
 pub trait Gate {
-    /// Before each step, with the number of steps that the marker has made before, which stays at
-    /// `u64::MAX` once it is there.
+    /// Called before each step. `step` is the number of steps that the marker has made before,
+    /// saturating at `u64::MAX`.
     fn pass(&mut self, marker: u32, step: u64);
 
-    /// After each job.
+    /// Called after each job.
     fn finished(&mut self, marker: u32, job_no: u32);
 }
 

@@ -1,4 +1,4 @@
-//! What is left in workers' hands at the end of a run.
+//! Gathers desks and records from workers at the end of a run.
 
 ghost use Rattle.std.specs.Prelude.{◌≡◌, ◌++◌, IfOk, IsPermutation, OnOk, flat_map, map};
 ghost use Rattle.std.specs.List.Sorted.{IsNonDecreasingBy};
@@ -12,7 +12,7 @@ use std::alloc::{AllocError, Global};
 use xbar_fabric::Desk;
 use xbar_office::Record;
 
-/// Puts a call's records behind others.
+/// Appends a call's records.
 fn put_records(records: &mut Vec<Record>, call: CallRecords) -> Result<(), AllocError>
     ensures { OnOk result (records.new.items ≡ records.old.items ++ records_of call) }
 {
@@ -32,11 +32,11 @@ fn put_records(records: &mut Vec<Record>, call: CallRecords) -> Result<(), Alloc
     Ok(())
 }
 
-/// The records of all calls, one call behind the other.
+/// The records of all calls, call by call.
 fn all_records(alloc: Global, calls: Vec<CallRecords>) -> Result<Vec<Record>, AllocError>
     ensures { IfOk result (λ records. records.items ≡ flat_map records_of calls.items) }
 {
-    // A call has three jobs at most.
+    // A call has at most three jobs.
     let mut records = Vec::with_capacity(alloc, calls.len().saturating_mul(3))?;
     for call in calls {
         put_records(&mut records, call)?;
@@ -44,7 +44,7 @@ fn all_records(alloc: Global, calls: Vec<CallRecords>) -> Result<Vec<Record>, Al
     Ok(records)
 }
 
-/// Puts records in the order of their turns: the turns are sorted, and the records follow.
+/// Sorts records by their turns.
 fn sort_by_turn(records: &mut Vec<Record>) -> Result<(), AllocError>
     ensures permuted { IsPermutation records.old.items records.new.items }
     ensures order { OnOk result (IsNonDecreasingBy (λ r. r.turn) records.new.items) }

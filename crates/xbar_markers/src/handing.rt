@@ -5,7 +5,7 @@ ghost use Rattle.std.specs.Thread.{IsSend, IsSync};
 ghost use Rattle.xbar_core.specs.Moves.{refusal_of};
 ghost use Rattle.xbar_fabric.specs.Views.{DeskView, IsDeskOf, marker_of};
 ghost use Rattle.xbar_markers.specs.Handing.{HasGiven, IsAtHand, IsBegun, IsHanded};
-ghost use Rattle.xbar_markers.specs.Work.{HasDone, HasStepped, IsDoing};
+ghost use Rattle.xbar_markers.specs.Work.{HasDone, WorkerHasStepped, IsDoing};
 
 use crate::worker::yield_once_given_back;
 use std::sync::Wait;
@@ -13,16 +13,16 @@ use std::thread::{Threads, join};
 use xbar_fabric::{AssignFault, Desk, Fabric, Given, Progress};
 use xbar_office::{Job, Record};
 
-/// What the second worker does with a job that the first has not ended.
+/// What the second worker does with a job that the first has not finished.
 #[derive(Clone, Copy, Debug, PartialEq, Eq)]
 pub enum Then {
-    /// It brings the job to its end.
+    /// Brings the job to its end.
     Finish,
-    /// It gives back what the desk holds, unless the job is past its turn: then it ends it.
+    /// Gives back what the desk holds. Brings the job to its end if it is past its turn.
     GiveBack,
 }
 
-/// What came of a job that was handed over.
+/// The outcome of a job that was handed over.
 #[derive(Drop)]
 pub enum Handed {
     Finished(Record),
@@ -30,17 +30,17 @@ pub enum Handed {
     Given,
 }
 
-/// Why a job can't be handed over, with the desk, unchanged.
+/// Why a job can't be handed over, with the unchanged desk.
 #[derive(Drop)]
 pub struct HandFault {
     pub desk: Desk,
     pub why: AssignFault,
 }
 
-/// Makes the desk's next step, and gives the record of a job that it ends.
+/// Makes the desk's next step. Returns the job's record if the job ends by it.
 fn make_step(fabric: &Fabric, desk: &mut Desk) -> Option<Record>
     requires { IsDeskOf desk.old fabric.now }
-    ensures { HasStepped desk.old desk.new result }
+    ensures { WorkerHasStepped desk.old desk.new result }
 {
     let was_giving_up = desk.is_giving_up();
     if let Progress::Finished(record) = desk.advance(fabric) {
@@ -50,14 +50,14 @@ fn make_step(fabric: &Fabric, desk: &mut Desk) -> Option<Record>
     None
 }
 
-/// The same, for what the desk has done since it began its job.
+/// Makes the desk's next step. Its contract is of all that the desk has done since the job began.
 fn step_on(fabric: &Fabric, desk: &mut Desk) -> Option<Record>
     requires { IsDeskOf desk.old fabric.now }
     ensures desk { IsDeskOf desk.new fabric.now }
     ensures hand { (before : DeskView) (number : ℕ) (job : Job) →
         IsDoing number job before desk.old → IsAtHand before number job desk.new result }
 {
-    // Called for their clauses alone.
+    // Called only for their contracts.
     xbar_fabric::laws::own_records_are_of_own_jobs();
     xbar_fabric::laws::next_records_have_later_turns();
     let ended = make_step(fabric, desk);
@@ -65,7 +65,8 @@ fn step_on(fabric: &Fabric, desk: &mut Desk) -> Option<Record>
     ended
 }
 
-/// What the first worker does: it has the record if the job ends within so many steps.
+/// What the first worker does: assigns the job and makes at most `stop` steps. Returns the job's
+/// record if the job ends by then.
 fn begin(
     fabric: &Fabric,
     mut desk: Desk,
@@ -88,6 +89,7 @@ fn begin(
     (desk, Ok(None))
 }
 
+/// Makes the desk's steps until its job ends, and returns the job's record.
 fn bring_to_end<R: Wait>(rt: &R, fabric: &Fabric, desk: &mut Desk) -> Record
     requires { IsDeskOf desk.old fabric.now }
     ensures { (before : DeskView) (number : ℕ) (job : Job) →
@@ -101,14 +103,14 @@ fn bring_to_end<R: Wait>(rt: &R, fabric: &Fabric, desk: &mut Desk) -> Record
     unreachable!()
 }
 
-/// Has the desk give back what it holds, unless it is past its turn. Tells whether it did.
+/// Has the desk give back what it holds, unless it is past its turn. Returns whether it did.
 fn gives_back(fabric: &Fabric, desk: &mut Desk) -> bool
     requires { IsDeskOf desk.old fabric.now }
     ensures given { result ≡ true → (before : DeskView) (number : ℕ) (job : Job) →
         IsDoing number job before desk.old → HasGiven before desk.new number job }
     ensures kept { result ≡ false → desk.new ≡ desk.old }
 {
-    // Called for its clauses alone.
+    // Called only for its contract.
     xbar_fabric::laws::own_records_are_of_own_jobs();
     match desk.give_back(fabric) {
         Given::Given => true,
@@ -116,7 +118,7 @@ fn gives_back(fabric: &Fabric, desk: &mut Desk) -> bool
     }
 }
 
-/// What the second worker does with a job that the first began, and, if it has ended, its record.
+/// What the second worker does. `ended` is the job's record, if the first worker ended the job.
 fn go_on<R: Wait>(
     rt: &R,
     fabric: &Fabric,
@@ -141,7 +143,7 @@ fn go_on<R: Wait>(
     (desk, Handed::Finished(record))
 }
 
-/// Does the work on a thread of its own, where one can be made.
+/// Does the work on its own thread, if one can be made, and else on the calling thread.
 fn on_thread<A: Send + Drop, B: Send, F: Fn(A) -> B + Sync, R: Threads>(
     rt: &R,
     work: &F,
@@ -161,9 +163,9 @@ fn on_thread<A: Send + Drop, B: Send, F: Fn(A) -> B + Sync, R: Threads>(
     made
 }
 
-/// A first worker assigns the job to the desk and makes so many of its steps, fewer if the job ends.
-/// The desk then moves to a second worker, on another thread, which goes on from there. Where no
-/// thread can be made, the calling one does the work.
+/// Has a first worker assign the job to the desk and make `stop` of its steps, fewer if the job
+/// ends. Then moves the desk to a second worker, on another thread, which goes on from there. If
+/// no thread can be made, the calling thread does the work.
 pub fn hand_over<R: Threads + Wait + Sync>(
     rt: &R,
     fabric: &Fabric,

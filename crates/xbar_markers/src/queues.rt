@@ -7,7 +7,8 @@ use crate::task::Task;
 use fair_queue::{Inlet, Outlet, bounded};
 use std::alloc::{AllocError, Global};
 
-/// The two queues: calls to those who dial, and from them to those who complete.
+/// The two queues: calls to workers that dial, and tasks from these to workers that complete
+/// calls.
 #[derive(Drop)]
 pub struct Queues {
     pub calls_in: Inlet<Call>,
@@ -17,8 +18,8 @@ pub struct Queues {
 }
 
 impl Queues {
-    /// Queues for so many calls and so many workers, with the share of all parts. The second has room
-    /// for the stops too.
+    /// Opens queues for this number of calls and of workers, with a share that has all parts of
+    /// both. The second queue has room for the stops too.
     pub fn open(alloc: Global, calls: usize, workers: usize) -> Result<(Queues, Share), AllocError>
         ensures open { IfOk result (λ opened. AreOpen opened.0) }
         ensures room { IfOk result (λ opened. calls ≤ opened.0.calls_in.capacity) }

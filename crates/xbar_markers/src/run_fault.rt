@@ -7,7 +7,7 @@ use thiserror::Error;
 /// Why calls can't be done.
 #[derive(Debug, Drop, PartialEq, Error)]
 pub enum RunFault {
-    /// There is at least one marker of each kind, and at most 48 in all.
+    /// There is no marker of one of the kinds, or there are more than 48 in all.
     #[error("calls want a marker of each kind, and an office has at most 48")]
     Markers,
     #[error("memory ran out")]

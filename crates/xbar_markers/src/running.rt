@@ -1,4 +1,4 @@
-//! Calls done by all desks of a fabric, each on a thread of its own.
+//! Calls done by all desks of a fabric, each on its own thread.
 
 ghost use Rattle.std.specs.Prelude.{◌≡◌, ◌≤◌, ◌<◌, ℕ, List, [], All, IfOk, OnOk, length, map, slice_get};
 ghost use Rattle.std.specs.Prelude.{vec_len};
@@ -9,10 +9,10 @@ ghost use Rattle.xbar_core.specs.declared.kind.Kind.TheVariants.{Completing, Dia
 ghost use Rattle.xbar_fabric.specs.Meetings.{AreAllIdle};
 ghost use Rattle.xbar_fabric.specs.Views.{DeskView};
 ghost use Rattle.xbar_markers.specs.Calls.{AreServed, HasCallNo, HasDialTone};
-ghost use Rattle.xbar_markers.specs.Seats.{HaveServed, IsThere, desks_at};
+ghost use Rattle.xbar_markers.specs.ThreadStates.{HaveServed, IsThere, desks_at};
 ghost use Rattle.xbar_markers.specs.Shares.{AreOpen, HasTickets, IsFilled, IsNewShare};
 ghost use Rattle.xbar_markers.specs.Shares.{IsShareOf, MayUse};
-ghost use Rattle.xbar_markers.specs.Staff.{AreStaff, kinds_of};
+ghost use Rattle.xbar_markers.specs.DesksByKind.{AreDesksByKind, kinds_of};
 ghost use Rattle.xbar_markers.specs.Work.{AreShort, HaveWorked};
 ghost use Rattle.xbar_markers.specs.declared.call.Call.{Call as CallView};
 
@@ -20,9 +20,9 @@ use crate::call::Call;
 use crate::gate::Gate;
 use crate::gathering::{desks_of, in_turn_order};
 use crate::queues::Queues;
-use crate::seat::{gather, hire};
 use crate::share::Share;
 use crate::stages::{Stages, run_stages};
+use crate::thread_state::{gather, open_states};
 use crate::worker::Worker;
 use std::alloc::{AllocError, Global};
 use std::mem;
@@ -31,7 +31,7 @@ use std::thread::Threads;
 use xbar_fabric::{Desk, Fabric, Kind};
 use xbar_office::Record;
 
-/// How many desks there are before the first that completes calls.
+/// The number of desks before the first that completes calls.
 fn count_dialling(desks: &[Desk]) -> usize
     ensures { (dialling completing : ℕ) →
         map (λ desk. desk.kind) desks.now ≡ kinds_of dialling completing → result ≡ dialling }
@@ -60,7 +60,7 @@ fn fill<R: Wait>(rt: &R, queues: &Queues, whole: &mut Share, calls: &[Call])
     }
 }
 
-/// Has the first worker take the calls that are still in the first queue.
+/// Has the first worker dial the calls that are still in the first queue.
 fn dial_left<G: Gate + Drop, R: Wait>(
     rt: &R,
     fabric: &Fabric,
@@ -85,7 +85,8 @@ fn dial_left<G: Gate + Drop, R: Wait>(
     first.dial_all(rt, fabric, queues, whole)
 }
 
-/// Has this worker complete the calls that are still in the second queue, or were handed back.
+/// Has the worker at this index complete the calls that are still in the second queue, or that
+/// this queue handed back.
 fn complete_rest<G: Gate + Drop, R: Wait>(
     rt: &R,
     fabric: &Fabric,
@@ -112,8 +113,8 @@ fn complete_rest<G: Gate + Drop, R: Wait>(
     worker.complete_kept(rt, fabric, whole)
 }
 
-/// Lets all desks work, each on a thread of its own, until both queues have nothing for them. Gives
-/// the workers, all their shares in one, and how many of them dial.
+/// Lets all desks work, each on its own thread, until both queues have nothing for them. Returns
+/// the workers, their shares joined into one, and the number of workers that dial.
 fn work_all<G: Gate + Send + Drop, R: Threads + Wait + Sync>(
     rt: &R,
     alloc: Global,
@@ -125,7 +126,7 @@ fn work_all<G: Gate + Send + Drop, R: Threads + Wait + Sync>(
 ) -> Result<(Vec<Worker<Desk, G>>, Share, usize), AllocError>
     requires open { AreOpen queues.now }
     requires filled { (calls : List CallView) × IsFilled queues.now calls whole }
-    requires desks { AreStaff desks.items fabric.now }
+    requires desks { AreDesksByKind desks.items fabric.now }
     requires gates { vec_len gates ≡ vec_len desks }
     ensures may { IfOk result (λ done. MayUse done.1 queues.now) }
     ensures parts { IfOk result (λ done. IsWhole done.1.calls × IsWhole done.1.tasks) }
@@ -138,7 +139,7 @@ fn work_all<G: Gate + Send + Drop, R: Threads + Wait + Sync>(
         IsShareOf desks.items (desks_at done.0.items) done.1) }
 {
     let dialling_count = count_dialling(desks.as_slice());
-    let mut dialling = hire(alloc, fabric, queues, &mut whole, desks, gates)?;
+    let mut dialling = open_states(alloc, fabric, queues, &mut whole, desks, gates)?;
     let completing = dialling.split_off(dialling_count)?;
     let before = Stages {
         dialling,
@@ -156,8 +157,8 @@ fn work_all<G: Gate + Send + Drop, R: Threads + Wait + Sync>(
     Ok((workers, whole, dialling_count))
 }
 
-/// Has what is still in the queues done by the first workers of each kind, and gives the records of
-/// all jobs, in turn order.
+/// Has the first worker of each kind do what is still in the queues. Returns the records of all
+/// jobs, in turn order.
 fn finish<G: Gate + Drop, R: Wait>(
     rt: &R,
     alloc: Global,
@@ -187,7 +188,7 @@ fn finish<G: Gate + Drop, R: Wait>(
     in_turn_order(alloc, mem::replace(&mut whole.ended, Vec::new(alloc)))
 }
 
-/// Does the calls in the first queue, and gives the desks back with the records of all jobs, in turn
+/// Does the calls in the first queue. Returns the desks and the records of all jobs, in turn
 /// order.
 fn run_filled<G: Gate + Send + Drop, R: Threads + Wait + Sync>(
     rt: &R,
@@ -200,7 +201,7 @@ fn run_filled<G: Gate + Send + Drop, R: Threads + Wait + Sync>(
 ) -> Result<(Vec<Desk>, Vec<Record>), AllocError>
     requires open { AreOpen queues.now }
     requires filled { (calls : List CallView) × IsFilled queues.now calls whole }
-    requires desks { AreStaff desks.items fabric.now }
+    requires desks { AreDesksByKind desks.items fabric.now }
     requires gates { vec_len gates ≡ vec_len desks }
     ensures desks { IfOk result (λ ran. HaveWorked desks.items ran.0.items ran.1.items) }
     ensures served { IfOk result (λ ran.
@@ -222,10 +223,10 @@ fn run_filled<G: Gate + Send + Drop, R: Threads + Wait + Sync>(
     Ok((desks_of(alloc, workers)?, records))
 }
 
-/// Does all calls with all desks of a fabric, each on a thread of its own, and gives the desks back
-/// with the records of all jobs, in turn order. The first gate is for marker 0.
+/// Does all calls with all desks of a fabric, each on its own thread. Returns the desks and the
+/// records of all jobs, in turn order. The first gate is for marker 0.
 ///
-/// Out of memory the desks are lost, and the turns that they made stay in the fabric.
+/// If memory runs out the desks are lost, and the turns that they took stay in the fabric.
 pub fn run_desks<G: Gate + Send + Drop, R: Threads + Wait + Sync>(
     rt: &R,
     alloc: Global,
@@ -234,14 +235,14 @@ pub fn run_desks<G: Gate + Send + Drop, R: Threads + Wait + Sync>(
     calls: &[Call],
     gates: Vec<G>,
 ) -> Result<(Vec<Desk>, Vec<Record>), AllocError>
-    requires desks { AreStaff desks.items fabric.now }
+    requires desks { AreDesksByKind desks.items fabric.now }
     requires call_nos { All HasCallNo calls.now }
     requires gates { vec_len gates ≡ vec_len desks }
     ensures desks { IfOk result (λ ran. HaveWorked desks.items ran.0.items ran.1.items) }
     ensures served { IfOk result (λ ran.
         AreServed (AreShort ran.0.items) calls.now ran.1.items) }
     ensures order { IfOk result (λ ran. IsNonDecreasingBy (λ r. r.turn) ran.1.items) }
-    ensures staff { IfOk result (λ ran. AreStaff ran.0.items fabric.now) }
+    ensures by_kind { IfOk result (λ ran. AreDesksByKind ran.0.items fabric.now) }
     ensures idle { IfOk result (λ ran.
         AreAllIdle desks.items fabric.now → AreAllIdle ran.0.items fabric.now) }
 {

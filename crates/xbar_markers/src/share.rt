@@ -13,19 +13,19 @@ use fair_queue::Ticket;
 use std::alloc::{AllocError, Global};
 use std::sync::Wait;
 
-/// A worker's share of the work: what came to it through the queues, and what became of that.
+/// A worker's share of the work: what it took from the queues, and what became of that.
 #[derive(Drop)]
 pub struct Share {
     pub calls: Ticket<Call>,
     pub tasks: Ticket<Task>,
-    /// Calls whose lines have dial tone, which the second queue handed back.
+    /// Calls with dial tone that the second queue handed back.
     pub kept: Vec<DialledCall>,
-    /// Calls for which all is done.
+    /// Calls for which nothing is left to do.
     pub ended: Vec<CallRecords>,
 }
 
 impl Share {
-    /// A share that was given these tickets, and nothing came to yet.
+    /// A share with these tickets and no calls.
     pub fn new(alloc: Global, calls: Ticket<Call>, tasks: Ticket<Task>) -> Share
         ensures tickets { (result.calls ≡ calls) × (result.tasks ≡ tasks) }
         ensures none { (result.kept.items ≡ []) × (result.ended.items ≡ []) }
@@ -38,7 +38,7 @@ impl Share {
         }
     }
 
-    /// Passes on a call whose line has dial tone, or keeps it where it is handed back.
+    /// Puts a call with dial tone into the second queue, or keeps it if that hands it back.
     pub fn pass_on<R: Wait>(
         &mut self,
         rt: &R,
@@ -60,7 +60,7 @@ impl Share {
         Ok(())
     }
 
-    /// Cuts a share of one part of each queue off, to which nothing came yet.
+    /// Cuts off a share without calls, which has one part of each queue's ticket.
     pub fn cut(&mut self, alloc: Global, queues: &Queues) -> Share
         requires may { MayUse self.old queues.now }
         requires parts { (1 < self.old.calls.parts) × (1 < self.old.tasks.parts) }
@@ -76,7 +76,7 @@ impl Share {
         Share::new(alloc, calls, tasks)
     }
 
-    /// What came to another worker came to this one.
+    /// Adds another worker's share to this one.
     pub fn join(&mut self, queues: &Queues, other: Share) -> Result<(), AllocError>
         requires may { MayUse self.old queues.now }
         requires other { MayUse other queues.now }

@@ -1,24 +1,24 @@
-//! Workers on threads of their own.
+//! Runs workers, each on its own thread.
 
 ghost use Rattle.std.specs.Prelude.{◌≡◌, All, IfOk, Ok, map, vec_len};
 ghost use Rattle.std.specs.Thread.{IsSend, IsSync};
 ghost use Rattle.xbar_core.specs.declared.kind.Kind.TheVariants.{Completing, Dial};
 ghost use Rattle.xbar_fabric.specs.Views.{DeskView};
-ghost use Rattle.xbar_markers.specs.Seats.{HasStayed, HaveStayed, IsSeat};
+ghost use Rattle.xbar_markers.specs.ThreadStates.{HasStayed, HaveStayed, IsThreadState};
 ghost use Rattle.xbar_markers.specs.Shares.{AreOpen, HasStopped, MayUse};
 
 use crate::gate::Gate;
 use crate::queues::Queues;
-use crate::seat::Seat;
 use crate::share::Share;
 use crate::task::Task;
+use crate::thread_state::ThreadState;
 use std::alloc::{AllocError, Global};
 use std::sync::Wait;
 use std::thread;
 use std::thread::{Threads, join, map_vec};
 use xbar_fabric::{Desk, Fabric};
 
-/// The seats, if all came back.
+/// All results, if none of them is an error.
 fn all_ok<T: Drop>(alloc: Global, results: Vec<Result<T, AllocError>>) -> Result<Vec<T>, AllocError>
     ensures { IfOk result (λ all. results.items ≡ map Ok all.items) }
 {
@@ -29,86 +29,89 @@ fn all_ok<T: Drop>(alloc: Global, results: Vec<Result<T, AllocError>>) -> Result
     Ok(all)
 }
 
+/// Has a worker dial calls until the first queue is empty.
 fn dial_at<G: Gate + Drop, R: Wait>(
     rt: &R,
     fabric: &Fabric,
     queues: &Queues,
-    mut seat: Seat<Desk, G>,
-) -> Result<Seat<Desk, G>, AllocError>
+    mut state: ThreadState<Desk, G>,
+) -> Result<ThreadState<Desk, G>, AllocError>
     requires open { AreOpen queues.now }
-    requires seat { IsSeat Dial fabric.now queues.now seat }
-    ensures { IfOk result (HasStayed Dial fabric.now queues.now seat) }
+    requires state { IsThreadState Dial fabric.now queues.now state }
+    ensures { IfOk result (HasStayed Dial fabric.now queues.now state) }
 {
-    seat.worker.dial_all(rt, fabric, queues, &mut seat.share)?;
-    Ok(seat)
+    state.worker.dial_all(rt, fabric, queues, &mut state.share)?;
+    Ok(state)
 }
 
-/// Those who dial, each on a thread of its own.
+/// Runs the workers that dial, each on its own thread.
 fn dial_stage<G: Gate + Send + Drop, R: Threads + Wait + Sync>(
     rt: &R,
     alloc: Global,
     fabric: &Fabric,
     queues: &Queues,
-    seats: Vec<Seat<Desk, G>>,
-) -> Result<Vec<Seat<Desk, G>>, AllocError>
+    states: Vec<ThreadState<Desk, G>>,
+) -> Result<Vec<ThreadState<Desk, G>>, AllocError>
     requires open { AreOpen queues.now }
-    requires seats { All (IsSeat Dial fabric.now queues.now) seats.items }
+    requires states { All (IsThreadState Dial fabric.now queues.now) states.items }
     ensures { IfOk result (λ after.
-        HaveStayed Dial fabric.now queues.now seats.items after.items) }
+        HaveStayed Dial fabric.now queues.now states.items after.items) }
 {
     let after = map_vec(
         rt,
-        seats,
-        &|seat: Seat<Desk, G>| -> Result<Seat<Desk, G>, AllocError>
+        states,
+        &|state: ThreadState<Desk, G>| -> Result<ThreadState<Desk, G>, AllocError>
             requires open { AreOpen queues.now }
-            requires seat { IsSeat Dial fabric.now queues.now seat }
-            ensures { IfOk result (HasStayed Dial fabric.entry.now queues.entry.now seat) }
-        { dial_at(rt, fabric, queues, seat) },
+            requires state { IsThreadState Dial fabric.now queues.now state }
+            ensures { IfOk result (HasStayed Dial fabric.entry.now queues.entry.now state) }
+        { dial_at(rt, fabric, queues, state) },
     )?;
     all_ok(alloc, after)
 }
 
+/// Has a worker complete calls until it takes a stop.
 fn complete_at<G: Gate + Drop, R: Wait>(
     rt: &R,
     fabric: &Fabric,
     queues: &Queues,
-    mut seat: Seat<Desk, G>,
-) -> Result<Seat<Desk, G>, AllocError>
+    mut state: ThreadState<Desk, G>,
+) -> Result<ThreadState<Desk, G>, AllocError>
     requires open { AreOpen queues.now }
-    requires seat { IsSeat Completing fabric.now queues.now seat }
-    ensures { IfOk result (HasStayed Completing fabric.now queues.now seat) }
+    requires state { IsThreadState Completing fabric.now queues.now state }
+    ensures { IfOk result (HasStayed Completing fabric.now queues.now state) }
 {
-    seat.worker
-        .complete_all(rt, fabric, queues, &mut seat.share, true)?;
-    Ok(seat)
+    state
+        .worker
+        .complete_all(rt, fabric, queues, &mut state.share, true)?;
+    Ok(state)
 }
 
-/// Those who complete calls, each on a thread of its own.
+/// Runs the workers that complete calls, each on its own thread.
 fn complete_stage<G: Gate + Send + Drop, R: Threads + Wait + Sync>(
     rt: &R,
     alloc: Global,
     fabric: &Fabric,
     queues: &Queues,
-    seats: Vec<Seat<Desk, G>>,
-) -> Result<Vec<Seat<Desk, G>>, AllocError>
+    states: Vec<ThreadState<Desk, G>>,
+) -> Result<Vec<ThreadState<Desk, G>>, AllocError>
     requires open { AreOpen queues.now }
-    requires seats { All (IsSeat Completing fabric.now queues.now) seats.items }
+    requires states { All (IsThreadState Completing fabric.now queues.now) states.items }
     ensures { IfOk result (λ after.
-        HaveStayed Completing fabric.now queues.now seats.items after.items) }
+        HaveStayed Completing fabric.now queues.now states.items after.items) }
 {
     let after = map_vec(
         rt,
-        seats,
-        &|seat: Seat<Desk, G>| -> Result<Seat<Desk, G>, AllocError>
+        states,
+        &|state: ThreadState<Desk, G>| -> Result<ThreadState<Desk, G>, AllocError>
             requires open { AreOpen queues.now }
-            requires seat { IsSeat Completing fabric.now queues.now seat }
-            ensures { IfOk result (HasStayed Completing fabric.entry.now queues.entry.now seat) }
-        { complete_at(rt, fabric, queues, seat) },
+            requires state { IsThreadState Completing fabric.now queues.now state }
+            ensures { IfOk result (HasStayed Completing fabric.entry.now queues.entry.now state) }
+        { complete_at(rt, fabric, queues, state) },
     )?;
     all_ok(alloc, after)
 }
 
-/// Tells one of those who complete calls that there are no more. There is room for it.
+/// Puts a stop, for one worker that completes calls, into the second queue, which has room for it.
 fn stop_one<R: Wait>(rt: &R, queues: &Queues, whole: &mut Share)
     requires may { MayUse whole.old queues.now }
     ensures { HasStopped whole.old whole.new }
@@ -126,6 +129,7 @@ fn stop_one<R: Wait>(rt: &R, queues: &Queues, whole: &mut Share)
     unreachable!()
 }
 
+/// Puts `stops` stops into the second queue.
 fn stop_all<R: Wait>(rt: &R, queues: &Queues, whole: &mut Share, stops: usize)
     requires may { MayUse whole.old queues.now }
     ensures { HasStopped whole.old whole.new }
@@ -135,36 +139,37 @@ fn stop_all<R: Wait>(rt: &R, queues: &Queues, whole: &mut Share, stops: usize)
     }
 }
 
-/// Those who dial, and once they are done the stops, so that nobody waits for ever.
+/// Runs the workers that dial, and then puts the stops, so that no worker waits for ever.
 fn dial_and_stop<G: Gate + Send + Drop, R: Threads + Wait + Sync>(
     rt: &R,
     alloc: Global,
     fabric: &Fabric,
     queues: &Queues,
-    seats: Vec<Seat<Desk, G>>,
+    states: Vec<ThreadState<Desk, G>>,
     mut whole: Share,
     stops: usize,
-) -> (Result<Vec<Seat<Desk, G>>, AllocError>, Share)
+) -> (Result<Vec<ThreadState<Desk, G>>, AllocError>, Share)
     requires open { AreOpen queues.now }
-    requires seats { All (IsSeat Dial fabric.now queues.now) seats.items }
+    requires states { All (IsThreadState Dial fabric.now queues.now) states.items }
     requires may { MayUse whole queues.now }
-    ensures seats { IfOk result.0 (λ after.
-        HaveStayed Dial fabric.now queues.now seats.items after.items) }
+    ensures states { IfOk result.0 (λ after.
+        HaveStayed Dial fabric.now queues.now states.items after.items) }
     ensures whole { HasStopped whole result.1 }
 {
-    let seats = dial_stage(rt, alloc, fabric, queues, seats);
+    let states = dial_stage(rt, alloc, fabric, queues, states);
     stop_all(rt, queues, &mut whole, stops);
-    (seats, whole)
+    (states, whole)
 }
 
-/// Seats of those who dialled and of those who completed, and the share of whoever waited for them.
+/// The states of workers that dial and of workers that complete calls, and the share with the
+/// remaining parts of the tickets.
 pub struct Stages<D: Drop, G: Drop> {
-    pub dialling: Vec<Seat<D, G>>,
-    pub completing: Vec<Seat<D, G>>,
+    pub dialling: Vec<ThreadState<D, G>>,
+    pub completing: Vec<ThreadState<D, G>>,
     pub whole: Share,
 }
 
-/// Both kinds at once, until each has come to its end.
+/// Runs workers of both kinds at once, until each has ended.
 pub fn run_stages<G: Gate + Send + Drop, R: Threads + Wait + Sync>(
     rt: &R,
     alloc: Global,
@@ -173,8 +178,9 @@ pub fn run_stages<G: Gate + Send + Drop, R: Threads + Wait + Sync>(
     before: Stages<Desk, G>,
 ) -> Result<Stages<Desk, G>, AllocError>
     requires open { AreOpen queues.now }
-    requires dialling { All (IsSeat Dial fabric.now queues.now) before.dialling.items }
-    requires completing { All (IsSeat Completing fabric.now queues.now) before.completing.items }
+    requires dialling { All (IsThreadState Dial fabric.now queues.now) before.dialling.items }
+    requires completing { All
+        (IsThreadState Completing fabric.now queues.now) before.completing.items }
     requires may { MayUse before.whole queues.now }
     ensures dialling { IfOk result (λ after.
         HaveStayed Dial fabric.now queues.now before.dialling.items after.dialling.items) }
@@ -188,18 +194,18 @@ pub fn run_stages<G: Gate + Send + Drop, R: Threads + Wait + Sync>(
         whole,
     } = before;
     let stops = completing.len();
-    // Where no thread can be made, the second is done first, so nobody waits for ever.
+    // If no thread can be made, the second closure is run first, so that no worker waits for ever.
     let (completed, (dialled, whole)) = join(
         rt,
-        move || -> Result<Vec<Seat<Desk, G>>, AllocError>
+        move || -> Result<Vec<ThreadState<Desk, G>>, AllocError>
             requires { IsSync R.row × IsSend G.row × AreOpen queues.now
-                × All (IsSeat Completing fabric.now queues.now) completing.items }
+                × All (IsThreadState Completing fabric.now queues.now) completing.items }
             ensures { IfOk result (λ after. HaveStayed Completing fabric.entry.now
                 queues.entry.now completing.items after.items) }
         { complete_stage(rt, alloc, fabric, queues, completing) },
-        move || -> (Result<Vec<Seat<Desk, G>>, AllocError>, Share)
+        move || -> (Result<Vec<ThreadState<Desk, G>>, AllocError>, Share)
             requires { IsSync R.row × IsSend G.row × AreOpen queues.now
-                × All (IsSeat Dial fabric.now queues.now) dialling.items
+                × All (IsThreadState Dial fabric.now queues.now) dialling.items
                 × MayUse whole queues.now }
             ensures { IfOk result.0 (λ after. HaveStayed Dial fabric.entry.now queues.entry.now
                 dialling.items after.items)

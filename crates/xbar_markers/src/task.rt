@@ -2,12 +2,12 @@ use crate::call::Call;
 use crate::dialled_call::DialledCall;
 use fair_queue::Item;
 
-/// What goes to those who complete calls.
+/// What goes through the second queue, to workers that complete calls.
 #[derive(Drop)]
 pub enum Task {
     /// A call whose line has dial tone.
     Complete(DialledCall),
-    /// There is no more to do.
+    /// There are no more calls.
     Stop,
 }
 

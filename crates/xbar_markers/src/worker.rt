@@ -1,4 +1,4 @@
-//! A marker at work: it does whole jobs, one after another.
+//! A worker, which does whole jobs, one after another.
 
 ghost use Rattle.std.specs.Prelude.{◌≡◌, ℕ, true};
 ghost use Rattle.xbar_core.specs.Kinds.{takes};
@@ -12,21 +12,21 @@ use std::thread;
 use xbar_fabric::{Answer, Desk, Fabric, Watch};
 use xbar_office::{Job, Record};
 
-/// A desk, and the gate that its steps pass. That it may go to another thread is derived where the desk
-/// may.
+/// A desk, and the gate that is called before its steps. It is `Send` if the desk and the gate
+/// are.
 #[derive(Drop)]
 pub struct Worker<D: Drop, G: Drop> {
     pub desk: D,
     pub gate: CountedGate<G>,
 }
 
-/// Whether a step found its connector held, or another marker preferred.
+/// Whether a step was denied its connector.
 fn is_refusal(answer: Option<Answer>) -> bool {
     matches!(answer, Some(Answer::Held(_) | Answer::Preferred(_)))
 }
 
-/// Lets other threads run, once a desk that was put off has given back all that it held: nobody waits
-/// for it then. Tells whether it has still to do so.
+/// Yields to other threads once a desk that was denied a connector has given back all that it
+/// held, so that nobody waits for it meanwhile. Returns whether the desk has yet to do so.
 pub fn yield_once_given_back(desk: &Desk, was_put_off: bool) -> bool {
     if !was_put_off {
         return false;
@@ -39,19 +39,19 @@ pub fn yield_once_given_back(desk: &Desk, was_put_off: bool) -> bool {
 }
 
 impl<G: Gate + Drop> Worker<Desk, G> {
-    /// Makes its desk's next step, and after it those that are sure to ask for no connector. Gives the
-    /// first one's answer.
+    /// Makes the desk's next step, and then further ones that ask for no connector. Returns the
+    /// answer to the first.
     fn go_on(&mut self, fabric: &Fabric) -> Option<Answer>
         requires { IsDeskOf self.old.desk fabric.now }
         ensures { (start : DeskView) (number : ℕ) (job : Job) →
             IsDoing number job start self.old.desk → IsDoing number job start self.new.desk }
     {
-        // Called for its clauses alone.
+        // Called only for its contract.
         xbar_fabric::laws::own_records_are_of_own_jobs();
         self.gate.before_step();
         let answer = self.desk.step(fabric);
-        // A request that stands is followed by the seizing.
-        if !matches!(answer, Some(Answer::Asked(_))) {
+        // After a request that wasn't denied, the next step is the seizing.
+        if !matches!(answer, Some(Answer::Requested(_))) {
             let _made = self.desk.run(fabric, &mut self.gate);
         }
         answer
@@ -63,7 +63,7 @@ impl<G: Gate + Drop> Worker<Desk, G> {
         requires takes { takes self.old.desk.kind job ≡ true }
         ensures { HasDone self.old.desk self.new.desk job_no job result }
     {
-        // Called for its clauses alone.
+        // Called only for its contract.
         xbar_fabric::laws::next_records_have_later_turns();
         let Ok(()) = self.desk.assign(job_no, job) else {
             unreachable!()
@@ -71,10 +71,10 @@ impl<G: Gate + Drop> Worker<Desk, G> {
         let mut is_put_off = false;
         for _ in rt.forever() {
             let answer = self.go_on(fabric);
-            // Asked for only then, since each step would else carry room for a record.
+            // Asked for only now, since otherwise each step would carry room for a record.
             if self.desk.is_idle() {
                 if let Some(record) = self.desk.record() {
-                    // Called for its clause that what the desk has seen is a history.
+                    // Called only for its contract, that what the desk has seen is a history.
                     let _marker = self.desk.marker();
                     self.gate.finish(job_no);
                     return record;

@@ -15,20 +15,20 @@ sum_below-suc : (f : ℕ → ℕ) (n : ℕ) → sum_below f (suc n) ≡ sum_belo
 unfolding sum_below
 sum_below-suc f n = refl
 
--- a field counts where it is not 0
+-- a field counts if it is not 0
 pub counts-closed : (held : ℕ) → (held ≡ 0 → ⊥) → ◌≡◌ {A = ℕ} (if held == 0 then 0 else 1) 1
 counts-closed held is_closed = rw (ne_eqb held 0 is_closed) refl
 
 pub counts-open : (held : ℕ) → held ≡ 0 → ◌≡◌ {A = ℕ} (if held == 0 then 0 else 1) 0
 counts-open held is_open = rw (eq-eqb held 0 is_open) refl
 
--- sums of what agrees are one
+-- sums of equal terms are equal
 pub sum_below-same : (f g : ℕ → ℕ) (count : ℕ) → ((j : ℕ) → j < count → f j ≡ g j) → sum_below f count ≡ sum_below g count
 sum_below-same f g zero agree = sum_below-zero f ∙ sym (sum_below-zero g)
 sum_below-same f g (suc n) agree =
     sum_below-suc f n ∙ ap₂ (λ a b. a + b) (sum_below-same f g n (λ j below. agree j (omega arith))) (agree n (omega arith)) ∙ sym (sum_below-suc g n)
 
--- sums of nothing are 0
+-- a sum of zeros is 0
 pub sum_below-none : (f : ℕ → ℕ) (count : ℕ) → ((j : ℕ) → j < count → f j ≡ 0) → sum_below f count ≡ 0
 sum_below-none f zero none = sum_below-zero f
 sum_below-none f (suc n) none =
@@ -36,7 +36,7 @@ sum_below-none f (suc n) none =
     let last = none n (omega arith) in
     sum_below-suc f n ∙ omega (arith, rest, last)
 
--- what agrees but at one number differs as it does there
+-- if the terms differ only at one number, the sums differ by as much
 pub sum_below-change : (f g : ℕ → ℕ) (k more count : ℕ) → k < count → f k ≡ g k + more → ((j : ℕ) → j < count → j ≢ k → f j ≡ g j) → sum_below f count ≡ sum_below g count + more
 sum_below-change f g k more zero within here agree = absurd (omega arith)
 sum_below-change f g k more (suc n) within here agree = elim (cases_eq k n) [

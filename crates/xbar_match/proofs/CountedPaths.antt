@@ -1,4 +1,5 @@
--- on words that show a set of paths, each path has four of the closed fields, and one of those of line switches
+-- on words that show a set of paths, each path has four of the closed fields, and one of those of
+-- line switches
 use Rattle.std.proofs.Common.{◌≡◌, ◌≢◌, ℕ, ◌+◌, ◌*◌, ◌/◌, ◌%◌, ◌<◌, ◌≤◌, ◌==◌, if◌then◌else◌, List, [], ◌∷◌, length, get_or, inl, inr, refl, sym, ◌∙◌, ap, subst, arith, get_or-set_same, get_or-set_other}
 use Rattle.xbar_equip.specs.Among.{IsIn}
 use Rattle.xbar_equip.specs.Path.{IsPath}
@@ -30,7 +31,7 @@ closed_fields-open shape word v in_range closed =
     let here : f v ≡ g v + 1 = counts-closed (field_of shape word v) closed ∙ ap (λ n. n + 1) (sym (counts-open (field_of shape new v) (field_of-open_same shape word v in_range))) in
     sum_below-change f g v 1 10 in_range here (λ j below differs. ap (λ (h : ℕ). let n : ℕ = if h == 0 then 0 else 1 in n) (sym (field_of-open_other shape word v j in_range below differs)))
 
--- what a list has at the place of a crosspoint once it is opened, and elsewhere
+-- the word of a crosspoint after the crosspoint is opened, and every other word
 opened_here : (words : List ℕ) (c : Crosspoint) → c.word < length words → get_or (open_at words c) c.word 0 ≡ opened_word c (get_or words c.word 0)
 opened_here words c within = get_or-set_same words c.word (opened_word c (get_or words c.word 0)) 0 within
 
@@ -48,7 +49,7 @@ closed_switch_fields-open_at words c long is held =
     ∙ ap (λ w. closed_fields (shape_at c.word) w + 1) (sym (opened_here words c (omega (arith, is.word)))) in
     sum_below-change f g c.word 1 400 is.word here (λ n below differs. ap (closed_fields (shape_at n)) (sym (opened_elsewhere words c n differs)))
 
--- the same of line switches, and opening a crosspoint of another switch changes nothing there
+-- the same for line switches; opening a crosspoint of another switch changes nothing there
 pub closed_line_fields-open_line : (words : List ℕ) (c : Crosspoint) (frame switch : ℕ) → 400 ≤ length words → frame < 10 → switch < 10 → c.word ≡ 20 * frame + switch → IsCrosspoint c → held_at words c.word c.field ≡ c.value
     → closed_line_fields words ≡ closed_line_fields (open_at words c) + 1
 closed_line_fields-open_line words c frame switch long in_frame in_switch at is held =

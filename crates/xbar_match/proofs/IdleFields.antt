@@ -1,4 +1,4 @@
--- on a word that shows a set of paths, a field is 0 exactly where its link is idle
+-- on a word that shows a set of paths, a field is 0 exactly if its link is idle
 use Rattle.std.proofs.Common.{◌≡◌, ℕ, ◌+◌, ◌*◌, ◌<◌, ◌==◌, true, List, inl, inr, refl, sym, ◌∙◌, ap, arith, eq-eqb, ne_eqb}
 use Rattle.std.proofs.lemmas.Bool.{cases_eq, false_from_ne_true, true≢false}
 use Rattle.xbar_equip.specs.Among.{IsIn}
@@ -16,7 +16,7 @@ use Rattle.xbar_match.specs.Switches.{shape_at}
 use Rattle.xbar_match.specs.Shows.{AreInRange, IsClosedIn, WordShows}
 use Rattle.xbar_match.proofs.PathCrosspoints.{which, at_line_switch, at_line_junctor, at_trunk_junctor, at_trunk_switch, line_link_at, junctor_at, junctor_back_at, trunk_link_at}
 
--- the links of a path have it
+-- a path has each of its three links
 pub has_line_link : (link : Link) (path : Path) → line_link path ≡ link → has_link link path ≡ true
 has_line_link link path e = (has_link-exact link path).1 (inl e)
 
@@ -48,7 +48,7 @@ only_trunk_link path t u n has = elim ((has_link-exact (record { kind = TrunkLin
   | inr (inr e) ↦ e
 ]
 
--- a field that is 0 where no path has the link, and is not 0 where one has
+-- a field is 0 if no path has the link, and not 0 if one has it
 same_test : (link : Link) (paths : List Path) (held : ℕ)
     → ((path : Path) → IsIn path paths → has_link link path ≡ true → held ≡ 0 → ⊥)
     → ((held ≡ 0 → ⊥) → (path : Path) × IsIn path paths × (has_link link path ≡ true))
@@ -61,12 +61,12 @@ same_test link paths held busy some = elim (cases_eq held 0) [
       ∙ sym (ne_eqb held 0 closed)
 ]
 
--- the path whose crosspoint a closed field is
+-- the path that a closed field's crosspoint belongs to
 closed_path : (paths : List Path) (n word v : ℕ) → v < 10 → WordShows (IsClosedIn paths) n word → (field_of (shape_at n) word v ≡ 0 → ⊥)
     → IsClosedIn paths (record { word = n; field = v; value = field_of (shape_at n) word v })
 closed_path paths n word v in_range shows closed = elim (shows.others v in_range) [ inl zero ↦ absurd (closed zero) | inr is ↦ is ]
 
--- a crosspoint of a path is no open field
+-- the field of a path's crosspoint is not open
 not_open : (paths : List Path) (n word : ℕ) (path : Path) (c : Crosspoint) (place : ℕ) → WordShows (IsClosedIn paths) n word → IsIn path paths → IsIn c (crosspoints path) → c.word ≡ n → c.value ≡ 1 + place → (v : ℕ) → c.field ≡ v → field_of (shape_at n) word v ≡ 0 → ⊥
 not_open paths n word path c place shows within among at value v field zero =
     let held : field_of (shape_at n) word c.field ≡ c.value = shows.closed c (path, within, among) at in

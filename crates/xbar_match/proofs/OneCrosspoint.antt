@@ -1,4 +1,4 @@
--- what becomes of the word of a switch, and of what it shows, when one crosspoint is closed or opened
+-- the word of a switch, and what the word shows, after one crosspoint is closed or opened
 use Rattle.std.proofs.Common.{◌≡◌, ◌≢◌, ℕ, ◌+◌, ◌-◌, ◌/◌, ◌^◌, ◌<◌, ◌≤◌, ◌⊎◌, List, length, get_or, set, inl, inr, refl, sym, ◌∙◌, ap, subst, arith, lit<, get_or-set_same, get_or-set_other, length-set}
 use Rattle.std.proofs.lemmas.Bool.{cases_eq}
 use Rattle.std.proofs.Math.Nat.{div-lt_iff_lt-mul}
@@ -12,7 +12,7 @@ use Rattle.xbar_match.specs.Switches.{shape_at}
 use Rattle.xbar_match.specs.Shows.{WordShows}
 use Rattle.xbar_match.specs.Effects.{IsCrosspoint, closed_word, opened_word, close_at, open_at}
 
--- a word with nothing above its fields fits
+-- a word with no bit above its fields is below 2 ^ 64
 pub no_more-lt : (shape : Shape) (word : ℕ) → above_fields shape word ≡ 0 → word < 2 ^ 64
 unfolding above_fields
 no_more-lt Line word none =
@@ -30,18 +30,18 @@ same-shows P Q n word there back shows = record {
   above = shows.above;
 }
 
--- no closed crosspoint stands where this one does
+-- no closed crosspoint is at the field of this one
 pub record IsFree (P : Crosspoint → Type 0) (c : Crosspoint) : Type 0 where
   pub free : (d : Crosspoint) → P d → d.word ≡ c.word → d.field ≡ c.field → ⊥
 
--- with this one closed too, and with this one open
+-- what is closed with this one closed too, and with this one open
 abbrev pub With : (Crosspoint → Type 0) → Crosspoint → Crosspoint → Type 0
 With P c d = (d ≡ c) ⊎ P d
 
 abbrev pub Without : (Crosspoint → Type 0) → Crosspoint → Crosspoint → Type 0
 Without P c d = P d × (d ≢ c)
 
--- where no closed crosspoint stands the field is 0
+-- a field at which no crosspoint is closed is 0
 pub free-open : (P : Crosspoint → Type 0) (c : Crosspoint) (word : ℕ) → c.field < 10 → IsFree P c → WordShows P c.word word → field_of (shape_at c.word) word c.field ≡ 0
 free-open P c word in_range free shows = elim (shows.others c.field in_range) [ inl e ↦ e | inr is ↦ absurd (free.free _ is refl refl) ]
 
@@ -62,7 +62,7 @@ close-above c word is =
     let place : c.value - 1 < places (shape_at c.word) = omega (arith, is.closed, is.place) in
     above_fields-close (shape_at c.word) word c.field (c.value - 1) is.field place
 
--- the word of its switch once a crosspoint is closed where none was
+-- the word of its switch after a crosspoint is closed at a free field
 pub close-shows : (P : Crosspoint → Type 0) (c : Crosspoint) (word : ℕ) → IsCrosspoint c → IsFree P c → WordShows P c.word word → WordShows (With P c) c.word (closed_word c word)
 close-shows P c word is free shows = record { closed = closed; others = others; above = close-above c word is ∙ shows.above } where
   here : field_of (shape_at c.word) (closed_word c word) c.field ≡ c.value
@@ -88,7 +88,7 @@ close-shows P c word is free shows = record { closed = closed; others = others; 
         ]
   ]
 
--- the word of its switch once a closed crosspoint is opened
+-- the word of its switch after a closed crosspoint is opened
 pub open-shows : (P : Crosspoint → Type 0) (c : Crosspoint) (word : ℕ) → ((d : Crosspoint) → P d → d.field < 10) → P c → WordShows P c.word word → WordShows (Without P c) c.word (opened_word c word)
 open-shows P c word ranges is_closed shows = record { closed = closed; others = others; above = above } where
   fits : word < 2 ^ 64
@@ -139,7 +139,7 @@ elsewhere-without P c n word differs shows = record {
 pub record Shows (words : List ℕ) (P : Crosspoint → Type 0) : Type 0 where
   pub switch : (n : ℕ) → n < 400 → WordShows P n (get_or words n 0)
 
--- what a list has at one place and at the others, once a word of it is set
+-- what holds of one word of a list and of all others after that word is set
 at_set : (R : ℕ → ℕ → Type 0) (words : List ℕ) (k x n : ℕ) → k < length words → R k x → (n ≢ k → R n (get_or words n 0)) → R n (get_or (set words k x) n 0)
 at_set R words k x n within here there = elim (cases_eq n k) [
   | inl same ↦ subst (λ (m : ℕ). R m (get_or (set words k x) m 0)) (sym same) (subst (λ (w : ℕ). R k w) (sym (get_or-set_same words k x 0 within)) here)
@@ -162,7 +162,7 @@ open_at-shows words P c long within ranges is_closed shows = record {
       (λ differs. elsewhere-without P c n (get_or words n 0) differs (shows.switch n in_range));
 }
 
--- neither changes how many words there are
+-- neither closing nor opening changes the number of words
 pub length-close_at : (words : List ℕ) (c : Crosspoint) → length (close_at words c) ≡ length words
 length-close_at words c = length-set words c.word (closed_word c (get_or words c.word 0))
 

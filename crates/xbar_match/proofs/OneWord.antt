@@ -1,4 +1,5 @@
--- the same of one word: what it shows once the crosspoints of a path are closed or opened, as far as they stand on it
+-- the same for one word: what it shows after those of a path's crosspoints that are in it are
+-- closed or opened
 use Rattle.std.proofs.Common.{◌≡◌, ℕ, ◌<◌, ◌==◌, if◌then◌else◌, true, List, [], ◌∷◌, length, get_or, fold, inl, inr, refl, sym, ◌∙◌, ap, subst, arith, eq-eqb, ne_eqb, get_or-set_same, get_or-set_other}
 use Rattle.std.proofs.lemmas.Bool.{cases_eq}
 use Rattle.xbar_equip.specs.Among.{IsIn}
@@ -12,14 +13,14 @@ use Rattle.xbar_match.specs.Effects.{IsCrosspoint, closed_word, opened_word, clo
 use Rattle.xbar_match.proofs.OneCrosspoint.{With, Without, IsFree, same-shows, close-shows, open-shows, elsewhere-with, elsewhere-without, length-close_at, length-open_at}
 use Rattle.xbar_match.proofs.PathEffects.{line_of, line_junctor_of, trunk_junctor_of, trunk_of, crosspoint_line, crosspoint_line_junctor, crosspoint_trunk_junctor, crosspoint_trunk, closed-ranges, stand_apart, in_turn, idle-free, With4, Without4, Adds, Removes, with_four-in, in-with_four, without_four-in, in-without_four}
 
--- on the crosspoint's own word, and on another
+-- in the crosspoint's own word, and in another
 chosen : (c : Crosspoint) (word new : ℕ) → ◌≡◌ {A = ℕ} (if c.word == c.word then new else word) new
 chosen c word new = rw (eq-eqb c.word c.word refl) refl
 
 passed : (c : Crosspoint) (n word new : ℕ) → (c.word ≡ n → ⊥) → ◌≡◌ {A = ℕ} (if c.word == n then new else word) word
 passed c n word new differs = rw (ne_eqb c.word n differs) refl
 
--- one word once a crosspoint is closed, and once one is opened
+-- one word after a crosspoint is closed, and after one is opened
 pub close_in-shows : (P : Crosspoint → Type 0) (c : Crosspoint) (n word : ℕ) → IsCrosspoint c → IsFree P c → WordShows P n word → WordShows (With P c) n (close_in n word c)
 close_in-shows P c n word is free shows = elim (cases_eq c.word n) [
   | inl same ↦
@@ -38,7 +39,7 @@ open_in-shows P c n word ranges is shows = elim (cases_eq c.word n) [
       subst (λ (w : ℕ). WordShows (Without P c) n w) (sym (passed c n word (opened_word c word) differs)) (elsewhere-without P c n word (λ e. differs (sym e)) shows)
 ]
 
--- one word once a path with idle links is closed
+-- one word after a path with idle links is closed
 pub close_path_in-shows : (paths more : List Path) (path : Path) (n word : ℕ) → AreInRange paths → IsPath path → has_idle_links paths path ≡ true → Adds paths more path
     → WordShows (IsClosedIn paths) n word → WordShows (IsClosedIn more) n (close_path_in n word path)
 unfolding close_path_in
@@ -52,7 +53,7 @@ close_path_in-shows paths more path n word ranges p idle adds shows =
     let four = close_in-shows (With (With (With P c1) c2) c3) c4 n (close_in n (close_in n (close_in n word c1) c2) c3) (crosspoint_trunk path p) turn.trunk three in
     same-shows (With4 P path) (IsClosedIn more) n (fold (close_in n) word (crosspoints path)) (λ d. with_four-in paths more path d adds) (λ d. in-with_four paths more path d adds) four
 
--- one word once one of the paths is opened
+-- one word after one of the paths is opened
 pub open_path_in-shows : (paths rest : List Path) (path : Path) (n word : ℕ) → AreInRange paths → AreApart paths → IsIn path paths → Removes paths rest path
     → WordShows (IsClosedIn paths) n word → WordShows (IsClosedIn rest) n (open_path_in n word path)
 unfolding open_path_in
@@ -72,7 +73,7 @@ open_path_in-shows paths rest path n word ranges apart within removes shows =
     let four = open_in-shows P3 c4 n (open_in n (open_in n (open_in n word c1) c2) c3) (λ d is. fields d is.0.0.0) is4 three in
     same-shows (Without4 P path) (IsClosedIn rest) n (fold (open_in n) word (crosspoints path)) (λ d. without_four-in paths rest path d removes) (λ d. in-without_four paths rest path d ranges apart within removes) four
 
--- word n of the words once a crosspoint is closed or opened
+-- word n of the words after a crosspoint is closed or opened
 pub close_at-word : (words : List ℕ) (c : Crosspoint) (n : ℕ) → n < length words → get_or (close_at words c) n 0 ≡ close_in n (get_or words n 0) c
 close_at-word words c n within = elim (cases_eq c.word n) [
   | inl same ↦

@@ -16,7 +16,7 @@ use Rattle.xbar_match.specs.Channels.{MatchWords, match_words, first_open_channe
 use Rattle.xbar_match.proofs.SwitchShapes.{shape_at-line_switch, shape_at-line_junctor, shape_at-trunk_switch}
 use Rattle.xbar_match.proofs.IdleFields.{line_link-field, junctor-field, trunk_link-field}
 
--- where fields and links agree, both tests find the same
+-- if fields and links agree, both tests find the same channel
 pub first_open_channel-shown : (words : MatchWords) (paths : List Path) (line : Line) (place : TrunkPlace) (start : ℕ) → ShowsLinks words paths line place → channel_test paths line place start ≡ first_open_channel words place.frame start
 first_open_channel-shown words paths line place start shows =
     let below : (k : ℕ) → channel_in_turn start k < 10 = λ k. omega arith in

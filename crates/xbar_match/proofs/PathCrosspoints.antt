@@ -101,7 +101,7 @@ at_trunk_switch path c t u p f g e (Trunk is) =
     let ps = p.place.switch in
     record { frame = omega (arith, is.word); switch = omega (arith, is.word); channel = omega (arith, is.field); value = is.value }
 
--- the link of such a path
+-- the link of a path with a crosspoint at this field
 pub line_link_at : (path : Path) (l s v held : ℕ) → AtLineSwitch path l s v held → line_link path ≡ record { kind = LineLink; frame = l; at = s; channel = v }
 line_link_at path l s v held at = λ i. record { kind = LineLink; frame = at.frame i; at = at.switch i; channel = at.channel i }
 

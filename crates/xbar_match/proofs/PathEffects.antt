@@ -72,7 +72,7 @@ crosspoint path c p (inr (inr (inr (inr none)))) = absurd none
 pub closed-ranges : (paths : List Path) → AreInRange paths → (d : Crosspoint) → IsClosedIn paths d → d.field < 10
 closed-ranges paths ranges d is = (crosspoint is.0 d (ranges is.0 is.1) is.2).field
 
--- the four stand on four words
+-- the four are in four different words
 pub record StandApart (path : Path) : Type 0 where
   pub line_line_junctor : (line_of path).word ≡ (line_junctor_of path).word → ⊥
   pub line_trunk_junctor : (line_of path).word ≡ (trunk_junctor_of path).word → ⊥
@@ -93,7 +93,7 @@ stand_apart path p =
       trunk_junctor_trunk = λ e. omega arith;
     }
 
--- where the links of a path are idle, no crosspoint of the paths stands at one of its four
+-- no closed crosspoint is at one of the path's four fields; so it is if the path's links are idle
 pub record FourFree (P : Crosspoint → Type 0) (path : Path) : Type 0 where
   pub line : IsFree P (line_of path)
   pub line_junctor : IsFree P (line_junctor_of path)
@@ -137,7 +137,7 @@ idle-free paths path ranges p idle = record {
       let there = at_trunk_switch is.0 d path.place.frame path.place.switch (ranges is.0 is.1) p.place.frame p.place.switch at (which is.0 d is.2) in
       no_owner paths (trunk_link path) is.0 links.1 is.1 (has_trunk_link (trunk_link path) is.0 (trunk_link_at is.0 _ _ d.field d.value there ∙ ap (λ v. record { kind = TrunkLink; frame = path.place.frame; at = path.place.switch; channel = v }) field))
 
--- a crosspoint on another word leaves the place free
+-- a crosspoint in another word leaves the field free
 free-with : (P : Crosspoint → Type 0) (b c : Crosspoint) → (b.word ≡ c.word → ⊥) → IsFree P c → IsFree (With P b) c
 free-with P b c apart free = record { free = in_way } where
   in_way : (d : Crosspoint) → With P b d → d.word ≡ c.word → d.field ≡ c.field → ⊥
@@ -158,7 +158,7 @@ pub record InTurn (P : Crosspoint → Type 0) (path : Path) : Type 0 where
   pub trunk_junctor : IsFree (With (With P (line_of path)) (line_junctor_of path)) (trunk_junctor_of path)
   pub trunk : IsFree (With (With (With P (line_of path)) (line_junctor_of path)) (trunk_junctor_of path)) (trunk_of path)
 
--- each of the four is free when its turn comes
+-- each of the four is free when it is closed
 pub in_turn : (P : Crosspoint → Type 0) (path : Path) → IsPath path → FourFree P path → InTurn P path
 in_turn P path p free =
     let apart = stand_apart path p in
@@ -296,20 +296,21 @@ in-without_four paths rest path d ranges apart within removes is =
 shown : (words : List ℕ) (paths : List Path) → ShowsPaths words paths → Shows words (IsClosedIn paths)
 shown words paths shows = record { switch = shows.switch }
 
--- closing the four of a path with idle links: each goes to a field that is 0 then
+-- closing the four of a path with idle links: each is at a field that is then 0
 pub four_closed : (words : List ℕ) (paths : List Path) (path : Path) → 400 ≤ length words → ShowsPaths words paths → AreInRange paths → IsPath path
     → has_idle_links paths path ≡ true → ClosesFour words path (With4 (IsClosedIn paths) path)
 four_closed words paths path long shows ranges p idle =
     close_four words path (IsClosedIn paths) long p (shown words paths shows) (idle-free paths path ranges p idle)
 
--- and the words then show the paths with it
+-- and the words then show the paths with this one
 pub close_path-shows : (words : List ℕ) (paths more : List Path) (path : Path) → 400 ≤ length words → ShowsPaths words paths → AreInRange paths → IsPath path
     → has_idle_links paths path ≡ true → Adds paths more path → ShowsPaths (close_path words path) more
 close_path-shows words paths more path long shows ranges p idle adds =
     let four = four_closed words paths path long shows ranges p idle in
     record { switch = λ n below. same-shows (With4 (IsClosedIn paths) path) (IsClosedIn more) n (get_or (close_path words path) n 0) (λ d. with_four-in paths more path d adds) (λ d. in-with_four paths more path d adds) (four.shows.switch n below) }
 
--- opening the four of one of the paths shows the paths without it, each at its own value
+-- opening the four of one of the paths: each field then holds its value, and the words then show
+-- the paths without this one
 pub four_opened : (words : List ℕ) (paths : List Path) (path : Path) → 400 ≤ length words → ShowsPaths words paths → AreInRange paths → IsIn path paths
     → OpensFour words path (Without4 (IsClosedIn paths) path)
 four_opened words paths path long shows ranges within =
@@ -322,7 +323,7 @@ open_path-shows words paths rest path long shows ranges apart within removes =
     let four = four_opened words paths path long shows ranges within in
     record { switch = λ n below. same-shows (Without4 (IsClosedIn paths) path) (IsClosedIn rest) n (get_or (open_path words path) n 0) (λ d. without_four-in paths rest path d removes) (λ d. in-without_four paths rest path d ranges apart within removes) (four.shows.switch n below) }
 
--- a set with a path, and without one
+-- a set with a path added, and with one removed
 pub with_path-adds : (paths : List Path) (path : Path) → Adds paths (with_path paths path) path
 with_path-adds paths path = record { there = λ q is. in-with paths path q is; back = λ q within. with-in paths path q within }
 

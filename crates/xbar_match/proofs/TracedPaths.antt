@@ -1,4 +1,5 @@
--- on words that show paths no two of which share a part, a trace goes along the path of the line or of the place
+-- on words that show paths no two of which share a part, a trace follows the path of the line or
+-- of the place
 use Rattle.std.proofs.Common.{◌≡◌, ℕ, ◌+◌, ◌*◌, ◌<◌, ◌==◌, nat_lt, if◌then◌else◌, Bool, true, false, cond, Option, Some, None, List, [], ◌∷◌, get_or, find, option_map, option_and_then, inl, inr, refl, sym, ◌∙◌, ap, arith, one-add, eq-eqb, ne_eqb, lt-ltb, true≢false}
 use Rattle.xbar_equip.specs.Among.{IsIn}
 use Rattle.xbar_equip.specs.Len.{Line, IsLine}
@@ -17,11 +18,11 @@ use Rattle.xbar_switch.specs.declared.shape.Shape.{Shape}
 use Rattle.xbar_switch.specs.declared.shape.Shape.TheVariants.{Line as LineShape, Other}
 use Rattle.xbar_match.specs.Switches.{shape_at, held_at, word_of}
 use Rattle.xbar_match.specs.Shows.{AreInRange, ShowsPaths}
-use Rattle.xbar_match.specs.Traces.{field_at_place, place_told, place_at_field, traced, traced_by, traced_to, traced_at, traced_back, traced_back_by, traced_back_to, traced_back_at}
+use Rattle.xbar_match.specs.Traces.{field_at_place, place_of_value, place_at_field, traced, traced_by, traced_to, traced_at, traced_back, traced_back_by, traced_back_to, traced_back_at}
 use Rattle.xbar_match.proofs.SwitchShapes.{shape_at-line_switch, shape_at-line_junctor, shape_at-trunk_switch, shape_at-trunk_junctor}
 use Rattle.xbar_match.proofs.PathCrosspoints.{which, AtLineSwitch, AtLineJunctor, AtTrunkJunctor, AtTrunkSwitch, at_line_switch, at_line_junctor, at_trunk_junctor, at_trunk_switch, line_link_at, trunk_link_at}
 
--- the path that a field with a place stands for
+-- the path that a field with a place belongs to
 record Owner (paths : List Path) (n v place : ℕ) : Type 0 where
   path : Path
   within : IsIn path paths
@@ -37,7 +38,7 @@ owner words paths n v place shows in_n in_v held = elim ((shows.switch n in_n).o
   | inr is ↦ record { path = is.0; within = is.1; crosspoint = record { word = n; field = v; value = held_at words n v }; among = is.2; word = refl; field = refl; value = held }
 ]
 
--- a field told by its number's shape
+-- the value of a field, given the shape of its switch
 by_shape : (words : List ℕ) (n v value : ℕ) (shape : Shape) → shape_at n ≡ shape → field_of shape (get_or words n 0) v ≡ value → held_at words n v ≡ value
 by_shape words n v value shape e held = ap (λ (s : Shape). field_of s (get_or words n 0) v) e ∙ held
 
@@ -73,7 +74,7 @@ trunk_owner words paths t u v a shows ranges in_t in_u in_v held =
     let at = at_trunk_switch o.path o.crosspoint t u (ranges o.path o.within) in_t in_u o.word (which o.path o.crosspoint o.among) in
     (o.path, o.within, record { frame = at.frame; switch = at.switch; channel = at.channel ∙ o.field; value = sym o.value ∙ at.value })
 
--- such a path has the line, or the place
+-- a path with a crosspoint there has the line, or the place
 line_at : (q : Path) (line : Line) (v : ℕ) → AtLineSwitch q line.frame line.switch v (1 + line.x) → q.line ≡ line
 line_at q line v at =
     let x : q.line.x ≡ line.x = omega (arith, at.value) in
@@ -84,7 +85,7 @@ place_at q place v at =
     let a : q.place.appearance ≡ place.appearance = omega (arith, at.value) in
     λ i. record { frame = at.frame i; switch = at.switch i; appearance = a i }
 
--- the least field is the path's own, where each field with the place is one of its path
+-- the lowest field with the place is the path's own if every field with the place is the path's
 least : (shape : Shape) (word place v : ℕ) → v < 10 → field_of shape word v ≡ 1 + place → ((j : ℕ) → j < 10 → field_of shape word j ≡ 1 + place → v ≡ j) → field_at_place shape word place ≡ Some v
 least shape word place v in_range held only =
     first_below-found (λ j. field_of shape word j == 1 + place) 10 v in_range (eq-eqb _ _ held)
@@ -93,9 +94,9 @@ least shape word place v in_range held only =
 no_field : (shape : Shape) (word place : ℕ) → ((j : ℕ) → j < 10 → field_of shape word j ≡ 1 + place → ⊥) → field_at_place shape word place ≡ None
 no_field shape word place never = first_below-none (λ j. field_of shape word j == 1 + place) 10 (λ j below. ne_eqb _ _ (never j below))
 
--- what a field tells
-told-place : (shape : Shape) (held place : ℕ) → place < places shape → held ≡ 1 + place → place_told shape held ≡ Some place
-told-place shape held place in_range e = ap (place_told shape) (e ∙ one-add place) ∙ in_turn (nat_lt place (places shape)) (lt-ltb _ _ in_range) where
+-- the place that a value means
+told-place : (shape : Shape) (held place : ℕ) → place < places shape → held ≡ 1 + place → place_of_value shape held ≡ Some place
+told-place shape held place in_range e = ap (place_of_value shape) (e ∙ one-add place) ∙ in_turn (nat_lt place (places shape)) (lt-ltb _ _ in_range) where
   in_turn : (b : Bool) → b ≡ true → (if b then Some place else None) ≡ Some place
   in_turn b is = rw is refl
 
@@ -134,7 +135,7 @@ line_field-none words paths line shows ranges l none =
     let o = line_owner words paths line.frame line.switch j line.x shows ranges l.frame l.switch in_j e in
     true≢false (sym ((line_eq-exact o.0.line line).1 (line_at o.0 line j o.2)) ∙ none o.0 o.1))
 
--- the trace of a path's line goes along it
+-- the trace of a path's line follows the path
 pub traced-path : (words : List ℕ) (paths : List Path) (p : Path) → ShowsPaths words paths → AreInRange paths → AreApart paths → IsIn p paths → traced words p.line ≡ Some p
 traced-path words paths p shows ranges apart within =
     ap (option_and_then (traced_by words p.line)) channel ∙ ap (option_and_then (traced_to words p.line p.channel)) frame
@@ -165,7 +166,7 @@ traced-path words paths p shows ranges apart within =
       appearance : place_at_field Other (word_of words (TrunkSwitch p.place.frame p.place.switch)) p.channel ≡ Some p.place.appearance
       appearance = told-place Other _ p.place.appearance r.place.appearance held.trunk
 
--- the trace of its place goes back along it
+-- the trace of its place follows the path back
 pub traced_back-path : (words : List ℕ) (paths : List Path) (p : Path) → ShowsPaths words paths → AreInRange paths → AreApart paths → IsIn p paths → traced_back words p.place ≡ Some p
 traced_back-path words paths p shows ranges apart within =
     ap (option_and_then (traced_back_by words p.place)) channel ∙ ap (option_and_then (traced_back_to words p.place p.channel)) frame

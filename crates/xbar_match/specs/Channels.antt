@@ -11,31 +11,31 @@ use Rattle.xbar_switch.specs.Field.{field_of}
 use Rattle.xbar_switch.specs.declared.shape.Shape.{Shape}
 use Rattle.xbar_switch.specs.declared.shape.Shape.TheVariants.{Line as LineShape, Other}
 
--- the words that a channel test looks at: the line switch, the ten line junctor switches of its
+-- the words that a channel test reads: the line switch, the ten line junctor switches of its
 -- frame, and the trunk switch
 pub record MatchWords : Type 0 where
   pub line : ℕ
   pub junctors : List ℕ
   pub trunk : ℕ
 
--- these words by name
+-- the record of these words
 abbrev pub match_words : ℕ → List ℕ → ℕ → MatchWords
 match_words line junctors trunk = record { line = line; junctors = junctors; trunk = trunk }
 
--- whether a channel's three fields are open, with trunk link frame t
+-- whether the three fields of channel n are open, for a place on trunk link frame t
 abbrev pub is_open_channel : MatchWords → ℕ → ℕ → Bool
 is_open_channel words t n =
     field_of LineShape words.line n == 0 && field_of Other (slice_index words.junctors n) t == 0
     && field_of Other words.trunk n == 0
 
--- the first channel from the start on, round ten, whose three fields are open
+-- the first channel whose three fields are open, from `start` on, with 0 after 9
 abbrev pub first_open_channel : MatchWords → ℕ → ℕ → Option ℕ
 first_open_channel words t start =
     option_map (channel_in_turn start)
     (first_below (λ k. is_open_channel words t (channel_in_turn start k)) 10)
 
--- the three links of each channel between line and place are idle exactly where their fields are
--- open
+-- the words show the links: the three links of each channel between line and place are idle
+-- exactly if their fields are open
 pub record ShowsLinks (words : MatchWords) (paths : List Path) (line : Line)
     (place : TrunkPlace) : Type 0 where
   pub line_links : (n : ℕ) → n < 10
@@ -48,7 +48,7 @@ pub record ShowsLinks (words : MatchWords) (paths : List Path) (line : Line)
       → is_idle (has_link (trunk_link (path_by line place n))) paths
       ≡ (field_of Other words.trunk n == 0)
 
--- bit n tells whether field n of the word is open, for the ten fields, and no other bit is set
-pub record TellsOpenFields (shape : Shape) (word bits : ℕ) : Type 0 where
+-- bit n is 1 if field n of the word is open and 0 if it is closed, and no bit above the ten is set
+pub record MarksOpenFields (shape : Shape) (word bits : ℕ) : Type 0 where
   pub fields : (n : ℕ) → n < 10 → bit_at bits n ≡ (if field_of shape word n == 0 then 1 else 0)
   pub others : bits < 2 ^ 10

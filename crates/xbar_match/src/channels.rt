@@ -1,17 +1,19 @@
+//! The channel test, and the idle links of a switch, from its word.
+
 ghost use Rattle.std.specs.Prelude.{◌≡◌, ◌<◌, ℕ, List, IfSome};
 ghost use Rattle.xbar_equip.specs.Len.{Line};
 ghost use Rattle.xbar_equip.specs.Ten.{TrunkPlace};
 ghost use Rattle.xbar_equip.specs.Channel.{IsChannel};
 ghost use Rattle.xbar_equip.specs.Paths.{channel_test};
 ghost use Rattle.xbar_equip.specs.declared.path.Path.{Path};
-ghost use Rattle.xbar_match.specs.Channels.{match_words, is_open_channel, first_open_channel, ShowsLinks, TellsOpenFields};
+ghost use Rattle.xbar_match.specs.Channels.{match_words, is_open_channel, first_open_channel, ShowsLinks, MarksOpenFields};
 
 use xbar_equip::Channel;
 use xbar_switch::{Shape, field};
 
-/// A bit for each field of the word, set where the field is open.
+/// The open fields of a word: bit `n` is set if field `n` is open.
 fn open_fields(shape: Shape, word: u64) -> u16
-    ensures { TellsOpenFields shape word result }
+    ensures { MarksOpenFields shape word result }
 {
     let mut open = 0;
     for n in 0..10 {
@@ -22,21 +24,22 @@ fn open_fields(shape: Shape, word: u64) -> u16
     open
 }
 
-/// The idle line links of a line switch: bit `n` for that of channel `n`.
+/// The idle line links of a line switch: bit `n` is set if the line link of channel `n` is idle.
 pub fn idle_links(word: u64) -> u16
-    ensures { TellsOpenFields Shape.Line word result }
+    ensures { MarksOpenFields Shape.Line word result }
 {
     open_fields(Shape::Line, word)
 }
 
-/// The idle trunk links of a trunk switch, likewise.
+/// The idle trunk links of a trunk switch: bit `n` is set if the trunk link of channel `n` is
+/// idle.
 pub fn idle_trunk_links(word: u64) -> u16
-    ensures { TellsOpenFields Shape.Other word result }
+    ensures { MarksOpenFields Shape.Other word result }
 {
     open_fields(Shape::Other, word)
 }
 
-/// Whether the three fields of channel `n` are open.
+/// Whether the three fields of channel `n` are open, for a place on trunk link frame `t`.
 fn is_open(line_word: u64, junctor_words: &[u64; 10], trunk_word: u64, t: u8, n: u8) -> bool
     requires frame { t < 10 }
     requires channel { n < 10 }
@@ -47,8 +50,11 @@ fn is_open(line_word: u64, junctor_words: &[u64; 10], trunk_word: u64, t: u8, n:
         && field(Shape::Other, trunk_word, n) == 0
 }
 
-/// The channel test on words: of the line's switch, the ten line junctor switches of its frame, and the
-/// switch of the place, which stands on trunk link frame `t`.
+/// The channel test on words: the first channel whose three fields are open, from `start` on, with
+/// 0 after 9.
+///
+/// The words are those of the line's switch, of the ten line junctor switches of its frame, and of
+/// the place's switch, which is on trunk link frame `t`.
 pub fn match_channel(
     line_word: u64,
     junctor_words: &[u64; 10],

@@ -1,3 +1,5 @@
+//! The number of paths and of closed crosspoints that words show.
+
 ghost use Rattle.std.specs.Prelude.{◌≡◌, ◌*◌, ◌/◌, ◌%◌, ◌<◌, ◌≤◌, List, length};
 ghost use Rattle.xbar_equip.specs.Word.{LineSwitch, word_count};
 ghost use Rattle.xbar_equip.specs.Paths.{IsSet, AreApart};
@@ -10,7 +12,7 @@ use crate::words::{shape_at, word_at};
 use xbar_equip::line_switch;
 use xbar_switch::{Shape, field};
 
-/// How many fields of a switch's word are closed.
+/// The number of closed fields of a switch's word.
 fn count_fields(shape: Shape, word: u64) -> u16
     ensures count { result ≡ closed_fields shape word }
     ensures range { result ≤ 10 }
@@ -24,7 +26,7 @@ fn count_fields(shape: Shape, word: u64) -> u16
     count
 }
 
-/// The word of a line switch, of a hundred.
+/// The word of line switch `k` of the hundred.
 fn line_word(words: &[u64], k: u8) -> u64
     requires words { length words.now ≡ word_count }
     requires switch { k < 100 }
@@ -33,7 +35,7 @@ fn line_word(words: &[u64], k: u8) -> u64
     word_at(words, line_switch(k / 10, k % 10))
 }
 
-/// How many fields of the hundred line switches are closed.
+/// The number of closed fields of the hundred line switches.
 fn count_line_fields(words: &[u64]) -> u16
     requires { length words.now ≡ word_count }
     ensures { result ≡ closed_line_fields words.now }
@@ -45,7 +47,7 @@ fn count_line_fields(words: &[u64]) -> u16
     count
 }
 
-/// How many fields of all 400 switches are closed.
+/// The number of closed fields of all 400 switches.
 fn count_switch_fields(words: &[u64]) -> u16
     requires { length words.now ≡ word_count }
     ensures { result ≡ closed_switch_fields words.now }
@@ -57,7 +59,8 @@ fn count_switch_fields(words: &[u64]) -> u16
     count
 }
 
-/// How many paths the words show: each has one line link, and so one field of the line switches.
+/// The number of paths that the words show. Each path has one line link, and so one closed field
+/// in the line switches.
 pub fn count_paths(words: &[u64]) -> u16
     requires { length words.now ≡ word_count }
     ensures exact { result ≡ closed_line_fields words.now }
@@ -68,7 +71,7 @@ pub fn count_paths(words: &[u64]) -> u16
     count_line_fields(words)
 }
 
-/// How many crosspoints the words show: each path has four.
+/// The number of closed crosspoints that the words show. Each path has four.
 pub fn count_closed(words: &[u64]) -> u16
     requires { length words.now ≡ word_count }
     ensures exact { result ≡ closed_switch_fields words.now }

@@ -1,10 +1,12 @@
+//! The fields of one switch by their places, and the places by their fields.
+
 ghost use Rattle.std.specs.Prelude.{◌≡◌, ◌+◌, ◌<◌, IfSome};
 ghost use Rattle.xbar_switch.specs.Shape.{places};
 ghost use Rattle.xbar_match.specs.Traces.{field_at_place, place_at_field};
 
 use xbar_switch::{Shape, field};
 
-/// The least field that is closed at a place.
+/// The lowest field that is closed at a place.
 fn find_place(shape: Shape, word: u64, place: u8) -> Option<u8>
     requires { place < places shape }
     ensures least { result ≡ field_at_place shape word place }
@@ -18,7 +20,7 @@ fn find_place(shape: Shape, word: u64, place: u8) -> Option<u8>
     None
 }
 
-/// The place that a field is closed at, if it is one of the shape's.
+/// The place that field `v` is closed at, if the shape has that place.
 fn place_in(shape: Shape, word: u64, v: u8) -> Option<u8>
     requires { v < 10 }
     ensures told { result ≡ place_at_field shape word v }
@@ -32,7 +34,8 @@ fn place_in(shape: Shape, word: u64, v: u8) -> Option<u8>
     }
 }
 
-/// The least field of a line switch at which place `x` is closed: its line link's channel.
+/// The lowest field of a line switch that is closed at place `x`: the channel of the line's line
+/// link.
 pub fn find_line(word: u64, x: u8) -> Option<u8>
     requires { x < 30 }
     ensures least { result ≡ field_at_place Shape.Line word x }
@@ -41,7 +44,7 @@ pub fn find_line(word: u64, x: u8) -> Option<u8>
     find_place(Shape::Line, word, x)
 }
 
-/// The least field of any other switch at which place `h` is closed.
+/// The lowest field that is closed at place `h`, of a switch that is not a line switch.
 pub fn find_number(word: u64, h: u8) -> Option<u8>
     requires { h < 10 }
     ensures least { result ≡ field_at_place Shape.Other word h }
@@ -50,7 +53,8 @@ pub fn find_number(word: u64, h: u8) -> Option<u8>
     find_place(Shape::Other, word, h)
 }
 
-/// The line's place that a field of a line switch is closed at; none also for a value above 30.
+/// The line's place that field `v` of a line switch is closed at. `None` if the field is open or
+/// its value is above 30.
 pub fn line_place_of(word: u64, v: u8) -> Option<u8>
     requires { v < 10 }
     ensures told { result ≡ place_at_field Shape.Line word v }
@@ -59,7 +63,8 @@ pub fn line_place_of(word: u64, v: u8) -> Option<u8>
     place_in(Shape::Line, word, v)
 }
 
-/// The place that a field of any other switch is closed at; none also for a value above 10.
+/// The place that field `v` of any other switch is closed at. `None` if the field is open or its
+/// value is above 10.
 pub fn place_of(word: u64, v: u8) -> Option<u8>
     requires { v < 10 }
     ensures told { result ≡ place_at_field Shape.Other word v }

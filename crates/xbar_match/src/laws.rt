@@ -1,5 +1,5 @@
-//! What holds of words that show a set of paths, for the crates above. Each function does nothing: its
-//! contract is the law.
+//! Laws of words that show a set of paths, for use by other crates. Each function does nothing;
+//! its contract is the law.
 
 ghost use Rattle.std.specs.Prelude.{◌≡◌, ◌≢◌, ◌<◌, ◌≤◌, ◌==◌, ◌*◌, ℕ, true, List, length, slice_index};
 ghost use Rattle.xbar_equip.specs.Among.{IsIn};
@@ -19,7 +19,7 @@ ghost use Rattle.xbar_match.specs.Counts.{closed_line_fields, closed_switch_fiel
 
 use xbar_switch::Shape;
 
-/// Which shape each switch has.
+/// The shape of each kind of switch.
 pub fn line_switches_have_the_shape_of_lines()
     ensures line_switch { (frame switch : ℕ) → frame < 10 → switch < 10 →
         shape_at (word_number (LineSwitch frame switch)) ≡ Shape.Line }
@@ -31,13 +31,13 @@ pub fn line_switches_have_the_shape_of_lines()
         shape_at (word_number (TrunkJunctor frame channel)) ≡ Shape.Other }
 {}
 
-/// The crosspoints of a path stand at fields of switches.
+/// Each crosspoint of a path is at a field of a switch, with a value that the field can hold.
 pub fn a_path_has_crosspoints_of_the_office()
     ensures { (path : Path) (c : Crosspoint) → IsPath path → IsIn c (crosspoints path) →
         IsCrosspoint c }
 {}
 
-/// On words that show paths, a field of a path's is 0 exactly where its link is idle. The junctor has a
+/// On words that show paths, the field of a link is 0 exactly if the link is idle. A junctor has a
 /// field on either side.
 pub fn open_fields_are_idle_links()
     ensures line_link { (words : List ℕ) (paths : List Path) (path : Path) →
@@ -62,7 +62,7 @@ pub fn open_fields_are_idle_links()
         path.channel == 0) }
 {}
 
-/// The words that a channel test reads show the links that it looks at.
+/// The words that a channel test reads show the links that it tests.
 pub fn a_channel_test_reads_the_links()
     ensures { (words junctors : List ℕ) (paths : List Path) (line : Line) (place : TrunkPlace) →
         ShowsPaths words paths → AreInRange paths → IsLine line → IsTrunkPlace place
@@ -72,7 +72,7 @@ pub fn a_channel_test_reads_the_links()
         (word_of words (TrunkSwitch place.frame place.switch))) paths line place }
 {}
 
-/// Closing a crosspoint changes its field alone, and so does opening it.
+/// Closing or opening a crosspoint changes only its field.
 pub fn an_effect_changes_one_field()
     ensures closes { (words : List ℕ) (c : Crosspoint) → 400 ≤ length words → IsCrosspoint c →
         held_at words c.word c.field ≡ 0
@@ -87,8 +87,8 @@ pub fn an_effect_changes_one_field()
         → (n ≡ c.word → v ≢ c.field) → held_at (open_at words c) n v ≡ held_at words n v }
 {}
 
-/// Closing the crosspoints of a path whose links are idle: each goes to an open field, and the words then
-/// show the set with the path.
+/// Closing the crosspoints of a path whose links are idle: each is at an open field when it is
+/// closed, and the words then show the set with the path.
 pub fn closing_a_path_adds_it()
     ensures steps { (words : List ℕ) (paths : List Path) (path : Path) → 400 ≤ length words →
         ShowsPaths words paths → AreInRange paths → IsPath path
@@ -99,8 +99,8 @@ pub fn closing_a_path_adds_it()
         → ShowsPaths (close_path words path) (with_path paths path) }
 {}
 
-/// Opening the crosspoints of one of the paths: each of them is closed, and the words then show the set
-/// without the path.
+/// Opening the crosspoints of one of the paths: each is closed when it is opened, and the words
+/// then show the set without the path.
 pub fn opening_a_path_removes_it()
     ensures steps { (words : List ℕ) (paths : List Path) (path : Path) → 400 ≤ length words →
         ShowsPaths words paths → AreInRange paths
@@ -110,8 +110,8 @@ pub fn opening_a_path_removes_it()
         → IsIn path paths → ShowsPaths (open_path words path) (without_path paths path) }
 {}
 
-/// The same of one word alone: it shows the set with the path, or without it, once those of the four
-/// crosspoints that stand on it are closed, or opened.
+/// The same for one word alone: it shows the set with or without the path once those of the four
+/// crosspoints that are in this word are closed or opened.
 pub fn each_word_shows_the_change()
     ensures closing { (paths : List Path) (path : Path) (n word : ℕ) → AreInRange paths →
         IsPath path → has_idle_links paths path ≡ true
@@ -123,8 +123,8 @@ pub fn each_word_shows_the_change()
         → WordShows (IsClosedIn (without_path paths path)) n (open_path_in n word path) }
 {}
 
-/// On words that show a set, the line switches have one closed field for each path, and all switches have
-/// four.
+/// On words that show a set, the line switches have one closed field for each path, and all
+/// switches together have four.
 pub fn closed_fields_count_the_paths()
     ensures line_switches { (words : List ℕ) (paths : List Path) → 400 ≤ length words →
         ShowsPaths words paths → AreInRange paths → AreApart paths → IsSet paths
@@ -134,7 +134,7 @@ pub fn closed_fields_count_the_paths()
         → closed_switch_fields words ≡ 4 * length paths }
 {}
 
-/// Effects on the words are effects on each word.
+/// Closing or opening a path on all words is closing or opening it on each word.
 pub fn effects_go_word_by_word()
     ensures closing { (words : List ℕ) (path : Path) (n : ℕ) → n < length words →
         slice_index (close_path words path) n ≡ close_path_in n (slice_index words n) path }

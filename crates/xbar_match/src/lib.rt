@@ -1,7 +1,7 @@
-//! What a marker works out from words that it has read: the channel test, traces and counts.
+//! What a marker computes from words that it has read: the channel test, traces and counts.
 //!
-//! Nothing here takes memory or fails. On words that show a set of paths the answers are the set's; each
-//! contract also says what the answer is on any other words.
+//! Nothing here allocates or fails. On words that show a set of paths, the results are those of
+//! the set. Each contract also states the result for any other words.
 #![tactic(auto)]
 
 pub use channels::{idle_links, idle_trunk_links, match_channel};

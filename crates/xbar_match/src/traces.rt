@@ -1,3 +1,5 @@
+//! Traces of a path through the words, from its line or from its trunk place.
+
 ghost use Rattle.std.specs.Prelude.{◌≡◌, List, IfSome, length, find};
 ghost use Rattle.xbar_equip.specs.Len.{IsLine};
 ghost use Rattle.xbar_equip.specs.Ten.{IsTrunkPlace};
@@ -12,7 +14,7 @@ use crate::fields::{find_line, find_number, line_place_of, place_of};
 use crate::words::word_at;
 use xbar_equip::{Channel, Len, Path, Ten, line_junctor, line_switch, trunk_junctor, trunk_switch};
 
-/// From the line's switch on, a switch at a time.
+/// Follows the path of a line from its line switch, a switch at a time.
 fn follow(words: &[u64], line: Len) -> Option<Path>
     requires { length words.now ≡ word_count }
     ensures path { result ≡ traced words.now line }
@@ -31,7 +33,7 @@ fn follow(words: &[u64], line: Len) -> Option<Path>
     })
 }
 
-/// From the place's trunk switch back, a switch at a time.
+/// Follows the path of a trunk place back from its trunk switch, a switch at a time.
 fn follow_back(words: &[u64], place: Ten) -> Option<Path>
     requires { length words.now ≡ word_count }
     ensures path { result ≡ traced_back words.now place }
@@ -54,7 +56,8 @@ fn follow_back(words: &[u64], place: Ten) -> Option<Path>
     })
 }
 
-/// The path of a line, from its line switch on. Words that break the way off have none.
+/// The path of a line, traced from its line switch. `None` if the words do not lead to a trunk
+/// place.
 pub fn trace(words: &[u64], line: Len) -> Option<Path>
     requires { length words.now ≡ word_count }
     ensures exact { result ≡ traced words.now line }
@@ -66,7 +69,8 @@ pub fn trace(words: &[u64], line: Len) -> Option<Path>
     follow(words, line)
 }
 
-/// The path of a trunk place, from its trunk switch back. Words that break the way off have none.
+/// The path of a trunk place, traced back from its trunk switch. `None` if the words do not lead
+/// to a line.
 pub fn trace_back(words: &[u64], place: Ten) -> Option<Path>
     requires { length words.now ≡ word_count }
     ensures exact { result ≡ traced_back words.now place }

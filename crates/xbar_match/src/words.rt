@@ -5,7 +5,7 @@ ghost use Rattle.xbar_match.specs.Switches.{shape_at as shape_of_switch};
 use xbar_equip::WordNo;
 use xbar_switch::Shape;
 
-/// The shape of a switch by its number among the 400.
+/// The shape of a switch, by its number among the 400.
 #[tactic(auto, unfolding(crate::specs::Switches::shape_at))]
 pub fn shape_at(number: u16) -> Shape
     requires { number < 400 }
@@ -18,7 +18,7 @@ pub fn shape_at(number: u16) -> Shape
     }
 }
 
-/// What stands in a word, of all.
+/// The value of one word of the list of all words.
 pub(crate) fn word_at(words: &[u64], word: WordNo) -> u64
     requires { length words.now ≡ word_count }
     ensures { result ≡ slice_index words.now word }

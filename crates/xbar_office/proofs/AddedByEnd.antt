@@ -13,7 +13,7 @@ use Rattle.xbar_plan.specs.declared.group.Member.{Member}
 use Rattle.xbar_office.specs.Done.{Done, refused, tried, with_added, chosen_paths}
 use Rattle.xbar_office.specs.LawfulSet.{IsLawfulSet}
 use Rattle.xbar_office.specs.Replies.{trials_end}
-use Rattle.xbar_office.specs.Room.{added_by, added_count}
+use Rattle.xbar_office.specs.AddedPaths.{added_by, added_count}
 use Rattle.xbar_office.specs.declared.aim.Aim.TheVariants as aim
 use Rattle.xbar_office.specs.declared.reply.Card.{Card}
 use Rattle.xbar_office.specs.declared.reply.End.{End}
@@ -26,26 +26,27 @@ use Rattle.xbar_office.proofs.GoodTrials.{GoodChoice}
 use Rattle.xbar_office.proofs.TakenMembers.{CalledCanStand}
 use Rattle.xbar_office.proofs.TriedJobs.{lawful-tried, length-tried}
 
--- the two paths of a call are of two lines
+-- the two paths of a call are of different lines
 abbrev pub AreOfTwoLines : Option CallPaths → Type 0
 AreOfTwoLines None = Unit {0}
 AreOfTwoLines (Some call) = (called : Path) → call.called ≡ Some called → called.line ≢ call.calling.line
 
--- a job that only adds paths: those of its end, by which the set gets longer; and it leaves a lawful set so
+-- a job that only adds paths: it adds those of its end, which make the set longer, and keeps a
+-- lawful set lawful
 pub record AddsPaths (plan : Tables) (paths : List Path) (done : Done) : Type 0 where
   pub added : done.paths ≡ with_added paths (added_by done.reply.end)
   pub size : length done.paths ≡ length paths + added_count (added_by done.reply.end)
   pub lawful : IsLawfulSet plan paths → IsLawfulSet plan done.paths
   pub apart : AreOfTwoLines (added_by done.reply.end)
 
--- so whoever knows the reply knows what was added
+-- so the reply determines what was added
 pub adds-by_reply : (plan : Tables) (paths : List Path) (done : Done) → AddsPaths plan paths done → (reply : Reply) (adds : Option CallPaths) → reply ≡ done.reply → adds ≡ added_by reply.end
     → (with_added paths adds ≡ done.paths) × (length done.paths ≡ length paths + added_count adds)
 adds-by_reply plan paths done is reply adds same added =
     let e : adds ≡ added_by done.reply.end = added ∙ ap (λ (r : Reply). added_by r.end) same in
     (ap (with_added paths) e ∙ sym is.added, is.size ∙ ap (λ (a : Option CallPaths). length paths + added_count a) (sym e))
 
--- an end that names no path to be added
+-- an end that names no path adds nothing
 pub refused-adds : (plan : Tables) (paths : List Path) (end : End) → added_by end ≡ None → AddsPaths plan paths (refused paths end)
 refused-adds plan paths end e =
     let none : added_count (added_by end) ≡ 0 = ap added_count e in
@@ -61,7 +62,7 @@ connected_end None [] = refl
 connected_end None (card ∷ cards) = refl
 connected_end (Some choice) cards = refl
 
--- the calling path alone
+-- only the calling path was chosen
 abbrev AreAlone : Option Choice → Type 0
 AreAlone None = Unit {0}
 AreAlone (Some choice) = choice.paths.called ≡ None

@@ -28,7 +28,7 @@ any_with_at Equal has path p paths e later =
     twice (has p) (list_any has paths) ∙ ap (λ (x : Path). has x || (has p || list_any has paths)) (sym (exact_path path p e))
 any_with_at Greater has path p paths e later = ap (λ b. has p || b) later ∙ turned (has p) (has path) (list_any has paths)
 
--- some path of the set with a path has it where that path has it, or one that was there
+-- a path of the set with this path added has it if this path has it or one of the set has it
 pub any-with : (has : Path → Bool) (paths : List Path) (path : Path) → list_any has (with_path paths path) ≡ (has path || list_any has paths)
 any-with has [] path = refl
 any-with has (p ∷ paths) path = any_with_at (path_cmp path p) has path p paths refl (any-with has paths path)
@@ -39,7 +39,7 @@ neither true false = refl
 neither false true = refl
 neither false false = refl
 
--- what is idle in the set with a path is idle in the set, and not the path's
+-- what is idle in the set with a path added is idle in the set, and is not the path's
 pub idle-with : (has : Path → Bool) (paths : List Path) (path : Path) → is_idle has (with_path paths path) ≡ (is_idle has paths && not (has path))
 idle-with has paths path = ap not (any-with has paths path) ∙ neither (has path) (list_any has paths)
 
@@ -51,7 +51,7 @@ idle-with_other has paths path other = idle-with has paths path ∙ ap (λ b. is
 pub idle-with_own : (has : Path → Bool) (paths : List Path) (path : Path) → has path ≡ true → is_idle has (with_path paths path) ≡ false
 idle-with_own has paths path own = idle-with has paths path ∙ ap (λ b. is_idle has paths && not b) own ∙ and_false (is_idle has paths)
 
--- a path that has what is idle in the set is not of the set
+-- a path that has what is idle in the set is not in the set
 pub not_of_set : (has : Path → Bool) (paths : List Path) (path : Path) → is_idle has paths ≡ true → has path ≡ true → IsIn path paths → ⊥
 not_of_set has paths path idle own within = true≢false (sym own ∙ none-idle has paths idle path within)
 
@@ -60,7 +60,7 @@ length_with_at Less path p paths e other later = omega arith
 length_with_at Equal path p paths e other later = absurd (other (exact_path path p e))
 length_with_at Greater path p paths e other later = omega (arith, later)
 
--- a path that is not of the set makes it longer by one
+-- a path that is not in the set makes it longer by one
 pub length-with : (paths : List Path) (path : Path) → (IsIn path paths → ⊥) → length (with_path paths path) ≡ length paths + 1
 length-with [] path new = refl
 length-with (p ∷ paths) path new =

@@ -1,4 +1,4 @@
--- records that were looked at one by one
+-- records that are checked one by one
 use Rattle.std.proofs.Common.{◌≡◌, ℕ, zero, suc, ◌+◌, ◌<◌, List, [], ◌∷◌, ◌++◌, length, take, get_or, refl, sym, ◌∙◌, ap, subst, arith}
 use Rattle.std.specs.Prelude.{◌≢◌, Option, Some, None, IsSomeAnd, slice_get}
 use Rattle.std.proofs.lemmas.Option.{slice_get_read}
@@ -14,7 +14,7 @@ use Rattle.xbar_office.specs.declared.reply.Record.{Record}
 use Rattle.xbar_office.specs.declared.reply.Reply.{Reply as OneReply}
 use Rattle.xbar_office.proofs.LegalRecords.{jobs_last, turns_last, replies_last, after-one_more}
 
--- the records up to one and that one
+-- the records before one, and that one
 module _ (records : List Record) (n : ℕ) (r : Record) (below : n < length records) (is : r ≡ get_or records n r) where
   pub one_more : take (n + 1) records ≡ take n records ++ r ∷ []
   one_more = take_more records n r below ∙ ap (λ (x : Record). take n records ++ x ∷ []) (sym is)
@@ -32,7 +32,7 @@ module _ (records : List Record) (n : ℕ) (r : Record) (below : n < length reco
   pub after-more : (plan : Tables) → after plan (take (n + 1) records) ≡ (whole plan (after plan (take n records)) r.job).paths
   after-more plan = ap (after plan) one_more ∙ after-one_more plan (take n records) r
 
--- of records that have their turns, the one at a place has its number
+-- if records have their turns, the turn of each is its index
 turn_from : (start : ℕ) (records : List Record) (n : ℕ) (r : Record) → HaveTurns start records → slice_get records n ≡ Some r → r.turn ≡ start + n
 turn_from start [] n r have here = cc
 turn_from start (x ∷ records) zero r have here = let same : x ≡ r = cc in ap (λ (y : Record). y.turn) (sym same) ∙ have.0 ∙ omega arith
@@ -41,7 +41,7 @@ turn_from start (x ∷ records) (suc n) r have here = turn_from (start + 1) reco
 pub turn_at : (records : List Record) (n : ℕ) (r : Record) → HaveTurns 0 records → slice_get records n ≡ Some r → r.turn ≡ n
 turn_at records n r have here = turn_from 0 records n r have here ∙ omega arith
 
--- a record with its turn, and with another reply than the one-marker office's, is the first wrong one
+-- a record with its turn, but not the reply of the one-marker office, is the first wrong one
 pub wrong-reply : (plan : Tables) (records : List Record) (n : ℕ) (r : Record) (reply : OneReply) → n < length records → r ≡ get_or records n r → HaveTurns 0 records → HaveReplies plan [] (take n records)
     → reply ≡ (whole plan (after plan (take n records)) r.job).reply → (reply ≡ r.reply → ⊥) → HaveTurns 0 records × IsFirstWrongReply plan records r.turn
 wrong-reply plan records n r reply below is turns have right other =
@@ -52,7 +52,8 @@ wrong-reply plan records n r reply below is turns have right other =
     } in
     (turns, subst (λ (t : ℕ). IsFirstWrongReply plan records t) (sym (turn_at records n r turns here)) wrong)
 
--- of records that have the one-marker office's replies, the one at a place has that of its job on the set before it
+-- if records have the replies of the one-marker office, each has that to its job on the set before
+-- it
 pub replies_at : (plan : Tables) (paths : List Path) (records : List Record) (n : ℕ) (r : Record) → HaveReplies plan paths records → slice_get records n ≡ Some r → r.reply ≡ (whole plan (after_jobs plan paths (jobs_of (take n records))) r.job).reply
 replies_at plan paths [] n r have here = cc
 replies_at plan paths (x ∷ records) zero r have here = let same : x ≡ r = cc in subst (λ (y : Record). y.reply ≡ (whole plan paths y.job).reply) same have.0
@@ -62,7 +63,7 @@ pub never : (o : Option Record) (P : Record → Type 0) → IsSomeAnd o P → ((
 never None P is not = is
 never (Some r) P is not = not r refl is
 
--- legal records have no fault, but that memory may be refused
+-- legal records have no fault, except that memory may run out
 pub no-fault : (plan : Tables) (records : List Record) (fault : AuditFault) → IsLegal plan records → IsFaultOf plan records fault → fault ≡ Memory
 no-fault plan records (Turns place) legal is = absurd (never (slice_get records place) (λ r. r.turn ≢ place) is.here (λ r here other. other (turn_at records place r legal.turns here)))
 no-fault plan records (Reply turn) legal is =

@@ -33,7 +33,7 @@ use Rattle.xbar_office.specs.declared.trial.Parties.{Parties}
 use Rattle.xbar_office.proofs.AddedByEnd.{AddsPaths, refused-adds, connected-adds}
 use Rattle.xbar_office.proofs.GoodTrials.{AreParties, good_trials}
 
--- an idle trunk is of one of the groups, and idle
+-- an idle trunk is a member of one of the groups, and idle
 pub record IsIdleTrunk (plan : Tables) (paths : List Path) (groups : List ℕ) (trunk : IdleTrunk) : Type 0 where
   pub within : IsIn trunk.group groups
   pub idle : is_idle_at paths (members_of plan trunk.group) trunk.first ≡ true
@@ -70,7 +70,7 @@ or_second : (a b : Bool) → (a || b) ≡ true → a ≡ false → b ≡ true
 or_second true b e f = cc
 or_second false b e f = e
 
--- a code that does not lead inside leads to outgoing groups alone
+-- a code that does not lead inside leads only to outgoing groups
 pub leads_out : (plan : Tables) → IsLawful plan → (code : ℕ) (groups : List ℕ) → route_of plan code ≡ Some groups → leads_inside plan groups ≡ false → list_all (is_group is_outgoing plan.groups) groups ≡ true
 leads_out plan laws code groups e outside =
     let found = found-item (λ (r : Route). r.groups) (λ (r : Route). r.code == code) plan.routes groups e in
@@ -79,7 +79,7 @@ leads_out plan laws code groups e outside =
     subst (λ (gs : List ℕ). (leads_inside plan gs || list_all (is_group is_outgoing plan.groups) gs) ≡ true) found.3 leads in
     or_second (leads_inside plan groups) (list_all (is_group is_outgoing plan.groups) groups) here outside
 
--- the lines of a number are lines
+-- the lines of a number are in range
 pub lines_range : (plan : Tables) → IsLawful plan → (number : ℕ) (lines : List Line) → lines_of plan number ≡ Some lines → (line : Line) → IsIn line lines → IsLine line
 lines_range plan laws number lines e line within =
     let found = found-item (λ (s : Station). s.lines) (λ (s : Station). s.number == number) plan.stations lines e in
@@ -87,7 +87,7 @@ lines_range plan laws number lines e line within =
     line_in_range line (each_passes is_line found.0.lines line all (subst (λ (ls : List Line). IsIn line ls) (sym found.3) within))
 
 module _ (plan : Tables) (paths : List Path) (calling : Line) (laws : IsLawful plan) (in_range : IsLine calling) (idle : is_idle (has_line calling) paths ≡ true) where
-  -- parties that suit each of the groups are joined by trials on one of them
+  -- parties that fit each of the groups are joined by trials on one of them
   connect_adds : (parties : Parties) (groups : List ℕ) → ((group : ℕ) → IsIn group groups → AreParties plan paths group parties) → AddsPaths plan paths (connect plan paths parties groups)
   connect_adds parties groups are = of (idle_trunk plan paths groups) refl where
     of : (found : Option IdleTrunk) → idle_trunk plan paths groups ≡ found → AddsPaths plan paths (try_trunk plan paths parties found)
@@ -97,7 +97,7 @@ module _ (plan : Tables) (paths : List Path) (calling : Line) (laws : IsLawful p
         connected-adds plan paths trunk.group (two_trials plan paths parties (members_of plan trunk.group) trunk.first) laws
         (good_trials plan paths trunk.group parties laws (are trunk.group is.within) trunk.first is.idle)
 
-  -- a called line that was found is idle, and not the calling one
+  -- a called line that was found is idle, and is not the calling line
   pub called_are : (groups : List ℕ) → leads_inside plan groups ≡ true → (lines : List Line) → ((line : Line) → IsIn line lines → IsLine line) → (called : Line) → called_line paths calling lines ≡ Some called
       → (group : ℕ) → IsIn group groups → AreParties plan paths group (record { calling = calling; called = Some called })
   called_are groups inside lines ranges called found group within =
@@ -120,7 +120,7 @@ module _ (plan : Tables) (paths : List Path) (calling : Line) (laws : IsLawful p
   number_adds groups inside number None found = refused-adds plan paths VacantNumber refl
   number_adds groups inside number (Some lines) found = line_adds groups inside lines (lines_range plan laws number lines found) (called_line paths calling lines) refl
 
-  -- a line that no other is called by suits an outgoing group
+  -- a calling line without a called line fits an outgoing group
   pub outgoing_are : (groups : List ℕ) → list_all (is_group is_outgoing plan.groups) groups ≡ true → (group : ℕ) → IsIn group groups → AreParties plan paths group (record { calling = calling; called = None })
   outgoing_are groups out group within = record {
     calling = in_range;

@@ -11,12 +11,12 @@ module _ (paths : List Path) (line : Line) (place : TrunkPlace) (start : ℕ) wh
   idle_in_turn : ℕ → Bool
   idle_in_turn k = has_idle_links paths (path_by line place (channel_in_turn start k))
 
-  -- the test answers a channel with idle links, where no earlier one has them
+  -- the test finds a channel with idle links if no earlier one has them
   pub channel_test-found : (k : ℕ) → k < 10 → has_idle_links paths (path_by line place (channel_in_turn start k)) ≡ true → ((j : ℕ) → j < k → has_idle_links paths (path_by line place (channel_in_turn start j)) ≡ false) → channel_test paths line place start ≡ Some (channel_in_turn start k)
   unfolding idle_in_turn
   channel_test-found k below here earlier = ap (option_map (channel_in_turn start)) (first_below-found (idle_in_turn) 10 k below here earlier)
 
-  -- and none where none has them
+  -- and nothing if no channel has them
   pub channel_test-none : ((j : ℕ) → j < 10 → has_idle_links paths (path_by line place (channel_in_turn start j)) ≡ false) → channel_test paths line place start ≡ None
   unfolding idle_in_turn
   channel_test-none none = ap (option_map (channel_in_turn start)) (first_below-none (idle_in_turn) 10 none)

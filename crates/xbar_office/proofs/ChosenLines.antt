@@ -77,13 +77,13 @@ module _ (plan : Tables) (paths : List Path) (parties : Parties) where
   first_is index (Faulty link) next other is later = second_is _ next other later
   first_is index NoChannel next other is later = second_is _ next other later
 
-  -- what trials choose begins at the calling line
+  -- the calling path that trials choose begins at the calling line
   pub trials_is : (members : List Member) (first : ℕ) → IsChoice (two_trials plan paths parties members first).choice
   trials_is members first =
       let next = next_idle paths members first in
       first_is first (trial_at plan paths 0 parties members first) next (trial_at plan paths 5 parties members next) (trial_is 0 (slice_get members first)) (trial_is 5 (slice_get members next))
 
-  -- an end that joins the calling line
+  -- the calling path of this end is of the calling line
   abbrev pub JoinsCalling : End → Type 0
   JoinsCalling end = (calling : Path) (called : Option Path) (trial : ℕ) → end ≡ Connected calling called trial → calling.line ≡ parties.calling
 

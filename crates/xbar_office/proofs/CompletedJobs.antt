@@ -11,7 +11,7 @@ use Rattle.xbar_plan.specs.Lawful.{IsLawful}
 use Rattle.xbar_office.specs.Complete.{call, complete, complete_from}
 use Rattle.xbar_office.specs.Done.{Done, with_added}
 use Rattle.xbar_office.specs.LawfulSet.{IsLawfulSet}
-use Rattle.xbar_office.specs.Room.{added_by, added_count}
+use Rattle.xbar_office.specs.AddedPaths.{added_by, added_count}
 use Rattle.xbar_office.specs.Standing.{register_path}
 use Rattle.xbar_office.specs.declared.reply.Reply.{Reply}
 use Rattle.xbar_office.specs.declared.trial.CallPaths.{CallPaths}
@@ -34,7 +34,7 @@ module _ (plan : Tables) (paths : List Path) (line : Line) (dialled : ℕ) (own 
   pub line_idle : is_idle (has_line line) (without_path paths own) ≡ true
   line_idle = subst (λ (l : Line). is_idle (has_line l) (without_path paths own) ≡ true) is.line_is (line-without plan paths own lawful is.within)
 
-  -- on it the call only adds paths
+  -- on that set the call only adds paths
   pub adds : AddsPaths plan rest (call plan rest line dialled (route_of plan (code_of dialled)))
   adds = call-adds plan rest line laws in_range line_idle dialled
 
@@ -44,7 +44,8 @@ module _ (plan : Tables) (paths : List Path) (line : Line) (dialled : ℕ) (own 
   pub lawful-call : IsLawfulSet plan (call plan (without_path paths own) line dialled (route_of plan (code_of dialled))).paths
   lawful-call = adds.lawful rest_lawful
 
--- a completing job up to its call: the line's register path is taken out, and the reply is the call's on what is left
+-- a completing job up to its call: the path of the line's register is removed, and the reply is
+-- that of the call on the set that is left
 pub record IsCalling (plan : Tables) (paths : List Path) (line : Line) (dialled : ℕ) (own : Path) (left : List Path) (told : Reply) : Type 0 where
   pub laws : IsLawful plan
   pub lawful : IsLawfulSet plan paths
@@ -53,7 +54,7 @@ pub record IsCalling (plan : Tables) (paths : List Path) (line : Line) (dialled 
   pub rest : left ≡ without_path paths own
   pub reply : told ≡ (call plan (without_path paths own) line dialled (route_of plan (code_of dialled))).reply
 
--- `seen` and `left` are what was read of the set before the path was taken out and after
+-- `seen` and `left` are the set as it was read before the path was removed and after
 pub calling : {plan : Tables} {paths seen taken left : List Path} {line : Line} {dialled : ℕ} {found : Option Path} {own : Path} {told : Reply} → IsLawful plan → IsLawfulSet plan paths → IsLine line → seen ≡ paths → found ≡ register_path plan seen line → found ≡ Some own → taken ≡ without_path paths own → left ≡ taken → told ≡ (call plan left line dialled (route_of plan (code_of dialled))).reply → IsCalling plan paths line dialled own left told
 calling {plan} {paths} {seen} {taken} {left} {line} {dialled} laws lawful in_range read finds is takes reads_again tells =
     let rest : left ≡ without_path paths _ = reads_again ∙ takes in
@@ -76,7 +77,7 @@ module _ {plan : Tables} {paths left : List Path} {line : Line} {dialled : ℕ} 
   pub put_back : with_path (without_path paths own) own ≡ paths
   put_back = with-without paths own is.lawful.orderly.set within
 
-  -- the reply tells what is added to what is left
+  -- the reply determines what is added to the set that is left
   pub adds-by_told : (added : Option CallPaths) → added ≡ added_by told.end → (with_added left added ≡ (complete plan paths line dialled).paths) × (length (complete plan paths line dialled).paths ≡ length left + added_count added)
   adds-by_told added is_added =
       let called = call plan (without_path paths own) line dialled (route_of plan (code_of dialled)) in

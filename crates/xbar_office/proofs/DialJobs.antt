@@ -35,14 +35,14 @@ single_register plan laws i member listed =
     member-paired plan laws (register_group plan) i group.0 member group.1 listed ∙ not_intra group.0.kind group.2
 
 module _ (plan : Tables) (paths : List Path) (line : Line) (laws : IsLawful plan) (in_range : IsLine line) (line_idle : is_idle (has_line line) paths ≡ true) where
-  -- the line alone wants a register
+  -- the line without a called line
   abbrev pub alone : Parties
   alone = record { calling = line; called = None }
 
   abbrev pub registers : List Member
   registers = members_of plan (register_group plan)
 
-  -- it suits the registers
+  -- it fits the registers
   pub are_parties : AreParties plan paths (register_group plan) alone
   are_parties = record {
     calling = in_range;

@@ -1,4 +1,4 @@
--- what the ends of completing jobs and of releases say of the set after them
+-- what the ends of completing jobs and of releases determine of the set after them
 use Rattle.std.proofs.Common.{◌≡◌, ◌≢◌, ℕ, true, List, refl, sym, ◌∙◌, ap, subst}
 use Rattle.std.specs.Prelude.{◌↔◌, Option, Some, None}
 use Rattle.xbar_equip.specs.Among.{IsIn}
@@ -15,7 +15,7 @@ use Rattle.xbar_office.specs.Complete.{call, complete, complete_from}
 use Rattle.xbar_office.specs.Done.{Done, with_added}
 use Rattle.xbar_office.specs.LawfulSet.{IsLawfulSet}
 use Rattle.xbar_office.specs.Release.{without_other, release, release_from}
-use Rattle.xbar_office.specs.Room.{added_by}
+use Rattle.xbar_office.specs.AddedPaths.{added_by}
 use Rattle.xbar_office.specs.Standing.{path_of, other_path, register_path}
 use Rattle.xbar_office.specs.declared.reply.End.{End}
 use Rattle.xbar_office.specs.declared.reply.End.TheVariants.{Connected, Released}
@@ -23,7 +23,7 @@ use Rattle.xbar_office.proofs.AddedByEnd.{AreOfTwoLines}
 use Rattle.xbar_office.proofs.CompletedJobs.{adds, line_idle, complete-is_call}
 
 module _ (plan : Tables) (paths : List Path) (line : Line) (dialled : ℕ) (laws : IsLawful plan) (lawful : IsLawfulSet plan paths) (in_range : IsLine line) where
-  -- where the end names no path, only the register's path has gone
+  -- if the end names no path, only the register's path is gone
   pub only_gives_back : (own : Path) → register_path plan paths line ≡ Some own → added_by (complete plan paths line dialled).reply.end ≡ None → (complete plan paths line dialled).paths ≡ without_path paths own
   only_gives_back own register none =
       let is = complete-is_call plan paths line dialled own laws lawful in_range register in
@@ -39,14 +39,14 @@ module _ (plan : Tables) (paths : List Path) (line : Line) (dialled : ℕ) (laws
   two_lines_of : (end : End) → AreOfTwoLines (added_by end) → (calling called : Path) (trial : ℕ) → end ≡ Connected calling (Some called) trial → called.line ≢ calling.line
   two_lines_of end are calling called trial is = subst (λ (e : End). AreOfTwoLines (added_by e)) is are called refl
 
-  -- the two paths of a call are of two lines
+  -- the two paths of a call are of different lines
   pub never_its_own_line : (calling called : Path) (trial : ℕ) → (complete plan paths line dialled).reply.end ≡ Connected calling (Some called) trial → called.line ≢ calling.line
   never_its_own_line calling called trial is = of (register_path plan paths line) refl is where
     of : (found : Option Path) → register_path plan paths line ≡ found → (complete_from plan paths line dialled found).reply.end ≡ Connected calling (Some called) trial → called.line ≢ calling.line
     of None e is = cc
     of (Some own) e is = two_lines_of _ (adds plan paths line dialled own laws lawful in_range e).apart calling called trial is
 
--- a path is left where it was there and is neither of those that go
+-- a path is left if it was there and is neither of those removed
 pub left_in : (paths : List Path) (own : Path) (other : Option Path) → IsSet paths → (q : Path) → IsIn q (without_other (without_path paths own) other) ↔ (IsIn q paths × (q ≢ own) × (other ≢ Some q))
 left_in paths own None set q = (λ within. let was = without-in paths own q set within in (was.0, was.1, λ e. cc), λ was. in-without paths own q was.0 was.1)
 left_in paths own (Some other) set q = (

@@ -39,7 +39,7 @@ pub at_group : (i : ℕ) (member : Member) (o : Option TrunkGroup) → slice_get
 at_group i member None e = e
 at_group i member (Some group) e = e
 
--- the next idle member is idle, where the first one is
+-- the next idle member is idle, if the first one is
 next_is_idle : (paths : List Path) (members : List Member) (first : ℕ) → is_idle_at paths members first ≡ true → is_idle_at paths members (next_idle paths members first) ≡ true
 next_is_idle paths members first idle = of (first_below after bound) (first_below-law after bound) where
   after : ℕ → Bool
@@ -56,7 +56,7 @@ false_unless : (b : Bool) → (b ≡ true → ⊥) → b ≡ false
 false_unless false never = refl
 false_unless true never = absurd (never refl)
 
--- a line that can be joined to a place: both are there and idle
+-- a line that can be joined to a place: both exist and are idle
 record CanJoin (plan : Tables) (paths : List Path) (line : Line) (place : TrunkPlace) : Type 0 where
   is_line : IsLine line
   line_idle : is_idle (has_line line) paths ≡ true
@@ -64,7 +64,7 @@ record CanJoin (plan : Tables) (paths : List Path) (line : Line) (place : TrunkP
   place_idle : is_idle (has_place place) paths ≡ true
   own : IsMembersPlace plan place
 
--- by the channel test, if it finds one
+-- the channel test joins them, if it finds a channel
 joined : (plan : Tables) (paths : List Path) (line : Line) (place : TrunkPlace) (start k channel : ℕ) → CanJoin plan paths line place → channel ≡ channel_in_turn start k → has_idle_links paths (path_by line place (channel_in_turn start k)) ≡ true → CanStand plan paths (path_by line place channel)
 joined plan paths line place start k channel can turn links = record {
   range = record { line = can.is_line; channel = omega (arith, turn); place = can.is_place };
@@ -74,13 +74,14 @@ joined plan paths line place start k channel can turn links = record {
   own = can.own;
 }
 
--- what the channel test finds is the first idle channel
+-- the channel test finds the first idle channel
 pub channel_found : (paths : List Path) (line : Line) (place : TrunkPlace) (start : ℕ) → IsFirstIdleChannel paths line place start (channel_test paths line place start)
 channel_found paths line place start =
     let test = λ (k : ℕ). has_idle_links paths (path_by line place (channel_in_turn start k)) in
     in_turn-law test (channel_in_turn start) (first_below test 10) (first_below-law test 10)
 
--- the parties of trials on a group: lines that there are, which are idle; a called one, not the calling one, just where its members are pairs
+-- parties that fit a group: lines in range that are idle; there is a called line, other than the
+-- calling line, exactly if the group's members are pairs
 pub record AreParties (plan : Tables) (paths : List Path) (group : ℕ) (parties : Parties) : Type 0 where
   pub calling : IsLine parties.calling
   pub calling_idle : is_idle (has_line parties.calling) paths ≡ true

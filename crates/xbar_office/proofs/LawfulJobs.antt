@@ -38,7 +38,7 @@ lawful-after plan laws [] paths lawful in_range = lawful
 lawful-after plan laws (job ∷ jobs) paths lawful in_range =
     lawful-after plan laws jobs (whole plan paths job).paths (lawful-whole plan paths job laws lawful in_range.0) in_range.1
 
--- whether a job was done, or memory was refused it
+-- whether a job was done, or memory ran out
 pub lawful-either : (plan : Tables) (paths : List Path) (job : Job) → IsLawful plan → IsLawfulSet plan paths → IsJob job → (result : Result Reply AllocError) (new : List Path) → OnOk result (new ≡ (whole plan paths job).paths) → OnErr result (new ≡ paths) → IsLawfulSet plan new
 lawful-either plan paths job laws lawful is_job (Ok reply) new done kept = subst (λ (p : List Path). IsLawfulSet plan p) (sym done) (lawful-whole plan paths job laws lawful is_job)
 lawful-either plan paths job laws lawful is_job (Err error) new done kept = subst (λ (p : List Path). IsLawfulSet plan p) (sym kept) lawful

@@ -29,7 +29,8 @@ pub replies_last : (plan : Tables) (paths : List Path) (records : List Record) (
 replies_last plan paths [] last reply have = (reply, tt)
 replies_last plan paths (r ∷ records) last reply have = (have.0, replies_last plan (whole plan paths r.job).paths records last reply have.1)
 
--- legal records stay legal with one that has the next turn and the reply of the one-marker office
+-- legal records stay legal with one more that has the next turn and the reply of the one-marker
+-- office
 pub legal-one_more : (plan : Tables) (records : List Record) (last : Record) → IsLegal plan records → IsJob last.job → last.turn ≡ length records → last.reply ≡ (whole plan (after plan records) last.job).reply → IsLegal plan (records ++ last ∷ [])
 legal-one_more plan records last legal is_job turn reply = record {
   jobs = jobs_last records last is_job legal.jobs;
@@ -37,7 +38,7 @@ legal-one_more plan records last legal is_job turn reply = record {
   replies = replies_last plan [] records last reply legal.replies;
 }
 
--- no record is legal
+-- the empty list of records is legal
 pub legal-empty : (plan : Tables) → IsLegal plan []
 legal-empty plan = record { jobs = tt; turns = tt; replies = tt }
 

@@ -10,7 +10,7 @@ use Rattle.xbar_equip.proofs.Meeting.{meet}
 use Rattle.xbar_equip.proofs.PathSets.{before-apart}
 use Rattle.xbar_office.specs.Closed.{closed, NamesFieldsOnce}
 
--- two lists that name fields once, and no field both
+-- two lists that name each field at most once, and no field in both
 once_append : (xs ys : List Crosspoint) → NamesFieldsOnce xs → NamesFieldsOnce ys → ((c d : Crosspoint) → IsIn c xs → IsIn d ys → c.word ≡ d.word → c.field ≡ d.field → ⊥) → NamesFieldsOnce (xs ++ ys)
 once_append [] ys once_x once_y across = once_y
 once_append (x ∷ xs) ys once_x once_y across = (
@@ -18,7 +18,7 @@ once_append (x ∷ xs) ys once_x once_y across = (
   once_append xs ys once_x.1 once_y (λ c d in_x in_y. across c d (inr in_x) in_y),
 )
 
--- a crosspoint of a set is one of a path of it
+-- a crosspoint of a set belongs to one of its paths
 record OfPath (c : Crosspoint) (paths : List Path) : Type 0 where
   path : Path
   within : IsIn path paths
@@ -73,7 +73,7 @@ module _ (p : Path) (in_range : IsPath p) where
     ),
   )
 
--- a set that an office may have names no field twice
+-- a set that an office may have names each field at most once
 pub once_closed : (paths : List Path) → IsSet paths → AreApart paths → ((p : Path) → IsIn p paths → IsPath p) → NamesFieldsOnce (closed paths)
 once_closed [] set apart in_range = tt
 once_closed (p ∷ paths) set apart in_range =

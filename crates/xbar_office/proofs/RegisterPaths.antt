@@ -1,4 +1,4 @@
--- the path by which a line has a register, and the set without it
+-- the path from a line to its register, and the set without that path
 use Rattle.std.proofs.Common.{◌≡◌, ℕ, ◌==◌, Bool, true, false, List, inl, refl, sym, ◌∙◌, ap, subst}
 use Rattle.std.specs.Prelude.{Option, Some, None, is_some, option_and_then, if◌then◌else◌}
 use Rattle.std.specs.Option.{option_map_or}
@@ -77,7 +77,7 @@ module _ (plan : Tables) (paths : List Path) (own : Path) (laws : IsLawful plan)
   pub lawful-without_register : IsLawfulSet plan paths → IsLawfulSet plan (without_path paths own)
   lawful-without_register lawful = record { orderly = orderly-without plan paths own lawful.orderly; pairs = pairs_without lawful.pairs }
 
--- the line of a path that is taken out is idle
+-- the line of a path that is removed is idle
 pub line-without : (plan : Tables) (paths : List Path) (own : Path) → IsLawfulSet plan paths → IsIn own paths → is_idle (has_line own.line) (without_path paths own) ≡ true
 line-without plan paths own lawful within =
     idle-without_own (has_line own.line) paths own lawful.orderly.set (λ q there has. lawful.orderly.apart q own there within (inl ((line_eq-exact q.line own.line).0 has)))

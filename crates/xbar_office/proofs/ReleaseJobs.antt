@@ -25,7 +25,7 @@ use Rattle.xbar_office.specs.Standing.{path_of, path_at, other_path}
 use Rattle.xbar_office.proofs.RemovedPaths.{idle-without, idle-without_other, idle-without_own, orderly-without}
 use Rattle.xbar_office.proofs.TakenMembers.{second-has}
 
--- where a search finds nothing, nothing passes
+-- if a search finds nothing, nothing passes
 none_found : (has : Path → Bool) (paths : List Path) → find has paths ≡ None → list_any has paths ≡ false
 none_found has [] e = refl
 none_found has (p ∷ paths) e = of (has p) (none_found has paths) e where
@@ -36,13 +36,13 @@ none_found has (p ∷ paths) e = of (has p) (none_found has paths) e where
 pub idle-not_found : (has : Path → Bool) (paths : List Path) → find has paths ≡ None → is_idle has paths ≡ true
 idle-not_found has paths e = ap not (none_found has paths e)
 
--- where a member stands at a place, it is found
+-- a place of a member is not a place without members
 not_no_members : (plan : Tables) (place : TrunkPlace) → IsMembersPlace plan place → IsNoMembers plan place → ⊥
 not_no_members plan place own none =
     let here = subst (λ (o : Option Member). IfSome o (λ member. stands_at member place ≡ false)) own.listed (none own.group own.index) in
     true≢false (sym own.stands ∙ here)
 
--- which member stands at the place of a path, by the plan's answer
+-- the member at the place of a path, by the plan's answer
 pub record IsNamedAt (plan : Tables) (place : TrunkPlace) : Type 0 where
   pub found : MemberPlace
   pub here : member_place plan place ≡ Some found
@@ -81,7 +81,7 @@ module _ (plan : Tables) (paths : List Path) (own : Path) (laws : IsLawful plan)
   own_gone None = own_gone_alone
   own_gone (Some other) = idle-without (has_place own.place) rest other rest_orderly.set own_gone_alone
 
-  -- and so is a place of which the path goes too
+  -- and so is a place whose path is removed too
   pub other_gone : (place : TrunkPlace) (found : Option Path) → path_at paths place ≡ found → is_idle (has_place place) (without_other rest found) ≡ true
   other_gone place None e = idle-without (has_place place) paths own lawful.orderly.set (idle-not_found (has_place place) paths e)
   other_gone place (Some other) e =
@@ -95,13 +95,13 @@ module _ (plan : Tables) (paths : List Path) (own : Path) (laws : IsLawful plan)
   others_stay place (Some other) not_own not_other =
       idle-without_other (has_place place) rest other (not_other other refl) ∙ idle-without_other (has_place place) paths own not_own
 
-  -- the other path stands at the other place of the member
+  -- the other path is at the other place of the member
   other_by : (o : Option TrunkPlace) → other_place named.named.member own.place ≡ o → other_path plan paths own ≡ option_and_then (path_at paths) o
   other_by o e =
       ap (λ (found : Option MemberPlace). option_and_then (path_at paths) (option_and_then (λ f. f.other) found)) named.here
       ∙ ap (option_and_then (path_at paths)) (named.named.other ∙ e)
 
-  -- a member at whose place the own path stands is the one that was found
+  -- a member at the own path's place is the one that was found
   same_member : (number at : ℕ) (member : Member) → member_at plan number at ≡ Some member → IsIn own.place (places member) → named.named.member ≡ member
   same_member number at member listed there =
       let is = named.named in
@@ -110,7 +110,7 @@ module _ (plan : Tables) (paths : List Path) (own : Path) (laws : IsLawful plan)
       cc
 
   module _ (number at : ℕ) (member : Member) (second : TrunkPlace) (listed : member_at plan number at ≡ Some member) (paired : member.second ≡ Some second) where
-    -- a pair at whose first place the own path stands
+    -- a pair with the own path at its first place
     at_first : own.place ≡ member.first → is_idle (has_place member.first) (without_other rest (other_path plan paths own)) ≡ is_idle (has_place second) (without_other rest (other_path plan paths own))
     at_first first =
         let is_member = same_member number at member listed (inl first) in
@@ -120,7 +120,7 @@ module _ (plan : Tables) (paths : List Path) (own : Path) (laws : IsLawful plan)
         subst (λ (p : TrunkPlace). is_idle (has_place p) (without_other rest (other_path plan paths own)) ≡ true) first (own_gone (other_path plan paths own))
         ∙ sym (subst (λ (found : Option Path). is_idle (has_place second) (without_other rest found) ≡ true) (sym by) (other_gone second (path_at paths second) refl))
 
-    -- or at whose second place it stands
+    -- or at its second place
     at_second : own.place ≡ second → place_eq member.first own.place ≡ false → is_idle (has_place member.first) (without_other rest (other_path plan paths own)) ≡ is_idle (has_place second) (without_other rest (other_path plan paths own))
     at_second same test =
         let there : IsIn own.place (places member) = subst (λ (p : TrunkPlace). IsIn p (places member)) (sym same) (second-has member second paired) in
@@ -130,7 +130,7 @@ module _ (plan : Tables) (paths : List Path) (own : Path) (laws : IsLawful plan)
         subst (λ (found : Option Path). is_idle (has_place member.first) (without_other rest found) ≡ true) (sym by) (other_gone member.first (path_at paths member.first) refl)
         ∙ sym (subst (λ (p : TrunkPlace). is_idle (has_place p) (without_other rest (other_path plan paths own)) ≡ true) same (own_gone (other_path plan paths own)))
 
-    -- the other path is at no place of a pair where the own path is not
+    -- if the own path is at no place of a pair, neither is the other path
     not_others : (place : TrunkPlace) → IsIn place (places member) → (IsIn own.place (places member) → ⊥) → (q : Path) → other_path plan paths own ≡ Some q → (b : Bool) → has_place place q ≡ b → b ≡ false
     not_others place there apart q is false e = refl
     not_others place there apart q is true e = absurd (of (other_place named.named.member own.place) refl) where
@@ -170,7 +170,7 @@ module _ (plan : Tables) (paths : List Path) (own : Path) (laws : IsLawful plan)
           unequal true never = absurd (never refl)
     by_places false false first second_is = elsewhere (not_there first second_is) first second_is
 
-  -- so a pair has both of its paths or none
+  -- so a pair has both of its paths or neither
   pairs_released : HasWholePairs plan (without_other rest (other_path plan paths own))
   pairs_released number at member listed second paired = by_places number at member second listed paired (has_place member.first own) (has_place second own) refl refl
 

@@ -1,4 +1,4 @@
--- what a path that is taken out leaves of a set
+-- the set after a path is removed
 use Rattle.std.proofs.Common.{◌≡◌, ◌≢◌, ◌+◌, ◌⊎◌, Bool, true, false, List, [], ◌∷◌, length, inl, inr, refl, sym, ◌∙◌, ap, subst}
 use Rattle.std.specs.Prelude.{◌||◌, not}
 use Rattle.std.specs.List.{list_any}
@@ -34,18 +34,18 @@ idle-without_other has paths path other = ap not (any-without_other has paths pa
 pub idle-without : (has : Path → Bool) (paths : List Path) (path : Path) → IsSet paths → is_idle has paths ≡ true → is_idle has (without_path paths path) ≡ true
 idle-without has paths path set idle = idle-none has (without_path paths path) (λ q within. none-idle has paths idle q (without-in paths path q set within).0)
 
--- what only the path had is idle without it
+-- what only this path has is idle without it
 pub idle-without_own : (has : Path → Bool) (paths : List Path) (path : Path) → IsSet paths → ((q : Path) → IsIn q paths → has q ≡ true → q ≡ path) → is_idle has (without_path paths path) ≡ true
 idle-without_own has paths path set alone = idle-none has (without_path paths path) (λ q within. of q (has q) refl (without-in paths path q set within)) where
   of : (q : Path) (b : Bool) → has q ≡ b → IsIn q paths × (q ≢ path) → has q ≡ false
   of q false e within = e
   of q true e within = absurd (within.1 (alone q within.0 e))
 
--- a path of the set that has it keeps it from being idle
+-- what a path of the set has is not idle
 pub busy-in : (has : Path → Bool) (paths : List Path) (path : Path) → IsIn path paths → has path ≡ true → is_idle has paths ≡ false
 busy-in has paths path within own = ap not (any_passes has paths path within own)
 
--- put back, it makes the set what it was
+-- a path that is removed and added again leaves the set as it was
 pub with-without : (paths : List Path) (path : Path) → IsSet paths → IsIn path paths → with_path (without_path paths path) path ≡ paths
 with-without paths path set own = same_set (with_path (without_path paths path) path) paths (set-with (without_path paths path) path (set-without paths path set)) set (λ q. (back q, forth q)) where
   back : (q : Path) → IsIn q (with_path (without_path paths path) path) → IsIn q paths
@@ -62,13 +62,13 @@ with-without paths path set own = same_set (with_path (without_path paths path) 
   forth : (q : Path) → IsIn q paths → IsIn q (with_path (without_path paths path) path)
   forth q within = in-with (without_path paths path) path q (by_order q (path_cmp q path) refl within)
 
--- a path of the set that is taken out makes it shorter by one
+-- removing a path of the set makes the set shorter by one
 pub length-without : (paths : List Path) (path : Path) → IsSet paths → IsIn path paths → length paths ≡ length (without_path paths path) + 1
 length-without paths path set own =
     ap (λ (p : List Path). length p) (sym (with-without paths path set own))
     ∙ length-with (without_path paths path) path (λ within. (without-in paths path path set within).1 refl)
 
--- what it leaves of an orderly set is orderly
+-- removing a path leaves an orderly set orderly
 pub orderly-without : (plan : Tables) (paths : List Path) (path : Path) → IsOrderlySet plan paths → IsOrderlySet plan (without_path paths path)
 orderly-without plan paths path orderly = record {
   set = set-without paths path orderly.set;

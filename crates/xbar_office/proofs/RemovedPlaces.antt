@@ -1,4 +1,4 @@
--- a path that stands at a place of the list is removed there
+-- a path that is at an index of the list is removed there
 use Rattle.std.proofs.Common.{◌≡◌, ℕ, suc, ◌<◌, List, ◌∷◌, ◌++◌, length, take, drop, get_or, sym, ◌∙◌, ap, drop-cons}
 use Rattle.std.specs.Prelude.{remove}
 use Rattle.std.specs.Ordering.{match_ordering}

@@ -1,4 +1,4 @@
--- a path that can stand beside those of an orderly set, and leaves it so
+-- a path that can be added to an orderly set, which stays orderly
 use Rattle.std.proofs.Common.{◌≡◌, ◌+◌, ◌⊎◌, true, List, length, inl, inr, refl, sym, ◌∙◌, subst}
 use Rattle.std.specs.Prelude.{◌&&◌}
 use Rattle.xbar_equip.specs.Among.{IsIn}
@@ -12,7 +12,7 @@ use Rattle.xbar_plan.specs.Tables.{Tables}
 use Rattle.xbar_office.specs.LawfulSet.{IsMembersPlace, IsOrderlySet}
 use Rattle.xbar_office.proofs.AddedPaths.{not_of_set, length-with}
 
--- a path of which all parts are idle, and whose place is a member's
+-- a path whose parts are all idle, and whose place is a member's
 pub record CanStand (plan : Tables) (paths : List Path) (path : Path) : Type 0 where
   pub range : IsPath path
   pub line : is_idle (has_line path.line) paths ≡ true
@@ -28,7 +28,7 @@ shares_back p q (inr (inr (inr (inl e)))) = inr (inr (inr (inl (sym e))))
 shares_back p q (inr (inr (inr (inr e)))) = inr (inr (inr (inr (sym e))))
 
 module _ (plan : Tables) (paths : List Path) (path : Path) (can : CanStand plan paths path) where
-  -- it shares no part with a path of the set
+  -- the path shares no part with a path of the set
   clash : (q : Path) → IsIn q paths → SharesPart path q → ⊥
   clash q within (inl e) = not_of_set (has_line path.line) paths q can.line ((line_eq-exact q.line path.line).1 (sym e)) within
   clash q within (inr (inl e)) = not_of_set (has_place path.place) paths q can.place ((place_eq-exact q.place path.place).1 (sym e)) within
@@ -51,7 +51,7 @@ module _ (plan : Tables) (paths : List Path) (path : Path) (can : CanStand plan 
       absurd (clash p within (subst (λ (x : Path). SharesPart x p) second (shares_back p q shares)))
   apart_with orderly p q (inr within) (inr other) shares = orderly.apart p q within other shares
 
-  -- the set with it is orderly
+  -- the set with the path added is orderly
   pub orderly-with : IsOrderlySet plan paths → IsOrderlySet plan (with_path paths path)
   orderly-with orderly = record {
     set = set-with paths path orderly.set;

@@ -1,4 +1,4 @@
--- the paths that a trial chose on an idle member: they can be added to a set, which they leave lawful
+-- the paths that a trial chose on an idle member can be added to a set, and leave it lawful
 use Rattle.std.proofs.Common.{◌≡◌, ℕ, ◌+◌, Bool, true, false, List, length, inl, inr, refl, sym, ◌∙◌, ap, subst, arith}
 use Rattle.std.specs.Prelude.{Option, Some, None, ◌==◌, ◌&&◌, not, option_to_list}
 use borrow.Author.Tests.{eqb-true, eq-eqb}
@@ -17,20 +17,21 @@ use Rattle.xbar_office.specs.Chosen.{with_chosen}
 use Rattle.xbar_office.specs.Done.{with_call_paths}
 use Rattle.xbar_office.specs.LawfulSet.{IsOrderlySet, IsLawfulSet, HasWholePairs, HasBothOrNone}
 use Rattle.xbar_office.specs.Members.{is_member_idle}
-use Rattle.xbar_office.specs.Room.{call_count}
+use Rattle.xbar_office.specs.AddedPaths.{call_count}
 use Rattle.xbar_office.specs.declared.trial.CallPaths.{CallPaths}
 use Rattle.xbar_office.proofs.AddedPaths.{idle-with, idle-with_other, idle-with_own}
 use Rattle.xbar_office.proofs.StandingPaths.{CanStand, orderly-with, length-stands}
 
--- of a pair the called path can stand at the second place; a member with one place has no called path
+-- for a pair, the called path can be added at the second place; for a member with one place there
+-- is no called path
 abbrev pub CalledCanStand : Tables → List Path → Option TrunkPlace → Option Path → Type 0
 CalledCanStand plan paths None None = Unit {0}
 CalledCanStand plan paths None (Some called) = ⊥
 CalledCanStand plan paths (Some second) None = ⊥
 CalledCanStand plan paths (Some second) (Some called) = (called.place ≡ second) × CanStand plan paths called
 
--- paths that can be added to a set together: the calling path stands at the first place of an idle member, and at the second place of
--- a pair the called path can stand beside it
+-- paths that can be added to a set together: the calling path at the first place of an idle
+-- member, and for a pair then the called path at the second place
 pub record CanTake (plan : Tables) (paths : List Path) (group index : ℕ) (call : CallPaths) : Type 0 where
   pub member : Member
   pub listed : member_at plan group index ≡ Some member
@@ -43,14 +44,14 @@ pub record CanTake (plan : Tables) (paths : List Path) (group index : ℕ) (call
 pub second-has : (member : Member) (second : TrunkPlace) → member.second ≡ Some second → IsIn second (places member)
 second-has member second paired = inr (subst (λ (o : Option TrunkPlace). IsIn second (option_to_list o)) (sym paired) (inl refl))
 
--- the set with the called path, if there is one
+-- the set with the called path added, if there is one
 orderly_called : (plan : Tables) (paths : List Path) (second : Option TrunkPlace) (called : Option Path) → CalledCanStand plan paths second called → IsOrderlySet plan paths → IsOrderlySet plan (with_chosen paths called)
 orderly_called plan paths None None can orderly = orderly
 orderly_called plan paths None (Some called) can orderly = absurd can
 orderly_called plan paths (Some second) None can orderly = absurd can
 orderly_called plan paths (Some second) (Some called) can orderly = orderly-with plan paths called can.1 orderly
 
--- what such paths leave of an orderly set is orderly
+-- adding these paths leaves an orderly set orderly
 pub orderly-take : (plan : Tables) (paths : List Path) (group index : ℕ) (call : CallPaths) → CanTake plan paths group index call → IsOrderlySet plan paths → IsOrderlySet plan (with_call_paths paths call)
 orderly-take plan paths group index call can orderly =
     orderly_called plan (with_path paths call.calling) can.member.second call.called can.called (orderly-with plan paths call.calling can.calling orderly)
@@ -66,7 +67,7 @@ pub length-take : (plan : Tables) (paths : List Path) (group index : ℕ) (call 
 length-take plan paths group index call can =
     length_called plan (with_path paths call.calling) paths can.member.second call.calling call.called can.called (length-stands plan paths call.calling can.calling)
 
--- what is not idle stays so with a path more
+-- what is not idle stays so with a path added
 busy_chosen : (has : Path → Bool) (paths : List Path) (called : Option Path) → is_idle has paths ≡ false → is_idle has (with_chosen paths called) ≡ false
 busy_chosen has paths None busy = busy
 busy_chosen has paths (Some called) busy = idle-with has paths called ∙ ap (λ b. b && not (has called)) busy
@@ -84,7 +85,7 @@ other_called plan paths (Some second) None can place other = absurd can
 other_called plan paths (Some second) (Some called) can place other = idle-with_other (has_place place) paths called (other called (inl can.0))
 
 module _ (plan : Tables) (paths : List Path) (group index : ℕ) (call : CallPaths) (can : CanTake plan paths group index call) where
-  -- with such paths none of the member's places is idle
+  -- with these paths added, none of the member's places is idle
   pub own-take : (place : TrunkPlace) → IsIn place (places can.member) → is_idle (has_place place) (with_call_paths paths call) ≡ false
   own-take place (inl e) =
       busy_chosen (has_place place) (with_path paths call.calling) call.called
@@ -132,6 +133,6 @@ module _ (plan : Tables) (paths : List Path) (group index : ℕ) (call : CallPat
         let members : Some member ≡ Some can.member = sym listed ∙ ap (λ (g : ℕ). member_at plan g at) (eqb-true number group e) ∙ ap (member_at plan group) (eqb-true at index f) ∙ can.listed in
         its_pair member cc
 
-  -- so what they leave of a lawful set is lawful
+  -- so adding them leaves a lawful set lawful
   pub lawful-take : IsLawful plan → IsLawfulSet plan paths → IsLawfulSet plan (with_call_paths paths call)
   lawful-take laws lawful = record { orderly = orderly-take plan paths group index call can lawful.orderly; pairs = pairs_take laws lawful.pairs }

@@ -1,4 +1,5 @@
--- a job that made trials leaves a lawful set, longer by the paths that it took
+-- a job that made trials leaves a lawful set lawful, and makes it longer by the paths that were
+-- chosen
 use Rattle.std.proofs.Common.{◌≡◌, ℕ, ◌+◌, List, length, arith}
 use Rattle.std.specs.Prelude.{Option, Some, None}
 use Rattle.xbar_equip.specs.declared.path.Path.{Path}
@@ -6,7 +7,7 @@ use Rattle.xbar_plan.specs.Tables.{Tables}
 use Rattle.xbar_plan.specs.Lawful.{IsLawful}
 use Rattle.xbar_office.specs.Done.{with_added, chosen_paths}
 use Rattle.xbar_office.specs.LawfulSet.{IsLawfulSet}
-use Rattle.xbar_office.specs.Room.{added_count}
+use Rattle.xbar_office.specs.AddedPaths.{added_count}
 use Rattle.xbar_office.specs.declared.two_trials.Choice.{Choice}
 use Rattle.xbar_office.proofs.GoodTrials.{GoodChoice}
 use Rattle.xbar_office.proofs.TakenMembers.{length-take, lawful-take}

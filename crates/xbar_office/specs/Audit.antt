@@ -6,26 +6,26 @@ use Rattle.xbar_office.specs.declared.audit_fault.AuditFault.{AuditFault}
 use Rattle.xbar_office.specs.declared.audit_fault.AuditFault.TheVariants.{Turns, Reply, Memory}
 use Rattle.xbar_office.specs.declared.reply.Record.{Record}
 
--- the record at this place, and none before it, hasn't the turn of its place
+-- the record at this index, and none before it, does not have the turn of its index
 pub record IsFirstWrongTurn (records : List Record) (place : ℕ) : Type 0 where
   pub before : HaveTurns 0 (take place records)
   pub here : IsSomeAnd (slice_get records place) (λ r. r.turn ≢ place)
 
--- the record at this place, and none before it, hasn't the reply of the one-marker office
+-- the record at this index, and none before it, does not have the reply of the one-marker office
 pub record IsFirstWrongReply (plan : Tables) (records : List Record) (place : ℕ) : Type 0 where
   pub before : HaveReplies plan [] (take place records)
   pub here : IsSomeAnd (slice_get records place)
       (λ r. r.reply ≢ (whole plan (after plan (take place records)) r.job).reply)
 
--- some record, with none before it that has a wrong reply, is of a job that makes the set longer:
--- only there can memory be refused
+-- no record before this index has a wrong reply, and the job of the record there makes the set
+-- longer: only there can memory run out
 pub record GrowsAt (plan : Tables) (records : List Record) (place : ℕ) : Type 0 where
   pub before : HaveReplies plan [] (take place records)
   pub here : IsSomeAnd (slice_get records place)
       (λ r. length (after plan (take place records))
       < length (whole plan (after plan (take place records)) r.job).paths)
 
--- what is wrong with records: the turns are looked at first, then the replies in the order of turns
+-- the fault of records: the turns are checked first, then the replies in the order of turns
 abbrev pub IsFaultOf : Tables → List Record → AuditFault → Type 0
 IsFaultOf plan records (Turns place) = IsFirstWrongTurn records place
 IsFaultOf plan records (Reply turn) = HaveTurns 0 records × IsFirstWrongReply plan records turn

@@ -9,15 +9,15 @@ use Rattle.xbar_equip.proofs.PathTests.{link_eq-exact}
 use Rattle.xbar_equip.specs.Equivalences.{exact-equivalence}
 use Rattle.xbar_office.specs.declared.reply.Card.{Card}
 
--- whether two cards are one
+-- whether two cards are the same
 abbrev pub card_eq : Card → Card → Bool
 card_eq a b = a.trial == b.trial && link_eq a.link b.link
 
--- whether two lists of cards are one: as long, and equal card by card
+-- whether two lists of cards are the same: equally long, and equal card by card
 abbrev pub cards_eq : List Card → List Card → Bool
 cards_eq a b = pointwise card_eq a b
 
--- the test finds two cards equal exactly where they are one
+-- the test finds two cards equal exactly if they are the same
 pub card_eq-exact : (a b : Card) → (card_eq a b ≡ true) ↔ (a ≡ b)
 card_eq-exact a b = (one, same) where
   one : card_eq a b ≡ true → a ≡ b
@@ -33,7 +33,7 @@ card_eq-exact a b = (one, same) where
       (eq-eqb a.trial b.trial (ap (λ (c : Card). c.trial) e))
       ((link_eq-exact a.link b.link).1 (ap (λ (c : Card). c.link) e))
 
--- so the tests of cards and of lists of cards are equivalences
+-- so the tests of cards and of lists of cards are equivalence relations
 pub cards-equivalence : IsEquivalence cards_eq
 cards-equivalence = lists_equiv (exact-equivalence card_eq card_eq-exact)
 

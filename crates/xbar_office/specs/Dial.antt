@@ -10,14 +10,14 @@ use Rattle.xbar_office.specs.TwoTrials.{two_trials}
 use Rattle.xbar_office.specs.declared.aim.Aim.TheVariants as aim
 use Rattle.xbar_office.specs.declared.reply.End.TheVariants.{LineBusy, RegistersBusy}
 
--- two trials on the registers, from the first idle one on
+-- two trials on the registers, the first on the first idle one
 abbrev pub dial_register : Tables → List Path → Line → List Member → Option ℕ → Done
 dial_register plan paths line registers None = refused paths RegistersBusy
 dial_register plan paths line registers (Some first) =
     tried aim.DialTone paths
     (two_trials plan paths (record { calling = line; called = None }) registers first)
 
--- a dial tone job: a line that is in no path gets an idle register, and a path to it
+-- a dial tone job: a line that has no path gets an idle register, and a path to it
 abbrev pub dial : Tables → List Path → Line → Done
 dial plan paths line =
     let registers = members_of plan (register_group plan) in

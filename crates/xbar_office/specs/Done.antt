@@ -10,7 +10,7 @@ use Rattle.xbar_office.specs.declared.trial.CallPaths.{CallPaths}
 use Rattle.xbar_office.specs.declared.two_trials.Choice.{Choice}
 use Rattle.xbar_office.specs.declared.two_trials.Trials.{Trials}
 
--- what a job leaves: the set of paths after it, and its reply
+-- the outcome of a job: the set of paths after it, and its reply
 pub record Done : Type 0 where
   pub paths : List Path
   pub reply : Reply
@@ -19,20 +19,20 @@ pub record Done : Type 0 where
 abbrev pub refused : List Path → End → Done
 refused paths end = record { paths = paths; reply = plain_reply end }
 
--- the set with the paths of a call
+-- the set with the paths of a call added
 abbrev pub with_call_paths : List Path → CallPaths → List Path
 with_call_paths paths call = with_chosen (with_path paths call.calling) call.called
 
--- the set with the paths of a call, if there is one
+-- the set with the paths of a call added, if there is one
 abbrev pub with_added : List Path → Option CallPaths → List Path
 with_added paths None = paths
 with_added paths (Some call) = with_call_paths paths call
 
--- the paths that trials chose, if they chose any
+-- the paths that trials chose, if any
 abbrev pub chosen_paths : Option Choice → Option CallPaths
 chosen_paths choice = option_map (λ c. c.paths) choice
 
--- a job that makes trials leaves the set with what they chose
+-- a job that makes trials adds to the set what they chose
 abbrev pub tried : Aim → List Path → Trials → Done
 tried aim paths trials = record {
   paths = with_added paths (chosen_paths trials.choice);

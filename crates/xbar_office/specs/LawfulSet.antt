@@ -8,7 +8,7 @@ use Rattle.xbar_plan.specs.Group.{stands_at}
 use Rattle.xbar_plan.specs.Tables.{Tables, member_at}
 use Rattle.xbar_plan.specs.declared.group.Member.{Member}
 
--- some member of the plan stands at the place
+-- the place is one of a member of the plan
 pub record IsMembersPlace (plan : Tables) (place : TrunkPlace) : Type 0 where
   pub group : ℕ
   pub index : ℕ
@@ -16,21 +16,21 @@ pub record IsMembersPlace (plan : Tables) (place : TrunkPlace) : Type 0 where
   pub listed : member_at plan group index ≡ Some member
   pub stands : stands_at member place ≡ true
 
--- each path ends at a member's place, and no two paths share a part: what single paths that come
--- and go leave so
+-- each path ends at a member's place, and no two paths share a part: this stays so when single
+-- paths are added and removed
 pub record IsOrderlySet (plan : Tables) (paths : List Path) : Type 0 where
   pub set : IsSet paths
   pub ranges : (path : Path) → IsIn path paths → IsPath path
   pub places : (path : Path) → IsIn path paths → IsMembersPlace plan path.place
   pub apart : AreApart paths
 
--- of a pair both places have a path, or neither has
+-- of a pair, both places have a path or neither has
 abbrev pub HasBothOrNone : List Path → Member → Type 0
 HasBothOrNone paths member =
     (second : TrunkPlace) → member.second ≡ Some second
     → is_idle (has_place member.first) paths ≡ is_idle (has_place second) paths
 
--- and so it is with each member of the plan
+-- each pair of the plan has both of its paths or neither
 abbrev pub HasWholePairs : Tables → List Path → Type 0
 HasWholePairs plan paths =
     (group index : ℕ) (member : Member) → member_at plan group index ≡ Some member

@@ -8,12 +8,13 @@ use Rattle.xbar_office.specs.declared.job.Job.{Job}
 use Rattle.xbar_office.specs.declared.job.Job.TheVariants.{Dial, Complete, Release}
 use Rattle.xbar_office.specs.declared.reply.Record.{Record}
 
--- a job is of a line that there is, and of seven digits
+-- the line of the job, and the digits that it dialled, are in range
 abbrev pub IsJob : Job → Type 0
 IsJob (Dial line) = IsLine line
 IsJob (Complete line dialled) = IsLine line × IsDialled dialled
 IsJob (Release line) = IsLine line
 
+-- each of the jobs is in range
 abbrev pub AreJobs : List Job → Type 0
 AreJobs [] = Unit {0}
 AreJobs (job ∷ jobs) = IsJob job × AreJobs jobs
@@ -31,21 +32,21 @@ jobs_of records = map (λ r. r.job) records
 abbrev pub after : Tables → List Record → List Path
 after plan records = after_jobs plan [] (jobs_of records)
 
--- the records have the turns from this one on
+-- the records have the turns from this one on, in order
 abbrev pub HaveTurns : ℕ → List Record → Type 0
 HaveTurns turn [] = Unit {0}
 HaveTurns turn (r ∷ records) = (r.turn ≡ turn) × HaveTurns (turn + 1) records
 
--- each record has the reply of the one-marker office, on the set that this one becomes by the
--- records before it
+-- each record has the reply of the one-marker office on the set that the records before it left,
+-- the first on this set
 abbrev pub HaveReplies : Tables → List Path → List Record → Type 0
 HaveReplies plan paths [] = Unit {0}
 HaveReplies plan paths (r ∷ records) =
     (r.reply ≡ (whole plan paths r.job).reply)
     × HaveReplies plan (whole plan paths r.job).paths records
 
--- a legal list of records: jobs that there are, the turns from 0 on, and the replies of an office
--- that begins with the empty set
+-- a legal list of records: the jobs are in range, the turns begin at 0, and the replies are those
+-- of an office that begins with the empty set
 pub record IsLegal (plan : Tables) (records : List Record) : Type 0 where
   pub jobs : AreJobs (jobs_of records)
   pub turns : HaveTurns 0 records

@@ -17,7 +17,7 @@ pub mod TwoTrials
 pub mod Cards
 pub mod Replies
 pub mod Done
-pub mod Room
+pub mod AddedPaths
 pub mod Dial
 pub mod Standing
 pub mod Trunks

@@ -12,19 +12,19 @@ use Rattle.xbar_plan.specs.declared.group.Member.{Member}
 abbrev pub members_of : Tables → ℕ → List Member
 members_of plan group = option_map_or (λ found. found.members) (slice_get plan.groups group) []
 
--- a member is idle where each of its places is
+-- a member is idle if each of its places is
 abbrev pub is_member_idle : List Path → Member → Bool
 is_member_idle paths member = list_all (λ place. is_idle (has_place place) paths) (places member)
 
--- whether the member of this number is idle
+-- whether the member at this index is idle
 abbrev pub is_idle_at : List Path → List Member → ℕ → Bool
 is_idle_at paths members index =
     option_map_or (is_member_idle paths) (slice_get members index) false
 
--- the first idle one of a group's members
+-- the index of a group's first idle member, if any
 abbrev pub first_idle : List Path → List Member → Option ℕ
 first_idle paths members = first_below (is_idle_at paths members) (length members)
 
--- the idle one that follows a member next; where none follows, that member again
+-- the index of the first idle member after this one, or this index itself if there is none
 abbrev pub next_idle : List Path → List Member → ℕ → ℕ
 next_idle paths members index = next_below (is_idle_at paths members) (length members) index

@@ -8,21 +8,21 @@ use Rattle.xbar_office.specs.declared.reply.Reply.{Reply}
 use Rattle.xbar_office.specs.declared.two_trials.Choice.{Choice}
 use Rattle.xbar_office.specs.declared.two_trials.Trials.{Trials}
 
--- the reply of a job that meets no faulty link
+-- a reply without cards
 abbrev pub plain_reply : End → Reply
 plain_reply end = record { end = end; cards = [] }
 
--- the end where a trial chose paths
+-- the end if a trial chose paths
 abbrev pub success_end : Aim → Choice → End
 success_end aim.DialTone choice = DialTone choice.paths.calling choice.trial
 success_end aim.Connected choice = Connected choice.paths.calling choice.paths.called choice.trial
 
--- the end where both trials failed: trouble if one of them gave a card
+-- the end if both trials failed: trouble if one of them gave a card
 abbrev pub failed_end : List Card → End
 failed_end [] = NoPath
 failed_end (card ∷ cards) = Trouble
 
--- the end that trials came to
+-- the end, from the outcome of the trials
 abbrev pub trials_end : Aim → Option Choice → List Card → End
 trials_end aim None cards = failed_end cards
 trials_end aim (Some choice) cards = success_end aim choice

@@ -13,21 +13,21 @@ use Rattle.xbar_office.specs.declared.route.IdleTrunk.{IdleTrunk}
 abbrev pub AreGroups : Tables → List ℕ → Type 0
 AreGroups plan groups = (k group : ℕ) → slice_get groups k ≡ Some group → group < length plan.groups
 
--- a code's groups are intra groups
+-- whether all these groups of a code are intra groups
 abbrev pub leads_inside : Tables → List ℕ → Bool
 leads_inside plan groups = list_all (is_group is_intra plan.groups) groups
 
--- the first of a number's lines that isn't the calling one and is idle
+-- the first line of a number that is idle and is not the calling line
 abbrev pub called_line : List Path → Line → List Line → Option Line
 called_line paths calling lines =
     find (λ line. not (line_eq line calling) && is_idle (has_line line) paths) lines
 
--- a group's first idle member; where it has none, what the next groups have
+-- a group's first idle member, or what the next groups have if there is none
 abbrev pub trunk_or : ℕ → Option ℕ → Option IdleTrunk → Option IdleTrunk
 trunk_or group None next = next
 trunk_or group (Some first) next = Some (record { group = group; first = first })
 
--- the first of the groups that has an idle member, and its first one
+-- the first group that has an idle member, and its first one
 abbrev pub idle_trunk : Tables → List Path → List ℕ → Option IdleTrunk
 idle_trunk plan paths [] = None
 idle_trunk plan paths (group ∷ groups) =

@@ -4,17 +4,17 @@ ghost use Rattle.xbar_office.specs.Replies.{success_end as success_end_of};
 use crate::reply::End;
 use crate::two_trials::Choice;
 
-/// What a job wants of its trials.
+/// What the trials of a job are for.
 #[derive(Clone, Copy, Debug, PartialEq, Eq)]
 pub enum Aim {
-    /// A register for the calling line.
+    /// To connect the calling line to a register.
     DialTone,
-    /// The calling line joined to a trunk, or to the called line.
+    /// To connect the calling line to a trunk or to the called line.
     Connected,
 }
 
 impl Aim {
-    /// The end of a job whose trials chose so.
+    /// The end of a job with this aim, if a trial made this choice.
     pub fn success_end(self, choice: &Choice) -> End
         ensures { result ≡ success_end_of self choice.now }
     {

@@ -4,16 +4,17 @@ ghost use Rattle.xbar_office.specs.declared.audit_fault.AuditFault.TheVariants.{
 use std::alloc::AllocError;
 use thiserror::Error;
 
-/// Why a list of records wasn't found legal.
+/// Why an audit did not accept a list of records.
 #[derive(Clone, Copy, Debug, PartialEq, Eq, Error)]
 pub enum AuditFault {
-    /// The first place, counted from 0, whose record hasn't the turn of its place.
+    /// `place` is the first index, counted from 0, whose record does not have the turn of its
+    /// index.
     #[error("the record at place {place} hasn't turn {place}")]
     Turns { place: usize },
-    /// The least turn whose record hasn't the reply of the one-marker office.
+    /// `turn` is the first turn whose record does not have the reply of the one-marker office.
     #[error("the reply of turn {turn} is another")]
     Reply { turn: u64 },
-    /// Memory was refused.
+    /// Memory ran out.
     #[error("memory was refused")]
     Memory,
 }

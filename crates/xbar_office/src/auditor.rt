@@ -1,4 +1,4 @@
-//! An auditor of records: are they those of jobs that one marker did whole, one after another?
+//! Audits records: are they those of jobs that one marker did whole, one after another?
 
 ghost use Rattle.std.specs.Prelude.{◌≡◌, MatchResult, MatchOption, IfOk, IfErr};
 ghost use Rattle.xbar_office.specs.Audit.{IsFaultOf, IsFirstWrongTurn};
@@ -11,7 +11,7 @@ use crate::reply::Record;
 use std::alloc::Global;
 use xbar_plan::Plan;
 
-/// The first place, counted from 0, whose record hasn't the turn of its place.
+/// The first index, counted from 0, whose record does not have the turn of its index.
 pub fn first_wrong_turn(records: &[Record]) -> Option<usize>
     ensures { MatchOption result (HaveTurns 0 records.now)
         (λ place. IsFirstWrongTurn records.now place) }
@@ -42,8 +42,9 @@ fn replay<'p>(alloc: Global, plan: &'p Plan, records: &[Record]) -> Result<Offic
     Ok(office)
 }
 
-/// The office after these records, where they are legal: record `i` has turn `i` and the reply that
-/// one marker gives which does the jobs whole, one after another, from an office with no path on.
+/// Returns the office after these records if they are legal: record `i` has turn `i`, and the
+/// reply of the one-marker office, which begins with no path and does the jobs whole, one after
+/// another.
 pub fn audit<'p>(
     alloc: Global,
     plan: &'p Plan,

@@ -4,7 +4,7 @@ use crate::reply::Card;
 use arrayvec::ArrayVec;
 use std::marker::Model;
 
-/// The cards of one job, at most two. They take no memory.
+/// The trouble cards of one job, at most two. They are stored in place.
 #[derive(Debug, Drop)]
 pub struct Cards {
     cards: ArrayVec<Card, 2>,
@@ -62,7 +62,7 @@ impl Cards {
         self.cards.push(card);
     }
 
-    /// The same cards again. It takes no memory.
+    /// A copy, which allocates nothing.
     pub fn copy(&self) -> Self
         ensures { result ≡ self.now }
     {
@@ -74,7 +74,7 @@ impl Cards {
         cards
     }
 
-    /// Whether the two are the same cards: `==`, with a contract for callers that need it.
+    /// The same as `==`, with a contract.
     #[tactic(auto, using(crate::specs::Cards::cards_exact))]
     pub fn is_same(&self, other: &Self) -> bool
         ensures { IsTrue result ↔ (self.now ≡ other.now) }
@@ -88,7 +88,7 @@ impl Cards {
         self.cards.is_empty()
     }
 
-    /// The cards in the order of trials.
+    /// The cards, in the order of their trials.
     pub fn as_slice(&self) -> &[Card]
         ensures { result.now ≡ self.now }
     {

@@ -1,4 +1,4 @@
-//! A completing job, on the set without the register's path: join a line to what it dialled.
+//! The completing job, on the set without the register's path: connects a line to what it dialled.
 
 ghost use Rattle.std.specs.Prelude.{◌≡◌};
 ghost use Rattle.xbar_equip.specs.Dialled.{code_of};
@@ -15,6 +15,7 @@ use xbar_equip::{Dialled, DirNo, Len, Path};
 use xbar_plan::Plan;
 use xbar_plan::laws::{codes_lead_to_trunks, every_plan_is_lawful};
 
+/// The reply to connecting the parties by the first of these groups that has an idle trunk.
 fn connect(plan: &Plan, paths: &[Path], parties: &Parties, groups: &[u8]) -> Reply
     requires { AreGroups plan.now groups.now }
     ensures { result ≡ (connect_of plan.now paths.now parties.now groups.now).reply }
@@ -27,6 +28,7 @@ fn connect(plan: &Plan, paths: &[Path], parties: &Parties, groups: &[u8]) -> Rep
     Reply::of_trials(Aim::Connected, trials)
 }
 
+/// The reply to a call to a directory number of this office.
 fn call_number(plan: &Plan, paths: &[Path], calling: Len, groups: &[u8], number: DirNo) -> Reply
     requires { AreGroups plan.now groups.now }
     ensures { result ≡ (call_number_of plan.now paths.now calling groups.now
@@ -42,7 +44,7 @@ fn call_number(plan: &Plan, paths: &[Path], calling: Len, groups: &[u8], number:
     connect(plan, paths, &Parties { calling, called }, groups)
 }
 
-/// The reply to a call on the set of paths that its line's register is no longer in.
+/// The reply to a call, on the set without the path of the line's register.
 pub fn call(plan: &Plan, paths: &[Path], calling: Len, dialled: Dialled) -> Reply
     ensures { result ≡ (call_of plan.now paths.now calling dialled
         (route_of plan.now (code_of dialled))).reply }

@@ -1,4 +1,4 @@
-//! A dial tone job: find a line an idle register, and a path to it.
+//! The dial tone job: finds an idle register for a line, and a path to it.
 
 ghost use Rattle.std.specs.Prelude.{◌≡◌};
 ghost use Rattle.xbar_office.specs.Dial.{dial as dial_of};

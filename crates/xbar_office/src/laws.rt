@@ -1,5 +1,5 @@
-//! What holds of the one-marker office as it is defined. Each function does nothing: its contract is
-//! the law.
+//! Laws of the one-marker office, for use by other crates. Each function does nothing; its
+//! contract is the law.
 
 ghost use Rattle.std.specs.Prelude.{◌≡◌, ◌≢◌, ◌↔◌, ℕ, true, Option, Some, None, [], ◌∷◌, ◌++◌, length, List};
 ghost use Rattle.xbar_equip.specs.Len.{Line, IsLine};
@@ -13,7 +13,7 @@ ghost use Rattle.xbar_plan.specs.Lawful.{IsLawful};
 ghost use Rattle.xbar_office.specs.Audit.{IsFaultOf};
 ghost use Rattle.xbar_office.specs.LawfulSet.{IsLawfulSet};
 ghost use Rattle.xbar_office.specs.Legal.{IsJob, AreJobs, IsLegal, after, after_jobs};
-ghost use Rattle.xbar_office.specs.Room.{added_by};
+ghost use Rattle.xbar_office.specs.AddedPaths.{added_by};
 ghost use Rattle.xbar_office.specs.Standing.{register_path};
 ghost use Rattle.xbar_office.specs.Whole.{whole};
 ghost use Rattle.xbar_office.specs.declared.audit_fault.AuditFault.{AuditFault as AuditFaultOf};
@@ -27,11 +27,12 @@ use crate::job::Job;
 use xbar_equip::Dialled;
 use xbar_equip::laws::line_is_in_range;
 
+/// The dialled digits are in range.
 fn digits_are_in_range(dialled: Dialled)
     ensures { IsDialled dialled }
 {}
 
-/// A job is of a line that there is, and of seven digits.
+/// The line of a job, and the digits that it dialled, are in range.
 pub fn job_is_in_range(job: &Job)
     ensures { IsJob job.now }
 {
@@ -45,7 +46,7 @@ pub fn job_is_in_range(job: &Job)
     }
 }
 
-/// An office begins with a lawful set, and whatever jobs it does, its set stays lawful.
+/// An office begins with a lawful set, and its jobs leave its set lawful.
 pub fn jobs_leave_lawful_sets()
     ensures empty { (plan : Tables) → IsLawfulSet plan [] }
     ensures job { (plan : Tables) (paths : List Path) (job : JobOf) → IsLawful plan →
@@ -54,8 +55,8 @@ pub fn jobs_leave_lawful_sets()
         IsLawfulSet plan paths → AreJobs jobs → IsLawfulSet plan (after_jobs plan paths jobs) }
 {}
 
-/// In a lawful set no line, no place and no link is in two paths; so it is after jobs, and after a
-/// legal list of records.
+/// In a lawful set no two paths share a line, a place or a link. So it is after jobs, and after
+/// legal records.
 pub fn no_part_is_in_two_paths()
     ensures set { (plan : Tables) (paths : List Path) → IsLawfulSet plan paths → (p q : Path) →
         IsIn p paths → IsIn q paths → SharesPart p q → p ≡ q }
@@ -73,8 +74,8 @@ pub fn legal_records_leave_a_lawful_set()
         IsLawfulSet plan (after plan records) }
 {}
 
-/// Legal records stay legal with one that has the next turn and the right reply, and the set after
-/// them is what its job leaves of the set before.
+/// Legal records stay legal with one more at the end that has the next turn and the reply of the
+/// one-marker office. The set after them is what its job leaves of the set before.
 pub fn one_record_more_is_legal()
     ensures empty { (plan : Tables) → IsLegal plan [] }
     ensures legal { (plan : Tables) (records : List Record) (last : Record) → IsLegal plan records →
@@ -85,14 +86,14 @@ pub fn one_record_more_is_legal()
         after plan (records ++ last ∷ []) ≡ (whole plan (after plan records) last.job).paths }
 {}
 
-/// Legal records have no fault, but that an audit may be refused memory.
+/// Legal records have no fault, except that an audit may run out of memory.
 pub fn legal_records_have_no_fault()
     ensures { (plan : Tables) (records : List Record) (fault : AuditFaultOf) →
         IsLegal plan records → IsFaultOf plan records fault → fault ≡ Memory }
 {}
 
-/// A completing job whose line had a register gives it back at every end: where the end names no
-/// path, just the register's path has gone, and the line is idle.
+/// If the end of a completing job names no path, and the line had a register, the job removes
+/// exactly the register's path, and the line is idle.
 pub fn a_completing_job_gives_its_register_back()
     ensures set { (plan : Tables) (paths : List Path) (line : Line) (dialled : ℕ) (own : Path) →
         IsLawful plan → IsLawfulSet plan paths → IsLine line →
@@ -106,7 +107,7 @@ pub fn a_completing_job_gives_its_register_back()
         is_idle (has_line line) (whole plan paths (Complete line dialled)).paths ≡ true }
 {}
 
-/// A call joins the line that dialled, and inside the office another line, never that line itself.
+/// The calling path of a call is of the line that dialled, and the called path is of another line.
 pub fn a_call_never_gets_a_path_to_its_own_line()
     ensures calling { (plan : Tables) (paths : List Path) (line : Line) (dialled : ℕ)
         (calling : Path) (called : Option Path) (trial : ℕ) →
@@ -118,7 +119,7 @@ pub fn a_call_never_gets_a_path_to_its_own_line()
         Connected calling (Some called) trial → called.line ≢ calling.line }
 {}
 
-/// A release takes out the line's own path and the other one that it names, and leaves exactly the
+/// A release removes the line's own path and the other path that it names, and leaves exactly the
 /// others.
 pub fn a_release_leaves_all_other_paths()
     ensures others { (plan : Tables) (paths : List Path) (line : Line) (own : Path)

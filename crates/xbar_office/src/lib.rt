@@ -1,5 +1,5 @@
-//! The office with one marker, which does jobs whole: a set of paths, and what each job does to it.
-//! It is slow and plain on purpose, since all other offices are measured by it.
+//! The office with one marker, which does jobs whole: a set of paths, and what each job does to
+//! it. It is deliberately simple and slow, since it is the reference for all other offices.
 #![tactic(auto)]
 
 pub use aim::Aim;

@@ -17,6 +17,7 @@ pub fn is_member_idle(paths: &[Path], member: &Member) -> bool
     }
 }
 
+/// Whether the member at the index is idle.
 fn is_idle_at(paths: &[Path], members: &[Member], index: usize) -> bool
     requires { index < length members.now }
     ensures { result ≡ is_member_idle_at paths.now members.now index }
@@ -24,7 +25,7 @@ fn is_idle_at(paths: &[Path], members: &[Member], index: usize) -> bool
     is_member_idle(paths, &members[index])
 }
 
-/// The first idle member.
+/// The index of the first idle member.
 pub fn first_idle(paths: &[Path], members: &[Member]) -> Option<usize>
     ensures first { result ≡ first_idle_of paths.now members.now }
     ensures bound { IfSome result (λ index. index < length members.now) }
@@ -37,7 +38,7 @@ pub fn first_idle(paths: &[Path], members: &[Member]) -> Option<usize>
     None
 }
 
-/// The idle member that follows one next; that one again, where none follows.
+/// The index of the first idle member after `index`, or `index` itself if there is none.
 pub fn next_idle(paths: &[Path], members: &[Member], index: usize) -> usize
     requires { index < length members.now }
     ensures next { result ≡ next_idle_of paths.now members.now index }

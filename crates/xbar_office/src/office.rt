@@ -32,7 +32,7 @@ impl<'p> Model for Office<'p> {
 }
 
 impl<'p> Office<'p> {
-    /// An office with no path. It takes no memory.
+    /// An office with no path. This allocates nothing.
     pub fn open(alloc: Global, plan: &'p Plan) -> Self
         ensures { result ≡ record { plan = plan.now; paths = [] } }
     {
@@ -42,7 +42,7 @@ impl<'p> Office<'p> {
         }
     }
 
-    /// Does a job.
+    /// Does a job whole and returns its reply. If memory runs out, nothing changes.
     pub fn whole(&mut self, job: Job) -> Result<Reply, AllocError>
         ensures reply { IfOk result (λ reply.
             reply ≡ (whole_of self.old.plan self.old.paths job).reply) }
@@ -65,7 +65,7 @@ impl<'p> Office<'p> {
         }
     }
 
-    /// The paths that stand, in their order.
+    /// The paths of the office, in order.
     pub fn paths(&self) -> &[Path]
         ensures paths { result.now ≡ self.now.paths }
         ensures lawful { IsLawfulSet self.now.plan self.now.paths }
@@ -73,7 +73,7 @@ impl<'p> Office<'p> {
         self.paths.as_slice()
     }
 
-    /// The crosspoints that are closed, those of a path in the order in which they are closed.
+    /// The closed crosspoints: those of each path, in the order in which they are closed.
     pub fn crosspoints(&self, alloc: Global) -> Result<Vec<Crosspoint>, AllocError>
         ensures closed { IfOk result (λ all. all.items ≡ closed self.now.paths) }
         ensures once { IfOk result (λ all. NamesFieldsOnce all.items) }

@@ -7,15 +7,15 @@ use crate::trial::CallPaths;
 use crate::two_trials::Trials;
 use xbar_equip::{Link, LinkKind, Path};
 
-/// A trouble card: the trial that met a faulty link, and the link.
+/// A trouble card: the number of a trial, and the faulty link that it met.
 #[derive(Clone, Copy, Debug, PartialEq, Eq)]
 pub struct Card {
-    /// 1 or 2.
+    /// The number of the trial, 1 or 2.
     pub trial: u8,
     pub link: Link,
 }
 
-/// What stands in the free places of a list of cards; no trial has this number.
+/// A placeholder for the unused entries of a list of cards. No trial has its number.
 impl Default for Card {
     fn default() -> Self
         ensures { result.trial ≡ 0 }
@@ -30,38 +30,38 @@ impl Default for Card {
 /// How a job ends.
 #[derive(Clone, Copy, Debug, PartialEq, Eq)]
 pub enum End {
-    /// The line has a register, by this path, which trial 1 or 2 found.
+    /// The line is connected to a register by this path, which trial 1 or 2 found.
     DialTone {
         path: Path,
         trial: u8,
     },
-    /// The calling line is joined to a trunk, or inside the office to the called line, by paths that
-    /// trial 1 or 2 found.
+    /// The calling line is connected to a trunk, or inside the office to the called line, by paths
+    /// that trial 1 or 2 found.
     Connected {
         calling: Path,
         called: Option<Path>,
         trial: u8,
     },
-    /// The line's path is gone, and in a call inside the office the other party's.
+    /// The line's path was removed, and in a call inside the office the other party's.
     Released {
         own: Path,
         other: Option<Path>,
     },
-    /// No line of the number that was dialled is idle, but perhaps the calling one.
+    /// No line of the dialled number is idle, except perhaps the calling line.
     CalledBusy,
-    /// The line is in a path already.
+    /// The line already has a path.
     LineBusy,
     /// No register is idle.
     RegistersBusy,
     /// No trunk of the code's groups is idle.
     TrunksBusy,
-    /// No trial found a channel.
+    /// Neither trial found a channel.
     NoPath,
-    /// Both trials failed, and at least one of them at a faulty link.
+    /// Both trials failed, and at least one of them on a faulty link.
     Trouble,
-    /// The plan has no such code.
+    /// The plan does not have the dialled code.
     VacantCode,
-    /// The plan has no such number.
+    /// The plan does not have the dialled number.
     VacantNumber,
     /// The line has no register.
     NoRegister,
@@ -70,9 +70,9 @@ pub enum End {
 }
 
 impl End {
-    ghost use Rattle.xbar_office.specs.Room.{added_by};
+    ghost use Rattle.xbar_office.specs.AddedPaths.{added_by};
 
-    /// The paths that a job with this end adds, if it adds any.
+    /// The paths that a job with this end adds, if any.
     pub fn adds(&self) -> Option<CallPaths>
         ensures { result ≡ added_by self.now }
     {
@@ -91,7 +91,7 @@ impl End {
     }
 }
 
-/// How a job ends, with a card for each trial that met a faulty link, in the order of trials.
+/// How a job ended, with a card for each trial that met a faulty link, in the order of trials.
 #[derive(Debug, Drop, PartialEq, Eq)]
 pub struct Reply {
     pub end: End,
@@ -101,7 +101,7 @@ pub struct Reply {
 impl Reply {
     ghost use Rattle.xbar_office.specs.Replies.{plain_reply, failed_end as failed_end_of, trials_reply};
 
-    /// The reply of a job that met no faulty link.
+    /// A reply without cards.
     pub fn plain(end: End) -> Self
         ensures { result ≡ plain_reply end }
     {
@@ -111,7 +111,7 @@ impl Reply {
         }
     }
 
-    /// The reply to a job with this aim whose trials came to this.
+    /// The reply to a job with this aim, from the outcome of its trials.
     pub fn of_trials(aim: Aim, trials: Trials) -> Self
         ensures { result ≡ trials_reply aim trials }
     {
@@ -123,7 +123,7 @@ impl Reply {
         Reply { end, cards }
     }
 
-    /// The same reply again. It takes no memory.
+    /// A copy, which allocates nothing.
     pub fn copy(&self) -> Self
         ensures { result ≡ self.now }
     {
@@ -133,13 +133,14 @@ impl Reply {
         }
     }
 
-    /// Whether the two are one reply: `==`, with a contract for callers that need it.
+    /// The same as `==`, with a contract.
     pub fn is_same(&self, other: &Self) -> bool
         ensures { IsTrue result ↔ (self.now ≡ other.now) }
     {
         self.end == other.end && self.cards.is_same(&other.cards)
     }
 
+    /// The end if both trials failed: `Trouble` if there is a card, else `NoPath`.
     fn failed_end(cards: &Cards) -> End
         ensures { result ≡ failed_end_of cards.now }
     {
@@ -151,12 +152,14 @@ impl Reply {
     }
 }
 
-/// What is known of a job that has taken its turn.
+/// An entry of the history: a job that has taken its turn, and its reply.
 #[derive(Debug, Drop, PartialEq, Eq)]
 pub struct Record {
-    /// Its place among all jobs of the office.
+    /// The job's index among all jobs of the office, in the order of their turns.
     pub turn: u64,
+    /// The number of the marker that did the job.
     pub marker: u32,
+    /// The number under which the marker got the job.
     pub job_no: u32,
     pub job: Job,
     pub reply: Reply,

@@ -1,4 +1,4 @@
-//! Where a call goes: the called line, and a trunk.
+//! Where a call goes: to which called line, and by which trunk.
 
 ghost use Rattle.std.specs.Prelude.{◌≡◌, ◌<◌, ◌≤◌, ℕ, Some, IfSome, List, length, slice_get};
 ghost use Rattle.xbar_plan.specs.Tables.{Tables};
@@ -10,7 +10,7 @@ use crate::sets::is_line_idle;
 use xbar_equip::{Len, Path};
 use xbar_plan::{Member, Plan};
 
-/// An idle trunk: its group, and which member of it it is, both counted from 0.
+/// An idle trunk: its group, and its index in the group, both counted from 0.
 #[derive(Clone, Copy, Debug, PartialEq, Eq)]
 pub struct IdleTrunk {
     pub group: u8,
@@ -23,12 +23,12 @@ pub fn members(plan: &Plan, group: u8) -> &[Member]
     ensures members { result.now ≡ members_of plan.now group }
     ensures size { length result.now ≤ 40 }
 {
-    // Called for its clauses alone.
+    // Called only for its contract.
     xbar_plan::laws::groups_have_members();
     plan.group(group).members()
 }
 
-/// Whether these groups of a code are intra groups.
+/// Whether all these groups of a code are intra groups.
 pub fn leads_inside(plan: &Plan, groups: &[u8]) -> bool
     requires { AreGroups plan.now groups.now }
     ensures { result ≡ leads_inside_of plan.now groups.now }
@@ -41,7 +41,7 @@ pub fn leads_inside(plan: &Plan, groups: &[u8]) -> bool
     true
 }
 
-/// The first of a number's lines that isn't the calling one and is idle.
+/// The first line of a number that is idle and is not the calling line.
 pub fn called_line(paths: &[Path], calling: Len, lines: &[Len]) -> Option<Len>
     ensures { result ≡ called_line_of paths.now calling lines.now }
 {
@@ -53,7 +53,7 @@ pub fn called_line(paths: &[Path], calling: Len, lines: &[Len]) -> Option<Len>
     None
 }
 
-/// The first of the groups that has an idle member, and its first one.
+/// The first group that has an idle member, and its first one.
 pub fn idle_trunk(plan: &Plan, paths: &[Path], groups: &[u8]) -> Option<IdleTrunk>
     requires { AreGroups plan.now groups.now }
     ensures trunk { result ≡ idle_trunk_of plan.now paths.now groups.now }

@@ -5,7 +5,7 @@ ghost use Rattle.xbar_equip.specs.Paths.{has_line, has_place, has_link as has_th
 ghost use Rattle.xbar_equip.specs.Path.{path_by};
 ghost use Rattle.xbar_office.specs.Chosen.{with_chosen};
 ghost use Rattle.xbar_office.specs.Done.{with_call_paths, with_added};
-ghost use Rattle.xbar_office.specs.Room.{call_count, added_count};
+ghost use Rattle.xbar_office.specs.AddedPaths.{call_count, added_count};
 
 use crate::trial::CallPaths;
 use std::alloc::AllocError;
@@ -36,6 +36,7 @@ pub fn is_place_idle(paths: &[Path], place: Ten) -> bool
     true
 }
 
+/// Whether the link is one of the path's three.
 fn has_link(path: &Path, link: Link) -> bool
     ensures { result ≡ has_the_link link path.now }
 {
@@ -54,7 +55,7 @@ pub fn is_link_idle(paths: &[Path], link: Link) -> bool
     true
 }
 
-/// The same where one more path was chosen.
+/// Whether no path of the set has the link, nor the path that was chosen, if there is one.
 fn is_link_idle_beside(paths: &[Path], chosen: &Option<Path>, link: Link) -> bool
     ensures { result ≡ is_idle (has_the_link link) (with_chosen paths.now chosen.now) }
 {
@@ -64,7 +65,7 @@ fn is_link_idle_beside(paths: &[Path], chosen: &Option<Path>, link: Link) -> boo
     }
 }
 
-/// Whether the three links of a path are idle.
+/// Whether the three links of a path are idle in the set with the chosen path.
 fn has_idle_links(paths: &[Path], chosen: &Option<Path>, path: &Path) -> bool
     ensures { result ≡ has_idle_links_in (with_chosen paths.now chosen.now) path.now }
 {
@@ -73,8 +74,9 @@ fn has_idle_links(paths: &[Path], chosen: &Option<Path>, path: &Path) -> bool
         && is_link_idle_beside(paths, chosen, path.trunk_link())
 }
 
-/// The path between a line and a trunk place by the first idle channel, from `start` on round ten,
-/// in the set with the path that was chosen before, if there is one.
+/// Finds the path between a line and a trunk place by the first idle channel, from `start` on,
+/// with 0 after 9. A channel is idle if its links are, in the set with the path that was chosen
+/// before, if there is one.
 pub fn find_path(
     paths: &[Path],
     chosen: &Option<Path>,
@@ -99,8 +101,8 @@ pub fn find_path(
     None
 }
 
-/// Where a path is to be put into the set; nowhere, if it is there already.
-fn place_for(paths: &[Path], path: &Path) -> Option<usize>
+/// The index at which a path is to be inserted into the set, or `None` if the set has it already.
+fn insertion_index(paths: &[Path], path: &Path) -> Option<usize>
     ensures { MatchOption result (with_path paths.now path.now ≡ paths.now)
         (λ at. (at ≤ length paths.now) × (with_path paths.now path.now ≡
         insert_at paths.now at path.now)) }
@@ -115,18 +117,19 @@ fn place_for(paths: &[Path], path: &Path) -> Option<usize>
     Some(paths.len())
 }
 
-/// Adds a path to the set, which has room for it.
+/// Adds a path to the set, which must have capacity for it.
 pub fn insert(paths: &mut Vec<Path>, path: &Path)
     requires { vec_len paths.old < vec_capacity paths.old }
     ensures paths { paths.new.items ≡ with_path paths.old.items path.now }
     ensures len { vec_len paths.new ≤ vec_len paths.old + 1 }
     ensures capacity { vec_capacity paths.new ≡ vec_capacity paths.old }
 {
-    if let Some(at) = place_for(paths, path) {
+    if let Some(at) = insertion_index(paths, path) {
         paths.insert(at, *path).unwrap();
     }
 }
 
+/// Adds the paths of a call to the set, which must have capacity for them.
 fn insert_call(paths: &mut Vec<Path>, call: &CallPaths)
     requires { vec_len paths.old + call_count call.now ≤ vec_capacity paths.old }
     ensures { paths.new.items ≡ with_call_paths paths.old.items call.now }
@@ -137,7 +140,7 @@ fn insert_call(paths: &mut Vec<Path>, call: &CallPaths)
     }
 }
 
-/// Adds the paths of a call, if there is one; where memory is refused the set stays.
+/// Adds the paths of a call, if there is one. If memory runs out, the set does not change.
 pub fn add(paths: &mut Vec<Path>, call: &Option<CallPaths>) -> Result<(), AllocError>
     ensures ok { OnOk result (paths.new.items ≡ with_added paths.old.items call.now) }
     ensures err { OnErr result (paths.new.items ≡ paths.old.items) }
@@ -153,8 +156,8 @@ pub fn add(paths: &mut Vec<Path>, call: &Option<CallPaths>) -> Result<(), AllocE
     Ok(())
 }
 
-/// Where a path stands in the set.
-fn place_in(paths: &[Path], path: &Path) -> Option<usize>
+/// The index of a path in the set.
+fn index_of(paths: &[Path], path: &Path) -> Option<usize>
     ensures { MatchOption result (without_path paths.now path.now ≡ paths.now)
         (λ at. (at < length paths.now) × (without_path paths.now path.now ≡
         remove_at paths.now at)) }
@@ -169,12 +172,12 @@ fn place_in(paths: &[Path], path: &Path) -> Option<usize>
     None
 }
 
-/// Takes a path out of the set.
+/// Removes a path from the set, if the set has it.
 pub fn remove(paths: &mut Vec<Path>, path: &Path)
     ensures paths { paths.new.items ≡ without_path paths.old.items path.now }
     ensures capacity { vec_capacity paths.new ≡ vec_capacity paths.old }
 {
-    if let Some(at) = place_in(paths, path) {
+    if let Some(at) = index_of(paths, path) {
         paths.remove(at);
     }
 }

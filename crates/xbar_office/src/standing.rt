@@ -1,4 +1,4 @@
-//! Which paths of a set are those of a line's call.
+//! The paths of a line's call.
 
 ghost use Rattle.std.specs.Prelude.{◌≡◌};
 ghost use Rattle.xbar_office.specs.Standing.{path_of as path_of_line, path_at as path_at_place, ends_at_register as ends_at_register_of, register_path as register_path_of, other_path as other_path_of};
@@ -18,6 +18,7 @@ pub fn path_of(paths: &[Path], line: Len) -> Option<Path>
     None
 }
 
+/// The path that ends at a trunk place, if there is one.
 fn path_at(paths: &[Path], place: Ten) -> Option<Path>
     ensures { result ≡ path_at_place paths.now place }
 {
@@ -29,6 +30,7 @@ fn path_at(paths: &[Path], place: Ten) -> Option<Path>
     None
 }
 
+/// Whether the path ends at a register.
 fn ends_at_register(plan: &Plan, path: &Path) -> bool
     ensures { result ≡ ends_at_register_of plan.now path.now }
 {
@@ -38,7 +40,7 @@ fn ends_at_register(plan: &Plan, path: &Path) -> bool
     }
 }
 
-/// The path by which a line has a register.
+/// The path from a line to its register, if it has one.
 pub fn register_path(plan: &Plan, paths: &[Path], line: Len) -> Option<Path>
     ensures { result ≡ register_path_of plan.now paths.now line }
 {
@@ -50,7 +52,7 @@ pub fn register_path(plan: &Plan, paths: &[Path], line: Len) -> Option<Path>
     }
 }
 
-/// The path of the other party, where a path's place is of a pair.
+/// The path of the other party: the one at the other place, if the path's place is one of a pair.
 pub fn other_path(plan: &Plan, paths: &[Path], own: &Path) -> Option<Path>
     ensures { result ≡ other_path_of plan.now paths.now own.now }
 {

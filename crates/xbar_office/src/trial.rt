@@ -1,4 +1,4 @@
-//! A trial: join the parties to a member of a trunk group.
+//! A trial: tries to join the parties of a job to a member of a trunk group.
 
 ghost use Rattle.std.specs.Prelude.{◌≡◌, ◌<◌, find};
 ghost use Rattle.xbar_plan.specs.Tables.{is_faulty};
@@ -8,10 +8,11 @@ use crate::sets::find_path;
 use xbar_equip::{Len, Link, Path, Ten};
 use xbar_plan::{Member, Plan};
 
-/// The lines that a job wants to join to a member of a trunk group.
+/// The lines to be joined to a member of a trunk group.
 #[derive(Clone, Copy, Debug, PartialEq, Eq)]
 pub struct Parties {
     pub calling: Len,
+    /// The called line, only in a call inside the office.
     pub called: Option<Len>,
 }
 
@@ -22,7 +23,7 @@ pub struct Leg {
     pub place: Ten,
 }
 
-/// The paths of a call: from the calling line, and in a call inside the office from the called line.
+/// The paths of a call: the calling line's, and in a call inside the office the called line's.
 #[derive(Clone, Copy, Debug, PartialEq, Eq)]
 pub struct CallPaths {
     pub calling: Path,
@@ -30,9 +31,9 @@ pub struct CallPaths {
 }
 
 impl CallPaths {
-    ghost use Rattle.xbar_office.specs.Room.{call_count};
+    ghost use Rattle.xbar_office.specs.AddedPaths.{call_count};
 
-    /// 1, or 2 inside the office.
+    /// The number of paths: 1, or 2 inside the office.
     pub fn count(&self) -> usize
         ensures { result ≡ call_count self.now }
     {
@@ -46,12 +47,15 @@ impl CallPaths {
 /// How a trial ends.
 #[derive(Clone, Copy, Debug, PartialEq, Eq)]
 pub enum TrialEnd {
+    /// These paths were chosen, and none of their links is out of order.
     Chosen(CallPaths),
     /// The first link of the chosen paths that is out of order.
     Faulty(Link),
+    /// One of the paths found no idle channel.
     NoChannel,
 }
 
+/// The called line and the member's second place, if there are both.
 fn called_leg(parties: &Parties, member: &Member) -> Option<Leg>
     ensures { result ≡ called_leg_of parties.now member.now }
 {
@@ -61,6 +65,8 @@ fn called_leg(parties: &Parties, member: &Member) -> Option<Leg>
     }
 }
 
+/// The calling path with a path for the leg, if there is a leg. `None` if the leg has no idle
+/// channel.
 fn with_called(paths: &[Path], start: u8, leg: Option<Leg>, calling: &Path) -> Option<CallPaths>
     requires { start < 10 }
     ensures { result ≡ with_called_of paths.now start leg calling.now }
@@ -80,6 +86,7 @@ fn with_called(paths: &[Path], start: u8, leg: Option<Leg>, calling: &Path) -> O
     }
 }
 
+/// The paths that join the parties to the member. `None` if one of them has no idle channel.
 fn matched(paths: &[Path], start: u8, parties: &Parties, member: &Member) -> Option<CallPaths>
     requires { start < 10 }
     ensures { result ≡ matched_of paths.now start parties.now member.now }
@@ -88,6 +95,7 @@ fn matched(paths: &[Path], start: u8, parties: &Parties, member: &Member) -> Opt
     with_called(paths, start, called_leg(parties, member), &calling)
 }
 
+/// The first link of the path that is out of order.
 fn first_faulty(plan: &Plan, path: &Path) -> Option<Link>
     ensures { result ≡ find (is_faulty plan.now) (links path.now) }
 {
@@ -103,6 +111,7 @@ fn first_faulty(plan: &Plan, path: &Path) -> Option<Link>
     None
 }
 
+/// The first link of the called path, if there is one, that is out of order.
 fn first_faulty_called(plan: &Plan, called: &Option<Path>) -> Option<Link>
     ensures { result ≡ find (is_faulty plan.now) (called_links called.now) }
 {
@@ -112,6 +121,7 @@ fn first_faulty_called(plan: &Plan, called: &Option<Path>) -> Option<Link>
     }
 }
 
+/// The end of a trial that chose these paths.
 fn end_of_chosen(plan: &Plan, call: &CallPaths) -> TrialEnd
     ensures { result ≡ end_of_chosen_by plan.now call.now }
 {
@@ -127,7 +137,7 @@ fn end_of_chosen(plan: &Plan, call: &CallPaths) -> TrialEnd
 impl TrialEnd {
     ghost use Rattle.xbar_office.specs.Trial.{end_of};
 
-    /// How a trial ends that found these paths, or no channel.
+    /// The end of a trial that found these paths, or `None` if it found no channel.
     pub fn of(plan: &Plan, found: Option<CallPaths>) -> Self
         ensures { result ≡ end_of plan.now found }
     {
@@ -138,7 +148,7 @@ impl TrialEnd {
     }
 }
 
-/// A trial on a member, with this start of the channel test.
+/// Makes a trial on a member, with the channel test from `start` on.
 pub fn trial(plan: &Plan, paths: &[Path], start: u8, parties: &Parties, member: &Member) -> TrialEnd
     requires { start < 10 }
     ensures { result ≡ trial_of plan.now paths.now start parties.now member.now }

@@ -1,4 +1,4 @@
-//! Two trials: on one member of a trunk group, and on the idle one that follows it.
+//! Two trials: the first on one member of a trunk group, the second on the next idle one.
 
 ghost use Rattle.std.specs.Prelude.{◌≡◌, ◌<◌, ◌≤◌, length};
 ghost use Rattle.xbar_office.specs.TwoTrials.{second_decides as second_decides_of, two_trials as two_trials_of};
@@ -10,20 +10,20 @@ use crate::trial::{CallPaths, Parties, TrialEnd, trial};
 use xbar_equip::Path;
 use xbar_plan::{Member, Plan};
 
-/// What a trial that succeeded chose.
+/// What a successful trial chose.
 #[derive(Clone, Copy, Debug, PartialEq, Eq)]
 pub struct Choice {
-    /// 1 or 2.
+    /// The number of the trial, 1 or 2.
     pub trial: u8,
-    /// The member of the group, counted from 0.
+    /// The index of the member in its group, counted from 0.
     pub index: u8,
     pub paths: CallPaths,
 }
 
-/// What two trials come to, with the cards of those that met a faulty link.
+/// The outcome of two trials, with a card for each that met a faulty link.
 #[derive(Debug, Drop)]
 pub struct Trials {
-    /// None where both failed.
+    /// `None` if both trials failed.
     pub choice: Option<Choice>,
     pub cards: Cards,
 }
@@ -32,7 +32,7 @@ impl Trials {
     ghost use Rattle.std.specs.Prelude.{[], length, ◌≤◌, Some};
     ghost use Rattle.xbar_office.specs.Done.{chosen_paths};
 
-    /// The paths that were chosen, if any.
+    /// The chosen paths, if any.
     pub fn paths(&self) -> Option<CallPaths>
         ensures { result ≡ chosen_paths self.now.choice }
     {
@@ -42,7 +42,7 @@ impl Trials {
         }
     }
 
-    /// The first trial chose these paths, so there is no second one.
+    /// The outcome if the first trial chose these paths. There is then no second one.
     pub fn first(index: u8, paths: &CallPaths) -> Self
         ensures { result ≡ record {
           choice = Some
@@ -61,8 +61,8 @@ impl Trials {
         }
     }
 
-    /// The first trial failed, with this card or with none, and the second one, on the member of
-    /// this number, ended so.
+    /// The outcome if the first trial failed, with this card or with none, and the second, on the
+    /// member at `index`, ended with `end`.
     pub fn second(mut cards: Cards, index: u8, end: TrialEnd) -> Self
         requires { length cards ≤ 1 }
         ensures { result ≡ second_decides_of cards index end }
@@ -86,8 +86,9 @@ impl Trials {
     }
 }
 
-/// The first trial is on this member, with the channels from 0 on; the second on the idle member
-/// that follows it, or on the same one, from channel 5 on.
+/// Makes the first trial on member `first`, with the channels from 0 on. If it fails, makes the
+/// second on the next idle member, or on the same one if there is none, with the channels from 5
+/// on.
 pub fn two_trials(
     plan: &Plan,
     paths: &[Path],

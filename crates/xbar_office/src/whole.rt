@@ -1,4 +1,4 @@
-//! Jobs done whole: each changes a set of paths, and answers its reply.
+//! Jobs done whole: each changes a set of paths and returns its reply.
 
 ghost use Rattle.std.specs.Prelude.{◌≡◌, ◌<◌, length, IfOk, OnOk, OnErr};
 ghost use Rattle.xbar_equip.specs.Dialled.{IsDialled};
@@ -18,7 +18,7 @@ use xbar_equip::{Dialled, Len, Path};
 use xbar_plan::Plan;
 use xbar_plan::laws::every_plan_is_lawful;
 
-/// Finds a line a register.
+/// Does a dial tone job: connects a line to a register.
 pub fn dial(plan: &Plan, paths: &mut Vec<Path>, line: Len) -> Result<Reply, AllocError>
     ensures reply { IfOk result (λ reply. reply ≡ (dial_of plan.now paths.old.items line).reply) }
     ensures ok { OnOk result (paths.new.items ≡ (dial_of plan.now paths.old.items line).paths) }
@@ -33,7 +33,7 @@ pub fn dial(plan: &Plan, paths: &mut Vec<Path>, line: Len) -> Result<Reply, Allo
     Ok(reply)
 }
 
-/// Gives a line's register back, and joins the line to what it dialled.
+/// Does a completing job: frees a line's register, and connects the line to what it dialled.
 pub fn complete(
     plan: &Plan,
     paths: &mut Vec<Path>,
@@ -63,7 +63,7 @@ pub fn complete(
     Ok(reply)
 }
 
-/// Takes the paths of a line's call out.
+/// Does a release job: removes the paths of a line's call.
 pub fn release(plan: &Plan, paths: &mut Vec<Path>, line: Len) -> Reply
     ensures reply { result ≡ (release_of plan.now paths.old.items line).reply }
     ensures paths { paths.new.items ≡ (release_of plan.now paths.old.items line).paths }

@@ -8,7 +8,7 @@ use Rattle.xbar_equip.specs.declared.link.LinkKind.TheVariants.{LineLink, Juncto
 use Rattle.xbar_office_drawing.specs.declared.owned_card.OwnedCard.{OwnedCard}
 use Rattle.xbar_office_drawing.specs.Figures.{box, point, sheet, stroke, words}
 
--- how high a card is, with the room round it
+-- the height of a card, with the space around it
 abbrev pub card_height : ℕ
 card_height = 250
 
@@ -21,10 +21,11 @@ edges =
     ∷ stroke (point 40 240) (point 40 34) (codes "edge")
     ∷ stroke (point 40 34) (point 64 10) (codes "edge") ∷ []
 
--- how a place of a card looks, punched or not
+-- the class of a place of a card, punched or not
 abbrev pub punch_class : Bool → List ℕ
 punch_class punched = if punched then codes "hole" else codes "place"
 
+-- a place of a card, punched or not
 unfoldable pub punch : ℕ → ℕ → Bool → Figure
 punch x y punched = box (point x y) 9 15 (punch_class punched)
 
@@ -34,16 +35,16 @@ entry left name value =
     words (point left 66) (codes "small") name
     ∷ words (point left 84) (codes "plain") (decimal value) ∷ []
 
--- what a card tells
-abbrev pub told_words : OwnedCard → Figure
-told_words owned =
+-- the text of a card: which link is faulty
+abbrev pub card_words : OwnedCard → Figure
+card_words owned =
     words (point 550 40) (codes "told") (link_text owned.card.link ++ codes " is faulty")
 
--- which link is faulty
+-- the title of a card, with its text
 unfoldable pub card_title : OwnedCard → List Figure
-card_title owned = words (point 90 40) (codes "big") (codes "TROUBLE") ∷ told_words owned ∷ []
+card_title owned = words (point 90 40) (codes "big") (codes "TROUBLE") ∷ card_words owned ∷ []
 
--- whose card it is, and in which trial the link was met
+-- the turn, job and marker that a card belongs to, and the trial that met the link
 unfoldable pub card_owner : OwnedCard → List Figure
 card_owner owned =
     entry 90 (codes "turn") owned.turn ++ entry 270 (codes "job") owned.job_no
@@ -55,13 +56,14 @@ kind_place column name punched =
     punch (210 + 110 * column) 102 punched
     ∷ words (point (226 + 110 * column) 114) (codes "small") name ∷ []
 
+-- the three kinds of link, of which one is punched
 unfoldable pub kind_places : LinkKind → List Figure
 kind_places kind =
     kind_place 0 (codes "line link") (kind_eq kind LineLink)
     ++ kind_place 1 (codes "junctor") (kind_eq kind Junctor)
     ++ kind_place 2 (codes "trunk link") (kind_eq kind TrunkLink)
 
--- the digits above the rows of ten places
+-- a digit above the rows of ten places
 unfoldable pub digit_head : ℕ → Figure
 digit_head digit = words (point (214 + 34 * digit) 140) (codes "small middle") (decimal digit)
 
@@ -69,24 +71,25 @@ digit_head digit = words (point (214 + 34 * digit) 140) (codes "small middle") (
 unfoldable pub digit_punch : ℕ → ℕ → ℕ → Figure
 digit_punch y digit place = punch (210 + 34 * place) y (place == digit)
 
--- a digit in a row of ten places
+-- a digit as a row of ten places, after its name
 unfoldable pub digit_places : ℕ → List ℕ → ℕ → List Figure
 digit_places row name digit =
     words (point 194 (162 + 28 * row)) (codes "small end") name
     ∷ map (digit_punch (150 + 28 * row) digit) (range_with_len 0 10)
 
--- what the first two digits of a link are
+-- the name of the first digit of a link
 abbrev pub first_name : LinkKind → List ℕ
 first_name LineLink = codes "line link frame"
 first_name Junctor = codes "line link frame"
 first_name TrunkLink = codes "trunk link frame"
 
+-- the name of the second digit of a link
 abbrev pub second_name : LinkKind → List ℕ
 second_name LineLink = codes "line switch"
 second_name Junctor = codes "trunk link frame"
 second_name TrunkLink = codes "trunk switch"
 
--- the link as it is punched: its kind, and a row for each of its digits
+-- a link as it is punched: its kind, and a row for each of its digits
 unfoldable pub link_places : Link → List Figure
 link_places link =
     kind_places link.kind ++ map digit_head (range_with_len 0 10)

@@ -18,16 +18,17 @@ use Rattle.xbar_office_drawing.specs.OfficeMap.{use_class}
 abbrev pub row_at : ℕ → ℕ
 row_at number = 104 + 31 * number
 
--- how a switch looks, which the path may use
+-- the class of a switch, by whether the path uses it
 abbrev pub switch_class : ℕ → ℕ → List ℕ
 switch_class used number = if number == used then codes "used" else codes "switch"
 
+-- the box of a switch, and its number
 unfoldable pub switch_box : ℕ → ℕ → ℕ → List Figure
 switch_box left used number =
     box (point left (row_at number - 11)) 70 22 (switch_class used number)
     ∷ words (point (left + 35) (row_at number + 4)) (codes "middle") (decimal number) ∷ []
 
--- ten of them, of which the path uses one, below what they are
+-- ten switches, of which the path uses one, below their name
 unfoldable pub column : ℕ → List ℕ → ℕ → List Figure
 column left name used =
     words (point (left + 35) 82) (codes "small middle") name
@@ -39,11 +40,11 @@ frame left name number =
     box (point left 46) 330 356 (codes "frame")
     ∷ words (point (left + 165) 64) (codes "middle") (name ++ decimal number) ∷ []
 
--- how a link looks that no path of the picture takes: one that is out of order is dashed
+-- the class of a link that isn't drawn as a part of the path: one that is out of order is dashed
 abbrev pub link_class : Tables → Link → List ℕ
 link_class plan link = if is_faulty plan link then codes "fault" else codes "idle"
 
--- the three links by which a path of another channel would come from the line to the place
+-- the three links of this channel from the path's line to its trunk place
 unfoldable pub links_of : Tables → Path → ℕ → List Figure
 links_of plan path channel =
     let other = path_by path.line path.place channel in
@@ -54,7 +55,7 @@ links_of plan path channel =
     ∷ stroke (point 610 (row_at channel)) (point 760 (row_at path.place.switch))
     (link_class plan (trunk_link other)) ∷ []
 
--- the path: its line, the three links, and what stands at its place
+-- the path itself: its line, its three links, and the stroke to what it leads to
 unfoldable pub path_strokes : Tables → Path → List Figure
 path_strokes plan path =
     let line = row_at path.line.switch in
@@ -67,7 +68,7 @@ path_strokes plan path =
     ∷ stroke (point 610 channel) (point 760 place) class
     ∷ stroke (point 830 place) (point 980 place) class ∷ []
 
--- and their names
+-- the names of the line, of the links and of what the path leads to
 unfoldable pub path_names : Tables → Path → List Figure
 path_names plan path =
     let line = row_at path.line.switch in
@@ -79,16 +80,17 @@ path_names plan path =
     ∷ words (point 685 ((channel + place) / 2 + 4)) (codes "name") (link_text (trunk_link path))
     ∷ words (point 856 (place - 7)) (codes "small") (end_text plan path) ∷ []
 
--- which line comes to what, and where, over which channel
-unfoldable pub path_told : Tables → Path → List ℕ
-path_told plan path =
+-- the line of a path, its channel, what it leads to, and its trunk place, in words
+unfoldable pub path_heading : Tables → Path → List ℕ
+path_heading plan path =
     concat (codes "line " ∷ line_text path.line ∷ codes ", channel " ∷ channel_text path.channel
     ∷ codes ", " ∷ end_text plan path ∷ codes " at place " ∷ place_text path.place ∷ [])
 
+-- the title of a path, and the path in words
 unfoldable pub path_title : Tables → Path → List Figure
 path_title plan path =
     words (point 40 30) (codes "big") (path_text path)
-    ∷ words (point 190 30) (codes "plain") (path_told plan path) ∷ []
+    ∷ words (point 190 30) (codes "plain") (path_heading plan path) ∷ []
 
 -- the two frames of a path with the links between their switches
 unfoldable pub frames_and_links : Tables → Path → List Figure

@@ -12,7 +12,7 @@ use std::alloc::{AllocError, Global};
 use svg::{Point, add_line, add_rectangle, add_words};
 use xbar_equip::{Link, LinkKind};
 
-/// How high a card is, with the room round it.
+/// The height of a card, with the space around it.
 pub const CARD_HEIGHT: u16 = 250;
 
 /// Adds a card.
@@ -58,7 +58,7 @@ fn add_card_title(alloc: Global, text: &mut String, owned: &OwnedCard) -> Result
     Ok(())
 }
 
-/// Adds whose card it is, and in which trial the link was met.
+/// Adds the turn, job and marker that the card belongs to, and the trial that met the link.
 #[tactic(auto, unfolding(crate::specs::CardFace::card_owner))]
 fn add_owner(alloc: Global, text: &mut String, owned: &OwnedCard) -> Result<(), AllocError>
     ensures { OnOk result (string_bytes text.new ≡ string_bytes text.old ++
@@ -71,6 +71,7 @@ fn add_owner(alloc: Global, text: &mut String, owned: &OwnedCard) -> Result<(), 
     Ok(())
 }
 
+/// Adds a number of the card, below its name.
 #[tactic(auto, unfolding(crate::specs::CardFace::entry))]
 fn add_entry(
     alloc: Global,
@@ -88,7 +89,7 @@ fn add_entry(
     Ok(())
 }
 
-/// Adds a link as it is punched.
+/// Adds a link as it is punched: its kind, and a row for each of its digits.
 #[tactic(auto, unfolding(crate::specs::CardFace::link_places))]
 fn add_link_places(alloc: Global, text: &mut String, link: Link) -> Result<(), AllocError>
     ensures { OnOk result (string_bytes text.new ≡ string_bytes text.old ++
@@ -103,7 +104,7 @@ fn add_link_places(alloc: Global, text: &mut String, link: Link) -> Result<(), A
     Ok(())
 }
 
-/// How a place of a card looks, punched or not.
+/// The class of a place of a card, punched or not.
 fn punch_class(punched: bool) -> &'static str
     ensures { result.now ≡ punch_class_of punched }
 {
@@ -140,6 +141,7 @@ fn add_kind(text: &mut String, column: u8, name: &str, punched: bool) -> Result<
     Ok(())
 }
 
+/// Adds the digits above the rows of ten places.
 fn add_digits(alloc: Global, text: &mut String) -> Result<(), AllocError>
     ensures { OnOk result (string_bytes text.new ≡ string_bytes text.old ++
         figures_text (map digit_head (range_with_len 0 10))) }
@@ -160,7 +162,7 @@ fn add_digit(alloc: Global, text: &mut String, digit: u8) -> Result<(), AllocErr
     add_words(text, at, "small middle", content.as_str())
 }
 
-/// Adds a digit in a row of ten places.
+/// Adds a digit as a row of ten places, after its name.
 #[tactic(auto, unfolding(crate::specs::CardFace::digit_places))]
 fn add_places(text: &mut String, row: u8, name: &str, digit: u8) -> Result<(), AllocError>
     ensures { OnOk result (string_bytes text.new ≡ string_bytes text.old ++
@@ -191,6 +193,7 @@ fn add_digit_punch(text: &mut String, y: u16, digit: u8, place: u8) -> Result<()
     add_punch(text, 210 + 34 * u16::from(place), y, place == digit)
 }
 
+/// The name of the first digit of a link of this kind.
 fn first_name(kind: LinkKind) -> &'static str
     ensures { result.now ≡ first_name_of kind }
 {
@@ -200,6 +203,7 @@ fn first_name(kind: LinkKind) -> &'static str
     }
 }
 
+/// The name of the second digit of a link of this kind.
 fn second_name(kind: LinkKind) -> &'static str
     ensures { result.now ≡ second_name_of kind }
 {

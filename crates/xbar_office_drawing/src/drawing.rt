@@ -19,10 +19,10 @@ use xbar_equip::Path;
 use xbar_office::Record;
 use xbar_plan::Plan;
 
-/// How high the picture of a path is.
+/// The height of the picture of a path.
 const PATH_HEIGHT: u16 = 590;
 
-/// How each class looks.
+/// The style sheet, which says how each class looks.
 const STYLE: &str = "\
 text{font:12px Helvetica,Arial,'DejaVu Sans',sans-serif}.sheet{fill:#fff}\
 .frame{fill:#f7f5ee;stroke:#8a8474}.switch{fill:#fff;stroke:#8a8474}\
@@ -35,8 +35,8 @@ text{font:12px Helvetica,Arial,'DejaVu Sans',sans-serif}.sheet{fill:#fff}\
 .name{text-anchor:middle;paint-order:stroke;stroke:#fff;stroke-width:5px;stroke-linejoin:round}\
 .small,.field{font-size:10px;fill:#5f5a4c}.cell{font-size:9px}.big{font-size:17px;font-weight:bold}";
 
-/// The drawing of an office under this plan, in which these paths stand after these records, in SVG:
-/// all paths at a glance, each path, and each trouble card, one below the other, 1,000 units wide.
+/// The drawing in SVG of an office under this plan, with these paths after these records: all
+/// paths at a glance, each path, and each trouble card, one below the other, 1,000 units wide.
 pub fn office_drawing(
     alloc: Global,
     plan: &Plan,
@@ -69,8 +69,8 @@ fn add_drawing(
     Ok(())
 }
 
-/// Adds a picture for a page that has the style sheet: all these paths at a glance, those that are
-/// shown, each through its frames, and the cards, one below the other, 1,000 units wide.
+/// Adds a picture for a page that has the style sheet: all `paths` at a glance, each of the
+/// `shown` paths through its frames, and the cards, one below the other, 1,000 units wide.
 #[tactic(auto, unfolding(crate::specs::Drawing::picture_of))]
 pub fn add_picture(
     alloc: Global,
@@ -97,7 +97,7 @@ pub fn style() -> &'static str
     STYLE
 }
 
-/// How far down the cards begin.
+/// The upper edge of the first card, below this many paths.
 fn cards_top(paths: usize) -> u128
     ensures value { result ≡ cards_top_of paths }
     ensures range { result ≤ 20000000000000000000000 }
@@ -105,13 +105,14 @@ fn cards_top(paths: usize) -> u128
     u128::from(MAP_HEIGHT) + u128::from(PATH_HEIGHT) * paths as u128
 }
 
-/// How high the drawing is.
+/// The height of a drawing that shows this many paths and cards.
 fn drawing_height(paths: usize, cards: usize) -> u128
     ensures { result ≡ drawing_height_of paths cards }
 {
     cards_top(paths) + u128::from(CARD_HEIGHT) * cards as u128
 }
 
+/// Adds the parts of a picture: the map of all paths, the paths that are shown, and the cards.
 #[tactic(auto, unfolding(crate::specs::Drawing::picture_parts))]
 fn add_parts(
     alloc: Global,
@@ -154,7 +155,8 @@ fn add_path_parts(
     paths: &[Path],
 ) -> Result<(), AllocError>
     ensures { OnOk result (string_bytes text.new ≡ string_bytes text.old ++
-        flat_map part_text (stacked path_height map_height (map (path_picture plan.now) paths.now))) }
+        flat_map part_text
+        (stacked path_height map_height (map (path_picture plan.now) paths.now))) }
 {
     let mut down = u128::from(MAP_HEIGHT);
     for path in paths {
@@ -181,6 +183,7 @@ fn add_path_part(
     Ok(())
 }
 
+/// Adds a path through its frames, and below them its four switches.
 #[tactic(auto, unfolding(crate::specs::Drawing::path_picture))]
 fn add_path(alloc: Global, text: &mut String, plan: &Plan, path: &Path) -> Result<(), AllocError>
     ensures { OnOk result (string_bytes text.new ≡ string_bytes text.old ++

@@ -3,7 +3,7 @@
 ghost use Rattle.std.specs.Prelude.{◌≡◌, ◌++◌, ◌<◌, ◌≤◌, IfOk, OnOk, flat_map, string_bytes};
 ghost use Rattle.std.specs.List.{range_with_len};
 ghost use Rattle.xbar_office_drawing.specs.Figures.{figures_text};
-ghost use Rattle.xbar_office_drawing.specs.Frames.{column, columns, frame, frames_and_links, frames_picture, link_class as link_class_of, links_of, path_names, path_strokes, path_title, path_told as path_told_of, row_at as row_of, switch_box, switch_class as switch_class_of};
+ghost use Rattle.xbar_office_drawing.specs.Frames.{column, columns, frame, frames_and_links, frames_picture, link_class as link_class_of, links_of, path_names, path_strokes, path_title, path_heading as path_heading_of, row_at as row_of, switch_box, switch_class as switch_class_of};
 
 use crate::use_class::use_class;
 use std::alloc::{AllocError, Global};
@@ -31,10 +31,10 @@ pub fn add_frames(
     Ok(())
 }
 
-/// Which line comes to what, and where, over which channel.
-#[tactic(auto, unfolding(crate::specs::Frames::path_told))]
-fn path_told(alloc: Global, plan: &Plan, path: &Path) -> Result<String, AllocError>
-    ensures { IfOk result (λ text. string_bytes text ≡ path_told_of plan.now path.now) }
+/// The line of a path, its channel, what it leads to, and its trunk place, in words.
+#[tactic(auto, unfolding(crate::specs::Frames::path_heading))]
+fn path_heading(alloc: Global, plan: &Plan, path: &Path) -> Result<String, AllocError>
+    ensures { IfOk result (λ text. string_bytes text ≡ path_heading_of plan.now path.now) }
 {
     let Path {
         line,
@@ -51,7 +51,7 @@ fn add_title(alloc: Global, text: &mut String, plan: &Plan, path: &Path) -> Resu
         figures_text (path_title plan.now path.now)) }
 {
     let title = format!(in alloc; "{path}")?;
-    let told = path_told(alloc, plan, path)?;
+    let told = path_heading(alloc, plan, path)?;
     add_words(text, Point::new(40, 30), "big", title.as_str())?;
     add_words(text, Point::new(190, 30), "plain", told.as_str())?;
     Ok(())
@@ -112,6 +112,7 @@ fn add_columns(alloc: Global, text: &mut String, path: &Path) -> Result<(), Allo
     Ok(())
 }
 
+/// Adds ten switches, of which the path uses one, below their name.
 #[tactic(auto, unfolding(crate::specs::Frames::column))]
 fn add_column(
     alloc: Global,
@@ -140,7 +141,7 @@ fn add_switches(alloc: Global, text: &mut String, left: u16, used: u8) -> Result
     Ok(())
 }
 
-/// How a switch looks, which the path may use.
+/// The class of a switch, by whether the path uses it.
 fn switch_class(used: u8, number: u8) -> &'static str
     ensures { result.now ≡ switch_class_of used number }
 {
@@ -182,14 +183,14 @@ fn add_all_links(text: &mut String, plan: &Plan, path: &Path) -> Result<(), Allo
     Ok(())
 }
 
-/// How a link looks that no path of the picture takes.
+/// The class of a link that isn't drawn as a part of the path.
 fn link_class(plan: &Plan, link: Link) -> &'static str
     ensures { result.now ≡ link_class_of plan.now link }
 {
     if plan.faulty(link) { "fault" } else { "idle" }
 }
 
-/// Adds the three links by which a path of another channel would come from the line to the place.
+/// Adds the three links of this channel from the path's line to its trunk place.
 #[tactic(auto, unfolding(crate::specs::Frames::links_of))]
 fn add_links(text: &mut String, plan: &Plan, path: &Path, channel: u8) -> Result<(), AllocError>
     requires { channel < 10 }
@@ -228,6 +229,7 @@ fn add_links(text: &mut String, plan: &Plan, path: &Path, channel: u8) -> Result
     Ok(())
 }
 
+/// Adds the path itself: its line, its three links, and the stroke to what it leads to.
 #[tactic(auto, unfolding(crate::specs::Frames::path_strokes))]
 fn add_strokes(text: &mut String, plan: &Plan, path: &Path) -> Result<(), AllocError>
     ensures { OnOk result (string_bytes text.new ≡ string_bytes text.old ++
@@ -255,6 +257,7 @@ fn add_strokes(text: &mut String, plan: &Plan, path: &Path) -> Result<(), AllocE
     Ok(())
 }
 
+/// Adds the names of the line, of the links and of what the path leads to.
 #[tactic(auto, unfolding(crate::specs::Frames::path_names))]
 fn add_names(alloc: Global, text: &mut String, plan: &Plan, path: &Path) -> Result<(), AllocError>
     ensures { OnOk result (string_bytes text.new ≡ string_bytes text.old ++

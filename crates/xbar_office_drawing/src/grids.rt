@@ -1,4 +1,4 @@
-//! The four switches of a path.
+//! The four switches of a path, each drawn as a grid.
 
 ghost use Rattle.std.specs.Prelude.{◌≡◌, ◌++◌, ◌≤◌, IfOk, OnOk, map, string_bytes};
 ghost use Rattle.std.specs.List.{range_with_len};
@@ -33,7 +33,7 @@ pub fn add_grids(alloc: Global, text: &mut String, path: &Path) -> Result<(), Al
     Ok(())
 }
 
-/// What a switch is, by its frame and its own number.
+/// The name of a switch: its kind, its frame and its number on the frame.
 #[tactic(auto, unfolding(crate::specs::Grids::switch_name))]
 fn switch_name(alloc: Global, kind: &str, frame: u8, number: u8) -> Result<String, AllocError>
     ensures { IfOk result (λ name. string_bytes name ≡ switch_name_of kind.now frame number) }
@@ -41,7 +41,7 @@ fn switch_name(alloc: Global, kind: &str, frame: u8, number: u8) -> Result<Strin
     format!(in alloc; "{kind}{frame},{number}")
 }
 
-/// Adds a switch of so many columns, with the crosspoint that is closed.
+/// Adds a switch with this many columns, and its closed crosspoint.
 #[tactic(auto, unfolding(crate::specs::Grids::grid))]
 fn add_grid(
     alloc: Global,
@@ -65,6 +65,7 @@ fn add_grid(
     Ok(())
 }
 
+/// Adds the ten bars of a switch, one for each field.
 fn add_bars(text: &mut String, left: u16, columns: u8) -> Result<(), AllocError>
     requires { left ≤ 1000 }
     ensures { OnOk result (string_bytes text.new ≡ string_bytes text.old ++
@@ -92,6 +93,7 @@ fn add_bar(text: &mut String, left: u16, columns: u8, field: u8) -> Result<(), A
     )
 }
 
+/// Adds the uprights that the bars cross, one for each place of the switch.
 fn add_uprights(text: &mut String, left: u16, columns: u8) -> Result<(), AllocError>
     requires { left ≤ 1000 }
     ensures { OnOk result (string_bytes text.new ≡ string_bytes text.old ++
@@ -118,6 +120,7 @@ fn add_upright(text: &mut String, left: u16, place: u8) -> Result<(), AllocError
     )
 }
 
+/// Adds the closed crosspoint, with the strokes that lead through it.
 #[tactic(auto, unfolding(crate::specs::Grids::closed_point))]
 fn add_closed_point(text: &mut String, left: u16, crosspoint: &Crosspoint) -> Result<(), AllocError>
     requires left { 6 ≤ left }
@@ -137,6 +140,7 @@ fn add_closed_point(text: &mut String, left: u16, crosspoint: &Crosspoint) -> Re
     Ok(())
 }
 
+/// Adds the word of the switch, the field, and the value that the field holds.
 #[tactic(auto, unfolding(crate::specs::Grids::field_words))]
 fn add_field_words(
     alloc: Global,

@@ -1,4 +1,4 @@
-//! All paths at a glance.
+//! The map of an office: all paths at a glance.
 
 ghost use Rattle.std.specs.Prelude.{◌≡◌, ◌++◌, IfOk, OnOk, flat_map, string_bytes};
 ghost use Rattle.std.specs.List.{range_with_len};
@@ -13,7 +13,7 @@ use svg::{Point, add_line, add_rectangle, add_words};
 use xbar_equip::Path;
 use xbar_plan::Plan;
 
-/// How high the map is.
+/// The height of the map.
 pub const MAP_HEIGHT: u16 = 1360;
 
 /// Adds all paths at a glance.
@@ -35,7 +35,7 @@ pub fn add_map(
     Ok(())
 }
 
-/// How many paths there are, and so how many crosspoints are closed.
+/// The number of paths, and the number of crosspoints that they close.
 #[tactic(auto, unfolding(crate::specs::OfficeMap::count_text))]
 fn count_text(alloc: Global, count: usize) -> Result<String, AllocError>
     ensures { IfOk result (λ text. string_bytes text ≡ count_text_of count) }
@@ -52,7 +52,7 @@ fn add_title(alloc: Global, text: &mut String, count: usize) -> Result<(), Alloc
     add_words(text, Point::new(40, 34), "big", title.as_str())
 }
 
-/// Adds what the two looks of a path mean.
+/// Adds the key to the two classes of paths.
 #[tactic(auto, unfolding(crate::specs::OfficeMap::map_key))]
 fn add_key(text: &mut String) -> Result<(), AllocError>
     ensures { OnOk result (string_bytes text.new ≡ string_bytes text.old ++
@@ -75,6 +75,7 @@ fn add_all_frames(alloc: Global, text: &mut String) -> Result<(), AllocError>
     Ok(())
 }
 
+/// Adds the line link frame and the trunk link frame with this number.
 #[tactic(auto, unfolding(crate::specs::OfficeMap::two_frames))]
 fn add_two_frames(alloc: Global, text: &mut String, frame: u8) -> Result<(), AllocError>
     ensures { OnOk result (string_bytes text.new ≡ string_bytes text.old ++
@@ -85,6 +86,7 @@ fn add_two_frames(alloc: Global, text: &mut String, frame: u8) -> Result<(), All
     Ok(())
 }
 
+/// Adds the box of a frame, below its name.
 #[tactic(auto, unfolding(crate::specs::OfficeMap::frame_box))]
 fn add_frame_box(
     alloc: Global,
@@ -110,7 +112,7 @@ fn frame_top(frame: u8) -> u16
     76 + 128 * u16::from(frame)
 }
 
-/// The upper edge of the row of a channel in it.
+/// The upper edge of the row of a channel in the box of its frame.
 fn channel_top(frame: u8, channel: u8) -> u16
     ensures { result ≡ channel_top_of frame channel }
 {
@@ -132,6 +134,7 @@ fn add_paths(
     Ok(())
 }
 
+/// Adds a path: its line, its trunk place, and a stroke between their frames.
 #[tactic(auto, unfolding(crate::specs::OfficeMap::path_on_map))]
 fn add_path(alloc: Global, text: &mut String, plan: &Plan, path: &Path) -> Result<(), AllocError>
     ensures { OnOk result (string_bytes text.new ≡ string_bytes text.old ++

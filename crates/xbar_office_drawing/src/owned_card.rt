@@ -4,7 +4,7 @@ ghost use Rattle.xbar_office_drawing.specs.Drawing.{all_cards as all_cards_of, c
 use std::alloc::{AllocError, Global};
 use xbar_office::{Card, Record};
 
-/// A trouble card with whose it is.
+/// A trouble card, with the turn, job and marker of its record.
 #[derive(Clone, Copy, Debug, PartialEq, Eq)]
 pub struct OwnedCard {
     pub turn: u64,

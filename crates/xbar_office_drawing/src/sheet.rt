@@ -1,2 +1,2 @@
-/// How wide a drawing is, and so each of its parts.
+/// The width of a drawing and of each of its parts.
 pub const SHEET_WIDTH: u16 = 1000;

@@ -1,4 +1,4 @@
-//! What a path is drawn as: a register's, or a call's.
+//! How a path is drawn: as a register's or as a call's.
 
 ghost use Rattle.std.specs.Prelude.{◌≡◌};
 ghost use Rattle.xbar_office_drawing.specs.OfficeMap.{use_class as use_class_of};

@@ -17,7 +17,7 @@ past_other line rest h = ap (filter is_title) (whole_line_first line rest h.whol
 pub at_title : (line rest : List ℕ) → IsWholeLine line → is_title line ≡ true → filter is_title (lines (line ++ rest)) ≡ line ∷ filter is_title (lines rest)
 at_title line rest w h = ap (filter is_title) (whole_line_first line rest w) ∙ rw h
 
--- before whatever it stands, the text adds no title
+-- the text adds no title, whatever follows it
 pub record HasNoTitle (text : List ℕ) : Type 0 where
   pub skips : (rest : List ℕ) → filter is_title (lines (text ++ rest)) ≡ filter is_title (lines rest)
 

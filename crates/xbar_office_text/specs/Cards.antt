@@ -5,7 +5,7 @@ use Rattle.xbar_office.specs.declared.reply.Card.{Card}
 use Rattle.xbar_office.specs.declared.reply.Record.{Record}
 use Rattle.xbar_office_text.specs.CardRows.{row, link_rows}
 
--- what a card is about
+-- the title of a card: which link is faulty
 unfoldable pub title_row : Card → List ℕ
 title_row card =
     row (codes "  /  ") (concat
@@ -17,7 +17,7 @@ job_row owner =
     row (codes " /   ") (concat
     (codes "turn " ∷ decimal owner.turn ∷ codes ", job " ∷ decimal owner.job_no ∷ []))
 
--- who met the link, and in which trial
+-- the marker that met the link, and in which trial
 unfoldable pub trial_row : Record → Card → List ℕ
 trial_row owner card =
     row (codes "|    ") (concat

@@ -10,11 +10,11 @@ abbrev pub link_numbered : LinkKind → ℕ → Link
 link_numbered kind number =
     record { kind = kind; frame = number / 100; at = number / 10 % 10; channel = number % 10 }
 
--- the first links of a kind, in the order of their digits
+-- the first `count` links of a kind, in the order of their digits
 unfoldable pub first_links : LinkKind → ℕ → List Link
 first_links kind count = map (link_numbered kind) (range_with_len 0 count)
 
--- of the thousand links of each kind those that are out of order
+-- the links that are out of order, among the thousand links of each kind
 unfoldable pub faults_of : Tables → List Link
 faults_of plan =
     filter (is_faulty plan)
@@ -36,7 +36,7 @@ fault_line link =
     concat (link_text link ∷ codes ": channel " ∷ decimal link.channel ∷ codes ", "
     ∷ whereabouts link.kind link ∷ codes "\n" ∷ [])
 
--- a line for each link, below a heading; nothing where there is none
+-- a line for each link, below a heading; nothing if there is none
 unfoldable pub fault_lines : List Link → List ℕ
 fault_lines [] = []
 fault_lines (link ∷ links) = codes "\nLINKS OUT OF ORDER\n" ++ flat_map fault_line (link ∷ links)

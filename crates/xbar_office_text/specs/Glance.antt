@@ -14,7 +14,7 @@ glance_line plan path =
     concat (line_text path.line ∷ codes " --[frame " ∷ decimal path.line.frame ∷ codes "]-- channel " ∷ channel_text path.channel
     ∷ codes " --[frame " ∷ decimal path.place.frame ∷ codes "]-- " ∷ place_text path.place ∷ codes "   " ∷ use_text plan path ∷ codes "\n" ∷ [])
 
--- all paths at a glance: a line each, in the order of the set
+-- all paths at a glance: a line each, in the order of the set, or that there is none
 unfoldable pub glance : Tables → List Path → List ℕ
 glance plan [] = codes "No path is up.\n"
 glance plan (path ∷ paths) =

@@ -8,7 +8,7 @@ use Rattle.xbar_equip.specs.Path.{path_text, line_link, junctor, trunk_link}
 use Rattle.xbar_equip.specs.Ten.{place_text}
 use Rattle.xbar_equip.specs.declared.path.Path.{Path}
 
--- which line comes to what, over which channel
+-- the title of a path: its line, what it leads to, and its channel
 unfoldable pub title_line : Path → List ℕ → List ℕ
 title_line path member =
     concat (path_text path ∷ codes ": line " ∷ line_text path.line ∷ codes " to " ∷ member
@@ -19,8 +19,7 @@ unfoldable pub frames_line : Path → List ℕ
 frames_line path =
     concat (codes "         +-- line link frame " ∷ decimal path.line.frame ∷ codes " --+         +- trunk link frame " ∷ decimal path.place.frame ∷ codes " --+\n" ∷ [])
 
--- the path from its line to its place: through a line switch and a junctor switch of either frame,
--- by its three links
+-- the path from its line to its place: through two switches of each frame, over its three links
 unfoldable pub links_line : Path → List ℕ
 links_line path =
     concat (line_text path.line ∷ codes " ----X-------- " ∷ link_text (line_link path) ∷ codes " --------X--" ∷ link_text (junctor path)
@@ -30,7 +29,7 @@ links_line path =
 unfoldable pub edges_line : List ℕ
 edges_line = codes "         +-----------------------+         +-----------------------+\n"
 
--- a switch, by its frame and its own number
+-- a switch, by its frame and its number on the frame
 unfoldable pub switch_text : ℕ → ℕ → List ℕ
 switch_text frame switch = concat (decimal frame ∷ codes "," ∷ decimal switch ∷ [])
 
@@ -43,7 +42,7 @@ switches_line path =
     ∷ codes "                     " ∷ switch_text path.place.frame path.place.switch ∷ codes "\n"
     ∷ [])
 
--- a number below a thousand, at the right of three places
+-- a number below a thousand, right-aligned in three columns
 unfoldable pub in_three : ℕ → List ℕ
 in_three number =
     if nat_lt number 10 then codes "  " ++ decimal number
@@ -57,15 +56,17 @@ numbers_line name (first ∷ second ∷ third ∷ fourth ∷ []) =
     ∷ codes "\n" ∷ [])
 numbers_line name _ = []
 
--- of each crosspoint that the path closes the switch's word, the field, and what the field holds
+-- the row of words: that of each crosspoint that the path closes
 abbrev pub words_line : Path → List ℕ
 words_line path =
     numbers_line (codes "word    ") (map (λ crosspoint. crosspoint.word) (crosspoints path))
 
+-- the row of fields: that of each crosspoint that the path closes
 abbrev pub fields_line : Path → List ℕ
 fields_line path =
     numbers_line (codes "field   ") (map (λ crosspoint. crosspoint.field) (crosspoints path))
 
+-- the row of values: what the field of each of these crosspoints holds
 abbrev pub values_line : Path → List ℕ
 values_line path =
     numbers_line (codes "holds   ") (map (λ crosspoint. crosspoint.value) (crosspoints path))

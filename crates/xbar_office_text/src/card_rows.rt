@@ -1,4 +1,4 @@
-//! The rows of a card, and a link as a card is punched with it.
+//! The rows of a trouble card, and the link that is punched in it.
 
 ghost use Rattle.std.specs.Prelude.{◌≡◌, ◌++◌, OnOk, replicate, string_bytes};
 ghost use Rattle.xbar_office_text.specs.CardRows.{digit_row, filled, first_name as first_name_of, kind_row, link_rows, mark as mark_of, row, second_name as second_name_of, ten_places};
@@ -18,6 +18,7 @@ fn add_blanks(text: &mut String, count: usize) -> Result<(), AllocError>
     Ok(())
 }
 
+/// Adds a text, filled up with blanks to this many places.
 #[tactic(auto, unfolding(crate::specs::CardRows::filled))]
 fn add_filled(text: &mut String, places: usize, content: &str) -> Result<(), AllocError>
     ensures { OnOk result (string_bytes text.new ≡ string_bytes text.old ++
@@ -28,7 +29,7 @@ fn add_filled(text: &mut String, places: usize, content: &str) -> Result<(), All
     Ok(())
 }
 
-/// Adds a row of a card: its left edge, a text with blanks behind it, and the right edge.
+/// Adds a row of a card: its left edge, a text with blanks after it, and the right edge.
 #[tactic(auto, unfolding(crate::specs::CardRows::row))]
 pub fn add_row(text: &mut String, edge: &str, content: &str) -> Result<(), AllocError>
     ensures { OnOk result (string_bytes text.new ≡ string_bytes text.old ++
@@ -40,12 +41,14 @@ pub fn add_row(text: &mut String, edge: &str, content: &str) -> Result<(), Alloc
     Ok(())
 }
 
+/// How a place of a card is written, punched or not.
 fn mark(punched: bool) -> &'static str
     ensures { result.now ≡ mark_of punched }
 {
     if punched { "#" } else { "." }
 }
 
+/// Adds ten places, of which that of the digit is punched.
 #[tactic(auto, unfolding(crate::specs::CardRows::ten_places))]
 fn add_ten_places(text: &mut String, digit: u8) -> Result<(), AllocError>
     ensures { OnOk result (string_bytes text.new ≡ string_bytes text.old ++ ten_places digit) }
@@ -68,6 +71,7 @@ fn add_digit_row(alloc: Global, text: &mut String, name: &str, digit: u8) -> Res
     Ok(())
 }
 
+/// Adds the row of the three kinds of link, of which one is punched.
 #[tactic(auto, unfolding(crate::specs::CardRows::kind_row))]
 fn add_kind_row(alloc: Global, text: &mut String, kind: LinkKind) -> Result<(), AllocError>
     ensures { OnOk result (string_bytes text.new ≡ string_bytes text.old ++ kind_row kind) }
@@ -82,6 +86,7 @@ fn add_kind_row(alloc: Global, text: &mut String, kind: LinkKind) -> Result<(), 
     Ok(())
 }
 
+/// The name of the first digit of a link of this kind.
 fn first_name(kind: LinkKind) -> &'static str
     ensures { result.now ≡ first_name_of kind }
 {
@@ -91,6 +96,7 @@ fn first_name(kind: LinkKind) -> &'static str
     }
 }
 
+/// The name of the second digit of a link of this kind.
 fn second_name(kind: LinkKind) -> &'static str
     ensures { result.now ≡ second_name_of kind }
 {
@@ -101,7 +107,7 @@ fn second_name(kind: LinkKind) -> &'static str
     }
 }
 
-/// Adds a link as a card is punched with it: its kind, and a row for each of its digits.
+/// Adds a link as it is punched in a card: its kind, and a row for each of its digits.
 #[tactic(auto, unfolding(crate::specs::CardRows::link_rows))]
 pub fn add_link_rows(alloc: Global, text: &mut String, link: Link) -> Result<(), AllocError>
     ensures { OnOk result (string_bytes text.new ≡ string_bytes text.old ++ link_rows link) }

@@ -1,4 +1,4 @@
-//! What a path comes to: the member of a trunk group that stands at its place.
+//! What a path leads to: the member of a group at its trunk place.
 
 ghost use Rattle.std.specs.Prelude.{◌≡◌, IfOk, Some, string_bytes};
 ghost use Rattle.xbar_office.specs.Standing.{ends_at_register as ends_at_register_of};
@@ -19,7 +19,7 @@ pub fn ends_at_register(plan: &Plan, path: &Path) -> bool
     }
 }
 
-/// The name of a group; nothing where the plan has no group of this number.
+/// The name of a group; empty if the plan has no group with this number.
 fn group_name(plan: &Plan, group: u8) -> &str
     ensures { result.now ≡ group_name_of plan.now group }
 {
@@ -30,7 +30,7 @@ fn group_name(plan: &Plan, group: u8) -> &str
     }
 }
 
-/// The member that stands where a path ends.
+/// The member at the place where a path ends.
 #[derive(Clone, Copy)]
 struct MemberName<'a>(&'a Plan, &'a Path);
 
@@ -67,7 +67,7 @@ impl fmt::Display for OtherPlace<'_> {
     }
 }
 
-/// Whose a path is: a register's, or that of a call.
+/// Whose a path is, a register's or a call's, and the member where it ends.
 #[derive(Clone, Copy)]
 pub struct PathUse<'a>(pub &'a Plan, pub &'a Path);
 
@@ -87,7 +87,7 @@ impl fmt::Display for PathUse<'_> {
     }
 }
 
-/// What a path comes to: a register, or the trunk of a call.
+/// What a path leads to, with its member, as in `register REG 0` or `trunk OUTA 0`.
 #[tactic(auto, unfolding(crate::specs::Ends::end_text))]
 pub fn path_end(alloc: Global, plan: &Plan, path: &Path) -> Result<String, AllocError>
     ensures { IfOk result (λ text. string_bytes text ≡ end_text plan.now path.now) }

@@ -1,4 +1,4 @@
-//! The links that a plan has as out of order.
+//! The links that are out of order, by the plan's list.
 
 ghost use Rattle.std.specs.Prelude.{◌≡◌, ◌++◌, ◌≤◌, IfOk, OnOk, Some, filter, flat_map, string_bytes};
 ghost use Rattle.xbar_equip.specs.Link.{Link as TheLink};
@@ -10,7 +10,7 @@ use std::fmt;
 use xbar_equip::{Link, LinkKind};
 use xbar_plan::Plan;
 
-/// Adds a line for each link that is out of order, below a heading; nothing where there is none.
+/// Adds a line for each link that is out of order, below a heading. Adds nothing if there is none.
 pub fn add_faults(alloc: Global, text: &mut String, plan: &Plan) -> Result<(), AllocError>
     ensures { OnOk result (string_bytes text.new ≡ string_bytes text.old ++
         fault_lines (faults_of_plan plan.now)) }
@@ -20,6 +20,7 @@ pub fn add_faults(alloc: Global, text: &mut String, plan: &Plan) -> Result<(), A
     Ok(())
 }
 
+/// The links that are out of order, by kind, then by their digits.
 #[tactic(auto, unfolding(crate::specs::Faults::faults_of))]
 fn faults_of(alloc: Global, plan: &Plan) -> Result<Vec<Link>, AllocError>
     ensures { IfOk result (λ links. links.items ≡ faults_of_plan plan.now) }
@@ -31,7 +32,7 @@ fn faults_of(alloc: Global, plan: &Plan) -> Result<Vec<Link>, AllocError>
     Ok(links)
 }
 
-/// Adds those of the first links of a kind that are out of order.
+/// Adds those of the first `count` links of a kind that are out of order.
 #[tactic(auto, unfolding(crate::specs::Faults::first_links))]
 fn add_faulty(
     links: &mut Vec<Link>,

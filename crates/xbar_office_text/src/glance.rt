@@ -6,7 +6,7 @@ use std::alloc::AllocError;
 use xbar_equip::Path;
 use xbar_plan::Plan;
 
-/// Adds all paths at a glance, or that there is none.
+/// Adds all paths at a glance, a line each, or that there is none.
 #[tactic(auto, unfolding(crate::specs::Glance::glance))]
 pub fn add_glance(text: &mut String, plan: &Plan, paths: &[Path]) -> Result<(), AllocError>
     ensures { OnOk result (string_bytes text.new ≡ string_bytes text.old ++

@@ -1,4 +1,4 @@
-//! What holds of the text. Each function does nothing: its contract is the law.
+//! Laws of the text. Each function does nothing: its contract is the law.
 
 ghost use Rattle.std.specs.Prelude.{◌≡◌, ◌+◌, ◌∷◌, List, codes, filter, flat_map, length, map, take};
 ghost use Rattle.xbar_equip.specs.declared.path.Path.{Path as ThePath};
@@ -11,15 +11,16 @@ ghost use Rattle.xbar_office_text.specs.Text.{office_text};
 ghost use Rattle.xbar_equip.specs.TextLines.{lines};
 ghost use Rattle.xbar_office_text.specs.Titles.{is_title};
 
-/// The first lines of the text are a heading and one line for each path of the set, in its order.
+/// Under a lawful plan, if there are paths, the first lines of the text are a heading and one line
+/// for each path of the set, in its order.
 pub fn each_path_has_one_line()
     ensures { (plan : Tables) (path : ThePath) (paths : List ThePath) (records : List TheRecord) →
         IsLawful plan → take (2 + length paths) (lines (office_text plan (path ∷ paths) records)) ≡
         codes "PATHS AT A GLANCE\n" ∷ map (glance_line plan) (path ∷ paths) }
 {}
 
-/// Each card is drawn once: the titles among the lines of the text are those of all cards, in the
-/// order of the records and of their trials.
+/// Under a lawful plan each card is drawn once: the titles among the lines of the text are those
+/// of all cards, in the order of the records and of their trials.
 pub fn each_card_is_drawn_once()
     ensures { (plan : Tables) (paths : List ThePath) (records : List TheRecord) → IsLawful plan →
         filter is_title (lines (office_text plan paths records)) ≡

@@ -7,7 +7,7 @@ use std::alloc::{AllocError, Global};
 use xbar_equip::Path;
 use xbar_plan::Plan;
 
-/// Adds each path in its eight lines.
+/// Adds each path in eight lines, below a heading.
 pub fn add_pictures(
     alloc: Global,
     text: &mut String,

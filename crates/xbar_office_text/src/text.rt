@@ -10,8 +10,8 @@ use xbar_equip::Path;
 use xbar_office::Record;
 use xbar_plan::Plan;
 
-/// The text of an office under this plan, in which these paths stand after these records. Its lines
-/// have at most 80 characters, and each of them ends with a line feed.
+/// The text of an office under this plan, with these paths after these records. Its lines have at
+/// most 80 characters, and each of them ends with a line feed.
 #[tactic(auto, unfolding(crate::specs::Text::office_text))]
 pub fn office_text(
     alloc: Global,

@@ -1,4 +1,4 @@
--- Which section stands where.
+-- Which section is at which index.
 use Rattle.std.proofs.Common.{◌≡◌, ℕ, zero, suc, ◌+◌, List, [], ◌∷◌, length, take, refl, sym, ap, add-one}
 use Rattle.std.specs.Prelude.{Option, Some, slice_get}
 use Rattle.xbar_equip.specs.declared.path.Path.{Path}

@@ -12,14 +12,15 @@ pub record Section : Type 0 where
   pub paths : List Path
   pub links : Links
 
--- the turn of the record at a place, and of the last one, if there is one
+-- the turn of the record at an index, if there is one
 abbrev pub turn_at : List Record → ℕ → Option ℕ
 turn_at records place = option_map (λ r. r.turn) (slice_get records place)
 
+-- the turn of the last record, if there is one
 abbrev pub last_turn : List Record → Option ℕ
 last_turn records = turn_at records (length records - 1)
 
--- the sections of records on a set of paths, behind a turn or none
+-- the sections of records on a set of paths, after a turn or none
 abbrev pub sections_from : Tables → Option ℕ → List Path → Option ℕ → List Record → List Section
 sections_from plan last paths before [] = []
 sections_from plan last paths before (owner ∷ more) =
@@ -30,6 +31,6 @@ sections_from plan last paths before (owner ∷ more) =
     }
     ∷ sections_from plan last (whole plan paths owner.job).paths (Some owner.turn) more
 
--- those of an office that begins with no path
+-- the sections of records on an office that begins with no path
 abbrev pub sections : Tables → List Record → List Section
 sections plan records = sections_from plan (last_turn records) [] None records

@@ -1,4 +1,4 @@
-//! What holds of the page. Each function does nothing: its contract is the law.
+//! Laws of the page. Each function does nothing: its contract is the law.
 
 ghost use Rattle.std.specs.Prelude.{◌≡◌, ℕ, ◌+◌, List, Some, length, slice_get, take};
 ghost use Rattle.xbar_office.specs.Legal.{after};
@@ -6,8 +6,8 @@ ghost use Rattle.xbar_office.specs.declared.reply.Record.{Record as TheRecord};
 ghost use Rattle.xbar_page.specs.Sections.{Section, sections};
 ghost use Rattle.xbar_plan.specs.Tables.{Tables};
 
-/// The page has a section for each record and no other, in their order, and each shows the office
-/// after its turn: that after the records up to and with its own.
+/// The page has exactly one section for each record, in their order. Each shows the office after
+/// its turn, that is, after the records up to and including its own.
 pub fn each_turn_has_its_section()
     ensures count { (plan : Tables) (records : List TheRecord) →
         length (sections plan records) ≡ length records }

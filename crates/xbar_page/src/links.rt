@@ -6,7 +6,8 @@ ghost use Rattle.xbar_page.specs.Links.{link_to, nav_text, no_link, section_name
 use std::alloc::AllocError;
 use std::fmt;
 
-/// Where the links of a turn lead: to the turn before and after it, and to the last, if there is one.
+/// Where the links of a turn lead: to the turns before and after it, if there are any, and to the
+/// last turn.
 #[derive(Clone, Copy)]
 pub struct Links {
     pub before: Option<u64>,
@@ -14,7 +15,7 @@ pub struct Links {
     pub last: Option<u64>,
 }
 
-/// What the section of a turn is named, or that of the office before all turns.
+/// The name of the section of a turn; without a turn, of the office before all turns.
 #[derive(Clone, Copy)]
 pub struct SectionName(pub Option<u64>);
 
@@ -30,6 +31,7 @@ impl fmt::Display for SectionName {
     }
 }
 
+/// Adds a link to a section.
 #[tactic(auto, unfolding(crate::specs::Links::link_to))]
 fn add_link(
     text: &mut String,
@@ -45,6 +47,7 @@ fn add_link(
     Ok(())
 }
 
+/// Adds the label of a link that would lead nowhere.
 #[tactic(auto, unfolding(crate::specs::Links::no_link))]
 fn add_no_link(text: &mut String, label: &str) -> Result<(), AllocError>
     ensures { OnOk result (string_bytes text.new ≡ string_bytes text.old ++ no_link label.now) }
@@ -53,6 +56,7 @@ fn add_no_link(text: &mut String, label: &str) -> Result<(), AllocError>
     Ok(())
 }
 
+/// Adds a link to a turn, or only its label if there is no turn.
 #[tactic(auto, unfolding(crate::specs::Links::turn_link))]
 fn add_turn_link(
     text: &mut String,
@@ -83,7 +87,7 @@ pub fn add_nav(text: &mut String, links: Links) -> Result<(), AllocError>
     Ok(())
 }
 
-/// Adds the links of the office before all turns, of which these are the first and the last.
+/// Adds the links of the office before all turns, to the first turn and to the last.
 #[tactic(auto, unfolding(crate::specs::Links::start_nav_text))]
 pub fn add_start_nav(
     text: &mut String,

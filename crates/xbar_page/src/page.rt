@@ -1,7 +1,7 @@
-//! The page.
+//! The whole page.
 
 ghost use Rattle.std.specs.Prelude.{◌≡◌, ◌++◌, [], IfOk, None, OnOk, flat_map, string_bytes};
-ghost use Rattle.xbar_page.specs.Page.{foot_text, head_text, office_page as the_page, page_style as the_page_style, script as the_script, start_text};
+ghost use Rattle.xbar_page.specs.Page.{foot_text, head_text, office_page as the_page, start_text};
 ghost use Rattle.xbar_page.specs.Section.{section_text};
 ghost use Rattle.xbar_page.specs.Sections.{last_turn as last_turn_of, sections, sections_from, turn_at as turn_at_of};
 
@@ -12,7 +12,8 @@ use xbar_office::{Office, Record};
 use xbar_office_drawing::{add_picture, style};
 use xbar_plan::Plan;
 
-/// How the page looks beside its pictures. Of all sections the one that is named is shown, else the last.
+/// The style sheet of the page, besides that of its pictures. It shows only the section that the
+/// address names, or the last one if it names none.
 const STYLE: &str = "\
 body{margin:0;font:16px Helvetica,Arial,'DejaVu Sans',sans-serif;color:#222}\
 section{display:none;max-width:1480px;margin:auto;padding:16px 24px}\
@@ -33,7 +34,7 @@ background:#fbe9d0;border:1px solid #b9976a;border-radius:4px}\
 @media(max-width:1000px){.turn{display:block}.turn ul{position:static;margin-bottom:16px}\
 .turn svg{width:100%}}";
 
-/// Keys and a button that follow the links of the section that is shown.
+/// The script: keys and a button follow the links of the section that is shown.
 const SCRIPT: &str = "\
 (()=>{const button=document.getElementById('walk'),label=button.textContent;let timer=0;\
 const shown=()=>document.querySelector('section:target')\
@@ -49,8 +50,9 @@ addEventListener('keydown',event=>{const relation=keys[event.key];\
 if(!relation||event.altKey||event.ctrlKey||event.metaKey||event.shiftKey)return;\
 stop();go(relation);event.preventDefault();});button.hidden=false;})();";
 
-/// An office with this plan turn by turn, as one page in HTML with nothing from outside: the empty
-/// office, and for each record its turn, with the office after the jobs of the records up to it.
+/// An office with this plan turn by turn, as one page in HTML that loads nothing from outside: the
+/// empty office, and for each record its turn, with the office after the jobs of the records up to
+/// and including it.
 pub fn office_page(alloc: Global, plan: &Plan, records: &[Record]) -> Result<String, AllocError>
     ensures { IfOk result (λ page. string_bytes page ≡ the_page plan.now records.now) }
 {
@@ -76,21 +78,7 @@ fn add_page(
     Ok(())
 }
 
-#[tactic(auto, unfolding(crate::specs::Page::page_style))]
-fn page_style() -> &'static str
-    ensures { result.now ≡ the_page_style }
-{
-    STYLE
-}
-
-#[tactic(auto, unfolding(crate::specs::Page::script))]
-fn script() -> &'static str
-    ensures { result.now ≡ the_script }
-{
-    SCRIPT
-}
-
-/// Adds what a page begins with, up to its first section.
+/// Adds the beginning of the page, up to its first section.
 #[tactic(auto, unfolding(crate::specs::Page::head_text))]
 fn add_head(text: &mut String) -> Result<(), AllocError>
     ensures { OnOk result (string_bytes text.new ≡ string_bytes text.old ++ head_text) }
@@ -101,7 +89,7 @@ fn add_head(text: &mut String) -> Result<(), AllocError>
         <title>A No. 5 Crossbar office, turn by turn</title>\n<style>",
     )?;
     text.push_str(style())?;
-    text.push_str(page_style())?;
+    text.push_str(STYLE)?;
     text.push_str(
         "</style>\n</head>\n<body>\n\
         <button id=\"walk\" type=\"button\" hidden=\"hidden\">walk through all turns</button>\n",
@@ -109,18 +97,18 @@ fn add_head(text: &mut String) -> Result<(), AllocError>
     Ok(())
 }
 
-/// Adds what a page ends with, behind its last section.
+/// Adds the end of the page, after its last section.
 #[tactic(auto, unfolding(crate::specs::Page::foot_text))]
 fn add_foot(text: &mut String) -> Result<(), AllocError>
     ensures { OnOk result (string_bytes text.new ≡ string_bytes text.old ++ foot_text) }
 {
     text.push_str("<script>")?;
-    text.push_str(script())?;
+    text.push_str(SCRIPT)?;
     text.push_str("</script>\n</body>\n</html>\n")?;
     Ok(())
 }
 
-/// The turn of the record at a place, if there is one.
+/// The turn of the record at an index, if there is one.
 fn turn_at(records: &[Record], place: usize) -> Option<u64>
     ensures { result ≡ turn_at_of records.now place }
 {
@@ -133,7 +121,7 @@ fn last_turn(records: &[Record]) -> Option<u64>
     records.last().map(|record| record.turn)
 }
 
-/// Adds the empty office, before all turns.
+/// Adds the section of the empty office, before all turns.
 #[tactic(auto, unfolding(crate::specs::Page::start_text))]
 fn add_start(
     alloc: Global,
@@ -158,7 +146,7 @@ fn add_start(
     Ok(())
 }
 
-/// Adds the turns.
+/// Adds a section for each turn.
 fn add_sections(
     alloc: Global,
     text: &mut String,

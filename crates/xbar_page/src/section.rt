@@ -1,11 +1,11 @@
-//! A section of the page: a turn.
+//! A section of the page, which shows a turn.
 
 ghost use Rattle.std.specs.Prelude.{◌≡◌, ◌++◌, OnOk, string_bytes};
 ghost use Rattle.xbar_page.specs.Section.{lines_text, section_end, section_text, title_text};
 
 use crate::links::{Links, SectionName, add_nav};
-use crate::sentences::{add_words, brought};
-use crate::words::Asked;
+use crate::sentences::{add_words, set_up};
+use crate::words::Requested;
 use std::alloc::{AllocError, Global};
 use xbar_equip::Path;
 use xbar_office::Record;
@@ -13,6 +13,7 @@ use xbar_office_drawing::{add_picture, cards_of};
 use xbar_plan::Plan;
 use xbar_report::record_text;
 
+/// Adds the beginning of a turn's section: its name and its heading.
 #[tactic(auto, unfolding(crate::specs::Section::title_text))]
 fn add_title(text: &mut String, owner: &Record) -> Result<(), AllocError>
     ensures { OnOk result (string_bytes text.new ≡ string_bytes text.old ++
@@ -20,7 +21,7 @@ fn add_title(text: &mut String, owner: &Record) -> Result<(), AllocError>
 {
     let turn = owner.turn;
     let name = SectionName(Some(turn));
-    let asked = Asked(&owner.job);
+    let asked = Requested(&owner.job);
     write!(
         text,
         "<section id=\"{name}\">\n<h1>Turn {turn}: {asked}</h1>\n"
@@ -28,6 +29,7 @@ fn add_title(text: &mut String, owner: &Record) -> Result<(), AllocError>
     Ok(())
 }
 
+/// Adds the lines of a record and of its cards, as a replay writes them.
 #[tactic(auto, unfolding(crate::specs::Section::lines_text))]
 fn add_lines(alloc: Global, text: &mut String, owner: &Record) -> Result<(), AllocError>
     ensures { OnOk result (string_bytes text.new ≡ string_bytes text.old ++
@@ -40,7 +42,7 @@ fn add_lines(alloc: Global, text: &mut String, owner: &Record) -> Result<(), All
     Ok(())
 }
 
-/// Adds the turn of a record, after which these paths stand.
+/// Adds the section of a record's turn. `paths` are those of the office after it.
 #[tactic(auto, unfolding(crate::specs::Section::section_text))]
 pub fn add_section(
     alloc: Global,
@@ -53,18 +55,18 @@ pub fn add_section(
     ensures { OnOk result (string_bytes text.new ≡ string_bytes text.old ++ section_text plan.now
         (record { owner = owner.now; paths = paths.now; links = links })) }
 {
-    let brought = brought(alloc, &owner.reply.end)?;
+    let set_up = set_up(alloc, &owner.reply.end)?;
     let cards = cards_of(alloc, owner)?;
     add_title(text, owner)?;
     add_nav(text, links)?;
     add_lines(alloc, text, owner)?;
     add_words(alloc, text, plan, owner)?;
-    add_picture(alloc, text, plan, paths, &brought, &cards)?;
+    add_picture(alloc, text, plan, paths, &set_up, &cards)?;
     add_section_end(text)?;
     Ok(())
 }
 
-/// Adds what a section ends with.
+/// Adds the end of a section.
 pub fn add_section_end(text: &mut String) -> Result<(), AllocError>
     ensures { OnOk result (string_bytes text.new ≡ string_bytes text.old ++ section_end) }
 {

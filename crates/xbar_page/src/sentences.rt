@@ -2,9 +2,9 @@
 
 ghost use Rattle.std.specs.Prelude.{◌≡◌, ◌++◌, IfOk, OnOk, flat_map, map, string_bytes};
 ghost use Rattle.xbar_page.specs.Section.{card_item_text, item_text, words_text};
-ghost use Rattle.xbar_page.specs.Words.{brought as brought_by, brought_words as brought_words_of, card_words as card_words_of, had_register as had_register_at, register_words, sentences, taken_out as taken_out_by, taken_out_words as taken_out_words_of};
+ghost use Rattle.xbar_page.specs.Words.{set_up as set_up_by, set_up_words as set_up_words_of, card_words as card_words_of, had_register as had_register_at, register_words, sentences, taken_out as taken_out_by, taken_out_words as taken_out_words_of};
 
-use crate::words::{brought_words, card_words, end_words, marker_words, taken_out_words};
+use crate::words::{card_words, end_words, marker_words, set_up_words, taken_out_words};
 use std::alloc::{AllocError, Global};
 use svg::add_escaped;
 use xbar_equip::Path;
@@ -25,9 +25,9 @@ fn taken_out(alloc: Global, end: &End) -> Result<Vec<Path>, AllocError>
     Ok(paths)
 }
 
-/// The paths that a job with this end brought.
-pub fn brought(alloc: Global, end: &End) -> Result<Vec<Path>, AllocError>
-    ensures { IfOk result (λ paths. paths.items ≡ brought_by end.now) }
+/// The paths that a job with this end set up.
+pub fn set_up(alloc: Global, end: &End) -> Result<Vec<Path>, AllocError>
+    ensures { IfOk result (λ paths. paths.items ≡ set_up_by end.now) }
 {
     let mut paths = Vec::new(alloc);
     if let Some(call) = end.adds() {
@@ -39,6 +39,7 @@ pub fn brought(alloc: Global, end: &End) -> Result<Vec<Path>, AllocError>
     Ok(paths)
 }
 
+/// Adds a sentence as an item of the list.
 #[tactic(auto, unfolding(crate::specs::Section::item_text))]
 fn add_item(text: &mut String, sentence: &str) -> Result<(), AllocError>
     ensures { OnOk result (string_bytes text.new ≡ string_bytes text.old ++
@@ -50,6 +51,7 @@ fn add_item(text: &mut String, sentence: &str) -> Result<(), AllocError>
     Ok(())
 }
 
+/// Adds the sentence of a trouble card as an item of the list.
 #[tactic(auto, unfolding(crate::specs::Section::card_item_text))]
 fn add_card_item(text: &mut String, sentence: &str) -> Result<(), AllocError>
     ensures { OnOk result (string_bytes text.new ≡ string_bytes text.old ++
@@ -61,7 +63,7 @@ fn add_card_item(text: &mut String, sentence: &str) -> Result<(), AllocError>
     Ok(())
 }
 
-/// Whether a completing job that ends so gave a register back.
+/// Whether a completing job with this end released a register.
 fn had_register(end: &End) -> bool
     ensures { result ≡ had_register_at end.now }
 {
@@ -71,7 +73,7 @@ fn had_register(end: &End) -> bool
     }
 }
 
-/// Adds that a register is given back, if it is.
+/// Adds that a register was released, if one was.
 fn add_register(text: &mut String, job: &Job, end: &End) -> Result<(), AllocError>
     ensures { OnOk result (string_bytes text.new ≡ string_bytes text.old ++
         flat_map item_text (register_words job.now end.now)) }
@@ -98,12 +100,12 @@ fn add_taken_out(alloc: Global, text: &mut String, paths: &[Path]) -> Result<(),
     Ok(())
 }
 
-fn add_brought(alloc: Global, text: &mut String, paths: &[Path]) -> Result<(), AllocError>
+fn add_set_up(alloc: Global, text: &mut String, paths: &[Path]) -> Result<(), AllocError>
     ensures { OnOk result (string_bytes text.new ≡ string_bytes text.old ++
-        flat_map item_text (map brought_words_of paths.now)) }
+        flat_map item_text (map set_up_words_of paths.now)) }
 {
     for path in paths {
-        let sentence = brought_words(alloc, path)?;
+        let sentence = set_up_words(alloc, path)?;
         add_item(text, sentence.as_str())?;
     }
     Ok(())
@@ -123,12 +125,12 @@ fn add_sentences(
     let marker_words = marker_words(alloc, owner)?;
     let end_words = end_words(alloc, plan, end)?;
     let taken_out = taken_out(alloc, end)?;
-    let brought = brought(alloc, end)?;
+    let set_up = set_up(alloc, end)?;
     add_item(text, marker_words.as_str())?;
     add_item(text, end_words.as_str())?;
     add_register(text, &owner.job, end)?;
     add_taken_out(alloc, text, &taken_out)?;
-    add_brought(alloc, text, &brought)?;
+    add_set_up(alloc, text, &set_up)?;
     Ok(())
 }
 
@@ -143,7 +145,7 @@ fn add_cards(alloc: Global, text: &mut String, owner: &Record) -> Result<(), All
     Ok(())
 }
 
-/// Adds what happened, in words.
+/// Adds what happened in a turn, as a list of sentences.
 #[tactic(auto, unfolding(crate::specs::Section::words_text))]
 pub fn add_words(
     alloc: Global,

@@ -1,7 +1,7 @@
 //! What happened in a turn, sentence by sentence.
 
 ghost use Rattle.std.specs.Prelude.{◌≡◌, ◌++◌, IfOk, Some, string_bytes};
-ghost use Rattle.xbar_page.specs.Words.{asked_words, brought_words as brought_words_of, card_words as card_words_of, end_words as end_words_of, links_words, marker_words as marker_words_of, refusal_words as refusal_words_of, taken_out_words as taken_out_words_of, with_line};
+ghost use Rattle.xbar_page.specs.Words.{asked_words, set_up_words as set_up_words_of, card_words as card_words_of, end_words as end_words_of, links_words, marker_words as marker_words_of, refusal_words as refusal_words_of, taken_out_words as taken_out_words_of, with_line};
 
 use std::alloc::{AllocError, Global};
 use std::fmt;
@@ -10,11 +10,11 @@ use xbar_office::{Card, End, Job, Record};
 use xbar_office_text::path_end;
 use xbar_plan::Plan;
 
-/// What a line asks for.
+/// What the line of a job asks for, in words.
 #[derive(Clone, Copy)]
-pub struct Asked<'j>(pub &'j Job);
+pub struct Requested<'j>(pub &'j Job);
 
-impl fmt::Display for Asked<'_> {
+impl fmt::Display for Requested<'_> {
     ghost output = { λ asked. Some (asked_words asked.0.now) };
 
     #[tactic(auto, unfolding(crate::specs::Words::asked_words))]
@@ -27,7 +27,7 @@ impl fmt::Display for Asked<'_> {
     }
 }
 
-/// Who does the job.
+/// The sentence on the marker that does a job.
 #[tactic(auto, unfolding(crate::specs::Words::marker_words))]
 pub fn marker_words(alloc: Global, owner: &Record) -> Result<String, AllocError>
     ensures { IfOk result (λ words. string_bytes words ≡ marker_words_of owner.now) }
@@ -50,7 +50,7 @@ impl fmt::Display for WithLine<'_> {
     }
 }
 
-/// Why nothing came of a job; nothing if something did.
+/// Why a job didn't get what it asked for; empty if it did.
 fn refusal_words(end: &End) -> &'static str
     ensures { result.now ≡ refusal_words_of end.now }
 {
@@ -71,7 +71,7 @@ fn refusal_words(end: &End) -> &'static str
     }
 }
 
-/// How the job ended.
+/// The sentence on how a job ended.
 #[tactic(auto, unfolding(crate::specs::Words::end_words))]
 pub fn end_words(alloc: Global, plan: &Plan, end: &End) -> Result<String, AllocError>
     ensures { IfOk result (λ words. string_bytes words ≡ end_words_of plan.now end.now) }
@@ -116,7 +116,7 @@ impl fmt::Display for PathLinks<'_> {
     }
 }
 
-/// A path that a job took out.
+/// The sentence on a path that a job took out.
 #[tactic(auto, unfolding(crate::specs::Words::taken_out_words))]
 pub fn taken_out_words(alloc: Global, path: &Path) -> Result<String, AllocError>
     ensures { IfOk result (λ words. string_bytes words ≡ taken_out_words_of path.now) }
@@ -125,10 +125,10 @@ pub fn taken_out_words(alloc: Global, path: &Path) -> Result<String, AllocError>
     format!(in alloc; "Path {path} is taken out: {links} are idle again. Four crosspoints open.")
 }
 
-/// A path that a job brought.
-#[tactic(auto, unfolding(crate::specs::Words::brought_words))]
-pub fn brought_words(alloc: Global, path: &Path) -> Result<String, AllocError>
-    ensures { IfOk result (λ words. string_bytes words ≡ brought_words_of path.now) }
+/// The sentence on a path that a job set up.
+#[tactic(auto, unfolding(crate::specs::Words::set_up_words))]
+pub fn set_up_words(alloc: Global, path: &Path) -> Result<String, AllocError>
+    ensures { IfOk result (λ words. string_bytes words ≡ set_up_words_of path.now) }
 {
     let Path {
         line,
@@ -141,7 +141,7 @@ pub fn brought_words(alloc: Global, path: &Path) -> Result<String, AllocError>
     )
 }
 
-/// A trouble card.
+/// The sentence on a trouble card.
 #[tactic(auto, unfolding(crate::specs::Words::card_words))]
 pub fn card_words(alloc: Global, card: &Card) -> Result<String, AllocError>
     ensures { IfOk result (λ words. string_bytes words ≡ card_words_of card.now) }

@@ -14,12 +14,12 @@ item_passes p xs i x all here = each_passes p xs x all (item_in xs i x here)
 same_some : {X : Type 0} (a b : X) → Some a ≡ Some b → a ≡ b
 same_some a b e = cc
 
--- what the item at a place gives is among what all give
+-- what f gives for the item at an index is among what it gives for all
 pub at_flat_map : {X Y : Type 0} (f : X → List Y) (xs : List X) (i : ℕ) (x : X) (y : Y) → slice_get xs i ≡ Some x → IsIn y (f x) → IsIn y (flat_map f xs)
 at_flat_map f xs i x y here own = in_flat_map f xs x y (item_in xs i x here) own
 
 module _ {X : Type 0} (same : X → X → Bool) (itself : (x : X) → same x x ≡ true) where
-  -- distinct items of two lists are distinct in each
+  -- if the items of two lists are distinct, so are those of each
   pub distinct-left : (xs ys : List X) → are_distinct same (xs ++ ys) ≡ true → are_distinct same xs ≡ true
   distinct-left [] ys e = refl
   distinct-left (x ∷ xs) ys e =
@@ -50,14 +50,14 @@ module _ {X : Type 0} (same : X → X → Bool) (itself : (x : X) → same x x �
   distinct-apart x (a ∷ xs) ys e (inr h) k =
       distinct-apart x xs ys (both (not (list_any (λ other. same other a) (xs ++ ys))) (are_distinct same (xs ++ ys)) e).1 h k
 
-  -- what one item gives is distinct where what all give is
+  -- what f gives for one item is distinct if what it gives for all is
   pub distinct-at : {A : Type 0} (f : A → List X) (items : List A) (i : ℕ) (a : A) → are_distinct same (flat_map f items) ≡ true → slice_get items i ≡ Some a → are_distinct same (f a) ≡ true
   distinct-at f [] i a e at = cc
   distinct-at f (b ∷ items) zero a e at =
       subst (λ (z : _). are_distinct same (f z) ≡ true) (same_some b a at) (distinct-left (f b) (flat_map f items) e)
   distinct-at f (b ∷ items) (suc i) a e at = distinct-at f items i a (distinct-right (f b) (flat_map f items) e) at
 
-  -- two items that give one thing are one item
+  -- two items for which f gives the same thing are the same item
   pub one_giver : {A : Type 0} (f : A → List X) (items : List A) (i j : ℕ) (a b : A) (x : X) → are_distinct same (flat_map f items) ≡ true → slice_get items i ≡ Some a → slice_get items j ≡ Some b → IsIn x (f a) → IsIn x (f b) → i ≡ j
   one_giver f [] i j a b x e at bt h k = cc
   one_giver f (c ∷ items) zero zero a b x e at bt h k = refl

@@ -9,7 +9,7 @@ use Rattle.std.proofs.lemmas.Option.{slice_get_past}
 use Rattle.std.proofs.lemmas.Bool.{ltb-false}
 use borrow.Author.Tests.{eqb-true, eq-eqb}
 
--- where the item passes, its place
+-- the index, if the item passes
 abbrev pub here : Bool → ℕ → Option ℕ
 here b i = cond b (Some i) None
 
@@ -39,7 +39,7 @@ from-map p f i (x ∷ xs) = ap (λ (o : Option ℕ). cond (p (f x)) (Some i) o) 
 pub position-map : {X Y : Type 0} (p : Y → Bool) (f : X → Y) (xs : List X) → position p (map f xs) ≡ position (λ x. p (f x)) xs
 position-map p f xs = position_from-zero p (map f xs) ∙ from-map p f 0 xs ∙ sym (position_from-zero (λ x. p (f x)) xs)
 
--- what is found is what stands at the first place
+-- the item found is the one at the first index
 pub find-at_position : {X : Type 0} (p : X → Bool) (xs : List X) (i : ℕ) → position p xs ≡ Some i → find p xs ≡ slice_get xs i
 find-at_position p xs i e = of (nat_lt (position_or_len p xs) (length xs)) e where
   of : (b : Bool) → cond b (Some (position_or_len p xs)) None ≡ Some i → find p xs ≡ slice_get xs i
@@ -52,7 +52,7 @@ find-none p xs e = of (nat_lt (position_or_len p xs) (length xs)) refl e where
   of true past e = cc
   of false past e = find_at p xs ∙ slice_get_past xs (position_or_len p xs) (ltb-false (position_or_len p xs) (length xs) past)
 
--- ---- a table with the first place of each number
+-- ---- a table with the first index of each number
 
 pub or-none : {X : Type 0} (o : Option X) → option_or o None ≡ o
 or-none None = refl
@@ -73,7 +73,7 @@ pub some_item : {X : Type 0} (o : Option X) → is_some o ≡ true → (x : X) �
 some_item None e = cc
 some_item (Some x) e = (x, refl)
 
--- a number that has no place yet gets this one
+-- a number that has no index yet gets this one
 pub placed : (table : List (Option ℕ)) (xs : List ℕ) (i x count : ℕ) → i < length xs → x ≡ get_or xs i 0 → length table ≡ count → x < count → is_some (get_or table x None) ≡ false → ((k : ℕ) → k < count → get_or table k None ≡ position (λ n. n == k) (take i xs)) → (k : ℕ) → k < count → get_or (set table x (Some i)) k None ≡ position (λ n. n == k) (take (i + 1) xs)
 placed table xs i x count within read size there free first k below = of (x == k) refl where
   of : (b : Bool) → (x == k) ≡ b → get_or (set table x (Some i)) k None ≡ position (λ n. n == k) (take (i + 1) xs)
@@ -88,7 +88,7 @@ placed table xs i x count within read size there free first k below = of (x == k
       get_or-set_other table x k (Some i) None other ∙ first k below
       ∙ sym (next xs i x k within read ∙ ap (λ (b : Bool). option_or (position (λ n. n == k) (take i xs)) (here b i)) e ∙ or-none (position (λ n. n == k) (take i xs)))
 
--- a number past the table, or that has its place, changes nothing
+-- a number past the table, or with an index already, changes nothing
 pub kept : (table : List (Option ℕ)) (xs : List ℕ) (i x count : ℕ) → i < length xs → x ≡ get_or xs i 0 → (x < count → is_some (get_or table x None) ≡ true) → ((k : ℕ) → k < count → get_or table k None ≡ position (λ n. n == k) (take i xs)) → (k : ℕ) → k < count → get_or table k None ≡ position (λ n. n == k) (take (i + 1) xs)
 kept table xs i x count within read has first k below = of (x == k) refl where
   of : (b : Bool) → (x == k) ≡ b → get_or table k None ≡ position (λ n. n == k) (take (i + 1) xs)

@@ -11,21 +11,21 @@ use Rattle.xbar_plan.specs.Directory.{Directory, IsDirectoryOf}
 use Rattle.xbar_plan.proofs.LawfulParts.{formed, within}
 use Rattle.xbar_plan.proofs.FirstPlaces.{find-at_position, find-none, position-map}
 
--- lawful tables have so few stations and routes that a place fits in sixteen bits
+-- lawful tables have at most 3000 stations and 64 routes, so an index fits in sixteen bits
 pub few-stations : (plan : Tables) → IsLawful plan → length plan.stations ≤ 3000
 few-stations plan lawful = leb-true (length plan.stations) 3000 (within plan lawful).few_stations
 
 pub few-routes : (plan : Tables) → IsLawful plan → length plan.routes ≤ 64
 few-routes plan lawful = leb-true (length plan.routes) 64 (within plan lawful).few_routes
 
--- a table of the first places of what the items of a list have is one of the items
+-- a table of first indexes has, for each number, the index of the first item with it
 pub first-items : {X : Type 0} (f : X → ℕ) (items : List X) (numbers : List ℕ) (count : ℕ) (table : List (Option ℕ)) → numbers ≡ map f items → length table ≡ count → ((k : ℕ) → k < count → get_or table k None ≡ position (λ n. n == k) numbers) → (k : ℕ) → k < count → slice_get table k ≡ Some (position (λ x. f x == k) items)
 first-items f items numbers count table is size first k below =
     let there : k < length table = omega (arith, size, below) in
     slice_get-get_or table k None there
     ∙ ap (λ (o : Option ℕ). Some o) (first k below ∙ ap (position (λ n. n == k)) is ∙ position-map (λ n. n == k) f items)
 
--- ---- what is looked up in a directory of tables
+-- ---- look-ups in a directory of tables
 
 module _ (plan : Tables) (directory : Directory) (is : IsDirectoryOf plan directory) where
   -- the first station of a number

@@ -22,7 +22,7 @@ use Rattle.xbar_plan.proofs.Lookups.{found-item, count-one, position-one}
 use Rattle.xbar_plan.proofs.LawfulPlans.{stands_at-has, one_member}
 use Rattle.xbar_plan.proofs.LawfulParts.{passes, formed, within}
 
--- the register group is there, and has registers
+-- the register group exists, and has registers
 pub register_group-is : (plan : Tables) → IsLawful plan → (group : TrunkGroup) × (slice_get plan.groups (register_group plan) ≡ Some group) × (is_register group ≡ true)
 register_group-is plan lawful = position-one is_register plan.groups (eqb-true _ 1 (passes plan lawful).registers)
 
@@ -41,7 +41,7 @@ lines_of-count plan lawful number lines e =
     let same = ap length found.3 in
     (omega (arith, h.0, same), omega (arith, h.1, same))
 
--- which are lines
+-- and its lines are in range
 pub lines_of-range : (plan : Tables) → IsLawful plan → (number : ℕ) (lines : List Line) → lines_of plan number ≡ Some lines → (k : ℕ) (line : Line) → slice_get lines k ≡ Some line → IsLine line
 lines_of-range plan lawful number lines e k line here =
     let found = found-item (λ (s : Station). s.lines) (λ (s : Station). s.number == number) plan.stations lines e in
@@ -57,14 +57,14 @@ route_of-count plan lawful code groups e =
     let same = ap length found.3 in
     (omega (arith, h.0, same), omega (arith, h.1, same))
 
--- which are there
+-- which exist
 pub route_of-range : (plan : Tables) → IsLawful plan → (code : ℕ) (groups : List ℕ) → route_of plan code ≡ Some groups → (k number : ℕ) → slice_get groups k ≡ Some number → number < length plan.groups
 route_of-range plan lawful code groups e k number here =
     let found = found-item (λ (r : Route). r.groups) (λ (r : Route). r.code == code) plan.routes groups e in
     let all = each_passes (λ (r : Route). list_all (λ (g : ℕ). nat_lt g (length plan.groups)) r.groups) plan.routes found.0 (passes plan lawful).known found.1 in
     ltb-true number (length plan.groups) (item_passes (λ (g : ℕ). nat_lt g (length plan.groups)) found.0.groups k number all (ap (λ (gs : List ℕ). slice_get gs k) found.3 ∙ here))
 
--- a group of a number that is tested is there, and passes
+-- a group that passes a test by number exists, and passes
 pub group-there : (test : TrunkGroup → Bool) (groups : List TrunkGroup) (number : ℕ) → is_group test groups number ≡ true → (group : TrunkGroup) × (slice_get groups number ≡ Some group) × (test group ≡ true)
 group-there test groups number e = of (slice_get groups number) refl e where
   of : (o : Option TrunkGroup) → slice_get groups number ≡ o → option_map_or test o false ≡ true → (group : TrunkGroup) × (slice_get groups number ≡ Some group) × (test group ≡ true)
@@ -87,13 +87,13 @@ route_of-trunks plan lawful code groups e =
       | inr all ↦ inr (leads-only is_outgoing plan found.0.groups all)
     ])
 
--- what is out of order is a link
+-- a link that is out of order is in range
 pub is_faulty-range : (plan : Tables) → IsLawful plan → (link : Link) → is_faulty plan link ≡ true → IsLink link
 is_faulty-range plan lawful link e =
     let among = any_is_in (λ fault. link_eq fault link) link (λ fault same. (link_eq-exact fault link).0 same) plan.faults e in
     link_in_range link (each_passes is_link plan.faults link (formed plan lawful).faults among)
 
--- a member that is found, with what is known of it
+-- an option's value, with what holds of it
 of_some : {X : Type 0} (o : Option X) (P : X → Type 0) → IsSomeAnd o P → (x : X) × (o ≡ Some x) × P x
 of_some None P h = absurd h
 of_some (Some x) P h = (x, refl, h)
@@ -101,7 +101,7 @@ of_some (Some x) P h = (x, refl, h)
 true_false : (b : Bool) → b ≡ true → b ≡ false → ⊥
 true_false b holds fails = let e : true ≡ false = sym holds ∙ fails in cc
 
--- where a member stands at a place, it is not so that none does
+-- a member at a place and no member there exclude each other
 found_not_none : (plan : Tables) (place : TrunkPlace) (found : MemberPlace) → IsOfMember plan place found → IsNoMembers plan place → ⊥
 found_not_none plan place found is none =
     let h = of_some (member_at plan found.group found.index) (λ member. (stands_at member place ≡ true) × (found.other ≡ other_place member place)) is in

@@ -9,7 +9,7 @@ use Rattle.xbar_plan.specs.Tables.{Tables}
 use Rattle.xbar_plan.specs.Lawful.{IsLawful, fault_in, first_failed, tests, is_between, is_well_formed_group, are_in_range, are_well_formed, are_groups_within_limits, are_stations_within_limits, are_routes_within_limits, are_within_limits, are_names_distinct, has_one_register_group, are_places_distinct, are_pairs_on_one_frame, are_numbers_distinct, are_codes_distinct, are_groups_known, do_routes_lead_to_trunks, all_places}
 use Rattle.xbar_plan.specs.declared.fault.PlanFault.{PlanFault}
 
--- where no test of a list fails, all hold
+-- if no test of a list fails, all pass
 none_failed : (ts : List (Bool × PlanFault)) → first_failed ts ≡ None → list_all (λ t. t.0) ts ≡ true
 none_failed [] e = refl
 none_failed ((true, fault) ∷ ts) e = none_failed ts e

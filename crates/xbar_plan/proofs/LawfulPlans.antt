@@ -21,11 +21,11 @@ use Rattle.xbar_plan.proofs.Distinct.{at_flat_map, item_passes, distinct-at, not
 use Rattle.xbar_plan.proofs.Lookups.{position-one}
 use Rattle.xbar_plan.proofs.LawfulParts.{passes, formed, within}
 
--- a place is equal to itself by the test
+-- the test finds a place equal to itself
 pub place_eq-itself : (place : TrunkPlace) → place_eq place place ≡ true
 place_eq-itself place = (place_eq-exact place place).1 refl
 
--- a member stands at the places that it has
+-- a member is at the places that it has
 pub stands_at-has : (member : Member) (place : TrunkPlace) → stands_at member place ≡ true → IsIn place (places member)
 stands_at-has member place e =
     any_is_in (λ own. place_eq own place) place (λ own same. (place_eq-exact own place).0 same) (places member) e
@@ -56,7 +56,7 @@ pub place_at-range : (plan : Tables) → IsLawful plan → (number index : ℕ) 
 place_at-range plan lawful number index member place e h =
     place_in_range place (each_passes is_trunk_place (all_places plan.groups) place (formed plan lawful).places (member-places plan number index member place e h))
 
--- two members that stand at one place are one
+-- two members at the same place are the same
 pub one_member : (plan : Tables) → IsLawful plan → (number index number' index' : ℕ) (member member' : Member) (place : TrunkPlace) → member_at plan number index ≡ Some member → member_at plan number' index' ≡ Some member' → IsIn place (places member) → IsIn place (places member') → (number ≡ number') × (index ≡ index')
 one_member plan lawful number index number' index' member member' place e e' h h' =
     let of = member_at-group plan number index member e in
@@ -84,7 +84,7 @@ member_count-range plan lawful number group here =
     let h = between 1 40 (length group.members) size in
     (omega (arith, h.0), h.1)
 
--- so the numbers of a member's group and of itself are below sixteen and forty
+-- so the number of a member's group is below sixteen, and its index below forty
 pub member-numbers : (plan : Tables) → IsLawful plan → (number index : ℕ) (member : Member) → member_at plan number index ≡ Some member → (number < 16) × (index < 40)
 member-numbers plan lawful number index member here =
     let of = member_at-group plan number index member here in
@@ -119,7 +119,7 @@ pair-frame plan lawful number index member second here paired =
     eqb-true second.frame member.first.frame
     (sym (ap (λ (o : Option TrunkPlace). option_map_or (λ place. place.frame == member.first.frame) o true) paired) ∙ one)
 
--- and are two
+-- and they differ
 pub pair-apart : (plan : Tables) → IsLawful plan → (number index : ℕ) (member : Member) (second : TrunkPlace) → member_at plan number index ≡ Some member → member.second ≡ Some second → second ≢ member.first
 pair-apart plan lawful number index member second here paired same =
     let of = member_at-group plan number index member here in

@@ -3,7 +3,7 @@ use Rattle.std.specs.Prelude.{Option, Some, None, IfSome, IsSomeAnd, slice_get, 
 use Rattle.std.specs.List.{list_any, position_from}
 use Rattle.std.proofs.lemmas.Iterator.Adapters.{position_from-zero}
 
--- a test of the items that a function makes
+-- a test of the items that f gives
 pub list_any_map : {X Y : Type 0} (p : Y → Bool) (f : X → Y) (xs : List X) → list_any p (map f xs) ≡ list_any (λ x. p (f x)) xs
 list_any_map p f [] = refl
 list_any_map p f (x ∷ xs) = ap (λ rest. p (f x) || rest) (list_any_map p f xs)
@@ -21,7 +21,7 @@ none_from p k [] e i = tt
 none_from p k (x ∷ xs) e zero = (chosen_none (p x) k (position_from p (k + 1) xs) e).0
 none_from p k (x ∷ xs) e (suc i) = none_from p (k + 1) xs (chosen_none (p x) k (position_from p (k + 1) xs) e).1 i
 
--- where no position is found, no item passes
+-- if no position is found, no item passes
 pub position-none : {X : Type 0} (p : X → Bool) (xs : List X) → position p xs ≡ None → (i : ℕ) → IfSome (slice_get xs i) (λ x. p x ≡ false)
 position-none p xs e = none_from p 0 xs (sym (position_from-zero p xs) ∙ e)
 

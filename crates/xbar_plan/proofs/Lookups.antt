@@ -5,7 +5,7 @@ use Rattle.xbar_equip.proofs.Lists.{found_passes}
 use Rattle.xbar_plan.proofs.Lists.{position-none, position-some}
 use Rattle.xbar_equip.specs.Among.{IsIn}
 
--- what a look-up gives, an item that is found has
+-- the result of a look-up is that of an item that passes
 pub found-item : {X Y : Type 0} (f : X → Y) (p : X → Bool) (xs : List X) (y : Y) → option_map f (find p xs) ≡ Some y → (x : X) × IsIn x xs × (p x ≡ true) × (f x ≡ y)
 found-item {X} f p xs y e = of (find p xs) refl e where
   of : (o : Option X) → find p xs ≡ o → option_map f o ≡ Some y → (x : X) × IsIn x xs × (p x ≡ true) × (f x ≡ y)
@@ -19,7 +19,7 @@ weight b = cond b 1 0
 count-cons : {X : Type 0} (p : X → Bool) (x : X) (xs : List X) → count_by p (x ∷ xs) ≡ weight (p x) + count_by p xs
 count-cons p x xs = sum_by-cons (λ y. weight (p y)) x xs
 
--- where no item passes the count is 0
+-- if no item passes, the count is 0
 pub count-none : {X : Type 0} (p : X → Bool) (xs : List X) → ((i : ℕ) → IfSome (slice_get xs i) (λ x. p x ≡ false)) → count_by p xs ≡ 0
 count-none p [] none = refl
 count-none p (x ∷ xs) none =
@@ -28,7 +28,7 @@ count-none p (x ∷ xs) none =
     let whole = count-cons p x xs in
     omega (arith, here, rest, whole)
 
--- where an item passes the count is not 0
+-- if an item passes, the count is not 0
 pub count-some : {X : Type 0} (p : X → Bool) (xs : List X) (i : ℕ) (x : X) → slice_get xs i ≡ Some x → p x ≡ true → 0 < count_by p xs
 count-some p [] i x e passes = cc
 count-some p (a ∷ xs) zero x e passes =
@@ -41,7 +41,7 @@ count-some p (a ∷ xs) (suc i) x e passes =
     let whole = count-cons p a xs in
     omega (arith, rest, whole)
 
--- where the count is 1 two items that pass are one
+-- if the count is 1, two items that pass are the same
 pub count-one : {X : Type 0} (p : X → Bool) (xs : List X) (i j : ℕ) (x y : X) → count_by p xs ≡ 1 → slice_get xs i ≡ Some x → p x ≡ true → slice_get xs j ≡ Some y → p y ≡ true → i ≡ j
 count-one p [] i j x y one e passes e' passes' = cc
 count-one p (a ∷ xs) zero zero x y one e passes e' passes' = refl
@@ -63,7 +63,7 @@ count-one p (a ∷ xs) (suc i) (suc j) x y one e passes e' passes' =
     let rest : count_by p xs ≡ 1 = omega (arith, whole, some, one) in
     ap suc (count-one p xs i j x y rest e passes e' passes')
 
--- where just one item passes, it is found at its position
+-- if exactly one item passes, it is at the position found
 pub position-one : {X : Type 0} (p : X → Bool) (xs : List X) → count_by p xs ≡ 1 → (x : X) × (slice_get xs (unwrap_or (position p xs) 0) ≡ Some x) × (p x ≡ true)
 position-one {X} p xs one = of (position p xs) refl where
   at_some : (o : Option X) → IsSomeAnd o (λ x. p x ≡ true) → (x : X) × (o ≡ Some x) × (p x ≡ true)

@@ -21,7 +21,7 @@ one_kind TrunkLink LineLink m n h k e = absurd (omega arith)
 one_kind TrunkLink Junctor m n h k e = absurd (omega arith)
 one_kind TrunkLink TrunkLink m n h k e = (refl, omega arith)
 
--- links have one number only where they are one
+-- links with the same number are the same
 one_link : (a b : Link) → IsLink a → IsLink b → link_number a ≡ link_number b → a ≡ b
 one_link a b h k e =
     let hf = h.frame in
@@ -53,7 +53,7 @@ below_3000 k h =
     let few = few_before k.kind in
     omega (arith, hf, ha, hc, few)
 
--- a table that marks the links so far marks one more once it is set there
+-- a table that marks the links so far marks one more after its mark is set
 pub marks-more : (marks : List Bool) (faults : List Link) (i : ℕ) (x : Link) → i < length faults → x ≡ get_or faults i x → IsLink x → link_number x < length marks → ((k : Link) → IsLink k → get_or marks (link_number k) false ≡ list_any (λ fault. link_eq fault k) (take i faults)) → (k : Link) → IsLink k → get_or (set marks (link_number x) true) (link_number k) false ≡ list_any (λ fault. link_eq fault k) (take (i + 1) faults)
 marks-more marks faults i x within read fits there marked k in_range = of (link_eq x k) refl where
   before : Bool

@@ -8,7 +8,7 @@ use Rattle.xbar_equip.proofs.Logic.{both}
 use Rattle.xbar_plan.specs.Lawful.{are_distinct}
 use Rattle.xbar_plan.proofs.Distinct.{distinct-left}
 
--- the test of two numbers tells whether they are one
+-- the test of two numbers is exact
 nat_eq-itself : (n : ℕ) → nat_eq n n ≡ true
 nat_eq-itself n = eq-eqb n n refl
 
@@ -46,13 +46,13 @@ distinct-snoc (a ∷ xs) x =
 next : (xs : List ℕ) (i x : ℕ) → i < length xs → x ≡ get_or xs i 0 → take (i + 1) xs ≡ take i xs ++ x ∷ []
 next xs i x within read = take_more xs i 0 within ∙ ap (λ (y : ℕ). take i xs ++ y ∷ []) (sym read)
 
--- a number that was not marked: those up to it are distinct
+-- if a number was not marked, the numbers up to it are distinct
 pub apart_more : (xs : List ℕ) (i x : ℕ) → i < length xs → x ≡ get_or xs i 0 → are_distinct nat_eq (take i xs) ≡ true → list_any (λ n. nat_eq n x) (take i xs) ≡ false → are_distinct nat_eq (take (i + 1) xs) ≡ true
 apart_more xs i x within read before new =
     ap (are_distinct nat_eq) (next xs i x within read) ∙ distinct-snoc (take i xs) x
     ∙ ap (λ (b : Bool). b && not (list_any (λ n. nat_eq n x) (take i xs))) before ∙ ap not new
 
--- a number that was marked: not all are distinct
+-- if a number was marked, not all are distinct
 pub twice : (xs : List ℕ) (i x : ℕ) → i < length xs → x ≡ get_or xs i 0 → list_any (λ n. nat_eq n x) (take i xs) ≡ true → are_distinct nat_eq xs ≡ false
 twice xs i x within read seen = of (are_distinct nat_eq xs) refl where
   of : (b : Bool) → are_distinct nat_eq xs ≡ b → b ≡ false
@@ -66,7 +66,7 @@ twice xs i x within read seen = of (are_distinct nat_eq xs) refl where
       let no : false ≡ true = ap not (sym seen) ∙ new in
       cc
 
--- a table that marks those so far marks one more once it is set there
+-- a table that marks the numbers so far marks one more after its mark is set
 pub marks_more : (seen : List Bool) (xs : List ℕ) (i x : ℕ) → i < length xs → x ≡ get_or xs i 0 → x < length seen → ((k : ℕ) → get_or seen k false ≡ list_any (λ n. nat_eq n k) (take i xs)) → (k : ℕ) → get_or (set seen x true) k false ≡ list_any (λ n. nat_eq n k) (take (i + 1) xs)
 marks_more seen xs i x within read there marks k = of (nat_eq x k) refl where
   before : Bool

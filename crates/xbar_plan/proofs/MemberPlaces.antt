@@ -11,7 +11,7 @@ use Rattle.xbar_plan.proofs.Lists.{position-none, position-some}
 use Rattle.xbar_plan.proofs.LawfulPlans.{member-numbers, place_at-range, stands_at-has}
 use Rattle.xbar_plan.proofs.OtherPlaces.{others}
 
--- where no item passes nothing is found
+-- if no item passes, nothing is found
 pub first_with-none : {X : Type 0} (test : X → Bool) (xs : List X) → position test xs ≡ None → first_with test xs ≡ None
 first_with-none {X} test xs e = ap (option_and_then (λ number. option_map {U = ℕ × X} (λ item. (number, item)) (slice_get xs number))) e
 
@@ -40,7 +40,7 @@ first_with-found {X} test xs n x e = of (position test xs) refl e where
   of None at e = cc
   of (Some m) at e = found m (slice_get xs m) refl (position-some test m xs at) e
 
--- where nothing is found no item passes
+-- if nothing is found, no item passes
 pub first_with-fails : {X : Type 0} (test : X → Bool) (xs : List X) → first_with test xs ≡ None → (i : ℕ) → IfSome (slice_get xs i) (λ x. test x ≡ false)
 first_with-fails {X} test xs e = of (position test xs) refl e where
   found : (m : ℕ) (o : Option X) → IsSomeAnd o (λ y. test y ≡ true) → option_map {U = ℕ × X} (λ item. (m, item)) o ≡ None → (i : ℕ) → IfSome (slice_get xs i) (λ x. test x ≡ false)
@@ -64,7 +64,7 @@ pub none_of_any : {X : Type 0} (test : X → Bool) (xs : List X) → ((i : ℕ) 
 none_of_any test [] none e = cc
 none_of_any test (x ∷ xs) none e = none_of_any test xs (λ i. none (suc i)) (ap (λ b. b || list_any test xs) (sym (none zero)) ∙ e)
 
--- no group has a member there, so no member stands there
+-- if no group has a member at the place, no member is there
 no_members : (plan : Tables) (place : TrunkPlace) → ((i : ℕ) → IfSome (slice_get plan.groups i) (λ group. has_member_at place group ≡ false)) → IsNoMembers plan place
 no_members plan place none number index = of (slice_get plan.groups number) (none number) where
   of : (o : Option TrunkGroup) → IfSome o (λ group. has_member_at place group ≡ false) → IfSome (option_and_then (λ group. slice_get group.members index) o) (λ member. stands_at member place ≡ false)
@@ -76,7 +76,7 @@ is_of_member plan place number index group member here there stands =
     let at : member_at plan number index ≡ Some member = ap (option_and_then (λ g. slice_get g.members index)) here ∙ there in
     subst (λ (o : Option Member). IsSomeAnd o (λ own. (stands_at own place ≡ true) × (other_place member place ≡ other_place own place))) (sym at) (stands, refl)
 
--- the answer is the member that stands there, or none stands there
+-- the answer is a member at the place, or no member is there
 pub member_place-fits : (plan : Tables) (place : TrunkPlace) → IsMemberPlace plan place (member_place plan place)
 member_place-fits plan place = of (first_with (has_member_at place) plan.groups) refl where
   within : (number : ℕ) (group : TrunkGroup) → IsFirst (has_member_at place) plan.groups number group → (o : Option (ℕ × Member)) → first_with (λ own. stands_at own place) group.members ≡ o → IsMemberPlace plan place (option_map (λ found. record { group = number; index = found.0; other = other_place found.1 place }) o)

@@ -9,7 +9,7 @@ use Rattle.xbar_equip.proofs.Ranges.{place_in_range}
 use Rattle.xbar_plan.specs.Lawful.{are_distinct}
 use Rattle.xbar_plan.specs.Numbered.{place_number}
 
--- places in range have one number only where they are one
+-- places in range with the same number are the same
 pub one_place : (a b : TrunkPlace) → IsTrunkPlace a → IsTrunkPlace b → place_number a ≡ place_number b → a ≡ b
 one_place a b h k e =
     let ha = h.appearance in
@@ -35,7 +35,7 @@ same_any place h (x ∷ xs) all =
     ap (λ (b : Bool). b || list_any (λ other. place_eq other place) xs) (same_test x place (place_in_range x parts.0) h)
     ∙ ap (λ (b : Bool). nat_eq (place_number x) (place_number place) || b) (same_any place h xs parts.1)
 
--- places in range are distinct exactly where their numbers are
+-- places in range are distinct exactly if their numbers are
 pub numbers-distinct : (xs : List TrunkPlace) → list_all is_trunk_place xs ≡ true → are_distinct place_eq xs ≡ are_distinct nat_eq (map place_number xs)
 numbers-distinct [] all = refl
 numbers-distinct (x ∷ xs) all =

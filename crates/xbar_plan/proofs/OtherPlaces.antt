@@ -9,7 +9,7 @@ use Rattle.xbar_plan.specs.declared.group.Member.{Member}
 use Rattle.xbar_equip.specs.Among.{IsIn}
 use Rattle.xbar_plan.proofs.LawfulPlans.{stands_at-has, has-stands_at, pair-frame, pair-apart}
 
--- what two places of one member are to each other
+-- how two places of one member are related
 pub record AreOthers (member : Member) (place other : TrunkPlace) : Type 0 where
   pub stands : stands_at member other ≡ true
   pub apart : other ≢ place
@@ -22,7 +22,7 @@ not_one a b apart = of (place_eq a b) refl where
   of true e = absurd (apart ((place_eq-exact a b).0 e))
   of false e = refl
 
--- seen from the first place the other is the second, seen from another place it is the first
+-- the other place of the first is the second, and the other place of any other is the first
 other-first : (member : Member) (place : TrunkPlace) → member.first ≡ place → other_place member place ≡ member.second
 other-first member place same =
     ap (λ (b : Bool). if b then member.second else Some member.first) ((place_eq-exact member.first place).1 same)
@@ -36,7 +36,7 @@ second_is None place h = absurd h
 second_is (Some second) place (inl same) = ap (λ (p : TrunkPlace). Some p) (sym same)
 second_is (Some second) place (inr h) = absurd h
 
--- a member of a lawful plan: from each of its places the other one is seen
+-- the other place of a member's place, in a lawful plan
 pub others : (plan : Tables) → IsLawful plan → (number index : ℕ) (member : Member) (place other : TrunkPlace) → member_at plan number index ≡ Some member → stands_at member place ≡ true → other_place member place ≡ Some other → AreOthers member place other
 others plan lawful number index member place other here stands seen = of (stands_at-has member place stands) where
   of : IsIn place (places member) → AreOthers member place other
@@ -63,7 +63,7 @@ others plan lawful number index member place other here stands seen = of (stands
         back = other-first member other first ∙ second;
       }
 
--- a place of a member has another one beside it exactly where the member has two
+-- a place of a member has another place exactly if the member has two
 pub other-paired : (plan : Tables) → IsLawful plan → (number index : ℕ) (member : Member) (place : TrunkPlace) → member_at plan number index ≡ Some member → stands_at member place ≡ true → is_some (other_place member place) ≡ is_some member.second
 other-paired plan lawful number index member place here stands = of (stands_at-has member place stands) where
   of : IsIn place (places member) → is_some (other_place member place) ≡ is_some member.second

@@ -31,7 +31,7 @@ map-or f (Some x) b = refl
 
 -- ---- one place
 
--- a member is put at its place where none stands
+-- a member is entered at a place that has none
 pub put-free : (before : List (Option MemberPlace)) (place : TrunkPlace) (found : MemberPlace) → length before ≡ 1000 → IsTrunkPlace place → is_some (get_or before (place_number place) None) ≡ false → ArePlaced before (λ other. if place_eq place other then Some found else None) (set before (place_number place) (Some found))
 put-free before place found size fits free = record { size = length-set before (place_number place) (Some found) ∙ size; first = at } where
   within : place_number place < length before
@@ -53,7 +53,7 @@ put-free before place found size fits free = record { size = length-set before (
         let apart : place_number other ≢ place_number place = λ same. let no : true ≡ false = sym ((place_eq-exact place other).1 (one_place place other fits in_range (sym same))) ∙ e in cc in
         get_or-set_other before (place_number place) (place_number other) (Some found) None apart ∙ sym (or-none (get_or before (place_number other) None))
 
--- and where one stands nothing changes
+-- and a place that has one keeps it
 pub put-taken : (before : List (Option MemberPlace)) (place : TrunkPlace) (found : MemberPlace) → length before ≡ 1000 → is_some (get_or before (place_number place) None) ≡ true → ArePlaced before (λ other. if place_eq place other then Some found else None) before
 put-taken before place found size taken = record { size = size; first = λ other in_range. at other } where
   at : (other : TrunkPlace) → get_or before (place_number other) None ≡ option_or (get_or before (place_number other) None) (if place_eq place other then Some found else None)
@@ -68,7 +68,7 @@ put-taken before place found size taken = record { size = size; first = λ other
 
 -- ---- one member
 
--- what comes in two steps
+-- entering in two steps
 then_placed : (before between after : List (Option MemberPlace)) (one two both : TrunkPlace → Option MemberPlace) → ArePlaced before one between → ArePlaced between two after → ((place : TrunkPlace) → option_or (one place) (two place) ≡ both place) → ArePlaced before both after
 then_placed before between after one two both first second whole = record {
   size = second.size;
@@ -77,7 +77,7 @@ then_placed before between after one two both first second whole = record {
       ∙ or-or (get_or before (place_number place) None) (one place) (two place) ∙ ap (option_or (get_or before (place_number place) None)) (whole place);
 }
 
--- a member that is seen where the test holds
+-- the member, if the test holds
 abbrev pub seen : Bool → MemberPlace → Option MemberPlace
 seen b found = if b then Some found else None
 
@@ -117,7 +117,7 @@ put-pair before between after number index member second e =
 
 -- ---- the members of a group
 
--- the item at a place that was found
+-- the item at the index found
 abbrev at_found : {X : Type 0} → List X → Option ℕ → Option (ℕ × X)
 at_found {X} xs o = option_and_then (λ number. option_map {U = ℕ × X} (λ item. (number, item)) (slice_get xs number)) o
 
@@ -164,7 +164,7 @@ more_members-placed before between after number i members member within read one
 
 -- ---- the groups
 
--- the first member of these groups that stands at a place
+-- the first member of these groups at a place
 abbrev pub among_groups : List TrunkGroup → TrunkPlace → Option MemberPlace
 among_groups groups place =
     option_and_then (λ found. member_within found.0 found.1 place) (first_with (has_member_at place) groups)
@@ -175,7 +175,7 @@ from-none p i (x ∷ xs) e =
     let parts = neither (p x) (list_any p xs) e in
     ap (λ (b : Bool). cond b (Some i) (position_from p (i + 1) xs)) parts.0 ∙ from-none p (i + 1) xs parts.1
 
--- a group gives a member exactly where one of its members stands at the place
+-- a group has a first member at a place exactly if one of its members is there
 within-none : (number : ℕ) (group : TrunkGroup) (place : TrunkPlace) → has_member_at place group ≡ false → member_within number group place ≡ None
 within-none number group place e =
     ap (option_map {U = MemberPlace} (λ found. record { group = number; index = found.0; other = other_place found.1 place }))

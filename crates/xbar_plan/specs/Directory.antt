@@ -9,16 +9,17 @@ use Rattle.xbar_plan.specs.Numbered.{place_number, link_number}
 use Rattle.xbar_plan.specs.declared.group.Member.{Member}
 use Rattle.xbar_plan.specs.declared.group.MemberPlace.{MemberPlace}
 
--- four lists that are looked up by number: directory numbers, codes, trunk places and links
+-- four lists for look-ups, by directory number, by code, by the number of a trunk place and by
+-- that of a link
 pub record Directory : Type 0 where
   pub stations : List (Option ℕ)
   pub routes : List (Option ℕ)
   pub members : List (Option MemberPlace)
   pub faults : List Bool
 
--- a directory of these tables: at each directory number and at each code is where the first station
--- or route with it stands, at each trunk place the first member that stands there, and at each link
--- whether it is out of order
+-- the directory of these tables: for each directory number and each code, the index of the first
+-- station or route with it; for each trunk place, the first member there; for each link, whether
+-- it is out of order
 pub record IsDirectoryOf (plan : Tables) (directory : Directory) : Type 0 where
   pub stations : (number : ℕ) → number < 10000
       → slice_get directory.stations number
@@ -30,27 +31,28 @@ pub record IsDirectoryOf (plan : Tables) (directory : Directory) : Type 0 where
   pub faults : (link : Link) → IsLink link
       → slice_get directory.faults (link_number link) ≡ Some (is_faulty plan link)
 
--- what a plan keeps: its tables are lawful, and its directory is theirs
-pub record IsKept (plan : Tables) (directory : Directory) : Type 0 where
+-- the invariant of a plan: its tables are lawful, and the directory is theirs
+pub record IsDirectoryInvariant (plan : Tables) (directory : Directory) : Type 0 where
   pub lawful : IsLawful plan
   pub shown : IsDirectoryOf plan directory
 
--- ---- while the list of members is made
+-- ---- building the list of members
 
--- a member with its other place, if it stands at the place
+-- the member with its other place, if the place is one of the member's
 abbrev pub member_here : ℕ → ℕ → Member → TrunkPlace → Option MemberPlace
 member_here number index member place =
     if stands_at member place
     then Some (record { group = number; index = index; other = other_place member place }) else None
 
--- the first of these members that stands at the place
+-- the first of these members at the place, with its other place
 abbrev pub first_member : ℕ → List Member → TrunkPlace → Option MemberPlace
 first_member number members place =
     option_map
     (λ found. record { group = number; index = found.0; other = other_place found.1 place })
     (first_with (λ member. stands_at member place) members)
 
--- where none stood before there stands what comes now, at each of the thousand places
+-- at each of the thousand places, `after` has the member of `before`, or that of `now` if `before`
+-- has none
 pub record ArePlaced (before : List (Option MemberPlace)) (now : TrunkPlace → Option MemberPlace)
     (after : List (Option MemberPlace)) : Type 0 where
   pub size : length after ≡ 1000

@@ -14,12 +14,11 @@ place frame switch appearance = record { frame = frame; switch = switch; appeara
 abbrev pub single : TrunkPlace → Member
 single first = record { first = first; second = None }
 
--- a member with two, the calling side first
+-- a member with two places, the calling side's first
 abbrev pub pair : TrunkPlace → TrunkPlace → Member
 pair first second = record { first = first; second = Some second }
 
--- 417, 418 and 509 are registers; 600 with 601 and 700 with 711 are intra trunks; 800, 801 and 902
--- go out
+-- registers 417, 418 and 509; intra trunks 600-601 and 700-711; outgoing trunks 800, 801 and 902
 abbrev pub example_groups : List TrunkGroup
 example_groups =
     record {
@@ -43,7 +42,7 @@ example_groups =
 abbrev pub station : ℕ → Line → Station
 station number line = record { number = number; lines = line ∷ [] }
 
--- 0001 is line 3041, 0002 is 3052, 0003 is 1000 and 0004 is 3100
+-- number 0001 has line 3041, 0002 has 3052, 0003 has 1000 and 0004 has 3100
 abbrev pub example_stations : List Station
 example_stations =
     station 1 (record { frame = 3; switch = 0; x = 21 }) ∷
@@ -51,7 +50,7 @@ example_stations =
     station 3 (record { frame = 1; switch = 0; x = 0 }) ∷
     station 4 (record { frame = 3; switch = 1; x = 0 }) ∷ []
 
--- 234 leads to INTRA, 555 to OUTA and then to OUTB
+-- code 234 leads to INTRA, code 555 to OUTA and then to OUTB
 abbrev pub example_routes : List Route
 example_routes =
     record { code = 234; groups = 1 ∷ [] } ∷ record { code = 555; groups = 2 ∷ 3 ∷ [] } ∷ []

@@ -2,7 +2,7 @@ use Rattle.std.specs.Prelude.{ℕ, List, codes}
 use Rattle.xbar_plan.specs.declared.fault.PlanFault.{PlanFault}
 use Rattle.xbar_plan.specs.declared.fault.PlanFault.TheVariants.{NotToml, Version, KeyMissing, NotTexts, Malformed, Limit, GroupTwice, RegisterGroups, PlaceTwice, PairApart, NumberTwice, CodeTwice, UnknownGroup, MixedRoute, Memory}
 
--- the text of a fault: its number, or that memory ran out
+-- the text of a fault: its number, or MEMORY if memory ran out
 abbrev pub fault_text : PlanFault → List ℕ
 fault_text NotToml = codes "P1"
 fault_text Version = codes "P2"

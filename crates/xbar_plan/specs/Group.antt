@@ -5,13 +5,13 @@ use Rattle.xbar_plan.specs.declared.group.GroupKind.{GroupKind}
 use Rattle.xbar_plan.specs.declared.group.GroupKind.TheVariants.{Register, Intra, Outgoing}
 use Rattle.xbar_plan.specs.declared.group.Member.{Member}
 
--- a trunk group: a name, what its members are, and the members in their order
+-- a trunk group: its name, what its members are, and the members in order
 pub record TrunkGroup : Type 0 where
   pub name : List ℕ
   pub kind : GroupKind
   pub members : List Member
 
--- whether two kinds are one
+-- whether two kinds are the same
 abbrev pub kind_eq : GroupKind → GroupKind → Bool
 kind_eq Register Register = true
 kind_eq Intra Intra = true
@@ -30,14 +30,14 @@ is_intra group = kind_eq group.kind Intra
 abbrev pub is_outgoing : TrunkGroup → Bool
 is_outgoing group = kind_eq group.kind Outgoing
 
--- the trunk places of a member: one, or of an intra member two, the calling side first
+-- the trunk places of a member: one, or two of an intra member, the calling side's first
 abbrev pub places : Member → List TrunkPlace
 places member = member.first ∷ option_to_list member.second
 
--- whether one of the member's places is this one
+-- whether the place is one of the member's places
 abbrev pub stands_at : Member → TrunkPlace → Bool
 stands_at member place = list_any (λ own. place_eq own place) (places member)
 
--- seen from one of the member's places, the other one, if it has two
+-- given one of the member's places, the other one, if there are two
 abbrev pub other_place : Member → TrunkPlace → Option TrunkPlace
 other_place member place = if place_eq member.first place then member.second else Some member.first

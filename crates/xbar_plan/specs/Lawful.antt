@@ -12,29 +12,29 @@ use Rattle.xbar_plan.specs.declared.fault.PlanFault.{PlanFault}
 use Rattle.xbar_plan.specs.declared.fault.PlanFault.TheVariants.{Malformed, Limit, GroupTwice, RegisterGroups, PlaceTwice, PairApart, NumberTwice, CodeTwice, UnknownGroup, MixedRoute, Memory}
 use Rattle.xbar_plan.specs.declared.group.Member.{Member}
 
--- from the least to the most, both included
+-- whether n is from `least` to `most`, both included
 abbrev pub is_between : ℕ → ℕ → ℕ → Bool
 is_between least most n = nat_le least n && nat_le n most
 
--- no two items of the list are the same
+-- whether no two items of the list are the same
 abbrev pub are_distinct : {A : Type 0} → (A → A → Bool) → List A → Bool
 are_distinct same [] = true
 are_distinct same (x ∷ xs) = not (list_any (λ other. same other x) xs) && are_distinct same xs
 
--- a letter of A to Z or a digit
+-- whether a character is a letter A to Z or a digit
 abbrev pub is_name_character : ℕ → Bool
 is_name_character character = is_ascii_uppercase character || is_ascii_digit character
 
--- a group's name has 1 to 8 characters
+-- a group's name: 1 to 8 characters of A to Z and 0 to 9
 abbrev pub is_name : List ℕ → Bool
 is_name name = is_between 1 8 (length name) && list_all is_name_character name
 
--- an intra member has two places, any other member has one
+-- each member of an intra group has two places, each member of another group has one
 abbrev pub has_its_places : TrunkGroup → Bool
 has_its_places group =
     list_all (λ member. beq (is_some member.second) (is_intra group)) group.members
 
--- the second place, if there is one, is on the trunk link frame of the first
+-- the member's second place, if there is one, is on the same trunk link frame as the first
 abbrev pub is_on_one_frame : Member → Bool
 is_on_one_frame member =
     option_map_or (λ second. second.frame == member.first.frame) member.second true
@@ -47,11 +47,11 @@ group_places group = flat_map places group.members
 abbrev pub all_places : List TrunkGroup → List TrunkPlace
 all_places groups = flat_map group_places groups
 
--- a group with a name, whose members have the places that its kind asks for
+-- the group has a valid name, and its members have the places of its kind
 abbrev pub is_well_formed_group : TrunkGroup → Bool
 is_well_formed_group group = is_name group.name && has_its_places group
 
--- places, numbers, lines, codes and links in range
+-- all places, directory numbers, lines, codes and links are in range
 abbrev pub are_in_range : Tables → Bool
 are_in_range plan =
     list_all is_trunk_place (all_places plan.groups)
@@ -60,41 +60,41 @@ are_in_range plan =
     && list_all (λ route. nat_lt route.code 1000) plan.routes
     && list_all is_link plan.faults
 
--- nothing in the tables that no text could say
+-- the tables contain nothing that a text could not express
 abbrev pub are_well_formed : Tables → Bool
 are_well_formed plan = list_all is_well_formed_group plan.groups && are_in_range plan
 
--- at most 16 groups, with 1 to 40 members each
+-- there are at most 16 groups, with 1 to 40 members each
 abbrev pub are_groups_within_limits : List TrunkGroup → Bool
 are_groups_within_limits groups =
     nat_le (length groups) 16 && list_all (λ group. is_between 1 40 (length group.members)) groups
 
--- at most 3000 numbers, with 1 to 10 lines each
+-- there are at most 3000 directory numbers, with 1 to 10 lines each
 abbrev pub are_stations_within_limits : List Station → Bool
 are_stations_within_limits stations =
     nat_le (length stations) 3000
     && list_all (λ station. is_between 1 10 (length station.lines)) stations
 
--- at most 64 codes, which lead to 1 to 4 groups each
+-- there are at most 64 codes, which lead to 1 to 4 groups each
 abbrev pub are_routes_within_limits : List Route → Bool
 are_routes_within_limits routes =
     nat_le (length routes) 64 && list_all (λ route. is_between 1 4 (length route.groups)) routes
 
--- and at most 100 links out of order
+-- all three limits hold, and at most 100 links are out of order
 abbrev pub are_within_limits : Tables → Bool
 are_within_limits plan =
     are_groups_within_limits plan.groups && are_stations_within_limits plan.stations
     && are_routes_within_limits plan.routes && nat_le (length plan.faults) 100
 
--- no two groups have one name
+-- no two groups have the same name
 abbrev pub are_names_distinct : List TrunkGroup → Bool
 are_names_distinct groups = are_distinct bytes_eq (map (λ group. group.name) groups)
 
--- there is just one group of registers
+-- there is exactly one group of registers
 abbrev pub has_one_register_group : List TrunkGroup → Bool
 has_one_register_group groups = count_by is_register groups == 1
 
--- no trunk place stands twice, in one group or in two, in one pair or in two
+-- no trunk place occurs twice: in one group or in two, in one pair or in two
 abbrev pub are_places_distinct : List TrunkGroup → Bool
 are_places_distinct groups = are_distinct place_eq (all_places groups)
 
@@ -102,41 +102,41 @@ are_places_distinct groups = are_distinct place_eq (all_places groups)
 abbrev pub are_pairs_on_one_frame : List TrunkGroup → Bool
 are_pairs_on_one_frame groups = list_all (λ group. list_all is_on_one_frame group.members) groups
 
--- no directory number stands twice
+-- no directory number occurs twice
 abbrev pub are_numbers_distinct : List Station → Bool
 are_numbers_distinct stations = are_distinct nat_eq (map (λ station. station.number) stations)
 
--- no code stands twice
+-- no code occurs twice
 abbrev pub are_codes_distinct : List Route → Bool
 are_codes_distinct routes = are_distinct nat_eq (map (λ route. route.code) routes)
 
--- each code leads to groups that are there
+-- each code leads to groups that exist
 abbrev pub are_groups_known : List TrunkGroup → List Route → Bool
 are_groups_known groups routes =
     list_all (λ route. list_all (λ group. nat_lt group (length groups)) route.groups) routes
 
--- whether a group of this number is there and passes the test
+-- whether the group with this number exists and passes the test
 abbrev pub is_group : (TrunkGroup → Bool) → List TrunkGroup → ℕ → Bool
 is_group test groups number = option_map_or test (slice_get groups number) false
 
--- a code leads to intra groups alone, or to outgoing groups alone
+-- the groups of the route are all intra or all outgoing
 abbrev pub leads_to_trunks : List TrunkGroup → Route → Bool
 leads_to_trunks groups route =
     list_all (is_group is_intra groups) route.groups
     || list_all (is_group is_outgoing groups) route.groups
 
--- every one of these numbers is that of a group that passes the test
+-- each of these numbers is that of a group that passes the test
 abbrev pub LeadsOnlyTo : (TrunkGroup → Bool) → Tables → List ℕ → Type 0
 LeadsOnlyTo test plan groups =
     (k number : ℕ) → slice_get groups k ≡ Some number → (group : TrunkGroup)
     × (slice_get plan.groups number ≡ Some group) × (test group ≡ true)
 
--- so does each code
+-- the groups of each route are all intra or all outgoing
 abbrev pub do_routes_lead_to_trunks : List TrunkGroup → List Route → Bool
 do_routes_lead_to_trunks groups routes = list_all (leads_to_trunks groups) routes
 
--- what tables are tested for, and the fault that they have where the test fails, in the order of
--- the faults' numbers
+-- the tests of tables, each with the fault of tables that fail it, in the order of the faults'
+-- numbers
 abbrev pub tests : Tables → List (Bool × PlanFault)
 tests plan =
     (are_well_formed plan, Malformed) ∷
@@ -150,20 +150,21 @@ tests plan =
     (are_groups_known plan.groups plan.routes, UnknownGroup) ∷
     (do_routes_lead_to_trunks plan.groups plan.routes, MixedRoute) ∷ []
 
--- the fault of the first test that fails
+-- the fault of the first test that fails, if any
 abbrev pub first_failed : List (Bool × PlanFault) → Option PlanFault
 first_failed [] = None
 first_failed (test ∷ others) = if test.0 then first_failed others else Some test.1
 
--- what is wrong with tables: the least fault that they have
+-- the first fault of the tables, if they have one
 unfoldable pub fault_in : Tables → Option PlanFault
 fault_in plan = first_failed (tests plan)
 
--- what every plan keeps: no test fails
+-- the tables are lawful: they fail no test
 pub record IsLawful (plan : Tables) : Type 0 where
   pub none_fails : fault_in plan ≡ None
 
--- a plan of these tables, which are lawful, or the fault that they have, unless memory ran out
+-- the result of making a plan: the tables, which are lawful, or their first fault, or that memory
+-- ran out
 abbrev pub IsPlanOf : Tables → Result Tables PlanFault → Type 0
 IsPlanOf plan result =
     MatchResult result (λ made. (fault_in plan ≡ None) × (made ≡ plan))

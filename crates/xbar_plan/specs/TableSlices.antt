@@ -1,7 +1,7 @@
 use Rattle.xbar_plan.specs.Tables.{Tables}
 use Rattle.xbar_plan.specs.declared.table_slices.TableSlices.{TableSlices}
 
--- the tables that the slices show
+-- the tables that the slices hold
 abbrev pub tables_of : TableSlices → Tables
 tables_of slices =
     record {

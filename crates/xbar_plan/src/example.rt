@@ -1,3 +1,5 @@
+//! The tables of the example plan.
+
 ghost use Rattle.std.specs.Prelude.{◌≡◌, ◌<◌, ◌++◌, [], ◌∷◌, IfOk, OnOk};
 ghost use Rattle.xbar_plan.specs.Example.{place, single as single_at, pair as pair_at, station as station_with, example_groups, example_stations, example_routes};
 
@@ -7,6 +9,7 @@ use crate::station::Station;
 use std::alloc::{AllocError, Global};
 use xbar_equip::{DirNo, Len, Ten};
 
+/// A member with one place.
 fn single(first: Ten) -> Member
     ensures { result ≡ single_at first }
 {
@@ -16,6 +19,7 @@ fn single(first: Ten) -> Member
     }
 }
 
+/// An intra member, by its calling side's place and its called side's.
 fn pair(first: Ten, second: Ten) -> Member
     ensures { result ≡ pair_at first second }
 {

@@ -5,40 +5,42 @@ use std::alloc::{AllocError, AllocFailed};
 use std::fmt;
 use thiserror::Error;
 
-/// What is wrong with a plan, in the order in which faults are looked for: each one only where those
-/// before it are absent. Its text is its number, `P1` to `P14`, or `MEMORY`.
+/// Why a plan was refused. The faults are looked for in this order, and the first one is reported.
+/// `Memory` can be reported in place of any fault that would be found later.
+///
+/// The text of a fault is its number, `P1` to `P14`, or `MEMORY`.
 #[derive(Clone, Copy, Debug, PartialEq, Eq, Error)]
 pub enum PlanFault {
-    /// The bytes are no TOML document.
+    /// The bytes are not a TOML document.
     NotToml,
     /// `version` is missing, or is neither the integer 1 nor the integer 2.
     Version,
     /// `groups`, `numbers`, `codes` or `faults` is missing.
     KeyMissing,
-    /// One of these four is no array, or an item of one is no text.
+    /// The value of one of these four keys is not an array, or an item of it is not a string.
     NotTexts,
-    /// An item hasn't the form that its list asks for.
+    /// An item does not have the form of its list.
     Malformed,
-    /// There are more than 16 groups, 3,000 numbers, 64 codes or 100 faults; or a group hasn't 1 to 40
-    /// members, a number hasn't 1 to 10 lines, or a code hasn't 1 to 4 groups.
+    /// There are more than 16 groups, 3,000 numbers, 64 codes or 100 faults; or a group does not
+    /// have 1 to 40 members, a number 1 to 10 lines, or a code 1 to 4 groups.
     Limit,
-    /// Two groups have one name.
+    /// Two groups have the same name.
     GroupTwice,
-    /// There is no group of registers, or more than one.
+    /// There is no register group, or more than one.
     RegisterGroups,
-    /// A trunk place stands twice, in one group or in two, in one pair or in two.
+    /// A trunk place occurs twice: in one group or in two, in one pair or in two.
     PlaceTwice,
-    /// The places of a pair are on two trunk link frames.
+    /// The places of a pair are on different trunk link frames.
     PairApart,
-    /// A directory number stands twice.
+    /// A directory number occurs twice.
     NumberTwice,
-    /// A code stands twice.
+    /// A code occurs twice.
     CodeTwice,
-    /// A code leads to a group that isn't there.
+    /// A code leads to a group that does not exist.
     UnknownGroup,
     /// A code leads to the register group, or to both intra and outgoing groups.
     MixedRoute,
-    /// Memory ran out before the plan was read, and nothing is known of what was left to be looked at.
+    /// Memory ran out, and the rest of the plan was not checked.
     Memory,
 }
 

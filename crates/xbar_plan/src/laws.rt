@@ -1,5 +1,5 @@
-//! What holds of every lawful plan, for the crates above. Each function does nothing: its contract
-//! is the law.
+//! Laws of lawful plans, for use by other crates. Each function does nothing; its contract is the
+//! law.
 
 ghost use Rattle.std.specs.Prelude.{◌↔◌, None, ◌≡◌, ◌≢◌, ◌<◌, ◌≤◌, ◌⊎◌, ℕ, List, true, Option, Some, is_some, slice_get, length};
 ghost use Rattle.xbar_equip.specs.Len.{Line, IsLine};
@@ -13,7 +13,7 @@ ghost use Rattle.xbar_plan.specs.declared.group.MemberPlace.{MemberPlace};
 
 use crate::plan::Plan;
 
-/// Each plan is lawful, so what holds of lawful tables holds of its tables.
+/// The tables of every plan are lawful, so the laws of lawful tables hold of them.
 pub fn every_plan_is_lawful(plan: &Plan)
     ensures { IsLawful plan.now }
 {
@@ -31,14 +31,14 @@ pub fn groups_have_members()
         member_at plan number index ≡ Some member → (number < 16) × (index < 40) }
 {}
 
-/// Where a member stands is a trunk place.
+/// The places of members are in range.
 pub fn places_are_in_range()
     ensures { (plan : Tables) → IsLawful plan → (number index : ℕ) (member : Member) →
         member_at plan number index ≡ Some member → (place : TrunkPlace) →
         stands_at member place ≡ true → IsTrunkPlace place }
 {}
 
-/// Two members that stand at one place are one.
+/// Two members at the same place are the same member.
 pub fn one_member_stands_at_a_place()
     ensures { (plan : Tables) → IsLawful plan →
         (number index number' index' : ℕ) (member member' : Member) (place : TrunkPlace) →
@@ -47,7 +47,8 @@ pub fn one_member_stands_at_a_place()
         (number ≡ number') × (index ≡ index') }
 {}
 
-/// An intra member, and no other, has two places, which are on one trunk link frame.
+/// Intra members, and no others, have two places, which are distinct and on the same trunk link
+/// frame.
 pub fn intra_members_are_pairs()
     ensures intra { (plan : Tables) → IsLawful plan →
         (number index : ℕ) (group : TrunkGroup) (member : Member) →
@@ -63,7 +64,7 @@ pub fn intra_members_are_pairs()
         second ≢ member.first }
 {}
 
-/// Each place of a pair is seen from the other one, and a single member's place has none beside it.
+/// Each place of a pair has the other as its other place. The place of a single member has none.
 pub fn places_of_a_pair_see_each_other()
     ensures paired { (plan : Tables) → IsLawful plan →
         (number index : ℕ) (member : Member) (place : TrunkPlace) →
@@ -87,13 +88,13 @@ pub fn places_of_a_pair_see_each_other()
         other_place member place ≡ Some other → other_place member other ≡ Some place }
 {}
 
-/// `member_of` answers with a member that stands at the place, and with none only where none does.
+/// `member_of` returns a member at the place, and `None` only if no member is there.
 pub fn member_places_are_of_members()
     ensures { (plan : Tables) (place : TrunkPlace) →
         IsMemberPlace plan place (member_place plan place) }
 {}
 
-/// What `member_of` answers in a lawful plan is in range: the group, the member, and the other place.
+/// In a lawful plan, what `member_of` returns is in range: the group, the member and its places.
 pub fn member_places_are_in_range()
     ensures numbers { (plan : Tables) → IsLawful plan → (place : TrunkPlace) (found : MemberPlace) →
         member_place plan place ≡ Some found → (found.group < 16) × (found.index < 40) }
@@ -104,14 +105,14 @@ pub fn member_places_are_in_range()
         found.other ≡ Some other → IsTrunkPlace other }
 {}
 
-/// Only one answer fits the question which member stands at a place.
+/// In a lawful plan there is only one right answer to which member is at a place.
 pub fn one_answer_fits_a_place()
     ensures { (plan : Tables) → IsLawful plan →
         (place : TrunkPlace) (found found' : Option MemberPlace) → IsMemberPlace plan place found →
         IsMemberPlace plan place found' → found ≡ found' }
 {}
 
-/// The register group is there and has registers, and no other group has.
+/// The register group exists, and it is the only group of registers.
 pub fn one_group_has_registers()
     ensures there { (plan : Tables) → IsLawful plan →
         (group : TrunkGroup) × (slice_get plan.groups (register_group plan) ≡ Some group) ×
@@ -121,7 +122,7 @@ pub fn one_group_has_registers()
         number ≡ register_group plan }
 {}
 
-/// A directory number that is in use has 1 to 10 lines.
+/// A directory number that is in use has 1 to 10 lines, which are in range.
 pub fn numbers_have_lines()
     ensures count { (plan : Tables) → IsLawful plan → (number : ℕ) (lines : List Line) →
         lines_of plan number ≡ Some lines → (0 < length lines) × (length lines ≤ 10) }
@@ -130,7 +131,7 @@ pub fn numbers_have_lines()
         IsLine line }
 {}
 
-/// A code that is in use leads to 1 to 4 groups, all of them intra or all of them outgoing.
+/// A code that is in use leads to 1 to 4 groups that exist, all intra or all outgoing.
 pub fn codes_lead_to_trunks()
     ensures count { (plan : Tables) → IsLawful plan → (code : ℕ) (groups : List ℕ) →
         route_of plan code ≡ Some groups → (0 < length groups) × (length groups ≤ 4) }
@@ -142,13 +143,13 @@ pub fn codes_lead_to_trunks()
         LeadsOnlyTo is_outgoing plan groups }
 {}
 
-/// What is listed as out of order is a link.
+/// The links that are listed as out of order are in range.
 pub fn faults_are_links()
     ensures { (plan : Tables) → IsLawful plan → (link : Link) → is_faulty plan link ≡ true →
         IsLink link }
 {}
 
-/// Tables are lawful exactly where no test of tables tells a fault.
+/// Tables are lawful exactly if no check finds a fault.
 pub fn lawful_tables_have_no_fault()
     ensures { (plan : Tables) → IsLawful plan ↔ (fault_in plan ≡ None) }
 {}

@@ -1,5 +1,5 @@
-//! The plan of a No. 5 Crossbar office: trunk groups, directory numbers, routes, and links that are
-//! out of order.
+//! The plan of a No. 5 Crossbar office: trunk groups, directory numbers, routes, and links that
+//! are out of order.
 #![tactic(auto)]
 
 pub use fault::PlanFault;

@@ -12,7 +12,7 @@ use std::alloc::{AllocError, Global};
 use std::marker::Model;
 use xbar_equip::{DirNo, Len, Link, Ten};
 
-/// The plan of an office. Every plan is lawful.
+/// The plan of an office. Its tables are always lawful.
 #[derive(Debug, Drop)]
 pub struct Plan {
     groups: Vec<Group>,
@@ -24,7 +24,7 @@ pub struct Plan {
 
 impl Model for Plan {
     ghost use Rattle.xbar_plan.specs.Tables.{Tables};
-    ghost use Rattle.xbar_plan.specs.Directory.{IsKept};
+    ghost use Rattle.xbar_plan.specs.Directory.{IsDirectoryInvariant};
 
     ghost Value = { Tables };
 
@@ -35,7 +35,7 @@ impl Model for Plan {
       faults = a.faults.items;
     } };
 
-    ghost invariant = { λ a. IsKept
+    ghost invariant = { λ a. IsDirectoryInvariant
         (record {
           groups = a.groups.items;
           stations = a.stations.items;
@@ -51,7 +51,7 @@ impl Plan {
     ghost use Rattle.xbar_plan.specs.Lawful.{IsLawful, IsPlanOf};
     ghost use Rattle.xbar_plan.specs.Example.{example as the_example};
 
-    /// Makes a plan of tables that are known to be lawful.
+    /// Makes a plan from tables that are known to be lawful.
     pub fn new(
         alloc: Global,
         groups: Vec<Group>,
@@ -83,7 +83,8 @@ impl Plan {
         })
     }
 
-    /// Makes a plan of tables, or tells the least fault that they have.
+    /// Makes a plan from tables, or returns their first fault. `Memory` may be returned instead of
+    /// either.
     pub fn try_new(
         alloc: Global,
         groups: Vec<Group>,
@@ -105,8 +106,8 @@ impl Plan {
         }
     }
 
-    /// A small plan with a group of each kind: registers 417, 418 and 509, two intra trunks, and two
-    /// groups of outgoing ones.
+    /// A small plan with groups of each kind: registers 417, 418 and 509, two intra trunks, and
+    /// two outgoing groups.
     #[tactic(auto, unfolding(crate::specs::Lawful::fault_in))]
     pub fn example(alloc: Global) -> Result<Self, AllocError>
         ensures { IfOk result (λ plan. plan ≡ the_example) }
@@ -117,7 +118,7 @@ impl Plan {
         Ok(Plan::new(alloc, groups, stations, routes, Vec::new(alloc))?)
     }
 
-    /// Its tables. They are lawful.
+    /// The plan's tables, which are lawful.
     pub fn tables(&self) -> TableSlices<'_>
         ensures tables { tables_of result ≡ self.now }
         ensures lawful { IsLawful (tables_of result) }
@@ -125,7 +126,7 @@ impl Plan {
         TableSlices::new(&self.groups, &self.stations, &self.routes, &self.faults)
     }
 
-    /// 1 to 16.
+    /// The number of groups, 1 to 16.
     pub fn group_count(&self) -> u8
         ensures count { result ≡ length self.now.groups }
         ensures lawful { IsLawful self.now }
@@ -133,7 +134,7 @@ impl Plan {
         self.groups.len() as u8
     }
 
-    /// The group of this number, counted from 0.
+    /// The group with this number, counted from 0.
     pub fn group(&self, number: u8) -> &Group
         requires { number < length self.now.groups }
         ensures group { slice_get self.now.groups number ≡ Some result.now }
@@ -142,7 +143,7 @@ impl Plan {
         &self.groups[number as usize]
     }
 
-    /// The number of the only group of registers.
+    /// The number of the only register group.
     pub fn register_group(&self) -> u8
         ensures group { result ≡ register_group_of self.now }
         ensures range { result < 16 }
@@ -151,18 +152,18 @@ impl Plan {
         register_position(&self.groups).unwrap_or(0) as u8
     }
 
-    /// Which member stands at the place, with its other place.
+    /// The member at a trunk place, with its other place, or `None` if there is no member.
     pub fn member_of(&self, place: Ten) -> Option<MemberPlace>
         ensures member { result ≡ member_place self.now place }
         ensures lawful { IsLawful self.now }
     {
-        // Called for its clauses alone.
+        // Called only for its contract.
         xbar_equip::laws::place_is_in_range(place);
         self.directory.member_at(place)
     }
 
-    /// The groups of a code, by their numbers, in the order in which they are tried; none for a
-    /// code that isn't in use.
+    /// The numbers of the groups that a code leads to, in the order in which they are tried.
+    /// `None` if the code is not in use.
     pub fn route(&self, code: u16) -> Option<&[u8]>
         ensures route { option_copied result ≡ route_of self.now code }
         ensures lawful { IsLawful self.now }
@@ -175,13 +176,13 @@ impl Plan {
         Some(self.routes[usize::from(place)].groups())
     }
 
-    /// The lines of a directory number, one to ten, in the order in which they are hunted; none for
-    /// a number that isn't in use.
+    /// The lines of a directory number, 1 to 10, in the order in which they are hunted. `None` if
+    /// the number is not in use.
     pub fn stations(&self, number: DirNo) -> Option<&[Len]>
         ensures lines { option_copied result ≡ lines_of self.now number }
         ensures lawful { IsLawful self.now }
     {
-        // Called for its range.
+        // Called only for the range that its contract states.
         let _number = number.number();
         let place = self.directory.station_of(number)?;
         Some(self.stations[usize::from(place)].lines())
@@ -192,12 +193,13 @@ impl Plan {
         ensures faulty { result ≡ is_faulty self.now link }
         ensures lawful { IsLawful self.now }
     {
-        // Called for its clauses alone.
+        // Called only for its contract.
         xbar_equip::laws::link_is_in_range(link);
         self.directory.is_faulty(link)
     }
 }
 
+/// The index of the first register group.
 fn register_position(groups: &[Group]) -> Option<usize>
     ensures { result ≡ position is_register groups.now }
 {

@@ -2,8 +2,7 @@ ghost use Rattle.std.specs.Prelude.{◌≡◌};
 
 use std::marker::Model;
 
-/// A code, the first three digits that are dialled, with the groups that it leads to, by their
-/// numbers, in the order in which they are tried.
+/// An office code, the first three digits that are dialled, and the groups that it leads to.
 #[derive(Debug, Drop)]
 pub struct Route {
     code: u16,
@@ -19,21 +18,22 @@ impl Model for Route {
 }
 
 impl Route {
-    /// The code, and its groups by their numbers, counted from 0.
+    /// A route from a code to groups, by their numbers, in the order in which they are tried.
     pub fn new(code: u16, groups: Vec<u8>) -> Self
         ensures { result ≡ record { code = code; groups = groups.items } }
     {
         Route { code, groups }
     }
 
-    /// The three digits as a number, 0 to 999 in a lawful plan.
+    /// The code as a number, 0 to 999 in a lawful plan.
     pub fn code(&self) -> u16
         ensures { result ≡ self.now.code }
     {
         self.code
     }
 
-    /// The numbers of its groups, 1 to 4 of them in a lawful plan, in the order in which they are tried.
+    /// The numbers of the groups, counted from 0, in the order in which they are tried. A lawful
+    /// plan has 1 to 4 for each code.
     pub fn groups(&self) -> &[u8]
         ensures { result.now ≡ self.now.groups }
     {

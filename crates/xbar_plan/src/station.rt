@@ -3,7 +3,7 @@ ghost use Rattle.std.specs.Prelude.{◌≡◌};
 use std::marker::Model;
 use xbar_equip::{DirNo, Len};
 
-/// A directory number with its lines, in the order in which they are hunted.
+/// A directory number and its lines, in the order in which they are hunted.
 #[derive(Debug, Drop)]
 pub struct Station {
     number: DirNo,
@@ -19,21 +19,21 @@ impl Model for Station {
 }
 
 impl Station {
-    /// The number, and its lines in the order in which they are hunted.
+    /// A directory number with these lines, in the order in which they are hunted.
     pub fn new(number: DirNo, lines: Vec<Len>) -> Self
         ensures { result ≡ record { number = number; lines = lines.items } }
     {
         Station { number, lines }
     }
 
-    /// The four digits that callers dial behind the code.
+    /// The directory number: the four digits that callers dial after the code.
     pub fn number(&self) -> DirNo
         ensures { result ≡ self.now.number }
     {
         self.number
     }
 
-    /// 1 to 10 lines in a lawful plan, in the order in which they are hunted.
+    /// The lines, 1 to 10 in a lawful plan, in the order in which they are hunted.
     pub fn lines(&self) -> &[Len]
         ensures { result.now ≡ self.now.lines }
     {

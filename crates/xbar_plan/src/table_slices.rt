@@ -5,7 +5,7 @@ use crate::route::Route;
 use crate::station::Station;
 use xbar_equip::Link;
 
-/// The tables of a plan, or of what may become one.
+/// The tables of a plan, or tables that are still to be checked.
 #[derive(Drop)]
 pub struct TableSlices<'a> {
     pub groups: &'a [Group],

@@ -10,7 +10,7 @@ use Rattle.xbar_plan_text.specs.Texts.{CodeEntry, group_number, route_of_entry, 
 use Rattle.xbar_plan_text.specs.Document.{Entries, tables_of_entries}
 use Rattle.xbar_plan.specs.declared.fault.PlanFault.TheVariants.{Malformed, Limit}
 
--- a group's number is at most how many there are
+-- a group's number is at most the number of groups
 number-bound : (groups : List TrunkGroup) (name : List ℕ) → group_number groups name ≤ length groups
 number-bound groups name = of (position (λ group. bytes_eq group.name name) groups) refl where
   of : (o : Option ℕ) → position (λ group. bytes_eq group.name name) groups ≡ o → unwrap_or o (length groups) ≤ length groups
@@ -31,7 +31,7 @@ same-routes : (groups : List TrunkGroup) (entries : List CodeEntry) → length g
 same-routes groups [] few = refl
 same-routes groups (entry ∷ entries) few = λ i. (record { code = entry.code; groups = same-numbers groups entry.names few i }) ∷ same-routes groups entries few i
 
--- the tables with numbers as far as a byte goes
+-- the tables with groups by capped numbers
 abbrev pub capped_tables : Entries → Tables
 capped_tables entries = record {
   groups = entries.groups;
@@ -43,7 +43,7 @@ capped_tables entries = record {
 same-tables : (entries : Entries) → length entries.groups ≤ 16 → capped_tables entries ≡ tables_of_entries entries
 same-tables entries few = λ i. record { groups = entries.groups; stations = entries.stations; routes = same-routes entries.groups entries.codes few i; faults = entries.faults }
 
--- with more groups both are refused, for the same
+-- with more groups both are refused, for the same fault
 same-codes : (groups : List TrunkGroup) (entries : List CodeEntry) → list_all (λ route. nat_lt route.code 1000) (map (capped_route groups) entries) ≡ list_all (λ route. nat_lt route.code 1000) (map (route_of_entry groups) entries)
 same-codes groups [] = refl
 same-codes groups (entry ∷ entries) = ap (λ (b : Bool). nat_lt entry.code 1000 && b) (same-codes groups entries)
@@ -60,7 +60,7 @@ same-fault entries = of (nat_le (length entries.groups) 16) refl where
       let formed : are_well_formed (capped_tables entries) ≡ are_well_formed (tables_of_entries entries) = rw (same-codes entries.groups entries.codes) in
       many (capped_tables entries) e ∙ ap (λ (b : Bool). if b then Some Limit else Some Malformed) formed ∙ sym (many (tables_of_entries entries) e)
 
--- where nothing is wrong there are few groups, so both are one
+-- tables without a fault have few groups, so both are the same
 pub same-lawful : (entries : Entries) → fault_in (capped_tables entries) ≡ None → capped_tables entries ≡ tables_of_entries entries
 same-lawful entries lawful = of (nat_le (length entries.groups) 16) refl where
   never : (b : Bool) → (if b then Some Limit else Some Malformed) ≡ None → ⊥

@@ -12,7 +12,7 @@ use Rattle.xbar_plan_text.specs.Document.{document_of, texts_of_items, needs}
 use Rattle.xbar_plan.specs.declared.fault.PlanFault.{PlanFault}
 use Rattle.xbar_plan.specs.declared.fault.PlanFault.TheVariants.{Memory}
 
--- bytes are a document where they are UTF-8 and parse
+-- bytes that are UTF-8 and parse are a document
 pub document-some : (bytes : List ℕ) (document : Members) → IsUtf8 bytes → parse_document bytes ≡ Some document → document_of bytes ≡ Some document
 unfolding document_of
 document-some bytes document text parsed =
@@ -25,20 +25,20 @@ document-none bytes refused = of (is_utf8 bytes) refl where
   of true e = refused (IsUtf8-from_is_utf8 bytes e)
   of false e = refl
 
--- the texts of items are what each value reads as
+-- the strings of items are those of each value
 pub texts-read : (values : List Value) → texts_of_items (items_view values) ≡ read_all (λ value. as_str (view value)) values
 texts-read [] = refl
 texts-read (value ∷ values) =
     ap (λ (o : Option (List (List ℕ))). option_and_then (λ text. option_map {U = List (List ℕ)} (λ texts. text ∷ texts) o) (as_str (view value))) (texts-read values)
 
--- a stage that gives something goes on, and one that gives nothing ends with its fault
+-- a stage with a value goes on, and a stage without one ends with its fault
 pub goes_on : {A : Type 0} (told : PlanFault) (wanted : Option A) (next : A → Result Tables PlanFault) (value : A) → wanted ≡ Some value → needs told wanted next ≡ next value
 goes_on {A} told wanted next value e = ap (λ (o : Option A). needs told o next) e
 
 pub ends : {A : Type 0} (told : PlanFault) (wanted : Option A) (next : A → Result Tables PlanFault) → wanted ≡ None → needs told wanted next ≡ Err told
 ends {A} told wanted next e = ap (λ (o : Option A). needs told o next) e
 
--- what it refuses is told
+-- a refusal by a stage is a refusal by the reading
 pub stage_refuses : {A : Type 0} (told refusal : PlanFault) (wanted : Option A) (next : A → Result Tables PlanFault) → (refusal ≡ Memory) ⊎ ((refusal ≡ told) × (wanted ≡ None)) → (refusal ≡ Memory) ⊎ (needs told wanted next ≡ Err refusal)
 stage_refuses told refusal wanted next (inl memory) = inl memory
 stage_refuses told refusal wanted next (inr e) = inr (ends told wanted next e.1 ∙ ap (λ f. Err f) (sym e.0))

@@ -10,11 +10,11 @@ use Rattle.xbar_plan_text.specs.Document.{Four, entries_of, texts_of, lists_of}
 use Rattle.xbar_plan_text.specs.declared.read.version.Version.{Version}
 use Rattle.xbar_plan_text.proofs.ReadAll.{read_map}
 
--- the bytes that parts point to
+-- the bytes that the parts refer to
 abbrev pub bytes_of : List (Bor (List ℕ)) → List (List ℕ)
 bytes_of parts = map (λ text. text.now) parts
 
--- items are read from all four lists, or one of them has one that is not read
+-- the items of all four lists are read, or an item of one list cannot be read
 module _ (version : Version) (groups numbers codes faults : List (Bor (List ℕ))) where
   abbrev pub lists : Four (List (List ℕ))
   lists = record { groups = bytes_of groups; numbers = bytes_of numbers; codes = bytes_of codes; faults = bytes_of faults }
@@ -34,7 +34,7 @@ module _ (version : Version) (groups numbers codes faults : List (Bor (List ℕ)
   pub all_read : (a : List TrunkGroup) (b : List Station) (c : List CodeEntry) (d : List Link) → read_all (λ text. group_of text.now) groups ≡ Some a → read_all (λ text. station_of version text.now) numbers ≡ Some b → read_all (λ text. code_entry_of text.now) codes ≡ Some c → read_all (λ text. fault_of text.now) faults ≡ Some d → entries_of version lists ≡ Some (record { groups = a; stations = b; codes = c; faults = d })
   all_read a b c d e1 e2 e3 e4 = rw (read_map group_of (λ (text : Bor (List ℕ)). text.now) groups, e1, read_map (station_of version) (λ (text : Bor (List ℕ)). text.now) numbers, e2, read_map code_entry_of (λ (text : Bor (List ℕ)). text.now) codes, e3, read_map fault_of (λ (text : Bor (List ℕ)). text.now) faults, e4)
 
--- texts are had of all four values, or one of them is no list of texts
+-- all four values are arrays of strings, or one of them is not
 module _ (values : Four Data) where
   pub groups_textless : texts_of values.groups ≡ None → lists_of values ≡ None
   groups_textless e1 = rw e1

@@ -10,12 +10,12 @@ use Rattle.xbar_plan.specs.declared.group.Member.{Member}
 use Rattle.xbar_plan_text.specs.declared.read.version.Version.{Version}
 use Rattle.xbar_plan_text.proofs.ReadAll.{read_map}
 
--- what one part refuses, the whole refuses
+-- a refusal of one part is a refusal of the whole
 pub passed_on : (told : PlanFault) {P Q : Type 0} → (P → Q) → (told ≡ Memory) ⊎ ((told ≡ Malformed) × P) → (told ≡ Memory) ⊎ ((told ≡ Malformed) × Q)
 passed_on told f (inl memory) = inl memory
 passed_on told f (inr malformed) = inr (malformed.0, f malformed.1)
 
--- the same of the fault of any stage
+-- the same for the fault of any stage
 pub passed_on_as : (refusal told : PlanFault) {P Q : Type 0} → (P → Q) → (refusal ≡ Memory) ⊎ ((refusal ≡ told) × P) → (refusal ≡ Memory) ⊎ ((refusal ≡ told) × Q)
 passed_on_as refusal told f (inl memory) = inl memory
 passed_on_as refusal told f (inr e) = inr (e.0, f e.1)

@@ -1,5 +1,5 @@
 use Rattle.std.proofs.lemmas.Grind.{flat_map-append}
 use Rattle.std.proofs.lemmas.List.Folds.{flat_map-map}
 
--- what is joined of items
+-- laws of texts that are joined from items
 pub ruleset joined = (flat_map-append, flat_map-map)

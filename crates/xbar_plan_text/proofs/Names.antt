@@ -7,7 +7,7 @@ use Rattle.std.proofs.lemmas.Bool.{leb-true}
 use Rattle.xbar_equip.proofs.Logic.{both, either}
 use Rattle.xbar_plan.specs.Lawful.{is_between, is_name, is_name_character}
 
--- a letter or a digit is below 128, and is no space
+-- a letter or a digit is below 128, and is not a space
 below : (c : ℕ) → is_name_character c ≡ true → c < 128
 below c e = elim (either (is_ascii_uppercase c) (is_ascii_digit c) e) [
   | inl letter ↦ omega (arith, leb-true c 90 (both (nat_le 65 c) (nat_le c 90) letter).1)

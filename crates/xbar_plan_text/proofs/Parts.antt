@@ -5,7 +5,7 @@ use Rattle.std.proofs.lemmas.List.Quantifiers.{position-Some}
 use Rattle.std.proofs.lemmas.Iterator.Adapters.{position_from-zero}
 use Rattle.xbar_plan_text.specs.Texts.{parts, onto_first, IsFirstPart}
 
--- where a text has no space, it is its one part
+-- a text without a space is its only part
 none_from : (k : ℕ) (text : List ℕ) → position_from (λ byte. byte == 32) k text ≡ None → parts text ≡ text ∷ []
 none_from k [] e = refl
 none_from k (b ∷ text) e = of (b == 32) refl (none_from (k + 1) text) e where
@@ -17,7 +17,7 @@ none_from k (b ∷ text) e = of (b == 32) refl (none_from (k + 1) text) e where
 pub parts_none : (text : List ℕ) → position (λ byte. byte == 32) text ≡ None → parts text ≡ text ∷ []
 parts_none text e = none_from 0 text (sym (position_from-zero (λ byte. byte == 32) text) ∙ e)
 
--- up to its first space is its first part
+-- the text up to the first space is the first part
 some_from : (k j : ℕ) (text : List ℕ) → position_from (λ byte. byte == 32) k text ≡ Some j → (i : ℕ) × (j ≡ k + i) × (parts text ≡ take i text ∷ parts (drop (suc i) text))
 some_from k j [] e = cc
 some_from k j (b ∷ text) e = of (b == 32) refl (some_from (k + 1) j text) e where

@@ -22,7 +22,7 @@ snoc {X} {Y} f (a ∷ xs) ys x y before here = of (f a) refl (read_all f xs) ref
       ap (λ (o : Option Y). option_and_then (λ head. option_map {U = List Y} (λ tail. head ∷ tail) (read_all f (xs ++ x ∷ []))) o) first
       ∙ ap (λ (p : Option (List Y)). option_map {U = List Y} (λ tail. b ∷ tail) p) rest ∙ ap (λ (zs : List Y). Some (zs ++ y ∷ [])) is
 
--- an item that does not read: the list does not
+-- if one item cannot be read, the list cannot
 fails : {X Y : Type 0} (f : X → Option Y) (xs zs : List X) (x : X) → f x ≡ None → read_all f (xs ++ x ∷ zs) ≡ None
 fails {X} {Y} f [] zs x here = ap (λ (o : Option Y). option_and_then (λ first. option_map {U = List Y} (λ others. first ∷ others) (read_all f zs)) o) here
 fails {X} {Y} f (a ∷ xs) zs x here =
@@ -40,7 +40,7 @@ split_at {X} xs i d within =
       joined [] bs cs = refl
       joined (a ∷ zs) bs cs = ap (λ (all : List X). a ∷ all) (joined zs bs cs)
 
--- as a loop goes along
+-- one step of a loop that reads the items
 pub read_more : {X Y : Type 0} (f : X → Option Y) (xs : List X) (ys : List Y) (i : ℕ) (d : X) (y : Y) → i < length xs → read_all f (take i xs) ≡ Some ys → f (get_or xs i d) ≡ Some y → read_all f (take (i + 1) xs) ≡ Some (ys ++ y ∷ [])
 read_more f xs ys i d y within before here = ap (read_all f) (take_more xs i d within) ∙ snoc f (take i xs) ys (get_or xs i d) y before here
 
@@ -48,7 +48,7 @@ pub read_fails : {X Y : Type 0} (f : X → Option Y) (xs : List X) (i : ℕ) (d 
 read_fails f xs i d within here =
     ap (read_all f) (sym (split_at xs i d within)) ∙ fails f (take i xs) (drop (i + 1) xs) (get_or xs i d) here
 
--- where one item is not read the list is not, and the same is told
+-- a refusal of one item is a refusal of the list
 pub refused : {X Y : Type 0} (f : X → Option Y) (xs : List X) (i : ℕ) (d : X) (told : PlanFault) → i < length xs → (told ≡ Memory) ⊎ ((told ≡ Malformed) × (f (get_or xs i d) ≡ None)) → (told ≡ Memory) ⊎ ((told ≡ Malformed) × (read_all f xs ≡ None))
 refused f xs i d told within (inl memory) = inl memory
 refused f xs i d told within (inr malformed) = inr (malformed.0, read_fails f xs i d within malformed.1)
@@ -56,7 +56,7 @@ refused f xs i d told within (inr malformed) = inr (malformed.0, read_fails f xs
 pub read_whole : {X Y : Type 0} (f : X → Option Y) (xs : List X) (ys : List Y) (i : ℕ) → length xs ≤ i → read_all f (take i xs) ≡ Some ys → read_all f xs ≡ Some ys
 read_whole f xs ys i past before = ap (read_all f) (sym (take_all i xs past)) ∙ before
 
--- what is read of items through a function
+-- reading the items that a function gives
 pub read_map : {W X Y : Type 0} (f : X → Option Y) (g : W → X) (ws : List W) → read_all f (map g ws) ≡ read_all (λ w. f (g w)) ws
 read_map f g [] = refl
 read_map {W} {X} {Y} f g (w ∷ ws) =

@@ -10,7 +10,7 @@ use Rattle.xbar_plan_text.specs.declared.read.version.Version.{Version}
 use Rattle.xbar_plan_text.proofs.Capped.{capped_tables, same-fault, same-lawful}
 use Rattle.xbar_plan_text.proofs.Documents.{goes_on, ends, stage_refuses}
 
--- what is told where a stage gives nothing
+-- a refusal by each stage is a refusal by the reading
 pub lists_refused : (version : Version) (lists : Four (List (List ℕ))) (refusal : PlanFault) → (refusal ≡ fault.Memory) ⊎ ((refusal ≡ fault.Malformed) × (entries_of version lists ≡ None)) → (refusal ≡ fault.Memory) ⊎ (plan_of_lists version lists ≡ Err refusal)
 unfolding plan_of_lists
 lists_refused version lists refusal e = stage_refuses fault.Malformed refusal (entries_of version lists) plan_of_entries e
@@ -51,7 +51,7 @@ pub bytes_read : (bytes : List ℕ) (document : Members) → document_of bytes �
 unfolding plan_of
 bytes_read bytes document e = goes_on fault.NotToml (document_of bytes) plan_of_document document e
 
--- the last stage, over tables whose numbers go as far as a byte
+-- the last stage, over tables with capped numbers
 pub entries_read : (entries : Entries) (result : Result Tables PlanFault) → IsPlanOf (capped_tables entries) result → IsReading (plan_of_entries entries) result
 unfolding plan_of_entries
 entries_read entries (Ok made) is =
@@ -61,7 +61,7 @@ entries_read entries (Err told) (inl memory) = inl memory
 entries_read entries (Err told) (inr is) =
     inr (ap (λ (o : Option PlanFault). unless_faulty o (tables_of_entries entries)) (sym (same-fault entries) ∙ is))
 
--- one reading is another's where what is wanted is
+-- a right result is one for any reading that expects the same
 pub reading : (wanted wanted' : Result Tables PlanFault) (result : Result Tables PlanFault) → wanted ≡ wanted' → IsReading wanted' result → IsReading wanted result
 reading wanted wanted' (Ok made) same is = same ∙ is
 reading wanted wanted' (Err told) same (inl memory) = inl memory

@@ -8,7 +8,8 @@ use Rattle.xbar_plan.specs.declared.fault.PlanFault.TheVariants as fault
 use Rattle.xbar_plan_text.specs.declared.read.version.Version.TheVariants.{One, Two}
 use Rattle.xbar_plan_text.proofs.Stages.{document_read}
 
--- a number's text that reads in version 1 reads in version 2, as the same
+-- a directory number's text that can be read in version 1 can be read in version 2, with the same
+-- result
 station_too : (ps : List (List ℕ)) (station : Station) → station_of_parts One ps ≡ Some station → station_of_parts Two ps ≡ Some station
 station_too [] station e = cc
 station_too (number ∷ lines) station e = of (length lines == 1) refl e where
@@ -16,7 +17,7 @@ station_too (number ∷ lines) station e = of (length lines == 1) refl e where
   of true is e = e
   of false is e = cc
 
--- so do all
+-- so can all texts
 all_too : {A B : Type 0} (f g : A → Option B) → ((x : A) (y : B) → f x ≡ Some y → g x ≡ Some y) → (xs : List A) (ys : List B) → read_all f xs ≡ Some ys → read_all g xs ≡ Some ys
 all_too f g too [] ys e = e
 all_too {A} {B} f g too (x ∷ xs) ys e = of (f x) refl (read_all f xs) refl (all_too f g too xs) e where
@@ -25,7 +26,7 @@ all_too {A} {B} f g too (x ∷ xs) ys e = of (f x) refl (read_all f xs) refl (al
   of (Some y) here None others later e = cc
   of (Some y) here (Some zs) others later e = rw (too x y here, later zs others) e
 
--- what four things give together is kept where the second is
+-- f of four values stays the same if the second value does
 together_too : {A B C D E : Type 0} (f : A → B → C → D → E) (a : Option A) (b b' : Option B) (c : Option C) (d : Option D) (all : E) → ((x : B) → b ≡ Some x → b' ≡ Some x) → together f a b c d ≡ Some all → together f a b' c d ≡ Some all
 together_too f None b b' c d all too e = cc
 together_too f (Some x) None b' c d all too e = cc
@@ -57,7 +58,7 @@ version_too one two tables same e = of (values_of two) (ap (λ (o : Option (Four
   of None e = cc
   of (Some values) e = values_too values tables e
 
--- a document that is accepted in version 1 is in version 2, with the same tables
+-- a document that is accepted in version 1 is accepted in version 2, with the same tables
 pub document_too : (one two : Members) (tables : Tables) → DifferInVersion one two → plan_of_document one ≡ Ok tables → plan_of_document two ≡ Ok tables
 document_too one two tables differ e =
     document_read two Two differ.two ∙ version_too one two tables differ.same (sym (document_read one One differ.one) ∙ e)

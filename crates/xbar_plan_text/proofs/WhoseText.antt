@@ -13,7 +13,7 @@ use Rattle.xbar_equip.proofs.Logic.{both, both_hold}
 use Rattle.xbar_equip.proofs.Ranges.{line_passes, line_in_range, place_passes, place_in_range, link_passes, link_in_range}
 use Rattle.xbar_plan_text.specs.Texts.{whose_text, digit_at, link_kind_of}
 
--- a kind of value that has texts, and is had back from its text
+-- a type of values with texts from which they can be read back
 pub record HasTexts (A : Type 0) : Type 1 where
   pub in_range : A → Bool
   pub InRange : A → Type 0
@@ -35,7 +35,7 @@ module _ {A : Type 0} (has : HasTexts A) where
       subst (λ (v : A). whose_text in_range text_of (text_of x) v ≡ Some x) (sym (back x h))
       (ap (λ (b : Bool). if b then Some x else None) (both_hold (in_range x) (bytes_eq (text_of x) (text_of x)) (passes x h) ((bytes_eq-Decides (text_of x) (text_of x)).1 refl)))
 
-  -- what a parser gives that accepts just the texts of values in range
+  -- the result of a parser that accepts exactly the texts of values in range
   pub parser_reads : {E : Type 0} (text : List ℕ) (r : Result A E) → ((x : A) → InRange x → text ≡ text_of x → r ≡ Ok x) → IfOk r (λ x. InRange x × (text ≡ text_of x)) → result_ok r ≡ whose_text in_range text_of text (value_of text)
   parser_reads text (Ok x) reads only =
       sym (subst (λ (t : List ℕ). whose_text in_range text_of t (value_of t) ≡ Some x) (sym only.1) (written_reads x only.0))
@@ -87,7 +87,7 @@ numbers = record {
   four : (n : ℕ) → n < 10000 → 1000 * (48 + n / 1000 % 10 - 48) + 100 * (48 + n / 100 % 10 - 48) + 10 * (48 + n / 10 % 10 - 48) + (48 + n / 1 % 10 - 48) ≡ n
   four n below = omega (arith, below)
 
--- a link is had back from its text, whatever its kind
+-- a link is read back from its text, whatever its kind
 abbrev value_at : List ℕ → Link
 value_at text = record { kind = link_kind_of text; frame = digit_at text 2; at = digit_at text 3; channel = digit_at text 4 }
 

@@ -56,16 +56,16 @@ no_more : (text : List ℕ) → text ++ [] ≡ text
 no_more [] = refl
 no_more (b ∷ text) = ap (λ (t : List ℕ). b ∷ t) (no_more text)
 
--- parts that are spaced are the parts of the text
+-- the parts of a text that was joined by spaces
 pub parts-spaced : (first : List ℕ) (others : List (List ℕ)) → is_one_part first ≡ true → list_all is_one_part others ≡ true → parts (spaced first others) ≡ first ∷ others
 parts-spaced first [] e all = ap parts (no_more first) ∙ one_part first e
 parts-spaced first (next ∷ others) e all =
     let h = both (is_one_part next) (list_all is_one_part others) all in
     then_space first (next ++ flat_map (λ part. 32 ∷ part) others) e ∙ ap (λ (ps : List (List ℕ)). first ∷ ps) (parts-spaced next others h.0 h.1)
 
--- ---- what reads back
+-- ---- reading back
 
--- where each item is read back from its text, so are all
+-- if each item can be read back from its text, so can all
 pub all-read_back : {A : Type 0} (read : List ℕ → Option A) (write : A → List ℕ) (passes : A → Bool) → ((x : A) → passes x ≡ true → read (write x) ≡ Some x) → (xs : List A) → list_all passes xs ≡ true → read_all read (map write xs) ≡ Some xs
 all-read_back read write passes back [] all = refl
 all-read_back {A} read write passes back (x ∷ xs) all =
@@ -102,7 +102,7 @@ line-solid line = rw (digit_solid line.frame, digit_solid line.switch, digit_sol
 number-solid : (number : ℕ) → is_one_part (dir_no_text number) ≡ true
 number-solid number = rw (digit_solid (number / 1000 % 10), digit_solid (number / 100 % 10), digit_solid (number / 10 % 10), digit_solid (number / 1 % 10))
 
--- a number's text reads as it, in version 2
+-- a directory number is read back from its text, in version 2
 pub station-reads : (station : Station) → nat_lt station.number 10000 ≡ true → list_all is_line station.lines ≡ true → station_of Two (station_text station) ≡ Some station
 station-reads station number its =
     let solid = all-one_part line_text is_line (λ line e. line-solid line) station.lines its in
@@ -182,7 +182,7 @@ name-solid name e = characters-solid name (both (is_between 1 8 (length name)) (
 name-reads : (name : List ℕ) → is_name name ≡ true → name_of name ≡ Some name
 name-reads name e = ap (λ (b : Bool). if b then Some name else None) e
 
--- a group's text reads as it
+-- a group is read back from its text
 pub group-reads : (group : TrunkGroup) → is_well_formed_group group ≡ true → list_all is_trunk_place (group_places group) ≡ true → group_of (group_text group) ≡ Some group
 group-reads group formed range =
     let h = both (is_name group.name) (has_its_places group) formed in
@@ -222,7 +222,7 @@ names-solid (name ∷ names) e =
     let h = both (is_name name) (list_all is_name names) e in
     both_hold (is_one_part name) (list_all is_one_part names) (name-solid name h.0) (names-solid names h.1)
 
--- the group of a number that is there
+-- the group with a number that exists
 there : (groups : List TrunkGroup) (number : ℕ) → nat_lt number (length groups) ≡ true → (group : TrunkGroup) × (slice_get groups number ≡ Some group)
 there groups number e = of (slice_get groups number) refl where
   of : (o : Option TrunkGroup) → slice_get groups number ≡ o → (group : TrunkGroup) × (slice_get groups number ≡ Some group)
@@ -245,7 +245,7 @@ names_at groups formed (n ∷ ns) all =
     let name = (both (is_name group.0.name) (has_its_places group.0) well).0 in
     both_hold (is_name (name_at groups n)) (list_all is_name (map (name_at groups) ns)) (ap is_name (named groups n group.0 group.1) ∙ name) (names_at groups formed ns h.1)
 
--- names that stand once are those of one group
+-- if names are distinct, the name of a group is that of no other
 bytes_eq-itself : (name : List ℕ) → bytes_eq name name ≡ true
 bytes_eq-itself name = (bytes_eq-Decides name name).1 refl
 

@@ -21,7 +21,7 @@ use Rattle.xbar_plan.proofs.LawfulParts.{passes, formed}
 use Rattle.xbar_plan_text.proofs.Stages.{lists_read, values_read, version_read, document_read, bytes_read}
 use Rattle.xbar_plan_text.proofs.Written.{all-read_back, all_both, all_of_flat, group-reads, station-reads, entry-reads, entry_in, route-back, link-reads}
 
--- the texts of an array of texts
+-- the strings of an array of strings
 texts-back : (texts : List (List ℕ)) → texts_of (array_of texts) ≡ Some texts
 texts-back [] = refl
 texts-back (text ∷ texts) = ap (λ (o : Option (List (List ℕ))). option_map {U = List (List ℕ)} (λ others. text ∷ others) o) (texts-back texts)
@@ -81,13 +81,13 @@ unfolding plan_of_entries
 last-back plan lawful =
     ap (λ (tables : Tables). unless_faulty (fault_in tables) tables) (tables-back plan lawful) ∙ ap (λ (o : Option PlanFault). unless_faulty o plan) lawful.none_fails
 
--- a plan's document in version 2 has its tables
+-- a plan's document in version 2 gives its tables
 pub document-back : (plan : Tables) → IsLawful plan → plan_of_document (document_in_version_2 plan) ≡ Ok plan
 document-back plan lawful =
     document_read (document_in_version_2 plan) Two refl ∙ version_read (document_in_version_2 plan) Two (values_in plan) refl
     ∙ values_read Two (values_in plan) (lists_in plan) (lists-back plan) ∙ lists_read Two (lists_in plan) (entries_in plan) (items-back plan lawful) ∙ last-back plan lawful
 
--- so have bytes that parse to it
+-- so do bytes that parse to it
 pub bytes-back : (bytes : List ℕ) (plan : Tables) → IsLawful plan → IsUtf8 bytes → parse_document bytes ≡ Some (document_in_version_2 plan) → plan_of bytes ≡ Ok plan
 bytes-back bytes plan lawful text parsed =
     bytes_read bytes (document_in_version_2 plan) (document-some bytes (document_in_version_2 plan) text parsed) ∙ document-back plan lawful

@@ -12,21 +12,21 @@ use Rattle.xbar_plan.specs.declared.fault.PlanFault.TheVariants as fault
 use Rattle.xbar_plan_text.specs.declared.read.version.Version.{Version}
 use Rattle.xbar_plan_text.specs.declared.read.version.Version.TheVariants.{One, Two}
 
--- what stands at a document's four keys
+-- a value for each of a document's four keys with lists
 pub record Four (A : Type 0) : Type 0 where
   pub groups : A
   pub numbers : A
   pub codes : A
   pub faults : A
 
--- what four things give together, if each is there
+-- f of four values, if each is there
 abbrev pub together : {A B C D E : Type 0} → (A → B → C → D → E) → Option A → Option B → Option C
     → Option D → Option E
 together f a b c d =
     option_and_then (λ first. option_and_then
     (λ second. option_and_then (λ third. option_map (f first second third) d) c) b) a
 
--- what is had of all four, if it is had of each
+-- the record of four values, if each is there
 abbrev pub all_four : {A : Type 0} → Option A → Option A → Option A → Option A → Option (Four A)
 all_four {A} groups numbers codes faults =
     together {E = Four A}
@@ -34,51 +34,54 @@ all_four {A} groups numbers codes faults =
     record { groups = groups; numbers = numbers; codes = codes; faults = faults })
     groups numbers codes faults
 
--- ---- what is read, a stage for each of the first five faults
+-- ---- what is read, one stage for each of the first five faults
 
--- the version of a whole number: 1 or 2
+-- the version with this number: 1 or 2
 abbrev pub version_of_number : Option ℕ → Option Version
 version_of_number None = None
 version_of_number (Some number) =
     if number == 1 then Some One else if number == 2 then Some Two else None
 
--- the whole number that a value is, if it is one
+-- a value as a natural number, if it is one
 abbrev pub whole_number : Option Data → Option ℕ
 whole_number (Some (integer (pos number))) = Some number
 whole_number _ = None
 
+-- the version that a document states, if it is a valid one
 abbrev pub version_of : Members → Option Version
 version_of document = version_of_number (whole_number (get_member (codes "version") document))
 
--- the values at the four keys
+-- the values at the four keys, if each is there
 abbrev pub values_of : Members → Option (Four Data)
 values_of document =
     all_four (get_member (codes "groups") document) (get_member (codes "numbers") document)
     (get_member (codes "codes") document) (get_member (codes "faults") document)
 
--- the texts of items, if each is a text
+-- the strings of items, if each is a string
 abbrev pub texts_of_items : Items → Option (List (List ℕ))
 texts_of_items no_items = Some []
 texts_of_items (item value items) =
     option_and_then (λ text. option_map (λ texts. text ∷ texts) (texts_of_items items))
     (as_str value)
 
--- the texts of a value, if it is an array of texts
+-- the strings of a value, if it is an array of strings
 abbrev pub texts_of : Data → Option (List (List ℕ))
 texts_of value = option_and_then texts_of_items (as_array value)
 
+-- the strings of the four values, if each is an array of strings
 abbrev pub lists_of : Four Data → Option (Four (List (List ℕ)))
 lists_of values =
     all_four (texts_of values.groups) (texts_of values.numbers) (texts_of values.codes)
     (texts_of values.faults)
 
--- the items of all four lists, each read by its grammar
+-- the items of the four lists, each read by its grammar
 pub record Entries : Type 0 where
   pub groups : List TrunkGroup
   pub stations : List Station
   pub codes : List CodeEntry
   pub faults : List Link
 
+-- the items of the four lists, if each of them can be read
 abbrev pub entries_of : Version → Four (List (List ℕ)) → Option Entries
 entries_of version lists =
     together {E = Entries}
@@ -87,7 +90,7 @@ entries_of version lists =
     (read_all group_of lists.groups) (read_all (station_of version) lists.numbers)
     (read_all code_entry_of lists.codes) (read_all fault_of lists.faults)
 
--- the tables that they make, each code with the numbers of its groups
+-- the tables of these items, with the groups of each code by number
 abbrev pub tables_of_entries : Entries → Tables
 tables_of_entries entries = record {
   groups = entries.groups;
@@ -98,64 +101,66 @@ tables_of_entries entries = record {
 
 -- ---- the plan of a text
 
--- a stage that must give something, or else this fault is told; what follows is looked at only then
+-- a stage of reading: it ends with its fault if it gives no value, and else the next stage follows
 abbrev pub needs : {A : Type 0} → PlanFault → Option A → (A → Result Tables PlanFault)
     → Result Tables PlanFault
 needs told None next = Err told
 needs told (Some value) next = next value
 
--- tables that have a fault are refused with it
+-- the tables, or their fault if they have one
 abbrev pub unless_faulty : Option PlanFault → Tables → Result Tables PlanFault
 unless_faulty None tables = Ok tables
 unless_faulty (Some told) tables = Err told
 
--- the last stage: the tables of the items, or the least of the faults from `Limit` on
+-- the last stage: the tables of the items, or the first of their faults from `Limit` on
 unfoldable pub plan_of_entries : Entries → Result Tables PlanFault
 plan_of_entries entries =
     unless_faulty (fault_in (tables_of_entries entries)) (tables_of_entries entries)
 
--- before it: the items of the texts
+-- the stage before it: the items of the strings
 unfoldable pub plan_of_lists : Version → Four (List (List ℕ)) → Result Tables PlanFault
 plan_of_lists version lists = needs fault.Malformed (entries_of version lists) plan_of_entries
 
--- before that: the texts of the values
+-- the stage before that: the strings of the values
 unfoldable pub plan_of_values : Version → Four Data → Result Tables PlanFault
 plan_of_values version values = needs fault.NotTexts (lists_of values) (plan_of_lists version)
 
--- before that: the values at the keys
+-- the stage before that: the values at the keys
 unfoldable pub plan_of_version : Members → Version → Result Tables PlanFault
 plan_of_version document version =
     needs fault.KeyMissing (values_of document) (plan_of_values version)
 
--- before that: the version
+-- the stage before that: the version
 unfoldable pub plan_of_document : Members → Result Tables PlanFault
 plan_of_document document = needs fault.Version (version_of document) (plan_of_version document)
 
--- the document that bytes are, if they are one
+-- the TOML document of the bytes, if they are one
 unfoldable pub document_of : List ℕ → Option Members
 document_of bytes = if is_utf8 bytes then parse_document bytes else None
 
--- the version of the document that bytes are, if they are one that has a version
+-- the version that the document of the bytes states, if there is one
 abbrev pub version_in : List ℕ → Option Version
 version_in bytes = option_and_then version_of (document_of bytes)
 
--- the first stage. What bytes hold: a plan's tables, or the least fault
+-- the first stage, and so all of them: the tables of the plan in the bytes, or the first fault
 unfoldable pub plan_of : List ℕ → Result Tables PlanFault
 plan_of bytes = needs fault.NotToml (document_of bytes) plan_of_document
 
--- what a stage may answer: what it must give, or its fault, or that memory ran out
+-- a right result of a stage: the expected value, or the stage's fault if there is no value, or
+-- that memory ran out
 abbrev pub IsStage : {A B : Type 0} → PlanFault → (B → A) → Option A → Result B PlanFault → Type 0
 IsStage told seen wanted result =
     MatchResult result (λ found. wanted ≡ Some (seen found))
     (λ refusal. (refusal ≡ fault.Memory) ⊎ ((refusal ≡ told) × (wanted ≡ None)))
 
--- what a reading may answer: what it must, or that memory ran out
+-- a right result of reading a plan: the expected tables or fault, or that memory ran out
 abbrev pub IsReading : Result Tables PlanFault → Result Tables PlanFault → Type 0
 IsReading wanted result =
     MatchResult result (λ tables. wanted ≡ Ok tables)
     (λ told. (told ≡ fault.Memory) ⊎ (wanted ≡ Err told))
 
--- two documents, one in version 1 and one in version 2, with the same values at the other four keys
+-- two documents, one in version 1 and one in version 2, with the same values at the other four
+-- keys
 pub record DifferInVersion (first second : Members) : Type 0 where
   pub one : version_of first ≡ Some One
   pub two : version_of second ≡ Some Two

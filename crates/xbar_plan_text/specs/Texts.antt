@@ -19,23 +19,23 @@ use Rattle.xbar_plan_text.specs.declared.read.version.Version.TheVariants.{One, 
 
 -- ---- parts
 
--- a byte before the first part
+-- the parts, with a byte put in front of the first one
 abbrev pub onto_first : ℕ → List (List ℕ) → List (List ℕ)
 onto_first byte [] = (byte ∷ []) ∷ []
 onto_first byte (part ∷ others) = (byte ∷ part) ∷ others
 
--- the parts of a text, between its spaces: a space at an end, and two in a row, leave an empty part
--- there
+-- the parts of a text, split at its spaces: a space at either end, or two in a row, give an empty
+-- part
 abbrev pub parts : List ℕ → List (List ℕ)
 parts [] = [] ∷ []
 parts (byte ∷ text) = if byte == 32 then [] ∷ parts text else onto_first byte (parts text)
 
--- the first part of a text, and the text that the others are of
+-- the first part of a text, and the text of the other parts
 pub record IsFirstPart (text first others : List ℕ) : Type 0 where
   pub parts_are : parts text ≡ first ∷ parts others
   pub is_shorter : length others < length text
 
--- what each item reads as, if each one reads
+-- the result of reading each item, if each can be read
 abbrev pub read_all : {A B : Type 0} → (A → Option B) → List A → Option (List B)
 read_all read [] = Some []
 read_all read (item ∷ items) =
@@ -44,16 +44,16 @@ read_all read (item ∷ items) =
 
 -- ---- numbers
 
--- the digit at a place of a text
+-- the digit at an index of a text
 abbrev pub digit_at : List ℕ → ℕ → ℕ
 digit_at text place = slice_index text place - 48
 
--- a value in its range whose text this is
+-- the value, if it is in range and has this text
 abbrev pub whose_text : {A : Type 0} → (A → Bool) → (A → List ℕ) → List ℕ → A → Option A
 whose_text in_range text_of text value =
     if in_range value && bytes_eq text (text_of value) then Some value else None
 
--- a line's four digits
+-- the line with this text: four digits
 abbrev pub line_of : List ℕ → Option Line
 line_of text = whose_text is_line line_text text
     (record {
@@ -62,24 +62,24 @@ line_of text = whose_text is_line line_text text
       x = 5 * digit_at text 2 + digit_at text 3;
     })
 
--- a trunk place's three digits
+-- the trunk place with this text: three digits
 abbrev pub place_of : List ℕ → Option TrunkPlace
 place_of text = whose_text is_trunk_place place_text text
     (record { frame = digit_at text 0; switch = digit_at text 1; appearance = digit_at text 2 })
 
--- a directory number's four digits
+-- the directory number with this text: four digits
 abbrev pub number_of : List ℕ → Option ℕ
 number_of text = whose_text (λ number. nat_lt number 10000) dir_no_text text
     (1000 * digit_at text 0 + 100 * digit_at text 1 + 10 * digit_at text 2 + digit_at text 3)
 
--- a code's three digits
+-- the code with this text: three digits
 abbrev pub code_of : List ℕ → Option ℕ
 code_of (a ∷ b ∷ c ∷ []) =
     if is_ascii_digit a && is_ascii_digit b
     && is_ascii_digit c then Some (100 * (a - 48) + 10 * (b - 48) + (c - 48)) else None
 code_of _ = None
 
--- the kind of link that a text begins with, as far as its first letter tells
+-- the kind of link that a text begins with, as far as its first letter says
 abbrev pub link_kind_of : List ℕ → LinkKind
 link_kind_of text =
     if slice_index text 0 == 76 then LineLink
@@ -88,7 +88,8 @@ link_kind_of text =
 
 -- ---- the four kinds of item
 
--- a member of an intra group is two trunk places with a hyphen between them, the calling side first
+-- a member of an intra group: two trunk places with a hyphen between them, the calling side's
+-- first
 abbrev pub pair_of : List ℕ → Option Member
 pair_of text =
     if slice_index text 3 == 45
@@ -97,12 +98,12 @@ pair_of text =
     (place_of (drop 4 text))) (place_of (take 3 text))
     else None
 
--- a member of any other group is one
+-- a member of a group of this kind: a pair in an intra group, else one trunk place
 abbrev pub member_of : GroupKind → List ℕ → Option Member
 member_of Intra text = pair_of text
 member_of _ text = option_map (λ first. record { first = first; second = None }) (place_of text)
 
--- what a group's members are
+-- the kind of group with this name
 abbrev pub kind_of : List ℕ → Option GroupKind
 kind_of text =
     if bytes_eq text (codes "register") then Some Register
@@ -110,11 +111,11 @@ kind_of text =
     else if bytes_eq text (codes "outgoing") then Some Outgoing
     else None
 
--- a text that has a name's form
+-- the text, if it is a valid name
 abbrev pub name_of : List ℕ → Option (List ℕ)
 name_of text = if is_name text then Some text else None
 
--- NAME KIND MEMBER MEMBER ..
+-- a group from its parts: NAME KIND MEMBER MEMBER ..
 abbrev pub group_of_parts : List (List ℕ) → Option TrunkGroup
 group_of_parts (name ∷ kind ∷ members) =
     option_and_then (λ name. option_and_then
@@ -122,15 +123,16 @@ group_of_parts (name ∷ kind ∷ members) =
     (read_all (member_of kind) members)) (kind_of kind)) (name_of name)
 group_of_parts _ = None
 
+-- a group from its text
 abbrev pub group_of : List ℕ → Option TrunkGroup
 group_of text = group_of_parts (parts text)
 
--- in version 1 a number has just one line
+-- whether the version allows this number of lines: version 1 allows exactly one
 abbrev pub is_line_count : Version → ℕ → Bool
 is_line_count One count = count == 1
 is_line_count Two count = true
 
--- DDDD LEN LEN ..
+-- a directory number and its lines from their parts: DDDD LEN LEN ..
 abbrev pub station_of_parts : Version → List (List ℕ) → Option Station
 station_of_parts version (number ∷ lines) =
     if is_line_count version (length lines)
@@ -140,6 +142,7 @@ station_of_parts version (number ∷ lines) =
     else None
 station_of_parts version [] = None
 
+-- a directory number and its lines from their text
 abbrev pub station_of : Version → List ℕ → Option Station
 station_of version text = station_of_parts version (parts text)
 
@@ -148,17 +151,18 @@ pub record CodeEntry : Type 0 where
   pub code : ℕ
   pub names : List (List ℕ)
 
--- CCC NAME NAME ..
+-- a code and group names from their parts: CCC NAME NAME ..
 abbrev pub code_entry_of_parts : List (List ℕ) → Option CodeEntry
 code_entry_of_parts (code ∷ names) =
     option_and_then (λ code. option_map (λ names. record { code = code; names = names })
     (read_all name_of names)) (code_of code)
 code_entry_of_parts [] = None
 
+-- a code and group names from their text
 abbrev pub code_entry_of : List ℕ → Option CodeEntry
 code_entry_of text = code_entry_of_parts (parts text)
 
--- a link that is out of order, two letters and three digits
+-- a link that is out of order, from its text: two letters and three digits
 abbrev pub fault_of : List ℕ → Option Link
 fault_of text = whose_text is_link link_text text
     (record {
@@ -168,7 +172,7 @@ fault_of text = whose_text is_link link_text text
       channel = digit_at text 4;
     })
 
--- what a reading of an item may answer: what the item reads as, or that it is malformed, or that
+-- a right result of reading an item: the expected value, or Malformed if there is none, or that
 -- memory ran out
 abbrev pub IsReadAs : {A B : Type 0} → (B → A) → Option A → Result B PlanFault → Type 0
 IsReadAs seen wanted result =
@@ -177,20 +181,22 @@ IsReadAs seen wanted result =
 
 -- ---- names
 
--- the number of the first group of a name, counted from 0; of a name that no group has, the number
--- past the last group's
+-- the number of the first group with this name, counted from 0, or the number of groups if none
+-- has it
 abbrev pub group_number : List TrunkGroup → List ℕ → ℕ
 group_number groups name =
     unwrap_or (position (λ group. bytes_eq group.name name) groups) (length groups)
 
+-- the route of an entry, with its groups by number
 abbrev pub route_of_entry : List TrunkGroup → CodeEntry → Route
 route_of_entry groups entry =
     record { code = entry.code; groups = map (group_number groups) entry.names }
 
--- the same as far as a byte goes: a plan with that many groups is refused for them
+-- the same number, but at most 255: a plan with that many groups is refused anyway
 abbrev pub capped_number : List TrunkGroup → List ℕ → ℕ
 capped_number groups name = min 255 (group_number groups name)
 
+-- the route of an entry, with its groups by these numbers
 abbrev pub capped_route : List TrunkGroup → CodeEntry → Route
 capped_route groups entry =
     record { code = entry.code; groups = map (capped_number groups) entry.names }

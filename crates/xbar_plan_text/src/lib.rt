@@ -1,4 +1,4 @@
-//! The text of a plan: a TOML document with an array of texts for each of its lists.
+//! The text of a plan: a TOML document with an array of strings for each of its lists.
 #![tactic(auto)]
 
 pub use plan_text::PlanText;

@@ -6,13 +6,13 @@ use crate::{read, write};
 use std::alloc::{AllocError, Global};
 use xbar_plan::{Plan, PlanFault};
 
-/// A plan as a TOML text.
+/// Reads and writes plans as TOML.
 pub trait PlanText {
-    /// The plan that a TOML text holds, in version 1 or 2 of its form, or the least fault that it has.
-    /// `Memory` may be answered in place of a fault that would be found later.
+    /// Reads a plan in version 1 or 2 of the format, or returns the first fault of the text.
+    /// `Memory` may be returned in place of a fault that would be found later.
     fn read(alloc: Global, text: &[u8]) -> Result<Self, PlanFault>;
 
-    /// A TOML text of the plan in version 2 of its form, which reads back as the same plan.
+    /// Writes the plan in version 2 of the format. The text reads back as the same plan.
     fn version_2(&self, alloc: Global) -> Result<Vec<u8>, AllocError>;
 }
 

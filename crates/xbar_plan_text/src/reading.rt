@@ -1,4 +1,4 @@
-//! The steps in which a plan's text is read, for whoever tells which of its items is wrong.
+//! The steps of reading a plan's text, for code that reports which item is wrong.
 
 pub use crate::read::{
     CodeEntry, Version, parse, read_code, read_entry, read_group, read_kind, read_link,

@@ -10,13 +10,13 @@ use Rattle.xbar_report.specs.Text.{end_fields, job_fields, line_with, record_lin
 use Rattle.xbar_report.specs.declared.trouble_line.TroubleLine.{TroubleLine}
 use Rattle.xbar_report.proofs.LineFields.{decimal_has_no_comma, job_cut, job_dialled_lacks, job_line_lacks, kind_has_no_comma}
 
--- a text that begins with three fields has them read as these, and these stand behind them
+-- a text that begins with three fields is read as these, with the rest after them
 abbrev pub Reads : List ℕ → List ℕ → List ℕ → List ℕ → List ℕ → Type 0
 Reads text first second third behind =
     (one two three rest : List ℕ) → Lacks 44 one → Lacks 44 two → Lacks 44 three → text ≡ one ++ 44 ∷ (two ++ 44 ∷ (three ++ 44 ∷ rest))
     → (first ≡ one) × (second ≡ two) × (third ≡ three) × (behind ≡ rest)
 
--- a record's line behind its numbers
+-- a record's line after its numbers
 abbrev pub behind_numbers : Record → List ℕ
 behind_numbers r = line_with (job_fields r.job ∷ end_fields r.reply.end ∷ [])
 

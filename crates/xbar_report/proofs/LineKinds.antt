@@ -24,13 +24,13 @@ first_is_digit (x ∷ digits) more rest b some all e =
     let same : x ≡ b = cc in
     subst (λ (y : ℕ). digit_value y < 10) same all.0
 
--- a number begins with no such byte
+-- a number begins with a digit, and so with none of these bytes
 no_letter : (n b : ℕ) (more rest : List ℕ) → n < 2 ^ 64 → 10 ≤ digit_value b → decimal n ++ more ≡ b ∷ rest → ⊥
 no_letter n b more rest fits letter e =
     let digit = first_is_digit (decimal n) more rest b (decimal_nonempty n fits) (digits_decimal digits_by_value n fits) e in
     omega (arith, digit, letter)
 
--- a record's line behind its turn
+-- a record's line after its turn
 after_turn : TheRecord → List ℕ
 after_turn r = 44 ∷ line_with (decimal r.job_no ∷ decimal r.marker ∷ job_fields r.job ∷ end_fields r.reply.end ∷ [])
 

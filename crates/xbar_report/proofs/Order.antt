@@ -12,7 +12,7 @@ use Rattle.xbar_report.specs.declared.line.Line.{Line}
 use Rattle.xbar_report.specs.declared.line.Line.TheVariants.{Record, Trouble, Paths, Closed}
 use Rattle.xbar_report.specs.declared.trouble_line.TroubleLine.{TroubleLine}
 
--- where lines come to, one after another, if they may
+-- the stage after these lines, if each may come
 abbrev pub stage_after : Option Stage → List Line → Option Stage
 stage_after None ls = None
 stage_after (Some stage) [] = Some stage
@@ -74,7 +74,7 @@ counts_from (c ∷ cs) Missing = refl
 counts_from (c ∷ cs) (Begun paths) = refl
 counts_from (c ∷ cs) (Whole counts) = refl
 
--- where records, cards and counts come to
+-- the stages after records, cards and counts
 pub stage_of_lines : (rs : List TheRecord) (cs : List TroubleLine) (tally : Tally)
     → stage_after (Some AtRecords) (map Record rs ++ map Trouble cs ++ tally_lines tally) ≡ Some (stage_behind tally cs)
 stage_of_lines rs cs tally =

@@ -46,7 +46,7 @@ record_lines_same (r ∷ rs) (x ∷ rs') e =
     let later = record_lines_same rs rs' cc in
     cc
 
--- which has the text, where no card is left
+-- which has this text if no card is left
 pub dealt_text : (text : List ℕ) (s : Sheet) → IsReadAs text s → length (left_of s.records s.cards) ≡ 0 → text ≡ records_text (dealt_records s.records s.cards) s.counts
 dealt_text text s read none =
     let rs = dealt_records s.records s.cards in

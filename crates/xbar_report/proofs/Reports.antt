@@ -54,7 +54,7 @@ troubles_again : (r : Record) (cards : List TroubleLine) → AllByRecursion (λ 
 troubles_again r [] h = refl
 troubles_again r (t ∷ cards) h = let e = owner_is r t h.0 in let e2 = troubles_again r cards h.1 in cc
 
--- what records took and what is left are all cards
+-- the cards that the records took and those that are left are all cards
 pub taken_and_left : (rs : List Record) (cards : List TroubleLine) → flat_map troubles_of (dealt_records rs cards) ++ left_of rs cards ≡ cards
 unfolding dealt_records left_of
 taken_and_left [] cards = refl

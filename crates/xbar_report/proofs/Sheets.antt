@@ -61,7 +61,7 @@ range_of_counts : (counts : Option Counts) → AllByRecursion IsLine (lines_of_c
 range_of_counts None h = tt
 range_of_counts (Some counts) h = record { paths = h.0; closed = h.1.0 }
 
--- a sheet is in range exactly where its lines are
+-- a sheet is in range exactly if its lines are
 pub sheet_range : (s : Sheet) → IsSheet s → AllByRecursion IsLine (lines_of_sheet s)
 sheet_range s h =
     all_append IsLine (map Record s.records ++ map Trouble s.cards) (lines_of_counts s.counts)

@@ -6,7 +6,7 @@ use Rattle.std.proofs.lemmas.List.{take_all}
 use Rattle.xbar_equip.proofs.Logic.{both, both_hold, not_both}
 use Rattle.xbar_equip.specs.TextLines.{Lacks}
 
--- a text is cut at the first byte of a kind: what stands before it, and from it on
+-- a text is cut at the first byte of a kind: the text before it, and the text from it on
 record IsCutAt (byte : ℕ) (text : List ℕ) (n : ℕ) : Type 0 where
   before : Lacks byte (take n text)
   here : n < length text → drop n text ≡ byte ∷ drop (suc n) text
@@ -39,14 +39,14 @@ no : (b : Bool) (n : ℕ) → cond b (Some n) None ≡ None → b ≡ false
 no true n e = cc
 no false n e = refl
 
--- a text in which no such byte is found lacks it
+-- a text in which the byte isn't found lacks it
 pub lacks_none : (byte : ℕ) (text : List ℕ) → position (λ c. c == byte) text ≡ None → Lacks byte text
 lacks_none byte text e =
     let n = position_or_len (λ c. c == byte) text in
     let all = ltb-false n (length text) (no (nat_lt n (length text)) n e) in
     subst (λ (xs : List ℕ). Lacks byte xs) (take_all n text all) (cut byte text).before
 
--- where it is found, the text is cut at it
+-- if the byte is found, the text is cut at it
 pub cut_at_place : (byte : ℕ) (text : List ℕ) (i : ℕ) → position (λ c. c == byte) text ≡ Some i
     → (i < length text) × Lacks byte (take i text) × (drop i text ≡ byte ∷ drop (suc i) text)
 cut_at_place byte text i e =

@@ -121,7 +121,7 @@ line_more text rest line behind number ls l so split whole is =
           omega (arith, e, e2, some, f);
     }
 
--- no sheet's text goes on with a line that may not come, or that is no line's
+-- no sheet's text continues with a line that may not come, or with a text that is no line's
 stray_line : (text line : List ℕ) (more done : List (List ℕ)) (ls : List Line) (stage : Stage) → lines text ≡ done ++ line ∷ more → AreTextsOf done ls
     → stage_after (Some AtRecords) ls ≡ Some stage → ((o : Line) → IsLine o → line ≡ line_text o → next_stage stage o ≡ None)
     → (other : List ℕ) → IsSheetText other → ¬ HaveSameLines (length ls + 1) other text
@@ -179,7 +179,7 @@ unended_line x rest lacks o range same =
     let w = line_text_whole o range in
     has_byte 10 w.front [] (subst (Lacks 10) (same ∙ w.line_is) lacks)
 
--- and so is what lacks behind the number of paths
+-- and so is the line that is missing after the number of paths
 lacks_closed : (text : List ℕ) (done : List (List ℕ)) (ls : List Line) → lines text ≡ done → AreTextsOf done ls → stage_after (Some AtRecords) ls ≡ Some AtPaths
     → (other : List ℕ) → IsSheetText other → ¬ HaveSameLines (length ls + 1) other text
 lacks_closed text done ls split read at other (s, range, is) same =
@@ -199,7 +199,7 @@ lacks_closed text done ls split read at other (s, range, is) same =
     let same_end : end ≡ AtPaths = cc in
     not_between.whole same_end
 
--- behind the last whole line a text ends, or the next line is stray
+-- after the last whole line the text ends, or the next line is stray
 pub stray_end : (text rest : List ℕ) (number : ℕ) (rs : List TheRecord) (cs : List TroubleLine) (tally : Tally) → IsReadSoFar text rest number (lines_so_far rs cs tally)
     → Lacks 10 rest → (0 < length rest) ⊎ (stage_behind tally cs ≡ AtPaths) → IsFirstStrayLine IsSheetText text number
 stray_end text [] number rs cs tally so lacks (inl some) = absurd (omega arith)

@@ -37,7 +37,7 @@ texts_take (suc n) [] (l ∷ ls) h = absurd h
 texts_take (suc n) (t ∷ texts) [] h = absurd h
 texts_take (suc n) (t ∷ texts) (l ∷ ls) h = (h.0, texts_take n texts ls h.1)
 
--- how far cards are taken
+-- how many cards are taken
 
 pub left_le : (rs : List TheRecord) (cards : List TroubleLine) → length (left_of rs cards) ≤ length cards
 unfolding left_of
@@ -81,7 +81,7 @@ split_le zero n = inl (omega arith)
 split_le (suc m) zero = inr (omega arith)
 split_le (suc m) (suc n) = elim (split_le m n) [ inl h ↦ inl (omega arith) | inr h ↦ inr (omega arith) ]
 
--- where cards begin as a record's own and go on as others', it takes its own
+-- if cards begin with a record's own and go on with others', the record takes its own
 past_own : (turn n : ℕ) (r : TheRecord) (rs : List TheRecord) (cards : List TroubleLine) → HaveTurns turn (r ∷ rs) → AllByRecursion IsRecord (r ∷ rs) → n ≤ length cards
     → length r.reply.cards < n → take n (troubles_of r ++ flat_map troubles_of rs) ≡ take n cards
     → ((m : ℕ) (cs : List TroubleLine) → m ≤ length cs → take m (flat_map troubles_of rs) ≡ take m cs → m + length (left_of (map bare_record rs) cs) ≤ length cs)
@@ -110,7 +110,7 @@ past_own turn n r rs cards h range within many e later =
     ap (λ (l : List TroubleLine). length (left_of (map bare_record rs) l)) gone in
     omega (arith, less, left, cs_size, within, sum, size, many)
 
--- of cards that begin as those of records, the records take at least so many
+-- if the first `n` cards are those of the records, the records take at least `n`
 pub taken_most : (turn n : ℕ) (rs : List TheRecord) (cards : List TroubleLine) → HaveTurns turn rs → AllByRecursion IsRecord rs → n ≤ length cards
     → take n (flat_map troubles_of rs) ≡ take n cards → n + length (left_of (map bare_record rs) cards) ≤ length cards
 unfolding left_of
@@ -168,7 +168,7 @@ no_card_first n (Trouble x ∷ ls) t more h e = h
 no_card_first n (Paths x ∷ ls) t more h e = cc
 no_card_first n (Closed x ∷ ls) t more h e = cc
 
--- where the first lines are records and then at least one card, the records are all that there are
+-- if the first lines are records and then at least one card, these are all records
 first_records : (rs rs' : List TheRecord) (ls : List Line) (z : TroubleLine) (zs : List TroubleLine) (n : ℕ) → IsNoRecord ls → n ≡ length rs + length (z ∷ zs)
     → map bare_line (take n (map Record rs' ++ ls)) ≡ map Record rs ++ map Trouble (z ∷ zs)
     → (rs ≡ map bare_record rs') × (map bare_line (take (length (z ∷ zs)) ls) ≡ map Trouble (z ∷ zs))
@@ -184,7 +184,7 @@ first_records (r ∷ rs) (x ∷ rs') ls z zs (suc n) h size e =
     let more = later.0 in
     (cc, later.1)
 
--- and where they are cards, they are the first cards
+-- and if they are cards, they are the first cards
 first_cards : (cs : List TroubleLine) (ls : List Line) (zs : List TroubleLine) → IsNoCard ls
     → map bare_line (take (length zs) (map Trouble cs ++ ls)) ≡ map Trouble zs → take (length zs) cs ≡ zs
 first_cards cs ls [] h e = refl
@@ -206,7 +206,7 @@ record_texts (r ∷ rs) (x ∷ rs') e =
     let later = record_texts rs rs' cc in
     cc
 
--- the first lines of a sheet, up to so many cards
+-- the first lines of a sheet, up to its first `k` cards
 front_lines : (s : Sheet) (k n : ℕ) → k ≤ length s.cards → n ≡ length s.records + k → take n (lines_of_sheet s) ≡ map Record s.records ++ map Trouble (take k s.cards)
 front_lines s k n within size =
     let records = length-map s.records Record in
@@ -227,7 +227,7 @@ report_cut s rs counts k n within size (z ∷ zs) same e =
     let h = first_records s.records rs (map Trouble cards ++ lines_of_counts counts) z zs n (cards_are_no_record cards counts) (omega (arith, size, count)) e in
     (h.0, ap (λ (j : ℕ). take j cards) (sym count) ∙ first_cards cards (lines_of_counts counts) (z ∷ zs) (counts_are_no_card counts) h.1)
 
--- a report that has the lines up to a card has that card's front among its cards
+-- a report that has the lines up to a card has the cards up to that card
 report_front : (text : List ℕ) (s : Sheet) (rs : List TheRecord) (counts : Option Counts) (k n : ℕ) → IsReadAs text s → IsReport rs counts → k < length s.cards
     → n ≡ length s.records + (k + 1) → HaveSameLines n (records_text rs counts) text
     → (s.records ≡ map bare_record rs) × (take (k + 1) (flat_map troubles_of rs) ≡ take (k + 1) s.cards)
@@ -284,7 +284,7 @@ before_card text s number read some size report =
     ∙ sym (map-append line_text (map Record s.records) (map Trouble taken)) in
     them ∙ joined ∙ sym ours
 
--- of sheets and texts that were read, the first card that no record takes is stray
+-- the first card of a text that no record takes is the text's first stray line
 pub stray_card : (text : List ℕ) (s : Sheet) (number : ℕ) → IsReadAs text s → HaveTurns 0 s.records → AllByRecursion IsRecord s.records
     → 0 < length (left_of s.records s.cards) → number ≡ length s.records + (length s.cards - length (left_of s.records s.cards)) + 1
     → IsReport (dealt_records s.records s.cards) s.counts → IsFirstStrayLine IsReportText text number

@@ -132,7 +132,7 @@ own_stop zero r cards h = refl
 own_stop (suc most) r [] h = refl
 own_stop (suc most) r (t ∷ cards) h = ap (λ (b : Bool). cond b (suc (own_of most r cards)) 0) h
 
--- a record takes its own cards, and no more where another's follow
+-- a record takes its own cards, and no more if another's follow
 pub own_exact : (most : ℕ) (r : TheRecord) (own : List Card) (rest : List TroubleLine) → length own ≤ most → BeginsOtherwise r rest → own_of most r (map (trouble_of r) own ++ rest) ≡ length own
 own_exact most r [] rest few h = own_stop most r rest h
 own_exact zero r (card ∷ own) rest few h = absurd (omega arith)

@@ -10,16 +10,16 @@ use Rattle.xbar_office.specs.declared.reply.Record.{Record}
 use Rattle.xbar_report.specs.declared.counts.Counts.{Counts}
 use Rattle.xbar_report.specs.declared.trouble_line.TroubleLine.{TroubleLine}
 
--- the number of a trial fits its type
+-- a trial's number fits its type
 abbrev pub IsTrial : ℕ → Type 0
 IsTrial trial = trial < 2 ^ 8
 
--- a card that there can be
+-- a card is in range
 pub record IsCard (card : Card) : Type 0 where
   pub trial : IsTrial card.trial
   pub link : IsLink card.link
 
--- an end that there can be: its paths lie in their ranges
+-- an end is in range: its trial and its paths are
 abbrev pub IsEnd : End → Type 0
 IsEnd (DialTone path trial) = IsPath path × IsTrial trial
 IsEnd (Connected calling called trial) = IsPath calling × IfSome called IsPath × IsTrial trial
@@ -35,8 +35,8 @@ IsEnd VacantNumber = ⊤
 IsEnd NoRegister = ⊤
 IsEnd NoCall = ⊤
 
--- a record that there can be: its numbers fit their types, its job and its paths are there, and it
--- has at most two cards
+-- a record is in range: its numbers fit their types, its job, its end and its cards are in range,
+-- and it has at most two cards
 pub record IsRecord (r : Record) : Type 0 where
   pub turn : r.turn < 2 ^ 64
   pub marker : r.marker < 2 ^ 32
@@ -46,13 +46,13 @@ pub record IsRecord (r : Record) : Type 0 where
   pub cards : AllByRecursion IsCard r.reply.cards
   pub few : length r.reply.cards ≤ 2
 
--- a trouble card's line that there can be
+-- a trouble line is in range
 pub record IsTroubleLine (t : TroubleLine) : Type 0 where
   pub turn : t.turn < 2 ^ 64
   pub job_no : t.job_no < 2 ^ 32
   pub card : IsCard t.card
 
--- counts that fit their types
+-- the counts fit their types
 pub record AreCounts (counts : Counts) : Type 0 where
   pub paths : counts.paths < 2 ^ 16
   pub closed : counts.closed < 2 ^ 16

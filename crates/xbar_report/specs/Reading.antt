@@ -6,12 +6,12 @@ use Rattle.xbar_report.specs.Sheet.{Sheet, sheet_text, IsSheet, IsSheetText, IsR
 use Rattle.xbar_report.specs.declared.read_fault.ReadFault.{ReadFault}
 use Rattle.xbar_report.specs.declared.read_fault.ReadFault.TheVariants.{Line, Turns, Memory}
 
--- two texts have the same first lines, so many as are asked for, or all
+-- two texts have the same first `count` lines; all lines, if there are fewer
 abbrev pub HaveSameLines : ℕ → List ℕ → List ℕ → Type 0
 HaveSameLines count a b = take count (lines a) ≡ take count (lines b)
 
--- the first line, counted from 1, at which a text leaves all texts of a kind: some has the lines
--- before it, and none has it too
+-- the number, from 1, of a text's first stray line: some text of this kind has the lines before
+-- it, and no text of this kind has that line too
 pub record IsFirstStrayLine (IsOfKind : List ℕ → Type 0) (text : List ℕ) (number : ℕ) : Type 0 where
   pub before : (other : List ℕ) × IsOfKind other × HaveSameLines (number - 1) other text
   pub here : (other : List ℕ) → IsOfKind other → ¬ HaveSameLines number other text
@@ -20,8 +20,8 @@ pub record IsFirstStrayLine (IsOfKind : List ℕ → Type 0) (text : List ℕ) (
 abbrev pub HasTurns : List ℕ → Type 0
 HasTurns text = (s : Sheet) × IsSheet s × (text ≡ sheet_text s) × HaveTurns 0 s.records
 
--- what is wrong with a text that is no report's: the lines are looked at first, each by itself,
--- then the turns, then whose the cards are
+-- the fault of a text that is no report's: the lines are checked first, each by itself, then the
+-- turns, then the owners of the cards; memory may be refused for any text
 abbrev pub IsFaultOf : List ℕ → ReadFault → Type 0
 IsFaultOf text (Line number) =
     IsFirstStrayLine IsSheetText text number

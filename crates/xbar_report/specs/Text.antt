@@ -15,11 +15,11 @@ use Rattle.xbar_office.specs.declared.reply.Record.{Record}
 use Rattle.xbar_report.specs.declared.counts.Counts.{Counts}
 use Rattle.xbar_report.specs.declared.trouble_line.TroubleLine.{TroubleLine}
 
--- fields, parted by commas
+-- fields with commas between them
 abbrev pub fields : List (List ℕ) → List ℕ
 fields texts = join_with_byte 44 texts
 
--- a field that has nothing
+-- a field with no value
 abbrev pub nothing : List ℕ
 nothing = codes "-"
 
@@ -29,7 +29,7 @@ job_fields (Dial line) = fields (codes "D" ∷ line_text line ∷ nothing ∷ []
 job_fields (Complete line dialled) = fields (codes "C" ∷ line_text line ∷ dialled_text dialled ∷ [])
 job_fields (Release line) = fields (codes "R" ∷ line_text line ∷ nothing ∷ [])
 
--- the field of a path, if there is one
+-- the field of a path; '-' if there is none
 abbrev pub path_field : Option Path → List ℕ
 path_field path = option_map_or path_text path nothing
 
@@ -56,7 +56,7 @@ end_fields VacantNumber = plain_end_fields (codes "VACANTNUMBER")
 end_fields NoRegister = plain_end_fields (codes "NOREGISTER")
 end_fields NoCall = plain_end_fields (codes "NOCALL")
 
--- a line of these fields
+-- a line with these fields
 abbrev pub line_with : List (List ℕ) → List ℕ
 line_with texts = fields texts ++ codes "\n"
 
@@ -84,7 +84,7 @@ troubles_of r = map (trouble_of r) r.reply.cards
 abbrev pub card_lines : Record → List ℕ
 card_lines r = flat_map trouble_line (troubles_of r)
 
--- a line with a count: its name and the number
+-- a count line: a name and a number
 abbrev pub count_line : List ℕ → ℕ → List ℕ
 count_line name count = line_with (name ∷ decimal count ∷ [])
 
@@ -96,7 +96,7 @@ paths_line paths = count_line (codes "PATHS") paths
 abbrev pub closed_line : ℕ → List ℕ
 closed_line closed = count_line (codes "CLOSED") closed
 
--- the two lines of counts, if there are any
+-- the two count lines, if there are counts
 abbrev pub count_lines : Option Counts → List ℕ
 count_lines None = []
 count_lines (Some counts) = paths_line counts.paths ++ closed_line counts.closed
@@ -107,7 +107,8 @@ abbrev pub records_text : List Record → Option Counts → List ℕ
 records_text records counts =
     flat_map record_line records ++ flat_map card_lines records ++ count_lines counts
 
--- what is written of a run with these records, which leaves so many paths and closed crosspoints
+-- the text of a run with these records, and with these counts of paths and of closed crosspoints
+-- at its end
 abbrev pub report_text : List Record → ℕ → ℕ → List ℕ
 report_text records paths closed =
     records_text records (Some (record { paths = paths; closed = closed }))

@@ -1,4 +1,4 @@
-/// How many paths and closed crosspoints a run leaves.
+/// The numbers of paths and of closed crosspoints at the end of a run.
 #[derive(Clone, Copy, Debug, PartialEq, Eq)]
 pub struct Counts {
     pub paths: u16,

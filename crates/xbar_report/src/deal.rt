@@ -1,4 +1,4 @@
-//! Cards given to the records that they belong to.
+//! Gives cards to the records that they belong to.
 
 ghost use Rattle.std.specs.Prelude.{◌≡◌, ◌≤◌, length, map};
 ghost use Rattle.xbar_report.specs.Dealt.{belongs as belongs_to, dealt_records, left_of, own_count_of};
@@ -6,8 +6,8 @@ ghost use Rattle.xbar_report.specs.Dealt.{belongs as belongs_to, dealt_records, 
 use crate::trouble_line::TroubleLine;
 use xbar_office::{Cards, Record};
 
-/// Gives each record its cards, which stand in the order of the records, and tells how many are
-/// left: those from the first on that no record takes.
+/// Gives each record its cards, which are in the order of the records. Returns the number of cards
+/// that are left: all from the first that no record takes.
 pub fn deal(records: &mut [Record], cards: &[TroubleLine]) -> usize
     ensures records { records.new ≡ dealt_records records.old cards.now }
     ensures left { result ≡ length (left_of records.old cards.now) }
@@ -21,7 +21,7 @@ pub fn deal(records: &mut [Record], cards: &[TroubleLine]) -> usize
     rest.len()
 }
 
-/// How many of the first cards belong to the record, at most two.
+/// The number of the first cards that belong to the record, at most two.
 fn own_count(owner: &Record, cards: &[TroubleLine]) -> usize
     ensures value { result ≡ own_count_of owner.now cards.now }
     ensures most { result ≤ 2 }

@@ -1,4 +1,4 @@
-//! What was read of a report so far, line by line.
+//! The lines of a report that have been read so far.
 
 use crate::counts::Counts;
 use crate::line::Line;
@@ -6,7 +6,7 @@ use crate::trouble_line::TroubleLine;
 use std::alloc::{AllocError, Global};
 use xbar_office::Record;
 
-/// The lines that were read so far.
+/// The lines of a report that have been read so far.
 #[derive(Drop)]
 pub struct Draft {
     /// Without their cards.
@@ -15,7 +15,7 @@ pub struct Draft {
     pub tally: Tally,
 }
 
-/// The lines of counts that were read so far.
+/// The count lines that have been read so far.
 #[derive(Clone, Copy)]
 pub enum Tally {
     Missing,
@@ -38,8 +38,8 @@ impl Draft {
         }
     }
 
-    /// Adds a line, and says whether it may come behind those that are there. If not, nothing is
-    /// added.
+    /// Adds a line if it may follow those that are there. Returns whether it may; if not, nothing
+    /// is added.
     pub fn add(&mut self, line: Line) -> Result<bool, AllocError>
         ensures { IfOk result (λ added. MatchBool added
             (draft_lines self.new ≡ draft_lines self.old ++ line ∷ [])

@@ -28,7 +28,7 @@ impl fmt::Display for EndFields<'_> {
     }
 }
 
-/// The name of an end.
+/// The name of an end in a record line.
 pub fn name_of(end: &End) -> &'static str
     ensures { result.now ≡ end_name end.now }
 {

@@ -1,5 +1,6 @@
-//! The fields of lines, read. What is left open here, as signs and leading zeros of numbers and what
-//! stands in a field that has to have nothing, shows once the line is written again.
+//! Reads the fields of lines, leniently: signs and leading zeros of numbers, and text in fields
+//! that must be `-`, are accepted here. `Line::read` finds them, since it writes the line again
+//! and compares.
 
 ghost use Rattle.std.specs.Prelude.{◌≡◌, ◌<◌, ◌^◌, ◌++◌, List, ℕ, Option, Some, IfSome, codes, decimal, find};
 ghost use Rattle.std.specs.Str.{bytes_eq};
@@ -25,7 +26,7 @@ use crate::trouble_line::TroubleLine;
 use xbar_equip::{Channel, Dialled, Len, Link, Path, Ten};
 use xbar_office::{Card, End, Job, Record, Reply};
 
-/// The record of a line.
+/// Reads the record of a line, without its cards.
 pub fn record_of(text: &[u8]) -> Option<Record>
     ensures reads { (r : TheRecord) → IsRecord r → text.now ≡ record_line r →
         result ≡ Some (bare_record r) }
@@ -42,7 +43,7 @@ pub fn record_of(text: &[u8]) -> Option<Record>
     })
 }
 
-/// The trouble card of a line.
+/// Reads a trouble line.
 pub fn trouble_of(text: &[u8]) -> Option<TroubleLine>
     ensures { (t : TheTroubleLine) → IsTroubleLine t → text.now ≡ trouble_line t → result ≡ Some t }
 {
@@ -56,7 +57,7 @@ pub fn trouble_of(text: &[u8]) -> Option<TroubleLine>
     })
 }
 
-/// The card of two fields.
+/// Reads a card from its two fields.
 fn card_of(trial: &[u8], link: &[u8]) -> Option<Card>
     ensures { (card : TheCard) → IsCard card → trial.now ≡ decimal card.trial →
         link.now ≡ link_text card.link → result ≡ Some card }
@@ -67,7 +68,7 @@ fn card_of(trial: &[u8], link: &[u8]) -> Option<Card>
     })
 }
 
-/// The number of a line of counts.
+/// Reads the number of a count line. The name before it isn't checked.
 pub fn count_of(text: &[u8]) -> Option<u16>
     ensures { (name : List ℕ) (count : ℕ) → Lacks 44 name → count < 2 ^ 16 →
         text.now ≡ count_line name count → result ≡ Some count }
@@ -77,7 +78,7 @@ pub fn count_of(text: &[u8]) -> Option<u16>
     number_u16(count)
 }
 
-/// The job of three fields.
+/// Reads a job from its three fields.
 fn job_of(kind: &[u8], line: &[u8], dialled: &[u8]) -> Option<Job>
     ensures { (job : TheJob) → IsJob job → kind.now ≡ job_kind job → line.now ≡ job_line job →
         dialled.now ≡ job_dialled job → result ≡ Some job }
@@ -91,7 +92,7 @@ fn job_of(kind: &[u8], line: &[u8], dialled: &[u8]) -> Option<Job>
     }
 }
 
-/// The end of the last four fields of a line.
+/// Reads an end from the last four fields of a line.
 fn end_of(text: &[u8]) -> Option<End>
     ensures { (end : TheEnd) → IsEnd end → text.now ≡ end_fields end ++ codes "\n" →
         result ≡ Some end }
@@ -101,6 +102,7 @@ fn end_of(text: &[u8]) -> Option<End>
     named_end(name, trial, first, second)
 }
 
+/// Reads an end from its four fields. A name that no end has is taken for `CONNECTED` here.
 fn named_end(name: &[u8], trial: &[u8], first: &[u8], second: &[u8]) -> Option<End>
     ensures { (end : TheEnd) → IsEnd end → name.now ≡ end_name end → trial.now ≡ end_trial end →
         first.now ≡ end_first end → second.now ≡ end_second end → result ≡ Some end }
@@ -124,7 +126,7 @@ fn named_end(name: &[u8], trial: &[u8], first: &[u8], second: &[u8]) -> Option<E
     })
 }
 
-/// The end of this name that has neither a trial nor a path.
+/// The end with this name, if it is one that has neither a trial nor a path.
 fn plain_end_of(name: &[u8]) -> Option<End>
     ensures { result ≡ find (λ end. bytes_eq (end_name end) name.now) plain_ends }
 {
@@ -143,7 +145,7 @@ fn plain_end_of(name: &[u8]) -> Option<End>
     end_named(&plain_ends, name)
 }
 
-/// The first of these ends that has this name.
+/// The first of these ends with this name.
 fn end_named(ends: &[End], name: &[u8]) -> Option<End>
     ensures { result ≡ find (λ end. bytes_eq (end_name end) name.now) ends.now }
 {
@@ -152,6 +154,7 @@ fn end_named(ends: &[End], name: &[u8]) -> Option<End>
         .copied()
 }
 
+/// Reads the field of a path, in which `-` means no path.
 fn optional_path_of(text: &[u8]) -> Option<Option<Path>>
     ensures { (path : Option ThePath) → IfSome path IsPath → text.now ≡ path_field path →
         result ≡ Some path }
@@ -162,6 +165,7 @@ fn optional_path_of(text: &[u8]) -> Option<Option<Path>>
     }
 }
 
+/// Reads a path. The bytes between its parts aren't checked.
 fn path_of(text: &[u8]) -> Option<Path>
     ensures { (path : ThePath) → IsPath path → text.now ≡ path_text path → result ≡ Some path }
 {

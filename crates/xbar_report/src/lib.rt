@@ -1,4 +1,4 @@
-//! The text of a run's records: written, and read back.
+//! Writes the records of a run as text, and reads them back.
 #![tactic(auto)]
 
 pub use counts::Counts;

@@ -14,9 +14,9 @@ pub enum Line {
     /// A record without its cards.
     Record(Record),
     Trouble(TroubleLine),
-    /// How many paths a run leaves.
+    /// The number of paths at the end of the run.
     Paths(u16),
-    /// How many closed crosspoints a run leaves.
+    /// The number of closed crosspoints at the end of the run.
     Closed(u16),
 }
 
@@ -26,7 +26,8 @@ impl Line {
     ghost use Rattle.xbar_report.specs.Line.{IsLine, line_text};
     ghost use Rattle.xbar_report.specs.declared.line.Line.{Line as TheLine};
 
-    /// The line of this text, which has the byte that ends it.
+    /// Reads the line with this text, which includes its line feed. Returns None if no line has
+    /// it.
     pub fn read(alloc: Global, text: &[u8]) -> Result<Option<Self>, AllocError>
         ensures { IfOk result (λ found. MatchOption found
             ((line : TheLine) → IsLine line → text.now ≢ line_text line)
@@ -43,7 +44,7 @@ impl Line {
         Ok(Some(line))
     }
 
-    /// The line that has this text, if there is one.
+    /// Parses a line leniently. It accepts some texts that no line has; `read` rejects them.
     fn parse(text: &[u8]) -> Option<Self>
         ensures reads { (line : TheLine) → IsLine line → text.now ≡ line_text line →
             result ≡ Some (bare_line line) }

@@ -4,7 +4,7 @@ ghost use Rattle.xbar_report.specs.Text.{path_field};
 use std::fmt;
 use xbar_equip::Path;
 
-/// The field of a path, if there is one.
+/// The field of a path; `-` if there is none.
 #[derive(Clone, Copy)]
 pub struct PathField<'a>(pub &'a Option<Path>);
 

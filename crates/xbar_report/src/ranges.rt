@@ -1,4 +1,5 @@
-//! What holds of all values of these types. Each function does nothing: its contract is the law.
+//! Laws of all values of these types: their parts are in range. Each function does nothing: its
+//! contract is the law.
 
 ghost use Rattle.std.specs.Prelude.{◌≡◌, [], IfSome};
 ghost use Rattle.xbar_equip.specs.Path.{IsPath};
@@ -13,7 +14,7 @@ use xbar_equip::laws::{link_is_in_range, path_is_in_range};
 use xbar_office::laws::job_is_in_range;
 use xbar_office::{End, Record};
 
-/// The numbers, jobs, paths and links of a line lie in their ranges.
+/// The numbers, jobs, paths and links of a line are in range.
 pub fn line_is_in_range(line: &Line)
     requires { line.now ≡ bare_line line.now }
     ensures { IsLine line.now }

@@ -7,11 +7,11 @@ use thiserror::Error;
 /// Why a text wasn't read as a report.
 #[derive(Clone, Copy, Debug, PartialEq, Eq, Error)]
 pub enum ReadFault {
-    /// The first line, counted from 1, with which no text goes on that is right so far. It is the
-    /// one behind the last where the text ends too early.
+    /// The first line, counted from 1, that can't follow the lines before it. If the text ends too
+    /// early, it is the line after the last.
     #[error("line {number} isn't as a report has it")]
     Line { number: usize },
-    /// The first place, counted from 0, whose record hasn't the turn of its place.
+    /// The index, from 0, of the first record whose turn isn't its index.
     #[error("the record at place {place} hasn't turn {place}")]
     Turns { place: usize },
     /// Memory was refused.

@@ -1,4 +1,4 @@
-//! Reports read back from their text.
+//! Reads reports back from their text.
 
 ghost use Rattle.std.specs.Prelude.{◌≡◌, List, Option, IfErr, IfOk, MatchResult};
 ghost use Rattle.xbar_office.specs.declared.reply.Record.{Record as TheRecord};
@@ -17,16 +17,16 @@ use crate::split::first_line;
 use std::alloc::Global;
 use xbar_office::{Record, first_wrong_turn};
 
-/// What a text tells of a run.
+/// What the text of a report says of a run.
 #[derive(Debug, Drop)]
 pub struct Report {
-    /// In the order of turns, each with its cards.
+    /// In turn order, each with its cards.
     pub records: Vec<Record>,
     pub counts: Option<Counts>,
 }
 
-/// Reads the lines of a text, each by itself, whatever turns the records have and whose the cards
-/// are.
+/// Reads the lines of a text, each by itself. The turns of the records and the owners of the cards
+/// aren't checked here.
 fn read_lines(alloc: Global, text: &[u8]) -> Result<(Draft, Option<Counts>), ReadFault>
     ensures lines { IfOk result (λ found. IsReadAs text.now (record {
       records = found.0.records.items;
@@ -55,15 +55,14 @@ fn read_lines(alloc: Global, text: &[u8]) -> Result<(Draft, Option<Counts>), Rea
     }
 }
 
-/// Reads the text of a report: record lines, then the lines of trouble cards, then two lines of
-/// counts or none. The records have the turns from 0 on, and the cards come in the order of turns,
-/// each with the job number of its record. Each number has one form, and each line ends with one
-/// line feed.
+/// Reads the text of a report: record lines, then the lines of trouble cards, then two count lines
+/// or none. The records have the turns 0, 1, 2 and so on. The cards are in turn order, each with
+/// the job number of its record. Each number has one form, and each line ends with one line feed.
 pub fn read(alloc: Global, text: &[u8]) -> Result<Report, ReadFault>
-    // What is read has just this text.
+    // The report that was read has exactly this text.
     ensures only { IfOk result (λ report. IsReport report.records.items report.counts ×
         (text.now ≡ records_text report.records.items report.counts)) }
-    // What has this text is read, unless memory is refused.
+    // A report with this text is read, unless memory is refused.
     ensures reads { (records : List TheRecord) (counts : Option TheCounts) →
         IsReport records counts → text.now ≡ records_text records counts →
         MatchResult result

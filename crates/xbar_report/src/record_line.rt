@@ -6,7 +6,7 @@ use crate::job_fields::JobFields;
 use std::fmt;
 use xbar_office::Record;
 
-/// The line of a record.
+/// The line of a record, which doesn't show its cards.
 #[derive(Clone, Copy)]
 pub struct RecordLine<'a>(pub &'a Record);
 

@@ -6,7 +6,8 @@ use crate::trouble_line::TroubleLine;
 use std::alloc::{AllocError, Global};
 use xbar_office::Record;
 
-/// What is written of a run with these records, which leaves so many paths and closed crosspoints.
+/// The text of a run: the lines of these records, those of their trouble cards, and the counts of
+/// paths and of closed crosspoints at the end.
 pub fn report(
     alloc: Global,
     records: &[Record],
@@ -22,7 +23,7 @@ pub fn report(
     Ok(text.into_bytes())
 }
 
-/// What is written of one record: its line, and those of its cards.
+/// The text of one record: its line and those of its cards.
 pub fn record_text(alloc: Global, owner: &Record) -> Result<String, AllocError>
     ensures { IfOk result (λ text.
         string_bytes text ≡ record_line owner.now ++ card_lines owner.now) }

@@ -1,9 +1,9 @@
-//! Texts taken apart at a byte.
+//! Splits texts at a byte.
 
 ghost use Rattle.std.specs.Prelude.{◌≡◌, ◌++◌, ◌==◌, ◌∷◌, List, ℕ, IfNone, IfSome, IsSomeAnd, position};
 ghost use Rattle.xbar_equip.specs.TextLines.{IsWholeLine, Lacks};
 
-/// What stands before the first byte `end` of a text, and what stands behind it.
+/// The parts of a text before and after its first byte `end`, if it has one.
 pub fn split_at_byte(text: &[u8], end: u8) -> Option<(&[u8], &[u8])>
     ensures parts { IfSome result (λ parts. Lacks end parts.0.now ×
         (text.now ≡ parts.0.now ++ end ∷ parts.1.now)) }
@@ -16,7 +16,7 @@ pub fn split_at_byte(text: &[u8], end: u8) -> Option<(&[u8], &[u8])>
     Some((front, rest))
 }
 
-/// The first three fields of a text, each of which ends with a comma, and what stands behind them.
+/// The first three fields of a text, each ended by a comma, and the rest of the text.
 pub fn three_fields(text: &[u8]) -> Option<(&[u8], &[u8], &[u8], &[u8])>
     ensures { (one two three rest : List ℕ) → Lacks 44 one → Lacks 44 two → Lacks 44 three →
         text.now ≡ one ++ 44 ∷ (two ++ 44 ∷ (three ++ 44 ∷ rest)) → IsSomeAnd result (λ found.
@@ -34,7 +34,7 @@ fn place_of(text: &[u8], byte: u8) -> Option<usize>
     text.iter().position(|b| *b == byte)
 }
 
-/// The first line of a text, with the byte that ends it, and what stands behind it.
+/// The first line of a text, with its line feed, and the rest. None if there is no line feed.
 pub fn first_line(text: &[u8]) -> Option<(&[u8], &[u8])>
     ensures line { IfSome result (λ parts. IsWholeLine parts.0.now ×
         (text.now ≡ parts.0.now ++ parts.1.now)) }

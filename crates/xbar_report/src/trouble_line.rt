@@ -4,7 +4,7 @@ ghost use Rattle.xbar_report.specs.Text.{trouble_line};
 use std::fmt;
 use xbar_office::Card;
 
-/// A trouble card as its line has it: with the turn and the job number of its record.
+/// A trouble card as in its line, with the turn and the job number of its record.
 #[derive(Clone, Copy, Debug, PartialEq, Eq)]
 pub struct TroubleLine {
     pub turn: u64,

@@ -1,4 +1,5 @@
--- The laws of fields: what or-ing in the close bits and and-ing with the open mask does to each field, and above them.
+-- the laws of fields: each field, and the bits above them, after or-ing in the close bits and
+-- and-ing with the open mask
 use Rattle.std.proofs.Common.{◌≡◌, ◌≢◌, ℕ, ◌+◌, ◌-◌, ◌*◌, ◌/◌, ◌%◌, ◌^◌, ◌<◌, ◌≤◌, Bool, true, cond, eqb, bit_and, bit_or, refl, ap, ap₂, ◌∙◌, mod-eq_of_lt, pow_mono, lt_of_lt_of_le, mul-le-mul_left, mul_assoc, mod-lt, arith, pow-add, eqb-true, eq-eqb, ne_eqb, inl, inr}
 use Rattle.std.proofs.Math.Nat.{mul-mod_left, zero-mod, zero-div, div-eq_of_lt}
 use Rattle.std.proofs.lemmas.Nat.{pow_pos, shl-shr, shl_below, shr_below, or_shr, or_mod, and_shr, and_mod, and_mask, or_comm, and_comm}
@@ -8,7 +9,7 @@ use Rattle.xbar_switch.specs.declared.shape.Shape.TheVariants.{Line, Other}
 use Rattle.xbar_switch.specs.Shape.{width, places}
 use Rattle.xbar_switch.specs.Field.{field_of, above_fields, close_bits_of, open_mask_of, ChangesField, with_closed, with_open}
 
--- one more than a place fits its field
+-- one plus a place fits its field
 pub place-fits : (shape : Shape) (h : ℕ) → h < places shape → 1 + h < 2 ^ width shape
 place-fits Line h in_range = omega arith
 place-fits Other h in_range = omega arith
@@ -23,7 +24,7 @@ pub field_of-lt : (shape : Shape) (word v : ℕ) → field_of shape word v < 2 ^
 unfolding field_of
 field_of-lt shape word v = mod-lt (word / 2 ^ (width shape * v)) (pow_pos (width shape))
 
--- each field of the word 0 is open, and nothing stands above them
+-- each field of the word 0 is open, and no bit above the fields is set
 pub field_of-zero : (shape : Shape) (v : ℕ) → field_of shape 0 v ≡ 0
 unfolding field_of
 field_of-zero shape v =
@@ -110,12 +111,12 @@ above_fields-close_bits shape v h is_field in_range =
 
 -- ---- the open mask, computed at each pair of fields
 
--- whether this field of the mask is 0, at field v, or every bit, elsewhere
+-- whether a field of the mask is 0, if it is field v, or has every bit set, if it is another
 is_mask_field : Shape → ℕ → ℕ → Bool
 is_mask_field shape v other =
     eqb (field_of shape (open_mask_of shape v) other) (cond (eqb other v) 0 (2 ^ width shape - 1))
 
--- whether every bit above the fields of the mask is there
+-- whether every bit of the mask above the fields is set
 is_mask_above : Shape → ℕ → Bool
 is_mask_above shape v = eqb (above_fields shape (open_mask_of shape v)) (2 ^ (64 - width shape * 10) - 1)
 
@@ -157,7 +158,7 @@ above_fields-open_mask shape v is_field =
 
 -- ---- closing and opening
 
--- closing an open field sets it to one more than the place
+-- closing an open field sets it to one plus the place
 pub field_of-close_same : (shape : Shape) (word v h : ℕ) → h < places shape → field_of shape word v ≡ 0
     → field_of shape (with_closed shape word v h) v ≡ 1 + h
 field_of-close_same shape word v h in_range is_open =
@@ -172,7 +173,7 @@ field_of-close_other shape word v h other in_range differs =
     ∙ ap (bit_or (field_of shape word other)) (field_of-close_bits_other shape v h other in_range differs)
     ∙ or_comm (field_of shape word other) 0
 
--- closing a field leaves what stands above the fields
+-- closing a field keeps the bits above the fields
 pub above_fields-close : (shape : Shape) (word v h : ℕ) → v < 10 → h < places shape
     → above_fields shape (with_closed shape word v h) ≡ above_fields shape word
 above_fields-close shape word v h is_field in_range =
@@ -203,7 +204,7 @@ unfolding above_fields
 above_fields-lt Line word in_word = shr_below word 4 60 in_word
 above_fields-lt Other word in_word = shr_below word 24 40 in_word
 
--- opening a field leaves what stands above the fields
+-- opening a field keeps the bits above the fields
 pub above_fields-open : (shape : Shape) (word v : ℕ) → word < 2 ^ 64 → v < 10
     → above_fields shape (with_open shape word v) ≡ above_fields shape word
 above_fields-open shape word v in_word is_field =
@@ -212,7 +213,7 @@ above_fields-open shape word v in_word is_field =
     ∙ and_mask (above_fields shape word) (64 - width shape * 10)
     ∙ mod-eq_of_lt (above_fields-lt shape word in_word)
 
--- closing an open field changes that field alone
+-- closing an open field changes only that field
 pub ChangesField-close : (shape : Shape) (word v h : ℕ) → v < 10 → h < places shape → field_of shape word v ≡ 0
     → ChangesField shape word (with_closed shape word v h) v (1 + h)
 ChangesField-close shape word v h is_field in_range is_open = record {
@@ -221,7 +222,7 @@ ChangesField-close shape word v h is_field in_range is_open = record {
   above = above_fields-close shape word v h is_field in_range;
 }
 
--- opening a field changes that field alone
+-- opening a field changes only that field
 pub ChangesField-open : (shape : Shape) (word v : ℕ) → word < 2 ^ 64 → v < 10
     → ChangesField shape word (with_open shape word v) v 0
 ChangesField-open shape word v in_word is_field = record {
@@ -231,5 +232,5 @@ ChangesField-open shape word v in_word is_field = record {
   above = above_fields-open shape word v in_word is_field;
 }
 
--- what becomes of each field, and of what stands above them, when a field is closed or opened
+-- the value of each field, and of the bits above the fields, after a field is closed or opened
 pub ruleset field_laws = (field_of-close_same, field_of-close_other, above_fields-close, field_of-open_same, field_of-open_other, above_fields-open)

@@ -4,14 +4,14 @@ ghost use Rattle.xbar_switch.specs.Fault.{text_of};
 use std::error::Error;
 use std::fmt;
 
-/// Why a magnet of a switch did not act.
+/// Why a magnet of a switch was refused. The switch is then unchanged.
 #[derive(Clone, Copy, Debug, PartialEq, Eq, Hash)]
 pub enum SwitchFault {
-    /// A hold magnet was operated while no select magnet prepares a place.
+    /// A hold magnet was operated with no place selected.
     NothingSelected,
-    /// A hold magnet was operated whose field is closed already.
+    /// A hold magnet was operated on a closed field.
     AlreadyHeld,
-    /// A hold magnet was let go whose field is open already.
+    /// A hold magnet was released on an open field.
     NotHeld,
 }
 

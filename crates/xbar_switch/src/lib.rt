@@ -1,8 +1,8 @@
 //! A crossbar switch, as one word of ten fields.
 //!
-//! A select magnet prepares a place on one coordinate, then a hold magnet closes a crosspoint of its field
-//! at that place. The crosspoint stays closed while the hold magnet is held, also after the select magnet
-//! has fallen back.
+//! A select magnet prepares a place, then a hold magnet closes the crosspoint of its field at that
+//! place. The crosspoint stays closed while the hold magnet is held, even after the select magnet
+//! is released.
 #![tactic(auto)]
 
 pub use fault::SwitchFault;

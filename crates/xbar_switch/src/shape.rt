@@ -1,9 +1,9 @@
 ghost use Rattle.std.specs.Prelude.{◌≡◌};
 
-/// The two kinds of switch, which differ in how many places a field can be closed at.
+/// The shape of a switch, which determines at how many places a field can be closed.
 ///
-/// The word of a switch has ten fields side by side, the first one lowest. A field is 0 while it is open,
-/// and one more than the place while it is closed.
+/// A switch's word has ten adjacent fields, field 0 in the lowest bits. A field is 0 if open, else
+/// one plus the place that it is closed at.
 #[derive(Clone, Copy, Debug, PartialEq, Eq, Hash)]
 pub enum Shape {
     /// 30 places: field `v` is bits `6v` to `6v + 5`.
@@ -15,7 +15,7 @@ pub enum Shape {
 impl Shape {
     ghost use Rattle.xbar_switch.specs.Shape.{width, places};
 
-    /// How many bits a field has.
+    /// The width of a field in bits.
     pub fn width(self) -> u32
         ensures { result ≡ width self }
     {
@@ -25,7 +25,7 @@ impl Shape {
         }
     }
 
-    /// How many places a field can be closed at.
+    /// The number of places that a field can be closed at.
     pub fn places(self) -> u8
         ensures { result ≡ places self }
     {

@@ -7,7 +7,7 @@ use crate::shape::Shape;
 use crate::word::{close_bits, field, open_mask};
 use std::marker::Model;
 
-/// A crossbar switch: its word, and the place that its select magnets prepare.
+/// A crossbar switch: its word, and the place that its select magnets prepare, if any.
 #[derive(Clone, Copy, Debug, PartialEq, Eq)]
 pub struct Switch {
     shape: Shape,
@@ -31,7 +31,7 @@ impl Model for Switch {
 }
 
 impl Switch {
-    /// A switch that shows this word, with nothing selected. Any word will do.
+    /// A switch with this word, and nothing selected. Any word is allowed.
     pub fn of_word(shape: Shape, word: u64) -> Self
         ensures { result ≡ record { shape = shape; word = word; selection = None } }
     {
@@ -42,7 +42,7 @@ impl Switch {
         }
     }
 
-    /// The word that the switch shows now.
+    /// The switch's current word.
     pub fn word(&self) -> u64
         ensures value { result ≡ self.now.word }
         ensures range { self.now.word < 2 ^ 64 }
@@ -50,7 +50,7 @@ impl Switch {
         self.word
     }
 
-    /// Operates the select magnet of a place, in the place of one selected before.
+    /// Operates the select magnet of place `h`. The selection replaces any earlier one.
     pub fn select(&mut self, h: u8)
         requires { h < places self.old.shape }
         ensures { self.new ≡ record self.old { selection = Some h } }
@@ -58,13 +58,13 @@ impl Switch {
         self.selected = Some(h);
     }
 
-    /// Operates the hold magnet of a field, which closes it at the selected place.
+    /// Operates the hold magnet of field `v`, which closes the field at the selected place.
     pub fn hold(&mut self, v: u8) -> Result<(), SwitchFault>
         requires { v < 10 }
         ensures ok { OnOk result (IsSomeAnd self.old.selection (Closes self.old self.new v)) }
         ensures succeeds { IsOk result ↔ (IsSome self.old.selection × (field_at self.old v ≡ 0)) }
 
-        // A hold with nothing selected is reported as such, even on a closed field.
+        // `NothingSelected` takes precedence: it is reported even if the field is closed.
         ensures nothing_selected { (result ≡ Err SwitchFault.NothingSelected) ↔
             IsNone self.old.selection }
         ensures already_held { (result ≡ Err SwitchFault.AlreadyHeld)
@@ -81,14 +81,14 @@ impl Switch {
         Ok(())
     }
 
-    /// Lets the select magnet fall back. What is closed stays closed.
+    /// Releases the select magnet. Closed fields stay closed.
     pub fn drop_select(&mut self)
         ensures { self.new ≡ record self.old { selection = None } }
     {
         self.selected = None;
     }
 
-    /// Lets the hold magnet of a field fall back, which opens it.
+    /// Releases the hold magnet of field `v`, which opens the field.
     pub fn release(&mut self, v: u8) -> Result<(), SwitchFault>
         requires { v < 10 }
         ensures ok { OnOk result (Opens self.old self.new v) }
@@ -103,8 +103,8 @@ impl Switch {
         Ok(())
     }
 
-    /// The place that a field is closed at, and `None` where it is open. In a word from outside a place may
-    /// lie past the last one of the shape.
+    /// The place that field `v` is closed at, or `None` if it is open. In a word from outside, the
+    /// place may be past the shape's last one.
     pub fn closed(&self, v: u8) -> Option<u8>
         requires { v < 10 }
         ensures open { IsNone result ↔ (field_at self.now v ≡ 0) }

@@ -4,7 +4,7 @@ ghost use Rattle.xbar_switch.specs.Field.{field_of, close_bits_of, open_mask_of}
 
 use crate::shape::Shape;
 
-/// How far field `v` stands above the lowest bit of the word.
+/// The position of the lowest bit of field `v`.
 fn field_shift(shape: Shape, v: u8) -> u32
     requires { v < 10 }
     ensures value { result ≡ width shape * v }
@@ -13,7 +13,7 @@ fn field_shift(shape: Shape, v: u8) -> u32
     shape.width() * u32::from(v)
 }
 
-/// Every bit of field 0.
+/// The mask of field 0.
 fn lowest_field(shape: Shape) -> u64
     ensures { result ≡ 2 ^ width shape - 1 }
 {
@@ -23,7 +23,7 @@ fn lowest_field(shape: Shape) -> u64
     }
 }
 
-/// What field `v` of a word holds: 0 for open, else one more than the place.
+/// The value of field `v`: 0 if open, else one plus the place.
 pub fn field(shape: Shape, word: u64, v: u8) -> u8
     requires { v < 10 }
     ensures value { result ≡ field_of shape word v }
@@ -42,7 +42,7 @@ pub fn close_bits(shape: Shape, v: u8, h: u8) -> u64
     u64::from(1 + h) << field_shift(shape, v)
 }
 
-/// Every bit of a word but those of field `v`, to be and-ed with a word in order to open the field.
+/// All bits except those of field `v`. And-ing a word with this mask opens the field.
 pub fn open_mask(shape: Shape, v: u8) -> u64
     requires { v < 10 }
     ensures { result ≡ open_mask_of shape v }

@@ -89,7 +89,7 @@ pub no_line : (args front rest : List ℕ) → length front ≡ 4 → args ≡ f
 no_line args front rest four split none =
     (only_complete args (λ line dialled h e. none line h (front_same front (line_text line) _ _ four (sym split ∙ e))), refl)
 
--- where no space follows four bytes, the text has none there
+-- if no space follows the first four bytes, the text has none there
 pub no_space_follows : (text back : List ℕ) → back ≡ drop 4 text → pointwise eqb (take 1 back) (codes " ") ≡ false
     → (line rest : List ℕ) → length line ≡ 4 → text ≢ line ++ (codes " " ++ rest)
 no_space_follows text back after none line rest four e =

@@ -3,7 +3,7 @@ use Rattle.std.specs.Prelude.{Option, Ok, Err, All}
 use Rattle.std.proofs.lemmas.Fmt.{decimal_injective}
 use Rattle.std.proofs.lemmas.List.Elements.{All-cons, All-nil}
 use Rattle.xbar_traffic.specs.Row.{IsReadAs, IsRow, hold_letter, mode_of, row_fields}
-use Rattle.xbar_traffic.specs.Traffic.{AreReadAfter, IsJudgedAs, repeats, stands_in}
+use Rattle.xbar_traffic.specs.Traffic.{AreReadAfter, IsJudgedAs, repeats, is_in_rows}
 use Rattle.xbar_traffic.specs.declared.fault.RowFault.{RowFault}
 use Rattle.xbar_traffic.specs.declared.fault.RowFault.TheVariants.{Unreadable, UnknownKind, Malformed, NumberTwice, Marker, OtherMode}
 use Rattle.xbar_traffic.specs.declared.mode.Mode.{Mode}
@@ -53,38 +53,38 @@ row_fields_injective (Call n l d r) (Steps m c) h h2 e = absurd (let letter : 67
 one_row : (mode : Mode) (fields : List (List ℕ)) (a b : Row) → IsReadAs mode fields (Ok a) → IsReadAs mode fields (Ok b) → a ≡ b
 one_row mode fields a b h j = row_fields_injective a b h.0 j.0 (sym h.2 ∙ j.2)
 
--- a fault of fields is that of a number that stands twice, or one of the fields alone
-fault_split : (mode : Mode) (stood : ℕ → Bool) (fields : List (List ℕ)) (fault : RowFault) → IsJudgedAs mode stood fields (Err fault)
-    → ((fault ≡ NumberTwice) × (row : Row) × IsReadAs mode fields (Ok row) × (repeats stood row ≡ true)) ⊎ IsReadAs mode fields (Err fault)
-fault_split mode stood fields NumberTwice h = inl (refl, h.0, h.1, h.2)
-fault_split mode stood fields Unreadable h = inr h
-fault_split mode stood fields UnknownKind h = inr h
-fault_split mode stood fields Malformed h = inr h
-fault_split mode stood fields (Marker why) h = inr h
-fault_split mode stood fields OtherMode h = inr h
+-- the fault of fields is that of a number that occurs twice, or that of the fields alone
+fault_split : (mode : Mode) (seen : ℕ → Bool) (fields : List (List ℕ)) (fault : RowFault) → IsJudgedAs mode seen fields (Err fault)
+    → ((fault ≡ NumberTwice) × (row : Row) × IsReadAs mode fields (Ok row) × (repeats seen row ≡ true)) ⊎ IsReadAs mode fields (Err fault)
+fault_split mode seen fields NumberTwice h = inl (refl, h.0, h.1, h.2)
+fault_split mode seen fields Unreadable h = inr h
+fault_split mode seen fields UnknownKind h = inr h
+fault_split mode seen fields Malformed h = inr h
+fault_split mode seen fields (Marker why) h = inr h
+fault_split mode seen fields OtherMode h = inr h
 
 -- no fields are judged as a row and at fault
-row_or_fault : (mode : Mode) (stood : ℕ → Bool) (fields : List (List ℕ)) (row : Row) (fault : RowFault)
-    → IsJudgedAs mode stood fields (Ok row) → IsJudgedAs mode stood fields (Err fault) → ⊥
-row_or_fault mode stood fields row fault h j = elim (fault_split mode stood fields fault j) [
+row_or_fault : (mode : Mode) (seen : ℕ → Bool) (fields : List (List ℕ)) (row : Row) (fault : RowFault)
+    → IsJudgedAs mode seen fields (Ok row) → IsJudgedAs mode seen fields (Err fault) → ⊥
+row_or_fault mode seen fields row fault h j = elim (fault_split mode seen fields fault j) [
   | inl twice ↦
       let (_, other, read, again) = twice in
       let same = one_row mode fields row other h.0 read in
       let once = h.1 in
-      let both : repeats stood row ≡ true = ap (repeats stood) same ∙ again in
+      let both : repeats seen row ≡ true = ap (repeats seen) same ∙ again in
       cc
   | inr alone ↦ alone.0 row h.0.0 h.0.1 h.0.2
 ]
 
 -- fields have one fault
-one_fault : (mode : Mode) (stood : ℕ → Bool) (fields : List (List ℕ)) (a b : RowFault)
-    → IsJudgedAs mode stood fields (Err a) → IsJudgedAs mode stood fields (Err b) → a ≡ b
-one_fault mode stood fields a b h j = elim (fault_split mode stood fields a h) [
-  | inl twice ↦ elim (fault_split mode stood fields b j) [
+one_fault : (mode : Mode) (seen : ℕ → Bool) (fields : List (List ℕ)) (a b : RowFault)
+    → IsJudgedAs mode seen fields (Err a) → IsJudgedAs mode seen fields (Err b) → a ≡ b
+one_fault mode seen fields a b h j = elim (fault_split mode seen fields a h) [
+  | inl twice ↦ elim (fault_split mode seen fields b j) [
     | inl again ↦ twice.0 ∙ sym again.0
     | inr alone ↦ absurd (alone.0 twice.1 twice.2.0 twice.2.1 twice.2.2)
   ]
-  | inr alone ↦ elim (fault_split mode stood fields b j) [
+  | inr alone ↦ elim (fault_split mode seen fields b j) [
     | inl twice ↦ absurd (alone.0 twice.1 twice.2.0 twice.2.1 twice.2.2)
     | inr other ↦ alone.1 ∙ sym other.1
   ]
@@ -100,11 +100,11 @@ one_traffic mode before [] [] (r2 ∷ rows2) fault fault2 h j = absurd j
 one_traffic mode before [] (r ∷ rows) rows2 fault fault2 h j = absurd h
 one_traffic mode before (f ∷ records) [] [] None fault2 h j = absurd h
 one_traffic mode before (f ∷ records) [] [] (Some a) None h j = absurd j
-one_traffic mode before (f ∷ records) [] [] (Some a) (Some b) h j = (refl, ap Some (one_fault mode (stands_in before) f a b h j))
+one_traffic mode before (f ∷ records) [] [] (Some a) (Some b) h j = (refl, ap Some (one_fault mode (is_in_rows before) f a b h j))
 one_traffic mode before (f ∷ records) [] (r2 ∷ rows2) None fault2 h j = absurd h
-one_traffic mode before (f ∷ records) [] (r2 ∷ rows2) (Some a) fault2 h j = absurd (row_or_fault mode (stands_in before) f r2 a j.0 h)
+one_traffic mode before (f ∷ records) [] (r2 ∷ rows2) (Some a) fault2 h j = absurd (row_or_fault mode (is_in_rows before) f r2 a j.0 h)
 one_traffic mode before (f ∷ records) (r ∷ rows) [] fault None h j = absurd j
-one_traffic mode before (f ∷ records) (r ∷ rows) [] fault (Some b) h j = absurd (row_or_fault mode (stands_in before) f r b h.0 j)
+one_traffic mode before (f ∷ records) (r ∷ rows) [] fault (Some b) h j = absurd (row_or_fault mode (is_in_rows before) f r b h.0 j)
 one_traffic mode before (f ∷ records) (r ∷ rows) (r2 ∷ rows2) fault fault2 h j =
     let same = one_row mode f r r2 h.0.0 j.0.0 in
     let later : AreReadAfter mode (before ++ r ∷ []) records rows2 fault2 =

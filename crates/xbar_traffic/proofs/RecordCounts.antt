@@ -20,7 +20,7 @@ records-reached cfg (r ∷ rs) (suc n) m s s2 xs ys e h =
     let rest = records-reached cfg rs n m p.1 s2 p.2 ys (omega arith) more in
     rw (next, same) (ap (λ (tail : List (List (List ℕ))). p.0 ∷ tail) rest)
 
--- no record is left where none is next
+-- no record is left if none is next
 no_records : (cfg : Config) (m : ℕ) (s : State) (ys : List ℕ) → next_record cfg s [] [] ys ≡ None → records_from cfg m s ys ≡ []
 unfolding records_from
 no_records cfg zero s ys e = refl
@@ -59,7 +59,7 @@ step-outside st.AfterQuote c = either (c == 34) (st.InQuoted, act.Copy) _ (λ e.
 step-outside st.InComment c = either (c == 10) (st.StartRecord, act.Skip) (st.InComment, act.Skip) (λ e. cc) (λ e. cc)
 step-outside st.AfterCr c = either (c == 10) (st.StartRecord, act.Skip) _ (λ e. cc) (start_record-outside c)
 
--- what a record takes of so many bytes: fewer are left, and none at all are taken only by a record that was begun
+-- reading a record leaves no more bytes than before, and fewer if the record wasn't begun before
 abbrev Takes : ℕ → State → Read → Type 0
 Takes size s p = (length p.2 ≤ size) × (ends_at_end p.1 ≡ false) × (ends_at_end s ≡ false → length p.2 < size)
 
@@ -108,7 +108,7 @@ records_begin rs s2 xs ys h =
     let fewer = reached_takes_bytes rs st.StartRecord s2 xs ys refl h in
     records-reached default_config rs (length xs + 1) (length xs + 1 - length rs) st.StartRecord s2 xs ys (omega arith) h
 
--- and they are those, where no more is next
+-- and they are all records, if no more is next
 pub records_are : (rs : List (List (List ℕ))) (s2 : State) (xs ys : List ℕ) → Reached default_config st.StartRecord xs rs s2 ys
     → next_record default_config s2 [] [] ys ≡ None → records default_config xs ≡ rs
 records_are rs s2 xs ys h none =

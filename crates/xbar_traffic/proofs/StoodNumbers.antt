@@ -8,18 +8,18 @@ in_no_only zero number = refl
 in_no_only (suc n) zero = refl
 in_no_only (suc n) (suc number) = in_no_only n number
 
--- in a list of no only, no number stood
-pub none_stands : (stood : List Bool) (n : ℕ) → stood ≡ replicate n false → (number : ℕ) → get_or stood number false ≡ false
-none_stands stood n all number = rw all (in_no_only n number)
+-- by a list that has only 'no', no earlier row has a number
+pub none_stands : (seen : List Bool) (n : ℕ) → seen ≡ replicate n false → (number : ℕ) → get_or seen number false ≡ false
+none_stands seen n all number = rw all (in_no_only n number)
 
-one_more_at : (stood : List Bool) (i j : ℕ) → i < length stood → (j ≡ i) ⊎ (j ≡ i → ⊥) → get_or (set stood i true) j false ≡ (get_or stood j false || i == j)
-one_more_at stood i j h (inl same) =
-    let there = get_or-set_same stood i true false h in
+one_more_at : (seen : List Bool) (i j : ℕ) → i < length seen → (j ≡ i) ⊎ (j ≡ i → ⊥) → get_or (set seen i true) j false ≡ (get_or seen j false || i == j)
+one_more_at seen i j h (inl same) =
+    let there = get_or-set_same seen i true false h in
     grind (arith, nat_tests)
-one_more_at stood i j h (inr other) =
-    let as_before = get_or-set_other stood i j true false other in
+one_more_at seen i j h (inr other) =
+    let as_before = get_or-set_other seen i j true false other in
     grind (arith, nat_tests)
 
--- where one more number is put into a list, just that one stood too
-pub one_more_stands : (stood : List Bool) (i j : ℕ) → i < length stood → get_or (set stood i true) j false ≡ (get_or stood j false || i == j)
-one_more_stands stood i j h = one_more_at stood i j h (cases_eq j i)
+-- if a number is added to a list, the list has just that number too
+pub one_more_stands : (seen : List Bool) (i j : ℕ) → i < length seen → get_or (set seen i true) j false ≡ (get_or seen j false || i == j)
+one_more_stands seen i j h = one_more_at seen i j h (cases_eq j i)

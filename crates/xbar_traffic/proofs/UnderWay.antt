@@ -5,7 +5,7 @@ use Rattle.csv.specs.declared.parser.State.TheVariants as st
 use Rattle.csv.specs.declared.reader.Reader.{Reader}
 use Rattle.csv.specs.declared.reader.Trim.TheVariants as trim
 use Rattle.csv.proofs.ReadFacts.{rows-end, rows-more}
-use Rattle.xbar_traffic.specs.Traffic.{AreReadAfter, IsJudgedAs, IsTrafficOf, stands_in}
+use Rattle.xbar_traffic.specs.Traffic.{AreReadAfter, IsJudgedAs, IsTrafficOf, is_in_rows}
 use Rattle.xbar_traffic.specs.declared.fault.RowFault.{RowFault}
 use Rattle.xbar_traffic.specs.declared.mode.Mode.{Mode}
 use Rattle.xbar_traffic.specs.declared.row.Row.{Row}
@@ -34,7 +34,7 @@ pub record IsUnderWay (mode : Mode) (text : List ℕ) (reader : Reader Bytes) (r
 -- the next record is a row
 pub goes_on : (mode : Mode) (text : List ℕ) (old new : Reader Bytes) (rows : List Row) (fields : List (List ℕ)) (row : Row)
     → IsUnderWay mode text old rows → ReadRecord bytes_left old new true fields → took_first new ≡ true → is_flexible new ≡ is_flexible old
-    → IsJudgedAs mode (stands_in rows) fields (Ok row) → IsUnderWay mode text new (rows ++ row ∷ [])
+    → IsJudgedAs mode (is_in_rows rows) fields (Ok row) → IsUnderWay mode text new (rows ++ row ∷ [])
 goes_on mode text old new rows fields row u took first flexible judged =
     let (rest, source, reached) = rows-more bytes_left old new fields default_config st.StartRecord text u.rest u.given u.config u.source u.reached took in
     record {
@@ -52,7 +52,7 @@ goes_on mode text old new rows fields row u took first flexible judged =
 -- the next record is at fault
 pub stops : (mode : Mode) (text : List ℕ) (old new : Reader Bytes) (rows : List Row) (fields : List (List ℕ)) (fault : RowFault)
     → IsUnderWay mode text old rows → ReadRecord bytes_left old new true fields
-    → IsJudgedAs mode (stands_in rows) fields (Err fault) → IsTrafficOf mode (records default_config text) rows (Some fault)
+    → IsJudgedAs mode (is_in_rows rows) fields (Err fault) → IsTrafficOf mode (records default_config text) rows (Some fault)
 stops mode text old new rows fields fault u took judged =
     let (rest, source, reached) = rows-more bytes_left old new fields default_config st.StartRecord text u.rest u.given u.config u.source u.reached took in
     subst (λ (all : List (List (List ℕ))). IsTrafficOf mode all rows (Some fault))

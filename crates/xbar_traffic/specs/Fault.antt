@@ -5,13 +5,13 @@ use Rattle.xbar_traffic.specs.declared.fault.RowFault.{RowFault}
 use Rattle.xbar_traffic.specs.declared.fault.RowFault.TheVariants.{Unreadable, UnknownKind, Malformed, NumberTwice, Marker, OtherMode}
 use Rattle.xbar_traffic.specs.declared.fault.TrafficFault.{TrafficFault}
 
--- the code of what is wrong with a marker
+-- the code of a marker's fault
 abbrev pub marker_code : MarkerFault → List ℕ
 marker_code NoMarker = codes "C1"
 marker_code NotIdle = codes "C2"
 marker_code WrongKind = codes "C3"
 
--- the code of what is wrong with a row
+-- the code of a row's fault
 abbrev pub fault_code : RowFault → List ℕ
 fault_code Unreadable = codes "T1"
 fault_code UnknownKind = codes "T2"
@@ -25,6 +25,6 @@ abbrev pub row_fault_text : ℕ → RowFault → List ℕ
 row_fault_text row (Marker why) = codes "T5," ++ (decimal row ++ (codes "," ++ marker_code why))
 row_fault_text row fault = fault_code fault ++ (codes "," ++ decimal row)
 
--- the line that tells a fault
+-- the line that reports a fault
 abbrev pub fault_line : TrafficFault → List ℕ
 fault_line refused = codes "FAULT," ++ (row_fault_text refused.row refused.fault ++ codes "\n")

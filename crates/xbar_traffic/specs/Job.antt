@@ -7,7 +7,7 @@ use Rattle.xbar_office.specs.declared.job.Job.TheVariants.{Dial, Complete, Relea
 use Rattle.xbar_traffic.specs.declared.fault.RowFault.{RowFault}
 use Rattle.xbar_traffic.specs.declared.fault.RowFault.TheVariants.{UnknownKind, Malformed}
 
--- the two fields in which a job is written: the letter of its kind, and what it is to be done with
+-- the two fields of a job: the letter of its kind, and its arguments
 abbrev pub job_fields : Job → List (List ℕ)
 job_fields (Dial line) = codes "D" ∷ line_text line ∷ []
 job_fields (Complete line dialled) =
@@ -19,13 +19,12 @@ abbrev pub is_job_kind : List ℕ → Bool
 is_job_kind kind =
     bytes_eq kind (codes "D") || bytes_eq kind (codes "C") || bytes_eq kind (codes "R")
 
--- what is wrong where a job ought to be written and is not, by whether the kind is one that there
--- is
+-- the fault of two fields that are no job's, by whether the first is the letter of a kind
 abbrev pub job_fault : Bool → RowFault
 job_fault true = Malformed
 job_fault false = UnknownKind
 
--- what reading a job's fields comes to: the job that they write, or what is wrong if they write
+-- the result of reading two fields as a job: the job with these fields, or the fault if there is
 -- none
 abbrev pub IsJobReadAs : List ℕ → List ℕ → Result Job RowFault → Type 0
 IsJobReadAs kind args (Ok job) = IsJob job × (kind ∷ args ∷ [] ≡ job_fields job)

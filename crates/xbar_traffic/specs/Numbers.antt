@@ -1,5 +1,5 @@
 use Rattle.std.specs.Prelude.{ℕ, Bool, false, List, slice_index_or}
 
--- whether a number stood before, by a list that tells it of each number
-abbrev pub stands : List Bool → ℕ → Bool
-stands stood number = slice_index_or stood number false
+-- whether an earlier row has a number, by a list with the answer for each number
+abbrev pub contains : List Bool → ℕ → Bool
+contains seen number = slice_index_or seen number false

@@ -10,7 +10,7 @@ use Rattle.xbar_traffic.specs.declared.mode.Mode.{Mode}
 use Rattle.xbar_traffic.specs.declared.mode.Mode.TheVariants.{Replay, Live}
 use Rattle.xbar_traffic.specs.declared.row.Row.TheVariants.{Assign, Steps, Call}
 
--- the numbers of a row are in range, and its job is one that there is
+-- a row is in range: its numbers, its job, its line and its digits
 abbrev pub IsRow : Row → Type 0
 IsRow (Assign marker job_no job) = (marker < 100) × (job_no < 10000) × IsJob job
 IsRow (Steps marker count) = (marker < 100) × (count < 10000)
@@ -27,23 +27,24 @@ abbrev pub hold_letter : Bool → List ℕ
 hold_letter true = codes "R"
 hold_letter false = codes "K"
 
--- the five fields in which a row is written
+-- the five fields of a row
 abbrev pub row_fields : Row → List (List ℕ)
 row_fields (Assign marker job_no job) = codes "J" ∷ decimal marker ∷ decimal job_no ∷ job_fields job
 row_fields (Steps marker count) = codes "S" ∷ decimal marker ∷ decimal count ∷ [] ∷ [] ∷ []
 row_fields (Call call_no line dialled release) =
     codes "C" ∷ decimal call_no ∷ line_text line ∷ dialled_text dialled ∷ hold_letter release ∷ []
 
--- whether a first field is the letter of a row; whether it is that of a row of this mode
+-- whether a first field is the letter of a row
 abbrev pub is_row_letter : List ℕ → Bool
 is_row_letter letter =
     bytes_eq letter (codes "J") || bytes_eq letter (codes "S") || bytes_eq letter (codes "C")
 
+-- whether a first field is the letter of a row of this mode
 abbrev pub is_letter_of : Mode → List ℕ → Bool
 is_letter_of Replay letter = bytes_eq letter (codes "J") || bytes_eq letter (codes "S")
 is_letter_of Live letter = bytes_eq letter (codes "C")
 
--- what is wrong with five fields that are no row of a mode: the first of these that applies
+-- the fault of five fields that are no row of a mode: the first of these that applies
 abbrev pub five_fault : Mode → List ℕ → List ℕ → RowFault
 five_fault mode letter kind =
     if not (is_row_letter letter) then UnknownKind else
@@ -51,14 +52,13 @@ five_fault mode letter kind =
     if bytes_eq letter (codes "J") && not (is_job_kind kind) then UnknownKind else
     Malformed
 
--- what is wrong with fields that are no row of a mode: there aren't five, or what is wrong with the
--- five
+-- the fault of fields that are no row of a mode: there aren't five, or the fault of the five
 abbrev pub fields_fault : Mode → List (List ℕ) → RowFault
 fields_fault mode (letter ∷ second ∷ third ∷ kind ∷ fifth ∷ []) = five_fault mode letter kind
 fields_fault mode _ = Unreadable
 
--- what reading fields comes to: the row of this mode that they write, or what is wrong if they
--- write none
+-- the result of reading fields: the row of this mode with these fields, or the fault if there is
+-- none
 abbrev pub IsReadAs : Mode → List (List ℕ) → Result Row RowFault → Type 0
 IsReadAs mode fields (Ok row) = IsRow row × (mode_of row ≡ mode) × (fields ≡ row_fields row)
 IsReadAs mode fields (Err fault) =

@@ -7,40 +7,41 @@ use Rattle.xbar_traffic.specs.declared.mode.Mode.{Mode}
 use Rattle.xbar_traffic.specs.declared.row.Row.{Row}
 use Rattle.xbar_traffic.specs.declared.row.Row.TheVariants.{Assign, Steps, Call}
 
--- whether a row has this number as its job's or its call's
+-- whether the job or the call of a row has this number
 abbrev pub has_number : ℕ → Row → Bool
 has_number number (Assign marker job_no job) = job_no == number
 has_number number (Steps marker count) = false
 has_number number (Call call_no line dialled release) = call_no == number
 
--- whether a number stands in some of these rows
-abbrev pub stands_in : List Row → ℕ → Bool
-stands_in rows number = list_any (has_number number) rows
+-- whether one of these rows has this number
+abbrev pub is_in_rows : List Row → ℕ → Bool
+is_in_rows rows number = list_any (has_number number) rows
 
--- whether a row's number is among those that stood before
+-- whether a row's number is among those of earlier rows
 abbrev pub repeats : (ℕ → Bool) → Row → Bool
-repeats stood (Assign marker job_no job) = stood job_no
-repeats stood (Steps marker count) = false
-repeats stood (Call call_no line dialled release) = stood call_no
+repeats seen (Assign marker job_no job) = seen job_no
+repeats seen (Steps marker count) = false
+repeats seen (Call call_no line dialled release) = seen call_no
 
--- what reading fields comes to where these numbers stood before
+-- the result of reading fields after rows with these numbers
 abbrev pub IsJudgedAs : Mode → (ℕ → Bool) → List (List ℕ) → Result Row RowFault → Type 0
-IsJudgedAs mode stood fields (Ok row) = IsReadAs mode fields (Ok row) × (repeats stood row ≡ false)
-IsJudgedAs mode stood fields (Err NumberTwice) =
-    (row : Row) × IsReadAs mode fields (Ok row) × (repeats stood row ≡ true)
-IsJudgedAs mode stood fields (Err fault) = IsReadAs mode fields (Err fault)
+IsJudgedAs mode seen fields (Ok row) = IsReadAs mode fields (Ok row) × (repeats seen row ≡ false)
+IsJudgedAs mode seen fields (Err NumberTwice) =
+    (row : Row) × IsReadAs mode fields (Ok row) × (repeats seen row ≡ true)
+IsJudgedAs mode seen fields (Err fault) = IsReadAs mode fields (Err fault)
 
--- what records come to after rows: their rows up to the first fault, and that fault if there is one
+-- the result of reading records after these rows: the rows up to the first fault, and that fault
+-- if there is one
 abbrev pub AreReadAfter : Mode → List Row → List (List (List ℕ)) → List Row → Option RowFault
     → Type 0
 AreReadAfter mode before [] [] None = Unit {0}
 AreReadAfter mode before (fields ∷ records) [] (Some fault) =
-    IsJudgedAs mode (stands_in before) fields (Err fault)
+    IsJudgedAs mode (is_in_rows before) fields (Err fault)
 AreReadAfter mode before (fields ∷ records) (row ∷ rows) fault =
-    IsJudgedAs mode (stands_in before) fields (Ok row)
+    IsJudgedAs mode (is_in_rows before) fields (Ok row)
     × AreReadAfter mode (before ++ row ∷ []) records rows fault
 AreReadAfter mode before _ _ _ = ⊥
 
--- what the records of a whole traffic of a mode come to
+-- the result of reading all records as traffic of a mode
 abbrev pub IsTrafficOf : Mode → List (List (List ℕ)) → List Row → Option RowFault → Type 0
 IsTrafficOf mode records rows fault = AreReadAfter mode [] records rows fault

@@ -4,12 +4,12 @@ ghost use Rattle.xbar_traffic.specs.Fault.{fault_line};
 use std::alloc::{AllocError, Global};
 use std::fmt;
 
-/// Why a marker can't be asked what a row asks of it.
+/// Why a marker can't do what a row asks of it.
 #[derive(Clone, Copy, Debug, PartialEq, Eq)]
 pub enum MarkerFault {
-    /// The office has no such marker.
+    /// The office has no marker with this number.
     NoMarker,
-    /// The marker isn't idle when the row's turn comes.
+    /// The marker isn't idle when the row is reached.
     NotIdle,
     /// The marker does no jobs of this kind.
     WrongKind,
@@ -30,19 +30,19 @@ impl fmt::Display for MarkerFault {
     }
 }
 
-/// What is wrong with a row. Of several, the first in the order of the traffic's format is told,
-/// which is not the order here.
+/// What is wrong with a row. If a row has several faults, the first in the order of the traffic
+/// format is reported, which isn't the order of the variants.
 #[derive(Clone, Copy, Debug, PartialEq, Eq)]
 pub enum RowFault {
-    /// The row hasn't exactly five fields.
+    /// The row doesn't have exactly five fields.
     Unreadable,
-    /// The first field is no row's letter, or the kind of job is none that rows ask for.
+    /// The first field isn't J, S or C, or the kind of job isn't D, C or R.
     UnknownKind,
-    /// A field has another form than it must, or its number is out of range.
+    /// Another field doesn't have its form, or its number is out of range.
     Malformed,
-    /// The number of the job or the call stood in an earlier row.
+    /// An earlier row has the number of the job or the call too.
     NumberTwice,
-    /// The office's state doesn't allow it.
+    /// The marker can't do what the row asks.
     Marker(MarkerFault),
     /// The row belongs to the other mode.
     OtherMode,
@@ -66,16 +66,16 @@ impl fmt::Display for RowFault {
     }
 }
 
-/// Why traffic is refused: the first row with a fault, and the fault.
+/// Why traffic is refused: the first row with a fault, and its fault.
 #[derive(Clone, Copy, Debug, PartialEq, Eq)]
 pub struct TrafficFault {
-    /// The rows have the numbers 1, 2 and so on.
+    /// The number of the row, counted from 1.
     pub row: u64,
     pub fault: RowFault,
 }
 
 impl TrafficFault {
-    /// The line that tells it, with its line feed.
+    /// The fault line, with its line feed.
     pub fn text(self, alloc: Global) -> Result<String, AllocError>
         ensures { IfOk result (λ text. string_bytes text ≡ fault_line self) }
     {

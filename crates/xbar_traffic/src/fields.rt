@@ -15,6 +15,7 @@ pub struct Fields<'r> {
 }
 
 impl<'r> Fields<'r> {
+    /// The fields of a row. None if there aren't exactly five.
     pub fn of(row: &'r ByteRecord) -> Option<Self>
         ensures { MatchOption result (length (fields_of row.now) ≢ 5)
             (λ fields. fields_of row.now ≡ five_fields fields) }
@@ -32,7 +33,7 @@ impl<'r> Fields<'r> {
     }
 }
 
-/// The field at a place.
+/// The field at an index.
 fn field(row: &ByteRecord, index: usize) -> &[u8]
     requires { index < length (fields_of row.now) }
     ensures { result.now ≡ slice_index_or (fields_of row.now) index [] }

@@ -1,5 +1,5 @@
-//! What holds of traffic as it is read, for the crates above. Each function does nothing: its
-//! contract is the law.
+//! Laws of traffic as it is read, for the crates above. Each function does nothing: its contract
+//! is the law.
 
 ghost use Rattle.std.specs.Prelude.{◌≡◌, ◌≤◌, ◌+◌, ℕ, List, Option, All, length};
 ghost use Rattle.xbar_traffic.specs.Row.{IsRow, mode_of};
@@ -8,7 +8,7 @@ ghost use Rattle.xbar_traffic.specs.declared.fault.RowFault.{RowFault};
 ghost use Rattle.xbar_traffic.specs.declared.mode.Mode.{Mode};
 ghost use Rattle.xbar_traffic.specs.declared.row.Row.{Row};
 
-/// Records are one traffic, and no other.
+/// The records and the mode determine the rows and the fault.
 pub fn records_are_one_traffic()
     ensures rows { (mode : Mode) (records : List (List (List ℕ))) (rows rows' : List Row)
         (fault fault' : Option RowFault) → IsTrafficOf mode records rows fault →
@@ -18,13 +18,13 @@ pub fn records_are_one_traffic()
         IsTrafficOf mode records rows' fault' → fault ≡ fault' }
 {}
 
-/// The numbers of all rows are in range, and so are their lines and digits.
+/// All rows are in range: their numbers, jobs, lines and digits.
 pub fn rows_are_in_range()
     ensures { (mode : Mode) (records : List (List (List ℕ))) (rows : List Row)
         (fault : Option RowFault) → IsTrafficOf mode records rows fault → All IsRow rows }
 {}
 
-/// All rows are of the mode for which they were read.
+/// All rows belong to the mode for which they were read.
 pub fn rows_are_of_their_mode()
     ensures { (mode : Mode) (records : List (List (List ℕ))) (rows : List Row)
         (fault : Option RowFault) → IsTrafficOf mode records rows fault →

@@ -1,5 +1,5 @@
-//! What the rows of traffic ask for: jobs for markers and steps of markers in a replay, calls in a live
-//! office. And what is wrong with a row, as far as the row and those before it tell.
+//! Reads the rows of traffic: jobs and steps of markers in a replay, calls in a live office.
+//! Reports what is wrong with a row, as far as the row and those before it show it.
 #![tactic(auto)]
 
 pub use fault::{MarkerFault, RowFault, TrafficFault};

@@ -1,4 +1,4 @@
-/// What the rows of traffic are for.
+/// What traffic is for.
 #[derive(Clone, Copy, Debug, PartialEq, Eq)]
 pub enum Mode {
     /// A schedule that is replayed: jobs for markers, and steps of markers.

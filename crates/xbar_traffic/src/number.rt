@@ -2,7 +2,7 @@ ghost use Rattle.std.specs.Prelude.{◌≡◌, ◌≤◌, ◌↔◌, ℕ, IsTrue
 ghost use Rattle.std.specs.Str.Parse.{AllDigits, digits_value};
 ghost use Rattle.xbar_traffic.specs.Number.{BeginsPlainly};
 
-/// The number from 0 to `limit` that a text writes in decimal digits, with no leading zero.
+/// Reads a number from 0 to `limit` in decimal digits without leading zeros.
 pub fn read_number(text: &[u8], limit: u32) -> Option<u32>
     ensures reads { (number : ℕ) → number ≤ limit → text.now ≡ decimal number →
         result ≡ Some number }
@@ -14,6 +14,7 @@ pub fn read_number(text: &[u8], limit: u32) -> Option<u32>
     value(text, limit)
 }
 
+/// Whether a text isn't empty and has no leading zero.
 fn begins_plainly(text: &[u8]) -> bool
     ensures { IsTrue result ↔ BeginsPlainly text.now }
 {
@@ -24,7 +25,7 @@ fn begins_plainly(text: &[u8]) -> bool
     }
 }
 
-/// The number up to `limit` that digits write.
+/// The value of decimal digits. None if a byte is no digit or the value is above `limit`.
 fn value(digits: &[u8], limit: u32) -> Option<u32>
     ensures reads { AllDigits 10 digits.now → digits_value 10 digits.now ≤ limit →
         result ≡ Some (digits_value 10 digits.now) }

@@ -1,16 +1,16 @@
 ghost use Rattle.std.specs.Prelude.{◌≡◌, ◌<◌, ◌==◌, ◌||◌, ℕ, IfOk, false, not};
-ghost use Rattle.xbar_traffic.specs.Numbers.{stands};
+ghost use Rattle.xbar_traffic.specs.Numbers.{contains};
 
 use std::alloc::{AllocError, Global};
 use std::marker::Model;
 
-/// How many numbers of jobs or calls there may be.
+/// Job and call numbers are below this.
 const COUNT: usize = 10_000;
 
-/// Which numbers of jobs or calls, from 0 to 9999, stood before.
+/// The numbers of jobs or calls, from 0 to 9999, that earlier rows have.
 #[derive(Drop)]
 pub struct Numbers {
-    stood: Vec<bool>,
+    seen: Vec<bool>,
 }
 
 impl Model for Numbers {
@@ -18,32 +18,32 @@ impl Model for Numbers {
 
     ghost Value = { List Bool };
 
-    ghost view = { λ a. a.stood.items };
+    ghost view = { λ a. a.seen.items };
 
-    ghost invariant = { λ a. length a.stood.items ≡ 10000 };
+    ghost invariant = { λ a. length a.seen.items ≡ 10000 };
 }
 
 impl Numbers {
-    /// None stood yet.
+    /// The empty set.
     pub fn new(alloc: Global) -> Result<Self, AllocError>
-        ensures { IfOk result (λ numbers. (number : ℕ) → stands numbers number ≡ false) }
+        ensures { IfOk result (λ numbers. (number : ℕ) → contains numbers number ≡ false) }
     {
         Ok(Numbers {
-            stood: vec![in alloc; false; COUNT]?,
+            seen: vec![in alloc; false; COUNT]?,
         })
     }
 
-    /// From here on this number stood; whether it hadn't before.
+    /// Adds a number. Returns whether it is new.
     #[tactic(auto, using(crate::proofs::StoodNumbers::one_more_stands))]
     pub fn insert(&mut self, number: u32) -> bool
         requires { number < 10000 }
-        ensures first { result ≡ not (stands self.old number) }
-        ensures stands { (other : ℕ) →
-            stands self.new other ≡ (stands self.old other || number == other) }
+        ensures first { result ≡ not (contains self.old number) }
+        ensures contains { (other : ℕ) →
+            contains self.new other ≡ (contains self.old other || number == other) }
     {
         let place = number as usize;
-        let stood = self.stood[place];
-        self.stood[place] = true;
-        !stood
+        let seen = self.seen[place];
+        self.seen[place] = true;
+        !seen
     }
 }

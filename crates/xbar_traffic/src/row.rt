@@ -17,7 +17,7 @@ use xbar_office::Job;
 /// What a row of traffic asks for.
 #[derive(Clone, Copy, Debug, PartialEq, Eq)]
 pub enum Row {
-    /// A marker is assigned a job, and makes no step.
+    /// Assigns a job to a marker, which makes no step.
     Assign {
         /// 0 to 99.
         marker: u32,
@@ -25,14 +25,14 @@ pub enum Row {
         job_no: u32,
         job: Job,
     },
-    /// A marker makes so many steps.
+    /// Has a marker make `count` steps.
     Steps {
         /// 0 to 99.
         marker: u32,
         /// 0 to 9999.
         count: u32,
     },
-    /// In a live office a line calls, is given dial tone, and dials.
+    /// A call in a live office: the line gets dial tone and dials.
     Call {
         /// 0 to 9999.
         call_no: u32,
@@ -43,13 +43,13 @@ pub enum Row {
     },
 }
 
-/// The highest number of a marker in a row.
+/// The highest number of a marker that a row may have.
 pub const MARKER_LIMIT: u32 = 99;
-/// The highest number of a job or a call, and the most steps.
+/// The highest number of a job or a call that a row may have, and the most steps.
 pub const NUMBER_LIMIT: u32 = 9999;
 
 impl Row {
-    /// Reads a record as a row, whatever rows came before it.
+    /// Reads a record as a row of this mode. Earlier rows aren't considered.
     pub(crate) fn read(mode: Mode, row: &ByteRecord) -> Result<Row, RowFault>
         ensures { IsReadAs mode (fields_of row.now) result }
     {
@@ -132,7 +132,7 @@ impl Row {
     }
 }
 
-/// The job of these last two fields of a row.
+/// Reads a job from the last two fields of a `J` row.
 pub fn read_job(kind: &[u8], args: &[u8]) -> Result<Job, RowFault>
     ensures { IsJobReadAs kind.now args.now result }
 {
@@ -144,7 +144,7 @@ pub fn read_job(kind: &[u8], args: &[u8]) -> Result<Job, RowFault>
     }
 }
 
-/// The completing job of a line and what it dialled, as `3041 5551234`.
+/// Reads a completing job from a line and the digits that it dialled, as in `3041 5551234`.
 #[tactic(auto, using(crate::proofs::JobFields::no_space, crate::proofs::JobFields::no_line))]
 fn read_complete(args: &[u8]) -> Result<Job, RowFault>
     ensures { IsJobReadAs (codes "C") args.now result }
@@ -155,7 +155,7 @@ fn read_complete(args: &[u8]) -> Result<Job, RowFault>
     Ok(Job::Complete(line, dialled))
 }
 
-/// The four bytes before a space, and what stands after it.
+/// The first four bytes of a text and, after a space, the rest.
 fn split_after_line(text: &[u8]) -> Option<(&[u8], &[u8])>
     ensures { MatchOption result ((line rest : List ℕ) → length line ≡ 4 →
         text.now ≢ line ++ (codes " " ++ rest))
@@ -182,7 +182,7 @@ fn read_dialled(text: &[u8]) -> Result<Dialled, RowFault>
     Dialled::parse(text).map_err(|_| RowFault::Malformed)
 }
 
-/// Whether the call is released once it is connected.
+/// Reads whether a call is released once it is connected (`R`) or kept (`K`).
 fn read_release(text: &[u8]) -> Result<bool, RowFault>
     ensures { MatchResult result (λ release. text.now ≡ hold_letter release)
         (λ fault. ((release : Bool) → text.now ≢ hold_letter release) ×

@@ -1,7 +1,7 @@
 ghost use Rattle.std.specs.Prelude.{◌≡◌, ◌+◌, ◌||◌, ℕ, Ok, IfOk, true, option_map, vec_len};
 ghost use Rattle.csv.specs.Records.{fields_of};
 ghost use Rattle.csv.specs.Reading.{default_config, records, strip_bom, stops_reader, error_kind};
-ghost use Rattle.xbar_traffic.specs.Numbers.{stands};
+ghost use Rattle.xbar_traffic.specs.Numbers.{contains};
 ghost use Rattle.xbar_traffic.specs.Traffic.{IsJudgedAs, IsTrafficOf, has_number};
 
 use crate::fault::{RowFault, TrafficFault};
@@ -11,16 +11,16 @@ use crate::row::Row;
 use csv::{ByteRecord, Error, ErrorKind, ReaderBuilder};
 use std::alloc::{AllocError, Global};
 
-/// The rows of traffic up to the first that is at fault by itself or by a number that stood before.
+/// The rows of traffic up to the first with a fault: by itself, or by a number of an earlier row.
 #[derive(Debug, Drop)]
 pub struct Traffic {
     pub rows: Vec<Row>,
-    /// What is wrong with the row after `rows`.
+    /// The fault of the row after `rows`. None if all rows were read.
     pub fault: Option<RowFault>,
 }
 
 impl Traffic {
-    /// Reads the bytes of a whole traffic, whose rows are to be of this mode.
+    /// Reads bytes as the whole of some traffic, whose rows must belong to this mode.
     pub fn read(alloc: Global, mode: Mode, bytes: &[u8]) -> Result<Traffic, AllocError>
         ensures { IfOk result (λ traffic. IsTrafficOf mode
             (records default_config (strip_bom bytes.now)) traffic.rows.items traffic.fault) }
@@ -29,7 +29,7 @@ impl Traffic {
             .has_headers(false)
             .flexible(true)
             .from_reader(alloc, bytes);
-        // One record for all rows, so that a row takes no memory to be read.
+        // All rows are read into one record, so that they don't allocate one each.
         let mut record = ByteRecord::new(alloc);
         let mut rows = Vec::new(alloc);
         let mut numbers = Numbers::new(alloc)?;
@@ -37,10 +37,10 @@ impl Traffic {
             match reader.read_byte_record(&mut record) {
                 Ok(true) => {}
                 Ok(false) => return Ok(Traffic { rows, fault: None }),
-                Err(error) => return Err(want_of_memory(error)),
+                Err(error) => return Err(out_of_memory(error)),
             }
             match judge(mode, &record, &mut numbers) {
-                // `push` gets no proof where another crate's enum is in the item.
+                // `push` isn't proved if an enum of another crate is in the item.
                 Ok(row) => rows.extend_from_slice(&[row])?,
                 Err(fault) => {
                     let fault = Some(fault);
@@ -48,11 +48,11 @@ impl Traffic {
                 }
             }
         }
-        // So many rows have no room.
+        // There is no room for that many rows.
         Err(AllocError)
     }
 
-    /// The fault that comes after all rows, with the number of its row.
+    /// The fault and the number of its row, if there is a fault.
     pub fn refusal(&self) -> Option<TrafficFault>
         ensures { result ≡ option_map (λ fault.
             record { row = vec_len self.now.rows + 1; fault = fault }) self.now.fault }
@@ -62,11 +62,11 @@ impl Traffic {
     }
 }
 
-/// Reads a row, where these numbers of jobs or calls stood before, and adds its own to them.
+/// Reads a row after rows with these numbers of jobs or calls, and adds its own number.
 fn judge(mode: Mode, row: &ByteRecord, numbers: &mut Numbers) -> Result<Row, RowFault>
-    ensures judged { IsJudgedAs mode (stands numbers.old) (fields_of row.now) result }
-    ensures numbers { IfOk result (λ row. (number : ℕ) → stands numbers.new number ≡
-        (stands numbers.old number || has_number number row)) }
+    ensures judged { IsJudgedAs mode (contains numbers.old) (fields_of row.now) result }
+    ensures numbers { IfOk result (λ row. (number : ℕ) → contains numbers.new number ≡
+        (contains numbers.old number || has_number number row)) }
 {
     let row = Row::read(mode, row)?;
     let number = match row {
@@ -81,12 +81,13 @@ fn judge(mode: Mode, row: &ByteRecord, numbers: &mut Numbers) -> Result<Row, Row
     }
 }
 
-/// Why rows of any length could not be read from bytes in memory: memory ran out.
-fn want_of_memory(error: Error) -> AllocError
+/// The only reason why rows of any length can't be read from bytes in memory: memory ran out.
+fn out_of_memory(error: Error) -> AllocError
     requires { stops_reader (error_kind error) ≡ true }
 {
     match error.into_kind() {
-        // `Io` never comes, since a slice's `read` gives no error. No contract of `Read` says so.
+        // `Io` never comes, since a slice's `read` returns no error, but no contract of `Read`
+        // says so.
         ErrorKind::OutOfMemory | ErrorKind::Io(_) => AllocError,
         _ => unreachable!(),
     }

@@ -1,4 +1,4 @@
--- what tests find, test by test
+-- what tests found, test by test
 use Rattle.std.proofs.Common.{◌≡◌, ℕ, Bool, true, false, List, [], ◌∷◌, ◌++◌, append_assoc, append-nil, refl, sym, ◌∙◌, ap}
 use Rattle.std.specs.Prelude.{◌||◌, codes, if◌then◌else◌}
 use Rattle.std.proofs.lemmas.Grind.{flat_map-append}
@@ -13,7 +13,7 @@ closed = codes "closed: "
 abbrev between : List ℕ
 between = codes "; "
 
--- as far as the finds of tests have come
+-- the invariant of adding what tests found
 pub record AreFound (tests : List Tested) (first now : List ℕ) (any : Bool) : Type 0 where
   pub any_is : any ≡ has_any (finds tests)
   pub text_is : now ≡ first ++ listed [] closed between (finds tests)

@@ -41,19 +41,19 @@ none_without : (texts : List (List ℕ)) → has_any texts ≡ false → texts �
 none_without [] e = refl
 none_without (text ∷ texts) e = absurd cc
 
--- one text more stands behind the head, or behind a separator
+-- one more text comes after the head, or after a separator
 listed_more : (head separator : List ℕ) (texts : List (List ℕ)) (text : List ℕ) → listed [] head separator (texts ++ text ∷ []) ≡ listed [] head separator texts ++ (if has_any texts then separator else head) ++ text
 unfolding listed
 listed_more head separator [] text = grind (arith, common_steps)
 listed_more head separator (first ∷ texts) text = grind (arith, common_steps)
 
--- what is said if there are none shows only there
+-- the text for an empty list counts only if the list is empty
 listed_any : (none head separator : List ℕ) (texts : List (List ℕ)) → has_any texts ≡ true → listed none head separator texts ≡ listed [] head separator texts
 unfolding listed
 listed_any none head separator [] e = absurd cc
 listed_any none head separator (text ∷ texts) e = refl
 
--- how far a list of what a word shows has come
+-- the invariant of listing what a word shows
 pub record IsListed (place : Place) (word n : ℕ) (head separator first now : List ℕ) (any : Bool) : Type 0 where
   pub any_is : any ≡ has_any (shown_to n place word)
   pub text_is : now ≡ first ++ listed [] head separator (shown_to n place word)
@@ -114,7 +114,7 @@ module _ (none head separator first now : List ℕ) (texts : List (List ℕ)) (a
   pub ends_with_some : true ≡ has_any texts → now ≡ first ++ listed none head separator texts
   ends_with_some is = all ∙ ap (λ (text : List ℕ). first ++ text) (sym (listed_any none head separator texts (sym is)))
 
-  -- else it is said that there is none
+  -- else the text for an empty list is added
   pub ends_with_none : (next : List ℕ) → false ≡ has_any texts → next ≡ now ++ none → next ≡ first ++ listed none head separator texts
   unfolding listed
   ends_with_none next is adds =
@@ -123,7 +123,7 @@ module _ (none head separator first now : List ℕ) (texts : List (List ℕ)) (a
       ∙ ap (λ (text : List ℕ). text ++ none) (all ∙ ap (λ (these : List (List ℕ)). first ++ listed [] head separator these) empty ∙ append-nil first)
       ∙ ap (λ (these : List (List ℕ)). first ++ listed none head separator these) (sym empty)
 
--- texts behind others
+-- texts after others
 pub listed_on : (head separator : List ℕ) (texts more : List (List ℕ)) → listed [] head separator (texts ++ more) ≡ listed [] head separator texts ++ listed [] (if has_any texts then separator else head) separator more
 unfolding listed
 listed_on head separator [] more = refl

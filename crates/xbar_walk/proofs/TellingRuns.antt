@@ -1,4 +1,4 @@
--- steps of many markers are told one by one
+-- the steps of many markers are described one by one
 use Rattle.std.proofs.Common.{◌≡◌, ℕ, zero, suc, Bool, true, false, List, [], ◌∷◌, ◌++◌, append_assoc, append-nil, refl, sym, ◌∙◌, ap}
 use Rattle.std.specs.Prelude.{flat_map, if◌then◌else◌, map, replicate}
 use Rattle.std.proofs.lemmas.Grind.{flat_map-append}
@@ -6,20 +6,20 @@ use Rattle.xbar_plan.specs.Tables.{Tables}
 use Rattle.xbar_core.specs.Exchange.{Exchange, OfPlan}
 use Rattle.xbar_core.specs.Moves.{after_step}
 use Rattle.xbar_core.specs.Runs.{Steps, run_from}
-use Rattle.xbar_walk.specs.Items.{item_lines, step_item, told_text}
+use Rattle.xbar_walk.specs.Items.{item_lines, step_item, walk_text_of}
 use Rattle.xbar_walk.specs.Lines.{one_more, step_lines}
-use Rattle.xbar_walk.specs.Runs.{Made, last_number, made_by, made_items, made_lines, told_run}
-use Rattle.xbar_walk.specs.Walks.{Walk, added_by, after_told_step, is_idle_in, told_of, told_steps}
-use Rattle.xbar_walk.specs.declared.telling.Telling.TheVariants.{Each}
+use Rattle.xbar_walk.specs.Runs.{Made, last_number, made_by, made_items, made_lines, walk_of_run}
+use Rattle.xbar_walk.specs.Walks.{Walk, added_by, walk_of_step, is_idle_in, observation_of, walk_of_steps}
+use Rattle.xbar_walk.specs.declared.detail.Detail.TheVariants.{Each}
 use Rattle.xbar_walk.proofs.Joining.{each_alone}
 use Rattle.xbar_walk.proofs.TestItems.{step_item_lines}
 use Rattle.xbar_walk.proofs.ToldSteps.{idle_tells_none, made_is_told, told_office}
 
-pub run_office : (ks : List ℕ) (w : Walk) → (told_run ks w).office ≡ record w.office { exchange = run_from w.office.plan w.office.exchange (map Steps ks) }
-unfolding told_run
+pub run_office : (ks : List ℕ) (w : Walk) → (walk_of_run ks w).office ≡ record w.office { exchange = run_from w.office.plan w.office.exchange (map Steps ks) }
+unfolding walk_of_run
 run_office [] w = refl
 run_office (k ∷ ks) w =
-    run_office ks (after_told_step k w)
+    run_office ks (walk_of_step k w)
     ∙ ap (λ (o : OfPlan). record o { exchange = run_from o.plan o.exchange (map Steps ks) }) (told_office k w)
 
 -- one step more
@@ -28,56 +28,56 @@ module _ (k : ℕ) (ks : List ℕ) (w : Walk) where
   later = made_by w.office.plan ks (after_step w.office.plan k w.office.exchange)
 
   abbrev made : Made
-  made = record { marker = k; told = told_of w.office.plan k w.office.exchange; records = added_by w.office.plan k w.office.exchange }
+  made = record { marker = k; observed = observation_of w.office.plan k w.office.exchange; records = added_by w.office.plan k w.office.exchange }
 
   abbrev all : Bool → List Made
   all idle = (if idle then [] else (made ∷ [])) ++ later
 
-  next_later : made_by (after_told_step k w).office.plan ks (after_told_step k w).office.exchange ≡ later
+  next_later : made_by (walk_of_step k w).office.plan ks (walk_of_step k w).office.exchange ≡ later
   next_later = ap (λ (o : OfPlan). made_by o.plan ks o.exchange) (told_office k w)
 
-  next_items : (idle : Bool) → is_idle_in w.office.exchange k ≡ idle → (after_told_step k w).items ++ made_items (after_told_step k w).number later ≡ w.items ++ made_items w.number (all idle)
+  next_items : (idle : Bool) → is_idle_in w.office.exchange k ≡ idle → (walk_of_step k w).items ++ made_items (walk_of_step k w).number later ≡ w.items ++ made_items w.number (all idle)
   unfolding made_items
   next_items true is = ap (λ (x : Walk). x.items ++ made_items x.number later) (idle_tells_none k w is)
   next_items false is =
       ap (λ (x : Walk). x.items ++ made_items x.number later) (made_is_told k w is)
-      ∙ append_assoc w.items (step_item (one_more w.number) k made.told made.records ∷ []) (made_items (one_more w.number) later)
+      ∙ append_assoc w.items (step_item (one_more w.number) k made.observed made.records ∷ []) (made_items (one_more w.number) later)
 
-  next_number : (idle : Bool) → is_idle_in w.office.exchange k ≡ idle → last_number (after_told_step k w).number later ≡ last_number w.number (all idle)
+  next_number : (idle : Bool) → is_idle_in w.office.exchange k ≡ idle → last_number (walk_of_step k w).number later ≡ last_number w.number (all idle)
   unfolding last_number
   next_number true is = ap (λ (x : Walk). last_number x.number later) (idle_tells_none k w is)
   next_number false is = ap (λ (x : Walk). last_number x.number later) (made_is_told k w is)
 
-pub run_items : (ks : List ℕ) (w : Walk) → (told_run ks w).items ≡ w.items ++ made_items w.number (made_by w.office.plan ks w.office.exchange)
-unfolding told_run made_by made_items
+pub run_items : (ks : List ℕ) (w : Walk) → (walk_of_run ks w).items ≡ w.items ++ made_items w.number (made_by w.office.plan ks w.office.exchange)
+unfolding walk_of_run made_by made_items
 run_items [] w = sym (append-nil w.items)
 run_items (k ∷ ks) w =
-    run_items ks (after_told_step k w)
-    ∙ ap (λ (these : List Made). (after_told_step k w).items ++ made_items (after_told_step k w).number these) (next_later k ks w)
+    run_items ks (walk_of_step k w)
+    ∙ ap (λ (these : List Made). (walk_of_step k w).items ++ made_items (walk_of_step k w).number these) (next_later k ks w)
     ∙ next_items k ks w (is_idle_in w.office.exchange k) refl
 
-pub run_number : (ks : List ℕ) (w : Walk) → (told_run ks w).number ≡ last_number w.number (made_by w.office.plan ks w.office.exchange)
-unfolding told_run made_by last_number
+pub run_number : (ks : List ℕ) (w : Walk) → (walk_of_run ks w).number ≡ last_number w.number (made_by w.office.plan ks w.office.exchange)
+unfolding walk_of_run made_by last_number
 run_number [] w = refl
 run_number (k ∷ ks) w =
-    run_number ks (after_told_step k w)
-    ∙ ap (last_number (after_told_step k w).number) (next_later k ks w)
+    run_number ks (walk_of_step k w)
+    ∙ ap (last_number (walk_of_step k w).number) (next_later k ks w)
     ∙ next_number k ks w (is_idle_in w.office.exchange k) refl
 
-pub steps_are_run : (k count : ℕ) (w : Walk) → told_steps k count w ≡ told_run (replicate count k) w
-unfolding told_run told_steps
+pub steps_are_run : (k count : ℕ) (w : Walk) → walk_of_steps k count w ≡ walk_of_run (replicate count k) w
+unfolding walk_of_run walk_of_steps
 steps_are_run k zero w = refl
-steps_are_run k (suc count) w = steps_are_run k count (after_told_step k w)
+steps_are_run k (suc count) w = steps_are_run k count (walk_of_step k w)
 
--- each item of its own, a test is told as any step
+-- if each item has its own lines, a test is described like any other step
 one_text : (plan : Tables) (k : ℕ) (e : Exchange) (number : ℕ) (idle : Bool) (rest : List Made) → ((n : ℕ) → flat_map item_lines (made_items n rest) ≡ made_lines n rest)
-    → flat_map item_lines (made_items number ((if idle then [] else (record { marker = k; told = told_of plan k e; records = added_by plan k e } ∷ [])) ++ rest))
-    ≡ made_lines number ((if idle then [] else (record { marker = k; told = told_of plan k e; records = added_by plan k e } ∷ [])) ++ rest)
+    → flat_map item_lines (made_items number ((if idle then [] else (record { marker = k; observed = observation_of plan k e; records = added_by plan k e } ∷ [])) ++ rest))
+    ≡ made_lines number ((if idle then [] else (record { marker = k; observed = observation_of plan k e; records = added_by plan k e } ∷ [])) ++ rest)
 unfolding made_items made_lines
 one_text plan k e number true rest later = later number
 one_text plan k e number false rest later =
     ap (λ (lines : List ℕ). lines ++ flat_map item_lines (made_items (one_more number) rest)) (step_item_lines plan k e (one_more number))
-    ∙ ap (λ (lines : List ℕ). step_lines (one_more number) k (told_of plan k e) (added_by plan k e) ++ lines) (later (one_more number))
+    ∙ ap (λ (lines : List ℕ). step_lines (one_more number) k (observation_of plan k e) (added_by plan k e) ++ lines) (later (one_more number))
 
 made_text : (plan : Tables) (ks : List ℕ) (e : Exchange) (number : ℕ) → flat_map item_lines (made_items number (made_by plan ks e)) ≡ made_lines number (made_by plan ks e)
 unfolding made_by made_items made_lines
@@ -85,11 +85,11 @@ made_text plan [] e number = refl
 made_text plan (k ∷ ks) e number =
     one_text plan k e number (is_idle_in e k) (made_by plan ks (after_step plan k e)) (λ n. made_text plan ks (after_step plan k e) n)
 
-pub run_text : (ks : List ℕ) (w : Walk) → told_text Each (told_run ks w).items ≡ told_text Each w.items ++ made_lines w.number (made_by w.office.plan ks w.office.exchange)
+pub run_text : (ks : List ℕ) (w : Walk) → walk_text_of Each (walk_of_run ks w).items ≡ walk_text_of Each w.items ++ made_lines w.number (made_by w.office.plan ks w.office.exchange)
 run_text ks w =
     let made = made_items w.number (made_by w.office.plan ks w.office.exchange) in
-    each_alone (told_run ks w).items
+    each_alone (walk_of_run ks w).items
     ∙ ap (flat_map item_lines) (run_items ks w)
     ∙ flat_map-append item_lines w.items made
     ∙ ap (λ (lines : List ℕ). lines ++ flat_map item_lines made) (sym (each_alone w.items))
-    ∙ ap (λ (lines : List ℕ). told_text Each w.items ++ lines) (made_text w.office.plan ks w.office.exchange w.number)
+    ∙ ap (λ (lines : List ℕ). walk_text_of Each w.items ++ lines) (made_text w.office.plan ks w.office.exchange w.number)

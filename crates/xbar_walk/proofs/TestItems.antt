@@ -1,4 +1,4 @@
--- a test adds no record, so its line is all that there is to tell of it
+-- a test adds no record, so its item is only the test
 use Rattle.std.proofs.Common.{◌≡◌, ℕ, List, [], ◌++◌, append-nil, drop, length, inl, inr, refl, sym, ◌∙◌, ap, arith}
 use Rattle.std.proofs.lemmas.List.{drop_all}
 use Rattle.std.specs.Prelude.{slice_index}
@@ -16,7 +16,7 @@ use Rattle.xbar_core.proofs.StepCases.{step_cases}
 use Rattle.xbar_walk.specs.Items.{item_lines, step_item}
 use Rattle.xbar_walk.specs.Lines.{marker_line, step_lines}
 use Rattle.xbar_walk.specs.Rows.{test_line}
-use Rattle.xbar_walk.specs.Walks.{added_by, next_of, told_of}
+use Rattle.xbar_walk.specs.Walks.{added_by, next_of, observation_of}
 use Rattle.xbar_walk.specs.Words.{step_words}
 
 no_more : (records : List Record) → drop (length records) records ≡ []
@@ -41,7 +41,7 @@ lines_of number k found event next (step.Test word) records none =
     ∙ append-nil (marker_line number k (step_words (record { step = step.Test word; found = found; event = event; next = next }) [])))
 lines_of number k found event next _ records none = refl
 
-pub step_item_lines : (plan : Tables) (k : ℕ) (e : Exchange) (number : ℕ) → item_lines (step_item number k (told_of plan k e) (added_by plan k e)) ≡ step_lines number k (told_of plan k e) (added_by plan k e)
+pub step_item_lines : (plan : Tables) (k : ℕ) (e : Exchange) (number : ℕ) → item_lines (step_item number k (observation_of plan k e) (added_by plan k e)) ≡ step_lines number k (observation_of plan k e) (added_by plan k e)
 step_item_lines plan k e number =
-    let told = told_of plan k e in
-    lines_of number k told.found told.event told.next told.step (added_by plan k e) (test_adds_none plan k e)
+    let observed = observation_of plan k e in
+    lines_of number k observed.found observed.event observed.next observed.step (added_by plan k e) (test_adds_none plan k e)

@@ -1,4 +1,4 @@
--- what a step that is told does to an office, and how far loops over told steps have come
+-- what a described step does to an office, and the invariant of loops over described steps
 use Rattle.std.proofs.Common.{◌≡◌, ℕ, zero, suc, ◌+◌, ◌-◌, ◌<◌, ◌≤◌, Bool, true, false, [], ◌∷◌, ◌++◌, drop, length, length-append, refl, sym, ◌∙◌, ap, subst, arith}
 use Rattle.std.specs.Prelude.{Option, Some, None, if◌then◌else◌, slice_get}
 use Rattle.xbar_plan.specs.Tables.{Tables}
@@ -14,12 +14,12 @@ use Rattle.xbar_core.proofs.GrownRecords.{move_begins}
 use Rattle.xbar_core.proofs.Markers.{none_within}
 use Rattle.xbar_core.proofs.StepCases.{step_count}
 use Rattle.xbar_core.proofs.Stepping.{step_idle}
-use Rattle.xbar_walk.specs.Walks.{Walk, added_by, after_told_step, found_by, is_idle_in, next_of, told_of, told_steps}
+use Rattle.xbar_walk.specs.Walks.{Walk, added_by, walk_of_step, found_by, is_idle_in, next_of, observation_of, walk_of_steps}
 use Rattle.xbar_walk.specs.Items.{Item, step_item}
 use Rattle.xbar_walk.specs.Lines.{one_more}
-use Rattle.xbar_walk.specs.Stories.{AddsStep, IsStory, Stands, Tells}
+use Rattle.xbar_walk.specs.Stories.{AddsStep, IsStory, AgreesWith, ChangesAs}
 use Rattle.xbar_walk.specs.declared.story.Story.{Story}
-use Rattle.xbar_walk.specs.declared.told.Told.{Told}
+use Rattle.xbar_walk.specs.declared.observation.Observation.{Observation}
 
 -- the office after marker k's next step
 abbrev pub stepped : ℕ → OfPlan → OfPlan
@@ -30,22 +30,22 @@ abbrev pub after_made : ℕ → Walk → Walk
 after_made k w = record {
   office = stepped k w.office;
   number = one_more w.number;
-  items = w.items ++ step_item (one_more w.number) k (told_of w.office.plan k w.office.exchange) (added_by w.office.plan k w.office.exchange) ∷ [];
+  items = w.items ++ step_item (one_more w.number) k (observation_of w.office.plan k w.office.exchange) (added_by w.office.plan k w.office.exchange) ∷ [];
 }
 
--- where there is no marker of a number, none makes a step
+-- if there is no marker with a number, none makes a step
 nobody_steps : (plan : Tables) (k : ℕ) (e : Exchange) → slice_get e.markers k ≡ None → after_step plan k e ≡ e
 unfolding after_step
 nobody_steps plan k e none = rw none refl
 
 module _ (k : ℕ) (w : Walk) where
-  -- an idle marker makes no step, and nothing is told
-  pub idle_tells_none : is_idle_in w.office.exchange k ≡ true → after_told_step k w ≡ w
-  unfolding after_told_step
+  -- an idle marker makes no step and adds no item
+  pub idle_tells_none : is_idle_in w.office.exchange k ≡ true → walk_of_step k w ≡ w
+  unfolding walk_of_step
   idle_tells_none idle = ap (λ (b : Bool). if b then w else after_made k w) idle
 
-  pub made_is_told : is_idle_in w.office.exchange k ≡ false → after_told_step k w ≡ after_made k w
-  unfolding after_told_step
+  pub made_is_told : is_idle_in w.office.exchange k ≡ false → walk_of_step k w ≡ after_made k w
+  unfolding walk_of_step
   made_is_told goes = ap (λ (b : Bool). if b then w else after_made k w) goes
 
   -- the office is the one after the step
@@ -58,48 +58,48 @@ module _ (k : ℕ) (w : Walk) where
     by None none = same (nobody_steps w.office.plan k w.office.exchange none)
     by (Some m) there = same (step_idle w.office.plan w.office.exchange k m there (sym (ap (at_marker true (λ o. is_idle o.work)) there) ∙ idle))
 
-  pub told_office : (after_told_step k w).office ≡ stepped k w.office
+  pub told_office : (walk_of_step k w).office ≡ stepped k w.office
   told_office = by (is_idle_in w.office.exchange k) refl where
-    by : (idle : Bool) → is_idle_in w.office.exchange k ≡ idle → (after_told_step k w).office ≡ stepped k w.office
+    by : (idle : Bool) → is_idle_in w.office.exchange k ≡ idle → (walk_of_step k w).office ≡ stepped k w.office
     by true is = ap (λ (x : Walk). x.office) (idle_tells_none is) ∙ sym (idle_stays is)
     by false is = ap (λ (x : Walk). x.office) (made_is_told is)
 
-  pub told_count : length (after_told_step k w).office.exchange.markers ≡ length w.office.exchange.markers
+  pub told_count : length (walk_of_step k w).office.exchange.markers ≡ length w.office.exchange.markers
   told_count = ap (λ (o : OfPlan). length o.exchange.markers) told_office ∙ step_count w.office.plan w.office.exchange k
 
--- so however many steps it is to make
-pub idle_tells_nothing : (k count : ℕ) (w : Walk) → is_idle_in w.office.exchange k ≡ true → told_steps k count w ≡ w
-unfolding told_steps
+-- so too if it is to make many steps
+pub idle_tells_nothing : (k count : ℕ) (w : Walk) → is_idle_in w.office.exchange k ≡ true → walk_of_steps k count w ≡ w
+unfolding walk_of_steps
 idle_tells_nothing k zero w idle = refl
-idle_tells_nothing k (suc count) w idle = ap (told_steps k count) (idle_tells_none k w idle) ∙ idle_tells_nothing k count w idle
+idle_tells_nothing k (suc count) w idle = ap (walk_of_steps k count) (idle_tells_none k w idle) ∙ idle_tells_nothing k count w idle
 
--- some of a marker's steps were made and told, and the others lead to what all lead to
+-- some of a marker's steps were made, and the remaining ones give the walk that all of them give
 pub record AreTold (first now : Walk) (k count made : ℕ) : Type 0 where
   pub size : length now.office.exchange.markers ≡ length first.office.exchange.markers
-  pub rest : told_steps k count first ≡ told_steps k (count - made) now
+  pub rest : walk_of_steps k count first ≡ walk_of_steps k (count - made) now
 
 pub none_told : (first : Walk) (k count : ℕ) → AreTold first first k count 0
-none_told first k count = record { size = refl; rest = ap (λ (n : ℕ). told_steps k n first) (omega arith) }
+none_told first k count = record { size = refl; rest = ap (λ (n : ℕ). walk_of_steps k n first) (omega arith) }
 
-pub one_told : (first now next : Walk) (k count made : ℕ) → made < count → AreTold first now k count made → next ≡ after_told_step k now → AreTold first next k count (made + 1)
-unfolding told_steps
+pub one_told : (first now next : Walk) (k count made : ℕ) → made < count → AreTold first now k count made → next ≡ walk_of_step k now → AreTold first next k count (made + 1)
+unfolding walk_of_steps
 one_told first now next k count made below so_far is =
     let rest : count - made ≡ suc (count - (made + 1)) = omega arith in
     record {
       size = ap (λ (x : Walk). length x.office.exchange.markers) is ∙ told_count k now ∙ so_far.size;
-      rest = so_far.rest ∙ ap (λ (n : ℕ). told_steps k n now) rest ∙ ap (told_steps k (count - (made + 1))) (sym is);
+      rest = so_far.rest ∙ ap (λ (n : ℕ). walk_of_steps k n now) rest ∙ ap (walk_of_steps k (count - (made + 1))) (sym is);
     }
 
-pub all_told : (first now : Walk) (k count made : ℕ) → made ≡ count → AreTold first now k count made → now ≡ told_steps k count first
-unfolding told_steps
+pub all_told : (first now : Walk) (k count made : ℕ) → made ≡ count → AreTold first now k count made → now ≡ walk_of_steps k count first
+unfolding walk_of_steps
 all_told first now k count made all so_far =
     let none : count - made ≡ 0 = omega arith in
-    sym (so_far.rest ∙ ap (λ (n : ℕ). told_steps k n now) none)
+    sym (so_far.rest ∙ ap (λ (n : ℕ). walk_of_steps k n now) none)
 
-pub rest_told : (first now : Walk) (k count made : ℕ) → AreTold first now k count made → is_idle_in now.office.exchange k ≡ true → now ≡ told_steps k count first
+pub rest_told : (first now : Walk) (k count made : ℕ) → AreTold first now k count made → is_idle_in now.office.exchange k ≡ true → now ≡ walk_of_steps k count first
 rest_told first now k count made so_far idle = sym (so_far.rest ∙ idle_tells_nothing k (count - made) now idle)
 
--- whether the marker is idle, as an exchange tells it of the marker that is there
+-- whether a marker is idle, by what an exchange answers of the marker that is there
 pub idle_is : (e : Exchange) (k : ℕ) (idle : Bool) → k < length e.markers → ((m : Marker) → slice_get e.markers k ≡ Some m → idle ≡ is_idle m.work) → is_idle_in e k ≡ idle
 idle_is e k idle within is = by (slice_get e.markers k) refl where
   by : (found : Option Marker) → slice_get e.markers k ≡ found → is_idle_in e k ≡ idle
@@ -125,26 +125,26 @@ records_within o next k is =
     let size = ap (λ (x : OfPlan). length x.exchange.records) is ∙ ap (length {A = Record}) more.1 ∙ length-append o.exchange.records more.0 in
     omega (arith, size)
 
--- all that there is to tell of it
+-- all that is observed of the step
 pub told_is : (o next : OfPlan) (k found : ℕ) (made after : Step) (came : Event) → next_of o.exchange k ≡ made → found ≡ found_by o.exchange.words made → came ≡ event_at_step o.plan k o.exchange
-    → next ≡ stepped k o → next_of next.exchange k ≡ after → ◌≡◌ {A = Told} (record { step = made; found = found; event = came; next = after }) (told_of o.plan k o.exchange)
+    → next ≡ stepped k o → next_of next.exchange k ≡ after → ◌≡◌ {A = Observation} (record { step = made; found = found; event = came; next = after }) (observation_of o.plan k o.exchange)
 told_is o next k found made after came step_is found_is came_is is after_is =
     let same_found = found_is ∙ ap (found_by o.exchange.words) (sym step_is) in
     let same_after = sym after_is ∙ ap (λ (x : OfPlan). next_of x.exchange k) is in
     λ i. record { step = sym step_is i; found = same_found i; event = came_is i; next = same_after i }
 
--- a step that was made and told is the walk's
-pub made_tells : (k : ℕ) (office next : OfPlan) (story later : Story) (before : ℕ) (told : Told) → is_idle_in office.exchange k ≡ false → next ≡ stepped k office → told ≡ told_of office.plan k office.exchange
-    → before ≡ length office.exchange.records → AddsStep (λ number. step_item number k told (drop before next.exchange.records)) story later → Tells (after_told_step k) office story next later
-made_tells k office next story later before told goes next_is told_is before_is adds telling w stands =
+-- an office and a story after a step that was made and added agree with the walk after it
+pub made_tells : (k : ℕ) (office next : OfPlan) (story later : Story) (before : ℕ) (observed : Observation) → is_idle_in office.exchange k ≡ false → next ≡ stepped k office → observed ≡ observation_of office.plan k office.exchange
+    → before ≡ length office.exchange.records → AddsStep (λ number. step_item number k observed (drop before next.exchange.records)) story later → ChangesAs (walk_of_step k) office story next later
+made_tells k office next story later before observed goes next_is told_is before_is adds detail w stands =
     let n = one_more w.number in
     let same =
-    ap (λ (t : Told). step_item n k t (drop before next.exchange.records)) told_is
-    ∙ ap (λ (b : ℕ). step_item n k (told_of office.plan k office.exchange) (drop b next.exchange.records)) before_is
-    ∙ ap (λ (o : OfPlan). step_item n k (told_of office.plan k office.exchange) (drop (length office.exchange.records) o.exchange.records)) next_is
-    ∙ ap (λ (o : OfPlan). step_item n k (told_of o.plan k o.exchange) (added_by o.plan k o.exchange)) (sym stands.office_is) in
-    let made : Stands telling next later (after_made k w) = record {
+    ap (λ (t : Observation). step_item n k t (drop before next.exchange.records)) told_is
+    ∙ ap (λ (b : ℕ). step_item n k (observation_of office.plan k office.exchange) (drop b next.exchange.records)) before_is
+    ∙ ap (λ (o : OfPlan). step_item n k (observation_of office.plan k office.exchange) (drop (length office.exchange.records) o.exchange.records)) next_is
+    ∙ ap (λ (o : OfPlan). step_item n k (observation_of o.plan k o.exchange) (added_by o.plan k o.exchange)) (sym stands.office_is) in
+    let made : AgreesWith detail next later (after_made k w) = record {
       office_is = ap (stepped k) stands.office_is ∙ sym next_is;
-      story_is = subst (λ (item : Item). IsStory telling later n (w.items ++ item ∷ [])) same (adds telling w.number w.items stands.story_is);
+      story_is = subst (λ (item : Item). IsStory detail later n (w.items ++ item ∷ [])) same (adds detail w.number w.items stands.story_is);
     } in
-    subst (Stands telling next later) (sym (made_is_told k w (ap (λ (o : OfPlan). is_idle_in o.exchange k) stands.office_is ∙ goes))) made
+    subst (AgreesWith detail next later) (sym (made_is_told k w (ap (λ (o : OfPlan). is_idle_in o.exchange k) stands.office_is ∙ goes))) made

@@ -8,7 +8,7 @@ use Rattle.xbar_walk.specs.Places.{line_name, link_name, trunk_name}
 use Rattle.xbar_walk.specs.declared.place.Place.{Place}
 use Rattle.xbar_walk.specs.declared.place.Place.TheVariants.{LineSwitch, LineJunctor, TrunkSwitch, TrunkJunctor, Group, Other}
 
--- a switch has ten fields, and a group a bit for each member
+-- the number of positions in the word of a place: ten fields of a switch, 64 bits of a group
 unfoldable pub positions : Place → ℕ
 positions (LineSwitch frame switch) = 10
 positions (LineJunctor frame channel) = 10
@@ -17,7 +17,7 @@ positions (TrunkJunctor frame channel) = 10
 positions (Group group) = 64
 positions (Other word) = 0
 
--- what the word of a place holds in a field, or as a member's bit
+-- the value at a position of a place's word: that of a field, or a member's bit
 unfoldable pub held_at : Place → ℕ → ℕ → ℕ
 held_at (LineSwitch frame switch) word field = field_of shape.Line word field
 held_at (LineJunctor frame channel) word field = field_of shape.Other word field
@@ -26,10 +26,11 @@ held_at (TrunkJunctor frame channel) word field = field_of shape.Other word fiel
 held_at (Group group) word member = bit_at word member
 held_at (Other number) word position = 0
 
+-- two texts joined by 'and'
 abbrev two : List ℕ → List ℕ → List ℕ
 two one other = concat (one ∷ codes " and " ∷ other ∷ [])
 
--- what a field joins that is closed at a place of the switch; of a group, the member
+-- what a field joins if it is closed at this place of the switch; for a group, the member
 unfoldable pub item_name : Place → ℕ → ℕ → List ℕ
 item_name (LineSwitch frame switch) field place =
     two (line_name frame switch place) (link_name LineLink frame switch field)
@@ -42,27 +43,30 @@ item_name (TrunkSwitch frame switch) field place =
 item_name (Group group) member place = decimal member
 item_name (Other word) position place = decimal position
 
+-- whether a position shows something: its field is closed, or its member is busy
 abbrev pub is_shown : Place → ℕ → ℕ → Bool
 is_shown place word position = nat_lt 0 (held_at place word position)
 
+-- the item that a position shows
 abbrev pub item_at : Place → ℕ → ℕ → List ℕ
 item_at place word position = item_name place position (held_at place word position - 1)
 
--- what a position shows, if it shows something, behind a lead
+-- the item that a position shows, after a lead; empty if it shows nothing
 unfoldable pub shown_at : Place → ℕ → ℕ → List ℕ → List ℕ
 shown_at place word position lead =
     if is_shown place word position then lead ++ item_at place word position else []
 
--- what a word shows at the first so many positions: its closed fields, or
--- its busy members, one by one
+-- the items that a word shows at its first `count` positions: the closed fields, or the busy
+-- members
 unfoldable pub shown_to : ℕ → Place → ℕ → List (List ℕ)
 shown_to count place word =
     map (item_at place word) (filter (is_shown place word) (range_with_len 0 count))
 
+-- all items that a word shows
 abbrev pub shown : Place → ℕ → List (List ℕ)
 shown place word = shown_to (positions place) place word
 
--- texts behind a head, parted by separators; or what is said if there are none
+-- texts after a head, with separators between them; or another text if there are none
 unfoldable pub listed : List ℕ → List ℕ → List ℕ → List (List ℕ) → List ℕ
 listed none head separator [] = none
 listed none head separator (text ∷ texts) =

@@ -1,4 +1,4 @@
-//! What holds of what is told. Each function does nothing: its contract is the law.
+//! Laws of the text that describes a walk. Each function does nothing: its contract is the law.
 
 ghost use Rattle.std.specs.Prelude.{◌≡◌, ◌<◌, ◌++◌, ℕ, All, List, flat_map, map, replicate, true};
 ghost use Rattle.xbar_core.specs.Runs as runs;
@@ -6,49 +6,50 @@ ghost use Rattle.xbar_core.specs.Runs.{run_from};
 ghost use Rattle.xbar_equip.specs.Word as words;
 ghost use Rattle.xbar_equip.specs.Word.{word_number};
 ghost use Rattle.xbar_walk.specs.Places.{place_of};
-ghost use Rattle.xbar_walk.specs.Items.{IsRun, Item, Tests, item_lines, runs_of, told_text};
+ghost use Rattle.xbar_walk.specs.Items.{IsRun, Item, Tests, item_lines, runs_of, walk_text_of};
 ghost use Rattle.xbar_walk.specs.Rows.{are_joined, tests_text};
-ghost use Rattle.xbar_walk.specs.Runs.{last_number, made_by, made_items, made_lines, told_run};
-ghost use Rattle.xbar_walk.specs.Walks.{Walk, told_steps};
+ghost use Rattle.xbar_walk.specs.Runs.{last_number, made_by, made_items, made_lines, walk_of_run};
+ghost use Rattle.xbar_walk.specs.Walks.{Walk, walk_of_steps};
 ghost use Rattle.xbar_walk.specs.declared.place.Place.{Place};
-ghost use Rattle.xbar_walk.specs.declared.telling.Telling.{Telling};
-ghost use Rattle.xbar_walk.specs.declared.telling.Telling.TheVariants.{Each};
+ghost use Rattle.xbar_walk.specs.declared.detail.Detail.{Detail};
+ghost use Rattle.xbar_walk.specs.declared.detail.Detail.TheVariants.{Each};
 ghost use Rattle.xbar_walk.specs.declared.tested.Tested.{Tested};
 
-/// Whatever markers are to step, in whatever order: one item is told for each step that is made, in
-/// their order, under the next number, with its marker; and with `Telling::Each` each is a line,
-/// below that of a turn its trouble cards. The office is the one after these steps. So many steps of
-/// one marker are such a run.
+/// Whatever markers are to step, in whatever order: one item describes each step that is made, in
+/// order, with the next number and the marker. With `Detail::Each` each item is a line, followed
+/// by the trouble cards if it is a turn. The office is the one after these steps. `count` steps of
+/// one marker are the same as a run that names the marker `count` times.
 pub fn each_step_has_its_line()
-    ensures office { (ks : List ℕ) (w : Walk) → (told_run ks w).office ≡ record w.office {
+    ensures office { (ks : List ℕ) (w : Walk) → (walk_of_run ks w).office ≡ record w.office {
       exchange = run_from w.office.plan w.office.exchange (map runs.Steps ks);
     } }
-    ensures items { (ks : List ℕ) (w : Walk) → (told_run ks w).items
+    ensures items { (ks : List ℕ) (w : Walk) → (walk_of_run ks w).items
         ≡ w.items ++ made_items w.number (made_by w.office.plan ks w.office.exchange) }
-    ensures text { (ks : List ℕ) (w : Walk) → told_text Each (told_run ks w).items
-        ≡ told_text Each w.items
+    ensures text { (ks : List ℕ) (w : Walk) → walk_text_of Each (walk_of_run ks w).items
+        ≡ walk_text_of Each w.items
         ++ made_lines w.number (made_by w.office.plan ks w.office.exchange) }
-    ensures number { (ks : List ℕ) (w : Walk) → (told_run ks w).number
+    ensures number { (ks : List ℕ) (w : Walk) → (walk_of_run ks w).number
         ≡ last_number w.number (made_by w.office.plan ks w.office.exchange) }
-    ensures one { (k count : ℕ) (w : Walk) → told_steps k count w ≡ told_run (replicate count k) w }
+    ensures one { (k count : ℕ) (w : Walk) → walk_of_steps k count w ≡ walk_of_run
+        (replicate count k) w }
 {}
 
-/// Of whatever is told: put one behind the other, the runs that are told each by itself are exactly
-/// the items, in order. Each run is one item, or tests of a row by one marker, each of the next
-/// switch; and such tests have one line. With `Telling::Each` each item has its own lines.
-pub fn runs_tell_each_item_once()
-    ensures all { (telling : Telling) (items : List Item)
-        → flat_map (λ run. run) (runs_of telling items) ≡ items }
-    ensures runs { (telling : Telling) (items : List Item)
-        → All (IsRun telling) (runs_of telling items) }
-    ensures row { (telling : Telling) (tests : List Tested) → are_joined telling tests ≡ true
-        → told_text telling (map Tests tests) ≡ tests_text tests }
+/// Whatever the items: their runs, one after another, are exactly the items, in order. Each run is
+/// one item, or tests of a row by one marker, each of the next switch. The tests of a run share
+/// one line. With `Detail::Each` each item has its own lines.
+pub fn runs_are_the_items()
+    ensures all { (detail : Detail) (items : List Item)
+        → flat_map (λ run. run) (runs_of detail items) ≡ items }
+    ensures runs { (detail : Detail) (items : List Item)
+        → All (IsRun detail) (runs_of detail items) }
+    ensures row { (detail : Detail) (tests : List Tested) → are_joined detail tests ≡ true
+        → walk_text_of detail (map Tests tests) ≡ tests_text tests }
     ensures each { (items : List Item)
-        → told_text Each items ≡ flat_map item_lines items }
+        → walk_text_of Each items ≡ flat_map item_lines items }
 {}
 
-/// Each word of a switch or of a group is told by that switch or group.
-pub fn words_are_told_by_their_places()
+/// The word of each switch and of each group has that switch or group as its place.
+pub fn words_have_their_places()
     ensures line_switch { (frame switch : ℕ) → frame < 10 → switch < 10 →
         place_of (word_number (words.LineSwitch frame switch)) ≡ Place.LineSwitch frame switch }
     ensures line_junctor { (frame channel : ℕ) → frame < 10 → channel < 10 →

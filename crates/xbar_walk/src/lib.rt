@@ -1,23 +1,23 @@
-//! What the markers of an office do, step by step, in words.
+//! Describes in words what the markers of an office do, step by step.
 #![tactic(auto)]
 
+pub use detail::Detail;
+pub use observation::Observation;
 pub use settling::walk_settling;
 pub use story::Story;
-pub use telling::Telling;
-pub use told::Told;
 pub use walk::{walk_step, walk_steps};
 
+mod detail;
 pub mod laws;
 mod lines;
 mod names;
+mod observation;
 mod place;
 mod rows;
 mod settling;
 mod shown;
 mod story;
-mod telling;
 mod tested;
-mod told;
 mod turn_words;
 mod walk;
 mod words;

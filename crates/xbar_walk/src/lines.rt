@@ -1,15 +1,15 @@
-//! Lines that tell what markers do.
+//! The lines that describe what markers do.
 
 ghost use Rattle.std.specs.Prelude.{◌≡◌, ◌++◌, OnOk, Some, flat_map, string_bytes};
 ghost use Rattle.xbar_walk.specs.Lines.{card_line, card_lines, in_four, step_lines};
 
-use crate::told::Told;
+use crate::observation::Observation;
 use crate::words::add_words;
 use std::alloc::AllocError;
 use std::fmt;
 use xbar_office::{Card, Record};
 
-/// A number at the right of four places.
+/// A number, right-aligned in four columns; wider if it needs more.
 #[derive(Clone, Copy)]
 pub struct InFour(pub u64);
 
@@ -62,21 +62,21 @@ fn add_cards(text: &mut String, records: &[Record]) -> Result<(), AllocError>
     Ok(())
 }
 
-/// Adds the line of a marker's step, and those of the trouble cards of its turn, if it took one.
-/// `records` are those that the step added: one by a turn, else none.
+/// Adds the line of a marker's step and, if it is a turn, the lines of its trouble cards.
+/// `records` are those that the step added: one if it is a turn, else none.
 #[tactic(auto, unfolding(crate::specs::Lines::step_lines, crate::specs::Lines::marker_line))]
 pub fn add_step(
     text: &mut String,
     number: u64,
     marker: u32,
-    told: &Told,
+    observed: &Observation,
     records: &[Record],
 ) -> Result<(), AllocError>
     ensures { OnOk result (string_bytes text.new ≡ string_bytes text.old ++
-        step_lines number marker told.now records.now) }
+        step_lines number marker observed.now records.now) }
 {
     write!(text, "{}  marker {marker}  ", InFour(number))?;
-    add_words(text, told, records)?;
+    add_words(text, observed, records)?;
     text.push_str("\n")?;
     add_cards(text, records)
 }

@@ -1,4 +1,4 @@
-//! What the office calls its connectors, lines, links and trunk places.
+//! The names of connectors, lines, links and trunk places, as a walk prints them.
 
 ghost use Rattle.std.specs.Prelude.{Some};
 ghost use Rattle.xbar_walk.specs.Places.{conn_name, line_name, link_name, trunk_name};
@@ -6,7 +6,7 @@ ghost use Rattle.xbar_walk.specs.Places.{conn_name, line_name, link_name, trunk_
 use std::fmt;
 use xbar_equip::{Conn, Len, Link, LinkKind, Ten};
 
-/// A connector, by what it leads to.
+/// A connector, named by the frame or group that it locks.
 #[derive(Clone, Copy)]
 pub struct ConnName(pub Conn);
 
@@ -23,7 +23,7 @@ impl fmt::Display for ConnName {
     }
 }
 
-/// The line of a frame, a line switch and a place there, if there is one.
+/// The line at this frame, line switch and place; `no line` if a number is out of range.
 #[derive(Clone, Copy)]
 pub struct LineName(pub u8, pub u8, pub u8);
 
@@ -42,7 +42,7 @@ impl fmt::Display for LineName {
     }
 }
 
-/// The link of a kind and three numbers, in the order of its text, if there is one.
+/// The link of this kind and these digits, in the order of its text; `no link` if one is above 9.
 #[derive(Clone, Copy)]
 pub struct LinkName(pub LinkKind, pub u8, pub u8, pub u8);
 
@@ -61,7 +61,7 @@ impl fmt::Display for LinkName {
     }
 }
 
-/// The place of a trunk link frame, a trunk switch and an appearance there, if there is one.
+/// The trunk place with this frame, trunk switch and appearance; `no place` if one is above 9.
 #[derive(Clone, Copy)]
 pub struct TrunkName(pub u8, pub u8, pub u8);
 

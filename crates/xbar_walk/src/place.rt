@@ -1,11 +1,11 @@
 ghost use Rattle.std.specs.Prelude.{◌≡◌, Some};
 ghost use Rattle.xbar_walk.specs.Places.{kind_name, place_name, place_numbers, place_of};
-ghost use Rattle.xbar_walk.specs.Rows.{is_next};
+ghost use Rattle.xbar_walk.specs.Rows.{follows};
 
 use std::fmt;
 use xbar_equip::WordNo;
 
-/// What of the office a word is of: a switch by its frame and its own number there, or a group.
+/// What a word belongs to: a switch, by its frame and its number on the frame, or a group.
 #[derive(Clone, Copy)]
 pub enum Place {
     LineSwitch(u8, u8),
@@ -13,12 +13,12 @@ pub enum Place {
     TrunkSwitch(u8, u8),
     TrunkJunctor(u8, u8),
     Group(u8),
-    /// A word that no marker tests, closes or opens anything in.
+    /// Any other word, by its number. No marker tests, closes or opens anything in it.
     Other(u16),
 }
 
 impl Place {
-    /// What the word of this number is of.
+    /// The place that the word belongs to.
     #[tactic(auto, unfolding(crate::specs::Places::place_of))]
     pub fn of(word: WordNo) -> Self
         ensures { result ≡ place_of word }
@@ -47,7 +47,7 @@ impl Place {
         }
     }
 
-    /// What a place of its kind is called.
+    /// The name of the kind of place.
     pub fn kind_name(self) -> &'static str
         ensures { result.now ≡ kind_name self }
     {
@@ -61,9 +61,9 @@ impl Place {
         }
     }
 
-    /// Whether it is the switch behind another in a row.
-    pub fn is_behind(self, other: Place) -> bool
-        ensures { result ≡ is_next other self }
+    /// Whether this is the switch after `other` in a row of junctor switches.
+    pub fn is_next_after(self, other: Place) -> bool
+        ensures { result ≡ follows other self }
     {
         match (other, self) {
             (Place::LineJunctor(frame, channel), Place::LineJunctor(own, at))
@@ -84,7 +84,7 @@ impl fmt::Display for Place {
     }
 }
 
-/// A place by its numbers alone.
+/// A place, written by its numbers alone.
 #[derive(Clone, Copy)]
 pub struct PlaceNumbers(pub Place);
 

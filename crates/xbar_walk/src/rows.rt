@@ -1,4 +1,4 @@
-//! Tests of a row of switches, in one line.
+//! The line that the tests of a row of switches share.
 
 ghost use Rattle.std.specs.Prelude.{◌≡◌, ◌++◌, OnOk, string_bytes};
 ghost use Rattle.xbar_walk.specs.Rows.{row_found, row_line, test_line, tests_text};
@@ -10,7 +10,7 @@ use crate::tested::Tested;
 use crate::words::add_test;
 use std::alloc::AllocError;
 
-/// Adds all that tests of switches find.
+/// Adds all that the tests found, or that nothing is closed.
 #[tactic(auto, unfolding(crate::specs::Rows::row_found))]
 fn add_finds(text: &mut String, tests: &[Tested]) -> Result<(), AllocError>
     ensures { OnOk result (string_bytes text.new ≡ string_bytes text.old ++ row_found tests.now) }
@@ -28,6 +28,7 @@ fn add_finds(text: &mut String, tests: &[Tested]) -> Result<(), AllocError>
     Ok(())
 }
 
+/// Adds the line that the tests of a row share.
 #[tactic(auto, unfolding(crate::specs::Rows::row_line, crate::specs::Rows::row_words, crate::specs::Lines::marker_line))]
 fn add_row(
     text: &mut String,
@@ -55,6 +56,7 @@ fn add_row(
     Ok(())
 }
 
+/// Adds the line of a single test.
 #[tactic(auto, unfolding(crate::specs::Rows::test_line, crate::specs::Lines::marker_line))]
 fn add_one(text: &mut String, tested: &Tested) -> Result<(), AllocError>
     ensures { OnOk result (string_bytes text.new ≡ string_bytes text.old ++
@@ -68,7 +70,7 @@ fn add_one(text: &mut String, tested: &Tested) -> Result<(), AllocError>
     Ok(())
 }
 
-/// Adds the line of tests of a row, or of a single test.
+/// Adds the line of a single test or of the tests of a row. Adds nothing if there are no tests.
 pub fn add_tests(text: &mut String, tests: &[Tested]) -> Result<(), AllocError>
     ensures { OnOk result (string_bytes text.new ≡ string_bytes text.old ++
         tests_text tests.now) }

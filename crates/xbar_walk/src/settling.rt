@@ -1,36 +1,37 @@
-//! An office that settles, each step told.
+//! Settles an office and describes each step.
 
 ghost use Rattle.std.specs.Prelude.{◌≡◌, ◌<◌, OnOk, length, slice_get};
 ghost use Rattle.xbar_core.specs.AtWork.{IsBackingAt};
 ghost use Rattle.xbar_core.specs.Moves.{frees_left};
 ghost use Rattle.xbar_core.specs.Settling.{settled};
-ghost use Rattle.xbar_walk.specs.Parts.{told_part};
-ghost use Rattle.xbar_walk.specs.Stories.{Tells};
-ghost use Rattle.xbar_walk.specs.Walks.{told_end, told_end_past_turn, told_for_each, told_give_back, told_settling, told_steps};
+ghost use Rattle.xbar_walk.specs.Parts.{walk_of_part};
+ghost use Rattle.xbar_walk.specs.Stories.{ChangesAs};
+ghost use Rattle.xbar_walk.specs.Walks.{walk_of_end, walk_of_end_past_turn, walk_for_each, walk_of_give_back, walk_of_settling, walk_of_steps};
 
 use crate::story::Story;
 use crate::walk::{walk_step, walk_steps};
 use std::alloc::AllocError;
 use xbar_core::Exchange;
 
-/// What an office that settles has one marker after another do.
+/// A part of settling, which one marker after another does.
 #[derive(Clone, Copy)]
 enum Part {
-    /// End its job, if it is past its turn.
+    /// The marker finishes its job if it is past its turn.
     EndPastTurn,
-    /// Give back all that it holds, if it is not.
+    /// The marker gives back all that it holds if it isn't past its turn.
     GiveBack,
-    /// End its job.
+    /// The marker finishes its job.
     End,
 }
 
-/// As many steps as a marker has to its end at most that no other is in the way of.
+/// The most steps that a marker needs to finish its job while no other marker is in its way.
 const MOST_STEPS_ALONE: u32 = 134;
 
+/// Makes enough steps for the marker to finish its job if no other marker is in its way.
 fn walk_end(exchange: &mut Exchange<'_>, marker: u32, story: &mut Story) -> Result<(), AllocError>
     requires { marker < length exchange.old.exchange.markers }
     ensures { OnOk result
-        (Tells (told_end marker) exchange.old story.old exchange.new story.new) }
+        (ChangesAs (walk_of_end marker) exchange.old story.old exchange.new story.new) }
 {
     walk_steps(exchange, marker, MOST_STEPS_ALONE, story)
 }
@@ -42,7 +43,7 @@ fn walk_end_past_turn(
 ) -> Result<(), AllocError>
     requires { marker < length exchange.old.exchange.markers }
     ensures { OnOk result
-        (Tells (told_end_past_turn marker) exchange.old story.old exchange.new story.new) }
+        (ChangesAs (walk_of_end_past_turn marker) exchange.old story.old exchange.new story.new) }
 {
     if exchange.is_past_turn(marker) {
         walk_end(exchange, marker, story)?;
@@ -51,11 +52,12 @@ fn walk_end_past_turn(
     Ok(())
 }
 
-/// A marker that is to begin its job anew withdraws its request, and frees all that it holds.
+/// Has a marker that is to begin its job anew withdraw its request and free all that it holds.
 fn walk_back(exchange: &mut Exchange<'_>, marker: u32, story: &mut Story) -> Result<(), AllocError>
     requires within { marker < length exchange.old.exchange.markers }
     requires backs { IsBackingAt (slice_get exchange.old.exchange.markers marker) }
-    ensures { OnOk result (Tells (told_steps marker (frees_left exchange.old.exchange marker))
+    ensures { OnOk result
+        (ChangesAs (walk_of_steps marker (frees_left exchange.old.exchange marker))
         exchange.old story.old exchange.new story.new) }
 {
     while exchange.is_giving_up(marker) {
@@ -64,6 +66,7 @@ fn walk_back(exchange: &mut Exchange<'_>, marker: u32, story: &mut Story) -> Res
     Ok(())
 }
 
+/// Has the marker give back all that it holds, unless it is idle or past its turn.
 fn walk_give_back(
     exchange: &mut Exchange<'_>,
     marker: u32,
@@ -71,7 +74,7 @@ fn walk_give_back(
 ) -> Result<(), AllocError>
     requires { marker < length exchange.old.exchange.markers }
     ensures { OnOk result
-        (Tells (told_give_back marker) exchange.old story.old exchange.new story.new) }
+        (ChangesAs (walk_of_give_back marker) exchange.old story.old exchange.new story.new) }
 {
     if exchange.is_idle(marker) {
         return Ok(());
@@ -92,7 +95,7 @@ fn walk_part(
 ) -> Result<(), AllocError>
     requires { marker < length exchange.old.exchange.markers }
     ensures { OnOk result
-        (Tells (told_part part marker) exchange.old story.old exchange.new story.new) }
+        (ChangesAs (walk_of_part part marker) exchange.old story.old exchange.new story.new) }
 {
     match part {
         Part::EndPastTurn => walk_end_past_turn(exchange, marker, story),
@@ -101,9 +104,10 @@ fn walk_part(
     }
 }
 
+/// Has every marker do this part, in the order of their numbers.
 fn walk_each(exchange: &mut Exchange<'_>, part: Part, story: &mut Story) -> Result<(), AllocError>
-    ensures { OnOk result (Tells
-        (told_for_each (told_part part) (length exchange.old.exchange.markers))
+    ensures { OnOk result (ChangesAs
+        (walk_for_each (walk_of_part part) (length exchange.old.exchange.markers))
         exchange.old story.old exchange.new story.new) }
 {
     for marker in 0..exchange.marker_count() {
@@ -112,13 +116,13 @@ fn walk_each(exchange: &mut Exchange<'_>, part: Part, story: &mut Story) -> Resu
     Ok(())
 }
 
-/// Brings every job to its end, as `Exchange::settle` does. A line says that the rows are done, and
-/// each step is told as by `walk_step`. Where memory runs out, the office may have settled in part.
+/// Finishes every job, as `Exchange::settle` does. A line says that the rows are done, and each
+/// step is described as by `walk_step`. If memory runs out, the office may have settled in part.
 pub fn walk_settling(exchange: &mut Exchange<'_>, story: &mut Story) -> Result<(), AllocError>
     ensures settled { OnOk result (exchange.new
         ≡ record exchange.old { exchange = settled exchange.old.plan exchange.old.exchange }) }
-    ensures told { OnOk result
-        (Tells told_settling exchange.old story.old exchange.new story.new) }
+    ensures observed { OnOk result
+        (ChangesAs walk_of_settling exchange.old story.old exchange.new story.new) }
 {
     story.add_settling()?;
     walk_each(exchange, Part::EndPastTurn, story)?;

@@ -10,7 +10,7 @@ use std::fmt;
 use xbar_equip::LinkKind;
 use xbar_switch::{Shape, field};
 
-/// How many fields or bits of a word there are to look at.
+/// The number of positions in the word of a place: the fields of a switch, the bits of a group.
 #[tactic(auto, unfolding(crate::specs::Shown::positions))]
 fn positions(place: Place) -> u8
     ensures value { result ≡ positions_of place }
@@ -23,7 +23,7 @@ fn positions(place: Place) -> u8
     }
 }
 
-/// What a field holds, 0 where it is open; or a member's bit.
+/// The value at a position: that of a field, 0 if it is open, or a member's bit.
 #[tactic(auto, unfolding(crate::specs::Shown::positions, crate::specs::Shown::held_at))]
 fn held_at(place: Place, word: u64, position: u8) -> u8
     requires { position < positions_of place }
@@ -37,7 +37,7 @@ fn held_at(place: Place, word: u64, position: u8) -> u8
     }
 }
 
-/// What a field joins that is closed at a place of the switch; of a group, the member.
+/// What a closed field joins, or a busy member of a group.
 #[derive(Clone, Copy)]
 struct Item {
     place: Place,
@@ -81,14 +81,14 @@ impl fmt::Display for Item {
     }
 }
 
-/// What stands before an item: the separator, or before the first one the head.
+/// The text before an item: the separator, or the head if it is the first item.
 pub fn lead<'t>(any: bool, head: &'t str, separator: &'t str) -> &'t str
     ensures { result.now ≡ (if any then separator.now else head.now) }
 {
     if any { separator } else { head }
 }
 
-/// Adds what a position shows, if it shows something, and tells whether anything stands there now.
+/// Adds the item at a position, if there is one. Returns whether any item has been added so far.
 #[tactic(auto, unfolding(crate::specs::Shown::shown_at))]
 fn add_item(
     text: &mut String,
@@ -119,8 +119,8 @@ fn add_item(
     Ok(true)
 }
 
-/// Adds all that a word shows, behind a head and parted by separators, and tells whether it shows
-/// anything.
+/// Adds all items that a word shows, after a head and with separators between them. Returns
+/// whether there are any.
 pub fn add_items(
     text: &mut String,
     place: Place,
@@ -140,7 +140,7 @@ pub fn add_items(
     Ok(any)
 }
 
-/// Adds all that a word shows, as above; or what is said if that is nothing.
+/// Adds all items that a word shows, as `add_items` does, or the text `none` if there are none.
 pub fn add_shown(
     text: &mut String,
     place: Place,

@@ -1,64 +1,64 @@
 ghost use Rattle.std.specs.Prelude.{◌≡◌, ◌++◌, IfOk, OnOk, [], string_bytes, true};
-ghost use Rattle.xbar_walk.specs.Rows.{are_joined, leads_on, tests_text};
+ghost use Rattle.xbar_walk.specs.Rows.{are_joined, shares_line, tests_text};
 
+use crate::detail::Detail;
 use crate::lines::add_step;
+use crate::observation::Observation;
 use crate::place::Place;
 use crate::rows::add_tests;
-use crate::telling::Telling;
 use crate::tested::Tested;
-use crate::told::Told;
 use crate::turn_words::JobWords;
 use std::alloc::{AllocError, Global};
 use xbar_jobs::Step;
 use xbar_office::{Job, Record};
 
-/// What was told so far of an office.
+/// A description in words of what the markers of an office have done so far.
 #[derive(Drop)]
 pub struct Story {
-    telling: Telling,
-    /// Of how many steps, modulo 2^64.
+    detail: Detail,
+    /// The number of steps described so far, modulo 2^64.
     number: u64,
     text: String,
-    /// A next test may go on with these, so their line is not yet written.
+    /// The pending tests: the next test may share their line, so it is not yet written.
     tests: Vec<Tested>,
-    ghost joined: { are_joined telling tests.items ≡ true },
+    ghost joined: { are_joined detail tests.items ≡ true },
 }
 
 impl Story {
     ghost use Rattle.std.specs.Prelude.{ℕ, List};
-    ghost use Rattle.xbar_walk.specs.Items.{Item, Says, Tests, step_item, told_text};
+    ghost use Rattle.xbar_walk.specs.Items.{Item, Says, Tests, step_item, walk_text_of};
     ghost use Rattle.xbar_walk.specs.Lines.{assignment_line, settling_line};
     ghost use Rattle.xbar_walk.specs.Stories.{Adds, AddsStep, IsStory};
-    ghost use Rattle.xbar_walk.specs.declared.telling.Telling.{Telling as TheTelling};
+    ghost use Rattle.xbar_walk.specs.declared.detail.Detail.{Detail as TheTelling};
 
-    /// A story that is to be told so.
-    pub fn new(alloc: Global, telling: Telling) -> Self
-        ensures { IsStory telling result 0 [] }
+    /// An empty story, to be written in this detail.
+    pub fn new(alloc: Global, detail: Detail) -> Self
+        ensures { IsStory detail result 0 [] }
     {
         Story {
-            telling,
+            detail,
             number: 0,
             text: String::new(alloc),
             tests: Vec::new(alloc),
         }
     }
 
-    /// Whether a test goes on with those whose line is not yet written.
-    fn leads_to(&self, tested: &Tested) -> bool
-        ensures { result ≡ leads_on self.now.telling self.now.tests.items tested.now }
+    /// Whether a test shares the line of the pending tests.
+    fn shares_pending_line(&self, tested: &Tested) -> bool
+        ensures { result ≡ shares_line self.now.detail self.now.tests.items tested.now }
     {
         match self.tests.as_slice() {
             [] => false,
-            [.., last] => self.telling.is_short() && last.goes_on(tested),
+            [.., last] => self.detail.is_short() && last.goes_on(tested),
         }
     }
 
-    /// Writes the line of the tests, with which none is to go on.
+    /// Writes the line of the pending tests, which no later test is to share.
     fn end_tests(&mut self) -> Result<(), AllocError>
-        ensures told { OnOk result (string_bytes self.new.text
+        ensures observed { OnOk result (string_bytes self.new.text
             ≡ string_bytes self.old.text ++ tests_text self.old.tests.items) }
         ensures none { OnOk result (self.new.tests.items ≡ []) }
-        ensures telling { self.new.telling ≡ self.old.telling }
+        ensures detail { self.new.detail ≡ self.old.detail }
         ensures number { self.new.number ≡ self.old.number }
     {
         add_tests(&mut self.text, self.tests.as_slice())?;
@@ -66,10 +66,11 @@ impl Story {
         Ok(())
     }
 
+    /// Adds a test to the pending ones, or begins new ones if it doesn't share their line.
     fn add_test(&mut self, tested: Tested) -> Result<(), AllocError>
         ensures { OnOk result (Adds (Tests tested) self.old self.new) }
     {
-        if self.leads_to(&tested) {
+        if self.shares_pending_line(&tested) {
             self.tests.push(tested)?;
             return Ok(());
         }
@@ -78,8 +79,8 @@ impl Story {
         Ok(())
     }
 
-    /// Adds that a marker is given a job. Where memory runs out, a part of the line may have been
-    /// added, here as below.
+    /// Adds that a marker is assigned a job. If memory runs out, a part of the line may have been
+    /// added; so too in the methods below.
     pub fn add_assignment(&mut self, marker: u32, job_no: u32, job: &Job) -> Result<(), AllocError>
         ensures { OnOk result (Adds (Says (assignment_line marker job_no job.now))
             self.old self.new) }
@@ -93,7 +94,7 @@ impl Story {
         Ok(())
     }
 
-    /// Adds that no row is left, and the office settles.
+    /// Adds that no row is left and the office settles.
     pub fn add_settling(&mut self) -> Result<(), AllocError>
         ensures { OnOk result (Adds (Says settling_line) self.old self.new) }
     {
@@ -103,19 +104,19 @@ impl Story {
         Ok(())
     }
 
-    /// Adds the item of a step of this number.
+    /// Adds the item of the step with this number.
     fn add_item(
         &mut self,
         number: u64,
         marker: u32,
-        told: &Told,
+        observed: &Observation,
         records: &[Record],
     ) -> Result<(), AllocError>
-        ensures { OnOk result (Adds (step_item number marker told.now records.now)
+        ensures { OnOk result (Adds (step_item number marker observed.now records.now)
             self.old self.new) }
     {
-        if let Step::Test(word) = told.step {
-            let (place, word) = (Place::of(word), told.found);
+        if let Step::Test(word) = observed.step {
+            let (place, word) = (Place::of(word), observed.found);
             self.add_test(Tested {
                 number,
                 marker,
@@ -125,31 +126,32 @@ impl Story {
             return Ok(());
         }
         self.end_tests()?;
-        add_step(&mut self.text, number, marker, told, records)?;
+        add_step(&mut self.text, number, marker, observed, records)?;
         Ok(())
     }
 
-    /// Adds a marker's step under the number that follows, and the trouble cards of its turn, if it
-    /// took one. `records` are those that the step added: one by a turn, else none.
+    /// Adds a marker's step with the next number and, if it is a turn, its trouble cards.
+    /// `records` are those that the step added: one if it is a turn, else none.
     pub fn add_step(
         &mut self,
         marker: u32,
-        told: &Told,
+        observed: &Observation,
         records: &[Record],
     ) -> Result<(), AllocError>
         ensures { OnOk result
-            (AddsStep (λ number. step_item number marker told.now records.now) self.old self.new) }
+            (AddsStep (λ number. step_item number marker observed.now records.now) self.old
+            self.new) }
     {
         let number = self.number.wrapping_add(1);
         self.number = number;
-        self.add_item(number, marker, told, records)?;
+        self.add_item(number, marker, observed, records)?;
         Ok(())
     }
 
-    /// The whole text.
+    /// Returns the whole text.
     pub fn finish(mut self) -> Result<String, AllocError>
-        ensures { IfOk result (λ text. (telling : TheTelling) (number : ℕ) (items : List Item)
-            → IsStory telling self number items → string_bytes text ≡ told_text telling items) }
+        ensures { IfOk result (λ text. (detail : TheTelling) (number : ℕ) (items : List Item)
+            → IsStory detail self number items → string_bytes text ≡ walk_text_of detail items) }
     {
         self.end_tests()?;
         Ok(self.text)

@@ -6,19 +6,19 @@ use crate::place::Place;
 /// A marker's test of a word.
 #[derive(Drop)]
 pub struct Tested {
-    /// Which step it was.
+    /// The number of the step.
     pub number: u64,
     pub marker: u32,
     pub place: Place,
-    /// What stood there.
+    /// The value of the word.
     pub word: u64,
 }
 
 impl Tested {
-    /// Whether another test goes on with the row: the same marker tests the next switch.
+    /// Whether `other` continues the row: the same marker tests the next switch.
     pub fn goes_on(&self, other: &Tested) -> bool
         ensures { result ≡ goes_on_of self.now other.now }
     {
-        self.marker == other.marker && other.place.is_behind(self.place)
+        self.marker == other.marker && other.place.is_next_after(self.place)
     }
 }

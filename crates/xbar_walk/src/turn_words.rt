@@ -9,7 +9,7 @@ use xbar_equip::Path;
 use xbar_office::{End, Job, Record};
 use xbar_report::name_of;
 
-/// What a job is.
+/// A job in words.
 #[derive(Clone, Copy)]
 pub struct JobWords<'j>(pub &'j Job);
 
@@ -26,7 +26,7 @@ impl fmt::Display for JobWords<'_> {
     }
 }
 
-/// A second path, if there is one.
+/// A second path, after `and`; empty if there is none.
 #[derive(Clone, Copy)]
 struct AndPath<'p>(&'p Option<Path>);
 
@@ -42,7 +42,7 @@ impl fmt::Display for AndPath<'_> {
     }
 }
 
-/// How a job ends.
+/// The end of a job in words.
 #[derive(Clone, Copy)]
 struct EndWords<'e>(&'e End);
 
@@ -70,7 +70,7 @@ impl fmt::Display for EndWords<'_> {
     }
 }
 
-/// Adds the turn, with the record that it added.
+/// Adds a turn in words, with the record that it added.
 #[tactic(auto, unfolding(crate::specs::Words::turn_words))]
 pub fn add_turn(text: &mut String, records: &[Record]) -> Result<(), AllocError>
     ensures { OnOk result (string_bytes text.new ≡ string_bytes text.old ++

@@ -1,12 +1,12 @@
 //! A step in words.
 
 ghost use Rattle.std.specs.Prelude.{◌≡◌, ◌++◌, OnOk, Some, string_bytes};
-ghost use Rattle.xbar_walk.specs.Words.{cleared_by, close_of, close_words, found_words, marked_words, open_words, put_off, seize_words, step_words, switched_words, test_words};
+ghost use Rattle.xbar_walk.specs.Words.{cleared_by, job_ending_words, close_words, found_words, marked_words, open_words, denial_words, seize_words, step_words, switched_words, test_words};
 
 use crate::names::ConnName;
+use crate::observation::Observation;
 use crate::place::Place;
 use crate::shown::add_shown;
-use crate::told::Told;
 use crate::turn_words::add_turn;
 use std::alloc::AllocError;
 use std::fmt;
@@ -15,14 +15,14 @@ use xbar_equip::Conn;
 use xbar_jobs::Step;
 use xbar_office::Record;
 
-/// Why a marker does not get what it asks for, if it does not.
+/// Why a request or a seizure was denied; empty if it wasn't.
 #[derive(Clone, Copy)]
-struct PutOff<'e>(&'e Event);
+struct Denial<'e>(&'e Event);
 
-impl fmt::Display for PutOff<'_> {
-    ghost output = { λ came. Some (put_off came.0.now) };
+impl fmt::Display for Denial<'_> {
+    ghost output = { λ came. Some (denial_words came.0.now) };
 
-    #[tactic(auto, unfolding(crate::specs::Words::put_off))]
+    #[tactic(auto, unfolding(crate::specs::Words::denial_words))]
     fn fmt<W: fmt::Write>(&self, f: &mut fmt::Formatter<W>) -> fmt::Result {
         match self.0 {
             Event::Refused { holder, .. } => write!(f, ": marker {holder} holds it"),
@@ -32,17 +32,17 @@ impl fmt::Display for PutOff<'_> {
     }
 }
 
-/// What is told of the last step of a job, or of a marker's way back to its beginning.
+/// The words that end the line of a job's last step, or of the last step of giving back.
 #[derive(Clone, Copy)]
-struct CloseOf<'e> {
+struct JobEnding<'e> {
     event: &'e Event,
     next: Step,
 }
 
-impl fmt::Display for CloseOf<'_> {
-    ghost output = { λ came. Some (close_of came.event.now came.next) };
+impl fmt::Display for JobEnding<'_> {
+    ghost output = { λ came. Some (job_ending_words came.event.now came.next) };
 
-    #[tactic(auto, unfolding(crate::specs::Words::close_of))]
+    #[tactic(auto, unfolding(crate::specs::Words::job_ending_words))]
     fn fmt<W: fmt::Write>(&self, f: &mut fmt::Formatter<W>) -> fmt::Result {
         match (self.event, self.next) {
             (Event::Finished(record), _) => write!(f, ", and has done job {}", record.job_no),
@@ -52,16 +52,17 @@ impl fmt::Display for CloseOf<'_> {
     }
 }
 
+/// Adds a seizure in words: done, denied, or to be tried again.
 #[tactic(auto, unfolding(crate::specs::Words::seize_words))]
 fn add_seize(text: &mut String, conn: Conn, event: &Event, next: Step) -> Result<(), AllocError>
     ensures { OnOk result (string_bytes text.new ≡ string_bytes text.old ++
         seize_words conn event.now next) }
 {
     let conn = ConnName(conn);
-    let put_off = PutOff(event);
+    let denial_words = Denial(event);
     match (event, next) {
         (Event::Refused { .. } | Event::Preferred(_), _) => {
-            write!(text, "would seize {conn}{put_off}")
+            write!(text, "would seize {conn}{denial_words}")
         }
         (_, Step::Seize(_, _)) => {
             write!(
@@ -73,6 +74,7 @@ fn add_seize(text: &mut String, conn: Conn, event: &Event, next: Step) -> Result
     }
 }
 
+/// Adds what a test of the place found.
 #[tactic(auto, unfolding(crate::specs::Words::found_words))]
 fn add_found(text: &mut String, place: Place, word: u64) -> Result<(), AllocError>
     ensures { OnOk result (string_bytes text.new ≡ string_bytes text.old ++
@@ -97,6 +99,7 @@ fn add_found(text: &mut String, place: Place, word: u64) -> Result<(), AllocErro
     }
 }
 
+/// Adds a test in words: the place, and what its word shows.
 #[tactic(auto, unfolding(crate::specs::Words::test_words))]
 pub fn add_test(text: &mut String, place: Place, word: u64) -> Result<(), AllocError>
     ensures { OnOk result (string_bytes text.new ≡ string_bytes text.old ++ test_words place word) }
@@ -105,7 +108,7 @@ pub fn add_test(text: &mut String, place: Place, word: u64) -> Result<(), AllocE
     add_found(text, place, word)
 }
 
-/// Adds that crosspoints of a switch change.
+/// Adds that crosspoints of a switch close or open.
 #[tactic(auto, unfolding(crate::specs::Words::switched_words))]
 fn add_switched(
     text: &mut String,
@@ -123,7 +126,7 @@ fn add_switched(
     Ok(())
 }
 
-/// Adds that the bits of a group's members change.
+/// Adds that members of a group become busy or idle.
 #[tactic(auto, unfolding(crate::specs::Words::marked_words))]
 fn add_marked(text: &mut String, state: &str, place: Place, bits: u64) -> Result<(), AllocError>
     ensures { OnOk result (string_bytes text.new ≡ string_bytes text.old ++
@@ -134,6 +137,7 @@ fn add_marked(text: &mut String, state: &str, place: Place, bits: u64) -> Result
     Ok(())
 }
 
+/// Adds a close step in words, with the bits that it sets.
 #[tactic(auto, unfolding(crate::specs::Words::close_words))]
 fn add_close(text: &mut String, place: Place, bits: u64) -> Result<(), AllocError>
     ensures { OnOk result (string_bytes text.new ≡ string_bytes text.old ++
@@ -145,6 +149,7 @@ fn add_close(text: &mut String, place: Place, bits: u64) -> Result<(), AllocErro
     }
 }
 
+/// Adds an open step in words, with the bits that it clears.
 #[tactic(auto, unfolding(crate::specs::Words::open_words))]
 fn add_open(text: &mut String, place: Place, bits: u64) -> Result<(), AllocError>
     ensures { OnOk result (string_bytes text.new ≡ string_bytes text.old ++ open_words place bits) }
@@ -155,37 +160,46 @@ fn add_open(text: &mut String, place: Place, bits: u64) -> Result<(), AllocError
     }
 }
 
-/// Of a word that was so, all bits that the mask does not keep.
+/// The bits of a word that the mask doesn't keep.
 fn cleared(word: u64, mask: u64) -> u64
     ensures { result ≡ cleared_by word mask }
 {
     word & !mask
 }
 
-/// Adds a step in words: what it is on, and what came of it. `records` are those that it added.
+/// Adds a step in words: what it acts on, and its result. `records` are those that the step added.
 #[tactic(auto, unfolding(crate::specs::Words::step_words))]
-pub fn add_words(text: &mut String, told: &Told, records: &[Record]) -> Result<(), AllocError>
+pub fn add_words(
+    text: &mut String,
+    observed: &Observation,
+    records: &[Record],
+) -> Result<(), AllocError>
     ensures { OnOk result (string_bytes text.new ≡ string_bytes text.old ++
-        step_words told.now records.now) }
+        step_words observed.now records.now) }
 {
-    match told.step {
-        Step::Request(conn) => write!(text, "requests {}{}", ConnName(conn), PutOff(&told.event)),
-        Step::Seize(conn, _) => add_seize(text, conn, &told.event, told.next),
+    match observed.step {
+        Step::Request(conn) => write!(
+            text,
+            "requests {}{}",
+            ConnName(conn),
+            Denial(&observed.event)
+        ),
+        Step::Seize(conn, _) => add_seize(text, conn, &observed.event, observed.next),
         Step::Withdraw(conn) => {
-            let close = CloseOf {
-                event: &told.event,
-                next: told.next,
+            let close = JobEnding {
+                event: &observed.event,
+                next: observed.next,
             };
             write!(text, "withdraws its request for {}{close}", ConnName(conn))
         }
-        Step::Test(word) => add_test(text, Place::of(word), told.found),
+        Step::Test(word) => add_test(text, Place::of(word), observed.found),
         Step::Turn => add_turn(text, records),
         Step::Close(word, bits) => add_close(text, Place::of(word), bits),
-        Step::Open(word, mask) => add_open(text, Place::of(word), cleared(told.found, mask)),
+        Step::Open(word, mask) => add_open(text, Place::of(word), cleared(observed.found, mask)),
         Step::Free(conn) => {
-            let close = CloseOf {
-                event: &told.event,
-                next: told.next,
+            let close = JobEnding {
+                event: &observed.event,
+                next: observed.next,
             };
             write!(text, "frees {}{close}", ConnName(conn))
         }

@@ -1,3 +1,5 @@
+//! Workers that do calls in one office behind a lock.
+
 ghost use Rattle.std.specs.Prelude.{◌≤◌};
 
 use super::pacing::{PATIENCE, Pace, REGISTERS};
@@ -12,20 +14,20 @@ use xbar_markers::Call;
 use xbar_office::Job;
 use xbar_plan::Plan;
 
-/// Calls that are dialled and completed in their order, and what of them is done.
+/// Calls that are dialled and completed in their order, and how far this is.
 #[derive(Drop)]
 struct Lineup<'a> {
     office: Mutex<Exchange<'a>>,
     calls: &'a [Call],
     pace: Pace,
-    /// The next call to be dialled, and the next to be completed.
+    /// The indices of the next call to dial, and of the next to complete.
     to_dial: AtomicU64,
     to_complete: AtomicU64,
-    /// Of each call, whether it was dialled.
+    /// For each call, 1 if it was dialled, and 0 if not.
     dialled: Vec<AtomicU64>,
 }
 
-/// The marker does the job, each of its steps under the lock.
+/// Has the marker do the job, each of its steps under the lock. Gives up after `PATIENCE` steps.
 fn do_job<R: Wait>(rt: &R, lineup: &Lineup, marker: u32, call: &Call, job: Job) {
     let _assigned = lineup.office.lock(rt).assign(marker, call.call_no, job);
     for _time in 0..PATIENCE {
@@ -38,6 +40,7 @@ fn do_job<R: Wait>(rt: &R, lineup: &Lineup, marker: u32, call: &Call, job: Job) 
     }
 }
 
+/// Waits until a call was dialled, but goes on all the same after a long time.
 fn wait_for(dialled: &AtomicU64) {
     for _time in 0..PATIENCE {
         if dialled.load(Ordering::SeqCst) == 1 {
@@ -74,8 +77,8 @@ fn serve<R: Wait>(rt: &R, lineup: &Lineup, marker: u32, dials: bool) {
     }
 }
 
-/// So many who dial and as many who complete calls do these, each step under one lock, paced so that
-/// registers last. Gives how many jobs were done.
+/// Has `count` workers dial the calls, and as many complete and release them, each step under one
+/// lock, paced so that registers suffice. Returns the number of jobs done.
 pub fn work<R: Threads + Wait + Sync>(
     rt: &R,
     alloc: Global,

@@ -1,3 +1,5 @@
+//! Calls by `run_desks`, with a limit on those under way at once.
+
 ghost use Rattle.std.specs.Prelude.{◌≤◌, All};
 ghost use Rattle.xbar_markers.specs.Calls.{HasCallNo};
 
@@ -9,17 +11,17 @@ use std::rt::Clock;
 use std::sync::Wait;
 use std::thread::Threads;
 use std::time::Instant;
-use xbar_markers::{Call, Gate, open_staff, run_desks};
+use xbar_markers::{Call, Gate, open_desks, run_desks};
 use xbar_office::audit;
 use xbar_plan::Plan;
 
-/// Keeps who dials from running ahead of who completes calls.
+/// A gate that makes markers that dial wait until few enough calls are yet to be completed.
 #[derive(Clone, Copy)]
 struct PacedGate<'a> {
     pace: &'a Pace,
-    /// Markers below this one dial.
+    /// Markers with lower numbers dial, and the others complete calls.
     dialling: u32,
-    /// Whether the next step begins a job to dial, if the marker dials.
+    /// Whether the next step is the first of a job to dial, if the marker dials.
     begins: bool,
 }
 
@@ -42,9 +44,9 @@ impl Gate for PacedGate<'_> {
     }
 }
 
-/// So many who dial and as many who complete calls do these, each on a thread of its own, with at most so
-/// many under way at once. The jobs are timed from the opening of the words to the records in turn order;
-/// the audit is timed by itself.
+/// Has `count` markers dial the calls, and as many complete them, each on a thread of its own,
+/// with at most `most` calls under way at once. Prints the time of a job, from the opening of the
+/// words to the records in turn order, and the time of a job's audit.
 pub fn measure<R: Eprint + Clock + Threads + Wait + Sync>(
     rt: &R,
     alloc: Global,
@@ -63,7 +65,7 @@ pub fn measure<R: Eprint + Clock + Threads + Wait + Sync>(
     };
     let gates = vec![in alloc; gate; count + count]?;
     let start = Instant::now(rt)?;
-    let Ok((fabric, desks)) = open_staff(alloc, plan, count, count) else {
+    let Ok((fabric, desks)) = open_desks(alloc, plan, count, count) else {
         return Err(io::ErrorKind::InvalidInput.into());
     };
     let (_desks, records) = run_desks(rt, alloc, &fabric, desks, calls, gates)?;

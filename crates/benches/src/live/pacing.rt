@@ -1,14 +1,16 @@
+//! Limits on calls under way, and on waiting.
+
 use std::sync::atomic::{AtomicU64, Ordering};
 use std::thread;
 
-/// How many registers the example plan has.
+/// The number of registers of the example plan.
 pub const REGISTERS: usize = 3;
 
-/// How often a thread that waits lets others run before it goes on all the same; also how many steps a
-/// marker is given for a job.
+/// The number of times that a waiting thread lets others run before it goes on all the same; also
+/// the number of steps that a marker is given for a job.
 pub const PATIENCE: u32 = 1_000_000;
 
-/// How many calls may have been dialled, or begun to be, and not yet completed.
+/// A limit on the calls under way: those whose dialling has begun, and that aren't yet completed.
 #[derive(Drop)]
 pub struct Pace {
     under_way: AtomicU64,
@@ -23,7 +25,8 @@ impl Pace {
         }
     }
 
-    /// One more call is under way, once there is room for it.
+    /// Waits until fewer than the most calls are under way, and counts one more. After a long
+    /// wait, goes on without counting it.
     pub fn begin(&self) {
         for _time in 0..PATIENCE {
             if self.under_way.fetch_add(1, Ordering::SeqCst) < self.most {
@@ -34,7 +37,7 @@ impl Pace {
         }
     }
 
-    /// One call less is under way.
+    /// Counts one call less as under way.
     pub fn end(&self) {
         let _before = self.under_way.fetch_sub(1, Ordering::SeqCst);
     }

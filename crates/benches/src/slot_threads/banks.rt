@@ -1,3 +1,5 @@
+//! The allocator of slots as plain data.
+
 use slots::bank::{BANK_SIZE, lowest_free};
 use slots::{Effect, Job, UpToTwo};
 
@@ -9,6 +11,7 @@ pub struct Banks {
 }
 
 impl Banks {
+    /// Makes an effect on the word of its bank.
     fn make(&mut self, effect: Effect) {
         let (Effect::Mark(slot) | Effect::Clear(slot)) = effect;
         let bank = if slot < BANK_SIZE {
@@ -19,7 +22,7 @@ impl Banks {
         *bank = effect.operation().apply(*bank);
     }
 
-    /// Does a job, and gives the slots that it took.
+    /// Does a job, and returns the slots that it took.
     pub fn do_job(&mut self, job: Job) -> UpToTwo<u32> {
         match job {
             Job::Take => match lowest_free(0, self.lower).or_else(|| lowest_free(1, self.upper)) {

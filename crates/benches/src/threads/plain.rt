@@ -1,9 +1,11 @@
+//! Plain atomic operations on shared words, like those of jobs.
+
 use std::alloc::{AllocError, Global};
 use std::sync::atomic::{AtomicU64, Ordering};
 use std::thread;
 use std::thread::Threads;
 
-/// The words of a lock, of what it guards, and of the turns.
+/// The words of a lock, of what the lock protects, and of the turns.
 #[derive(Default, Drop)]
 struct Words {
     lock: AtomicU64,
@@ -11,8 +13,9 @@ struct Words {
     turns: AtomicU64,
 }
 
-/// The operation that step `step` of a job makes, of six: it requests a lock, seizes it, reads what it guards,
-/// takes a turn, changes what it guards, and frees the lock. An addition stands for each operation on bits.
+/// Makes the operation of one step of a job, and returns the number found. The job has six steps:
+/// it requests a lock, seizes it, reads what the lock protects, takes a turn, changes what the
+/// lock protects, and frees the lock. An addition takes the place of each operation on bits.
 fn make(words: &Words, step: u32, seen: u64) -> u64 {
     match step % 6 {
         0 => words.lock.fetch_add(1, Ordering::SeqCst),
@@ -29,6 +32,7 @@ fn make(words: &Words, step: u32, seen: u64) -> u64 {
     }
 }
 
+/// Makes `steps` operations, one after another.
 fn make_all(words: &Words, steps: u32) -> u64 {
     let mut seen = 0;
     for step in 0..steps {
@@ -37,7 +41,7 @@ fn make_all(words: &Words, steps: u32) -> u64 {
     seen
 }
 
-/// So many threads make plain atomic operations on the same three words, so many each.
+/// Has `count` threads make `steps` plain atomic operations each, on the same three words.
 pub fn operate<R: Threads + Sync>(
     rt: &R,
     alloc: Global,

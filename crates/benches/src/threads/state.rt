@@ -1,21 +1,24 @@
+//! The state of a marker at work.
+
 use crate::timing::Tally;
 use xbar_equip::Len;
 use xbar_office::Job;
 
-/// How many steps a marker waits before it gives back. No job takes as many that waits for nobody.
+/// The number of steps without the end of a job after which a marker gives back. A job that is
+/// never denied a connector takes fewer.
 const PATIENCE: u64 = 150;
 
-/// How far a marker's work is.
+/// The work that a marker has done, and how long it has waited.
 #[derive(Default, Drop)]
 pub struct State {
     pub tally: Tally,
-    /// Steps since it last ended a job or gave back.
+    /// The number of steps since the marker last ended a job or gave back.
     waited: u64,
 }
 
 impl State {
-    /// The next job: a line of the marker's own dials, and then gives up its register, so that
-    /// registers last.
+    /// The next job: a line of the marker's own dials, or if it has dialled gives up its register,
+    /// so that registers suffice.
     pub fn next_job(&self, marker: u32) -> Job {
         let line = Len::new((marker % 10) as u8, 0, 0);
         if self.tally.jobs % 2 == 0 {
@@ -25,8 +28,8 @@ impl State {
         }
     }
 
-    /// So many more steps were made, which ended the job or did not. Tells whether the marker has waited so
-    /// long that it is to give back, after which it waits anew.
+    /// Counts `steps` more steps, which ended the job or did not. Returns whether the marker has
+    /// waited so long that it is to give back; the wait then begins anew.
     pub fn count(&mut self, steps: u64, has_ended: bool) -> bool {
         self.tally.count(steps, has_ended);
         self.waited = self.waited.saturating_add(steps);

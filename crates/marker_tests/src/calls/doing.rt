@@ -1,15 +1,15 @@
-//! Calls that compete for registers and trunks, and calls done by few markers and by as many as there can be.
+//! Calls that compete for registers and trunks, and calls done by few markers and by 48.
 
 ghost use Rattle.std.specs.Prelude.{◌≡◌, ◌+◌, ◌≤◌, ◌<◌, All, IfOk, vec_len};
 ghost use Rattle.xbar_fabric.specs.Meetings.{AreAllIdle};
 ghost use Rattle.xbar_markers.specs.Calls.{HasCallNo};
-ghost use Rattle.xbar_markers.specs.Staff.{AreStaff};
+ghost use Rattle.xbar_markers.specs.DesksByKind.{AreDesksByKind};
 
 use super::*;
 use crate::fixtures::check_history;
 use test_tools::{check, check_eq};
 use xbar_fabric::{Desk, Fabric, shut_all};
-use xbar_markers::{RunFault, open_staff, run_calls, run_desks};
+use xbar_markers::{RunFault, open_desks, run_calls, run_desks};
 use xbar_office::{End, Job, Record};
 
 fn open_gates(rt: &impl Abort, alloc: Global, count: usize) -> Vec<OpenGate>
@@ -22,29 +22,30 @@ fn open_gates(rt: &impl Abort, alloc: Global, count: usize) -> Vec<OpenGate>
     gates
 }
 
-/// Does calls whose markers wait for nobody: the records are one legal history, which the words show.
+/// Does calls whose markers wait for nobody, and checks that the records are one legal history,
+/// which the words show.
 fn do_calls<'p, R: Threads + Wait + Sync + Abort>(
     rt: &R,
     alloc: Global,
     plan: &'p Plan,
     calls: &[Call],
-    staff: Staff,
+    workers: Workers,
 ) -> Outcome<'p>
     requires { All HasCallNo calls.now }
 {
-    assert!(rt; staff.dialling < 25 && staff.completing < 25);
-    let gates = open_gates(rt, alloc, staff.dialling + staff.completing);
-    let outcome = run(rt, alloc, plan, calls, staff, gates);
+    assert!(rt; workers.dialling < 25 && workers.completing < 25);
+    let gates = open_gates(rt, alloc, workers.dialling + workers.completing);
+    let outcome = run(rt, alloc, plan, calls, workers, gates);
     check_history(rt, alloc, plan, "calls", &outcome.records, &outcome.words);
     let dials = outcome
         .records
         .iter()
         .filter(|r| matches!(r.job, Job::Dial(_)));
-    check_eq!(rt; dials.count(), calls.len(), "{staff:?}");
+    check_eq!(rt; dials.count(), calls.len(), "{workers:?}");
     outcome
 }
 
-/// Three lines, and a fourth, call out of the office and keep what they get.
+/// Four lines call out of the office and keep what they get.
 fn four_calls() -> [Call; 4]
     ensures { All HasCallNo result }
 {
@@ -56,13 +57,13 @@ fn four_calls() -> [Call; 4]
     ]
 }
 
-const TWO_AND_TWO: Staff = Staff {
+const TWO_AND_TWO: Workers = Workers {
     dialling: 2,
     completing: 2,
 };
 
-/// How many jobs there are, and how many of them end with dial tone, connected, with all registers busy, and
-/// with all trunks busy.
+/// How many jobs there are, and how many of them end with dial tone, connected, with all registers
+/// busy, and with all trunks busy.
 type Ends = (usize, [usize; 4]);
 
 fn ends_of(records: &[Record]) -> Ends {
@@ -82,8 +83,8 @@ fn ends_of(records: &[Record]) -> Ends {
     (records.len(), ends)
 }
 
-/// How many of the four calls are done, how often, since threads go on as they will, how their jobs may
-/// end, and how many paths they leave.
+/// How many of the four calls are done, how often (threads interleave differently each time), how
+/// their jobs may end, and how many paths they leave.
 const COMPETING: &[(usize, u32, &[Ends], usize)] = &[
     (0, 1, &[(0, [0, 0, 0, 0])], 0),
     (3, 40, &[(6, [3, 3, 0, 0])], 3),
@@ -113,7 +114,7 @@ const JOBS: [(u64, u32, u32); 3] = [(0, 21, 0), (1, 22, 1), (2, 23, 1)];
 fn a_call_is_dialled_completed_and_released(rt: HostRuntime) {
     let plan = example(&rt, rt.alloc());
     let calls = [call_out(7, Len::new(3, 0, 21), true)];
-    let one_and_one = Staff {
+    let one_and_one = Workers {
         dialling: 1,
         completing: 1,
     };
@@ -125,7 +126,7 @@ fn a_call_is_dialled_completed_and_released(rt: HostRuntime) {
     check_eq!(rt; outcome.office.paths().len(), 0, "paths");
 }
 
-/// The desks do these calls, and their records come behind the others.
+/// Has the desks do these calls, and appends their records.
 fn do_more<R: Threads + Wait + Sync + Abort>(
     rt: &R,
     alloc: Global,
@@ -134,10 +135,10 @@ fn do_more<R: Threads + Wait + Sync + Abort>(
     calls: &[Call],
     records: &mut Vec<Record>,
 ) -> Vec<Desk>
-    requires staff { AreStaff desks.items fabric.now }
+    requires workers { AreDesksByKind desks.items fabric.now }
     requires idle { AreAllIdle desks.items fabric.now }
     requires call_nos { All HasCallNo calls.now }
-    ensures staff { AreStaff result.items fabric.now }
+    ensures workers { AreDesksByKind result.items fabric.now }
     ensures idle { AreAllIdle result.items fabric.now }
 {
     let gates = open_gates(rt, alloc, desks.len());
@@ -158,7 +159,7 @@ fn desks_go_on_with_other_calls(rt: HostRuntime) {
     let calls = four_calls();
     let all = calls.as_slice();
     let (first, second) = (&all[..2], &all[2..]);
-    let Ok((fabric, desks)) = open_staff(alloc, &plan, 2, 2) else {
+    let Ok((fabric, desks)) = open_desks(alloc, &plan, 2, 2) else {
         panic!(rt; "the office is opened");
     };
     let mut records = Vec::new(alloc);
@@ -171,10 +172,10 @@ fn desks_go_on_with_other_calls(rt: HostRuntime) {
     check_eq!(rt; ends_of(&records), (8, [4, 3, 0, 1]), "the fourth finds no trunk");
 }
 
-/// Out of the office, to two lines in it, and to a number that nobody has.
+/// Digits that lead out of the office, to two lines in it, and to a number that nobody has.
 const DIALLED: [u32; 4] = [5_551_234, 2_340_002, 2_340_004, 2_349_999];
 
-/// The call at this place, of 300. Three of four are released again.
+/// The call of this number, of 300. Three of four are released again.
 fn call_at(place: u32) -> Call
     requires { place < 300 }
     ensures { HasCallNo result }
@@ -192,6 +193,7 @@ fn call_at(place: u32) -> Call
     }
 }
 
+/// The first `count` of the 300 calls.
 fn many_calls(alloc: Global, count: u32) -> Result<Vec<Call>, AllocError>
     requires { count ≤ 300 }
     ensures { IfOk result (λ calls. All HasCallNo calls.items) }
@@ -203,7 +205,8 @@ fn many_calls(alloc: Global, count: u32) -> Result<Vec<Call>, AllocError>
     Ok(calls)
 }
 
-/// Numbers of markers that dial, of those that complete, and of calls, and how often these are done.
+/// The numbers of markers that dial, of those that complete, and of calls, and how often these are
+/// done.
 const MANY: [(usize, usize, u32, u32); 5] = [
     (1, 1, 300, 10),
     (2, 2, 300, 10),
@@ -218,19 +221,20 @@ fn markers_do_many_calls(rt: HostRuntime) {
     for (dialling, completing, count, times) in MANY {
         assert!(rt; count <= 300);
         let calls = many_calls(rt.alloc(), count).expect(&rt, "there is memory for the calls");
-        let staff = Staff {
+        let workers = Workers {
             dialling,
             completing,
         };
         for _time in 0..times {
-            let outcome = do_calls(&rt, rt.alloc(), &plan, &calls, staff);
-            check!(rt; ends_of(&outcome.records).1[1] > 0, "{staff:?}: one is connected");
+            let outcome = do_calls(&rt, rt.alloc(), &plan, &calls, workers);
+            check!(rt; ends_of(&outcome.records).1[1] > 0, "{workers:?}: one is connected");
         }
     }
 }
 
-/// Numbers of markers that dial and of markers that complete calls, and why no calls are done by them.
-const STAFFS: &[(usize, usize, Option<RunFault>)] = &[
+/// The numbers of markers that dial and of markers that complete calls, and why they can do no
+/// calls.
+const WORKERS: &[(usize, usize, Option<RunFault>)] = &[
     (0, 0, Some(RunFault::Markers)),
     (0, 1, Some(RunFault::Markers)),
     (1, 0, Some(RunFault::Markers)),
@@ -243,7 +247,7 @@ const STAFFS: &[(usize, usize, Option<RunFault>)] = &[
 #[test]
 fn each_kind_of_marker_is_wanted(rt: HostRuntime) {
     let plan = example(&rt, rt.alloc());
-    for (dialling, completing, wanted) in STAFFS {
+    for (dialling, completing, wanted) in WORKERS {
         assert!(rt; *dialling < 50 && *completing < 50);
         let gates = open_gates(&rt, rt.alloc(), *dialling + *completing);
         let fault = run_calls(&rt, rt.alloc(), &plan, &[], *dialling, *completing, gates).err();

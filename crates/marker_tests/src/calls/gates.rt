@@ -4,18 +4,20 @@ use std::sync::atomic::{AtomicU64, Ordering};
 use std::thread;
 use xbar_markers::Gate;
 
-/// How often a gate lets other threads run before it passes all the same: half a minute and more,
-/// since a machine with much else to do may keep a thread from running for a second.
+/// How often a gate yields before it gives up waiting: half a minute and more, since a machine
+/// with much else to do may keep a thread from running for a second.
 const PATIENCE: u32 = 100_000_000;
 
-/// How far a marker is: at so many steps it has come to its gate, and it has ended so many jobs.
+/// How far a marker is: it has come to its gate for this number of steps, and has ended this
+/// number of jobs.
 #[derive(Clone, Copy)]
 pub struct Point {
     pub steps: u64,
     pub jobs: u64,
 }
 
-/// A marker waits, once it has come to a point, until another, of this number, has come to one.
+/// A marker that has come to the first point waits until the marker of this number has come to the
+/// second.
 #[derive(Clone, Copy)]
 pub struct Meeting(pub Point, pub u32, pub Point);
 
@@ -33,7 +35,7 @@ impl Progress {
     }
 }
 
-/// What the gates of a run share, and how they fared.
+/// What the gates of a run share, and what they count.
 #[derive(Default, Drop)]
 pub struct Board {
     markers: [Progress; 3],
@@ -43,8 +45,8 @@ pub struct Board {
     jobs: AtomicU64,
 }
 
-/// How often markers met, how often one waited in vain, how often a gate was told a wrong number, and the
-/// numbers of all jobs that gates were told of, as the bits of a word.
+/// How often markers met, how often one waited in vain, how often a gate was called with a wrong
+/// number, and the numbers of all jobs that gates were notified of, as the bits of a word.
 #[derive(Debug, Drop, PartialEq)]
 pub struct Tally {
     pub kept: u64,
@@ -67,6 +69,7 @@ impl Board {
         }
     }
 
+    /// Waits until another marker has come to a point, or gives up.
     fn wait(&self, other: u32, until: Point) {
         for _turn in 0..PATIENCE {
             if self
@@ -82,7 +85,7 @@ impl Board {
     }
 }
 
-/// Tells the board how far its marker is, and waits at one point at most.
+/// Reports to the board how far its marker is, and waits at one point at most.
 #[derive(Drop)]
 pub struct MeetingGate<'a> {
     board: &'a Board,
@@ -99,6 +102,7 @@ impl<'a> MeetingGate<'a> {
         }
     }
 
+    /// Counts a call of the gate with a wrong number.
     fn count_mistake(&self) {
         let _mistakes = self.board.miscounted.fetch_add(1, Ordering::SeqCst);
     }

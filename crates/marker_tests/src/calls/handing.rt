@@ -1,4 +1,4 @@
-//! A job that one worker begins and another goes on with, each on a thread of its own.
+//! A job that one worker begins and another goes on with, each on its own thread.
 
 ghost use Rattle.xbar_fabric.specs.Views.{IsDeskOf};
 
@@ -9,18 +9,18 @@ use xbar_fabric::{AssignFault, Desk, Fabric, Kind, shut};
 use xbar_markers::{Handed, Then, hand_over};
 use xbar_office::{End, Job};
 
-/// The step by which the job takes its turn.
+/// The number of the step by which the job takes its turn.
 const TURN: u32 = 20;
 
-/// The job's last step.
+/// The number of the job's last step.
 const END: u32 = 28;
 
 fn dial() -> Job {
     Job::Dial(Len::new(3, 0, 21))
 }
 
-/// The job to dial, handed over after so many steps, is given back before its turn, if that is asked for,
-/// and else done.
+/// Checks that the dial tone job, handed over after `stop` steps, is given back if that is asked
+/// for and its turn is still to come, and else done.
 fn check_handed<R: Threads + Wait + Sync + Abort>(
     rt: &R,
     alloc: Global,
@@ -56,7 +56,7 @@ fn a_job_is_handed_over_after_each_step(rt: HostRuntime) {
     }
 }
 
-/// Why a job isn't handed over, and of the desk that comes back its number and whether it is idle.
+/// Why a job isn't handed over; and of the desk that comes back its number and whether it is idle.
 fn refused<R: Threads + Wait + Sync>(
     rt: &R,
     fabric: &Fabric,
@@ -69,7 +69,7 @@ fn refused<R: Threads + Wait + Sync>(
     Some((fault.why, fault.desk.marker(), fault.desk.is_idle()))
 }
 
-/// A desk with the job to dial, and an idle one that takes no release.
+/// A desk with the dial tone job, and an idle one that takes no release.
 #[test]
 fn a_refused_desk_is_handed_back(rt: HostRuntime) {
     let plan = example(&rt, rt.alloc());

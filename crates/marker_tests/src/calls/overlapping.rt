@@ -16,7 +16,7 @@ const ONE_STEP_MADE: Point = Point { steps: 2, jobs: 0 };
 
 const ONE_JOB_ENDED: Point = Point { steps: 0, jobs: 1 };
 
-/// The numbers of the jobs of two calls, which dial and complete them, as bits.
+/// The numbers of the dial tone and completing jobs of calls 1 and 2, as bits.
 const THEIR_JOBS: u64 = 1 << 3 | 1 << 4 | 1 << 6 | 1 << 7;
 
 /// Calls 1 and 2, from one line link frame or from two.
@@ -51,7 +51,7 @@ fn gates<'a>(
     Ok(gates)
 }
 
-/// Markers of which so many dial, with what each waits for.
+/// Markers, of which the first `dialling` dial, with what each waits for.
 struct Case {
     name: &'static str,
     dialling: usize,
@@ -60,7 +60,8 @@ struct Case {
 }
 
 const CASES: &[Case] = &[
-    // Marker 1 begins once marker 0 has made a step, which then waits until marker 1 has ended a job.
+    // Marker 1 begins once marker 0 has made a step. Marker 0 then waits until marker 1 has ended
+    // a job.
     Case {
         name: "two who dial work at once",
         dialling: 2,
@@ -71,7 +72,7 @@ const CASES: &[Case] = &[
             None,
         ],
     },
-    // Each of the two waits at its first step for the other to come to its own.
+    // Each of the two waits at its first step until the other has come to its own.
     Case {
         name: "two who complete work at once",
         dialling: 1,
@@ -82,15 +83,16 @@ const CASES: &[Case] = &[
             Some(Meeting(FIRST_STEP, 1, FIRST_STEP)),
         ],
     },
-    // Marker 0, which has ended its first job, waits until marker 1 has ended one.
+    // Marker 0, once it has ended its first job, waits until marker 1 has ended one.
     Case {
         name: "calls are completed before all are dialled",
         dialling: 1,
         share_a_frame: false,
         meetings: &[Some(Meeting(ONE_JOB_ENDED, 1, ONE_JOB_ENDED)), None],
     },
-    // Marker 1 begins once marker 0 has come to its first step, which waits until marker 1 has ended a job on
-    // the same frame. A request made before the wait would keep marker 1 away.
+    // Marker 1 begins once marker 0 has come to its first step. Marker 0 waits there until marker
+    // 1 has ended a job on the same frame. If marker 0 requested the frame before it waits, marker
+    // 1 would be denied.
     Case {
         name: "a gate is passed before the step",
         dialling: 2,
@@ -103,7 +105,7 @@ const CASES: &[Case] = &[
     },
 ];
 
-/// Two calls are done while each marker that is to meet another does so.
+/// Does two calls, and checks that each marker that is to meet another does so.
 fn check_meetings<R: Threads + Wait + Sync + Abort>(
     rt: &R,
     alloc: Global,
@@ -115,12 +117,12 @@ fn check_meetings<R: Threads + Wait + Sync + Abort>(
         panic!(rt; "there is memory for gates");
     };
     assert!(rt; case.dialling <= case.meetings.len());
-    let staff = Staff {
+    let workers = Workers {
         dialling: case.dialling,
         completing: case.meetings.len() - case.dialling,
     };
     let calls = two_calls(case.share_a_frame);
-    let outcome = run(rt, alloc, plan, &calls, staff, gates);
+    let outcome = run(rt, alloc, plan, &calls, workers, gates);
     let waiting = case.meetings.iter().filter(|meeting| meeting.is_some());
     let met = Tally {
         kept: waiting.count() as u64,

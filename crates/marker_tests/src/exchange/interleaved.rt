@@ -2,7 +2,7 @@
 
 use super::*;
 
-/// So many steps of marker 0, then so many of marker 1, and so on from the first.
+/// A number of steps of marker 0, then a number of steps of marker 1, and so on from the first.
 const RHYTHMS: [[(u32, u32); 2]; 7] = [
     [(0, 128), (1, 0)],
     [(0, 1), (1, 1)],
@@ -33,7 +33,7 @@ const LISTS: [&[&str]; 4] = [
         "D 3041",
         "C 3041 2340002",
     ],
-    // A call inside the office comes and goes.
+    // A call inside the office is made and released.
     &["D 3041", "C 3041 2340004", "D 1000", "R 3100", "R 3041"],
     // One releases the call from one side while the other marker is at the other side.
     &[
@@ -48,7 +48,7 @@ const LISTS: [&[&str]; 4] = [
     ],
 ];
 
-/// An idle marker takes the next of the jobs, under its place from 1 on.
+/// Has the marker, if it is idle, take the next job. The jobs are numbered from 1 on.
 fn take_job(rt: &impl Abort, office: &mut Exchange, marker: u32, jobs: &[&str], begun: &mut u32) {
     if office.has_no_job(marker) {
         if let Some(text) = jobs.get(*begun as usize) {
@@ -58,9 +58,9 @@ fn take_job(rt: &impl Abort, office: &mut Exchange, marker: u32, jobs: &[&str], 
     }
 }
 
-/// Two markers work the jobs off. In step with one another they may keep each other from a connector for
-/// ever, as each changes its word just before the other would seize it; so what is left in the end is done
-/// by one alone.
+/// Has two markers do the jobs. In step with one another they may keep each other from a connector
+/// for ever, as each changes its word just before the other would seize it. So what is left in the
+/// end is done by one marker alone.
 fn work_off(rt: &impl Abort, office: &mut Exchange, rhythm: &[(u32, u32)], jobs: &[&str]) {
     let mut begun = 0;
     for _round in 0..600 {

@@ -1,8 +1,8 @@
-//! What comes of a marker that is asked to give back, after each number of steps of its job.
+//! A marker is asked to give back after each number of steps of its job.
 
 use super::*;
 
-/// A job of marker 0 that takes its turn with one step and ends with another.
+/// A job of marker 0 that takes its turn with step `turn` and ends with step `end`.
 struct Case {
     /// The jobs that are done before it.
     before: &'static [&'static str],
@@ -50,7 +50,7 @@ const CASES: &[Case] = &[
 ];
 
 impl Case {
-    /// What comes of it after so many steps, and the words in the end.
+    /// The expected outcome of giving back after `count` steps, and the words in the end.
     fn wanted_after(&self, count: u32) -> (Given, Words<'static>) {
         if count < self.turn {
             (Given::Given, self.found)
@@ -62,7 +62,8 @@ impl Case {
     }
 }
 
-/// A marker that gave back holds nothing, and one that is past its turn goes on to its end.
+/// Checks that a marker that gave back holds nothing, and that one past its turn goes on to its
+/// end.
 fn gives_back<O: Driven>(rt: &impl Abort, alloc: Global, mut office: O, case: &Case, count: u32) {
     for text in case.before {
         assign(rt, &mut office, 0, 1, text);

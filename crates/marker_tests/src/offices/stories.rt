@@ -1,27 +1,28 @@
-//! Moves that markers make, one after another.
+//! Moves that markers make, one after another, and their outcomes.
 
 use super::*;
 
-/// What happens next. Each begins with the number of the marker.
+/// What happens next. Each but `Meet` begins with the number of the marker.
 enum Move {
-    /// It is assigned a job under a number.
+    /// The marker is assigned a job under a number.
     Begin(u32, u32, &'static str),
-    /// It is refused a job.
+    /// The marker is refused a job, for this reason.
     Refuse(u32, &'static str, AssignFault),
-    /// So many steps are made.
+    /// A number of steps are made, each of them `StepOutcome::Moved`.
     Moved(u32, u32),
-    /// A step comes to this.
-    Step(u32, Told),
+    /// A step has this outcome.
+    Step(u32, StepOutcome),
     GiveBack(u32, Given),
     HasNoJob(u32, bool),
     Meet,
 }
 
+/// Moves in an office with markers of these kinds.
 struct Story {
     name: &'static str,
     kinds: &'static [Kind],
     moves: &'static [Move],
-    /// After so many of the moves just these words are not 0.
+    /// After this number of moves only these words are not 0.
     looks: &'static [(usize, Words<'static>)],
 }
 
@@ -33,11 +34,11 @@ const STORIES: &[Story] = &[
             Move::Begin(0, 1, "D 3041"),
             Move::Begin(1, 2, "D 3052"),
             Move::Moved(0, 1),
-            Move::Step(1, Told::Preferred(0)),
+            Move::Step(1, StepOutcome::Preferred(0)),
             Move::Moved(0, 1),
             Move::Moved(0, 1),
             Move::Moved(1, 1),
-            Move::Step(1, Told::Refused(Conn::Llf(3), 0)),
+            Move::Step(1, StepOutcome::Refused(Conn::Llf(3), 0)),
             Move::Moved(1, 1),
         ],
         looks: &[
@@ -58,7 +59,7 @@ const STORIES: &[Story] = &[
             Move::Begin(1, 2, "D 3052"),
             Move::Moved(1, 1),
             Move::Moved(0, 1),
-            Move::Step(1, Told::Preferred(0)),
+            Move::Step(1, StepOutcome::Preferred(0)),
             Move::Moved(0, 1),
         ],
         looks: &[
@@ -82,7 +83,7 @@ const STORIES: &[Story] = &[
             Move::Begin(1, 2, "D 1000"),
             Move::Moved(0, 6),
             Move::Moved(1, 3),
-            Move::Step(1, Told::Refused(Conn::Group(0), 0)),
+            Move::Step(1, StepOutcome::Refused(Conn::Group(0), 0)),
             Move::Moved(1, 4),
             Move::GiveBack(0, Given::Given),
             Move::GiveBack(1, Given::Given),
@@ -109,8 +110,8 @@ const STORIES: &[Story] = &[
         moves: &[
             Move::Begin(0, 1, "D 3041"),
             Move::Moved(0, 27),
-            Move::Step(0, Told::Finished(1)),
-            Move::Step(0, Told::Idle),
+            Move::Step(0, StepOutcome::Finished(1)),
+            Move::Step(0, StepOutcome::Idle),
             Move::HasNoJob(0, true),
         ],
         looks: &[(5, WITH_REGISTER)],
@@ -134,6 +135,7 @@ const STORIES: &[Story] = &[
     },
 ];
 
+/// Makes a move, and checks its outcome.
 fn make<O: Driven>(rt: &impl Abort, office: &mut O, name: &str, next: &Move) {
     match next {
         Move::Begin(marker, job_no, text) => assign(rt, office, *marker, *job_no, text),
@@ -142,17 +144,19 @@ fn make<O: Driven>(rt: &impl Abort, office: &mut O, name: &str, next: &Move) {
         }
         Move::Moved(marker, count) => {
             for _made in 0..*count {
-                check_eq!(rt; told_of(&office.go_on(*marker)), Told::Moved, name);
+                check_eq!(rt; outcome_of(&office.go_on(*marker)), StepOutcome::Moved, name);
             }
         }
-        Move::Step(marker, wanted) => check_eq!(rt; told_of(&office.go_on(*marker)), *wanted, name),
+        Move::Step(marker, wanted) =>
+            check_eq!(rt; outcome_of(&office.go_on(*marker)), *wanted, name),
         Move::GiveBack(marker, given) => check_eq!(rt; office.ask_back(*marker), *given, name),
         Move::HasNoJob(marker, is_so) => check_eq!(rt; office.has_no_job(*marker), *is_so, name),
         Move::Meet => office.meet(),
     }
 }
 
-/// An office that was just opened makes so many moves of the story, and is shut with just these words not 0.
+/// Has a new office make the first `made` moves of the story, shuts it, and checks that only these
+/// words are not 0.
 fn look<O: Driven>(
     rt: &impl Abort,
     alloc: Global,

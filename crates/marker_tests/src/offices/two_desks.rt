@@ -21,7 +21,7 @@ impl<'p> Model for TwoDesks<'p> {
     ghost invariant = { λ o. IsDeskOf o.last_but_one o.fabric × IsDeskOf o.last o.fabric };
 }
 
-/// Shared words with a desk of each of these kinds.
+/// Opens shared words with a desk of each of these kinds.
 pub fn open_desks<'p>(
     rt: &impl Abort,
     alloc: Global,

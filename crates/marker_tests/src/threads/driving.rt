@@ -16,35 +16,35 @@ use xbar_office::{Job, Record};
 /// How often a desk gives back and begins its job anew before it leaves the job undone.
 const TRIES: u32 = 100_000_000;
 
-/// A desk at work, and the records that it was told. That it may go to another thread is derived
-/// where the desk may.
+/// A desk at work, and the records of its jobs. It is `Send` if the desk is.
 #[derive(Drop)]
 pub struct AtWork<D: Drop> {
     pub desk: D,
     pub log: Vec<Record>,
 }
 
-pub type Shift = AtWork<Desk>;
+/// A desk of the office at work.
+pub type DeskAtWork = AtWork<Desk>;
 
 /// What each desk does on its thread.
 #[derive(Clone, Copy)]
 pub enum Task {
-    /// It dials, with so many steps at most: desk 0 from line 3041, any other from line 1000.
+    /// Dials, with at most this number of steps: desk 0 from line 3041, any other from line 1000.
     Dial(u32),
-    /// It does so many jobs to their ends, which a generator with this seed chooses.
+    /// Does this number of jobs to their ends. A generator with this seed chooses them.
     Jobs(u32, u64),
 }
 
-/// Makes the desk's steps until its job has ended, or so many of them, and tells whether it has
+/// Makes the desk's steps until its job has ended, but at most `most`. Returns whether the job has
 /// ended.
-pub fn run_on(fabric: &Fabric, shift: &mut Shift, most: u32) -> bool
+pub fn run_on(fabric: &Fabric, shift: &mut DeskAtWork, most: u32) -> bool
     requires { IsDeskOf shift.old.desk fabric.now }
     ensures { IsDeskOf shift.new.desk fabric.now }
 {
     for _made in 0..most {
         match shift.desk.advance(fabric) {
             Progress::Idle => return true,
-            // A record that there is no memory for is missed by the audit.
+            // If there is no memory for the record, the audit finds it missing.
             Progress::Finished(record) => return shift.log.push(record).is_ok(),
             Progress::Moved | Progress::Refused { .. } | Progress::Preferred(_) => {}
         }
@@ -53,8 +53,8 @@ pub fn run_on(fabric: &Fabric, shift: &mut Shift, most: u32) -> bool
 }
 
 /// Brings the desk's job to its end. Each time that it has not ended within `patience` steps, the
-/// desk gives back what it holds, so that no desk waits for it, and lets other threads run.
-fn persist(fabric: &Fabric, shift: &mut Shift, patience: u32) -> bool
+/// desk gives back what it holds, so that no desk waits for it, and yields to other threads.
+fn persist(fabric: &Fabric, shift: &mut DeskAtWork, patience: u32) -> bool
     requires { IsDeskOf shift.old.desk fabric.now }
     ensures { IsDeskOf shift.new.desk fabric.now }
 {
@@ -68,7 +68,8 @@ fn persist(fabric: &Fabric, shift: &mut Shift, patience: u32) -> bool
     false
 }
 
-fn dial(fabric: &Fabric, shift: &mut Shift, most: u32)
+/// Has the desk dial, with at most `most` steps.
+fn dial(fabric: &Fabric, shift: &mut DeskAtWork, most: u32)
     requires { IsDeskOf shift.old.desk fabric.now }
     ensures { IsDeskOf shift.new.desk fabric.now }
 {
@@ -81,14 +82,14 @@ fn dial(fabric: &Fabric, shift: &mut Shift, most: u32)
     }
 }
 
-/// Does so many jobs, one after another to its end.
-fn do_jobs(fabric: &Fabric, shift: &mut Shift, jobs: u32, seed: u64)
+/// Does `jobs` jobs, one after another, each to its end.
+fn do_jobs(fabric: &Fabric, shift: &mut DeskAtWork, jobs: u32, seed: u64)
     requires { IsDeskOf shift.old.desk fabric.now }
     ensures { IsDeskOf shift.new.desk fabric.now }
 {
     let marker = shift.desk.marker();
     let mut numbers = Pcg32::new(seed, u64::from(marker));
-    // Each desk waits for a while of its own, lest two keep in step.
+    // Each desk has a patience of its own, so that no two keep in step.
     let patience = MOST_STEPS_ALONE + 7 * (marker % 64);
     for job_no in 0..jobs {
         let job = some_job(&mut numbers);
@@ -98,7 +99,7 @@ fn do_jobs(fabric: &Fabric, shift: &mut Shift, jobs: u32, seed: u64)
     }
 }
 
-fn work(fabric: &Fabric, desk: Desk, log: Vec<Record>, task: Task) -> Shift
+fn work(fabric: &Fabric, desk: Desk, log: Vec<Record>, task: Task) -> DeskAtWork
     requires { IsDeskOf desk fabric.now }
     ensures { IsDeskOf result.desk fabric.now }
 {
@@ -110,14 +111,14 @@ fn work(fabric: &Fabric, desk: Desk, log: Vec<Record>, task: Task) -> Shift
     shift
 }
 
-/// Each desk does the task, on a thread of its own.
+/// Has each desk do the task on its own thread.
 pub fn on_threads<R: Threads + Sync + Abort>(
     rt: &R,
     alloc: Global,
     fabric: &Fabric,
     desks: Vec<Desk>,
     task: Task,
-) -> Vec<Shift>
+) -> Vec<DeskAtWork>
     requires { AreDesksOf desks.items fabric.now }
     ensures desks { All (λ shift. IsDeskOf shift.desk fabric.now) result.items }
     ensures count { vec_len result ≡ vec_len desks }
@@ -125,7 +126,7 @@ pub fn on_threads<R: Threads + Sync + Abort>(
     let worked = map_vec(
         rt,
         desks,
-        &|desk: Desk| -> Shift
+        &|desk: Desk| -> DeskAtWork
             requires { IsDeskOf desk fabric.now }
             ensures { IsDeskOf result.desk fabric.entry.now }
         { work(fabric, desk, Vec::new(alloc), task) },

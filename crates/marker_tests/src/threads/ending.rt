@@ -4,7 +4,7 @@ ghost use Rattle.std.specs.Prelude.{◌≡◌, ◌+◌, All, vec_len};
 ghost use Rattle.xbar_fabric.specs.Views.{IsDeskOf};
 ghost use Rattle.marker_tests.specs.Shifts.{AreInOrder};
 
-use super::driving::Shift;
+use super::driving::DeskAtWork;
 use crate::fixtures::check_history;
 use std::alloc::Global;
 use std::process::Abort;
@@ -12,7 +12,7 @@ use xbar_fabric::{Desk, Fabric, shut_all};
 use xbar_office::Record;
 use xbar_plan::Plan;
 
-/// One more idle desk, at the place of its marker.
+/// Appends an idle desk, at the index of its marker.
 fn put_desk(rt: &impl Abort, _fabric: &Fabric, desks: &mut Vec<Desk>, desk: Desk)
     requires desks { AreInOrder desks.old.items _fabric.now }
     requires desk { IsDeskOf desk _fabric.now }
@@ -29,19 +29,19 @@ fn put_desk(rt: &impl Abort, _fabric: &Fabric, desks: &mut Vec<Desk>, desk: Desk
     }
 }
 
-/// The records of a desk are put with the others.
+/// Appends the records of a desk.
 fn put_records(rt: &impl Abort, log: &mut Vec<Record>, records: &mut Vec<Record>) {
     if records.append(log).is_err() {
         panic!(rt; "there is memory for records");
     }
 }
 
-/// The desks without their records, which it puts together.
+/// Takes desks apart from their records, which it appends to `records`.
 fn part(
     rt: &impl Abort,
     alloc: Global,
     fabric: &Fabric,
-    shifts: Vec<Shift>,
+    shifts: Vec<DeskAtWork>,
     records: &mut Vec<Record>,
 ) -> Vec<Desk>
     requires { All (λ shift. IsDeskOf shift.desk fabric.now) shifts.items }
@@ -56,14 +56,14 @@ fn part(
     desks
 }
 
-/// Desks that have ended their jobs are shut: their records are one legal history, and the words
-/// those of the office after it. Gives the records in the order of turns.
+/// Shuts desks that have ended their jobs, and checks that their records are one legal history and
+/// the words those of the office after it. Returns the records in turn order.
 pub fn check_end(
     rt: &impl Abort,
     alloc: Global,
     plan: &Plan,
     fabric: Fabric,
-    shifts: Vec<Shift>,
+    shifts: Vec<DeskAtWork>,
 ) -> Vec<Record>
     requires shifts { All (λ shift. IsDeskOf shift.desk fabric) shifts.items }
     requires count { vec_len shifts ≡ fabric.count }

@@ -1,4 +1,4 @@
-//! Many desks, each on a thread of its own, that do jobs on the same lines.
+//! Many desks, each on its own thread, that do jobs on the same lines.
 
 use super::driving::{Task, on_threads};
 use super::ending::check_end;
@@ -11,7 +11,7 @@ use xbar_fabric::Kind;
 use xbar_office::End;
 use xbar_plan::Plan;
 
-/// Numbers of desks and of the jobs that each does, which a generator with this seed chooses.
+/// The numbers of desks and of jobs per desk, and the seed of the generator that chooses the jobs.
 const RUNS: [(usize, u32, u64); 6] = [
     (8, 300, 1),
     (8, 300, 2),
@@ -21,7 +21,7 @@ const RUNS: [(usize, u32, u64); 6] = [
     (48, 40, 7),
 ];
 
-/// The desks end their jobs and are shut, and their records are one history.
+/// Has the desks do their jobs and shuts them, and checks that their records are one history.
 fn check_desks<R: Threads + Sync + Abort>(
     rt: &R,
     alloc: Global,

@@ -1,9 +1,9 @@
-//! Two desks, each on a thread of its own, that dial at once.
+//! Two desks, each on its own thread, that dial at once.
 
 ghost use Rattle.std.specs.Prelude.{◌≡◌, All, vec_len};
 ghost use Rattle.xbar_fabric.specs.Views.{IsDeskOf};
 
-use super::driving::{Shift, Task, on_threads, run_on};
+use super::driving::{DeskAtWork, Task, on_threads, run_on};
 use super::ending::check_end;
 use crate::fixtures::{example, open_fabric};
 use crate::offices::MOST_STEPS_ALONE;
@@ -15,8 +15,8 @@ use xbar_fabric::{Fabric, Given, Kind, meet};
 use xbar_office::End;
 use xbar_plan::Plan;
 
-/// The last desk at work.
-fn last_at_work(rt: &impl Abort, _fabric: &Fabric, shifts: &mut Vec<Shift>) -> Shift
+/// Takes the last desk at work.
+fn last_at_work(rt: &impl Abort, _fabric: &Fabric, shifts: &mut Vec<DeskAtWork>) -> DeskAtWork
     requires { All (λ shift. IsDeskOf shift.desk _fabric.now) shifts.old.items }
     ensures rest { All (λ shift. IsDeskOf shift.desk _fabric.now) shifts.new.items }
     ensures desk { IsDeskOf result.desk _fabric.now }
@@ -27,8 +27,8 @@ fn last_at_work(rt: &impl Abort, _fabric: &Fabric, shifts: &mut Vec<Shift>) -> S
     shift
 }
 
-/// A desk past its turn runs on to its end, any other gives back.
-fn end_or_give_back(fabric: &Fabric, shift: &mut Shift)
+/// Runs a desk past its turn on to the end of its job. Any other gives back.
+fn end_or_give_back(fabric: &Fabric, shift: &mut DeskAtWork)
     requires { IsDeskOf shift.old.desk fabric.now }
     ensures { IsDeskOf shift.new.desk fabric.now }
 {
@@ -37,8 +37,9 @@ fn end_or_give_back(fabric: &Fabric, shift: &mut Shift)
     }
 }
 
-/// What two threads left undone is ended: what is past its turn, and then each job alone. Then both meet.
-fn settle(rt: &impl Abort, fabric: &Fabric, zero: &mut Shift, one: &mut Shift)
+/// Ends what two threads left undone: the jobs past their turn, and then each job alone. Then both
+/// desks meet.
+fn settle(rt: &impl Abort, fabric: &Fabric, zero: &mut DeskAtWork, one: &mut DeskAtWork)
     requires zero { IsDeskOf zero.old.desk fabric.now }
     requires one { IsDeskOf one.old.desk fabric.now }
     ensures zero { IsDeskOf zero.new.desk fabric.now }
@@ -51,7 +52,14 @@ fn settle(rt: &impl Abort, fabric: &Fabric, zero: &mut Shift, one: &mut Shift)
     meet(fabric, &mut zero.desk, &mut one.desk);
 }
 
-fn both(rt: &impl Abort, alloc: Global, _fabric: &Fabric, zero: Shift, one: Shift) -> Vec<Shift>
+/// A list of both desks at work.
+fn both(
+    rt: &impl Abort,
+    alloc: Global,
+    _fabric: &Fabric,
+    zero: DeskAtWork,
+    one: DeskAtWork,
+) -> Vec<DeskAtWork>
     requires zero { IsDeskOf zero.desk _fabric.now }
     requires one { IsDeskOf one.desk _fabric.now }
     ensures desks { All (λ shift. IsDeskOf shift.desk _fabric.now) result.items }
@@ -63,8 +71,8 @@ fn both(rt: &impl Abort, alloc: Global, _fabric: &Fabric, zero: Shift, one: Shif
     shifts
 }
 
-/// Two threads make so many steps at most. Both lines have their registers in the end, by the records and
-/// by the words.
+/// Has two threads make at most `most` steps each, and ends their jobs. Then both lines have
+/// registers, by the records and by the words.
 fn check_two_dials<R: Threads + Sync + Abort>(rt: &R, alloc: Global, plan: &Plan, most: u32) {
     let (fabric, desks) = open_fabric(rt, alloc, plan, &[Kind::Combined; 2]);
     let mut shifts = on_threads(rt, alloc, &fabric, desks, Task::Dial(most));
@@ -84,7 +92,7 @@ fn two_threads_dial_at_once(rt: HostRuntime) {
     for _made in 0..200 {
         check_two_dials(&rt, rt.alloc(), &plan, 10_000);
     }
-    // What the threads leave undone after so many steps is ended.
+    // What the threads leave undone after `most` steps is ended.
     for most in 0..30 {
         check_two_dials(&rt, rt.alloc(), &plan, most);
     }

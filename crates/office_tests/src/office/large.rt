@@ -8,11 +8,12 @@ use xbar_equip::{Channel, Dialled, Len, Path, Ten};
 use xbar_office::{AuditFault, End, Job, Office, Record, Reply, audit};
 use xbar_plan::Plan;
 
-/// How many calls stand in the large office: more than there are junctors of one channel.
+/// The number of calls in the large office: more than there are junctors of one channel.
 const CALLS: u8 = 120;
 
-/// One register, and 120 trunks in three groups, which one code leads to. Trunk `i` has the last two
-/// digits of `i` as its frame and its switch, so the first hundred stand on a switch each.
+/// One register, and 120 trunks in three groups, to which one code leads. Trunk `i` has the last
+/// two digits of `i` as its frame and its switch, so each of the first hundred has a switch of its
+/// own.
 const MANY_TRUNKS: &str = "version = 1
 groups = [
   \"REG register 999\",
@@ -28,16 +29,16 @@ codes = [\"555 OUT0 OUT1 OUT2\"]
 faults = []
 ";
 
-/// The office does this job, which ends so, without a trouble card.
+/// Checks that the office does this job with this end and without a trouble card.
 fn check_job(rt: &impl Abort, office: &mut Office<'_>, job: Job, end: End) {
     let reply = office.whole(job).expect(rt, "there is memory for a job");
     check_eq!(rt; reply, Reply::plain(end));
 }
 
-/// Call `i` takes trunk `i`. Its line stands on the frame that has the number of the trunk's switch,
-/// and on the switch that has the number of the trunk's frame. So no two of the first hundred calls
-/// share a switch or the junctors between two frames, and channel 0 is idle for each; it is busy for
-/// each of the others.
+/// Makes one call. Call `i` takes trunk `i`. Its line is on the frame with the number of the
+/// trunk's switch, and on the switch with the number of the trunk's frame. So no two of the first
+/// hundred calls share a switch or the junctors between two frames, and channel 0 is idle for each
+/// of them. For the others it is busy.
 fn check_call(rt: &impl Abort, office: &mut Office<'_>, call: u8) {
     let (frame, switch, channel) = (call / 10 % 10, call % 10, call / 100);
     assert!(rt; frame < 10 && switch < 10 && channel < 10);
@@ -81,7 +82,7 @@ fn check_calls(rt: &impl Abort, alloc: Global, office: &mut Office<'_>) {
 /// The paths of two calls that are released.
 const RELEASED: &[(&str, &str, &str)] = &[("5400", "0", "450"), ("9101", "1", "191")];
 
-/// A line that has no call is released, and then two that have.
+/// Releases a line that has no call, and then two lines that have one.
 fn check_releases(rt: &impl Abort, office: &mut Office<'_>) {
     check_job(rt, office, Job::Release(Len::new(5, 4, 1)), End::NoCall);
     for (line, channel, place) in RELEASED {
@@ -103,11 +104,11 @@ fn a_hundred_and_twenty_calls_stand(rt: HostRuntime) {
     check_calls_and_releases(&rt, rt.alloc(), &mut Office::open(rt.alloc(), &plan));
 }
 
-/// How many records are audited.
+/// The number of records that are audited.
 const RECORDS: u64 = 100_500;
 
-/// The first job gets dial tone. After it the same line asks again and again, and is busy, in turn with
-/// a line that has no register.
+/// The first job gets dial tone. The later ones alternate: a line without a register tries to
+/// complete a call, and the first line asks for dial tone again and is busy.
 fn record_at(turn: u64) -> Record {
     let path = near_path();
     let (job, end) = match (turn, turn % 2) {
@@ -129,7 +130,7 @@ fn many_records(rt: &impl Abort, alloc: Global) -> Vec<Record> {
     records
 }
 
-/// In the example office the audit tells this fault, which prints so.
+/// Checks that the audit in the example office finds this fault, with this text.
 fn check_refused(
     rt: &impl Abort,
     alloc: Global,
@@ -142,7 +143,7 @@ fn check_refused(
     check_printed(rt, alloc, &wanted, text);
 }
 
-/// One reply more is another one, and is told, since it comes before those that are.
+/// Makes one more reply wrong, and checks that it is found, as the first of the wrong ones.
 fn check_other_reply(
     rt: &impl Abort,
     alloc: Global,
@@ -158,7 +159,7 @@ fn check_other_reply(
     check_refused(rt, alloc, records, AuditFault::Reply { turn }, text);
 }
 
-/// Each change of the records is told, and that of a turn before those of replies.
+/// Checks that each change of the records is found, and that of a turn before those of replies.
 fn check_changes(rt: &impl Abort, alloc: Global, records: &mut [Record]) {
     let text = "the reply of turn 100400 is another";
     check_other_reply(rt, alloc, records, 100_400, End::RegistersBusy, text);
@@ -172,7 +173,7 @@ fn check_changes(rt: &impl Abort, alloc: Global, records: &mut [Record]) {
     check_refused(rt, alloc, records, turns, text);
 }
 
-/// One dial tone job of the line in `near_path`, at a turn and with an end of which one is wrong.
+/// Audits one dial tone job of the line in `near_path`. Its turn or its end is wrong.
 fn check_one_record(
     rt: &impl Abort,
     alloc: Global,
@@ -197,7 +198,7 @@ fn check_single_records(rt: &impl Abort, alloc: Global) {
     check_one_record(rt, alloc, 0, End::LineBusy, reply, text);
 }
 
-/// How many paths legal records leave.
+/// The number of paths that legal records leave.
 fn count_left(rt: &impl Abort, alloc: Global, plan: &Plan, records: &[Record]) -> usize {
     let office = audit(alloc, plan, records).expect(rt, "the records are legal");
     office.paths().len()

@@ -1,4 +1,4 @@
-//! Where memory is refused. Each of these tests passes whichever allocation is refused.
+//! Refused memory. Each of these tests passes whichever allocation is refused.
 
 use crate::fixtures::{path_of, record};
 use std::alloc::Global;
@@ -26,8 +26,8 @@ fn connected(turn: u64, digits: Dialled, calling: Path, called: Path) -> Record 
     record(turn, job, end)
 }
 
-/// Three lines get all registers, and then two of them call inside the example office. The first job asks
-/// for memory, and the last, which has given its register back by then.
+/// Three lines get all registers, and then two of them call inside the example office. The first
+/// job needs memory, and so does the last, after it has released its register.
 fn records(rt: &impl Abort) -> [Record; 5] {
     let calling = path(rt, "3041", "0", "600");
     let called = path(rt, "3100", "1", "601");
@@ -42,13 +42,13 @@ fn records(rt: &impl Abort) -> [Record; 5] {
     ]
 }
 
-/// The first five paths of an office, in memory that nobody refuses.
+/// The first five paths of an office, without an allocation.
 fn first_paths(office: &Office<'_>) -> [Option<Path>; 5] {
     let paths = office.paths();
     [0usize, 1, 2, 3, 4].map(|place| paths.get(place).copied())
 }
 
-/// Does a job. Where memory is refused, the paths stay, and the job is done once more.
+/// Does a job. If memory is refused, checks that the paths are unchanged, and does the job again.
 fn whole(rt: &impl Abort, office: &mut Office<'_>, job: &Job) -> Reply {
     let before = first_paths(office);
     if let Ok(reply) = office.whole(*job) {

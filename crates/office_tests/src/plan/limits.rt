@@ -1,4 +1,4 @@
-//! Plans of the largest size, and one past it.
+//! Plans of the largest size, and plans with one item more.
 
 use crate::fixtures::read_plan;
 use std::alloc::{AllocError, Global};
@@ -8,7 +8,7 @@ use xbar_equip::{DirNo, Len};
 use xbar_plan::{Plan, PlanFault};
 use xbar_plan_text::PlanText;
 
-/// How many groups a plan has, members its group G1, numbers, codes and faults.
+/// The numbers of groups, of members of group G1, of numbers, of codes and of faults in a plan.
 type Sizes = [u32; 5];
 
 const LARGEST: Sizes = [16, 40, 3000, 64, 100];
@@ -24,7 +24,7 @@ const SIZES: &[(&str, Sizes, Option<PlanFault>)] = &[
     ("a fault more", [16, 40, 3000, 64, 101], LIMIT),
 ];
 
-/// A list of so many items, each a number of so many digits and the same behind it.
+/// Adds a list of `count` items, each its number in `digits` digits and then `behind`.
 fn add_list(
     text: &mut String,
     key: &str,
@@ -40,7 +40,7 @@ fn add_list(
     Ok(())
 }
 
-/// A register group with 999, a group G1 with 901 and members from 001 on, and groups of one member.
+/// Adds a register group at 999, group G1 at 901 and from 001 on, and groups of one member.
 fn add_groups(text: &mut String, groups: u32, members: u32) -> Result<(), AllocError> {
     text.push_str("groups = [\"REG register 999\", \"G1 outgoing 901")?;
     for member in 1..members {
@@ -69,7 +69,7 @@ fn text_of(rt: &impl Abort, alloc: Global, sizes: Sizes) -> String {
     sized(alloc, sizes).expect(rt, "there is memory for a text")
 }
 
-/// The fault of a text, if it is no plan.
+/// The fault of a text, if it isn't that of a plan.
 fn fault_of(alloc: Global, text: &str) -> Option<PlanFault> {
     Plan::read(alloc, text.as_bytes()).err()
 }
@@ -82,7 +82,7 @@ fn limits_are_the_last_that_are_taken(rt: HostRuntime) {
     }
 }
 
-/// There is just line 3041, or, where none is wanted, no line.
+/// Whether the lines are only 3041, or none if none is expected.
 fn are_wanted(lines: Option<&[Len]>, is_wanted: bool) -> bool {
     match lines {
         Some([line]) => is_wanted && *line == Len::new(3, 0, 21),
@@ -91,6 +91,7 @@ fn are_wanted(lines: Option<&[Len]>, is_wanted: bool) -> bool {
     }
 }
 
+/// Checks that the plan has a line for each number below 3,000, and for no other.
 fn check_three_thousand(rt: &impl Abort, plan: &Plan) {
     for number in 0..10_000 {
         let lines = plan.stations(DirNo::new(number));
@@ -98,21 +99,21 @@ fn check_three_thousand(rt: &impl Abort, plan: &Plan) {
     }
 }
 
-/// Each of 3,000 numbers is one of the plan that is read, and no other is.
+/// The plan that is read has each of the 3,000 numbers, and no other.
 #[test]
 fn three_thousand_numbers_are_read(rt: HostRuntime) {
     let text = text_of(&rt, rt.alloc(), [2, 2, 3000, 1, 0]);
     check_three_thousand(&rt, &read_plan(&rt, rt.alloc(), &text));
 }
 
-/// Codes of a plan of the largest size, each with the one that stands in its place.
+/// Items of the largest plan, each with the item that replaces it.
 const CODES_TWICE: &[(&str, &str)] = &[
     ("\"000 G1\"", "\"001 G1\""),
     ("\"063 G1\"", "\"000 G1\""),
     ("\"063 G1\"", "\"062 G1\""),
 ];
 
-/// A code that stands twice is told as that, wherever it stands.
+/// A duplicate code is reported, wherever it is.
 #[test]
 fn a_code_that_stands_twice_is_told(rt: HostRuntime) {
     let text = text_of(&rt, rt.alloc(), LARGEST);

@@ -1,11 +1,11 @@
-//! Where memory is refused. This test passes whichever allocation is refused.
+//! Refused memory. This test passes whichever allocation is refused.
 
 use super::tables::check_example;
 use test_tools::check_eq;
 use xbar_plan::{Plan, PlanFault};
 use xbar_plan_text::PlanText;
 
-/// The text of `Plan::example`, as the formats have it.
+/// The text of the example plan in docs/FORMATS.md.
 const EXAMPLE: &str = r#"version = 1
 groups = [
   "REG register 417 418 509",

@@ -1,4 +1,4 @@
-//! What plans answer, made of tables or read from texts.
+//! Lookups in plans that are made from tables or read from texts.
 
 use crate::fixtures::{example, read_plan};
 use std::alloc::Global;
@@ -8,7 +8,8 @@ use xbar_equip::{DirNo, EquipFault, Len, Link, Ten};
 use xbar_plan::{Group, GroupKind, Member, Plan, PlanFault, Route};
 use xbar_plan_text::PlanText;
 
-/// What a plan answers: the lines of numbers, the groups of codes, and whether links are out of order.
+/// What lookups in a plan return: the lines of numbers, the groups of codes, and which links are
+/// faulty.
 #[derive(Clone, Copy)]
 struct Answers {
     numbers: &'static [(u16, &'static [&'static str])],
@@ -43,7 +44,7 @@ fn check_answers(rt: &impl Abort, plan: &Plan, answers: &Answers) {
     }
 }
 
-/// The groups of the example plan, each with its number, its name, its kind and how many members it has.
+/// The groups of the example plan: the number, the name, the kind and how many members.
 const GROUPS: &[(u8, &str, GroupKind, usize)] = &[
     (0, "REG", GroupKind::Register, 3),
     (1, "INTRA", GroupKind::Intra, 2),
@@ -51,7 +52,7 @@ const GROUPS: &[(u8, &str, GroupKind, usize)] = &[
     (3, "OUTB", GroupKind::Outgoing, 2),
 ];
 
-/// Group `number` of the plan has this name and kind, and so many members.
+/// Whether group `number` of the plan has this name, this kind and this many members.
 fn has_group(plan: &Plan, number: u8, name: &str, kind: GroupKind, members: usize) -> bool {
     if number >= plan.group_count() {
         return false;
@@ -60,10 +61,10 @@ fn has_group(plan: &Plan, number: u8, name: &str, kind: GroupKind, members: usiz
     group.name() == name && group.kind() == kind && group.members().len() == members
 }
 
-/// The group of a member, its index there and its other place.
+/// The group of a member, its index there, and its other place, if it has one.
 type Found = Option<(u8, u8, Option<[u8; 3]>)>;
 
-/// All places of the example plan, and three at which nothing is.
+/// All places of the example plan, and three without a member.
 const MEMBERS: &[(&str, Found)] = &[
     ("417", Some((0, 0, None))),
     ("418", Some((0, 1, None))),
@@ -89,6 +90,7 @@ fn member_at(plan: &Plan, place: &str) -> Result<Found, EquipFault> {
     Ok(Some((member.group, member.index, other)))
 }
 
+/// What lookups in the example plan return.
 const EXAMPLE: Answers = Answers {
     numbers: &[
         (1, &["3041"]),
@@ -110,7 +112,7 @@ const EXAMPLE: Answers = Answers {
     links: &[("JU340", false)],
 };
 
-/// The plan is the example.
+/// Checks that the plan is the example plan.
 pub fn check_example(rt: &impl Abort, plan: &Plan) {
     check_eq!(rt; (plan.group_count(), plan.register_group()), (4, 0));
     for (number, name, kind, members) in GROUPS {
@@ -122,7 +124,7 @@ pub fn check_example(rt: &impl Abort, plan: &Plan) {
     check_answers(rt, plan, &EXAMPLE);
 }
 
-/// The text of `Plan::example`.
+/// The text of `Plan::example`, in version 2.
 const EXAMPLE_TEXT: &str = r#"codes = [
     "234 INTRA",
     "555 OUTA OUTB",
@@ -159,7 +161,7 @@ fn example_is_written_and_read_again(rt: HostRuntime) {
     check_example(&rt, &read_plan(&rt, rt.alloc(), EXAMPLE_TEXT));
 }
 
-/// A plan in which numbers have two lines, a code has a group twice, and links are out of order.
+/// A plan in which numbers have two lines, a code has a group twice, and links are faulty.
 const HUNTING: &str = r#"
 version = 2
 groups = ["REG register 417 418 509", "INTRA intra 600-601 700-711", "OUTA outgoing 800", "OUTB outgoing 801 902"]
@@ -168,6 +170,7 @@ codes = ["007 OUTB OUTA", "100 OUTA OUTA", "234 INTRA"]
 faults = ["JU340", "LL000", "TL999", "JU345"]
 "#;
 
+/// What lookups in `HUNTING` return.
 const HUNTED: Answers = Answers {
     numbers: &[
         (1, &["3041"]),
@@ -227,7 +230,7 @@ fn groups(rt: &impl Abort, alloc: Global, kinds: [GroupKind; 3]) -> Vec<Group> {
     Vec::from_array(alloc, groups).expect(rt, "there is memory")
 }
 
-/// The fault of a plan of these groups, in which this code leads to the last one, twice.
+/// The fault of a plan with groups of these kinds, in which this code leads to the last one twice.
 fn fault_of(rt: &impl Abort, alloc: Global, kinds: [GroupKind; 3], code: u16) -> Option<PlanFault> {
     let groups = groups(rt, alloc, kinds);
     let route = Route::new(code, vec![in alloc; 2, 2].expect(rt, "there is memory"));
@@ -243,7 +246,7 @@ const OUT: GroupKind = GroupKind::Outgoing;
 
 const MALFORMED: Option<PlanFault> = Some(PlanFault::Malformed);
 
-/// Lawful tables, and some that no text has.
+/// Lawful tables, and some that no text has, with their fault.
 const TABLES: &[(&str, [GroupKind; 3], u16, Option<PlanFault>)] = &[
     ("lawful", [REG, INTRA, OUT], 100, None),
     ("a pair of registers", [OUT, REG, OUT], 100, MALFORMED),

@@ -1,4 +1,4 @@
-//! The readers and writers of `test_tools` that tests put in place of a device.
+//! The readers and writers of `test_tools` that take the place of a device.
 
 use super::*;
 

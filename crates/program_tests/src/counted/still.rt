@@ -1,11 +1,11 @@
-//! A source or sink whose counts stand.
+//! A source or sink whose counts never change.
 
 ghost use Rattle.std.specs.Prelude.{◌-◌, ◌^◌};
 
 use super::*;
 use std::io;
 
-/// A source or sink whose counts stand: that of its failures at the most that it can be.
+/// A source or sink whose counts never change. That of its failures is at its maximum.
 #[derive(Drop)]
 struct Still<T> {
     inner: T,
@@ -72,11 +72,13 @@ impl<T: Write> Sink for Still<T> {
 
 const ALL_OF_IT: &[u8] = b"all of it\n";
 
+/// The fault of `read_all` if a read fails after `calls` others.
 fn read_fault(alloc: Global, calls: u32) -> Option<ReadFault> {
     let mut source = Still::new(FailAt::new(calls, ALL_OF_IT));
     read_all(alloc, &mut source).err()
 }
 
+/// The result of `write_all` if a write or the flush fails after `calls` other calls.
 fn written(alloc: Global, calls: u32) -> Result<(), WriteFault> {
     let mut sink = Still::new(FailAt::new(calls, Vec::new(alloc)));
     write_all(&mut sink, ALL_OF_IT)
@@ -99,7 +101,7 @@ fn reads_that_are_not_counted_are_never_too_many(rt: HostRuntime) -> Result<(), 
     Ok(())
 }
 
-/// How many reads there were already, and the fault of three more.
+/// The count of reads, and the fault of three more reads, if any.
 const READS_BEFORE: &[(u64, Option<ReadFault>)] = &[
     (u64::MAX, Some(ReadFault::Long)),
     (u64::MAX - 1, None),

@@ -1,9 +1,9 @@
-//! A writer that takes two bytes at a time, and once none.
+//! A writer that takes at most two bytes at a time, and once none.
 
 use super::*;
 use std::io;
 
-/// Takes at most two bytes at a write, and none at the write that follows so many.
+/// Takes at most two bytes at each write, and none at the one after `writes` others.
 #[derive(Drop)]
 struct Stuck {
     taken: Vec<u8>,
@@ -53,7 +53,7 @@ fn what_goes_out_bit_by_bit_is_flushed_once(rt: HostRuntime) -> Result<(), Fail>
     Ok(())
 }
 
-/// A write that takes none of some bytes is counted, but is no error of its own.
+/// A write that takes none of some bytes is counted as a failure, but returns no error.
 #[test]
 fn a_write_that_takes_nothing_is_handed_on(rt: HostRuntime) -> Result<(), Fail> {
     let mut sink = Counted::new(Stuck::new(rt.alloc(), 0));

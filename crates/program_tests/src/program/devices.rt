@@ -7,7 +7,7 @@ use std::process::Abort;
 use std::test::Fail;
 use test_tools::{Call, Endless, Recorder, check, check_eq};
 
-/// Words, with an input that they take.
+/// Command lines, each with an input.
 const TASKS: &[(&str, &str)] = &[
     ("replay", FIRST),
     ("walk", "J,0,7,R,3041\nS,0,9,,\n"),
@@ -23,14 +23,14 @@ const TASKS: &[(&str, &str)] = &[
         "replay",
         "J,0,1,D,3041\nS,0,96,,\nJ,0,2,C,3041 2340004\nS,0,96,,\n",
     ),
-    // These lack a line.
+    // These inputs are refused.
     ("replay", "PATHS,0\n"),
     ("walk", "PATHS,0\n"),
     ("live", "PATHS,0\n"),
     ("audit", "PATHS,0\n"),
 ];
 
-/// The same with a plan in a file.
+/// The same, with a plan in a file.
 const PLANNED: &[(&str, &str)] = &[
     ("replay --plan town.toml", FIRST),
     (
@@ -39,7 +39,7 @@ const PLANNED: &[(&str, &str)] = &[
     ),
 ];
 
-/// Words whose input is no text of records, so nothing is drawn.
+/// Command lines whose input isn't a text of records, so nothing is drawn.
 const UNDRAWN: &[(&str, &str)] = &[("draw", "PATHS,0\n"), ("page", "PATHS,0\n")];
 
 const UNREADABLE: &str = "FAULT,DEVICE\ncrossbar5: cannot read standard input\n";
@@ -48,7 +48,7 @@ const UNWRITABLE: &str = "FAULT,DEVICE\ncrossbar5: cannot write standard output\
 
 const TOO_LONG: &str = "FAULT,LONG\ncrossbar5: standard input is too long\n";
 
-/// One read gives bytes, and the next finds the end. Each of the two fails.
+/// One read returns bytes, and the next finds the end. Each of the two fails in one run.
 fn check_unreadable<T: Threads + Wait + Sync + Abort>(
     rt: &T,
     alloc: Global,
@@ -72,9 +72,10 @@ fn a_failed_read_leaves_nothing_written(rt: HostRuntime) -> Result<(), Fail> {
     Ok(())
 }
 
-/// Words without an input, and a call of the output that fails: a write or the flush. Help is not flushed.
+/// Command lines that need no input, and how many calls of the output pass before one fails.
 const TOLD: &[(&str, u32)] = &[("--help", 0), ("--version", 0), ("--version", 1)];
 
+/// Checks a run in which the output fails the call after `calls` others.
 fn check_unwritable<T: Threads + Wait + Sync + Abort>(
     rt: &T,
     alloc: Global,
@@ -85,7 +86,7 @@ fn check_unwritable<T: Threads + Wait + Sync + Abort>(
     let mut streams = Streams::new(alloc, input, Fails::Output(calls));
     let exit = streams.run(rt, alloc, &FAULTY, line)?;
     check_eq!(rt; (exit.status(), streams.said()), (6, UNWRITABLE), line);
-    check_eq!(rt; (streams.output.failures(), exit.is_told), (1, true), line);
+    check_eq!(rt; (streams.output.failures(), exit.is_printed), (1, true), line);
     Ok(())
 }
 
@@ -102,7 +103,7 @@ fn a_failed_write_or_flush_is_told(rt: HostRuntime) -> Result<(), Fail> {
     Ok(())
 }
 
-/// Words that something is said of, with their status.
+/// Command lines that write on standard error, with their status.
 const SAID: &[(&str, u8)] = &[
     ("call", 2),
     ("live --dial 0", 2),
@@ -116,20 +117,20 @@ fn a_failed_message_changes_no_status(rt: HostRuntime) -> Result<(), Fail> {
     for (line, status) in SAID {
         let mut streams = Streams::new(rt.alloc(), "", Fails::Errors(0));
         let exit = streams.run(&rt, rt.alloc(), &RealFiles { rt: &rt }, line)?;
-        check_eq!(rt; (exit.status(), exit.is_told), (*status, false), line);
-        check!(rt; exit.ending != Ending::Told, line);
+        check_eq!(rt; (exit.status(), exit.is_printed), (*status, false), line);
+        check!(rt; exit.ending != Ending::Printed, line);
     }
     Ok(())
 }
 
-/// The first call of a stream fails, and so many failures are counted of each.
+/// The stream whose first call fails, and the number of failures of each stream.
 const EARLIER: &[(Fails, [u64; 3])] = &[
     (Fails::Input(0), [1, 0, 0]),
     (Fails::Output(0), [0, 1, 0]),
     (Fails::Errors(0), [0, 0, 1]),
 ];
 
-/// What failed at a stream before a run is no failure of the run.
+/// A failure of a stream before the run isn't a failure of the run.
 #[test]
 fn an_earlier_failure_is_none_of_the_run(rt: HostRuntime) -> Result<(), Fail> {
     for (fails, wanted) in EARLIER {

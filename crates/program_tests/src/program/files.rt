@@ -1,11 +1,11 @@
-//! Plans in real files, with the system's reason where one can't be read. What is no file can be opened,
-//! but not read. One empty word is here too, which no row can have.
+//! Plans in real files, with the system's reason if one can't be read. A folder can be opened, but
+//! not read. One empty word is here too, which no row can have.
 
 use super::*;
 use std::test::Fail;
 use test_tools::check_eq;
 
-/// Words, with the status and what is on standard error.
+/// Command lines, with the status and what is written on standard error.
 const LINES: &[(&str, u8, &str)] = &[
     (
         "replay --plan missing.toml",

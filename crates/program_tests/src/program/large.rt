@@ -1,4 +1,4 @@
-//! A replay that is large, and a text of many records.
+//! A large replay, and a text of many records.
 
 use super::*;
 use crossbar5::{Look, Status, Task, answer_task, run_replay};
@@ -8,7 +8,8 @@ use xbar_core::Kind;
 
 const CALLS: u32 = 120;
 
-/// A plan with forty registers on frame 0, and trunks for code 555 on frames 1 to 4, four on each switch.
+/// A plan with forty registers on frame 0, and trunks for code 555 on frames 1 to 4, four on each
+/// switch.
 const WIDE_PLAN: &str = "version = 1
 groups = [
   \"REG register 000 001 002 003 004 005 006 007 008 009 010 011 012 013 014 015 016 017 018 019 \
@@ -27,7 +28,7 @@ codes = [\"555 OUT1 OUT2 OUT3 OUT4\"]
 faults = []
 ";
 
-/// Calls to other offices, each of a line of its own, one after another.
+/// Calls to other offices, each from a line of its own, one after another.
 fn calls(alloc: Global) -> Result<String, AllocError> {
     let mut traffic = String::new(alloc);
     for call in 0..CALLS {
@@ -62,7 +63,7 @@ fn more_than_a_hundred_paths(rt: HostRuntime) -> Result<(), Fail> {
     Ok(())
 }
 
-/// More records than an office has registers, in more bytes than one read gives.
+/// More records than an office has registers, in more bytes than one read returns.
 const RECORDS: u32 = 150;
 
 /// Releases that find no call, so that no path is ever up.
@@ -74,7 +75,8 @@ fn records(alloc: Global) -> Result<String, AllocError> {
     Ok(text)
 }
 
-/// A task on these records, the end of what it comes to, and how many of the records that shows.
+/// A task on these records, the end of its output, and the number of records that the output
+/// shows.
 const OF_MANY_RECORDS: &[(Task<'static>, &str, usize)] = &[
     (Task::Audit, "AUDIT,LEGAL,150\nPATHS,0\nCLOSED,0\n", 0),
     (Task::Draw { look: Look::Text }, "No path is up.\n", 0),

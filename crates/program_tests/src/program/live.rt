@@ -1,4 +1,4 @@
-//! Calls that compete: whoever comes first, what comes of them is right.
+//! Calls that compete: the outcome is right, whichever comes first.
 
 use super::*;
 use crossbar5::{EngineFault, Status};
@@ -11,7 +11,7 @@ const THREE: &str = "C,1,3041,5551234,K\nC,2,1000,5551234,K\nC,3,2000,5551234,K\
 const FOUR: &str =
     "C,1,3041,5551234,K\nC,2,1000,5551234,K\nC,3,2000,5551234,K\nC,4,3052,5551234,K\n";
 
-/// Calls, with the fewest and the most lines that they come to.
+/// Calls, with the fewest and the most lines of their output.
 const COMPETING: &[(&str, usize, usize)] = &[(THREE, 8, 8), (FOUR, 9, 10)];
 
 #[test]
@@ -45,7 +45,7 @@ fn sixty_calls(alloc: Global) -> Result<String, AllocError> {
     Ok(calls)
 }
 
-/// What is written of calls, by so many markers of each kind.
+/// Does calls with `of_each` markers of each kind. Returns the status and the output.
 fn done<T: Threads + Wait + Sync>(
     threads: &T,
     alloc: Global,

@@ -1,5 +1,5 @@
-//! Where an allocation is refused: whichever it is, the program says so with nothing written, or comes to
-//! what it comes to.
+//! Refused memory: whichever allocation is refused, the program says so and writes nothing, or
+//! does what it does otherwise.
 
 use super::*;
 use crossbar5::EngineFault;
@@ -12,7 +12,7 @@ const REFUSED: PlanText = PlanText {
     text: "version = 3\n",
 };
 
-/// Words and an input, with the output that they come to.
+/// A command line and its input, with the output.
 const DONE: &[(&str, &str, &str)] = &[
     ("replay", FIRST, FIRST_TEXT),
     (
@@ -37,9 +37,10 @@ const DONE: &[(&str, &str, &str)] = &[
     ("--version", "", "crossbar5 0.1.0\na kit\n"),
 ];
 
-/// Words and an input, with the output, the messages and the status that they come to.
+/// A command line and its input, with the output, the messages and the status.
 type Wanted = (&'static str, &'static str, &'static str, &'static str, u8);
 
+/// Command lines that are refused, or whose input is wrong.
 const TOLD: &[Wanted] = &[
     (
         "audit",
@@ -66,6 +67,7 @@ For more information, try '--help'.\n",
     ),
 ];
 
+/// Command lines with the plan `REFUSED`.
 const TOLD_OF_A_REFUSED_PLAN: &[Wanted] = &[
     (
         "replay --plan town.toml",
@@ -121,8 +123,9 @@ JU340: channel 0, from line link frame 3 to trunk link frame 4
 '------------------------------------------------'
 ";
 
-/// The words come to this, with this plan in each file, or memory is refused and nothing is written. The
-/// streams grow too: where one can't, only a part goes out. A sentence may be missing.
+/// Checks that a run with this plan in each file ends as expected, or that memory is refused and
+/// nothing is written. The streams grow too: if one can't, only a part is written. A sentence may
+/// be missing.
 fn comes_to_it_or_memory<T: Threads + Wait + Sync + Abort>(
     rt: &T,
     alloc: Global,
@@ -145,13 +148,13 @@ fn comes_to_it_or_memory<T: Threads + Wait + Sync + Abort>(
     }
 }
 
-/// A text whose beginning or end alone may have gone out.
+/// Whether `part` is the beginning or the end of a text.
 fn is_part(part: &str, text: &str) -> bool {
     text.starts_with(part) || text.ends_with(part)
 }
 
-/// Words whose long texts are compared with those of a second run.
-const TOLD_AT_LENGTH: &[&str] = &[
+/// Command lines whose long texts are compared with those of a second run.
+const LONG_TEXTS: &[&str] = &[
     "help",
     "help replay",
     "help walk",
@@ -163,7 +166,7 @@ const TOLD_AT_LENGTH: &[&str] = &[
     "--text",
 ];
 
-/// Two runs of the words write the same, or in one of them memory is refused, and it writes a part of it.
+/// Checks that two runs write the same, or that one is refused memory and writes a part of it.
 fn comes_to_the_same_or_memory<T: Threads + Wait + Sync + Abort>(
     rt: &T,
     alloc: Global,
@@ -189,7 +192,7 @@ fn comes_to_the_same_or_memory<T: Threads + Wait + Sync + Abort>(
 
 #[test]
 fn refused_memory_changes_no_long_text(rt: HostRuntime) {
-    for line in TOLD_AT_LENGTH {
+    for line in LONG_TEXTS {
         comes_to_the_same_or_memory(&rt, rt.alloc(), line);
     }
 }

@@ -5,8 +5,8 @@ use super::table::{add_fields, add_switches, add_values, add_words};
 use std::alloc::AllocError;
 use xbar_equip::Path;
 
-/// Adds the picture of a path for a terminal, in eight lines; `member` names what the path comes
-/// to, as `register REG 0`. Where memory runs out, a part of it may have been added.
+/// Adds the picture of a path for a terminal, in eight lines. `member` names what the path leads
+/// to, as in `register REG 0`. If memory runs out, a part of the picture may have been added.
 #[tactic(auto, unfolding(crate::specs::PathLines::path_lines))]
 pub fn add_path_lines(text: &mut String, path: &Path, member: &str) -> Result<(), AllocError>
     ensures { OnOk result (string_bytes text.new ≡ string_bytes text.old ++

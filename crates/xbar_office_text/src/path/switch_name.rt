@@ -3,7 +3,7 @@ ghost use Rattle.xbar_office_text.specs.PathLines.{switch_text};
 
 use std::fmt;
 
-/// A switch, by its frame and its own number.
+/// A switch, by its frame and its number on the frame.
 #[derive(Clone, Copy)]
 pub struct SwitchName(pub u8, pub u8);
 

@@ -43,7 +43,7 @@ pub fn add_words(text: &mut String, path: &Path) -> Result<(), AllocError>
     )
 }
 
-/// Adds the row of their fields.
+/// Adds the row of the fields of the path's crosspoints.
 pub fn add_fields(text: &mut String, path: &Path) -> Result<(), AllocError>
     ensures { OnOk result (string_bytes text.new ≡ string_bytes text.old ++ fields_line path.now) }
 {
@@ -58,7 +58,7 @@ pub fn add_fields(text: &mut String, path: &Path) -> Result<(), AllocError>
     )
 }
 
-/// Adds the row of what the fields hold.
+/// Adds the row of the values that these fields hold.
 pub fn add_values(text: &mut String, path: &Path) -> Result<(), AllocError>
     ensures { OnOk result (string_bytes text.new ≡ string_bytes text.old ++ values_line path.now) }
 {
@@ -73,6 +73,7 @@ pub fn add_values(text: &mut String, path: &Path) -> Result<(), AllocError>
     )
 }
 
+/// Adds a row of four numbers, one under each switch.
 #[tactic(auto, unfolding(crate::specs::PathLines::numbers_line))]
 fn add_numbers(
     text: &mut String,

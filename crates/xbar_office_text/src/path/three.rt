@@ -3,7 +3,7 @@ ghost use Rattle.xbar_office_text.specs.PathLines.{in_three};
 
 use std::fmt;
 
-/// A number at the right of three places.
+/// A number, right-aligned in three columns.
 #[derive(Clone, Copy)]
 pub struct InThree(pub u16);
 

@@ -9,7 +9,7 @@ use crate::numbers::{link_number, unmarked};
 use std::alloc::{AllocError, Global};
 use xbar_equip::Link;
 
-/// For each link by its number, whether it is listed.
+/// For each link, by its number, whether it is listed.
 pub fn marked_links(alloc: Global, faults: &[Link]) -> Result<Vec<bool>, AllocError>
     ensures { IfOk result (λ marks. (link : TheLink) → IsLink link →
         slice_get marks.items (number_of_link link) ≡

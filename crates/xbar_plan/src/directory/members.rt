@@ -1,4 +1,4 @@
-//! Which member stands at each place.
+//! The member at each trunk place.
 
 ghost use Rattle.std.specs.Prelude.{◌≡◌, ◌≤◌, if◌then◌else◌, ℕ, [], Some, None, IfOk, length, slice_get};
 ghost use Rattle.xbar_equip.specs.Ten.{TrunkPlace, IsTrunkPlace, place_eq};
@@ -12,7 +12,7 @@ use crate::numbers::place_number;
 use std::alloc::{AllocError, Global};
 use xbar_equip::Ten;
 
-/// Puts a member at a place, unless one stands there.
+/// Enters a member at a place, unless one is entered there already.
 fn with_place(
     mut members: Vec<Option<MemberPlace>>,
     place: Ten,
@@ -30,6 +30,7 @@ fn with_place(
     members
 }
 
+/// Enters a member at each of its places, unless one is entered there already.
 fn with_member(
     members: Vec<Option<MemberPlace>>,
     group: u8,
@@ -56,6 +57,7 @@ fn with_member(
     with_place(members, second, called)
 }
 
+/// Enters the members of a group in order.
 fn with_members(
     mut members: Vec<Option<MemberPlace>>,
     group: u8,
@@ -71,7 +73,7 @@ fn with_members(
     members
 }
 
-/// For each place by its number, the first member that stands there.
+/// For each place, by its number, the first member there.
 pub fn placed_members(
     alloc: Global,
     groups: &[Group],

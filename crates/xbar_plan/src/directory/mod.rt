@@ -1,4 +1,4 @@
-//! What a plan is looked up in, so that no look-up goes through a list.
+//! The tables for looking up a plan, so that no look-up searches a list.
 
 mod faults;
 mod members;
@@ -15,8 +15,9 @@ use std::alloc::{AllocError, Global};
 use std::marker::Model;
 use xbar_equip::{DirNo, Link, Ten};
 
-/// Where the stations, routes and members of a plan are, by their numbers, and which links are out
-/// of order.
+/// Look-up tables, each indexed by number: the index of the station of each directory number and
+/// of the route of each code, the member at each trunk place, and whether each link is out of
+/// order.
 #[derive(Debug, Drop)]
 pub struct Directory {
     stations: Vec<Option<u16>>,
@@ -61,7 +62,7 @@ impl Directory {
         })
     }
 
-    /// Where the first station of this number stands.
+    /// The index of the first station with this number.
     pub fn station_of(&self, number: DirNo) -> Option<u16>
         requires { number < length self.now.stations }
         ensures { slice_get self.now.stations number ≡ Some result }
@@ -69,7 +70,7 @@ impl Directory {
         self.stations[usize::from(number.number())]
     }
 
-    /// Where the first route of this code stands.
+    /// The index of the first route with this code.
     pub fn route_of(&self, code: u16) -> Option<u16>
         requires { code < length self.now.routes }
         ensures { slice_get self.now.routes code ≡ Some result }
@@ -77,7 +78,7 @@ impl Directory {
         self.routes[usize::from(code)]
     }
 
-    /// Which member stands first at the place.
+    /// The first member at the place.
     pub fn member_at(&self, place: Ten) -> Option<MemberPlace>
         requires { number_of_place place < length self.now.members }
         ensures { slice_get self.now.members (number_of_place place) ≡ Some result }

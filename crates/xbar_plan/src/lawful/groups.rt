@@ -1,4 +1,4 @@
-//! What is asked of groups by their names and kinds.
+//! Checks of the names and kinds of groups.
 
 ghost use Rattle.std.specs.Prelude.{◌≡◌, bytes_eq};
 ghost use Rattle.std.specs.List.{list_any};
@@ -12,6 +12,7 @@ fn has_name(groups: &[Group], name: &str) -> bool
     groups.iter().any(|group| group.name() == name)
 }
 
+/// Whether no two groups have the same name.
 #[tactic(auto, using(crate::proofs::Lists::list_any_map))]
 pub fn are_names_distinct(groups: &[Group]) -> bool
     ensures { result ≡ are_names_apart groups.now }

@@ -1,4 +1,4 @@
-//! How many groups, numbers, codes and faults there may be.
+//! Checks of the numbers of groups, directory numbers, codes and faults.
 
 ghost use Rattle.std.specs.Prelude.{◌≡◌, length};
 ghost use Rattle.std.specs.List.{list_all};
@@ -11,6 +11,7 @@ use crate::route::Route;
 use crate::station::Station;
 use crate::table_slices::TableSlices;
 
+/// Whether each group has 1 to 40 members.
 fn have_members(groups: &[Group]) -> bool
     ensures { result ≡ list_all (λ group. lies_between 1 40 (length group.members)) groups.now }
 {
@@ -25,6 +26,7 @@ fn are_groups_within_limits(groups: &[Group]) -> bool
     groups.len() <= 16 && have_members(groups)
 }
 
+/// Whether each directory number has 1 to 10 lines.
 fn have_lines(stations: &[Station]) -> bool
     ensures { result ≡ list_all (λ station. lies_between 1 10 (length station.lines)) stations.now }
 {
@@ -39,6 +41,7 @@ fn are_stations_within_limits(stations: &[Station]) -> bool
     stations.len() <= 3000 && have_lines(stations)
 }
 
+/// Whether each code has 1 to 4 groups.
 fn have_groups(routes: &[Route]) -> bool
     ensures { result ≡ list_all (λ route. lies_between 1 4 (length route.groups)) routes.now }
 {

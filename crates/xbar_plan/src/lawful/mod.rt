@@ -1,4 +1,4 @@
-//! The tests that every plan's tables pass, in the order in which a fault is looked for.
+//! The checks that every plan's tables pass, in the order in which faults are looked for.
 
 mod distinct;
 mod forms;
@@ -16,7 +16,7 @@ use crate::table_slices::TableSlices;
 pub use forms::{is_between, is_name};
 use std::alloc::{AllocError, Global};
 
-/// The least fault that tables have, if they have one.
+/// The first fault of the tables, if they have one.
 #[tactic(auto, unfolding(crate::specs::Lawful::fault_in))]
 pub fn fault_in(alloc: Global, tables: &TableSlices) -> Result<Option<PlanFault>, AllocError>
     ensures { IfOk result (λ fault. fault ≡ fault_of_tables (tables_of tables.now)) }

@@ -1,4 +1,4 @@
-//! What is asked of the trunk places of members.
+//! Checks of the members' trunk places.
 
 ghost use Rattle.std.specs.Prelude.{◌≡◌, ◌++◌, IfOk, OnOk, map};
 ghost use Rattle.std.specs.List.{list_all};
@@ -11,6 +11,7 @@ use crate::numbers::place_number;
 use std::alloc::{AllocError, Global};
 use xbar_equip::Ten;
 
+/// Appends the places of a group's members.
 fn push_places(places: &mut Vec<Ten>, group: &Group) -> Result<(), AllocError>
     ensures { OnOk result (places.new.items ≡ places.old.items ++ group_places group.now) }
 {
@@ -43,16 +44,18 @@ fn numbers_of(alloc: Global, places: &[Ten]) -> Result<Vec<u16>, AllocError>
         .collect(alloc)
 }
 
+/// Whether no trunk place occurs twice.
 pub fn are_places_distinct(alloc: Global, groups: &[Group]) -> Result<bool, AllocError>
     ensures { IfOk result (λ distinct. distinct ≡ are_places_apart groups.now) }
 {
     let places = places_of(alloc, groups)?;
-    // Called for its clauses alone.
+    // Called only for its contract.
     xbar_equip::laws::places_are_in_range(&places);
     let numbers = numbers_of(alloc, &places)?;
     are_numbers_distinct(alloc, &numbers)
 }
 
+/// Whether the places of a member are on one trunk link frame.
 fn is_on_one_frame(member: Member) -> bool
     ensures { result ≡ stands_on_one_frame member }
 {
@@ -62,6 +65,7 @@ fn is_on_one_frame(member: Member) -> bool
     }
 }
 
+/// Whether the places of each member are on one trunk link frame.
 fn is_each_on_one_frame(group: &Group) -> bool
     ensures { result ≡ list_all stands_on_one_frame group.now.members }
 {

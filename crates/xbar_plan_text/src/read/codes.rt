@@ -1,4 +1,4 @@
-//! Codes from their texts, and the groups that their names stand for.
+//! Reads the items of `codes`, and finds the groups that they name.
 
 ghost use Rattle.std.specs.Prelude.{◌≡◌, ◌∷◌, IfOk, map, position, string_bytes, bytes_eq};
 ghost use Rattle.xbar_plan_text.specs.Texts.{IsReadAs, read_all, name_of, code_entry_of_parts, code_entry_of, capped_number, capped_route};
@@ -25,6 +25,7 @@ impl Model for CodeEntry {
     ghost view = { λ a. record { code = a.code; names = map string_bytes a.names.items } };
 }
 
+/// Reads each part as a group's name.
 fn read_names(alloc: Global, parts: &[&[u8]]) -> Result<Vec<String>, PlanFault>
     ensures { IsReadAs (λ names. map string_bytes names.items)
         (read_all (λ part. name_of part.now) parts.now) result }
@@ -37,6 +38,7 @@ fn read_names(alloc: Global, parts: &[&[u8]]) -> Result<Vec<String>, PlanFault>
     Ok(names)
 }
 
+/// Reads a code and group names from their parts.
 fn read_coded(alloc: Global, code: &[u8], names: &[&[u8]]) -> Result<CodeEntry, PlanFault>
     ensures { IsReadAs (λ entry. entry) (code_entry_of_parts
         (code.now ∷ map (λ part. part.now) names.now)) result }
@@ -48,6 +50,7 @@ fn read_coded(alloc: Global, code: &[u8], names: &[&[u8]]) -> Result<CodeEntry, 
     Ok(CodeEntry { code, names })
 }
 
+/// Reads a code and group names from the parts of a text.
 fn read_entry_parts(alloc: Global, parts: &[&[u8]]) -> Result<CodeEntry, PlanFault>
     ensures { IsReadAs (λ entry. entry) (code_entry_of_parts
         (map (λ part. part.now) parts.now)) result }
@@ -58,7 +61,7 @@ fn read_entry_parts(alloc: Global, parts: &[&[u8]]) -> Result<CodeEntry, PlanFau
     }
 }
 
-/// The code of an item of `codes`, with its names, be they groups' or not.
+/// Reads an item of `codes`: a code and names, whether groups have these names or not.
 pub fn read_entry(alloc: Global, text: &[u8]) -> Result<CodeEntry, PlanFault>
     ensures { IsReadAs (λ entry. entry) (code_entry_of text.now) result }
 {
@@ -78,13 +81,15 @@ pub fn read_entries(alloc: Global, texts: &[&[u8]]) -> Result<Vec<CodeEntry>, Pl
     Ok(entries)
 }
 
+/// The index of the first group with this name.
 fn position_of(groups: &[Group], name: &str) -> Option<usize>
     ensures { result ≡ position (λ group. bytes_eq group.name name.now) groups.now }
 {
     groups.iter().position(|group| group.name() == name)
 }
 
-/// No plan has 255 groups, so the highest number may stand for any above it.
+/// The number of the first group with this name, or the number of groups if none has it. It is at
+/// most 255, since no plan has that many groups.
 fn number_of(groups: &[Group], name: &str) -> u8
     ensures { result ≡ capped_number groups.now name.now }
 {
@@ -92,6 +97,7 @@ fn number_of(groups: &[Group], name: &str) -> u8
     if number < 255 { number as u8 } else { 255 }
 }
 
+/// The number of the group with each name.
 fn numbers_of(alloc: Global, groups: &[Group], names: &[String]) -> Result<Vec<u8>, AllocError>
     ensures { IfOk result (λ numbers. numbers.items ≡
         map (λ name. capped_number groups.now (string_bytes name)) names.now) }
@@ -103,6 +109,7 @@ fn numbers_of(alloc: Global, groups: &[Group], names: &[String]) -> Result<Vec<u
     Ok(numbers)
 }
 
+/// The route of an entry, with groups by number.
 fn route_of(alloc: Global, groups: &[Group], entry: &CodeEntry) -> Result<Route, AllocError>
     ensures { IfOk result (λ route. route ≡ capped_route groups.now entry.now) }
 {
@@ -110,7 +117,7 @@ fn route_of(alloc: Global, groups: &[Group], entry: &CodeEntry) -> Result<Route,
     Ok(Route::new(entry.code, numbers))
 }
 
-/// The routes of codes, each with the numbers of its groups.
+/// The routes of entries, with groups by number.
 pub fn routes_of(
     alloc: Global,
     groups: &[Group],

@@ -1,4 +1,4 @@
-//! The values and the texts of a document.
+//! The values of a document, and the strings in them.
 
 ghost use Rattle.std.specs.Prelude.{◌≡◌, option_map, map, codes};
 ghost use Rattle.toml.specs.Data.{get_member};
@@ -11,7 +11,7 @@ use std::alloc::Global;
 use toml::{Table, Value};
 use xbar_plan::PlanFault;
 
-/// The document that bytes are.
+/// Parses bytes as a TOML document.
 #[tactic(auto, unfolding(crate::specs::Document::document_of))]
 pub fn parse(alloc: Global, bytes: &[u8]) -> Result<Table, PlanFault>
     ensures { IsStage PlanFault.NotToml table_view (document_of bytes.now) result }
@@ -35,7 +35,7 @@ fn value_at<'d>(document: &'d Table, key: &str) -> Option<&'d Value>
     document.get(key)
 }
 
-/// The version that a document says it has.
+/// The version that a document states, if it is a valid one.
 pub fn version_of(document: &Table) -> Option<Version>
     ensures { result ≡ version_of_document (table_view document.now) }
 {
@@ -56,6 +56,7 @@ pub struct Values<'d> {
     pub faults: &'d Value,
 }
 
+/// The values at these four keys, if each is there.
 pub fn values_of(document: &Table) -> Option<Values<'_>>
     ensures { option_map (λ values. record {
       groups = view values.groups.now;
@@ -76,6 +77,7 @@ pub fn values_of(document: &Table) -> Option<Values<'_>>
     })
 }
 
+/// The strings of an array's items, or `NotTexts` if an item is not a string.
 #[tactic(auto, using(crate::proofs::ReadAll::read_whole))]
 fn texts_of_array(alloc: Global, items: &[Value]) -> Result<Vec<&[u8]>, PlanFault>
     ensures { IsStage PlanFault.NotTexts (λ texts. map (λ text. text.now) texts.items)
@@ -91,7 +93,7 @@ fn texts_of_array(alloc: Global, items: &[Value]) -> Result<Vec<&[u8]>, PlanFaul
     Ok(texts)
 }
 
-/// The texts of a value, if it is an array of texts.
+/// The strings of a value, or `NotTexts` if it is not an array of strings.
 pub fn texts_of(alloc: Global, value: &Value) -> Result<Vec<&[u8]>, PlanFault>
     ensures { IsStage PlanFault.NotTexts (λ texts. map (λ text. text.now) texts.items)
         (texts_of_value (view value.now)) result }

@@ -1,4 +1,4 @@
-//! Links that are out of order, from their texts.
+//! Reads the items of `faults`.
 
 ghost use Rattle.xbar_plan_text.specs.Texts.{IsReadAs, read_all, fault_of};
 

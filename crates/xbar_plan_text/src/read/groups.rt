@@ -1,4 +1,4 @@
-//! Groups from their texts.
+//! Reads the items of `groups`.
 
 ghost use Rattle.std.specs.Prelude.{◌≡◌, ◌∷◌, map, string_bytes};
 ghost use Rattle.xbar_plan.specs.declared.group.GroupKind.TheVariants as GroupKind;
@@ -9,6 +9,7 @@ use std::alloc::Global;
 use std::str;
 use xbar_plan::{Group, GroupKind, Member, PlanFault, is_name};
 
+/// Parses the two places of an intra member, with a hyphen between them.
 fn read_pair(text: &[u8]) -> Option<Member>
     ensures { result ≡ pair_of text.now }
 {
@@ -23,6 +24,7 @@ fn read_pair(text: &[u8]) -> Option<Member>
     })
 }
 
+/// Parses the only place of a register or an outgoing trunk.
 fn read_single(text: &[u8]) -> Option<Member>
     ensures { result ≡ member_of_text GroupKind.Register text.now }
 {
@@ -33,7 +35,7 @@ fn read_single(text: &[u8]) -> Option<Member>
     })
 }
 
-/// A member of a group of this kind, if a part of its text is one.
+/// Parses a member of a group of this kind.
 pub fn read_member(kind: GroupKind, text: &[u8]) -> Option<Member>
     ensures { result ≡ member_of_text kind text.now }
 {
@@ -43,6 +45,7 @@ pub fn read_member(kind: GroupKind, text: &[u8]) -> Option<Member>
     }
 }
 
+/// Parses each part as a member of a group of this kind.
 fn read_members(alloc: Global, kind: GroupKind, parts: &[&[u8]]) -> Result<Vec<Member>, PlanFault>
     ensures { IsReadAs (λ members. members.items)
         (read_all (λ part. member_of_text kind part.now) parts.now) result }
@@ -57,7 +60,7 @@ fn read_members(alloc: Global, kind: GroupKind, parts: &[&[u8]]) -> Result<Vec<M
     Ok(members)
 }
 
-/// The kind that a part of a group's text names, if it names one.
+/// Parses the kind of a group: `register`, `intra` or `outgoing`.
 pub fn read_kind(text: &[u8]) -> Option<GroupKind>
     ensures { result ≡ kind_of text.now }
 {
@@ -72,7 +75,7 @@ pub fn read_kind(text: &[u8]) -> Option<GroupKind>
     }
 }
 
-/// A text of its own for a name.
+/// Copies a group's name into a string, or returns `Malformed` if the text is not a valid name.
 pub fn read_name(alloc: Global, text: &[u8]) -> Result<String, PlanFault>
     ensures { IsReadAs string_bytes (name_of text.now) result }
 {
@@ -85,6 +88,7 @@ pub fn read_name(alloc: Global, text: &[u8]) -> Result<String, PlanFault>
     Ok(String::from_str(alloc, name)?)
 }
 
+/// Reads a group from its name, its kind and its members.
 fn read_named(
     alloc: Global,
     name: &[u8],
@@ -102,6 +106,7 @@ fn read_named(
     Ok(Group::new(name, kind, members))
 }
 
+/// Reads a group from the parts of its text.
 fn read_group_parts(alloc: Global, parts: &[&[u8]]) -> Result<Group, PlanFault>
     ensures { IsReadAs (λ group. group) (group_of_parts (map (λ part. part.now) parts.now)) result }
 {
@@ -114,7 +119,7 @@ fn read_group_parts(alloc: Global, parts: &[&[u8]]) -> Result<Group, PlanFault>
     }
 }
 
-/// The group of an item of `groups`.
+/// Reads an item of `groups`.
 pub fn read_group(alloc: Global, text: &[u8]) -> Result<Group, PlanFault>
     ensures { IsReadAs (λ group. group) (group_of text.now) result }
 {

@@ -1,4 +1,5 @@
-//! A plan from its text: a stage for each of the first five faults, and then the tests of its tables.
+//! Reads a plan from its text: a stage for each of the first five faults, then the checks of its
+//! tables.
 
 mod codes;
 mod document;
@@ -24,7 +25,7 @@ pub use version::Version;
 use xbar_equip::Link;
 use xbar_plan::{Group, Plan, PlanFault, Station};
 
-/// The plan that bytes hold, or the least fault that they have.
+/// Reads a plan from bytes, or returns the first fault that they have.
 pub fn read(alloc: Global, bytes: &[u8]) -> Result<Plan, PlanFault>
     ensures { IsReading (plan_of bytes.now) result }
 {
@@ -32,6 +33,7 @@ pub fn read(alloc: Global, bytes: &[u8]) -> Result<Plan, PlanFault>
     read_document(alloc, &document)
 }
 
+/// Reads the version of a document, then the rest.
 fn read_document(alloc: Global, document: &Table) -> Result<Plan, PlanFault>
     ensures { IsReading (plan_of_document (table_view document.now)) result }
 {
@@ -41,6 +43,7 @@ fn read_document(alloc: Global, document: &Table) -> Result<Plan, PlanFault>
     }
 }
 
+/// Reads the values at the four keys of a document, then the rest.
 fn read_version(alloc: Global, document: &Table, version: Version) -> Result<Plan, PlanFault>
     ensures { IsReading (plan_of_version (table_view document.now) version) result }
 {
@@ -50,6 +53,7 @@ fn read_version(alloc: Global, document: &Table, version: Version) -> Result<Pla
     }
 }
 
+/// Reads the strings of the four values, then the rest.
 fn read_values(alloc: Global, version: Version, values: &Values<'_>) -> Result<Plan, PlanFault>
     ensures { IsReading (plan_of_values version
         (record {
@@ -66,6 +70,7 @@ fn read_values(alloc: Global, version: Version, values: &Values<'_>) -> Result<P
     read_lists(alloc, version, &groups, &numbers, &codes, &faults)
 }
 
+/// Reads the items of the four lists, and makes a plan of them.
 fn read_lists(
     alloc: Global,
     version: Version,
@@ -89,6 +94,7 @@ fn read_lists(
     plan_of_entries(alloc, groups, stations, &codes, faults)
 }
 
+/// Finds the groups that the codes name, and makes a plan.
 fn plan_of_entries(
     alloc: Global,
     groups: Vec<Group>,

@@ -1,4 +1,4 @@
-//! Directory numbers from their texts.
+//! Reads the items of `numbers`.
 
 ghost use Rattle.std.specs.Prelude.{◌≡◌, ◌∷◌, map};
 ghost use Rattle.xbar_plan_text.specs.Texts.{IsReadAs, read_all, line_of, is_line_count as is_count_of_lines, station_of_parts, station_of};
@@ -9,6 +9,7 @@ use std::alloc::Global;
 use xbar_equip::Len;
 use xbar_plan::{PlanFault, Station};
 
+/// Parses each part as a line.
 fn read_lines(alloc: Global, parts: &[&[u8]]) -> Result<Vec<Len>, PlanFault>
     ensures { IsReadAs (λ lines. lines.items)
         (read_all (λ part. line_of part.now) parts.now) result }
@@ -23,6 +24,7 @@ fn read_lines(alloc: Global, parts: &[&[u8]]) -> Result<Vec<Len>, PlanFault>
     Ok(lines)
 }
 
+/// Whether the version allows this number of lines: version 1 allows exactly one.
 fn is_line_count(version: Version, count: usize) -> bool
     ensures { result ≡ is_count_of_lines version count }
 {
@@ -32,6 +34,7 @@ fn is_line_count(version: Version, count: usize) -> bool
     }
 }
 
+/// Reads a directory number and its lines from their parts.
 fn read_numbered(
     alloc: Global,
     version: Version,
@@ -51,6 +54,7 @@ fn read_numbered(
     Ok(Station::new(number, lines))
 }
 
+/// Reads a directory number with its lines from the parts of its text.
 fn read_station_parts(
     alloc: Global,
     version: Version,
@@ -65,7 +69,7 @@ fn read_station_parts(
     }
 }
 
-/// The number of an item of `numbers`, with its lines.
+/// Reads an item of `numbers`: a directory number and its lines.
 pub fn read_station(alloc: Global, version: Version, text: &[u8]) -> Result<Station, PlanFault>
     ensures { IsReadAs (λ station. station) (station_of version text.now) result }
 {

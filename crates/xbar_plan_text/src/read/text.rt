@@ -1,4 +1,4 @@
-//! The parts of an item's text, and the numbers in them.
+//! Splits the text of an item into parts, and parses the numbers in them.
 
 ghost use Rattle.std.specs.Prelude.{◌≡◌, ◌==◌, [], ◌∷◌, IfOk, MatchOption, map, position};
 ghost use Rattle.xbar_plan_text.specs.Texts.{parts, IsFirstPart, line_of, place_of, number_of, code_of, fault_of};
@@ -6,7 +6,7 @@ ghost use Rattle.xbar_plan_text.specs.Texts.{parts, IsFirstPart, line_of, place_
 use std::alloc::{AllocError, Global};
 use xbar_equip::{DirNo, Len, Link, Ten};
 
-/// The parts between the spaces of a text.
+/// Splits a text at its spaces. Two spaces in a row have an empty part between them.
 pub fn split_parts<'t>(alloc: Global, text: &'t [u8]) -> Result<Vec<&'t [u8]>, AllocError>
     ensures { IfOk result (λ found. map (λ part. part.now) found.items ≡ parts text.now) }
 {
@@ -20,7 +20,7 @@ pub fn split_parts<'t>(alloc: Global, text: &'t [u8]) -> Result<Vec<&'t [u8]>, A
     Ok(found)
 }
 
-/// What stands before a text's first space, and what follows it.
+/// The text before the first space and the text after it, or `None` if there is no space.
 #[tactic(auto, using(crate::proofs::Parts::parts_none, crate::proofs::Parts::first_part))]
 fn split_first_part(text: &[u8]) -> Option<(&[u8], &[u8])>
     ensures { MatchOption result (parts text.now ≡ text.now ∷ [])
@@ -54,14 +54,14 @@ pub fn read_number(text: &[u8]) -> Option<DirNo>
     DirNo::parse(text).ok()
 }
 
-/// The link of an item of `faults`.
+/// Parses an item of `faults`.
 pub fn read_link(text: &[u8]) -> Option<Link>
     ensures { result ≡ fault_of text.now }
 {
     Link::parse(text).ok()
 }
 
-/// The number of a code's three digits.
+/// Parses the three digits of a code.
 pub fn read_code(text: &[u8]) -> Option<u16>
     ensures { result ≡ code_of text.now }
 {

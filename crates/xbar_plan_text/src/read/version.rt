@@ -1,4 +1,4 @@
-/// Which of the two forms of a plan's text: in the first each number has just one line.
+/// The version of a plan's text. In version 1 each directory number has exactly one line.
 #[derive(Clone, Copy, Debug, PartialEq, Eq)]
 pub enum Version {
     One,

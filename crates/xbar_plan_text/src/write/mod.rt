@@ -1,4 +1,4 @@
-//! A plan as a TOML text in version 2: a document with an array of texts for each list.
+//! Writes a plan as TOML in version 2: a document with an array of strings for each list.
 
 mod texts;
 
@@ -18,6 +18,7 @@ use toml::{Table, Value};
 use xbar_equip::Link;
 use xbar_plan::{Group, Route, Station, TableSlices};
 
+/// The array of the groups' texts.
 fn groups_value(alloc: Global, groups: &[Group]) -> Result<Value, AllocError>
     ensures { IfOk result (λ value. view value ≡ array_of (map text_of_group groups.now)) }
 {
@@ -28,6 +29,7 @@ fn groups_value(alloc: Global, groups: &[Group]) -> Result<Value, AllocError>
     Ok(Value::from(texts))
 }
 
+/// The array of the directory numbers' texts.
 fn numbers_value(alloc: Global, stations: &[Station]) -> Result<Value, AllocError>
     ensures { IfOk result (λ value. view value ≡ array_of (map text_of_station stations.now)) }
 {
@@ -38,6 +40,7 @@ fn numbers_value(alloc: Global, stations: &[Station]) -> Result<Value, AllocErro
     Ok(Value::from(texts))
 }
 
+/// The array of the codes' texts.
 fn codes_value(alloc: Global, groups: &[Group], routes: &[Route]) -> Result<Value, AllocError>
     ensures { IfOk result (λ value. view value ≡
         array_of (map (text_of_route groups.now) routes.now)) }
@@ -49,6 +52,7 @@ fn codes_value(alloc: Global, groups: &[Group], routes: &[Route]) -> Result<Valu
     Ok(Value::from(texts))
 }
 
+/// The array of the faulty links' texts.
 fn faults_value(alloc: Global, faults: &[Link]) -> Result<Value, AllocError>
     ensures { IfOk result (λ value. view value ≡ array_of (map text_of_link faults.now)) }
 {
@@ -59,7 +63,7 @@ fn faults_value(alloc: Global, faults: &[Link]) -> Result<Value, AllocError>
     Ok(Value::from(texts))
 }
 
-/// Puts a value before all others of a document.
+/// Inserts a value under a key that comes before all keys of the document.
 fn put_first(alloc: Global, document: &mut Table, key: &str, value: Value) -> Result<(), AllocError>
     requires { IsTrue (is_before key.now (table_view document.old)) }
     ensures { OnOk result (table_view document.new ≡
@@ -70,7 +74,8 @@ fn put_first(alloc: Global, document: &mut Table, key: &str, value: Value) -> Re
     Ok(())
 }
 
-/// The keys are put in from the last to the first, so that each comes before the others.
+/// The document of these tables. Keys are inserted from last to first, so that each new one comes
+/// before the others.
 fn document_of(alloc: Global, tables: &TableSlices) -> Result<Table, AllocError>
     ensures { IfOk result (λ document. table_view document ≡
         document_in_version_2 (tables_of tables.now)) }
@@ -104,7 +109,7 @@ fn document_of(alloc: Global, tables: &TableSlices) -> Result<Table, AllocError>
     Ok(document)
 }
 
-/// A text of these tables in version 2.
+/// Writes the tables in version 2.
 pub fn version_2(alloc: Global, tables: &TableSlices) -> Result<Vec<u8>, AllocError>
     requires { IsLawful (tables_of tables.now) }
     ensures version { IfOk result (λ text. version_in text.items ≡ Some Two) }
@@ -113,7 +118,7 @@ pub fn version_2(alloc: Global, tables: &TableSlices) -> Result<Vec<u8>, AllocEr
     let document = document_of(alloc, tables)?;
     match toml::table_to_string_pretty(alloc, &document) {
         Ok(text) => Ok(text.into_bytes()),
-        // There are no date-times in it, so only memory can be wanting.
+        // The document has no date-times, so this can fail only for lack of memory.
         Err(_) => Err(AllocError),
     }
 }

@@ -20,6 +20,7 @@ fn kind_name(kind: GroupKind) -> &'static str
     }
 }
 
+/// Appends a space and the text of a member.
 fn add_member(text: &mut String, member: Member) -> Result<(), AllocError>
     ensures { OnOk result (string_bytes text.new ≡ string_bytes text.old ++
         32 ∷ member_text member) }
@@ -32,6 +33,7 @@ fn add_member(text: &mut String, member: Member) -> Result<(), AllocError>
     Ok(())
 }
 
+/// Appends each member, after a space.
 fn add_members(text: &mut String, members: &[Member]) -> Result<(), AllocError>
     ensures { OnOk result (string_bytes text.new ≡ string_bytes text.old ++
         flat_map (λ member. 32 ∷ member_text member) members.now) }
@@ -42,7 +44,7 @@ fn add_members(text: &mut String, members: &[Member]) -> Result<(), AllocError>
     Ok(())
 }
 
-/// The name, the kind and the members of a group.
+/// The text of a group: `NAME KIND MEMBER MEMBER ..`.
 #[tactic(auto, using(crate::proofs::Joined::joined))]
 pub fn group_text(alloc: Global, group: &Group) -> Result<String, AllocError>
     ensures { IfOk result (λ text. string_bytes text ≡ text_of_group group.now) }
@@ -54,6 +56,7 @@ pub fn group_text(alloc: Global, group: &Group) -> Result<String, AllocError>
     Ok(text)
 }
 
+/// Appends each line, after a space.
 fn add_lines(text: &mut String, lines: &[Len]) -> Result<(), AllocError>
     ensures { OnOk result (string_bytes text.new ≡ string_bytes text.old ++
         flat_map (λ line. 32 ∷ line_text line) lines.now) }
@@ -64,7 +67,7 @@ fn add_lines(text: &mut String, lines: &[Len]) -> Result<(), AllocError>
     Ok(())
 }
 
-/// A directory number and its lines.
+/// The text of a directory number: `DDDD LEN LEN ..`.
 #[tactic(auto, using(crate::proofs::Joined::joined))]
 pub fn station_text(alloc: Global, station: &Station) -> Result<String, AllocError>
     ensures { IfOk result (λ text. string_bytes text ≡ text_of_station station.now) }
@@ -82,6 +85,7 @@ fn last_digit(number: u16) -> char
     char::from(b'0' + (number % 10) as u8)
 }
 
+/// The three digits of a code.
 fn code_text(alloc: Global, code: u16) -> Result<String, AllocError>
     ensures { IfOk result (λ text. string_bytes text ≡ digits 3 code) }
 {
@@ -92,7 +96,7 @@ fn code_text(alloc: Global, code: u16) -> Result<String, AllocError>
     Ok(text)
 }
 
-/// No name stands for a number that no group has.
+/// The name of the group with this number, or no text if there is no group.
 fn name_of(groups: &[Group], number: u8) -> &str
     ensures { result.now ≡ name_at groups.now number }
 {
@@ -102,6 +106,7 @@ fn name_of(groups: &[Group], number: u8) -> &str
     }
 }
 
+/// Appends the name of each group, after a space.
 fn add_names(text: &mut String, groups: &[Group], numbers: &[u8]) -> Result<(), AllocError>
     ensures { OnOk result (string_bytes text.new ≡ string_bytes text.old ++
         flat_map (λ number. 32 ∷ name_at groups.now number) numbers.now) }
@@ -113,7 +118,7 @@ fn add_names(text: &mut String, groups: &[Group], numbers: &[u8]) -> Result<(), 
     Ok(())
 }
 
-/// A code and the names of its groups.
+/// The text of a code: `CCC NAME NAME ..`.
 #[tactic(auto, using(crate::proofs::Joined::joined))]
 pub fn route_text(alloc: Global, groups: &[Group], route: &Route) -> Result<String, AllocError>
     ensures { IfOk result (λ text. string_bytes text ≡ text_of_route groups.now route.now) }

@@ -1,6 +1,6 @@
 use Rattle.std.proofs.Common.{ap, ◌∙◌}
-use Rattle.turns.specs.Attempt.{freed}
-use Rattle.attempts.specs.Standing.{Program, attempt_of}
+use Rattle.turns.specs.Attempt.{giving_back}
+use Rattle.attempts.specs.Validity.{AttemptView, attempt_of}
 use Rattle.attempts.specs.SystemWith.{system_with}
 use Rattle.attempts.proofs.starting.give_up.Goals as goal
 
@@ -8,13 +8,13 @@ pub forget-requires : goal.forget-requires
 forget-requires g c = search
 
 pub returns-clause-frees : goal.returns-clause-frees
-returns-clause-frees g c = λ setting. c.give_back.ensures.frees setting ∙ ap (λ (p : Program _ _ _ _). freed (system_with g.S.Lock.PartialEq.eq g.S.Scripts.reply_of g.S.Scripts.effects_of (g.S.Scripts.system setting)) (attempt_of g.S.Scripts.reply_of g.S.Scripts.effects_of p) p.held) c.forget.ensures
+returns-clause-frees g c = λ setting. c.give_back.ensures.frees setting ∙ ap (λ (p : AttemptView _ _ _ _). giving_back (system_with g.S.Lock.PartialEq.eq g.S.Scripts.reply_of g.S.Scripts.effects_of (g.S.Scripts.system setting)) (attempt_of g.S.Scripts.reply_of g.S.Scripts.effects_of p) p.held) c.forget.ensures
 
 pub returns-clause-point : goal.returns-clause-point
 returns-clause-point g c = c.give_back.ensures.point
 
 pub returns-clause-count : goal.returns-clause-count
-returns-clause-count g c = c.give_back.ensures.count ∙ ap (λ (p : Program _ _ _ _). p.count) c.forget.ensures
+returns-clause-count g c = c.give_back.ensures.count ∙ ap (λ (p : AttemptView _ _ _ _). p.count) c.forget.ensures
 
 pub give_back-requires : goal.give_back-requires
 give_back-requires g c = search

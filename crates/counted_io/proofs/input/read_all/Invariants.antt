@@ -1,4 +1,5 @@
--- What was read so far is what the source gave, no failure was counted, and each turn adds at least a byte.
+-- What was read so far is what the source gave, no failure was counted, and each iteration adds at
+-- least a byte.
 use Rattle.std.proofs.Common.{◌≡◌, ◌-◌, ◌^◌, length}
 use Rattle.std.specs.Io.KnownBytes.{Consumes}
 use Rattle.counted_io.proofs.input.read_all.Given as goal

@@ -10,7 +10,7 @@ use Rattle.crossbar5.proofs.walk.tell.Goals as goal
 pub loop-row-init : goal.loop-row-init
 loop-row-init c = (
   has_opened c.args.plan.now c.args.kinds.now c.args.traffic.now.rows.items c.args.traffic.now.fault c.in_ok-office.office c.in_ok-office.ensures,
-  none_told c.args.telling c.args.plan.now c.args.kinds.now c.args.traffic.now.rows.items c.in_ok-office.office c.new-story.result c.in_ok-office.ensures c.new-story.ensures,
+  none_told c.args.detail c.args.plan.now c.args.kinds.now c.args.traffic.now.rows.items c.in_ok-office.office c.new-story.result c.in_ok-office.ensures c.new-story.ensures,
 )
 
 pub returns-in-Some : goal.returns-in-Some
@@ -18,7 +18,7 @@ returns-in-Some c =
     let same = c.deref-row-items.ensures.value in
     let size = ap length same in
     let here = c.row-item.is ∙ ap (λ (rows : List Row). get_or rows c.loop-row.row-index c.row-item.result) same in
-    refusal_told c.args.telling c.refused.result _ _ _
+    refusal_told c.args.detail c.refused.result _ _ _
     (row_refused c.args.plan.now c.args.kinds.now c.args.traffic.now.rows.items c.args.traffic.now.fault c.loop-row.office c.loop-row.number c.loop-row.row-index c.loop-row.invariant.0 c.row-item.result c.in-Some.why (omega arith) here (sym c.in_ok-why.ensures.fault ∙ c.in-Some.is))
     c.refused.ensures
 
@@ -27,15 +27,15 @@ loop-row-preserved c =
     let same = c.deref-row-items.ensures.value in
     let size = ap length same in
     let here = c.row-item.is ∙ ap (λ (rows : List Row). get_or rows c.loop-row.row-index c.row-item.result) same in (
-      row_done c.args.plan.now c.args.kinds.now c.args.traffic.now.rows.items c.args.traffic.now.fault c.loop-row.office c.loop-row.number c.loop-row.row-index c.loop-row.invariant.0 c.tell_row.new.office c.row-item.result (omega arith) here (sym c.in_ok-why.ensures.fault ∙ c.in_default.is) (c.in_ok-why.ensures.done c.in_default.is),
-      row_told c.args.telling c.args.plan.now c.args.kinds.now c.args.traffic.now.rows.items _ _ c.loop-row.row-index c.loop-row.invariant.1 _ _ c.row-item.result (omega arith) here (c.in_ok-why.ensures.told c.in_default.is),
+      row_done c.args.plan.now c.args.kinds.now c.args.traffic.now.rows.items c.args.traffic.now.fault c.loop-row.office c.loop-row.number c.loop-row.row-index c.loop-row.invariant.0 c.walk_row.new.office c.row-item.result (omega arith) here (sym c.in_ok-why.ensures.fault ∙ c.in_default.is) (c.in_ok-why.ensures.done c.in_default.is),
+      row_told c.args.detail c.args.plan.now c.args.kinds.now c.args.traffic.now.rows.items _ _ c.loop-row.row-index c.loop-row.invariant.1 _ _ c.row-item.result (omega arith) here (c.in_ok-why.ensures.told c.in_default.is),
     )
 
 pub returns-in-Some-refusal : goal.returns-in-Some-refusal
 returns-in-Some-refusal c =
     let size = ap length c.deref-row-items.ensures.value in
     let past = c.loop-row-test.false in
-    refusal_told c.args.telling c.refused-in-Some-refusal.result _ _ _
+    refusal_told c.args.detail c.refused-in-Some-refusal.result _ _ _
     (rows_done c.args.plan.now c.args.kinds.now c.args.traffic.now.rows.items c.args.traffic.now.fault c.loop-row.office c.loop-row.number c.loop-row.row-index c.loop-row.invariant.0 (omega arith)
     ∙ end_refused c.args.plan.now c.loop-row.office.exchange c.loop-row.number _ c.args.traffic.now.fault c.in-Some-refusal.fault (omega (arith, c.deref-row-items.ensures.len, c.loop-row.invariant.0.count)) (sym c.refusal.ensures ∙ c.in-Some-refusal.is))
     c.refused-in-Some-refusal.ensures
@@ -45,9 +45,9 @@ returns-in-None c =
     let size = ap length c.deref-row-items.ensures.value in
     let past = c.loop-row-test.false in
     let told = c.loop-row.invariant.1 in
-    settling_told c.args.telling c.tell_settling.result _ _ _ _
-    (all_told c.args.telling c.args.plan.now c.args.kinds.now c.args.traffic.now.rows.items _ _ c.loop-row.row-index told (omega arith))
+    settling_told c.args.detail c.walk_settling_rows.result _ _ _ _
+    (all_told c.args.detail c.args.plan.now c.args.kinds.now c.args.traffic.now.rows.items _ _ c.loop-row.row-index told (omega arith))
     (rows_done c.args.plan.now c.args.kinds.now c.args.traffic.now.rows.items c.args.traffic.now.fault c.loop-row.office c.loop-row.number c.loop-row.row-index c.loop-row.invariant.0 (omega arith)
     ∙ end_settled c.args.plan.now c.loop-row.office.exchange c.loop-row.number _ c.args.traffic.now.fault (sym c.refusal.ensures ∙ c.in-None.is)
     ∙ ap (λ (plan : Tables). Leaves (settled plan c.loop-row.office.exchange)) (sym c.loop-row.invariant.0.under))
-    (c.tell_settling.ensures c.args.telling told.now told.stands)
+    (c.walk_settling_rows.ensures c.args.detail told.now told.stands)

@@ -5,4 +5,4 @@ use Rattle.crossbar5.proofs.walk.tell.Given as goal
 abbrev pub invariant-loop-row : goal.invariant-loop-row
 invariant-loop-row l =
     HasRun l.plan l.kinds l.traffic.rows.items l.traffic.fault l.office l.number l.row-index
-    × HasTold l.fn.telling l.plan l.kinds l.traffic.rows.items l.office l.story l.row-index
+    × HasTold l.fn.detail l.plan l.kinds l.traffic.rows.items l.office l.story l.row-index

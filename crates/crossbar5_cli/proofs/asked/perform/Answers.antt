@@ -1,5 +1,5 @@
 use Rattle.std.proofs.Common.{◌≡◌, ◌∙◌, ◌-◌, ℕ, List, Option, Result, Ok, Err, ap, option_map, rules, subst, sym}
-use Rattle.crossbar5.specs.declared.answer.Answer.{Answer}
+use Rattle.crossbar5.specs.declared.response.Response.{Response}
 use Rattle.crossbar5.specs.declared.engine_fault.EngineFault.{EngineFault}
 use Rattle.crossbar5.specs.declared.engine_fault.EngineFault.TheVariants.{Device, Markers}
 use Rattle.crossbar5_cli.specs.Endings.{ending_of_run}
@@ -16,7 +16,7 @@ returns-clause-ends g c =
     (g.R.Read.remaining c.args.input.now) (g.W.Write.contents c.args.output.now) (g.W.Write.contents c.answer-run.new.output)
     c.answer-run.result c.of_run.result.ending (option_map (λ lines. lines.items) c.of_run.result.reasons)
     c.of_run.result.sentence c.in-Ok-plan_named.plan.items c.in-Ok-plan_named.ensures.named
-    (search rules) c.answer-run.ensures.slip c.answer-run.ensures.unwritten (search rules)
+    (search rules) c.answer-run.ensures.diagnostic c.answer-run.ensures.unwritten (search rules)
     c.of_run.ensures.ending c.of_run.ensures.reasons sentence
 
 pub returns-clause-no_failure : goal.returns-clause-no_failure

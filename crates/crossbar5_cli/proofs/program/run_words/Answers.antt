@@ -16,7 +16,7 @@ returns-in-Ok g c = record {
       (g.R.Read.remaining c.args.input.now)
       (record { before = g.W.Write.contents c.args.output.now; after = g.W.Write.contents c.do_as_asked-ended.new.output })
       (record { before = g.E.Write.contents c.args.errors.now; after = g.E.Write.contents c.finish.new.errors })
-      c.finish.result.ending c.do_as_asked-ended.result.ending c.finish.result.is_told
+      c.finish.result.ending c.do_as_asked-ended.result.ending c.finish.result.is_printed
       (option_map (λ lines. lines.items) c.do_as_asked-ended.result.reasons) c.do_as_asked-ended.result.sentence
-      c.finish.ensures.ending c.do_as_asked-ended.ensures.ends c.do_as_asked-ended.ensures.may c.finish.ensures.told;
+      c.finish.ensures.ending c.do_as_asked-ended.ensures.ends c.do_as_asked-ended.ensures.may c.finish.ensures.printed;
 }

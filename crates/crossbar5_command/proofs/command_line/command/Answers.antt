@@ -16,7 +16,7 @@ use Rattle.crossbar5_command.proofs.command_line.command.Goals as goal
 
 -- ---- clap answered with an error
 
--- for words that the program takes it is want of memory
+-- for words that the program takes, memory ran out
 memory : (c : goal.After-from_residual-in_err-matches) (P : Ask → Type 0) → takes program (texts c.args.words.now) ≡ true
     → MatchResult c.from_residual-in_err-matches.result P (λ fault. fault ≡ Memory)
 memory c P taken =

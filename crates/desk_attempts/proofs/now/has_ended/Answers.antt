@@ -1,17 +1,17 @@
 use Rattle.std.proofs.Common.{arith, ◌∙◌}
 use Rattle.turns.specs.Attempt.{act}
-use Rattle.turns.specs.Runs.{is_rest}
-use Rattle.desk_attempts.proofs.AheadNow.{seen_far, seen_waiting}
+use Rattle.turns.specs.Runs.{is_finished}
+use Rattle.desk_attempts.proofs.SpeculationNow.{seen_far, seen_waiting}
 use Rattle.desk_attempts.proofs.now.has_ended.Goals as goal
 
 pub returns-in-Some : goal.returns-in-Some
-returns-in-Some g c = seen_waiting g.S.Scripts.reply_of g.S.Scripts.effects_of (λ a. is_rest (act a)) c.args.program.now _ c.in-Some.ensures
+returns-in-Some g c = seen_waiting g.S.Scripts.reply_of g.S.Scripts.effects_of (λ a. is_finished (act a)) c.args.program.now _ c.in-Some.ensures
 
 pub returns-in-None : goal.returns-in-None
-returns-in-None g c = c.is_done.ensures ∙ seen_far g.S.Scripts.reply_of g.S.Scripts.effects_of (λ a. is_rest (act a)) c.program.inside.far c.program.inside.sure c.args.program.now c.program.view_is c.in-None.ensures
+returns-in-None g c = c.is_done.ensures ∙ seen_far g.S.Scripts.reply_of g.S.Scripts.effects_of (λ a. is_finished (act a)) c.program.inside.predicted c.program.inside.validated c.args.program.now c.program.view_is c.in-None.ensures
 
-pub guess-requires : goal.guess-requires
-guess-requires g c = search
+pub prediction-requires : goal.prediction-requires
+prediction-requires g c = search
 
 pub is_done-requires : goal.is_done-requires
 is_done-requires g c = grind arith steps 60000000

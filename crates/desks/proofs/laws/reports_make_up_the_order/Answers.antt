@@ -11,9 +11,9 @@ returns-clause-shut g c setting desks logs words have shut =
     still_untold (system_of (g.F.Jobs.system setting)) _ desks logs words have shut
 
 pub returns-clause-ordered : goal.returns-clause-ordered
-returns-clause-ordered g c setting logs order log i r told there within =
-    told_stands (system_of (g.F.Jobs.system setting)) logs order i log r told there within
+returns-clause-ordered g c setting logs order log i r reported there within =
+    told_stands (system_of (g.F.Jobs.system setting)) logs order i log r reported there within
 
 pub returns-clause-logged : goal.returns-clause-logged
-returns-clause-logged g c setting logs order r told within =
-    each_told (system_of (g.F.Jobs.system setting)) logs order r told within
+returns-clause-logged g c setting logs order r reported within =
+    each_told (system_of (g.F.Jobs.system setting)) logs order r reported within

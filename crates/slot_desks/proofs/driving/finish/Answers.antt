@@ -1,5 +1,5 @@
 use Rattle.std.proofs.Common.{[], ◌∷◌, ap, sym, ◌∙◌}
-use Rattle.desks.specs.Desks.{told_record}
+use Rattle.desks.specs.Desks.{as_record}
 use Rattle.desks.specs.declared.progress.Progress.TheVariants as progress
 use Rattle.slot_desks.proofs.Logs.{worked_more}
 use Rattle.slot_desks.proofs.driving.finish.Goals as goal
@@ -9,8 +9,8 @@ returns-in-Finished-clause-worked c =
     let laws = c.desks_report_their_records.ensures in
     let desk = c.loop.desk in
     let after = c.advance.new.self in
-    worked_more c.args.desk.now.number desk.number _ _ _ _ _ _ [] (told_record c.in-Finished.told ∷ []) (laws.both tt) c.loop.invariant.number c.loop.invariant.worked
-    (laws.advanced tt desk.number desk.actor after.actor desk.seen after.seen (progress.Finished c.in-Finished.told) c.in-Finished.ensures.advanced)
+    worked_more c.args.desk.now.number desk.number _ _ _ _ _ _ [] (as_record c.in-Finished.reported ∷ []) (laws.both tt) c.loop.invariant.number c.loop.invariant.worked
+    (laws.advanced tt desk.number desk.actor after.actor desk.seen after.seen (progress.Finished c.in-Finished.reported) c.in-Finished.ensures.advanced)
 
 pub loop-preserved : goal.loop-preserved
 loop-preserved c =
@@ -41,4 +41,4 @@ pub returns-in-Finished-clause-its_job : goal.returns-in-Finished-clause-its_job
 returns-in-Finished-clause-its_job c =
     let desk = c.loop.desk in
     let after = c.advance.new.self in
-    sym c.loop.invariant.job ∙ c.reports_are_of_assigned_jobs.ensures.reported tt desk.number desk.actor after.actor desk.seen after.seen c.in-Finished.told c.in-Finished.ensures.advanced
+    sym c.loop.invariant.job ∙ c.reports_are_of_assigned_jobs.ensures.reported tt desk.number desk.actor after.actor desk.seen after.seen c.in-Finished.reported c.in-Finished.ensures.advanced

@@ -3,7 +3,7 @@ use Rattle.std.specs.List.{list_all}
 use Rattle.std.specs.Prelude.{IfSome, is_some}
 use Rattle.desks.specs.Met.{AreIdle, IsEnded}
 use Rattle.desks.specs.Reports.{HaveLogs}
-use Rattle.turns.specs.Runs.{is_free}
+use Rattle.turns.specs.Runs.{is_available}
 use Rattle.slots.specs.System.{slots}
 use Rattle.slot_desks.specs.Driving.{records}
 use Rattle.slot_desks.proofs.on_threads.shut_shifts.Goals as goal
@@ -26,5 +26,5 @@ returns c =
         taken_once = c.no_slot_is_taken_twice.ensures.once logs closed.order closed.ended.legal made;
         had_once = c.no_slot_is_taken_twice.ensures.had logs closed.order closed.ended.legal made;
       };
-      some = subst (λ o. is_some o ≡ list_all (λ shift. is_free slots shift.desk.actor) shifts) c.in-Some.is c.in_ok-desks.ensures.some;
+      some = subst (λ o. is_some o ≡ list_all (λ shift. is_available slots shift.desk.actor) shifts) c.in-Some.is c.in_ok-desks.ensures.some;
     }

@@ -13,4 +13,4 @@ pub returns-clause-anywhere : goal.returns-clause-anywhere
 returns-clause-anywhere g c = λ setting tests seizings effects w k number a answers is bounded law there steady.
     let O = g.F.Family.system setting in
     let sound = law.sound k number a there in
-    steady_within O is tests seizings effects bounded (1 + length a.held + (3 * seizings + tests + effects + 1)) a answers sound.job sound.stands (within_anywhere O is tests seizings effects bounded w k number a law.are_words sound) steady
+    steady_within O is tests seizings effects bounded (1 + length a.held + (3 * seizings + tests + effects + 1)) a answers sound.job sound.valid (within_anywhere O is tests seizings effects bounded w k number a law.are_words sound) steady

@@ -3,7 +3,7 @@ use Rattle.atomic_table.specs.Seated.{TableId}
 use Rattle.desks.specs.Met as desks
 use Rattle.xbar_plan.specs.Tables.{Tables}
 use Rattle.xbar_jobs.specs.Office.{office}
-use Rattle.xbar_fabric.specs.Meetings.{HasClosed}
+use Rattle.xbar_fabric.specs.Meetings.{FabricHasClosed}
 use Rattle.xbar_fabric.proofs.AllDesks.{are_idle, has_closed}
 use Rattle.xbar_fabric.proofs.shutting.shut_all.Goals as goal
 
@@ -19,5 +19,5 @@ pub returns : goal.returns
 returns c =
     let plan = c.fabric.inside.plan.now in
     let same : c.fabric.inside.plan.now ≡ c.args.fabric.plan = ap (λ f. f.plan) c.fabric.view_is in
-    subst (λ (p : Tables). HasClosed p c.args.desks.items c.shut_all_into.result.items) same
+    subst (λ (p : Tables). FabricHasClosed p c.args.desks.items c.shut_all_into.result.items) same
     (has_closed plan c.take_apart.new.rest.items c.args.desks.items c.shut_all_into.result.items c.take_apart.ensures.below c.shut_all_into.ensures)

@@ -5,7 +5,7 @@ use Rattle.xbar_jobs.specs.Script.{Wanted}
 use Rattle.xbar_jobs.specs.Tracing.{approach, channel_of}
 use Rattle.xbar_jobs.specs.declared.party.Party.{Party}
 use Rattle.xbar_jobs.proofs.HuntedLines.{busy_passed, hunt_stops, idle_found, none_hunted}
-use Rattle.xbar_jobs.proofs.Lives.{came, comes}
+use Rattle.xbar_jobs.proofs.WalksOnWords.{came, comes}
 use Rattle.xbar_jobs.proofs.completing.hunt.Goals as goal
 
 pub returns-in_err-party : goal.returns-in_err-party

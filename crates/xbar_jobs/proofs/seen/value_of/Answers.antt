@@ -1,7 +1,7 @@
 use Rattle.std.proofs.Common.{Ok, Err, sym, ap, ◌∙◌}
 use Rattle.std.specs.Prelude.{ℕ, Result}
 use Rattle.xbar_jobs.specs.Script.{Wanted}
-use Rattle.xbar_jobs.proofs.Lives.{comes}
+use Rattle.xbar_jobs.proofs.WalksOnWords.{comes}
 use Rattle.xbar_jobs.proofs.SeenTests.{value_seen}
 use Rattle.xbar_jobs.proofs.seen.value_of.Goals as goal
 

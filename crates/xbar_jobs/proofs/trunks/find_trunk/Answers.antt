@@ -5,10 +5,10 @@ use Rattle.turns.specs.Script.{TestThen, Ends, seize}
 use Rattle.xbar_equip.specs.First.{first_below}
 use Rattle.xbar_equip.specs.Word.{GroupWord}
 use Rattle.xbar_equip.specs.declared.conn.Conn.TheVariants.{Group}
-use Rattle.xbar_jobs.specs.Script.{Wanted, live, test}
+use Rattle.xbar_jobs.specs.Script.{Wanted, walk_on_words, test}
 use Rattle.xbar_jobs.specs.Trunks.{Trunks, first_clear, is_bit_clear, trunks_of}
 use Rattle.xbar_jobs.specs.declared.trunks.IdleGroup.{IdleGroup}
-use Rattle.xbar_jobs.proofs.Lives.{came, comes}
+use Rattle.xbar_jobs.proofs.WalksOnWords.{came, comes}
 use Rattle.xbar_jobs.proofs.TriedGroups.{busy_passed, idle_taken, none_tried, seizing_stops, testing_stops}
 use Rattle.xbar_jobs.proofs.trunks.find_trunk.Goals as goal
 
@@ -36,7 +36,7 @@ returns-in_err-word-clause-walk c =
     let wanted : c.from_residual-in_err-word.result ≡ Err c.in_err-word.field-0.0 = search rules in
     let group = slice_index c.args.groups.now c.loop-group.group-index in
     let own = came c.args.made.now (seize (Group group)) c.loop-group.seen c.require_held.new.seen c.loop-group.words c.require_held.new.words c.require_held.result (Ok tt) (c.require_held.ensures c.args.made.now) c.in_ok-require_held.was in
-    let tests = c.value_of.ensures ∙ ap (λ (number : ℕ). live c.args.made.now (TestThen number Ends) c.require_held.new.seen c.require_held.new.words) c.group_word.ensures in
+    let tests = c.value_of.ensures ∙ ap (λ (number : ℕ). walk_on_words c.args.made.now (TestThen number Ends) c.require_held.new.seen c.require_held.new.words) c.group_word.ensures in
     let stops = came c.args.made.now (test (GroupWord group)) c.require_held.new.seen c.value_of.new.seen c.require_held.new.words c.require_held.new.words c.value_of.result (Err c.in_err-word.field-0.0) tests c.in_err-word.was in
     ap (λ (r : Result (Option IdleGroup) Wanted). comes r c.value_of.new.seen c.require_held.new.words) wanted
     ∙ sym (testing_stops c.args.plan.now c.args.made.now c.args.groups.now c.loop-group.group-index c.loop-group-test.true c.loop-group.seen c.loop-group.words tt c.require_held.new.seen c.require_held.new.words own _ c.value_of.new.seen c.require_held.new.words stops)
@@ -51,7 +51,7 @@ returns-in-Some-clause-walk c =
     let first : c.first_clear.result ≡ first_clear (trunks_of c.args.plan.now group c.in_ok-word.word) =
     c.first_clear.ensures.first ∙ ap (λ (trunks : Trunks). first_below (is_bit_clear c.in_ok-word.word) (length trunks.members)) (c.trunks.view_is ∙ c.trunks_of-trunks.ensures.trunks) in
     let own = came c.args.made.now (seize (Group group)) c.loop-group.seen c.require_held.new.seen c.loop-group.words c.require_held.new.words c.require_held.result (Ok tt) (c.require_held.ensures c.args.made.now) c.in_ok-require_held.was in
-    let tests = c.value_of.ensures ∙ ap (λ (number : ℕ). live c.args.made.now (TestThen number Ends) c.require_held.new.seen c.require_held.new.words) c.group_word.ensures in
+    let tests = c.value_of.ensures ∙ ap (λ (number : ℕ). walk_on_words c.args.made.now (TestThen number Ends) c.require_held.new.seen c.require_held.new.words) c.group_word.ensures in
     let read = came c.args.made.now (test (GroupWord group)) c.require_held.new.seen c.value_of.new.seen c.require_held.new.words c.require_held.new.words c.value_of.result (Ok c.in_ok-word.word) tests c.in_ok-word.was in
     sym (idle_taken c.args.plan.now c.args.made.now c.args.groups.now c.loop-group.group-index c.loop-group-test.true c.loop-group.seen c.loop-group.words tt c.require_held.new.seen c.require_held.new.words own c.in_ok-word.word c.value_of.new.seen c.require_held.new.words read _ first _ c.in-Some.is)
     ∙ c.loop-group.invariant
@@ -69,7 +69,7 @@ loop-group-preserved c =
     c.first_clear.ensures.first ∙ ap (λ (trunks : Trunks). first_below (is_bit_clear c.in_ok-word.word) (length trunks.members)) (c.trunks.view_is ∙ c.trunks_of-trunks.ensures.trunks) in
     let none : c.first_clear.result ≡ None = search rules in
     let own = came c.args.made.now (seize (Group group)) c.loop-group.seen c.require_held.new.seen c.loop-group.words c.require_held.new.words c.require_held.result (Ok tt) (c.require_held.ensures c.args.made.now) c.in_ok-require_held.was in
-    let tests = c.value_of.ensures ∙ ap (λ (number : ℕ). live c.args.made.now (TestThen number Ends) c.require_held.new.seen c.require_held.new.words) c.group_word.ensures in
+    let tests = c.value_of.ensures ∙ ap (λ (number : ℕ). walk_on_words c.args.made.now (TestThen number Ends) c.require_held.new.seen c.require_held.new.words) c.group_word.ensures in
     let read = came c.args.made.now (test (GroupWord group)) c.require_held.new.seen c.value_of.new.seen c.require_held.new.words c.require_held.new.words c.value_of.result (Ok c.in_ok-word.word) tests c.in_ok-word.was in
     sym (busy_passed c.args.plan.now c.args.made.now c.args.groups.now c.loop-group.group-index c.loop-group-test.true c.loop-group.seen c.loop-group.words tt c.require_held.new.seen c.require_held.new.words own c.in_ok-word.word c.value_of.new.seen c.require_held.new.words read _ first none)
     ∙ c.loop-group.invariant

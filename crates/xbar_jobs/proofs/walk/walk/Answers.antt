@@ -4,7 +4,7 @@ use Rattle.xbar_jobs.specs.Jobs.{script}
 use Rattle.xbar_jobs.specs.Script.{Wanted}
 use Rattle.xbar_jobs.specs.declared.decision.Decision.{Decision}
 use Rattle.xbar_jobs.proofs.Covered.{decision_range}
-use Rattle.xbar_jobs.proofs.Lives.{comes, found_now}
+use Rattle.xbar_jobs.proofs.WalksOnWords.{comes, found_now}
 use Rattle.xbar_jobs.proofs.walk.walk.Goals as goal
 
 pub new-requires : goal.new-requires

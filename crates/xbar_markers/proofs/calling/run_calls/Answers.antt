@@ -2,8 +2,8 @@ use Rattle.std.proofs.Common.{◌≡◌, ◌<◌, ◌^◌, List, arith, length, 
 use Rattle.xbar_plan.specs.Tables.{Tables}
 use Rattle.xbar_office.specs.Legal.{after}
 use Rattle.xbar_office.specs.declared.reply.Record.{Record}
-use Rattle.xbar_fabric.specs.Meetings.{HasClosed}
-use Rattle.xbar_markers.specs.Staff.{kinds_of}
+use Rattle.xbar_fabric.specs.Meetings.{FabricHasClosed}
+use Rattle.xbar_markers.specs.DesksByKind.{kinds_of}
 use Rattle.xbar_markers.proofs.WholeOutcome.{legal, served, shows_after, taken, words_after}
 use Rattle.xbar_markers.proofs.calling.run_calls.Goals as goal
 
@@ -21,7 +21,7 @@ returns-clause-outcome g c =
     let words = c.in-Ok.words.items in
     let laws = c.same_items_are_as_many.ensures in
     let ran = c.in_ok-desks.ensures in
-    let closed = subst (λ (p : Tables). HasClosed p desks words) c.in_ok-fabric.ensures.fabric.0 c.in-Ok.ensures in
+    let closed = subst (λ (p : Tables). FabricHasClosed p desks words) c.in_ok-fabric.ensures.fabric.0 c.in-Ok.ensures in
     let few : length records < 2 ^ 64 = omega (arith, c.in_ok-desks.records.ok.0, c.in_ok-desks.records.small) in record {
       legal = legal fabric plan kinds befores desks records words laws.contained laws.length c.in_ok-fabric.ensures.desks ran.desks ran.order few closed;
       served = served fabric plan kinds befores desks records words laws.contained laws.length c.in_ok-fabric.ensures.desks ran.desks ran.order few closed c.args.calls.now ran.served;

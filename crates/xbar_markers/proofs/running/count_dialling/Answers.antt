@@ -1,5 +1,5 @@
 use Rattle.std.proofs.Common.{◌∙◌, arith, sym}
-use Rattle.xbar_markers.proofs.StaffKinds.{ends_here, goes_on}
+use Rattle.xbar_markers.proofs.KindsOfDesks.{ends_here, goes_on}
 use Rattle.xbar_markers.proofs.running.count_dialling.Goals as goal
 
 pub returns-in-Completing : goal.returns-in-Completing

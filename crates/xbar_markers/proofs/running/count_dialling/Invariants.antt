@@ -1,5 +1,5 @@
 use Rattle.std.proofs.Common.{◌≡◌, ◌≤◌, ℕ, map}
-use Rattle.xbar_markers.specs.Staff.{kinds_of}
+use Rattle.xbar_markers.specs.DesksByKind.{kinds_of}
 use Rattle.xbar_markers.proofs.running.count_dialling.Given as goal
 
 abbrev pub invariant-loop-desk : goal.invariant-loop-desk

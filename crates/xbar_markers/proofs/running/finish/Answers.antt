@@ -3,7 +3,7 @@ use Rattle.std.proofs.lemmas.Result.{IfOk-weaker}
 use Rattle.fair_queue.specs.Items.{SameItems}
 use Rattle.fair_queue.specs.Tickets.{TicketView}
 use Rattle.xbar_markers.specs.Calls.{records_of}
-use Rattle.xbar_markers.specs.Seats.{desks_at}
+use Rattle.xbar_markers.specs.ThreadStates.{desks_at}
 use Rattle.xbar_markers.specs.declared.call.Call.{Call}
 use Rattle.xbar_markers.proofs.WholeRuns.{whole_served, whole_worked}
 use Rattle.xbar_markers.proofs.running.finish.Goals as goal

@@ -4,7 +4,7 @@ use Rattle.fair_queue.specs.Tickets.{TicketView}
 use Rattle.xbar_markers.specs.Calls.{AreServed}
 use Rattle.xbar_markers.specs.Work.{AreShort}
 use Rattle.xbar_markers.specs.declared.call.Call.{Call}
-use Rattle.xbar_markers.proofs.StaffAgain.{idle_again, staff_again}
+use Rattle.xbar_markers.proofs.DesksByKindAgain.{idle_again, by_kind_again}
 use Rattle.xbar_markers.proofs.running.run_desks.Goals as goal
 
 pub returns-clause-served : goal.returns-clause-served
@@ -13,10 +13,10 @@ returns-clause-served g c =
     IfOk-weaker c.run_filled.result _ _
     (λ ran served. subst (λ (calls : List Call). AreServed (AreShort ran.0.items) calls ran.1.items) put served) c.run_filled.ensures.served
 
-pub returns-clause-staff : goal.returns-clause-staff
-returns-clause-staff g c =
+pub returns-clause-by_kind : goal.returns-clause-by_kind
+returns-clause-by_kind g c =
     IfOk-weaker c.run_filled.result _ _
-    (λ ran worked. staff_again c.args.fabric.now c.args.desks.items ran.0.items ran.1.items worked c.requires.desks) c.run_filled.ensures.desks
+    (λ ran worked. by_kind_again c.args.fabric.now c.args.desks.items ran.0.items ran.1.items worked c.requires.desks) c.run_filled.ensures.desks
 
 pub returns-clause-idle : goal.returns-clause-idle
 returns-clause-idle g c =

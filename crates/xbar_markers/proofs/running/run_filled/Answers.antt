@@ -1,7 +1,7 @@
 use Rattle.std.proofs.Common.{List, subst, sym}
 use Rattle.xbar_fabric.specs.Views.{DeskView}
 use Rattle.xbar_markers.specs.Calls.{AreServed}
-use Rattle.xbar_markers.specs.Seats.{desks_at}
+use Rattle.xbar_markers.specs.ThreadStates.{desks_at}
 use Rattle.xbar_markers.specs.Work.{AreShort, HaveWorked}
 use Rattle.xbar_markers.specs.declared.call.Call.{Call}
 use Rattle.xbar_markers.proofs.running.run_filled.Goals as goal

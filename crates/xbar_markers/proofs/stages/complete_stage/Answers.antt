@@ -15,11 +15,11 @@ map_vec-requires-send-X g c κs within = param_send _ _ (arg_send _ no _ (seat_o
 
 pub returns : goal.returns
 returns g c =
-    let stayed = all_stayed Completing c.args.fabric.now c.args.queues.now c.args.seats.items in
+    let stayed = all_stayed Completing c.args.fabric.now c.args.queues.now c.args.states.items in
     let came = c.in_ok-after.ensures in
     let results = c.in_ok-after.after in
     IfOk-weaker c.all_ok.result _ _
     (λ after ok.
-    stayed after.items results.items ok (omega (arith, came.len, c.args.seats.ok.0, results.ok.0))
+    stayed after.items results.items ok (omega (arith, came.len, c.args.states.ok.0, results.ok.0))
     (λ i d lt. let one = (came.each i d lt).1 in (one.job, one.job_is, one.call.met)))
     c.all_ok.ensures

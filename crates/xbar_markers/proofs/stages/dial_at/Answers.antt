@@ -5,5 +5,5 @@ use Rattle.xbar_markers.proofs.stages.dial_at.Goals as goal
 pub returns : goal.returns
 returns g c =
     let done = c.in_ok-dial_all.ensures in
-    seat_stayed Dial c.args.fabric.now c.args.queues.now c.args.seat _ c.requires.seat
+    seat_stayed Dial c.args.fabric.now c.args.queues.now c.args.state _ c.requires.state
     done.ready done.kind done.tickets done.served

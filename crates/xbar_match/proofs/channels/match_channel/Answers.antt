@@ -10,7 +10,7 @@ use Rattle.xbar_match.specs.Channels.{MatchWords, match_words, is_open_channel, 
 use Rattle.xbar_match.proofs.OpenChannels.{first_open_channel-shown}
 use Rattle.xbar_match.proofs.channels.match_channel.Goals as goal
 
--- the first channel from the start on that is open, and none where none is
+-- the first open channel from the start on, or None if there is none
 module _ (words : MatchWords) (t start : ℕ) where
   abbrev is_open : ℕ → Bool
   is_open k = is_open_channel words t (channel_in_turn start k)
@@ -21,7 +21,7 @@ module _ (words : MatchWords) (t start : ℕ) where
   none : ((j : ℕ) → j < 10 → is_open j ≡ false) → None ≡ first_open_channel words t start
   none all = sym (ap (option_map (channel_in_turn start)) (first_below-none is_open 10 all))
 
-  -- on words that show the links it is the channel test
+  -- on words that show the links, this is the channel test
   in_set : (paths : List Path) (line : Line) (place : TrunkPlace) (result : Option ℕ) → result ≡ first_open_channel words t start → place.frame ≡ t → ShowsLinks words paths line place → result ≡ channel_test paths line place start
   in_set paths line place result is at shows = is ∙ ap (λ (frame : ℕ). first_open_channel words frame start) (sym at) ∙ sym (first_open_channel-shown words paths line place start shows)
 

@@ -4,7 +4,7 @@ use Rattle.xbar_equip.specs.Link.{Link}
 use Rattle.xbar_office_text.specs.Faults.{fault_line, fault_lines}
 use Rattle.xbar_office_text.proofs.faults.add_fault_lines.Goals as goal
 
--- where there are links, each has its line below the heading
+-- if there are links, each has its line below the heading
 some_links : (links : List Link) → false ≡ (length links == 0) → codes "\nLINKS OUT OF ORDER\n" ++ flat_map fault_line links ≡ fault_lines links
 unfolding fault_lines
 some_links [] e = cc

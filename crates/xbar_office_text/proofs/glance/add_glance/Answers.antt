@@ -5,7 +5,7 @@ use Rattle.xbar_plan.specs.Tables.{Tables}
 use Rattle.xbar_office_text.specs.Glance.{glance, glance_line}
 use Rattle.xbar_office_text.proofs.glance.add_glance.Goals as goal
 
--- where there are paths, each has its line below the heading
+-- if there are paths, each has its line below the heading
 some_paths : (plan : Tables) (paths : List Path) → false ≡ (length paths == 0) → codes "PATHS AT A GLANCE\n" ++ flat_map (glance_line plan) paths ≡ glance plan paths
 unfolding glance
 some_paths plan [] e = cc

@@ -10,7 +10,6 @@ returns c =
       c.in_ok-push_str-3.ensures.bytes,
       c.in_ok-push_str-2.ensures.bytes,
       c.in_ok-push_str.ensures.bytes,
-      c.page_style.ensures,
       c.style.ensures,
     )
     (simp append_assoc)

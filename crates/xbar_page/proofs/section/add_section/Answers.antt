@@ -14,7 +14,7 @@ returns c =
       c.in_ok-add_title.ensures,
       c.deref.ensures.value,
       c.deref-2.ensures.value,
-      c.in_ok-brought.ensures,
+      c.in_ok-set_up.ensures,
       c.in_ok-cards.ensures,
     )
     (simp append_assoc)

@@ -2,7 +2,7 @@ use Rattle.std.proofs.Common.{◌≡◌, ℕ, ◌<◌, length, take, get_or}
 use Rattle.std.specs.Prelude.{◌==◌, None, position}
 use Rattle.xbar_plan.proofs.numbers.first_places.Given as goal
 
--- where each number stands first among those so far
+-- the first index of each number among those so far
 abbrev pub invariant-loop-place : goal.invariant-loop-place
 invariant-loop-place l = record {
   size : length l.places.items ≡ l.count;

@@ -81,7 +81,7 @@ returns-then-left-gt0-clause-fault c =
           (omega (arith, left, some)) (omega (arith, left, some, cards, count, same, records, dealt_count, dealt_same)) (dealt_report c.args.text.now s read turns),
     )
 
--- the records with their cards, as they stand in the vector
+-- the records with their cards, as they are in the vector
 vector_is : (n : ℕ) (now old old' rest : List Record) (cards cards' : List TroubleLine) → now ≡ dealt_records old' cards' → old' ≡ old → cards' ≡ cards → length now ≡ n
     → take n (now ++ rest) ≡ dealt_records old cards
 vector_is n now old old' rest cards cards' e e1 e2 size =

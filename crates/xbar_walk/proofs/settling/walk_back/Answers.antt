@@ -1,5 +1,5 @@
 use Rattle.std.proofs.Common.{true, refl, sym}
-use Rattle.xbar_walk.specs.Walks.{after_told_step}
+use Rattle.xbar_walk.specs.Walks.{walk_of_step}
 use Rattle.xbar_walk.proofs.Reaching.{reached_within, reaches_none, reaches_on}
 use Rattle.xbar_walk.proofs.Settlings.{IsGoingBack, back_ended, less_left, none_back, one_back, on_office, ups_at}
 use Rattle.xbar_walk.proofs.settling.walk_back.Goals as goal
@@ -17,7 +17,7 @@ walk_step-requires c = reached_within _ _ _ _ _ c.loop-exchange.invariant c.args
 
 pub loop-exchange-preserved : goal.loop-exchange-preserved
 loop-exchange-preserved c =
-    reaches_on _ _ _ _ _ c.loop-exchange.invariant _ _ (λ first now. IsGoingBack first now c.args.marker) (after_told_step c.args.marker)
+    reaches_on _ _ _ _ _ c.loop-exchange.invariant _ _ (λ first now. IsGoingBack first now c.args.marker) (walk_of_step c.args.marker)
     (λ first now is so_far. one_back first now c.args.marker so_far _ (ups_at true now.office c.loop-exchange.exchange c.args.marker is c.loop-exchange-test.ensures) refl) c.in_ok-walk_step.ensures
 
 pub loop-exchange-smaller : goal.loop-exchange-smaller

@@ -7,8 +7,8 @@ use Rattle.xbar_walk.proofs.walk.make_step.Goals as goal
 pub next_step-next-requires : goal.next_step-next-requires
 next_step-next-requires c = step_within c.args.exchange.now c.step-event.new.self c.args.marker c.requires c.step-event.ensures.step
 
-pub returns-clause-told : goal.returns-clause-told
-returns-clause-told c =
+pub returns-clause-observed : goal.returns-clause-observed
+returns-clause-observed c =
     let o = c.args.exchange.now in
     let after = c.step-event.new.self in
     let k = c.args.marker in

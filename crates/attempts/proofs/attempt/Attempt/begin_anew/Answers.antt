@@ -1,5 +1,5 @@
 use Rattle.std.proofs.Common.{ap}
-use Rattle.attempts.specs.Live.{Course}
+use Rattle.attempts.specs.WalkOnWords.{WalkState}
 use Rattle.attempts.proofs.Inside.{begins_anew}
 use Rattle.attempts.proofs.attempt.Attempt.begin_anew.Goals as goal
 
@@ -7,4 +7,4 @@ pub forget-requires : goal.forget-requires
 forget-requires g c = search
 
 pub returns : goal.returns
-returns g c = begins_anew _ c.args.self.now c.forget.new.self c.free_all.new.self.seen.held c.args.first c.args.point c.self.view_is (ap (λ (course : Course _). course.seen.held) c.free_all.ensures) c.forget.ensures
+returns g c = begins_anew _ c.args.self.now c.forget.new.self c.clear_locks.new.self.seen.held c.args.first c.args.point c.self.view_is (ap (λ (course : WalkState _). course.seen.held) c.clear_locks.ensures) c.forget.ensures

@@ -1,7 +1,7 @@
 use Rattle.std.proofs.Common.{ap, ◌∙◌}
 use Rattle.turns.specs.declared.phase.Phase.TheVariants.{GivesBack, Withdraws}
 use Rattle.turns.specs.Outcomes.{is_given_up as is_given_up_in}
-use Rattle.attempts.specs.Standing.{Program}
+use Rattle.attempts.specs.Validity.{AttemptView}
 use Rattle.attempts.proofs.Inside.{goes_ahead, in_phase}
 use Rattle.attempts.proofs.attempt.Attempt.is_given_up.Goals as goal
 
@@ -12,4 +12,4 @@ pub returns-in-GivesBack : goal.returns-in-GivesBack
 returns-in-GivesBack g c = in_phase (λ p phase. is_given_up_in phase) _ c.args.self.now GivesBack c.self.view_is c.in-GivesBack.is
 
 pub returns-in_default : goal.returns-in_default
-returns-in_default g c = goes_ahead _ c.in_default.not-Withdraws c.in_default.not-GivesBack ∙ ap (λ (p : Program _ _ _ _). is_given_up_in p.phase) c.self.view_is
+returns-in_default g c = goes_ahead _ c.in_default.not-Withdraws c.in_default.not-GivesBack ∙ ap (λ (p : AttemptView _ _ _ _). is_given_up_in p.phase) c.self.view_is

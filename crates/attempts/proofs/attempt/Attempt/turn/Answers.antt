@@ -1,7 +1,7 @@
 use Rattle.turns.specs.Attempt.{turn_in}
 use Rattle.turns.specs.declared.phase.Phase.TheVariants.{Operates}
 use Rattle.std.proofs.Common.{ap, ◌∙◌}
-use Rattle.attempts.specs.Standing.{Program}
+use Rattle.attempts.specs.Validity.{AttemptView}
 use Rattle.attempts.proofs.Inside.{in_phase, no_turn}
 use Rattle.attempts.proofs.attempt.Attempt.turn.Goals as goal
 
@@ -9,4 +9,4 @@ pub returns-in-Operates : goal.returns-in-Operates
 returns-in-Operates g c = in_phase (λ p phase. turn_in phase) _ c.args.self.now (Operates c.in-Operates.turn) c.self.view_is c.in-Operates.is
 
 pub returns-in_default : goal.returns-in_default
-returns-in_default g c = no_turn _ c.in_default.not-Operates ∙ ap (λ (p : Program _ _ _ _). turn_in p.phase) c.self.view_is
+returns-in_default g c = no_turn _ c.in_default.not-Operates ∙ ap (λ (p : AttemptView _ _ _ _). turn_in p.phase) c.self.view_is

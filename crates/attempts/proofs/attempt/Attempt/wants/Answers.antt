@@ -1,5 +1,5 @@
 use Rattle.std.proofs.Common.{inl}
-use Rattle.attempts.proofs.LiveRuns.{goes_nowhere, wants_lock_or_word}
+use Rattle.attempts.proofs.WalkRuns.{goes_nowhere, wants_lock_or_word}
 use Rattle.attempts.proofs.attempt.Attempt.wants.Goals as goal
 
 pub returns-in-Requests-clause-some : goal.returns-in-Requests-clause-some

@@ -1,7 +1,7 @@
 use Rattle.std.proofs.Common.{subst}
 use Rattle.turns.specs.Seen.{AreReadWords}
-use Rattle.attempts.specs.Live.{Course}
+use Rattle.attempts.specs.WalkOnWords.{WalkState}
 use Rattle.attempts.proofs.seen.Seen.fits_words.Goals as goal
 
 pub returns : goal.returns
-returns g c = subst (λ (course : Course _). AreReadWords course.seen.readings) c.self.view_is c.as_slice-readings.ensures.words
+returns g c = subst (λ (course : WalkState _). AreReadWords course.seen.readings) c.self.view_is c.as_slice-readings.ensures.words

@@ -3,5 +3,5 @@ use Rattle.desk_attempts.proofs.jobs.AttemptsJobs.restart.Goals as goal
 pub returns-clause-restarts : goal.returns-clause-restarts
 returns-clause-restarts g c = c.restart_now.ensures.restarts c.args.setting.now
 
-pub returns-clause-stands : goal.returns-clause-stands
-returns-clause-stands g c = (c.requires.0, c.restart_now.ensures.stands c.args.setting.now (g.met.S.OnWords.are_scripts c.args.setting.now c.requires.0) c.requires.1)
+pub returns-clause-valid : goal.returns-clause-valid
+returns-clause-valid g c = (c.requires.0, c.restart_now.ensures.valid c.args.setting.now (g.met.S.OnWords.are_scripts c.args.setting.now c.requires.0) c.requires.1)

@@ -10,7 +10,7 @@ use Rattle.marker_tests.specs.contracts.threads.driving.AtWork as work
 use Rattle.marker_tests.proofs.threads.driving.AtWork.TheSendSync as derived
 use Rattle.marker_tests.proofs.threads.driving.on_threads.Goals as goal
 
--- a desk at work may go to any thread, with the records that it was told
+-- a desk at work may go to any thread, with the records of its jobs
 shift_send : send.IsSend (work.the_row desk.the_row)
 shift_send = derived.the_send desk.the_row desk_send
 

@@ -3,7 +3,7 @@ use Rattle.turns.specs.Law.{IsLegal}
 use Rattle.desks.specs.Desks as desks
 use Rattle.xbar_plan.specs.Tables.{Tables}
 use Rattle.xbar_jobs.specs.Office.{office}
-use Rattle.xbar_fabric.specs.Advances.{HasRun}
+use Rattle.xbar_fabric.specs.Advances.{MarkerHasRun}
 use Rattle.xbar_fabric.specs.Views.{DeskView}
 use Rattle.xbar_fabric.proofs.Running.{keeps_number, runs}
 use Rattle.xbar_fabric.proofs.Steps.{as_seen}
@@ -22,6 +22,6 @@ returns-clause-run g c =
     let setting : c.self.inside.desk.setting ≡ c.fabric.inside.plan.now = ap (λ d. d.plan) c.self.view_is ∙ c.requires.plan_is ∙ sym (ap (λ f. f.plan) c.fabric.view_is) in
     let still : c.run-made.new.self.setting ≡ c.fabric.inside.plan.now = ap (λ d. d.setting) c.run-made.ensures.run.same ∙ setting in
     let legal = subst (λ (p : Tables). IsLegal (office p) 0 (office p).opening after.seen) still c.number-number.ensures.legal in
-    let ends = subst (λ (k : ℕ). 0 < made → desks.EndsIn (office plan) after.seen k after.actor) (ap (λ d. d.number) c.run-made.ensures.run.same) c.run-made.ensures.run.ended in
-    as_seen (λ (old new : DeskView). HasRun c.run-made.result old new) plan kind desk after c.args.self.now setting c.run-made.ensures.run.same c.self.view_is
+    let ends = subst (λ (k : ℕ). 0 < made → desks.HasEndedIn (office plan) after.seen k after.actor) (ap (λ d. d.number) c.run-made.ensures.run.same) c.run-made.ensures.run.ended in
+    as_seen (λ (old new : DeskView). MarkerHasRun c.run-made.result old new) plan kind desk after c.args.self.now setting c.run-made.ensures.run.same c.self.view_is
     (runs plan desk.table kind desk.number made desk.actor after.actor desk.seen after.seen c.every_plan_is_lawful.ensures legal ends c.run-made.ensures.run.made)

@@ -19,6 +19,6 @@ returns-clause-answered c =
     let setting : c.self.inside.desk.setting ≡ c.fabric.inside.plan.now = ap (λ d. d.plan) c.self.view_is ∙ c.requires.plan_is ∙ sym (ap (λ f. f.plan) c.fabric.view_is) in
     let still : c.step-answer.new.self.setting ≡ c.fabric.inside.plan.now = ap (λ d. d.setting) c.step-answer.ensures.same ∙ setting in
     let legal = subst (λ (p : Tables). IsLegal (office p) 0 (office p).opening after.seen) still c.number-number.ensures.legal in
-    let ends = subst (λ (k : ℕ). IfSome c.step-answer.result (λ answer. desks.EndsIn (office plan) after.seen k after.actor)) (ap (λ d. d.number) c.step-answer.ensures.same) c.step-answer.ensures.ended in
+    let ends = subst (λ (k : ℕ). IfSome c.step-answer.result (λ answer. desks.HasEndedIn (office plan) after.seen k after.actor)) (ap (λ d. d.number) c.step-answer.ensures.same) c.step-answer.ensures.ended in
     as_seen (λ (old new : DeskView). IsAnswered old new c.step-answer.result) plan kind desk after c.args.self.now setting c.step-answer.ensures.same c.self.view_is
     (has_answered plan desk.table kind desk.number desk.actor after.actor desk.seen after.seen c.every_plan_is_lawful.ensures legal _ (λ same. (ap (λ d. d.actor) same, ap (λ d. d.seen) same)) c.step-answer.result c.step-answer.ensures.none c.step-answer.ensures.stepped ends)

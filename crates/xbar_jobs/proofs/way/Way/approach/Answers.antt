@@ -1,25 +1,25 @@
 use Rattle.std.proofs.Common.{◌≡◌, rules, Ok, Err, ap, subst, sym, ◌∙◌}
 use Rattle.std.specs.Prelude.{Result}
 use Rattle.xbar_jobs.specs.Script.{Wanted}
-use Rattle.xbar_jobs.specs.Tracing.{Knows, approach}
+use Rattle.xbar_jobs.specs.Tracing.{ResumePointIsValid, approach}
 use Rattle.xbar_jobs.specs.declared.party.Party.{Party}
 use Rattle.xbar_jobs.specs.declared.way.Way.{Way}
 use Rattle.xbar_jobs.proofs.CompletingRows.{known_on}
-use Rattle.xbar_jobs.proofs.Lives.{comes, found_now, grown}
-use Rattle.xbar_jobs.proofs.TracedLives.{approached_there}
+use Rattle.xbar_jobs.proofs.WalksOnWords.{comes, found_now, grown}
+use Rattle.xbar_jobs.proofs.TracedWalks.{approached_there}
 use Rattle.xbar_jobs.proofs.way.Way.approach.Goals as goal
 
 pub returns-in-Approached-clause-walk : goal.returns-in-Approached-clause-walk
 returns-in-Approached-clause-walk c =
-    approached_there c.args.line c.in-Approached.calling c.args.seen.now c.args.words.now (subst (λ (way : Way). Knows c.args.line way c.args.seen.now.seen) c.in-Approached.is c.requires)
+    approached_there c.args.line c.in-Approached.calling c.args.seen.now c.args.words.now (subst (λ (way : Way). ResumePointIsValid c.args.line way c.args.seen.now.seen) c.in-Approached.is c.requires)
 
 pub returns-in-Traced : goal.returns-in-Traced
 returns-in-Traced c =
-    let has = subst (λ (way : Way). Knows c.args.line way c.args.seen.now.seen) c.in-Traced.is c.requires in
+    let has = subst (λ (way : Way). ResumePointIsValid c.args.line way c.args.seen.now.seen) c.in-Traced.is c.requires in
     record {
       walk = approached_there c.args.line c.in-Traced.calling c.args.seen.now c.args.words.now has.approached;
       found = has.approached;
-      knows = c.requires;
+      valid_point = c.requires;
     }
 
 pub returns-in_err-calling : goal.returns-in_err-calling
@@ -29,7 +29,7 @@ returns-in_err-calling c =
     record {
       walk = walked;
       found = found_now (approach c.args.line) c.args.seen.now c.approach.new.seen c.args.words.now c.approach.new.words c.from_residual.result walked;
-      knows = known_on c.args.line c.args.self.now c.args.seen.now.seen c.approach.new.seen.seen (grown (approach c.args.line) c.args.seen.now c.approach.new.seen c.args.words.now c.approach.new.words c.from_residual.result walked) c.requires;
+      valid_point = known_on c.args.line c.args.self.now c.args.seen.now.seen c.approach.new.seen.seen (grown (approach c.args.line) c.args.seen.now c.approach.new.seen c.args.words.now c.approach.new.words c.from_residual.result walked) c.requires;
     }
 
 pub returns : goal.returns
@@ -39,5 +39,5 @@ returns c =
     record {
       walk = walked;
       found = found;
-      knows = subst (λ (way : Way). Knows c.args.line way c.approach.new.seen.seen) (sym c.from_line.ensures) found;
+      valid_point = subst (λ (way : Way). ResumePointIsValid c.args.line way c.approach.new.seen.seen) (sym c.from_line.ensures) found;
     }

@@ -2,16 +2,16 @@ use Rattle.std.proofs.Common.{◌≡◌, rules, Err, ap, subst, sym, ◌∙◌}
 use Rattle.std.specs.Prelude.{Option, Result}
 use Rattle.xbar_equip.specs.declared.path.Path.{Path}
 use Rattle.xbar_jobs.specs.Script.{Wanted}
-use Rattle.xbar_jobs.specs.Tracing.{Knows, trace}
+use Rattle.xbar_jobs.specs.Tracing.{ResumePointIsValid, trace}
 use Rattle.xbar_jobs.specs.declared.way.Way.{Way}
 use Rattle.xbar_jobs.proofs.CompletingRows.{known_on}
-use Rattle.xbar_jobs.proofs.Lives.{comes, grown}
-use Rattle.xbar_jobs.proofs.TracedLives.{traced_now, traced_there}
+use Rattle.xbar_jobs.proofs.WalksOnWords.{comes, grown}
+use Rattle.xbar_jobs.proofs.TracedWalks.{traced_now, traced_there}
 use Rattle.xbar_jobs.proofs.way.Way.trace.Goals as goal
 
 pub returns-in-Traced-clause-walk : goal.returns-in-Traced-clause-walk
 returns-in-Traced-clause-walk c =
-    let has = subst (λ (way : Way). Knows c.args.line way c.args.seen.now.seen) c.in-Traced.is c.requires.knows in
+    let has = subst (λ (way : Way). ResumePointIsValid c.args.line way c.args.seen.now.seen) c.in-Traced.is c.requires.valid_point in
     traced_there c.args.line c.in-Traced.calling c.args.calling.now c.in-Traced.own c.args.seen.now c.args.words.now has c.requires.approached
 
 pub returns-in_err-own : goal.returns-in_err-own
@@ -20,7 +20,7 @@ returns-in_err-own c =
     let walked = ap (λ (r : Result (Option Path) Wanted). comes r c.trace.new.seen c.trace.new.words) (wanted ∙ sym c.in_err-own.was) ∙ c.trace.ensures in
     record {
       walk = walked;
-      knows = known_on c.args.line c.args.self.now c.args.seen.now.seen c.trace.new.seen.seen (grown (trace c.args.calling.now) c.args.seen.now c.trace.new.seen c.args.words.now c.trace.new.words c.from_residual.result walked) c.requires.knows;
+      valid_point = known_on c.args.line c.args.self.now c.args.seen.now.seen c.trace.new.seen.seen (grown (trace c.args.calling.now) c.args.seen.now c.trace.new.seen c.args.words.now c.trace.new.words c.from_residual.result walked) c.requires.valid_point;
     }
 
 pub returns : goal.returns
@@ -28,5 +28,5 @@ returns c =
     let walked = ap (λ (r : Result (Option Path) Wanted). comes r c.trace.new.seen c.trace.new.words) (sym c.in_ok-own.was) ∙ c.trace.ensures in
     record {
       walk = walked;
-      knows = subst (λ (way : Way). Knows c.args.line way c.trace.new.seen.seen) (sym c.from_path.ensures) (traced_now c.args.line c.args.calling.now c.in_ok-own.own c.args.seen.now c.trace.new.seen c.args.words.now c.trace.new.words c.requires.approached walked);
+      valid_point = subst (λ (way : Way). ResumePointIsValid c.args.line way c.trace.new.seen.seen) (sym c.from_path.ensures) (traced_now c.args.line c.args.calling.now c.in_ok-own.own c.args.seen.now c.trace.new.seen c.args.words.now c.trace.new.words c.requires.approached walked);
     }

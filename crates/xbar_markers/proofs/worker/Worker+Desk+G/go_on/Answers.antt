@@ -7,10 +7,10 @@ returns-then-not-matches g c start number job doing =
     let laws = c.own_records_are_of_own_jobs.ensures in
     let desk = c.args.self.now.desk in
     let after = c.step-answer.new.self in
-    let told = c.step-answer.ensures.answered in
-    let stepped = goes_on number job start desk after doing c.step-answer.ensures.same told.advanced.grown
-    (laws.advance desk after told.event (mine start) told.advanced doing.mine_are)
-    (laws.job desk after told.event told.advanced) in
+    let reported = c.step-answer.ensures.answered in
+    let stepped = goes_on number job start desk after doing c.step-answer.ensures.same reported.advanced.grown
+    (laws.advance desk after reported.event (mine start) reported.advanced doing.mine_are)
+    (laws.job desk after reported.event reported.advanced) in
     runs_on number job start laws.advance laws.job c.run-made.result after c.run-made.new.self stepped c.run-made.ensures.run
 
 pub returns-else-not-matches : goal.returns-else-not-matches
@@ -18,7 +18,7 @@ returns-else-not-matches g c start number job doing =
     let laws = c.own_records_are_of_own_jobs.ensures in
     let desk = c.args.self.now.desk in
     let after = c.step-answer.new.self in
-    let told = c.step-answer.ensures.answered in
-    goes_on number job start desk after doing c.step-answer.ensures.same told.advanced.grown
-    (laws.advance desk after told.event (mine start) told.advanced doing.mine_are)
-    (laws.job desk after told.event told.advanced)
+    let reported = c.step-answer.ensures.answered in
+    goes_on number job start desk after doing c.step-answer.ensures.same reported.advanced.grown
+    (laws.advance desk after reported.event (mine start) reported.advanced doing.mine_are)
+    (laws.job desk after reported.event reported.advanced)

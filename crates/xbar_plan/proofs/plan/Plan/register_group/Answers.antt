@@ -19,7 +19,7 @@ overflow_cast-result c =
     let same : c.unwrap_or.result ≡ register_group_of c.args.self.now = search rules in
     omega (arith, same, below_16 c.args.self.now lawful)
 
--- src/plan.rt:128:5
+-- the number of the register group is below sixteen
 pub returns-clause-range : goal.returns-clause-range
 returns-clause-range c =
     let lawful : IsLawful c.args.self.now = search rules in

@@ -5,6 +5,6 @@ use Rattle.toml.specs.View.{view}
 use Rattle.xbar_plan_text.specs.Texts.{read_all}
 use Rattle.xbar_plan_text.proofs.read.document.texts_of_array.Given as goal
 
--- those so far read as what was kept
+-- the items so far, as read, are those kept
 abbrev pub invariant-loop-item : goal.invariant-loop-item
 invariant-loop-item l = read_all (λ value. as_str (view value)) (take l.item-index l.items) ≡ Some (map (λ text. text.now) l.texts.items)

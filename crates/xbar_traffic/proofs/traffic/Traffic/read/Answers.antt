@@ -2,9 +2,9 @@ use Rattle.std.proofs.Common.{◌≡◌, ◌∙◌, ◌||◌, Ok, Err, sym, ap, 
 use Rattle.std.specs.Result.{is_ok}
 use Rattle.csv.specs.Records.{fields_of}
 use Rattle.csv.specs.Reading.{strip_bom}
-use Rattle.xbar_traffic.specs.Numbers.{stands}
-use Rattle.xbar_traffic.specs.Traffic.{has_number, stands_in}
-use Rattle.xbar_traffic.proofs.RowsSoFar.{judged_by_same, stands_in-more}
+use Rattle.xbar_traffic.specs.Numbers.{contains}
+use Rattle.xbar_traffic.specs.Traffic.{has_number, is_in_rows}
+use Rattle.xbar_traffic.proofs.RowsSoFar.{judged_by_same, is_in_rows-more}
 use Rattle.xbar_traffic.proofs.UnderWay.{begins, ends, goes_on, stops}
 use Rattle.xbar_traffic.proofs.traffic.Traffic.read.Goals as goal
 
@@ -35,7 +35,7 @@ returns-in-Err-judge c =
     let took = rw c.in-Ok-true.field-0-test at (c.in-Ok-true.ensures.reads u.trim u.ready) in
     let judged = rw c.in-Err-judge.is at c.judge.ensures.judged in
     stops c.args.mode (strip_bom c.args.bytes.now) c.loop-row.reader c.read_byte_record.new.self c.loop-row.rows.items (fields_of c.read_byte_record.new.row) c.in-Err-judge.fault u took
-    (judged_by_same c.args.mode (stands c.loop-row.numbers) (stands_in c.loop-row.rows.items) c.loop-row.invariant.numbers (fields_of c.read_byte_record.new.row) (Err c.in-Err-judge.fault) judged)
+    (judged_by_same c.args.mode (contains c.loop-row.numbers) (is_in_rows c.loop-row.rows.items) c.loop-row.invariant.numbers (fields_of c.read_byte_record.new.row) (Err c.in-Err-judge.fault) judged)
 
 pub loop-row-preserved : goal.loop-row-preserved
 loop-row-preserved c =
@@ -48,7 +48,7 @@ loop-row-preserved c =
     rw items record {
       reading = goes_on c.args.mode (strip_bom c.args.bytes.now) c.loop-row.reader c.read_byte_record.new.self c.loop-row.rows.items (fields_of c.read_byte_record.new.row) c.in-Ok.row u took
           (c.in-Ok-true.ensures.ready u.trim) c.in-Ok-true.ensures.flexible
-          (judged_by_same c.args.mode (stands c.loop-row.numbers) (stands_in c.loop-row.rows.items) c.loop-row.invariant.numbers (fields_of c.read_byte_record.new.row) (Ok c.in-Ok.row) judged);
-      numbers = λ number. numbers number ∙ ap (λ (stood : Bool). stood || has_number number c.in-Ok.row) (c.loop-row.invariant.numbers number)
-          ∙ sym (stands_in-more c.loop-row.rows.items c.in-Ok.row number);
+          (judged_by_same c.args.mode (contains c.loop-row.numbers) (is_in_rows c.loop-row.rows.items) c.loop-row.invariant.numbers (fields_of c.read_byte_record.new.row) (Ok c.in-Ok.row) judged);
+      numbers = λ number. numbers number ∙ ap (λ (seen : Bool). seen || has_number number c.in-Ok.row) (c.loop-row.invariant.numbers number)
+          ∙ sym (is_in_rows-more c.loop-row.rows.items c.in-Ok.row number);
     }

@@ -8,4 +8,4 @@ unfolding assignment_line
 returns c =
     let ended = c.in_ok-end_tests.ensures in
     let line = assignment_line c.args.marker c.args.job_no c.args.job.now in
-    lines_added c.args.self.now _ ended.telling line c.args.self.now.joined ended.number (c.in_ok-writeln.ensures.bytes ∙ ap (λ (text : List ℕ). text ++ line) ended.told) ended.none
+    lines_added c.args.self.now _ ended.detail line c.args.self.now.joined ended.number (c.in_ok-writeln.ensures.bytes ∙ ap (λ (text : List ℕ). text ++ line) ended.observed) ended.none

@@ -7,4 +7,4 @@ pub returns : goal.returns
 unfolding settling_line
 returns c =
     let ended = c.in_ok-end_tests.ensures in
-    lines_added c.args.self.now _ ended.telling settling_line c.args.self.now.joined ended.number (c.in_ok-push_str.ensures.bytes ∙ ap (λ (text : List ℕ). text ++ settling_line) ended.told) ended.none
+    lines_added c.args.self.now _ ended.detail settling_line c.args.self.now.joined ended.number (c.in_ok-push_str.ensures.bytes ∙ ap (λ (text : List ℕ). text ++ settling_line) ended.observed) ended.none

@@ -1,7 +1,0 @@
-use Rattle.attempts.proofs.attempt.Attempt.go_on.Goals as goal
-
-pub decide-requires : goal.decide-requires
-decide-requires g c = search
-
-pub want-requires : goal.want-requires
-want-requires g c = search

@@ -1,8 +1,0 @@
-use Rattle.std.proofs.Common.{◌<◌, ℕ, arith, ap, length, subst, sym}
-use Rattle.desk_attempts.proofs.ahead.Ahead.hold.Goals as goal
-
-pub hold-requires : goal.hold-requires
-hold-requires g c = (grind arith steps 60000000, subst (λ (n : ℕ). n < g.row.HELD) (ap (λ a. length a.far.held) (sym c.self.view_is)) c.requires)
-
-pub count_steps-requires : goal.count_steps-requires
-count_steps-requires g c = grind arith steps 60000000

@@ -1,0 +1,6 @@
+use Rattle.turns.specs.System.{system_of}
+use Rattle.desks.proofs.Dealing.{empties}
+use Rattle.desks.proofs.meeting.split_empty_seat.Goals as goal
+
+pub split_seat-requires : goal.split_seat-requires
+split_seat-requires g c = (c.requires.table.0, c.requires.table.1, empties (system_of (g.F.Jobs.system c.args.shared.now.key.setting.value)) c.args.shared.now.key.count c.args.seat.now.id c.args.seat.now.me.0)

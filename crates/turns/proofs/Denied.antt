@@ -1,0 +1,99 @@
+-- an actor is denied a lock by the judgement of that lock's word
+use Rattle.std.proofs.Common.{◌≡◌, ℕ, Bool, true, false, inl, inr, refl, ap, ◌∙◌, subst}
+use Rattle.std.specs.Prelude.{◌==◌, ⊤, if◌then◌else◌}
+use Rattle.std.proofs.lemmas.Bool.{eqb-false}
+use Rattle.turns.specs.Sharing.{with_request}
+use Rattle.turns.specs.System.{System}
+use Rattle.turns.specs.Attempt.{answer_to, unless_denied}
+use Rattle.turns.specs.declared.act.Act.{Act}
+use Rattle.turns.specs.declared.act.Act.TheVariants.{Finished, Request, Seize, Withdraw, Free as FreeAct, Test, Turn as TurnAct, Make}
+use Rattle.turns.specs.Denied.{IsDeniedBy}
+use Rattle.turns.specs.declared.answer.Answer.{Answer}
+use Rattle.turns.specs.declared.answer.Answer.TheVariants.{Requested, Seized, Held, Preferred, Changed, Value, Turn, Done}
+use Rattle.turns.specs.declared.judgement.Judgement.{Judgement}
+use Rattle.turns.specs.declared.judgement.Judgement.TheVariants as judgement
+
+-- an answer that denies no lock
+abbrev GoesOn : Answer → Type 0
+GoesOn (Requested word) = ⊤
+GoesOn Seized = ⊤
+GoesOn (Held holder) = ⊥
+GoesOn (Preferred other) = ⊥
+GoesOn (Changed word) = ⊤
+GoesOn (Value value) = ⊤
+GoesOn (Turn number) = ⊤
+GoesOn Done = ⊤
+
+-- an answer denies a lock, and comes of this judgement alone
+record ComesOf (answer : Answer) (judged : Judgement) : Type 0 where
+  pub stops : ¬ GoesOn answer
+  pub tells : (other : Answer) (j : Judgement) → GoesOn other → unless_denied other j ≡ answer → j ≡ judged
+
+held_comes : (holder : ℕ) → ComesOf (Held holder) (judgement.Held holder)
+held_comes holder = record { stops = λ goes. goes; tells = tells } where
+  tells : (other : Answer) (j : Judgement) → GoesOn other → unless_denied other j ≡ Held holder
+      → j ≡ judgement.Held holder
+  tells other judgement.Free goes same = absurd (subst GoesOn same goes)
+  tells other (judgement.Held one) goes same =
+      let one_holder : one ≡ holder = cc in
+      ap judgement.Held one_holder
+  tells other (judgement.Preferred actor) goes same = absurd cc
+
+preferred_comes : (other : ℕ) → ComesOf (Preferred other) (judgement.Preferred other)
+preferred_comes other = record { stops = λ goes. goes; tells = tells } where
+  tells : (answer : Answer) (j : Judgement) → GoesOn answer → unless_denied answer j ≡ Preferred other
+      → j ≡ judgement.Preferred other
+  tells answer judgement.Free goes same = absurd (subst GoesOn same goes)
+  tells answer (judgement.Held holder) goes same = absurd cc
+  tells answer (judgement.Preferred one) goes same =
+      let one_other : one ≡ other = cc in
+      ap judgement.Preferred one_other
+
+module _ (O : System) where
+  open O use {Lock, Effect, sharing}
+
+  module _ (k found : ℕ) (answer : Answer) (judged : Judgement) (comes : ComesOf answer judged)
+    where
+      -- no other answer is this one
+      not_so : {A : Type 0} (other : Answer) → GoesOn other → other ≡ answer → A
+      not_so other goes same = absurd (comes.stops (subst GoesOn same goes))
+
+      put_off_taking : (lock : Lock) (expected : ℕ) (b : Bool) → (found == expected) ≡ b
+          → (if b then Seized else unless_denied (Changed found) (sharing.judged k found)) ≡ answer
+          → IsDeniedBy O k (Seize lock expected) found judged
+      put_off_taking lock expected true at same = not_so Seized tt same
+      put_off_taking lock expected false at same = record {
+        lock = lock;
+        asks = inr (expected, refl, eqb-false found expected at);
+        says =
+            ap (λ (b : Bool). sharing.judged k (if b then sharing.taken k expected else found)) at ∙
+            comes.tells (Changed found) (sharing.judged k found) tt same;
+      }
+
+      put_off_by : (step : Act Lock Effect) → answer_to O k step found ≡ answer
+          → IsDeniedBy O k step found judged
+      put_off_by (Request lock) same =
+          let word = with_request sharing k found in
+          let says = comes.tells (Requested word) (sharing.judged k word) tt same in
+          record { lock = lock; asks = inl refl; says = says }
+      put_off_by (Seize lock expected) same =
+          put_off_taking lock expected (found == expected) refl same
+      put_off_by Finished same = not_so Done tt same
+      put_off_by (Withdraw lock) same = not_so Done tt same
+      put_off_by (FreeAct lock) same = not_so Done tt same
+      put_off_by (Test word) same = not_so (Value found) tt same
+      put_off_by TurnAct same = not_so (Turn found) tt same
+      put_off_by (Make effect) same = not_so Done tt same
+
+  pub put_off_held : (k found holder : ℕ) (step : Act Lock Effect)
+      → answer_to O k step found ≡ Held holder
+      → IsDeniedBy O k step found (judgement.Held holder)
+  put_off_held k found holder step same =
+      put_off_by k found (Held holder) (judgement.Held holder) (held_comes holder) step same
+
+  pub put_off_preferred : (k found other : ℕ) (step : Act Lock Effect)
+      → answer_to O k step found ≡ Preferred other
+      → IsDeniedBy O k step found (judgement.Preferred other)
+  put_off_preferred k found other step same =
+      let comes = preferred_comes other in
+      put_off_by k found (Preferred other) (judgement.Preferred other) comes step same

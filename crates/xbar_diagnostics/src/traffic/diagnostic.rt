@@ -1,0 +1,63 @@
+use crate::quoted::Quoted;
+use std::fmt;
+use xbar_traffic::{RowFault, TrafficFault};
+
+/// Why a row is wrong.
+#[derive(Clone, Copy, Debug)]
+pub enum TrafficReason {
+    /// In fixed words.
+    Said(&'static str),
+    /// The row has this number of fields instead of 5.
+    FieldCount(usize),
+    /// The field isn't a number from 0 to this one.
+    NoNumber(u32),
+    /// An earlier row has the number of the job or call too. Row and line are counted from 1.
+    NumberTwice { row: u64, line: u64 },
+}
+
+impl fmt::Display for TrafficReason {
+    fn fmt<W: fmt::Write>(&self, f: &mut fmt::Formatter<W>) -> fmt::Result {
+        match self {
+            TrafficReason::Said(words) => f.write_str(words),
+            TrafficReason::FieldCount(count) => write!(f, "expected 5 fields, found {count}"),
+            TrafficReason::NoNumber(most) => {
+                write!(
+                    f,
+                    "expected a number from 0 to {most} without leading zeros"
+                )
+            }
+            TrafficReason::NumberTwice { row, line } => {
+                write!(f, "duplicate number, first used on line {line} (row {row})")
+            }
+        }
+    }
+}
+
+/// What is wrong with refused traffic. Its sentence begins with the row.
+#[derive(Debug, Drop)]
+pub struct TrafficDiagnostic {
+    pub fault: TrafficFault,
+    /// The line on which the row begins, counted from 1.
+    pub line: u64,
+    /// The number of the wrong field, counted from 1, and its text. None if the row is wrong as a
+    /// whole.
+    pub field: Option<(usize, Vec<u8>)>,
+    pub reason: TrafficReason,
+}
+
+impl fmt::Display for TrafficDiagnostic {
+    fn fmt<W: fmt::Write>(&self, f: &mut fmt::Formatter<W>) -> fmt::Result {
+        let TrafficFault { row, fault } = self.fault;
+        let (line, reason) = (self.line, self.reason);
+        write!(f, "traffic line {line} (row {row})")?;
+        if let Some((number, text)) = &self.field {
+            let text = Quoted(text);
+            write!(f, ", field {number} {text}")?;
+        }
+        write!(f, ": {reason} ({fault}")?;
+        if let RowFault::Marker(why) = fault {
+            write!(f, ", {why}")?;
+        }
+        f.write_str(")")
+    }
+}

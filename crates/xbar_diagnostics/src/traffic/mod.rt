@@ -1,0 +1,109 @@
+//! Diagnostics of traffic.
+
+mod diagnostic;
+mod field;
+mod records;
+
+ghost use Rattle.std.specs.Prelude.{◌≡◌, IfOk, IfSome};
+
+use csv::ByteRecord;
+pub use diagnostic::{TrafficDiagnostic, TrafficReason};
+use records::{line_of, records_up_to};
+use std::alloc::{AllocError, Global};
+use xbar_traffic::{MarkerFault, Mode, RowFault, TrafficFault};
+
+/// Finds what is wrong with traffic of this mode that was refused for this fault. Returns None if
+/// there is no row with that number, or if the row doesn't have the fault. Whether a marker
+/// refuses the row (T5) isn't checked.
+pub fn traffic_diagnostic(
+    alloc: Global,
+    mode: Mode,
+    bytes: &[u8],
+    fault: TrafficFault,
+) -> Result<Option<TrafficDiagnostic>, AllocError>
+    ensures { IfOk result
+        (λ diagnostic. IfSome diagnostic (λ diagnostic. diagnostic.fault ≡ fault)) }
+{
+    let records = records_up_to(alloc, bytes, fault.row)?;
+    let Some((record, before)) = records.split_last() else {
+        return Ok(None);
+    };
+    if records.len() as u64 != fault.row {
+        return Ok(None);
+    }
+    let Some((index, reason)) = wrong_with_record(mode, bytes, before, record, fault.fault) else {
+        return Ok(None);
+    };
+    let field = match record.get(index) {
+        Some(text) => Some((index.saturating_add(1), text.to_vec(alloc)?)),
+        None => None,
+    };
+    Ok(Some(TrafficDiagnostic {
+        fault,
+        line: line_of(bytes, record),
+        field,
+        reason,
+    }))
+}
+
+/// The index of the field in which a record has this fault, and the reason. If the record is wrong
+/// as a whole, the index is past its last field.
+fn wrong_with_record(
+    mode: Mode,
+    bytes: &[u8],
+    before: &[ByteRecord],
+    record: &ByteRecord,
+    fault: RowFault,
+) -> Option<(usize, TrafficReason)> {
+    let (index, words) = match fault {
+        RowFault::Unreadable => return wrong_count(record.len()),
+        RowFault::UnknownKind => field::unknown_kind(mode, record)?,
+        RowFault::OtherMode => field::other_mode(mode, record)?,
+        RowFault::Malformed => return field::malformed_field(record),
+        RowFault::NumberTwice => return number_twice(bytes, before, record),
+        RowFault::Marker(why) => refused_by_marker(why),
+    };
+    Some((index, TrafficReason::Said(words)))
+}
+
+fn wrong_count(count: usize) -> Option<(usize, TrafficReason)> {
+    if count == 5 {
+        None
+    } else {
+        Some((count, TrafficReason::FieldCount(count)))
+    }
+}
+
+/// The index of the field that a marker refuses, and the reason.
+fn refused_by_marker(why: MarkerFault) -> (usize, &'static str) {
+    match why {
+        MarkerFault::NoMarker => (1, "the office has no such marker"),
+        MarkerFault::NotIdle => (
+            1,
+            "this marker is still at its job; give it more steps first",
+        ),
+        MarkerFault::WrongKind => (3, "this row's marker does no jobs of this kind"),
+    }
+}
+
+/// The index of the field with the number of a job or a call, and the first row that has it too.
+fn number_twice(
+    bytes: &[u8],
+    before: &[ByteRecord],
+    record: &ByteRecord,
+) -> Option<(usize, TrafficReason)> {
+    let letter = record.get(0)?;
+    let index = match letter {
+        b"J" => 2,
+        b"C" => 1,
+        _ => return None,
+    };
+    let number = record.get(index)?;
+    let earlier = before.iter().position(|row| row.get(0) == Some(letter)
+        && row.get(index) == Some(number))?;
+    let reason = TrafficReason::NumberTwice {
+        row: (earlier as u64).saturating_add(1),
+        line: line_of(bytes, before.get(earlier)?),
+    };
+    Some((index, reason))
+}

@@ -1,0 +1,32 @@
+-- walks that make steps of their own, once a calling line's path was traced
+use Rattle.std.proofs.Common.{◌≡◌, ℕ, List, [], ap, sym, subst, ◌∙◌}
+use Rattle.std.specs.Prelude.{Option, Result, Ok, Err}
+use Rattle.attempts.proofs.Points.{gone_through}
+use Rattle.xbar_equip.specs.Conn.{conn_eq}
+use Rattle.xbar_equip.specs.Len.{Line}
+use Rattle.xbar_equip.specs.declared.path.Path.{Path}
+use Rattle.xbar_jobs.specs.Script.{WalkState, Wanted, walk_on_words, walk}
+use Rattle.xbar_jobs.specs.Tracing.{HasTraced, approach, trace}
+use Rattle.xbar_jobs.specs.declared.party.Party.{Party}
+use Rattle.xbar_jobs.proofs.WalksOnWords.{comes, found_now, grown, known}
+
+-- who was approached is approached again by no step
+pub approached_there : (line : Line) (calling : Party) (course : WalkState) (words : List ℕ) → walk course.seen (approach line) ≡ Ok calling → comes (Ok calling) course words ≡ walk_on_words [] (approach line) course words
+approached_there line calling course words is = sym (known (approach line) course words calling is)
+
+abbrev found_or : {A : Type 0} → A → Result A Wanted → A
+found_or other (Ok found) = found
+found_or other (Err wanted) = other
+
+-- and a path that was traced is traced again by none
+pub traced_there : (line : Line) (calling party : Party) (own : Option Path) (course : WalkState) (words : List ℕ) → HasTraced line calling own course.seen → walk course.seen (approach line) ≡ Ok party → comes (Ok own) course words ≡ walk_on_words [] (trace party) course words
+traced_there line calling party own course words has is =
+    let one : calling ≡ party = ap (λ (r : Result Party Wanted). found_or calling r) (sym has.approached ∙ is) in
+    sym (known (trace party) course words own (subst (λ (p : Party). walk course.seen (trace p) ≡ Ok own) one has.traced))
+
+-- what is traced now was
+pub traced_now : (line : Line) (calling : Party) (own : Option Path) (course more : WalkState) (words after : List ℕ) → walk course.seen (approach line) ≡ Ok calling → comes (Ok own) more after ≡ walk_on_words [] (trace calling) course words → HasTraced line calling own more.seen
+traced_now line calling own course more words after approached traced = record {
+  approached = gone_through conn_eq course.seen more.seen (approach line) calling (grown (trace calling) course more words after (Ok own) traced) approached;
+  traced = found_now (trace calling) course more words after (Ok own) traced;
+}
