@@ -183,51 +183,51 @@ module _ {Lock Job Reply Effect Decision ResumePoint : Type 0} (same : Lock → 
   })
 
   -- its walk goes on by what it has seen
-  module _ (mid p : Doing) (course : WalkState Lock) (inside : p ≡ mid) (course_is : course.seen ≡ seen_of (outside p)) where
+  module _ (mid p : Doing) (state : WalkState Lock) (inside : p ≡ mid) (state_is : state.seen ≡ seen_of (outside p)) where
     -- what the walk needs next
     pub record Able : Type 0 where
       pub job : S.IsJob p.job
-      pub read : AreReadWords course.seen.readings
-      pub valid_point : ResumePointIsValid p.job p.point course.seen
+      pub read : AreReadWords state.seen.readings
+      pub valid_point : ResumePointIsValid p.job p.point state.seen
 
     pub able : CanWalk same reply_of effects_of S ResumePointIsValid mid → Able
     able can =
         let here : CanWalk same reply_of effects_of S ResumePointIsValid p = subst (λ (x : Doing). CanWalk same reply_of effects_of S ResumePointIsValid x) (sym inside) can in
         record {
           job = here.job;
-          read = subst (λ (s : Seen Lock). AreReadWords s.readings) (sym course_is) here.read;
-          valid_point = subst (ResumePointIsValid p.job p.point) (sym course_is) here.valid_point;
+          read = subst (λ (s : Seen Lock). AreReadWords s.readings) (sym state_is) here.read;
+          valid_point = subst (ResumePointIsValid p.job p.point) (sym state_is) here.valid_point;
         }
 
   -- where the walk leads, as the attempt's view has it
-  module _ (reads seizes most hold : ℕ) (words after : List ℕ) (found : Result Decision (Wanted Lock ℕ)) where
+  module _ (reads seizes most held_word : ℕ) (words after : List ℕ) (found : Result Decision (Wanted Lock ℕ)) where
     abbrev BySteps : Doing → Doing → ℕ → Type 0
-    BySteps old new left = WalksBySteps same S ResumePointIsValid reads seizes most hold old words new after found left
+    BySteps old new left = WalksBySteps same S ResumePointIsValid reads seizes most held_word old words new after found left
 
-    pub walks_by_steps : (old p : Doing) (course more : WalkState Lock) (q : ResumePoint) (left : ℕ) → p ≡ old → course ≡ record { seen = seen_of (outside p); left = most; hold = hold } → left ≡ more.left
-        → record { found = found; course = more; words = after } ≡ walk_on_words same S.lock_word reads seizes (λ word value. value) (S.script p.job) course words → ResumePointIsValid p.job q more.seen
+    pub walks_by_steps : (old p : Doing) (state more : WalkState Lock) (q : ResumePoint) (left : ℕ) → p ≡ old → state ≡ record { seen = seen_of (outside p); left = most; held_word = held_word } → left ≡ more.left
+        → record { found = found; state = more; words = after } ≡ walk_on_words same S.lock_word reads seizes (λ word value. value) (S.script p.job) state words → ResumePointIsValid p.job q more.seen
         → BySteps old (record p { point = q; readings = more.seen.readings; held = more.seen.held }) left
-    walks_by_steps old p course more q left inside course_is left_is walks valid_point = subst (λ (x : Doing). BySteps x (record p { point = q; readings = more.seen.readings; held = more.seen.held }) left) inside (record {
+    walks_by_steps old p state more q left inside state_is left_is walks valid_point = subst (λ (x : Doing). BySteps x (record p { point = q; readings = more.seen.readings; held = more.seen.held }) left) inside (record {
       still = refl;
-      hold_then = more.hold;
-      walk = ap (λ (n : ℕ). record { found = found; course = record { seen = more.seen; left = n; hold = more.hold }; words = after }) left_is ∙ walks
-          ∙ ap (λ (x : WalkState Lock). walk_on_words same S.lock_word reads seizes (λ word value. value) (S.script p.job) x words) course_is;
+      held_word_then = more.held_word;
+      walk = ap (λ (n : ℕ). record { found = found; state = record { seen = more.seen; left = n; held_word = more.held_word }; words = after }) left_is ∙ walks
+          ∙ ap (λ (x : WalkState Lock). walk_on_words same S.lock_word reads seizes (λ word value. value) (S.script p.job) x words) state_is;
       valid_point = valid_point;
     })
 
     -- without words it acquires nothing more
     module _ (old mid : Doing) (left : ℕ) (by : BySteps old mid left) (none : words ≡ []) where
-      abbrev course : WalkState Lock
-      course = record { seen = seen_of (outside old); left = most; hold = hold }
+      abbrev state : WalkState Lock
+      state = record { seen = seen_of (outside old); left = most; held_word = held_word }
 
-      comes : ◌≡◌ {A = WalkOutcome Lock Decision} (record { found = found; course = record { seen = seen_of (outside mid); left = left; hold = by.hold_then }; words = after }) (record { found = walk same course.seen (S.script old.job); course = course; words = [] })
-      comes = by.walk ∙ ap (walk_on_words same S.lock_word reads seizes (λ word value. value) (S.script old.job) course) none ∙ walk_none same S.lock_word reads seizes (S.script old.job) course
+      comes : ◌≡◌ {A = WalkOutcome Lock Decision} (record { found = found; state = record { seen = seen_of (outside mid); left = left; held_word = by.held_word_then }; words = after }) (record { found = walk same state.seen (S.script old.job); state = state; words = [] })
+      comes = by.walk ∙ ap (walk_on_words same S.lock_word reads seizes (λ word value. value) (S.script old.job) state) none ∙ walk_none same S.lock_word reads seizes (S.script old.job) state
 
       found_is : found ≡ walk same (seen_of (outside old)) (S.script old.job)
       found_is = ap (λ (x : WalkOutcome Lock Decision). x.found) comes
 
       seen_is : seen_of (outside mid) ≡ seen_of (outside old)
-      seen_is = ap (λ (x : WalkOutcome Lock Decision). x.course.seen) comes
+      seen_is = ap (λ (x : WalkOutcome Lock Decision). x.state.seen) comes
 
       pub walked : (new : Doing) → new ≡ continued mid found → Walks old new
       walked new made = walks_to old new mid.point found (sym found_is) (subst (ResumePointIsValid old.job mid.point) seen_is by.valid_point)

@@ -7,7 +7,7 @@ use Rattle.turns.specs.declared.act.Act.TheVariants.{Free, Finished}
 use Rattle.turns.specs.Runs.{is_finished}
 use Rattle.turns.specs.declared.answer.Answer.{Answer}
 use Rattle.turns.specs.declared.answer.Answer.TheVariants.{Done}
-use Rattle.turns.specs.Outcomes.{is_given_up}
+use Rattle.turns.specs.Outcomes.{is_giving_back}
 use Rattle.turns.specs.declared.phase.Phase.{Phase}
 use Rattle.turns.specs.declared.phase.Phase.TheVariants.{Requests, Seizes, Withdraws, GivesBack, Operates}
 use Rattle.attempts.specs.Counting.{is_at_beginning}
@@ -30,18 +30,18 @@ pub same_count : {Lock Job Decision ResumePoint : Type 0} (p now : AttemptView L
 same_count p now inside = ap (λ (x : AttemptView _ _ _ _). x.count) inside
 
 -- with more, or less, that is held or read
-pub with_seen : {Lock Job Decision ResumePoint : Type 0} (p now : AttemptView Lock Job Decision ResumePoint) (course made : WalkState Lock) (of : AttemptView Lock Job Decision ResumePoint → AttemptView Lock Job Decision ResumePoint) → p ≡ now → course ≡ made → record p { readings = made.seen.readings; held = made.seen.held } ≡ of p → record p { readings = course.seen.readings; held = course.seen.held } ≡ of now
-with_seen p now course made of inside is so = ap (λ (x : WalkState _). record p { readings = x.seen.readings; held = x.seen.held }) is ∙ so ∙ ap of inside
+pub with_seen : {Lock Job Decision ResumePoint : Type 0} (p now : AttemptView Lock Job Decision ResumePoint) (state made : WalkState Lock) (of : AttemptView Lock Job Decision ResumePoint → AttemptView Lock Job Decision ResumePoint) → p ≡ now → state ≡ made → record p { readings = made.seen.readings; held = made.seen.held } ≡ of p → record p { readings = state.seen.readings; held = state.seen.held } ≡ of now
+with_seen p now state made of inside is so = ap (λ (x : WalkState _). record p { readings = x.seen.readings; held = x.seen.held }) is ∙ so ∙ ap of inside
 
-pub forgets : {Lock Job Decision ResumePoint : Type 0} (p now : AttemptView Lock Job Decision ResumePoint) (course : WalkState Lock) (left hold : ℕ) → p ≡ now → course ≡ record { seen = record { held = p.held; readings = [] }; left = left; hold = hold } → record p { readings = course.seen.readings; held = course.seen.held; decision = None; made = 0 } ≡ record now { readings = []; decision = None; made = 0 }
-forgets p now course left hold inside is = ap (λ (x : WalkState _). record p { readings = x.seen.readings; held = x.seen.held; decision = None; made = 0 }) is ∙ ap (λ (x : AttemptView _ _ _ _). record x { readings = []; decision = None; made = 0 }) inside
+pub forgets : {Lock Job Decision ResumePoint : Type 0} (p now : AttemptView Lock Job Decision ResumePoint) (state : WalkState Lock) (left held_word : ℕ) → p ≡ now → state ≡ record { seen = record { held = p.held; readings = [] }; left = left; held_word = held_word } → record p { readings = state.seen.readings; held = state.seen.held; decision = None; made = 0 } ≡ record now { readings = []; decision = None; made = 0 }
+forgets p now state left held_word inside is = ap (λ (x : WalkState _). record p { readings = x.seen.readings; held = x.seen.held; decision = None; made = 0 }) is ∙ ap (λ (x : AttemptView _ _ _ _). record x { readings = []; decision = None; made = 0 }) inside
 
 pub begins_anew : {Lock Job Decision ResumePoint : Type 0} (p now new : AttemptView Lock Job Decision ResumePoint) (held : List Lock) (first : Lock) (point : ResumePoint) → p ≡ now → held ≡ [] → new ≡ record p { point = point; readings = []; held = held; phase = Requests first; decision = None; made = 0 } → new ≡ record (begun_at now.job first point) { count = now.count }
 begins_anew p now new held first point inside none made = made ∙ ap (λ (h : List _). record p { point = point; readings = []; held = h; phase = Requests first; decision = None; made = 0 }) none ∙ ap (λ (x : AttemptView _ _ _ _). record (begun_at x.job first point) { count = x.count }) inside
 
 -- with nothing read and nothing held
-pub is_new : {Lock Job Decision ResumePoint : Type 0} (job : Job) (point : ResumePoint) (first : Lock) (course : WalkState Lock) → course ≡ record { seen = record { held = []; readings = [] }; left = 0; hold = 0 } → ◌≡◌ {A = AttemptView Lock Job Decision ResumePoint} (record { job = job; point = point; readings = course.seen.readings; held = course.seen.held; phase = Requests first; decision = None; made = 0; count = 0 }) (begun_at job first point)
-is_new {Lock} {Job} {Decision} {ResumePoint} job point first course is = ap made is where
+pub is_new : {Lock Job Decision ResumePoint : Type 0} (job : Job) (point : ResumePoint) (first : Lock) (state : WalkState Lock) → state ≡ record { seen = record { held = []; readings = [] }; left = 0; held_word = 0 } → ◌≡◌ {A = AttemptView Lock Job Decision ResumePoint} (record { job = job; point = point; readings = state.seen.readings; held = state.seen.held; phase = Requests first; decision = None; made = 0; count = 0 }) (begun_at job first point)
+is_new {Lock} {Job} {Decision} {ResumePoint} job point first state is = ap made is where
   made : WalkState Lock → AttemptView Lock Job Decision ResumePoint
   made x = record { job = job; point = point; readings = x.seen.readings; held = x.seen.held; phase = Requests first; decision = None; made = 0; count = 0 }
 
@@ -60,7 +60,7 @@ asks_none (Requests lock) neither not = absurd (neither lock refl)
 asks_none (Seizes lock expected) neither not = absurd (not lock expected refl)
 asks_none phase neither not = refl
 
-pub goes_ahead : {Lock : Type 0} (phase : Phase Lock ℕ) → ((lock : Lock) → phase ≡ Withdraws lock → ⊥) → (phase ≡ GivesBack → ⊥) → false ≡ is_given_up phase
+pub goes_ahead : {Lock : Type 0} (phase : Phase Lock ℕ) → ((lock : Lock) → phase ≡ Withdraws lock → ⊥) → (phase ≡ GivesBack → ⊥) → false ≡ is_giving_back phase
 goes_ahead (Withdraws lock) neither not = absurd (neither lock refl)
 goes_ahead GivesBack neither not = absurd (not refl)
 goes_ahead phase neither not = refl

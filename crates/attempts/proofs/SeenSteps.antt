@@ -18,19 +18,19 @@ module _ {Lock : Type 0} (same : Lock → Lock → Bool) (reads seizes : ℕ) (w
         ap (λ (b : Bool). by_tests b (may_seize p.left (seizes - length p.seen.held) (slice_get words (word_of lock)))) is
         ∙ ap (by_tests held) (ap (λ (n : ℕ). may_seize p.left (seizes - length p.seen.held) (slice_get words n)) own ∙ can)
 
-    pub seizes_held : is_held same p.seen.held lock ≡ true → record { found = Ok tt; course = now; words = words } ≡ walk_on_words same word_of reads seizes change (seize lock) now words
+    pub seizes_held : is_held same p.seen.held lock ≡ true → record { found = Ok tt; state = now; words = words } ≡ walk_on_words same word_of reads seizes change (seize lock) now words
     unfolding walk_on_words walk_on_words_seize
-    seizes_held held = sym (subst (λ (x : WalkState Lock). walk_on_words same word_of reads seizes change (seize lock) p words ≡ record { found = Ok tt; course = x; words = words }) inside (seizing true _ held refl)) ∙ ap (λ (x : WalkState Lock). walk_on_words same word_of reads seizes change (seize lock) x words) inside
+    seizes_held held = sym (subst (λ (x : WalkState Lock). walk_on_words same word_of reads seizes change (seize lock) p words ≡ record { found = Ok tt; state = x; words = words }) inside (seizing true _ held refl)) ∙ ap (λ (x : WalkState Lock). walk_on_words same word_of reads seizes change (seize lock) x words) inside
 
-    pub seizes_none : is_held same p.seen.held lock ≡ false → may_seize p.left (seizes - length p.seen.held) (slice_get words at) ≡ false → record { found = Err (Seize lock); course = now; words = words } ≡ walk_on_words same word_of reads seizes change (seize lock) now words
+    pub seizes_none : is_held same p.seen.held lock ≡ false → may_seize p.left (seizes - length p.seen.held) (slice_get words at) ≡ false → record { found = Err (Seize lock); state = now; words = words } ≡ walk_on_words same word_of reads seizes change (seize lock) now words
     unfolding walk_on_words walk_on_words_seize
-    seizes_none held may = sym (subst (λ (x : WalkState Lock). walk_on_words same word_of reads seizes change (seize lock) p words ≡ record { found = Err (Seize lock); course = x; words = words }) inside (seizing false false held may)) ∙ ap (λ (x : WalkState Lock). walk_on_words same word_of reads seizes change (seize lock) x words) inside
+    seizes_none held may = sym (subst (λ (x : WalkState Lock). walk_on_words same word_of reads seizes change (seize lock) p words ≡ record { found = Err (Seize lock); state = x; words = words }) inside (seizing false false held may)) ∙ ap (λ (x : WalkState Lock). walk_on_words same word_of reads seizes change (seize lock) x words) inside
 
-    pub seizes_now : (more : List Lock) → more ≡ p.seen.held ++ lock ∷ [] → is_held same p.seen.held lock ≡ false → may_seize p.left (seizes - length p.seen.held) (slice_get words at) ≡ true → record { found = Ok tt; course = record { seen = record { held = more; readings = p.seen.readings }; left = p.left - 2; hold = p.hold }; words = slice_set words at p.hold } ≡ walk_on_words same word_of reads seizes change (seize lock) now words
+    pub seizes_now : (more : List Lock) → more ≡ p.seen.held ++ lock ∷ [] → is_held same p.seen.held lock ≡ false → may_seize p.left (seizes - length p.seen.held) (slice_get words at) ≡ true → record { found = Ok tt; state = record { seen = record { held = more; readings = p.seen.readings }; left = p.left - 2; held_word = p.held_word }; words = slice_set words at p.held_word } ≡ walk_on_words same word_of reads seizes change (seize lock) now words
     unfolding walk_on_words walk_on_words_seize
     seizes_now more pushed held may =
-        ap (λ (h : List Lock). record { found = Ok tt; course = record { seen = record { held = h; readings = p.seen.readings }; left = p.left - 2; hold = p.hold }; words = slice_set words at p.hold }) pushed
-        ∙ ap (λ (n : ℕ). record { found = Ok tt; course = with_lock p lock; words = slice_set words n p.hold }) (sym own)
+        ap (λ (h : List Lock). record { found = Ok tt; state = record { seen = record { held = h; readings = p.seen.readings }; left = p.left - 2; held_word = p.held_word }; words = slice_set words at p.held_word }) pushed
+        ∙ ap (λ (n : ℕ). record { found = Ok tt; state = with_lock p lock; words = slice_set words n p.held_word }) (sym own)
         ∙ sym (seizing false true held may)
         ∙ ap (λ (x : WalkState Lock). walk_on_words same word_of reads seizes change (seize lock) x words) inside
 
@@ -44,17 +44,17 @@ module _ {Lock : Type 0} (same : Lock → Lock → Bool) (reads seizes : ℕ) (w
     testing read found is there =
         ap (λ (o : Option ℕ). by_values o (read_at_once p.left (reads - length p.seen.readings) words word)) is ∙ ap (by_values read) there
 
-    pub tests_read : (value : ℕ) → value_read p.seen.readings word ≡ Some value → record { found = Ok (change word value); course = p; words = words } ≡ walk_on_words same word_of reads seizes change (test word) now words
+    pub tests_read : (value : ℕ) → value_read p.seen.readings word ≡ Some value → record { found = Ok (change word value); state = p; words = words } ≡ walk_on_words same word_of reads seizes change (test word) now words
     unfolding walk_on_words walk_on_words_test
     tests_read value read = sym (testing (Some value) _ read refl) ∙ ap (λ (x : WalkState Lock). walk_on_words same word_of reads seizes change (test word) x words) inside
 
-    pub tests_none : value_read p.seen.readings word ≡ None → read_at_once p.left (reads - length p.seen.readings) words word ≡ None → record { found = Err (Test word); course = p; words = words } ≡ walk_on_words same word_of reads seizes change (test word) now words
+    pub tests_none : value_read p.seen.readings word ≡ None → read_at_once p.left (reads - length p.seen.readings) words word ≡ None → record { found = Err (Test word); state = p; words = words } ≡ walk_on_words same word_of reads seizes change (test word) now words
     unfolding walk_on_words walk_on_words_test
     tests_none read found = sym (testing None None read found) ∙ ap (λ (x : WalkState Lock). walk_on_words same word_of reads seizes change (test word) x words) inside
 
-    pub tests_now : (value : ℕ) (more : List (Reading ℕ)) → more ≡ p.seen.readings ++ record { word = word; value = value } ∷ [] → value_read p.seen.readings word ≡ None → read_at_once p.left (reads - length p.seen.readings) words word ≡ Some value → record { found = Ok (change word value); course = record { seen = record { held = p.seen.held; readings = more }; left = p.left - 1; hold = p.hold }; words = words } ≡ walk_on_words same word_of reads seizes change (test word) now words
+    pub tests_now : (value : ℕ) (more : List (Reading ℕ)) → more ≡ p.seen.readings ++ record { word = word; value = value } ∷ [] → value_read p.seen.readings word ≡ None → read_at_once p.left (reads - length p.seen.readings) words word ≡ Some value → record { found = Ok (change word value); state = record { seen = record { held = p.seen.held; readings = more }; left = p.left - 1; held_word = p.held_word }; words = words } ≡ walk_on_words same word_of reads seizes change (test word) now words
     unfolding walk_on_words walk_on_words_test
     tests_now value more noted read found =
-        ap (λ (rs : List (Reading ℕ)). record { found = Ok (change word value); course = record { seen = record { held = p.seen.held; readings = rs }; left = p.left - 1; hold = p.hold }; words = words }) noted
+        ap (λ (rs : List (Reading ℕ)). record { found = Ok (change word value); state = record { seen = record { held = p.seen.held; readings = rs }; left = p.left - 1; held_word = p.held_word }; words = words }) noted
         ∙ sym (testing None (Some value) read found)
         ∙ ap (λ (x : WalkState Lock). walk_on_words same word_of reads seizes change (test word) x words) inside

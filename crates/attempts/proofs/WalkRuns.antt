@@ -16,7 +16,7 @@ use Rattle.attempts.specs.Validity.{AreScripts, CanWalk, ResumePointIsValidIn, A
 use Rattle.attempts.specs.SystemWith.{SystemWith, system_with}
 use Rattle.attempts.specs.Applied.{continued}
 use Rattle.attempts.proofs.WalkEnds.{Stuck, live_stuck, no_further, no_reading}
-use Rattle.attempts.proofs.WalkValidity.{Runs, comes_of, held_word, leads_place, run_on, runs}
+use Rattle.attempts.proofs.WalkValidity.{Runs, comes_of, leads_place, run_on, runs, the_held_word}
 use Rattle.attempts.proofs.Places.{fits_request, fits_test}
 use Rattle.attempts.proofs.Applied.{went, went_count, went_point}
 
@@ -44,7 +44,7 @@ module _ {Lock Job Reply Effect Decision ResumePoint : Type 0} (same : Lock → 
 
   -- what it writes into the word of a lock
   abbrev pub seized_word : ℕ
-  seized_word = held_word O are.is_system reads seizes are.asks k few zero_unused
+  seized_word = the_held_word O are.is_system reads seizes are.asks k few zero_unused
 
   module _ (old : Doing) (valid : IsValid same reply_of effects_of S ResumePointIsValid reads seizes old) (wants : WantsNext old.phase) (most : ℕ) (words after : List ℕ) (are_words : AreWords words) (below : seized_word < 2 ^ 64) (found : Result Decision (Wanted Lock ℕ)) (mid : Doing) (left : ℕ) (by : WalksBySteps same S ResumePointIsValid reads seizes most seized_word old words mid after found left) where
     abbrev comes : WalkOutcome Lock Decision
@@ -53,8 +53,8 @@ module _ {Lock Job Reply Effect Decision ResumePoint : Type 0} (same : Lock → 
     so : Runs O are.is_system reads seizes are.asks k few zero_unused (outside old) most words
     so = runs O are.is_system reads seizes are.asks k few zero_unused (outside old) most words wants valid.place.comes are_words below
 
-    left_is : left ≡ comes.course.left
-    left_is = ap (λ (x : WalkOutcome Lock Decision). x.course.left) by.walk
+    left_is : left ≡ comes.state.left
+    left_is = ap (λ (x : WalkOutcome Lock Decision). x.state.left) by.walk
 
     -- no more steps are left than there were
     pub left_fits : left ≤ most
@@ -69,7 +69,7 @@ module _ {Lock Job Reply Effect Decision ResumePoint : Type 0} (same : Lock → 
 
       new_is : running.moment same reply_of effects_of S ResumePointIsValid new after ≡ run_on O are.is_system reads seizes are.asks k few zero_unused (outside old) most words
       new_is = ap (λ (a : AttemptOf O). record { attempt = a; words = after }) (ap outside made ∙ went same reply_of effects_of S ResumePointIsValid then_seen mid.point found)
-          ∙ ap (λ (x : WalkOutcome Lock Decision). record { attempt = continued_by O (outside old) x.course x.found; words = x.words }) by.walk
+          ∙ ap (λ (x : WalkOutcome Lock Decision). record { attempt = continued_by O (outside old) x.state x.found; words = x.words }) by.walk
 
       made_by : so.made ≡ most - left
       made_by = omega (arith, left_is, so.spent)
@@ -90,10 +90,10 @@ module _ {Lock Job Reply Effect Decision ResumePoint : Type 0} (same : Lock → 
       seen_new f e = ap (λ (x : Doing). seen_of (outside x)) made ∙ ap (λ (r : Result Decision (Wanted Lock ℕ)). seen_of (outside (continued (record then_seen { point = mid.point }) r))) e
 
       abbrev more : WalkOutcome Lock Decision
-      more = record { found = found; course = record { seen = seen_of (outside mid); left = left; hold = by.hold_then }; words = after }
+      more = record { found = found; state = record { seen = seen_of (outside mid); left = left; held_word = by.held_word_then }; words = after }
 
       stuck : Stuck same S.lock_word reads seizes more
-      stuck = subst (Stuck same S.lock_word reads seizes) (sym by.walk) (live_stuck same S.lock_word reads seizes (S.script old.job) (record { seen = seen_of (outside old); left = most; hold = seized_word }) words)
+      stuck = subst (Stuck same S.lock_word reads seizes) (sym by.walk) (live_stuck same S.lock_word reads seizes (S.script old.job) (record { seen = seen_of (outside old); left = most; held_word = seized_word }) words)
 
       ends : (f : Result Decision (Wanted Lock ℕ)) → found ≡ f → CanRunNoFurther S.lock_word after left new.phase
       ends (Ok decision) e = subst (CanRunNoFurther S.lock_word after left) (sym (phase_is (Ok decision) e)) tt

@@ -61,8 +61,8 @@ module _ (O : System) (self : (lock : O.Lock) → O.same lock lock ≡ true) (re
   abbrev pub asked : ℕ
   asked = with_request O.sharing k 0
 
-  abbrev pub hold : ℕ
-  hold = O.sharing.taken k asked
+  abbrev pub held_word : ℕ
+  held_word = O.sharing.taken k asked
 
   abbrev plain : Script Lock Decision → WalkState Lock → List ℕ → WalkOutcome Lock Decision
   plain = walk_on_words O.same O.lock_word reads seizes (λ word value. value)
@@ -89,18 +89,18 @@ module _ (O : System) (self : (lock : O.Lock) → O.same lock lock ≡ true) (re
     }
 
   -- the seizing of a lock whose word is as expected
-  pub takes : (b : AttemptOf O) (lock : Lock) (words : List ℕ) → slice_index words (O.lock_word lock) ≡ asked → stepped O k (record { attempt = record b { phase = Seizes lock asked }; words = words }) ≡ record { attempt = walks_on O (record b { held = b.held ++ lock ∷ []; phase = Seizes lock asked }); words = slice_set words (O.lock_word lock) hold }
+  pub takes : (b : AttemptOf O) (lock : Lock) (words : List ℕ) → slice_index words (O.lock_word lock) ≡ asked → stepped O k (record { attempt = record b { phase = Seizes lock asked }; words = words }) ≡ record { attempt = walks_on O (record b { held = b.held ++ lock ∷ []; phase = Seizes lock asked }); words = slice_set words (O.lock_word lock) held_word }
   takes b lock words there = ap by_found there ∙ ap by_test (eq-eqb asked asked refl) where
     by_found : ℕ → Moment O
     by_found found = record {
       attempt = change O (record b { phase = Seizes lock asked }) (if found == asked then Seized else unless_denied (Changed found) (O.sharing.judged k found));
-      words = slice_set words (O.lock_word lock) (if found == asked then hold else found);
+      words = slice_set words (O.lock_word lock) (if found == asked then held_word else found);
     }
 
     by_test : Bool → Moment O
     by_test as_expected = record {
       attempt = change O (record b { phase = Seizes lock asked }) (if as_expected then Seized else unless_denied (Changed asked) (O.sharing.judged k asked));
-      words = slice_set words (O.lock_word lock) (if as_expected then hold else asked);
+      words = slice_set words (O.lock_word lock) (if as_expected then held_word else asked);
     }
 
   -- the reading of a word
@@ -152,83 +152,83 @@ module _ (O : System) (self : (lock : O.Lock) → O.same lock lock ≡ true) (re
 
   -- the steps that a walk makes by itself, from an attempt at what it needs, are single steps of
   -- actor k
-  pub live_steps : (a : AttemptOf O) (script : Script Lock Decision) (course : WalkState Lock) (words : List ℕ) → AreWords words → hold < 2 ^ 64 → course.hold ≡ hold → IsRest a script course.seen → IsMade O k a course words (walk O.same course.seen script) (plain script course words)
+  pub live_steps : (a : AttemptOf O) (script : Script Lock Decision) (state : WalkState Lock) (words : List ℕ) → AreWords words → held_word < 2 ^ 64 → state.held_word ≡ held_word → IsRest a script state.seen → IsMade O k a state words (walk O.same state.seen script) (plain script state words)
   unfolding walk_on_words walk_on_words_test walk_on_words_seize walk left left_of_test left_of_seizing first_wanted LeadsTo
-  live_steps a (Ends found) course words are below holds rest = record { made = 0; left = omega arith; steps = refl }
-  live_steps a (TestThen word script) course words are below holds rest =
-      at (value_read course.seen.readings word) (read_at_once course.left (reads - length course.seen.readings) words word) refl refl (λ value more. live_steps a (script value) more words are below) where
-        at : (read now : Option ℕ) → value_read course.seen.readings word ≡ read → read_at_once course.left (reads - length course.seen.readings) words word ≡ now
-            → ((value : ℕ) (more : WalkState Lock) → more.hold ≡ hold → IsRest a (script value) more.seen → IsMade O k a more words (walk O.same more.seen (script value)) (plain (script value) more words))
-            → IsMade O k a course words (first_wanted (left_of_test script (λ value. left O.same course.seen (script value)) word read)) (walk_on_words_test O.same O.lock_word reads seizes (λ word value. value) (λ value. plain (script value)) word course words read now)
-        at (Some value) now is there later = later value course holds (λ more grows. rest more grows ∙ rw (grows.readings word value is) refl)
+  live_steps a (Ends found) state words are below holds rest = record { made = 0; left = omega arith; steps = refl }
+  live_steps a (TestThen word script) state words are below holds rest =
+      at (value_read state.seen.readings word) (read_at_once state.left (reads - length state.seen.readings) words word) refl refl (λ value more. live_steps a (script value) more words are below) where
+        at : (read now : Option ℕ) → value_read state.seen.readings word ≡ read → read_at_once state.left (reads - length state.seen.readings) words word ≡ now
+            → ((value : ℕ) (more : WalkState Lock) → more.held_word ≡ held_word → IsRest a (script value) more.seen → IsMade O k a more words (walk O.same more.seen (script value)) (plain (script value) more words))
+            → IsMade O k a state words (first_wanted (left_of_test script (λ value. left O.same state.seen (script value)) word read)) (walk_on_words_test O.same O.lock_word reads seizes (λ word value. value) (λ value. plain (script value)) word state words read now)
+        at (Some value) now is there later = later value state holds (λ more grows. rest more grows ∙ rw (grows.readings word value is) refl)
         at None None is there later = record { made = 0; left = omega arith; steps = refl }
         at None (Some value) is there later = record {
           made = suc (made_later.made);
-          left = (let above : 0 < course.left = (read_there course.left (reads - length course.seen.readings) words word value there).0 in let then_left : course.left - 1 ≡ made_later.made + (plain (script value) more words).course.left = made_later.left in omega arith);
+          left = (let above : 0 < state.left = (read_there state.left (reads - length state.seen.readings) words word value there).0 in let then_left : state.left - 1 ≡ made_later.made + (plain (script value) more words).state.left = made_later.left in omega arith);
           steps = (tt, (are word, subst (λ (m : Moment O). LeadsTo O k made_later.made m last) (sym one) made_later.steps));
         } where
           more : WalkState Lock
-          more = with_reading course word value
+          more = with_reading state word value
 
           last : Moment O
-          last = record { attempt = continued_by O a (plain (script value) more words).course (plain (script value) more words).found; words = (plain (script value) more words).words }
+          last = record { attempt = continued_by O a (plain (script value) more words).state (plain (script value) more words).found; words = (plain (script value) more words).words }
 
           goes : (further : Seen Lock) → Grows O.same self more.seen further → walk O.same further (O.script a.job) ≡ walk O.same further (script value)
           goes further grows = rest further (record {
             held = λ lock held. grows.held lock held;
-            readings = λ w v read. grows.readings w v ((grows_reading O.same self O.lock_word reads seizes course word value).readings w v read);
-          }) ∙ rw (grows.readings word value (read_new course.seen.readings (record { word = word; value = value }) is)) refl
+            readings = λ w v read. grows.readings w v ((grows_reading O.same self O.lock_word reads seizes state word value).readings w v read);
+          }) ∙ rw (grows.readings word value (read_new state.seen.readings (record { word = word; value = value }) is)) refl
 
           made_later : IsMade O k a more words (walk O.same more.seen (script value)) (plain (script value) more words)
           made_later = later value more holds goes
 
           b : AttemptOf O
-          b = record a { held = course.seen.held; readings = course.seen.readings }
+          b = record a { held = state.seen.held; readings = state.seen.readings }
 
           c : AttemptOf O
-          c = record b { readings = course.seen.readings ++ record { word = word; value = value } ∷ []; phase = Tests word }
+          c = record b { readings = state.seen.readings ++ record { word = word; value = value } ∷ []; phase = Tests word }
 
           one : stepped O k (record { attempt = record b { phase = Tests word }; words = words }) ≡ record { attempt = continued_by O a more (walk O.same more.seen (script value)); words = words }
-          one = looks b word value words (found_there words word value ((read_there course.left (reads - length course.seen.readings) words word value there).1)).1
+          one = looks b word value words (found_there words word value ((read_there state.left (reads - length state.seen.readings) words word value there).1)).1
               ∙ ap (λ (x : AttemptOf O). record { attempt = x; words = words }) (ap (goes_on O c) (goes more.seen (record { held = λ lock held. held; readings = λ w v read. read })) ∙ goes_on_from (record a { held = more.seen.held; readings = more.seen.readings }) (Tests word) (walk O.same more.seen (script value)))
-  live_steps a (SeizeThen lock script) course words are below holds rest =
-      at (is_held O.same course.seen.held lock) (may_seize course.left (seizes - length course.seen.held) (slice_get words (O.lock_word lock))) refl refl (λ more after all. live_steps a script more after all below) where
-        at : (held now : Bool) → is_held O.same course.seen.held lock ≡ held → may_seize course.left (seizes - length course.seen.held) (slice_get words (O.lock_word lock)) ≡ now
-            → ((more : WalkState Lock) (after : List ℕ) → AreWords after → more.hold ≡ hold → IsRest a script more.seen → IsMade O k a more after (walk O.same more.seen script) (plain script more after))
-            → IsMade O k a course words (first_wanted (left_of_seizing script (left O.same course.seen script) lock held)) (walk_on_words_seize O.same O.lock_word reads seizes (λ word value. value) (plain script) lock course words held now)
-        at true now is there later = later course words are holds (λ more grows. rest more grows ∙ rw (grows.held lock is) refl)
+  live_steps a (SeizeThen lock script) state words are below holds rest =
+      at (is_held O.same state.seen.held lock) (may_seize state.left (seizes - length state.seen.held) (slice_get words (O.lock_word lock))) refl refl (λ more after all. live_steps a script more after all below) where
+        at : (held now : Bool) → is_held O.same state.seen.held lock ≡ held → may_seize state.left (seizes - length state.seen.held) (slice_get words (O.lock_word lock)) ≡ now
+            → ((more : WalkState Lock) (after : List ℕ) → AreWords after → more.held_word ≡ held_word → IsRest a script more.seen → IsMade O k a more after (walk O.same more.seen script) (plain script more after))
+            → IsMade O k a state words (first_wanted (left_of_seizing script (left O.same state.seen script) lock held)) (walk_on_words_seize O.same O.lock_word reads seizes (λ word value. value) (plain script) lock state words held now)
+        at true now is there later = later state words are holds (λ more grows. rest more grows ∙ rw (grows.held lock is) refl)
         at false false is there later = record { made = 0; left = omega arith; steps = refl }
         at false true is there later = record {
           made = suc (suc (made_later.made));
-          left = (let above : 1 < course.left = (seized_there course.left (seizes - length course.seen.held) (slice_get words (O.lock_word lock)) there).0 in let then_left : course.left - 2 ≡ made_later.made + (plain script more after).course.left = made_later.left in omega arith);
+          left = (let above : 1 < state.left = (seized_there state.left (seizes - length state.seen.held) (slice_get words (O.lock_word lock)) there).0 in let then_left : state.left - 2 ≡ made_later.made + (plain script more after).state.left = made_later.left in omega arith);
           steps = (tt, (asked_answer lock (Requested (with_request O.sharing k (slice_index words (O.lock_word lock)))) tt (O.sharing.judged k (with_request O.sharing k (slice_index words (O.lock_word lock)))), subst (λ (m : Moment O). LeadsTo O k (suc (made_later.made)) m last) (sym asking) (tt, (taken_answer lock asked between (between == asked) (O.sharing.judged k between), subst (λ (m : Moment O). LeadsTo O k made_later.made m last) (sym taking) made_later.steps))));
         } where
           more : WalkState Lock
-          more = with_lock course lock
+          more = with_lock state lock
 
           after : List ℕ
-          after = slice_set words (O.lock_word lock) course.hold
+          after = slice_set words (O.lock_word lock) state.held_word
 
           last : Moment O
-          last = record { attempt = continued_by O a (plain script more after).course (plain script more after).found; words = (plain script more after).words }
+          last = record { attempt = continued_by O a (plain script more after).state (plain script more after).found; words = (plain script more after).words }
 
           goes : (further : Seen Lock) → Grows O.same self more.seen further → walk O.same further (O.script a.job) ≡ walk O.same further script
           goes further grows = rest further (record {
-            held = λ l held. grows.held l ((grows_lock O.same self O.lock_word reads seizes course lock).held l held);
+            held = λ l held. grows.held l ((grows_lock O.same self O.lock_word reads seizes state lock).held l held);
             readings = λ w v read. grows.readings w v read;
-          }) ∙ rw (grows.held lock (held_last O.same self course.seen.held lock)) refl
+          }) ∙ rw (grows.held lock (held_last O.same self state.seen.held lock)) refl
 
           found : (O.lock_word lock < length words) × (slice_index words (O.lock_word lock) ≡ 0)
-          found = found_there words (O.lock_word lock) 0 ((seized_there course.left (seizes - length course.seen.held) (slice_get words (O.lock_word lock)) there).1)
+          found = found_there words (O.lock_word lock) 0 ((seized_there state.left (seizes - length state.seen.held) (slice_get words (O.lock_word lock)) there).1)
 
           made_later : IsMade O k a more after (walk O.same more.seen script) (plain script more after)
-          made_later = later more after (words_set words (O.lock_word lock) course.hold are found.0 (subst (λ (v : ℕ). v < 2 ^ 64) (sym holds) below)) holds goes
+          made_later = later more after (words_set words (O.lock_word lock) state.held_word are found.0 (subst (λ (v : ℕ). v < 2 ^ 64) (sym holds) below)) holds goes
 
           b : AttemptOf O
-          b = record a { held = course.seen.held; readings = course.seen.readings }
+          b = record a { held = state.seen.held; readings = state.seen.readings }
 
           c : AttemptOf O
-          c = record b { held = course.seen.held ++ lock ∷ []; phase = Seizes lock asked }
+          c = record b { held = state.seen.held ++ lock ∷ []; phase = Seizes lock asked }
 
           between : ℕ
           between = slice_index (slice_set words (O.lock_word lock) asked) (O.lock_word lock)
@@ -236,8 +236,8 @@ module _ (O : System) (self : (lock : O.Lock) → O.same lock lock ≡ true) (re
           asking : stepped O k (record { attempt = record b { phase = Requests lock }; words = words }) ≡ record { attempt = record b { phase = Seizes lock asked }; words = slice_set words (O.lock_word lock) asked }
           asking = asks b lock words found.1
 
-          set_again : slice_set (slice_set words (O.lock_word lock) asked) (O.lock_word lock) hold ≡ after
-          set_again = set_twice words (O.lock_word lock) asked hold ∙ ap (slice_set words (O.lock_word lock)) (sym holds)
+          set_again : slice_set (slice_set words (O.lock_word lock) asked) (O.lock_word lock) held_word ≡ after
+          set_again = set_twice words (O.lock_word lock) asked held_word ∙ ap (slice_set words (O.lock_word lock)) (sym holds)
 
           taking : stepped O k (record { attempt = record b { phase = Seizes lock asked }; words = slice_set words (O.lock_word lock) asked }) ≡ record { attempt = continued_by O a more (walk O.same more.seen script); words = after }
           taking = takes b lock (slice_set words (O.lock_word lock) asked) (index_same words (O.lock_word lock) asked found.0)

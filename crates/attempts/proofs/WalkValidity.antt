@@ -14,7 +14,7 @@ use Rattle.turns.specs.declared.phase.Phase.TheVariants.{Requests, Tests}
 use Rattle.attempts.specs.Validity.{IsValidInBounds}
 use Rattle.attempts.proofs.Places.{FitsValue, place_change}
 use Rattle.attempts.specs.WalkOnWords.{WalkState, WalkOutcome, IsMade, LeadsTo, Moment, continued_by, walk_on_words, stepped, answer_at, WantsNext}
-use Rattle.attempts.proofs.WalkSteps.{hold, live_steps}
+use Rattle.attempts.proofs.WalkSteps.{held_word, live_steps}
 
 module _ (O : System) (is : IsSystem O) (R H : ℕ) (asks : (job : O.Job) → O.IsJob job → AsksAtMost R H (O.script job)) where
   open O use {Lock, Decision}
@@ -42,30 +42,30 @@ module _ (O : System) (is : IsSystem O) (R H : ℕ) (asks : (job : O.Job) → O.
   self lock = (is.same lock lock).1 refl
 
   module _ (k : ℕ) (few : k < O.sharing.most) (unused : IsUnused O.sharing 0) where
-    abbrev pub held_word : ℕ
-    held_word = hold O self R H k few is.sharing unused
+    abbrev pub the_held_word : ℕ
+    the_held_word = held_word O self R H k few is.sharing unused
 
-    abbrev pub course_of : AttemptOf O → ℕ → WalkState Lock
-    course_of a left = record { seen = seen_of a; left = left; hold = held_word }
+    abbrev pub walk_state_of : AttemptOf O → ℕ → WalkState Lock
+    walk_state_of a left = record { seen = seen_of a; left = left; held_word = the_held_word }
 
     abbrev pub comes_of : AttemptOf O → ℕ → List ℕ → WalkOutcome Lock Decision
-    comes_of a left words = walk_on_words O.same O.lock_word R H (λ word value. value) (O.script a.job) (course_of a left) words
+    comes_of a left words = walk_on_words O.same O.lock_word R H (λ word value. value) (O.script a.job) (walk_state_of a left) words
 
     -- the attempt and the words after as many steps as its walk can make
     abbrev pub run_on : AttemptOf O → ℕ → List ℕ → Moment O
-    run_on a left words = let comes : WalkOutcome Lock Decision = comes_of a left words in record { attempt = continued_by O a comes.course comes.found; words = comes.words }
+    run_on a left words = let comes : WalkOutcome Lock Decision = comes_of a left words in record { attempt = continued_by O a comes.state comes.found; words = comes.words }
 
     -- these are as many single steps of the attempt
     pub record Runs (a : AttemptOf O) (left : ℕ) (words : List ℕ) : Type 0 where
       pub made : ℕ
-      pub spent : left ≡ made + (comes_of a left words).course.left
+      pub spent : left ≡ made + (comes_of a left words).state.left
       pub steps : LeadsTo O k made (record { attempt = a; words = words }) (run_on a left words)
 
-    pub runs : (a : AttemptOf O) (left : ℕ) (words : List ℕ) → WantsNext a.phase → IsValidIn O a a.phase → AreWords words → held_word < 2 ^ 64 → Runs a left words
+    pub runs : (a : AttemptOf O) (left : ℕ) (words : List ℕ) → WantsNext a.phase → IsValidIn O a a.phase → AreWords words → the_held_word < 2 ^ 64 → Runs a left words
     runs a left words wants valid are below = record {
       made = made_so.made;
       spent = made_so.left;
       steps = subst (λ (x : AttemptOf O). LeadsTo O k made_so.made (record { attempt = x; words = words }) (run_on a left words)) (stands_at a a.phase refl wants valid) made_so.steps;
     } where
-      made_so : IsMade O k a (course_of a left) words (walk O.same (seen_of a) (O.script a.job)) (comes_of a left words)
-      made_so = live_steps O self R H k few is.sharing unused a (O.script a.job) (course_of a left) words are below refl (λ more grows. refl)
+      made_so : IsMade O k a (walk_state_of a left) words (walk O.same (seen_of a) (O.script a.job)) (comes_of a left words)
+      made_so = live_steps O self R H k few is.sharing unused a (O.script a.job) (walk_state_of a left) words are below refl (λ more grows. refl)

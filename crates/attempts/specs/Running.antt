@@ -46,30 +46,30 @@ module _ {Lock Job Reply Effect Decision ResumePoint : Type 0} (same : Lock → 
     pub far : RunsFarEnough S.lock_word after most made old.phase new.phase
     pub count : new.count ≡ old.count
 
--- the attempt has walked with at most `most` steps of its own, writing `hold` into the words of
+-- the attempt has walked with at most `most` steps of its own, writing `held_word` into the words of
 -- the locks that it seized: it came to this result, with `left` steps left
 pub record WalksBySteps {Lock Job Reply Effect Decision ResumePoint : Type 0}
     (same : Lock → Lock → Bool)
     (S : SystemWith Lock Job Reply Effect Decision)
     (ResumePointIsValid : Job → ResumePoint → Seen Lock → Type 0)
-    (reads seizes most hold : ℕ) (old : AttemptView Lock Job Decision ResumePoint) (words : List ℕ)
+    (reads seizes most held_word : ℕ) (old : AttemptView Lock Job Decision ResumePoint) (words : List ℕ)
     (new : AttemptView Lock Job Decision ResumePoint) (after : List ℕ)
     (found : Result Decision (Wanted Lock ℕ)) (left : ℕ) : Type 0 where
   pub still : new ≡ record old { point = new.point; readings = new.readings; held = new.held }
-  pub hold_then : ℕ
+  pub held_word_then : ℕ
   pub walk : record {
     found = found;
-    course = record {
+    state = record {
       seen = record { held = new.held; readings = new.readings };
       left = left;
-      hold = hold_then;
+      held_word = held_word_then;
     };
     words = after;
   } ≡ walk_on_words same S.lock_word reads seizes (λ word value. value) (S.script old.job)
       (record {
         seen = record { held = old.held; readings = old.readings };
         left = most;
-        hold = hold;
+        held_word = held_word;
       })
       words
   pub valid_point : ResumePointIsValid old.job new.point

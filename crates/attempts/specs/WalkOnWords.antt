@@ -18,31 +18,31 @@ use Rattle.turns.specs.declared.wanted.Wanted.TheVariants.{Seize, Test}
 pub record WalkState (Lock : Type 0) : Type 0 where
   pub seen : Seen Lock
   pub left : ℕ
-  pub hold : ℕ
+  pub held_word : ℕ
 
 -- what a walk comes to: its result or what it needs next, its state, and the words
 pub record WalkOutcome (Lock A : Type 0) : Type 0 where
   pub found : Result A (Wanted Lock ℕ)
-  pub course : WalkState Lock
+  pub state : WalkState Lock
   pub words : List ℕ
 
 -- the walk has read a word by itself, by one step
 abbrev pub with_reading : {Lock : Type 0} → WalkState Lock → ℕ → ℕ → WalkState Lock
-with_reading course word value = record {
+with_reading state word value = record {
   seen = record {
-    held = course.seen.held;
-    readings = course.seen.readings ++ record { word = word; value = value } ∷ [];
+    held = state.seen.held;
+    readings = state.seen.readings ++ record { word = word; value = value } ∷ [];
   };
-  left = course.left - 1;
-  hold = course.hold;
+  left = state.left - 1;
+  held_word = state.held_word;
 }
 
 -- the walk has seized a lock by itself, by two steps
 abbrev pub with_lock : {Lock : Type 0} → WalkState Lock → Lock → WalkState Lock
-with_lock course lock = record {
-  seen = record { held = course.seen.held ++ lock ∷ []; readings = course.seen.readings };
-  left = course.left - 2;
-  hold = course.hold;
+with_lock state lock = record {
+  seen = record { held = state.seen.held ++ lock ∷ []; readings = state.seen.readings };
+  left = state.left - 2;
+  held_word = state.held_word;
 }
 
 -- the value that a walk reads by itself: a step is left, there is room for the reading, and the
@@ -79,12 +79,12 @@ module _ {Lock : Type 0} (same : Lock → Lock → Bool) (lock_word : Lock → �
   unfoldable pub walk_on_words_test : {A : Type 0}
       → (ℕ → WalkState Lock → List ℕ → WalkOutcome Lock A) → ℕ
       → WalkState Lock → List ℕ → Option ℕ → Option ℕ → WalkOutcome Lock A
-  walk_on_words_test next word course words (Some value) now = next (change word value) course words
-  walk_on_words_test next word course words None (Some value) =
-      next (change word value) (with_reading course word value) words
-  walk_on_words_test next word course words None None = record {
+  walk_on_words_test next word state words (Some value) now = next (change word value) state words
+  walk_on_words_test next word state words None (Some value) =
+      next (change word value) (with_reading state word value) words
+  walk_on_words_test next word state words None None = record {
     found = Err (Test word);
-    course = course;
+    state = state;
     words = words;
   }
 
@@ -92,12 +92,12 @@ module _ {Lock : Type 0} (same : Lock → Lock → Bool) (lock_word : Lock → �
   unfoldable pub walk_on_words_seize : {A : Type 0}
       → (WalkState Lock → List ℕ → WalkOutcome Lock A) → Lock
       → WalkState Lock → List ℕ → Bool → Bool → WalkOutcome Lock A
-  walk_on_words_seize next lock course words true now = next course words
-  walk_on_words_seize next lock course words false true =
-      next (with_lock course lock) (slice_set words (lock_word lock) course.hold)
-  walk_on_words_seize next lock course words false false = record {
+  walk_on_words_seize next lock state words true now = next state words
+  walk_on_words_seize next lock state words false true =
+      next (with_lock state lock) (slice_set words (lock_word lock) state.held_word)
+  walk_on_words_seize next lock state words false false = record {
     found = Err (Seize lock);
-    course = course;
+    state = state;
     words = words;
   }
 
@@ -105,16 +105,16 @@ module _ {Lock : Type 0} (same : Lock → Lock → Bool) (lock_word : Lock → �
   -- as long as it may: to the script's end, or to what it needs next
   unfoldable pub walk_on_words : {A : Type 0} → Script Lock A → WalkState Lock → List ℕ
       → WalkOutcome Lock A
-  walk_on_words (Ends found) course words =
-      record { found = Ok found; course = course; words = words }
-  walk_on_words (TestThen word script) course words =
-      walk_on_words_test (λ value. walk_on_words (script value)) word course words
-      (value_read course.seen.readings word)
-      (read_at_once course.left (reads - length course.seen.readings) words word)
-  walk_on_words (SeizeThen lock script) course words =
-      walk_on_words_seize (walk_on_words script) lock course words
-      (is_held same course.seen.held lock)
-      (may_seize course.left (seizes - length course.seen.held) (slice_get words (lock_word lock)))
+  walk_on_words (Ends found) state words =
+      record { found = Ok found; state = state; words = words }
+  walk_on_words (TestThen word script) state words =
+      walk_on_words_test (λ value. walk_on_words (script value)) word state words
+      (value_read state.seen.readings word)
+      (read_at_once state.left (reads - length state.seen.readings) words word)
+  walk_on_words (SeizeThen lock script) state words =
+      walk_on_words_seize (walk_on_words script) lock state words
+      (is_held same state.seen.held lock)
+      (may_seize state.left (seizes - length state.seen.held) (slice_get words (lock_word lock)))
 
 module _ (O : System) where
   open O use {Lock, Decision}
@@ -157,14 +157,14 @@ module _ (O : System) where
   -- the attempt with what its walk has seen, continued by what the walk came to
   abbrev pub continued_by : AttemptOf O → WalkState Lock → Result Decision (Wanted Lock ℕ)
       → AttemptOf O
-  continued_by a course found =
-      goes_on O (record a { held = course.seen.held; readings = course.seen.readings }) found
+  continued_by a state found =
+      goes_on O (record a { held = state.seen.held; readings = state.seen.readings }) found
 
   -- the steps that a walk made by itself are as many steps of actor k, from where the attempt
   -- needed something to where the walk ended
-  pub record IsMade (k : ℕ) (a : AttemptOf O) (course : WalkState Lock) (words : List ℕ)
+  pub record IsMade (k : ℕ) (a : AttemptOf O) (state : WalkState Lock) (words : List ℕ)
       (found : Result Decision (Wanted Lock ℕ)) (comes : WalkOutcome Lock Decision) : Type 0 where
     pub made : ℕ
-    pub left : course.left ≡ made + comes.course.left
-    pub steps : LeadsTo k made (record { attempt = continued_by a course found; words = words })
-        (record { attempt = continued_by a comes.course comes.found; words = comes.words })
+    pub left : state.left ≡ made + comes.state.left
+    pub steps : LeadsTo k made (record { attempt = continued_by a state found; words = words })
+        (record { attempt = continued_by a comes.state comes.found; words = comes.words })

@@ -1,4 +1,5 @@
-//! What becomes of an attempt by the answer to its pending step.
+//! How the answer to its next step changes an attempt. Some of the functions take the setting, the
+//! word or the value for their contracts alone.
 
 ghost use Rattle.std.specs.Prelude.{◌≡◌, ◌<◌, ◌++◌, ◌∷◌, [], ℕ, IfNone, IfSome, length};
 ghost use Rattle.turns.specs.Attempt.{change, giving_back, operated, rest_of};
@@ -16,7 +17,7 @@ use crate::seen::Seen;
 use crate::starting::give_back;
 use turns::{Answer, Phase, Reading, Wanted};
 
-/// `Scripts::walk`, whose requirements are one clause here.
+/// Calls `Scripts::walk`, with its requirements gathered into one clause.
 fn walk_by<S: Scripts<READINGS, HELD>, const READINGS: usize, const HELD: usize>(
     setting: &S::Setting,
     job: &S::Job,
@@ -27,7 +28,7 @@ fn walk_by<S: Scripts<READINGS, HELD>, const READINGS: usize, const HELD: usize>
     requires { MayWalk (S.IsSetting setting.now) (S.system setting.now)
         (S.ResumePointIsValid setting.now)
         job.now point.old seen.old.seen }
-    ensures walk { record { found = result; course = seen.new; words = words.new }
+    ensures walk { record { found = result; state = seen.new; words = words.new }
         ≡ walk_on_words S.Lock.eq (S.system setting.now).lock_word READINGS HELD (λ _ value. value)
         ((S.system setting.now).script job.now) seen.old words.old }
     ensures valid_point { S.ResumePointIsValid setting.now job.now point.new seen.new.seen }
@@ -37,8 +38,8 @@ fn walk_by<S: Scripts<READINGS, HELD>, const READINGS: usize, const HELD: usize>
 
 /// Runs the job's script on what the attempt has seen, with at most `left` steps of its own on
 /// `words`, and subtracts the steps made from `left`. It reads words, and seizes free locks by
-/// writing `held_word`. Changes what was seen and the resume point, but not the phase: see
-/// `continue_with`.
+/// writing `held_word`. Changes what was seen and the resume point, but not the phase: for that,
+/// pass the result to `continue_with`.
 #[inline(always)]
 pub fn walk_by_steps<S: Scripts<READINGS, HELD>, const READINGS: usize, const HELD: usize>(
     attempt: &mut AttemptOf<S, READINGS, HELD>,
@@ -65,7 +66,7 @@ pub fn walk_by_steps<S: Scripts<READINGS, HELD>, const READINGS: usize, const HE
     found
 }
 
-/// Runs the job's script on what the attempt has seen, and sets the phase by the result. Not
+/// Runs the job's script on what the attempt has seen, and sets the phase from the result. Not
 /// inlined, so that a step without a walk doesn't pay for a walk's locals.
 #[inline(never)]
 pub fn walk_on<S: Scripts<READINGS, HELD>, const READINGS: usize, const HELD: usize>(
@@ -76,8 +77,8 @@ pub fn walk_on<S: Scripts<READINGS, HELD>, const READINGS: usize, const HELD: us
     requires walk { CanWalk S.Lock.eq S.Scripts setting.now attempt.old }
     ensures { WalksOn S.Lock.eq S.Scripts setting.now attempt.old attempt.new }
 {
-    // With no words the walk makes no step of its own. Matched here rather than by
-    // `continue_with`, so that a walk that stops early passes on nothing but what it needs next.
+    // The walk may make no steps of its own. The result is matched here and not in
+    // `continue_with`, so that a walk that stops early moves no room for a decision.
     match walk_by_steps::<S, READINGS, HELD>(attempt, setting, &mut [], &mut 0, 0) {
         Ok(decision) => attempt.decide(decision),
         Err(wanted) => attempt.want(wanted),
@@ -172,7 +173,8 @@ fn apply_denied<S: Scripts<READINGS, HELD>, const READINGS: usize, const HELD: u
     }
 }
 
-/// The lock that the attempt's next step seizes, and for which it has room. None in other phases.
+/// The lock that the attempt's next step seizes. A valid attempt has room for it. None in other
+/// phases.
 pub fn to_seize<S: Scripts<READINGS, HELD>, const READINGS: usize, const HELD: usize>(
     attempt: &AttemptOf<S, READINGS, HELD>,
     setting: &S::Setting,
@@ -242,7 +244,7 @@ fn read_on<S: Scripts<READINGS, HELD>, const READINGS: usize, const HELD: usize>
     walk_on::<S, READINGS, HELD>(attempt, setting);
 }
 
-/// Adds the reading and tests the word `next` next, without a walk.
+/// Adds the reading and goes straight on to testing `next`, without a walk.
 pub(crate) fn read_up_to<S: Scripts<READINGS, HELD>, const READINGS: usize, const HELD: usize>(
     attempt: &mut AttemptOf<S, READINGS, HELD>,
     setting: &S::Setting,
@@ -260,7 +262,7 @@ pub(crate) fn read_up_to<S: Scripts<READINGS, HELD>, const READINGS: usize, cons
     attempt.phase = Phase::Tests(next);
 }
 
-/// Adds the reading and goes on: without a walk if `following` tells the next word.
+/// Adds the reading and goes on, without a walk if `following` knows the next word.
 pub(crate) fn read<S: Scripts<READINGS, HELD>, const READINGS: usize, const HELD: usize>(
     attempt: &mut AttemptOf<S, READINGS, HELD>,
     setting: &S::Setting,
@@ -291,7 +293,7 @@ fn apply_value<S: Scripts<READINGS, HELD>, const READINGS: usize, const HELD: us
     }
 }
 
-/// The turn was taken and has this number: effects and frees are next.
+/// The turn was taken and has this number: next are the effects, and the freeing of locks.
 fn apply_turn<S: Scripts<READINGS, HELD>, const READINGS: usize, const HELD: usize>(
     attempt: &mut AttemptOf<S, READINGS, HELD>,
     setting: &S::Setting,
@@ -321,7 +323,7 @@ pub(crate) fn operate<S: Scripts<READINGS, HELD>, const READINGS: usize, const H
     }
 }
 
-/// In giving back, the first lock was freed: frees the rest next, or begins anew.
+/// While giving back, the first lock was freed: frees the rest next, or begins anew.
 fn free_on<S: Scripts<READINGS, HELD>, const READINGS: usize, const HELD: usize>(
     attempt: &mut AttemptOf<S, READINGS, HELD>,
 )
@@ -335,7 +337,7 @@ fn free_on<S: Scripts<READINGS, HELD>, const READINGS: usize, const HELD: usize>
     give_back::<S, READINGS, HELD>(attempt);
 }
 
-/// A withdrawal, a free or an effect was made. Nothing else is known of it.
+/// A withdrawal or an effect was made, or a lock was freed. `Done` says no more.
 fn apply_done<S: Scripts<READINGS, HELD>, const READINGS: usize, const HELD: usize>(
     attempt: &mut AttemptOf<S, READINGS, HELD>,
     setting: &S::Setting,
@@ -352,7 +354,7 @@ fn apply_done<S: Scripts<READINGS, HELD>, const READINGS: usize, const HELD: usi
     }
 }
 
-/// As `apply`, but doesn't count the step.
+/// Like `apply`, but doesn't count the step.
 #[inline(always)]
 pub(crate) fn apply_uncounted<S: Scripts<READINGS, HELD>, const READINGS: usize, const HELD: usize>(
     attempt: &mut AttemptOf<S, READINGS, HELD>,
@@ -374,8 +376,8 @@ pub(crate) fn apply_uncounted<S: Scripts<READINGS, HELD>, const READINGS: usize,
     }
 }
 
-/// Applies the answer to the pending step, and counts that step. The count is 0 once the attempt
-/// begins anew. An answer of another kind than the step's changes nothing else.
+/// Applies the answer to the attempt's next step, and counts that step. The count is 0 again once
+/// the attempt begins anew. An answer that doesn't fit the step changes nothing but the count.
 pub fn apply<S: Scripts<READINGS, HELD>, const READINGS: usize, const HELD: usize>(
     attempt: &mut AttemptOf<S, READINGS, HELD>,
     setting: &S::Setting,

@@ -2,7 +2,7 @@ ghost use Rattle.std.specs.Prelude.{◌≡◌, ◌<◌, ◌^◌, ◌++◌, ◌�
 ghost use Rattle.turns.specs.Attempt.{asked_in, rest_of, turn_in};
 ghost use Rattle.turns.specs.Script.{value_read};
 ghost use Rattle.turns.specs.Seen.{AreReadWords};
-ghost use Rattle.turns.specs.Outcomes.{is_given_up as is_given_up_in};
+ghost use Rattle.turns.specs.Outcomes.{is_giving_back as is_giving_back_in};
 ghost use Rattle.attempts.specs.Counting.{count_in, counted, counted_by, is_at_beginning};
 ghost use Rattle.attempts.specs.WalkOnWords.{WantsNext};
 ghost use Rattle.attempts.specs.Running.{RunsFarEnough};
@@ -21,10 +21,10 @@ fn next_count(count: u32) -> u32
     count.saturating_add(1)
 }
 
-/// An attempt at a job: what its actor knows of the job since it last began. It has a fixed size,
-/// and doesn't borrow the setting.
+/// An actor's work on a job: what was seen, found and decided since the job last began. It has a
+/// fixed size, and doesn't borrow the setting.
 ///
-/// Its phase tells what the next step is for. Walks lead it through the job's script, from lock to
+/// Its phase tells what kind of step is next. Walks lead it through the job's script, from lock to
 /// lock and word to word, until it decides. Then it takes its turn, makes the decision's effects
 /// and frees its locks. An attempt that is denied a lock withdraws its request, frees its locks
 /// and begins anew.
@@ -36,7 +36,7 @@ pub struct Attempt<L, J, D, P, const READINGS: usize, const HELD: usize> {
     pub(crate) point: P,
     pub(crate) phase: Phase<L, usize>,
     pub(crate) decision: Option<D>,
-    /// The number of the decision's effects that are made.
+    /// How many of the decision's effects are made.
     pub(crate) made: usize,
     /// The number of steps so far. Saturates.
     pub(crate) count: u32,
@@ -94,7 +94,7 @@ impl<
         }
     }
 
-    /// As `new`, in place of an attempt at another job.
+    /// Like `new`, but overwrites an attempt at another job.
     pub(crate) fn renew(&mut self, job: J, first: L, point: P)
         ensures { self.new ≡ begun_at job first point }
     {
@@ -103,7 +103,8 @@ impl<
         self.begin_anew(first, point);
     }
 
-    /// Begins the same job anew, with nothing held. The count stays.
+    /// Begins the same job anew, with nothing held. The count stays as it is, until `count_step` or
+    /// `count_beginning` resets it.
     pub(crate) fn begin_anew(&mut self, first: L, point: P)
         ensures { self.new
             ≡ record (begun_at self.old.job first point) { count = self.old.count } }
@@ -200,7 +201,8 @@ impl<
         }
     }
 
-    /// Adds a lock that was seized.
+    /// Adds a lock that was seized. This and the functions below that change an attempt are for
+    /// callers that go on by predictions, and come back to what steps have found (`desk_attempts`).
     pub fn hold(&mut self, lock: L)
         requires { length self.old.held < HELD }
         ensures { self.new ≡ record self.old { held = self.old.held ++ lock ∷ [] } }
@@ -216,7 +218,7 @@ impl<
         self.seen.add_reading(reading);
     }
 
-    /// The numbers of readings and of locks held.
+    /// How many readings there are, and how many locks are held.
     pub fn counts(&self) -> (usize, usize)
         ensures readings { result.0 ≡ length self.now.readings }
         ensures locks { result.1 ≡ length self.now.held }
@@ -231,7 +233,8 @@ impl<
         self.decision.is_some()
     }
 
-    /// Keeps the first `kept` readings.
+    /// Keeps the first `kept` readings. The resume point stays, so the caller has to know that it
+    /// needs no others.
     pub fn keep_readings(&mut self, kept: usize)
         ensures { self.new ≡ record self.old { readings = take kept self.old.readings } }
     {
@@ -353,8 +356,8 @@ impl<
 
     /// Whether the attempt is giving back: it was given up, and has a request to withdraw or locks
     /// to free.
-    pub fn is_given_up(&self) -> bool
-        ensures { result ≡ is_given_up_in self.now.phase }
+    pub fn is_giving_back(&self) -> bool
+        ensures { result ≡ is_giving_back_in self.now.phase }
     {
         let phase = self.phase;
         match phase {
@@ -364,7 +367,7 @@ impl<
         }
     }
 
-    /// The phase, which tells what the next step is for.
+    /// The phase, which tells what kind of step is next.
     pub fn phase(&self) -> Phase<L, usize>
         ensures { result ≡ self.now.phase }
     {

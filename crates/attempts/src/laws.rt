@@ -11,8 +11,8 @@ use crate::scripts::Scripts;
 
 /// An attempt that is never denied a lock and never retries a seize is short. If no decision has
 /// more than `effects` effects, it ends within three steps for each lock that its job may seize,
-/// one for each word that it may test, one for each effect, and its turn. Its count is the number
-/// of steps that it has made (below 2^32).
+/// one for each word that it may test, one for each effect, and one for its turn. Its count is the
+/// number of steps that it has made, as long as that is below 2^32.
 pub fn steady_attempts_are_short<
     S: Scripts<READINGS, HELD>,
     const READINGS: usize,

@@ -1,6 +1,8 @@
 //! An attempt at a job as a state machine, for any jobs of `turns` that are given as code
-//! (`Scripts`). `next` tells the attempt's next step; the caller makes that step, and `apply`
-//! takes the answer. `run` makes steps by itself, on words that nobody else changes meanwhile.
+//! (`Scripts`). After `begin`, `next` returns the attempt's next step; the caller makes that step,
+//! and `apply` takes the answer, which says what the step found. So it goes on until `is_done`;
+//! `outcome` returns the reply. `run` makes steps by itself, on words that nobody else changes
+//! meanwhile.
 #![tactic(auto)]
 
 pub use answering::{apply, to_seize, walk_by_steps, walk_on};

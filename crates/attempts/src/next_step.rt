@@ -11,7 +11,7 @@ use crate::attempt::AttemptOf;
 use crate::scripts::Scripts;
 use turns::{Act, Phase};
 
-/// Frees the lock seized first, if any is held.
+/// The step that frees the lock seized first. `Act::Finished` if none is held.
 fn next_free<S: Scripts<READINGS, HELD>, const READINGS: usize, const HELD: usize>(
     attempt: &AttemptOf<S, READINGS, HELD>,
 ) -> Act<S::Lock, S::Effect>
@@ -41,7 +41,8 @@ pub fn next_effect<S: Scripts<READINGS, HELD>, const READINGS: usize, const HELD
     }
 }
 
-/// The next step past the turn: an effect, or a free once all effects are made.
+/// The next step past the turn: an effect; once all are made, the freeing of a lock; then
+/// `Act::Finished`.
 fn next_closing<S: Scripts<READINGS, HELD>, const READINGS: usize, const HELD: usize>(
     attempt: &AttemptOf<S, READINGS, HELD>,
 ) -> Act<S::Lock, S::Effect>
@@ -54,7 +55,7 @@ fn next_closing<S: Scripts<READINGS, HELD>, const READINGS: usize, const HELD: u
     }
 }
 
-/// The attempt's next step.
+/// The attempt's next step. `Act::Finished` if there is none.
 pub fn next<S: Scripts<READINGS, HELD>, const READINGS: usize, const HELD: usize>(
     attempt: &AttemptOf<S, READINGS, HELD>,
 ) -> Act<S::Lock, S::Effect>
@@ -72,7 +73,7 @@ pub fn next<S: Scripts<READINGS, HELD>, const READINGS: usize, const HELD: usize
     }
 }
 
-/// The next step, if the phase alone tells that it is a test or the turn.
+/// The next step, if it is a test or the turn, and None otherwise. Looks at the phase alone.
 #[inline(always)]
 pub fn next_without_lock<S: Scripts<READINGS, HELD>, const READINGS: usize, const HELD: usize>(
     attempt: &AttemptOf<S, READINGS, HELD>,
@@ -88,7 +89,8 @@ pub fn next_without_lock<S: Scripts<READINGS, HELD>, const READINGS: usize, cons
     }
 }
 
-/// The next step, if the attempt is past its turn.
+/// The next step, if the attempt is past its turn: `Act::Finished` once nothing is left. None
+/// before the turn.
 #[inline(always)]
 pub fn next_past_turn<S: Scripts<READINGS, HELD>, const READINGS: usize, const HELD: usize>(
     attempt: &AttemptOf<S, READINGS, HELD>,
@@ -127,7 +129,8 @@ fn is_closed<S: Scripts<READINGS, HELD>, const READINGS: usize, const HELD: usiz
 }
 
 /// Whether the attempt has no next step: its job is done, and it holds nothing. This is asked
-/// after each step, so the phase alone decides wherever it can.
+/// after each step, so the phase alone decides wherever it can. (An attempt in `GivesBack`
+/// with no lock left would have no next step either, but `apply` and `restart` never leave one.)
 #[inline]
 pub fn is_done<S: Scripts<READINGS, HELD>, const READINGS: usize, const HELD: usize>(
     attempt: &AttemptOf<S, READINGS, HELD>,

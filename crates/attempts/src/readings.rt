@@ -109,7 +109,7 @@ impl<const MOST: usize> Readings<MOST> {
         value_at(self.items.as_slice(), found)
     }
 
-    /// As `find`. If the word was read, sets `place` to the index after its reading.
+    /// Like `find`. If the word was read, also sets `place` to the index after its reading.
     pub fn find_on(&self, word: usize, place: &mut usize) -> Option<u64>
         ensures { result ≡ value_read self.now word }
     {

@@ -15,7 +15,7 @@ use crate::scripts::Scripts;
 use turns::Wanted;
 use turns::lock_word::{asked_by, seized_by};
 
-/// Does nothing. Called for its contract, that each word fits 64 bits.
+/// Does nothing. Called for its contract: each word fits in 64 bits.
 fn are_words(_words: &[u64])
     ensures { AreWords _words.now }
 {}
@@ -28,7 +28,8 @@ fn seized_word(actor: u32) -> u64
     seized_by(actor, asked_by(actor, 0))
 }
 
-/// The lock that the attempt requests next or the word that it tests next: it can walk then.
+/// The lock that the attempt requests next, or the word that it tests next. None in other phases,
+/// in which it can't walk.
 fn to_walk<S: Scripts<READINGS, HELD>, const READINGS: usize, const HELD: usize>(
     attempt: &AttemptOf<S, READINGS, HELD>,
     _setting: &S::Setting,
@@ -42,7 +43,7 @@ fn to_walk<S: Scripts<READINGS, HELD>, const READINGS: usize, const HELD: usize>
     attempt.wants()
 }
 
-/// As `run`, but doesn't count the steps.
+/// Like `run`, but doesn't count the steps.
 fn make_steps<S: Scripts<READINGS, HELD>, const READINGS: usize, const HELD: usize>(
     attempt: &mut AttemptOf<S, READINGS, HELD>,
     setting: &S::Setting,
@@ -68,12 +69,13 @@ fn make_steps<S: Scripts<READINGS, HELD>, const READINGS: usize, const HELD: usi
     most - left
 }
 
-/// Makes the attempt's next steps on the words, as this actor, and returns their number, at most
-/// `most`. Nobody else may change the words meanwhile.
+/// Makes the attempt's next steps on the words, at most `most`, and returns how many it made.
+/// Nobody else may change the words meanwhile. `actor` is the number of the attempt's actor, below
+/// 48: a lock's word has a request bit for each of 48 actors.
 ///
-/// One walk makes all of the steps. It stops at the turn, at a lock that isn't free, at a word
-/// that `words` doesn't have, and when too few steps are left: a lock takes two, a word one. If
-/// the next step neither requests a lock nor tests a word, `run` makes none.
+/// One walk makes all of the steps. It stops at the turn, at a lock that anyone holds or
+/// requests, at a word past the end of `words`, or when too few steps are left: a lock takes two, a
+/// word one. If the next step neither requests a lock nor tests a word, `run` makes no step.
 pub fn run<S: Scripts<READINGS, HELD>, const READINGS: usize, const HELD: usize>(
     attempt: &mut AttemptOf<S, READINGS, HELD>,
     setting: &S::Setting,

@@ -6,9 +6,9 @@ use turns::Wanted;
 /// Jobs given as code. No script tests more than `READINGS` words or seizes more than `HELD`
 /// locks.
 ///
-/// A script is written as a walk: straight-line code that asks `Seen` for each lock and each word,
-/// and returns early by `?` when one is missing. The attempt then acquires it by steps of its own,
-/// and walks again from the script's start. A walk may keep intermediate results in its resume
+/// A script is written as a walk: code without loops that asks `Seen` for each lock and each word,
+/// and returns early by `?` when one is missing. The attempt's next steps seize or read it; then
+/// the walk runs again, from the script's start. A walk may keep intermediate results in its resume
 /// point, so that later walks needn't compute them again. If nobody else makes steps meanwhile, a
 /// walk can be given the words themselves; then it seizes and reads by itself what is missing.
 pub trait Scripts<const READINGS: usize, const HELD: usize> {
@@ -37,8 +37,8 @@ pub trait Scripts<const READINGS: usize, const HELD: usize> {
     /// from scratch.
     type ResumePoint: Drop;
 
-    // The system of `turns` for a setting, without its lock test and its maps of decisions: these
-    // are `PartialEq`, `reply_of` and `effects_of`.
+    // The system of `turns` for a setting, without its equality of locks and its maps from
+    // decisions: those are `PartialEq`, `reply_of` and `effects_of`.
     ghost system: { Self.Setting
         → SystemWith Self.Lock Self.Job Self.Reply Self.Effect Self.Decision };
 
@@ -50,9 +50,9 @@ pub trait Scripts<const READINGS: usize, const HELD: usize> {
     ghost IsSetting: { Self.Setting → Type 0 };
 
     // Whether what a resume point says of its job is true, given what the attempt holds and has
-    // read.
+    // read. By default it says nothing, as for `()`.
     ghost ResumePointIsValid: { Self.Setting → Self.Job → Self.ResumePoint → WhatIsSeen Self.Lock
-        → Type 0 };
+        → Type 0 } = { λ _ _ _ _. Unit {0} };
 
     /// The lock that the job seizes first. It doesn't depend on the setting.
     fn first(job: &Self::Job) -> Self::Lock
@@ -78,15 +78,15 @@ pub trait Scripts<const READINGS: usize, const HELD: usize> {
         requires job { (system setting.now).IsJob job.now }
         requires read { AreReadWords seen.old.seen.readings }
         requires valid_point { ResumePointIsValid setting.now job.now point.old seen.old.seen }
-        ensures walk { record { found = result; course = seen.new; words = words.new }
+        ensures walk { record { found = result; state = seen.new; words = words.new }
             ≡ walk_on_words Self.Lock.eq (system setting.now).lock_word READINGS HELD
             (λ _ value. value)
             ((system setting.now).script job.now) seen.old words.old }
         ensures valid_point { ResumePointIsValid setting.now job.now point.new seen.new.seen };
 
-    /// The walk needs `word` next. Returns the word that it tests after that one, if that is the
-    /// same whatever `word` has and is known without a walk. Returning None is always safe, only
-    /// slower.
+    /// Called when the walk needs `word` next. Returns the word that it tests after `word`, if that
+    /// doesn't depend on the value of `word` and is known without a walk. None, as by default, is
+    /// always safe, only slower.
     fn following(
         setting: &Self::Setting,
         job: &Self::Job,
@@ -100,7 +100,10 @@ pub trait Scripts<const READINGS: usize, const HELD: usize> {
         requires wants { walk Self.Lock.eq seen.now.seen ((system setting.now).script job.now)
             ≡ Err (Wanted.Test word) }
         ensures { IfSome result
-            (GoesOnTo Self.Lock.eq seen.now.seen ((system setting.now).script job.now) word) };
+            (GoesOnTo Self.Lock.eq seen.now.seen ((system setting.now).script job.now) word) }
+    {
+        None
+    }
 
     fn reply(decision: &Self::Decision) -> Self::Reply
         ensures { result ≡ reply_of decision.now };

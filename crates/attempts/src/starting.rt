@@ -28,7 +28,7 @@ pub fn begin<S: Scripts<READINGS, HELD>, const READINGS: usize, const HELD: usiz
     Attempt::new(job, lock, point)
 }
 
-/// As `begin`, in place of an attempt at another job.
+/// Like `begin`, but overwrites an attempt at another job.
 pub fn begin_next<S: Scripts<READINGS, HELD>, const READINGS: usize, const HELD: usize>(
     attempt: &mut AttemptOf<S, READINGS, HELD>,
     job: S::Job,
@@ -45,7 +45,7 @@ pub fn begin_next<S: Scripts<READINGS, HELD>, const READINGS: usize, const HELD:
     attempt.renew(job, lock, point);
 }
 
-/// Begins the same job anew, with nothing held.
+/// Begins the same job anew, from its first lock and its first resume point.
 fn begin_again<S: Scripts<READINGS, HELD>, const READINGS: usize, const HELD: usize>(
     attempt: &mut AttemptOf<S, READINGS, HELD>,
 )
@@ -77,8 +77,8 @@ pub(crate) fn give_back<S: Scripts<READINGS, HELD>, const READINGS: usize, const
     }
 }
 
-/// Gives up before the turn, with no request pending: drops all that was read and decided, and
-/// gives back.
+/// Gives up an attempt that is before its turn and has no request pending: drops its readings and
+/// its decision, and gives its locks back.
 fn give_up<S: Scripts<READINGS, HELD>, const READINGS: usize, const HELD: usize>(
     attempt: &mut AttemptOf<S, READINGS, HELD>,
 )
@@ -92,8 +92,8 @@ fn give_up<S: Scripts<READINGS, HELD>, const READINGS: usize, const HELD: usize>
     give_back::<S, READINGS, HELD>(attempt);
 }
 
-/// As `restart`, but keeps the count.
-fn roll_back<S: Scripts<READINGS, HELD>, const READINGS: usize, const HELD: usize>(
+/// Like `restart`, but keeps the count.
+fn restart_uncounted<S: Scripts<READINGS, HELD>, const READINGS: usize, const HELD: usize>(
     attempt: &mut AttemptOf<S, READINGS, HELD>,
 )
     ensures restarts { (setting : S.Setting) → let O = system_of S.Lock.eq S.Scripts setting in
@@ -112,8 +112,8 @@ fn roll_back<S: Scripts<READINGS, HELD>, const READINGS: usize, const HELD: usiz
     }
 }
 
-/// Gives up, so that the attempt begins anew once its request is withdrawn and its locks are
-/// freed. Past the turn nothing changes.
+/// Gives the attempt up: its next steps withdraw its request and free its locks, and then it
+/// begins anew. Past the turn, changes nothing.
 pub fn restart<S: Scripts<READINGS, HELD>, const READINGS: usize, const HELD: usize>(
     attempt: &mut AttemptOf<S, READINGS, HELD>,
 )
@@ -127,6 +127,6 @@ pub fn restart<S: Scripts<READINGS, HELD>, const READINGS: usize, const HELD: us
         IsValid S.Lock.eq S.Scripts setting attempt.old → IsValid S.Lock.eq S.Scripts setting
         attempt.new }
 {
-    roll_back::<S, READINGS, HELD>(attempt);
+    restart_uncounted::<S, READINGS, HELD>(attempt);
     attempt.count_beginning();
 }

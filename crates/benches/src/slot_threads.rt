@@ -11,7 +11,7 @@ use crate::timing::nanoseconds_each;
 use banks::Banks;
 use desks::Room;
 use slot_desks::SlotJobs;
-use slot_desks::driving::{SlotDesk, SlotRoom, persist};
+use slot_desks::driving::{SlotDesk, SlotRoom};
 use slots::bank::SLOT_COUNT;
 use slots::{Job, UpToTwo};
 use std::alloc::Global;
@@ -20,6 +20,7 @@ use std::sync::{Mutex, Wait};
 use std::thread::Threads;
 use std::time::Instant;
 use std::{io, thread};
+use workers::{Yielding, persist};
 
 /// A worker that does jobs of the slots.
 trait Clerk {
@@ -72,7 +73,7 @@ struct AtDesk<'a> {
 impl Clerk for AtDesk<'_> {
     fn do_job(&mut self, number: u64, job: Job) -> Option<UpToTwo<u32>> {
         self.desk.assign(number, job);
-        let told = persist(self.room, &mut self.desk)?;
+        let told = persist(self.room, &(), &mut self.desk, &Yielding)?;
         Some(told.reply.slots())
     }
 }

@@ -1,13 +1,13 @@
 use Rattle.std.specs.Prelude.{List, Option, Result, Ok, Err, IfOk, ℕ}
 use Rattle.csv.specs.Reading.{default_config, records as csv_records, strip_bom}
 use Rattle.xbar_plan.specs.Tables.{Tables}
-use Rattle.xbar_core.specs.declared.kind.Kind.{Kind}
+use Rattle.xbar_moves.specs.declared.kind.Kind.{Kind}
 use Rattle.xbar_traffic.specs.Traffic.{IsTrafficOf}
 use Rattle.xbar_traffic.specs.declared.fault.RowFault.{RowFault}
 use Rattle.xbar_traffic.specs.declared.mode.Mode.TheVariants.{Replay}
 use Rattle.xbar_traffic.specs.declared.row.Row.{Row}
+use Rattle.crossbar5_answer.specs.declared.written.Written.{Written}
 use Rattle.crossbar5.specs.Run.{IsReplayUnder, IsWrittenOf, LeavesOneHistory, outcome}
-use Rattle.crossbar5.specs.declared.written.Written.{Written}
 
 -- what is written for the outcome of the traffic's rows is a replay of the traffic
 pub replay_of : {E : Type 0} (plan : Tables) (kinds : List Kind) (traffic : List ℕ) (rows : List Row) (fault : Option RowFault) (result : Result Written E) → IsTrafficOf Replay (csv_records default_config (strip_bom traffic)) rows fault

@@ -7,12 +7,13 @@ use Rattle.xbar_traffic.specs.declared.fault.RowFault.{RowFault}
 use Rattle.xbar_traffic.specs.declared.fault.RowFault.TheVariants.{Marker}
 use Rattle.xbar_traffic.specs.declared.fault.TrafficFault.{TrafficFault}
 use Rattle.xbar_traffic.specs.declared.row.Row.{Row}
-use Rattle.xbar_core.specs.Exchange.{Exchange, OfPlan, fresh_exchange}
-use Rattle.xbar_core.specs.Settling.{settled}
-use Rattle.xbar_core.specs.declared.kind.Kind.{Kind}
+use Rattle.xbar_moves.specs.Exchange.{Exchange, OfPlan, fresh_exchange}
+use Rattle.xbar_moves.specs.Settling.{settled}
+use Rattle.xbar_moves.specs.declared.kind.Kind.{Kind}
+use Rattle.crossbar5_answer.specs.TrafficRefusal.{IsTrafficRefusal}
+use Rattle.crossbar5_answer.specs.declared.written.Written.{Written}
 use Rattle.crossbar5.specs.Rows.{done, row_fault}
 use Rattle.crossbar5.specs.Run.{IsOneHistory, IsWrittenOf, Leaves, LeavesOneHistory, Outcome, RefusesTraffic, at_end, judged, outcome, outcome_from}
-use Rattle.crossbar5.specs.declared.written.Written.{Written}
 
 -- how far a run has come with its rows: the outcome of the remaining rows is that of all rows
 pub record HasRun (plan : Tables) (kinds : List Kind) (rows : List Row) (fault : Option RowFault) (now : OfPlan) (number index : ℕ) : Type 0 where
@@ -79,6 +80,11 @@ end_settled plan office number count (Some why) e = absurd cc
 -- what is written for an outcome is written for an equal one
 pub written_as : {E : Type 0} (result : Result Written E) (came other : Outcome) → came ≡ other → IfOk result (λ written. IsWrittenOf other written.text.items written.status) → IfOk result (λ written. IsWrittenOf came written.text.items written.status)
 written_as result came other is written = subst (λ (o : Outcome). IfOk result (λ written. IsWrittenOf o written.text.items written.status)) (sym is) written
+
+-- what is written for traffic that is refused is written for its outcome
+pub refused_as : {E : Type 0} (result : Result Written E) (came : Outcome) (fault : TrafficFault) → came ≡ RefusesTraffic fault → IfOk result (λ written. IsTrafficRefusal fault written.text.items written.status) → IfOk result (λ written. IsWrittenOf came written.text.items written.status)
+refused_as (Ok written) came fault is refusal = subst (λ (o : Outcome). IsWrittenOf o written.text.items written.status) (sym is) (record { text_is = refusal.text_is; status_is = refusal.status_is })
+refused_as (Err why) came fault is refusal = tt
 
 -- if the traffic is refused, no office is left
 pub refused_history : (plan : Tables) (came : Outcome) (told : TrafficFault) → came ≡ RefusesTraffic told → LeavesOneHistory plan came

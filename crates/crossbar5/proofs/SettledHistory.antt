@@ -7,7 +7,7 @@ use Rattle.xbar_plan.specs.Tables.{Tables}
 use Rattle.xbar_match.proofs.CountedPaths.{counted}
 use Rattle.xbar_office.specs.Legal.{IsLegal, after}
 use Rattle.xbar_jobs.specs.Office.{ShowsOffice}
-use Rattle.xbar_core.specs.Exchange.{Exchange, Marker, is_idle}
+use Rattle.xbar_moves.specs.Exchange.{Exchange, Marker, is_idle}
 use Rattle.crossbar5.specs.Run.{IsOneHistory}
 
 pub settled_history : (plan : Tables) (e : Exchange) → length e.words ≡ word_count → length e.records < 2 ^ 64

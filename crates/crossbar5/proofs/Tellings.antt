@@ -7,18 +7,19 @@ use Rattle.xbar_traffic.specs.declared.fault.TrafficFault.{TrafficFault}
 use Rattle.xbar_traffic.specs.declared.row.Row.{Row}
 use Rattle.xbar_traffic.specs.declared.row.Row.TheVariants as row
 use Rattle.xbar_office.specs.declared.job.Job.{Job}
-use Rattle.xbar_core.specs.Exchange.{OfPlan}
-use Rattle.xbar_core.specs.Moves.{assigned}
-use Rattle.xbar_core.specs.declared.kind.Kind.{Kind}
+use Rattle.xbar_moves.specs.Exchange.{OfPlan}
+use Rattle.xbar_moves.specs.Moves.{assigned}
+use Rattle.xbar_moves.specs.declared.kind.Kind.{Kind}
 use Rattle.xbar_walk.specs.Items.{Says}
 use Rattle.xbar_walk.specs.Lines.{assignment_line}
 use Rattle.xbar_walk.specs.Stories.{Adds, IsStory, AgreesWith, ChangesAs}
 use Rattle.xbar_walk.specs.Walks.{Walk, walk_of_settling}
 use Rattle.xbar_walk.specs.declared.story.Story.{Story}
 use Rattle.xbar_walk.specs.declared.detail.Detail.{Detail}
-use Rattle.crossbar5.specs.Run.{IsWrittenOf, Outcome, RefusesTraffic}
+use Rattle.crossbar5_answer.specs.TrafficRefusal.{IsTrafficRefusal}
+use Rattle.crossbar5_answer.specs.declared.written.Written.{Written}
+use Rattle.crossbar5.specs.Run.{Outcome, RefusesTraffic}
 use Rattle.crossbar5.specs.Walk.{IsWalkResult, opened, walk_after_row, walk_after_rows}
-use Rattle.crossbar5.specs.declared.written.Written.{Written}
 
 -- the description so far, continued with the remaining rows, is the description of all rows
 pub record HasTold (detail : Detail) (plan : Tables) (kinds : List Kind) (rows : List Row) (office : OfPlan) (story : Story) (index : ℕ) : Type 0 where
@@ -66,7 +67,7 @@ assignment_told marker job_no job office next story told is adds = λ detail w s
 
 -- what is written for traffic that is refused
 pub refusal_told : {E : Type 0} (detail : Detail) (result : Result Written E) (told : Walk) (came : Outcome) (fault : TrafficFault) → came ≡ RefusesTraffic fault
-    → IfOk result (λ written. IsWrittenOf (RefusesTraffic fault) written.text.items written.status) → IfOk result (λ written. IsWalkResult detail told came written.text.items written.status)
+    → IfOk result (λ written. IsTrafficRefusal fault written.text.items written.status) → IfOk result (λ written. IsWalkResult detail told came written.text.items written.status)
 refusal_told detail (Ok written) told came fault is text = subst (λ (o : Outcome). IsWalkResult detail told o written.text.items written.status) (sym is)
     (record { same = tt; text_is = text.text_is; status_is = text.status_is })
 refusal_told detail (Err e) told came fault is text = tt

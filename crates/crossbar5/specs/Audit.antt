@@ -9,14 +9,14 @@ use Rattle.xbar_report.specs.Reading.{IsFaultOf}
 use Rattle.xbar_report.specs.Sheet.{IsReport}
 use Rattle.xbar_report.specs.Text.{card_lines, closed_line, line_with, paths_line, record_line, records_text}
 use Rattle.xbar_report.specs.declared.counts.Counts.{Counts}
-use Rattle.xbar_report.specs.declared.read_fault.ReadFault.TheVariants.{Line, Turns}
-use Rattle.crossbar5.specs.PlanRefusal.{IsAnswerOf}
-use Rattle.crossbar5.specs.Refusal.{report_fault_line}
+use Rattle.xbar_report.specs.declared.report_fault.ReportFault.TheVariants.{Line, Turns}
+use Rattle.crossbar5_answer.specs.PlanRefusal.{IsAnswerOf}
+use Rattle.crossbar5_answer.specs.Refusal.{report_fault_line}
+use Rattle.crossbar5_answer.specs.declared.status.Status.{Status}
+use Rattle.crossbar5_answer.specs.declared.status.Status.TheVariants.{Fine, ReportRefused, FoundWrong}
 use Rattle.crossbar5.specs.declared.finding.Finding.{Finding}
 use Rattle.crossbar5.specs.declared.finding.Finding.TheVariants.{NoReport, WrongTurn, WrongReply, WrongCounts, Legal}
 use Rattle.crossbar5.specs.declared.finding.OfficeCounts.{OfficeCounts}
-use Rattle.crossbar5.specs.declared.status.Status.{Status}
-use Rattle.crossbar5.specs.declared.status.Status.TheVariants.{Fine, ReportRefused, FoundWrong}
 
 -- the counts of the office after records: its paths, and four closed crosspoints for each
 abbrev pub counts_after : Tables → List Record → OfficeCounts

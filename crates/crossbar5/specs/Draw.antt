@@ -10,11 +10,11 @@ use Rattle.xbar_page.specs.Page.{office_page}
 use Rattle.xbar_report.specs.Sheet.{IsReport}
 use Rattle.xbar_report.specs.Text.{records_text}
 use Rattle.xbar_report.specs.declared.counts.Counts.{Counts}
+use Rattle.crossbar5_answer.specs.declared.status.Status.{Status}
+use Rattle.crossbar5_answer.specs.declared.status.Status.TheVariants.{Fine}
 use Rattle.crossbar5.specs.Audit.{AreRightCounts, IsAuditUnder, counts_after}
 use Rattle.crossbar5.specs.declared.look.Look.{Look}
 use Rattle.crossbar5.specs.declared.look.Look.TheVariants.{Text, Drawing, Page}
-use Rattle.crossbar5.specs.declared.status.Status.{Status}
-use Rattle.crossbar5.specs.declared.status.Status.TheVariants.{Fine}
 
 -- the drawing of an office after its records; a page shows the office after each of them
 abbrev pub drawn : Look → Tables → List Path → List Record → List ℕ

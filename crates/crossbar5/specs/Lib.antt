@@ -3,21 +3,19 @@ pub use Rattle.xbar_office.specs.Legal
 pub use Rattle.xbar_office_text.specs.Text as OfficeText
 pub use Rattle.xbar_office_drawing.specs.Drawing
 pub use Rattle.xbar_jobs.specs.Office
-pub use Rattle.xbar_core.specs.Exchange
+pub use Rattle.xbar_moves.specs.Exchange
 pub use Rattle.xbar_traffic.specs.Traffic
 pub use Rattle.xbar_traffic.specs.Fault
 pub use Rattle.xbar_report.specs.Text
 pub use Rattle.xbar_walk.specs.Walks
 pub use Rattle.xbar_report.specs.Reading
 pub use Rattle.counted_io.specs.Counts
-pub mod Faults
-pub mod Kinds
-pub mod PlanRefusal
-pub mod Refusal
+pub use Rattle.crossbar5_answer.specs.Faults
+pub use Rattle.crossbar5_answer.specs.PlanRefusal
+pub use Rattle.crossbar5_answer.specs.Refusal
 pub mod Rows
 pub mod Run
 pub mod Audit
 pub mod Draw
 pub mod Task
-pub mod Input
 pub mod Walk

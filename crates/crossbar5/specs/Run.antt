@@ -7,9 +7,9 @@ use Rattle.xbar_match.specs.Switches.{word_of}
 use Rattle.xbar_match.specs.Counts.{closed_line_fields, closed_switch_fields}
 use Rattle.xbar_office.specs.Legal.{IsLegal, after}
 use Rattle.xbar_jobs.specs.Office.{ShowsOffice}
-use Rattle.xbar_core.specs.Exchange.{Exchange, Marker, is_idle, fresh_exchange}
-use Rattle.xbar_core.specs.Settling.{settled}
-use Rattle.xbar_core.specs.declared.kind.Kind.{Kind}
+use Rattle.xbar_moves.specs.Exchange.{Exchange, Marker, is_idle, fresh_exchange}
+use Rattle.xbar_moves.specs.Settling.{settled}
+use Rattle.xbar_moves.specs.declared.kind.Kind.{Kind}
 use Rattle.xbar_traffic.specs.Fault.{fault_line}
 use Rattle.xbar_traffic.specs.Traffic.{IsTrafficOf}
 use Rattle.xbar_traffic.specs.declared.fault.MarkerFault.{MarkerFault}
@@ -19,11 +19,11 @@ use Rattle.xbar_traffic.specs.declared.fault.TrafficFault.{TrafficFault}
 use Rattle.xbar_traffic.specs.declared.mode.Mode.TheVariants.{Replay}
 use Rattle.xbar_traffic.specs.declared.row.Row.{Row}
 use Rattle.xbar_report.specs.Text.{report_text}
-use Rattle.crossbar5.specs.Faults.{IsMarkerCount}
-use Rattle.crossbar5.specs.PlanRefusal.{IsAnswerOf, IsRefusedPlan}
+use Rattle.crossbar5_answer.specs.Faults.{IsMarkerCount}
+use Rattle.crossbar5_answer.specs.PlanRefusal.{IsAnswerOf, IsRefusedPlan}
+use Rattle.crossbar5_answer.specs.declared.status.Status.{Status}
+use Rattle.crossbar5_answer.specs.declared.status.Status.TheVariants.{Fine, TrafficRefused}
 use Rattle.crossbar5.specs.Rows.{done, row_fault}
-use Rattle.crossbar5.specs.declared.status.Status.{Status}
-use Rattle.crossbar5.specs.declared.status.Status.TheVariants.{Fine, TrafficRefused}
 
 -- the outcome of traffic: it is refused, or it leaves an office
 pub data Outcome : Type 0 where

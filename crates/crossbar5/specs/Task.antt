@@ -1,14 +1,14 @@
 use Rattle.std.specs.Prelude.{◌⊎◌, [], ℕ, Bool, List, false, if◌then◌else◌, length, true}
 use Rattle.xbar_plan_text.specs.Document.{plan_of}
 use Rattle.xbar_plan.specs.Tables.{Tables}
+use Rattle.crossbar5_answer.specs.Faults.{IsMarkerCount}
+use Rattle.crossbar5_answer.specs.PlanRefusal.{IsAnswerOf, IsRefusedPlan}
+use Rattle.crossbar5_answer.specs.declared.status.Status.{Status}
+use Rattle.crossbar5_answer.specs.declared.status.Status.TheVariants.{Fine}
 use Rattle.crossbar5.specs.Audit.{IsAuditUnder}
 use Rattle.crossbar5.specs.Draw.{IsDrawUnder}
-use Rattle.crossbar5.specs.Faults.{IsMarkerCount}
-use Rattle.crossbar5.specs.PlanRefusal.{IsAnswerOf, IsRefusedPlan}
 use Rattle.crossbar5.specs.Run.{IsReplayUnder}
 use Rattle.crossbar5.specs.Walk.{IsWalkUnder}
-use Rattle.crossbar5.specs.declared.status.Status.{Status}
-use Rattle.crossbar5.specs.declared.status.Status.TheVariants.{Fine}
 use Rattle.crossbar5.specs.declared.task.Task.{Task}
 use Rattle.crossbar5.specs.declared.task.Task.TheVariants.{Replay, Walk, Audit, Draw}
 

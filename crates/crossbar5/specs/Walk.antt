@@ -2,9 +2,9 @@
 use Rattle.std.specs.Prelude.{◌≡◌, ℕ, Option, List, [], ◌∷◌, ◌++◌, ⊤}
 use Rattle.csv.specs.Reading.{default_config, records as csv_records, strip_bom}
 use Rattle.xbar_plan.specs.Tables.{Tables}
-use Rattle.xbar_core.specs.Exchange.{fresh_exchange}
-use Rattle.xbar_core.specs.Moves.{assigned}
-use Rattle.xbar_core.specs.declared.kind.Kind.{Kind}
+use Rattle.xbar_moves.specs.Exchange.{fresh_exchange}
+use Rattle.xbar_moves.specs.Moves.{assigned}
+use Rattle.xbar_moves.specs.declared.kind.Kind.{Kind}
 use Rattle.xbar_traffic.specs.Fault.{fault_line}
 use Rattle.xbar_traffic.specs.Traffic.{IsTrafficOf}
 use Rattle.xbar_traffic.specs.declared.fault.RowFault.{RowFault}
@@ -15,8 +15,8 @@ use Rattle.xbar_walk.specs.Items.{Says, walk_text_of}
 use Rattle.xbar_walk.specs.Lines.{assignment_line}
 use Rattle.xbar_walk.specs.Walks.{Walk, walk_of_settling, walk_of_steps}
 use Rattle.xbar_walk.specs.declared.detail.Detail.{Detail}
+use Rattle.crossbar5_answer.specs.declared.status.Status.{Status}
 use Rattle.crossbar5.specs.Run.{Leaves, Outcome, RefusesTraffic, outcome, outcome_status}
-use Rattle.crossbar5.specs.declared.status.Status.{Status}
 
 -- a new office with markers of these kinds, of which nothing is described yet
 abbrev pub opened : Tables → List Kind → Walk

@@ -7,17 +7,16 @@ ghost use Rattle.xbar_office.specs.declared.reply.Record.{Record as TheRecord};
 ghost use Rattle.xbar_report.specs.Sheet.{IsReport};
 ghost use Rattle.xbar_report.specs.Text.{records_text};
 ghost use Rattle.xbar_report.specs.declared.counts.Counts.{Counts as TheCounts};
+ghost use Rattle.crossbar5_answer.specs.Refusal.{ReportsFaultOf};
 ghost use Rattle.crossbar5.specs.Audit.{AreRightCounts, IsAuditUnder, IsFoundIn, IsFoundOf, finding_status, finding_text, righted, counts_after};
-ghost use Rattle.crossbar5.specs.Refusal.{ReportsFaultOf};
 
-use crate::diagnostic::Diagnostic;
 use crate::finding::{Finding, OfficeCounts};
-use crate::written::Written;
+use crossbar5_answer::{Diagnostic, Written};
 use std::alloc::{AllocError, Global};
 use xbar_diagnostics::report_diagnostic;
 use xbar_office::{AuditFault, Office, Record, Reply, audit};
 use xbar_plan::Plan;
-use xbar_report::{Counts, ReadFault, Report, read};
+use xbar_report::{Counts, Report, ReportFault, read};
 
 /// Audits a text of records.
 pub fn audit_text(alloc: Global, plan: &Plan, text: &[u8]) -> Result<Written, AllocError>
@@ -53,9 +52,9 @@ fn find(alloc: Global, plan: &Plan, text: &[u8]) -> Result<Finding, AllocError>
 {
     match read(alloc, text) {
         Ok(report) => judge(alloc, plan, &report),
-        Err(ReadFault::Line { number }) => Ok(Finding::NoReport { line: number }),
-        Err(ReadFault::Turns { place }) => Ok(Finding::WrongTurn { place }),
-        Err(ReadFault::Memory) => Err(AllocError),
+        Err(ReportFault::Line { number }) => Ok(Finding::NoReport { line: number }),
+        Err(ReportFault::Turns { place }) => Ok(Finding::WrongTurn { place }),
+        Err(ReportFault::Memory) => Err(AllocError),
     }
 }
 

@@ -10,14 +10,13 @@ ghost use Rattle.crossbar5.specs.Draw.{IsDrawUnder, drawn as drawn_by};
 
 use crate::audit::{audit_text, office_after};
 use crate::look::Look;
-use crate::status::Status;
-use crate::written::Written;
+use crossbar5_answer::{Status, Written};
 use std::alloc::{AllocError, Global};
 use xbar_office_drawing::office_drawing;
 use xbar_office_text::office_text;
 use xbar_page::office_page;
 use xbar_plan::Plan;
-use xbar_report::{ReadFault, read};
+use xbar_report::{ReportFault, read};
 
 /// Draws the office after a text of records. If an audit finds them wrong, returns the audit.
 pub fn draw_text(alloc: Global, plan: &Plan, look: Look, text: &[u8]) -> Result<Written, AllocError>
@@ -52,7 +51,7 @@ fn drawn(alloc: Global, plan: &Plan, look: Look, text: &[u8]) -> Result<String, 
                 Look::Page => office_page(alloc, plan, &report.records),
             }
         }
-        Err(ReadFault::Memory) => Err(AllocError),
-        Err(ReadFault::Line { .. } | ReadFault::Turns { .. }) => unreachable!(),
+        Err(ReportFault::Memory) => Err(AllocError),
+        Err(ReportFault::Line { .. } | ReportFault::Turns { .. }) => unreachable!(),
     }
 }

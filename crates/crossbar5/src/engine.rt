@@ -4,16 +4,13 @@
 ghost use Rattle.std.specs.Prelude.{◌≡◌, ◌≢◌, ◌↔◌, ◌⊎◌, Err, IfErr, IfOk, IfSome, List, OnOk, ℕ};
 ghost use Rattle.std.specs.Io.KnownBytes.{Appends, IsAtEnd, Keeps};
 ghost use Rattle.counted_io.specs.Counts.{HasFailed, ReadsUsedUp};
-ghost use Rattle.crossbar5.specs.Faults.{ComesFirst};
-ghost use Rattle.crossbar5.specs.Refusal.{ReportsFaultOf};
+ghost use Rattle.crossbar5_answer.specs.Faults.{ComesFirst};
+ghost use Rattle.crossbar5_answer.specs.Refusal.{ReportsFaultOf};
 ghost use Rattle.crossbar5.specs.Task.{HasItsMarkers, IsDone, IsUnreadTask, output_of, reasons_of};
 
-use crate::engine_fault::EngineFault;
-use crate::input::{Input, read_input};
-use crate::response::Response;
 use crate::task::Task;
-use crate::written::Written;
 use counted_io::{Sink, Source, write_all};
+use crossbar5_answer::{EngineFault, Input, Response, Written, read_input};
 use std::alloc::Global;
 
 /// Does a task with a plan's text and all that the source gives, without writing anything.

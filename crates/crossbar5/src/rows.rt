@@ -1,7 +1,7 @@
 //! Does rows of traffic in an office.
 
 ghost use Rattle.std.specs.Prelude.{◌≡◌, IfOk, None, OnErr, slice_get};
-ghost use Rattle.xbar_core.specs.Moves.{assigned, refusal, steps};
+ghost use Rattle.xbar_moves.specs.Moves.{assigned, refusal, steps};
 ghost use Rattle.xbar_traffic.specs.Row.{IsRow, mode_of};
 ghost use Rattle.xbar_traffic.specs.declared.mode.Mode.{Mode};
 ghost use Rattle.crossbar5.specs.Rows.{IsUnrefusedJob, done, no_marker_fault, assignment_fault, row_fault};

@@ -1,22 +1,17 @@
 //! Replays: traffic is done in an office, and its outcome is written as text.
 
-ghost use Rattle.std.specs.Prelude.{◌≡◌, All, IfOk, IfSome, length};
-ghost use Rattle.xbar_core.specs.Exchange.{fresh_exchange};
-ghost use Rattle.xbar_core.specs.Settling.{settled as settled_office};
-ghost use Rattle.xbar_traffic.specs.Fault.{fault_line};
+ghost use Rattle.std.specs.Prelude.{◌≡◌, All, IfOk, length};
+ghost use Rattle.xbar_moves.specs.Exchange.{fresh_exchange};
+ghost use Rattle.xbar_moves.specs.Settling.{settled as settled_office};
 ghost use Rattle.xbar_traffic.specs.Row.{IsRow, mode_of};
 ghost use Rattle.xbar_traffic.specs.declared.mode.Mode.{Mode};
-ghost use Rattle.crossbar5.specs.Faults.{IsMarkerCount};
-ghost use Rattle.crossbar5.specs.Refusal.{line_of, status_of};
-ghost use Rattle.crossbar5.specs.Run.{IsOneHistory, IsWrittenOf, Leaves, LeavesOneHistory, IsReplayUnder, RefusesTraffic, outcome};
+ghost use Rattle.crossbar5_answer.specs.Faults.{IsMarkerCount};
+ghost use Rattle.crossbar5.specs.Run.{IsOneHistory, IsWrittenOf, Leaves, LeavesOneHistory, IsReplayUnder, outcome};
 
-use crate::diagnostic::Diagnostic;
 use crate::rows::do_row;
-use crate::status::Status;
-use crate::written::Written;
+use crossbar5_answer::{Status, Written, refused};
 use std::alloc::{AllocError, Global};
 use xbar_core::{Exchange, Kind, OpenFault};
-use xbar_diagnostics::traffic_diagnostic;
 use xbar_match::{count_closed, count_paths};
 use xbar_plan::Plan;
 use xbar_report::report;
@@ -32,34 +27,6 @@ pub fn open<'p>(alloc: Global, plan: &'p Plan, kinds: &[Kind]) -> Result<Exchang
         Ok(office) => Ok(office),
         Err(OpenFault::Memory) => Err(AllocError),
         Err(OpenFault::Markers) => unreachable!(),
-    }
-}
-
-/// What is written for traffic of these bytes and this mode that is refused for this fault.
-pub fn refused(
-    alloc: Global,
-    mode: Mode,
-    bytes: &[u8],
-    fault: TrafficFault,
-) -> Result<Written, AllocError>
-    ensures { IfOk result (λ written. IsWrittenOf
-        (RefusesTraffic fault) written.text.items written.status) }
-{
-    Ok(Written {
-        text: fault.text(alloc)?.into_bytes(),
-        status: Status::TrafficRefused,
-        diagnostic: diagnostic_of(alloc, mode, bytes, fault),
-    })
-}
-
-/// The diagnostic of traffic refused for this fault. None if none is found, or if memory runs out.
-fn diagnostic_of(alloc: Global, mode: Mode, bytes: &[u8], fault: TrafficFault) -> Option<Diagnostic>
-    ensures line { IfSome result (λ diagnostic. line_of diagnostic ≡ fault_line fault) }
-    ensures status { IfSome result (λ diagnostic. status_of diagnostic ≡ Status.TrafficRefused) }
-{
-    match traffic_diagnostic(alloc, mode, bytes, fault) {
-        Ok(Some(diagnostic)) => Some(Diagnostic::Traffic(diagnostic)),
-        Ok(None) | Err(_) => None,
     }
 }
 

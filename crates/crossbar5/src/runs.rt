@@ -3,14 +3,13 @@
 ghost use Rattle.std.specs.Prelude.{◌≡◌, ◌≢◌, ◌↔◌, ◌⊎◌, Err, IfErr, IfOk, IfSome, List, OnOk, ℕ, length};
 ghost use Rattle.std.specs.Io.KnownBytes.{Appends, IsAtEnd, Keeps};
 ghost use Rattle.counted_io.specs.Counts.{HasFailed, ReadsUsedUp};
-ghost use Rattle.crossbar5.specs.Faults.{ComesFirst, IsMarkerCount};
+ghost use Rattle.crossbar5_answer.specs.Faults.{ComesFirst, IsMarkerCount};
 ghost use Rattle.crossbar5.specs.Run.{IsRefusedUnread, IsReplay};
 
 use crate::engine::answer_task;
-use crate::engine_fault::EngineFault;
-use crate::status::Status;
 use crate::task::Task;
 use counted_io::{Sink, Source};
+use crossbar5_answer::{EngineFault, Status};
 use std::alloc::Global;
 use xbar_core::Kind;
 

@@ -1,24 +1,25 @@
 -- What the engine answers, as the program reports it.
 use Rattle.std.proofs.Common.{◌≡◌, ◌≢◌, [], ℕ, Bool, List, Option, None, Some, Result, Ok, Err, IfErr, IfOk, IfSome, IsTrue, inl, option_map, refl, subst, sym}
 use Rattle.std.specs.Io.KnownBytes.{Appends, Keeps}
-use Rattle.crossbar5.specs.Faults.{ComesFirst}
-use Rattle.crossbar5_live.specs.Live.{IsLive}
-use Rattle.crossbar5.specs.Refusal.{ReportsFaultOf}
+use Rattle.crossbar5_answer.specs.Faults.{ComesFirst}
+use Rattle.crossbar5_answer.specs.Refusal.{ReportsFaultOf}
+use Rattle.crossbar5_answer.specs.declared.response.Response.{Response}
+use Rattle.crossbar5_answer.specs.declared.engine_fault.EngineFault.{EngineFault}
+use Rattle.crossbar5_answer.specs.declared.engine_fault.EngineFault.TheVariants.{Device, Long, Markers, Memory}
 use Rattle.crossbar5.specs.Task.{IsDone, output_of as task_output, reasons_of as task_reasons}
-use Rattle.crossbar5.specs.declared.response.Response.{Response}
-use Rattle.crossbar5.specs.declared.engine_fault.EngineFault.{EngineFault}
-use Rattle.crossbar5.specs.declared.engine_fault.EngineFault.TheVariants.{Device, Long, Markers, Memory}
 use Rattle.crossbar5.specs.declared.task.Task.{Task as EngineTask}
+use Rattle.crossbar5_live.specs.Live.{IsLive}
 use Rattle.crossbar5_command.specs.declared.ask.Ask.{Ask}
-use Rattle.crossbar5_cli.specs.Asks.{MayEndAsked}
-use Rattle.crossbar5_cli.specs.Endings.{ending_of_run}
+use Rattle.crossbar5_endings.specs.Asks.{MayEndAsked}
+use Rattle.crossbar5_endings.specs.Endings.{ending_of_run}
+use Rattle.crossbar5_endings.specs.Named.{Files, IsPlanNamed, name_in}
+use Rattle.crossbar5_endings.specs.Sentences.{FileName, reasons_of_run, sentence_on_run, text_of}
+use Rattle.crossbar5_endings.specs.Printed.{stderr_text}
+use Rattle.crossbar5_endings.specs.declared.ending.Ending.{Ending}
+use Rattle.crossbar5_endings.specs.declared.sentence.Sentence.{Sentence}
 use Rattle.crossbar5_cli.specs.Program.{DoesAsk, Written}
-use Rattle.crossbar5_cli.specs.Runs.{Files, IsEndAsAsked, IsEndOf, name_in}
-use Rattle.crossbar5_cli.specs.Sentences.{FileName, reasons_of_run, sentence_on_run, text_of}
-use Rattle.crossbar5_cli.specs.Printed.{stderr_text}
-use Rattle.crossbar5_cli.specs.Work.{IsAnswer, IsPlanNamed, IsDiagnosticOf}
-use Rattle.crossbar5_cli.specs.declared.ending.Ending.{Ending}
-use Rattle.crossbar5_cli.specs.declared.sentence.Sentence.{Sentence}
+use Rattle.crossbar5_cli.specs.Runs.{IsEndAsAsked, IsEndOf}
+use Rattle.crossbar5_cli.specs.Work.{IsAnswer, IsDiagnosticOf}
 use Rattle.crossbar5_cli.specs.declared.work.Work.{Work}
 use Rattle.crossbar5_cli.specs.declared.work.Work.TheVariants.{Calls, Task}
 

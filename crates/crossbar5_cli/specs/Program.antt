@@ -9,13 +9,14 @@ use Rattle.crossbar5_command.specs.Subcommand.{AskFor, GivenOption, Subcommand, 
 use Rattle.crossbar5_command.specs.declared.ask.Ask.{Ask}
 use Rattle.crossbar5_command.specs.declared.command_fault.CommandFault.{CommandFault}
 use Rattle.crossbar5_command.specs.declared.command_fault.CommandFault.TheVariants.{Memory}
-use Rattle.crossbar5_cli.specs.Asks.{MayEndAsked}
-use Rattle.crossbar5_cli.specs.Runs.{Files, IsEndAsAsked}
-use Rattle.crossbar5_cli.specs.Sentences.{text_of}
-use Rattle.crossbar5_cli.specs.Streams.{MayEndOf}
-use Rattle.crossbar5_cli.specs.Printed.{HasNoOutput, stderr_text, stderr_text_of_fault}
-use Rattle.crossbar5_cli.specs.declared.ending.Ending.{Ending}
-use Rattle.crossbar5_cli.specs.declared.sentence.Sentence.{Sentence}
+use Rattle.crossbar5_endings.specs.Asks.{MayEndAsked}
+use Rattle.crossbar5_endings.specs.Named.{Files}
+use Rattle.crossbar5_endings.specs.Sentences.{text_of}
+use Rattle.crossbar5_endings.specs.Streams.{MayEndOf}
+use Rattle.crossbar5_endings.specs.Printed.{HasNoOutput, stderr_text, stderr_text_of_fault}
+use Rattle.crossbar5_endings.specs.declared.ending.Ending.{Ending}
+use Rattle.crossbar5_endings.specs.declared.sentence.Sentence.{Sentence}
+use Rattle.crossbar5_cli.specs.Runs.{IsEndAsAsked}
 
 -- the words are read as this: words that ask for a subcommand with options, as what they ask for;
 -- and all words as clap's definition of the program says

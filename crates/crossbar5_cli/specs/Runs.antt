@@ -1,31 +1,25 @@
 -- How runs end that do what is asked for.
-use Rattle.std.specs.Prelude.{◌≡◌, ◌⊎◌, ℕ, List, Option, None, Some, option_map}
+use Rattle.std.specs.Prelude.{◌≡◌, ◌⊎◌, ℕ, List, Option, None, Some}
 use Rattle.std.specs.Borrow.{Bor}
 use Rattle.std.specs.Io.KnownBytes.{Keeps}
 use Rattle.std.specs.declared.io.Error.{Error}
-use Rattle.xbar_core.specs.declared.kind.Kind.{Kind}
-use Rattle.crossbar5.specs.Faults.{ComesFirst}
-use Rattle.crossbar5.specs.declared.engine_fault.EngineFault.{EngineFault}
-use Rattle.crossbar5.specs.declared.engine_fault.EngineFault.TheVariants.{Device, Long, Markers, Memory}
-use Rattle.crossbar5.specs.declared.diagnostic.Diagnostic.{Diagnostic}
-use Rattle.crossbar5.specs.declared.status.Status.{Status}
+use Rattle.xbar_moves.specs.declared.kind.Kind.{Kind}
+use Rattle.crossbar5_answer.specs.Faults.{ComesFirst}
+use Rattle.crossbar5_answer.specs.declared.engine_fault.EngineFault.{EngineFault}
+use Rattle.crossbar5_answer.specs.declared.engine_fault.EngineFault.TheVariants.{Markers, Memory}
+use Rattle.crossbar5_answer.specs.declared.diagnostic.Diagnostic.{Diagnostic}
+use Rattle.crossbar5_answer.specs.declared.status.Status.{Status}
 use Rattle.crossbar5_command.specs.declared.ask.Ask.{Ask}
-use Rattle.crossbar5_cli.specs.Sentences.{FileName, sentence_on_fault, sentence_on_kinds}
-use Rattle.crossbar5_cli.specs.Sentences.{sentence_on_parts, sentence_on_plan_file, sentence_on_live_markers}
-use Rattle.crossbar5_cli.specs.Work.{IsAnswer, IsPlanNamed, IsDiagnosticOf, NamesKinds, file_of, letters_of, work_of}
-use Rattle.crossbar5_cli.specs.declared.ending.Ending.{Ending}
-use Rattle.crossbar5_cli.specs.declared.ending.Ending.TheVariants.{Answered, Failed}
-use Rattle.crossbar5_cli.specs.declared.sentence.Sentence.{Sentence}
+use Rattle.crossbar5_endings.specs.Sentences.{End, FileName, sentence_on_fault}
+use Rattle.crossbar5_endings.specs.Sentences.{sentence_on_parts, sentence_on_plan_file, sentence_on_live_markers}
+use Rattle.crossbar5_endings.specs.Asks.{IsWithoutKinds}
+use Rattle.crossbar5_endings.specs.Named.{Files, IsPlanNamed, NamesKinds, file_of, letters_of, name_in}
+use Rattle.crossbar5_endings.specs.declared.ending.Ending.{Ending}
+use Rattle.crossbar5_endings.specs.declared.ending.Ending.TheVariants.{Answered, Failed}
+use Rattle.crossbar5_endings.specs.declared.sentence.Sentence.{Sentence}
+use Rattle.crossbar5_cli.specs.Work.{IsAnswer, IsDiagnosticOf, work_of}
 use Rattle.crossbar5_cli.specs.declared.work.Work.{Work}
 use Rattle.crossbar5_cli.specs.declared.work.Work.TheVariants.{Calls, Task}
-
--- the bytes in files, by their names, as far as they are known
-abbrev pub Files : Type 0
-Files = List ℕ → Option (List ℕ)
-
--- the text of a file's name
-abbrev pub name_in : FileName → Option (List ℕ)
-name_in file = option_map (λ name. name.now) file
 
 -- the streams of a run: what was left to read before it, if that is known; the number of times
 -- that reading failed in it; and what its output is known to contain before it and after it
@@ -34,12 +28,6 @@ pub record Streams : Type 0 where
   pub failures : ℕ
   pub before : Option (List ℕ)
   pub after : Option (List ℕ)
-
--- how a run ends: its ending, the lines that say why nothing is drawn, and the sentence
-pub record End : Type 0 where
-  pub ending : Ending
-  pub reasons : Option (List ℕ)
-  pub sentence : Option Sentence
 
 -- the engine answered the work with this status, with the plan of this file
 pub record IsAnsweredRun (work : Work) (file : FileName) (files : Files) (streams : Streams)
@@ -86,16 +74,6 @@ IsEndIn work file files streams end _ = ⊥
 -- a run of the work has this end
 abbrev pub IsEndOf : Work → FileName → Files → Streams → End → Type 0
 IsEndOf work file files streams end = IsEndIn work file files streams end end.ending
-
--- the kinds of the markers are not available: their letters name none, or memory ran out
-pub record IsWithoutKinds (ask : Ask) (end : End) : Type 0 where
-  pub fault : EngineFault
-  pub letters : Bor (List ℕ)
-  pub letters_are : letters_of ask ≡ Some letters.now
-  pub ending_is : end.ending ≡ Failed fault
-  pub first : ComesFirst fault
-  pub reasons_are : end.reasons ≡ None
-  pub sentence_is : end.sentence ≡ sentence_on_kinds fault letters
 
 -- the work that is asked for is done, with markers of the kinds that are asked for, and ends like
 -- this

@@ -1,46 +1,24 @@
 -- The work that is asked for.
-use Rattle.std.specs.Prelude.{◌≡◌, ◌⊎◌, [], ℕ, ◌+◌, Bool, List, Option, None, Some, IfSome, Ok, false, option_map, true, ⊤}
+use Rattle.std.specs.Prelude.{◌≡◌, ◌⊎◌, [], ℕ, ◌+◌, Bool, List, Option, IfSome, false, true, ⊤}
 use Rattle.std.specs.Borrow.{Bor}
 use Rattle.std.specs.Io.KnownBytes.{Appends}
-use Rattle.std.specs.String.{string_bytes}
-use Rattle.xbar_core.specs.declared.kind.Kind.{Kind}
-use Rattle.xbar_plan_text.specs.Document.{plan_of}
-use Rattle.xbar_plan.specs.Example.{example}
+use Rattle.xbar_moves.specs.declared.kind.Kind.{Kind}
 use Rattle.xbar_walk.specs.declared.detail.Detail.{Detail}
 use Rattle.xbar_walk.specs.declared.detail.Detail.TheVariants.{Each, Short}
-use Rattle.crossbar5.specs.Faults.{IsLiveMarkerCount}
-use Rattle.crossbar5.specs.Kinds.{Names}
-use Rattle.crossbar5_live.specs.Live.{IsLive}
-use Rattle.crossbar5.specs.PlanRefusal.{IsRefusedPlan}
-use Rattle.crossbar5.specs.Refusal.{ReportsFaultOf}
+use Rattle.crossbar5_answer.specs.Faults.{IsLiveMarkerCount}
+use Rattle.crossbar5_answer.specs.PlanRefusal.{IsRefusedPlan}
+use Rattle.crossbar5_answer.specs.Refusal.{ReportsFaultOf}
+use Rattle.crossbar5_answer.specs.declared.diagnostic.Diagnostic.{Diagnostic}
+use Rattle.crossbar5_answer.specs.declared.status.Status.{Status}
 use Rattle.crossbar5.specs.Task.{HasItsMarkers, IsDone, output_of as task_output, reasons_of as task_reasons}
 use Rattle.crossbar5.specs.declared.look.Look.{Look}
 use Rattle.crossbar5.specs.declared.look.Look.TheVariants as look
-use Rattle.crossbar5.specs.declared.diagnostic.Diagnostic.{Diagnostic}
-use Rattle.crossbar5.specs.declared.status.Status.{Status}
 use Rattle.crossbar5.specs.declared.task.Task.TheVariants as task
+use Rattle.crossbar5_live.specs.Live.{IsLive}
 use Rattle.crossbar5_command.specs.declared.ask.Ask.{Ask}
 use Rattle.crossbar5_command.specs.declared.ask.Ask.TheVariants.{Audit, Draw, Live, Page, Replay, Walk}
 use Rattle.crossbar5_cli.specs.declared.work.Work.{Work}
 use Rattle.crossbar5_cli.specs.declared.work.Work.TheVariants.{Calls, Task}
-
--- the name of the plan's file, if one is named
-abbrev pub file_of : Ask → Option (List ℕ)
-file_of (Replay file letters) = option_map string_bytes file
-file_of (Walk file letters short) = option_map string_bytes file
-file_of (Live file dial completing) = option_map string_bytes file
-file_of (Audit file) = option_map string_bytes file
-file_of (Draw file text) = option_map string_bytes file
-file_of (Page file) = option_map string_bytes file
-
--- the letters of the markers' kinds, if the command takes them
-abbrev pub letters_of : Ask → Option (List ℕ)
-letters_of (Replay file letters) = Some (string_bytes letters)
-letters_of (Walk file letters short) = Some (string_bytes letters)
-letters_of (Live file dial completing) = None
-letters_of (Audit file) = None
-letters_of (Draw file text) = None
-letters_of (Page file) = None
 
 -- a walk is described in short, or each step of it
 abbrev pub detail_of : Bool → Detail
@@ -60,11 +38,6 @@ work_of (Live file dial completing) kinds = Calls dial completing
 work_of (Audit file) kinds = Task task.Audit
 work_of (Draw file text) kinds = Task (task.Draw (look_of text))
 work_of (Page file) kinds = Task (task.Draw look.Page)
-
--- the letters name these kinds; without letters there are none
-abbrev pub NamesKinds : Option (List ℕ) → List Kind → Type 0
-NamesKinds (Some letters) kinds = Names letters kinds
-NamesKinds None kinds = kinds ≡ []
 
 -- the work has a valid number of markers, if it needs markers
 abbrev pub HasMarkers : Work → Type 0
@@ -100,12 +73,6 @@ output_of (Calls dialling completing) status text = text
 abbrev pub reasons_of : Work → Status → List ℕ → List ℕ
 reasons_of (Task task) status text = task_reasons task status text
 reasons_of (Calls dialling completing) status text = []
-
--- the plan's text is that of the named file, if it is known; if no file is named, it is a text of
--- the example plan
-abbrev pub IsPlanNamed : (List ℕ → Option (List ℕ)) → Option (List ℕ) → List ℕ → Type 0
-IsPlanNamed bytes_in None plan = plan_of plan ≡ Ok example
-IsPlanNamed bytes_in (Some name) plan = IfSome (bytes_in name) (λ all. plan ≡ all)
 
 -- the work, with a plan's text and the input that was left to read, has this status and these
 -- reasons why nothing is drawn, and its output is appended to what was written before

@@ -3,25 +3,24 @@
 ghost use Rattle.std.specs.Prelude.{◌≡◌, ◌≢◌, ◌-◌, ◌⊎◌, ◌↔◌, Err, IfErr, IfOk, IsSome, None, option_map};
 ghost use Rattle.std.specs.Io.KnownBytes.{IsAtEnd};
 ghost use Rattle.counted_io.specs.Counts.{HasFailed, ReadsUsedUp};
-ghost use Rattle.crossbar5_cli.specs.Asks.{MayEndAsked, NamesNone, RefusesMarkers};
-ghost use Rattle.crossbar5_cli.specs.Endings.{IsOfRun};
-ghost use Rattle.crossbar5_cli.specs.Runs.{IsEndAsAsked, IsEndOf, IsWithoutKinds, name_in};
-ghost use Rattle.crossbar5_cli.specs.Work as specs;
-ghost use Rattle.crossbar5_cli.specs.Work.{HasMarkers, IsPlanNamed, IsReady, NamesKinds};
+ghost use Rattle.crossbar5_endings.specs.Asks.{IsWithoutKinds, MayEndAsked, NamesNone, RefusesMarkers};
+ghost use Rattle.crossbar5_endings.specs.Endings.{IsOfRun};
+ghost use Rattle.crossbar5_endings.specs.Named as specs;
+ghost use Rattle.crossbar5_endings.specs.Named.{IsPlanNamed, NamesKinds, name_in};
+ghost use Rattle.crossbar5_cli.specs.Runs.{IsEndAsAsked, IsEndOf, sentence_on_markers};
+ghost use Rattle.crossbar5_cli.specs.Work.{HasMarkers, IsReady};
 
-use crate::ended::Ended;
-use crate::ending::Ending;
-use crate::plan_file::plan_text;
 use crate::system::System;
-use crate::work::{Work, answer, file_of, gates_of, letters_of, work_of};
-use crossbar5::{EngineFault, Sink, Source, kinds_of};
+use crate::work::{Work, answer, gates_of, work_of};
+use counted_io::{Sink, Source};
+use crossbar5_answer::EngineFault;
 use crossbar5_command::Ask;
+use crossbar5_endings::{Ended, Ending, file_of, kinds_for, plan_text};
 use std::alloc::Global;
 use std::io;
 use std::io::Read;
 use std::sync::Wait;
 use std::thread::Threads;
-use xbar_core::Kind;
 
 /// Does what is asked for, with this input and output.
 ///
@@ -74,29 +73,6 @@ pub fn do_as_asked<'w, T: Threads + Wait + Sync, S: System, R: Source, W: Sink>(
     }
 }
 
-/// The kinds of the markers, or none if the command takes no kinds.
-fn kinds_for<'w>(alloc: Global, ask: &'w Ask) -> Result<Vec<Kind>, Ended<'w>>
-    ensures named { IfOk result (λ kinds. NamesKinds (specs.letters_of ask.now) kinds.items) }
-    ensures without { IfErr result (λ ended. IsWithoutKinds ask.now
-        (record {
-          ending = ended.ending;
-          reasons = option_map (λ lines. lines.items) ended.reasons;
-          sentence = ended.sentence;
-        })) }
-    ensures refused { IfErr result (λ ended.
-        (ended.ending ≡ Ending.Failed EngineFault.Markers) ↔ RefusesMarkers ask.now) }
-    ensures why { IfErr result (λ ended. (ended.ending ≡ Ending.Failed EngineFault.Markers)
-        ⊎ (ended.ending ≡ Ending.Failed EngineFault.Memory)) }
-{
-    let Some(letters) = letters_of(ask) else {
-        return Ok(Vec::new(alloc));
-    };
-    match kinds_of(alloc, letters) {
-        Ok(kinds) => Ok(kinds),
-        Err(fault) => Err(Ended::of_kinds(fault, letters)),
-    }
-}
-
 /// Does the work with the plan in this file, or with the example plan if no file is named.
 fn perform<'w, T: Threads + Wait + Sync, S: System, R: Source, W: Sink>(
     threads: &T,
@@ -136,7 +112,7 @@ fn perform<'w, T: Threads + Wait + Sync, S: System, R: Source, W: Sink>(
 {
     let gates = match gates_of(alloc, work) {
         Ok(gates) => gates,
-        Err(fault) => return Ended::of_markers(fault, work),
+        Err(fault) => return without_markers(fault, work),
     };
     let plan = match plan_named(alloc, system, file) {
         Ok(plan) => plan,
@@ -147,6 +123,21 @@ fn perform<'w, T: Threads + Wait + Sync, S: System, R: Source, W: Sink>(
     let run = answer(threads, alloc, work, gates, &plan, input, output);
     system.end();
     Ended::of_run(run, file, input.failures().saturating_sub(before))
+}
+
+/// The end of a run with a fault of the work's markers.
+fn without_markers<'w>(fault: EngineFault, work: Work<'_>) -> Ended<'w>
+    ensures ending { result.ending ≡ Ending.Failed fault }
+    ensures reasons { result.reasons ≡ None }
+    ensures sentence { result.sentence ≡ sentence_on_markers work.entry fault }
+{
+    match work {
+        Work::Task(_) => Ended::plainly(Ending::Failed(fault)),
+        Work::Calls {
+            dialling,
+            completing,
+        } => Ended::of_live_markers(fault, dialling, completing),
+    }
 }
 
 /// The text of the plan's file, or of the example plan if no file is named.

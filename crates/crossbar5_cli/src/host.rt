@@ -1,14 +1,11 @@
 //! Runs `run_words` on the real words, files and streams.
 
-use crate::causes::ending_without_words;
-use crate::ended::Ended;
-use crate::exit::Exit;
-use crate::printing::finish;
 use crate::program::run_words;
 use crate::progress::Progress;
 use crate::system::System;
 use crate::work::{Work, input_of};
-use crossbar5::Counted;
+use counted_io::Counted;
+use crossbar5_endings::{Ended, Exit, ending_without_words, finish};
 use std::alloc::AllocError;
 use std::fs::File;
 use std::io::IsTerminal;

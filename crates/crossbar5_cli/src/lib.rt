@@ -4,29 +4,18 @@
 #![tactic(auto)]
 
 mod asked;
-mod causes;
-mod ended;
-mod ending;
-mod exit;
 mod host;
-mod plan_file;
-mod printing;
 mod program;
 mod progress;
-mod sentence;
-mod stream;
 mod system;
 mod work;
 
 pub use asked::do_as_asked;
-pub use ended::Ended;
-pub use ending::Ending;
-pub use exit::Exit;
+pub use crossbar5_endings::{
+    Ended, Ending, Exit, Sentence, Stream, finish, plan_text, print_fault, print_sentence,
+    print_text,
+};
 pub use host::run;
-pub use plan_file::plan_text;
-pub use printing::{finish, print_fault, print_sentence, print_text};
 pub use program::run_words;
-pub use sentence::Sentence;
-pub use stream::Stream;
 pub use system::System;
 pub use work::{Work, work_of};

@@ -5,11 +5,10 @@ ghost use Rattle.clap.specs.Walk.{texts};
 ghost use Rattle.crossbar5_cli.specs.Program.{DoesWords};
 
 use crate::asked::do_as_asked;
-use crate::exit::Exit;
-use crate::printing::{finish, print_fault};
 use crate::system::System;
-use crossbar5::{Sink, Source};
+use counted_io::{Sink, Source};
 use crossbar5_command::command;
+use crossbar5_endings::{Exit, finish, print_fault};
 use std::alloc::Global;
 use std::sync::Wait;
 use std::thread::Threads;

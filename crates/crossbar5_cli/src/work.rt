@@ -1,14 +1,16 @@
 //! The work that a command line asks for, and doing it.
 
-ghost use Rattle.std.specs.Prelude.{◌≡◌, ◌≢◌, ◌+◌, ◌⊎◌, ◌↔◌, Err, IfErr, IfOk, OnOk, option_map, vec_len};
-ghost use Rattle.std.specs.String.{string_bytes};
+ghost use Rattle.std.specs.Prelude.{◌≡◌, ◌≢◌, ◌+◌, ◌⊎◌, ◌↔◌, Err, IfErr, IfOk, OnOk, vec_len};
 ghost use Rattle.std.specs.Io.KnownBytes.{IsAtEnd, Keeps};
 ghost use Rattle.counted_io.specs.Counts.{HasFailed, ReadsUsedUp};
-ghost use Rattle.crossbar5.specs.Faults.{ComesFirst};
+ghost use Rattle.crossbar5_answer.specs.Faults.{ComesFirst};
+ghost use Rattle.crossbar5_endings.specs.Named.{NamesKinds, letters_of};
 ghost use Rattle.crossbar5_cli.specs.Work as specs;
-ghost use Rattle.crossbar5_cli.specs.Work.{HasGates, HasMarkers, IsAnswer, IsReady, IsDiagnosticOf, IsUnread, NamesKinds};
+ghost use Rattle.crossbar5_cli.specs.Work.{HasGates, HasMarkers, IsAnswer, IsReady, IsDiagnosticOf, IsUnread};
 
-use crossbar5::{Detail, EngineFault, Look, Response, Sink, Source, Task, answer_task};
+use counted_io::{Sink, Source};
+use crossbar5::{Detail, Look, Task, answer_task};
+use crossbar5_answer::{EngineFault, Response};
 use crossbar5_command::Ask;
 use crossbar5_live::{answer_live, open_gates};
 use std::alloc::Global;
@@ -29,7 +31,7 @@ pub enum Work<'k> {
 /// The work that is asked for, with markers of these kinds if the command takes kinds.
 pub fn work_of<'k>(ask: &Ask, kinds: &'k [Kind]) -> Work<'k>
     ensures work { result ≡ specs.work_of ask.now kinds.entry }
-    ensures ready { NamesKinds (specs.letters_of ask.now) kinds.now → IsReady result }
+    ensures ready { NamesKinds (letters_of ask.now) kinds.now → IsReady result }
 {
     match ask {
         Ask::Replay { .. } => Work::Task(Task::Replay { kinds }),
@@ -65,40 +67,6 @@ fn look_of(text: bool) -> Look
     ensures { result ≡ specs.look_of text }
 {
     if text { Look::Text } else { Look::Drawing }
-}
-
-/// The name of the plan's file, if one is named.
-pub fn file_of(ask: &Ask) -> Option<&str>
-    ensures { option_map (λ name. name.now) result ≡ specs.file_of ask.now }
-{
-    match ask {
-        Ask::Replay { plan, .. } => name_of(plan),
-        Ask::Walk { plan, .. } => name_of(plan),
-        Ask::Live { plan, .. } => name_of(plan),
-        Ask::Audit { plan } => name_of(plan),
-        Ask::Draw { plan, .. } => name_of(plan),
-        Ask::Page { plan } => name_of(plan),
-    }
-}
-
-fn name_of(plan: &Option<String>) -> Option<&str>
-    ensures { option_map (λ name. name.now) result ≡ option_map string_bytes plan.now }
-{
-    match plan {
-        Some(name) => Some(name.as_str()),
-        None => None,
-    }
-}
-
-/// The letters of the markers' kinds, if the command takes them.
-pub fn letters_of(ask: &Ask) -> Option<&str>
-    ensures { option_map (λ letters. letters.now) result ≡ specs.letters_of ask.now }
-{
-    match ask {
-        Ask::Replay { kinds, .. } => Some(kinds.as_str()),
-        Ask::Walk { kinds, .. } => Some(kinds.as_str()),
-        Ask::Live { .. } | Ask::Audit { .. } | Ask::Draw { .. } | Ask::Page { .. } => None,
-    }
 }
 
 /// What to type as the input of the work, with an example.

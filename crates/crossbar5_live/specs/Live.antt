@@ -15,11 +15,11 @@ use Rattle.xbar_markers.specs.Calls.{AreServed}
 use Rattle.xbar_markers.specs.Outcomes.{AreTaken}
 use Rattle.xbar_markers.specs.DesksByKind.{kinds_of}
 use Rattle.xbar_markers.specs.declared.call.Call.{Call}
-use Rattle.crossbar5.specs.Faults.{IsLiveMarkerCount}
-use Rattle.crossbar5.specs.PlanRefusal.{IsAnswerOf, IsRefusedPlan}
-use Rattle.crossbar5.specs.Run.{IsWrittenOf, RefusesTraffic}
-use Rattle.crossbar5.specs.declared.status.Status.{Status}
-use Rattle.crossbar5.specs.declared.status.Status.TheVariants.{Fine}
+use Rattle.crossbar5_answer.specs.Faults.{IsLiveMarkerCount}
+use Rattle.crossbar5_answer.specs.PlanRefusal.{IsAnswerOf, IsRefusedPlan}
+use Rattle.crossbar5_answer.specs.TrafficRefusal.{IsTrafficRefusal}
+use Rattle.crossbar5_answer.specs.declared.status.Status.{Status}
+use Rattle.crossbar5_answer.specs.declared.status.Status.TheVariants.{Fine}
 
 -- the calls that a row asks for: one, or none
 abbrev pub calls_in : Row → List Call
@@ -45,7 +45,7 @@ pub record IsTextOfCalls (plan : Tables) (dialling completing : ℕ) (calls : Li
 -- the traffic is refused if the row after these has a fault; otherwise their calls are done
 abbrev pub IsLiveOf : Tables → ℕ → ℕ → List Row → Option RowFault → List ℕ → Status → Type 0
 IsLiveOf plan dialling completing rows (Some fault) text status =
-    IsWrittenOf (RefusesTraffic (record { row = length rows + 1; fault = fault })) text status
+    IsTrafficRefusal (record { row = length rows + 1; fault = fault }) text status
 IsLiveOf plan dialling completing rows None text status =
     IsTextOfCalls plan dialling completing (calls_of rows) text × (status ≡ Fine)
 

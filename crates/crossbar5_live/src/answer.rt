@@ -4,18 +4,18 @@
 ghost use Rattle.std.specs.Prelude.{◌≡◌, ◌≢◌, ◌↔◌, ◌⊎◌, [], Err, IfErr, IfOk, IfSome, List, OnOk, ℕ, ◌+◌, vec_len};
 ghost use Rattle.std.specs.Io.KnownBytes.{Appends, IsAtEnd, Keeps};
 ghost use Rattle.counted_io.specs.Counts.{HasFailed, ReadsUsedUp};
-ghost use Rattle.crossbar5.specs.Faults.{ComesFirst, IsLiveMarkerCount};
-ghost use Rattle.crossbar5.specs.Refusal.{ReportsFaultOf};
+ghost use Rattle.crossbar5_answer.specs.Faults.{ComesFirst, IsLiveMarkerCount};
+ghost use Rattle.crossbar5_answer.specs.Refusal.{ReportsFaultOf};
 ghost use Rattle.crossbar5_live.specs.Live.{IsLive, IsLiveUnread};
 
 use crate::calls_text::live;
 use counted_io::{Sink, Source, write_all};
-use crossbar5::{EngineFault, Input, Response, Status, Written, read_input};
+use crossbar5_answer::{EngineFault, Input, Response, Status, Written, read_input};
 use std::alloc::Global;
 use std::sync::Wait;
 use std::thread::Threads;
-use xbar_core::MOST_MARKERS;
 use xbar_markers::Gate;
+use xbar_moves::MOST_MARKERS;
 
 /// Does live traffic with a plan's text and all that the source gives, without writing anything.
 fn do_live<G: Gate + Send + Drop, T: Threads + Wait + Sync, R: Source>(

@@ -7,10 +7,10 @@ ghost use Rattle.xbar_traffic.specs.Row.{IsRow};
 ghost use Rattle.xbar_markers.specs.Calls.{HasCallNo};
 ghost use Rattle.xbar_markers.specs.Outcomes.{IsOutcome};
 ghost use Rattle.xbar_markers.specs.declared.call.Call.{Call as CallView};
-ghost use Rattle.crossbar5.specs.Faults.{IsLiveMarkerCount};
+ghost use Rattle.crossbar5_answer.specs.Faults.{IsLiveMarkerCount};
 ghost use Rattle.crossbar5_live.specs.Live.{IsLiveUnder, IsTextOfCalls, calls_in, calls_of};
 
-use crossbar5::{Status, Written, refused};
+use crossbar5_answer::{Status, Written, refused};
 use std::alloc::{AllocError, Global};
 use std::sync::Wait;
 use std::thread::Threads;

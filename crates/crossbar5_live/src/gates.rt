@@ -1,10 +1,10 @@
 ghost use Rattle.std.specs.Prelude.{◌≡◌, ◌+◌, ◌↔◌, Err, IfOk, vec_len};
-ghost use Rattle.crossbar5.specs.Faults.{IsLiveMarkerCount};
+ghost use Rattle.crossbar5_answer.specs.Faults.{IsLiveMarkerCount};
 
-use crossbar5::EngineFault;
+use crossbar5_answer::EngineFault;
 use std::alloc::Global;
-use xbar_core::MOST_MARKERS;
 use xbar_markers::OpenGate;
+use xbar_moves::MOST_MARKERS;
 
 /// A gate that does nothing for each of the markers of live calls. The fault is `Markers` unless
 /// there is at least one marker of each kind, and at most 48 in all.

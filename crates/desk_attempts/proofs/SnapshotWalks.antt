@@ -42,9 +42,9 @@ module _ {Lock Job Reply Effect Decision ResumePoint : Type 0} (same : Lock → 
   at_word p readings word = waiting Reply Effect p readings word
 
   -- what a walk by a snapshot comes to
-  module _ (self : (lock : Lock) → same lock lock ≡ true) (reads seizes most hold left : ℕ) (old new : Doing) (words after : List ℕ) (found : Result Decision (Wanted Lock ℕ)) (by : WalksBySteps same S ResumePointIsValid reads seizes most hold old words new after found left) where
-    looks : Looked same self S.lock_word reads seizes (S.script old.job) (record { seen = seen_of old; left = most; hold = hold }) found (record { seen = seen_of new; left = left; hold = by.hold_then }) (length old.readings) (length old.held)
-    looks = looked same self S.lock_word reads seizes (S.script old.job) (record { seen = seen_of old; left = most; hold = hold }) words found (record { seen = seen_of new; left = left; hold = by.hold_then }) after (length old.readings) (length old.held) by.walk refl refl
+  module _ (self : (lock : Lock) → same lock lock ≡ true) (reads seizes most held_word left : ℕ) (old new : Doing) (words after : List ℕ) (found : Result Decision (Wanted Lock ℕ)) (by : WalksBySteps same S ResumePointIsValid reads seizes most held_word old words new after found left) where
+    looks : Looked same self S.lock_word reads seizes (S.script old.job) (record { seen = seen_of old; left = most; held_word = held_word }) found (record { seen = seen_of new; left = left; held_word = by.held_word_then }) (length old.readings) (length old.held)
+    looks = looked same self S.lock_word reads seizes (S.script old.job) (record { seen = seen_of old; left = most; held_word = held_word }) words found (record { seen = seen_of new; left = left; held_word = by.held_word_then }) after (length old.readings) (length old.held) by.walk refl refl
 
     pub has_seen : Saw old new found
     has_seen = record {

@@ -41,7 +41,7 @@ pub(crate) fn drop_predictions<
     program.validated = None;
 }
 
-/// As `drop_predictions`, in a form whose contract lets an answer be applied next.
+/// Like `drop_predictions`, in a form whose contract lets an answer be applied next.
 #[inline(always)]
 fn drop_predictions_to_apply<S: Scripts<READINGS, HELD>, const READINGS: usize, const HELD: usize>(
     program: &mut SpeculationOf<S, READINGS, HELD>,

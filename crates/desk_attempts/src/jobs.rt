@@ -16,6 +16,7 @@ use desks::{Jobs, WordStep};
 use std::alloc::{AllocError, Global};
 use std::marker::PhantomData;
 use std::ops::Range;
+use turns::lock_word::holder;
 use turns::{Act, Answer, Phase, Reading};
 
 /// Does nothing. Called for its contract, that an answer may be applied.
@@ -135,11 +136,19 @@ impl<S: OnWords<READINGS, HELD>, const READINGS: usize, const HELD: usize> Jobs
         S::turn_word(setting)
     }
 
+    fn lock_word(setting: &S::Setting, lock: &S::Lock) -> usize {
+        S::lock_word(setting, *lock)
+    }
+
+    fn holder_in(_setting: &S::Setting, word: u64) -> Option<u32> {
+        holder(word)
+    }
+
     fn is_finished(program: &SpeculationOf<S, READINGS, HELD>) -> bool {
         has_ended::<S, READINGS, HELD>(program)
     }
 
-    fn is_given_up(program: &SpeculationOf<S, READINGS, HELD>) -> bool {
+    fn is_giving_back(program: &SpeculationOf<S, READINGS, HELD>) -> bool {
         gives_back::<S, READINGS, HELD>(program)
     }
 

@@ -4,7 +4,7 @@
 ghost use Rattle.std.specs.Prelude.{◌≡◌, ◌<◌, IfNone, IfSome, None};
 ghost use Rattle.turns.specs.Attempt.{act, answer_to, asked_in, begin as begin_of, next as next_of, operated, restarted, turn_in};
 ghost use Rattle.turns.specs.Runs.{is_finished};
-ghost use Rattle.turns.specs.Outcomes.{IsPastTurn, is_given_up, outcome_of};
+ghost use Rattle.turns.specs.Outcomes.{IsPastTurn, is_giving_back, outcome_of};
 ghost use Rattle.desk_attempts.specs.Of.{MayApply, IsValidSpeculation, now_of};
 ghost use Rattle.attempts.specs.Of.{AreScripts, IsValid, attempt_of, system_of};
 
@@ -102,11 +102,11 @@ pub(crate) fn has_ended<S: Scripts<READINGS, HELD>, const READINGS: usize, const
 pub(crate) fn gives_back<S: Scripts<READINGS, HELD>, const READINGS: usize, const HELD: usize>(
     program: &SpeculationOf<S, READINGS, HELD>,
 ) -> bool
-    ensures { result ≡ is_given_up (now_of S.Scripts program.now).phase }
+    ensures { result ≡ is_giving_back (now_of S.Scripts program.now).phase }
 {
     match program.prediction() {
         Some(_) => false,
-        None => program.predicted.is_given_up(),
+        None => program.predicted.is_giving_back(),
     }
 }
 
@@ -163,7 +163,7 @@ pub(crate) fn begin_now<S: Scripts<READINGS, HELD>, const READINGS: usize, const
     }
 }
 
-/// As `begin_now`, in place of an attempt at another job.
+/// Like `begin_now`, but overwrites an attempt at another job.
 pub(crate) fn begin_next_now<S: Scripts<READINGS, HELD>, const READINGS: usize, const HELD: usize>(
     program: &mut SpeculationOf<S, READINGS, HELD>,
     job: S::Job,
@@ -179,7 +179,7 @@ pub(crate) fn begin_next_now<S: Scripts<READINGS, HELD>, const READINGS: usize, 
     program.validate_all();
 }
 
-/// As `restart_now`, for an attempt without predictions.
+/// Like `restart_now`, for an attempt without predictions.
 fn restart_plain<S: Scripts<READINGS, HELD>, const READINGS: usize, const HELD: usize>(
     program: &mut SpeculationOf<S, READINGS, HELD>,
 )

@@ -45,9 +45,12 @@ pub trait OnWords<const READINGS: usize, const HELD: usize>: Scripts<READINGS, H
 
     /// The words under a lock, if their numbers are consecutive; otherwise an empty range. A desk
     /// that has seized the lock takes a snapshot of them, so that one walk predicts all that it
-    /// will read there. Returning another range is always safe, only slower.
+    /// will read there. Another range is always right, only slower; by default it is empty.
     fn words_under(setting: &Self::Setting, lock: Self::Lock) -> Range<usize>
-        ensures { result.end ≤ (Self.system setting.now).size };
+        ensures { result.end ≤ (Self.system setting.now).size }
+    {
+        0..0
+    }
 
     ghost are_scripts: { (setting : Self.Setting) → Self.IsSetting setting
         → AreScripts Self.Lock.eq Self.reply_of Self.effects_of (Self.system setting)

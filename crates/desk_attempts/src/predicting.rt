@@ -79,7 +79,7 @@ fn predict_by_walk<S: Scripts<READINGS, HELD>, const READINGS: usize, const HELD
     }
 }
 
-/// As `predict_by_walk`, for an attempt without predictions.
+/// Like `predict_by_walk`, for an attempt without predictions.
 #[inline(always)]
 fn predict<S: Scripts<READINGS, HELD>, const READINGS: usize, const HELD: usize>(
     program: &mut SpeculationOf<S, READINGS, HELD>,

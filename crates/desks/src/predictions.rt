@@ -1,5 +1,5 @@
-//! The testing of a program's predictions: of the words that it tests next, each with the value
-//! expected there.
+//! Testing a program's predictions: the words that it tests next, each with the value expected
+//! there.
 
 ghost use Rattle.std.specs.Prelude.{◌≡◌, ◌<◌, ◌≤◌, ◌^◌, IfSome, length, slice_get};
 ghost use Rattle.turns.specs.System.{system_of};
@@ -75,7 +75,7 @@ fn test_predictions<F: Jobs, W: Watch>(
     (made, None)
 }
 
-/// Confirms the first `made` predictions of the program, if there are any.
+/// Confirms the first `made` predictions of the program, if `made` isn't 0.
 #[inline(always)]
 fn confirm<F: Jobs>(setting: &F::Setting, program: &mut F::Program, made: usize)
     requires valid { F.IsValid setting.now program.old }

@@ -1,11 +1,15 @@
-//! Tests of `turns`, `slots`, `slot_desks` and `fair_queue`: by values from outside, and on
-//! threads.
+//! Tests of `turns`, `slots`, `slot_desks`, `bank_desks` and `fair_queue`: by values from outside,
+//! and on threads.
 #![tactic(auto)]
 
+#[cfg(test)]
+mod bank_at_work;
 #[cfg(test)]
 mod banks;
 #[cfg(test)]
 mod locks;
+#[cfg(test)]
+mod operations;
 #[cfg(test)]
 mod queues;
 #[cfg(test)]

@@ -1,7 +1,7 @@
 //! The word of a lock, and what it says to an actor.
 
 use turns::Judgement;
-use turns::lock_word::{asked_by, freed, seized_by, withdrawn_by};
+use turns::lock_word::{asked_by, freed, holder, seized_by, withdrawn_by};
 
 #[test]
 fn passes_a_lock_on(rt: HostRuntime) {
@@ -11,6 +11,19 @@ fn passes_a_lock_on(rt: HostRuntime) {
     assert_eq!(rt; taken, 0b1000 << 8 | 1);
     assert_eq!(rt; freed(taken), 0b1000 << 8);
     assert_eq!(rt; withdrawn_by(3, taken), 1);
+}
+
+#[test]
+fn names_the_holder(rt: HostRuntime) {
+    for (word, want) in [
+        (0, None),
+        (0b1001 << 8, None),
+        (1, Some(0)),
+        (0b1000 << 8 | 1, Some(0)),
+        (1 << 55 | 48, Some(47)),
+    ] {
+        assert_eq!(rt; holder(word), want, "word {word}");
+    }
 }
 
 #[test]

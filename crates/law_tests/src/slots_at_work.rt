@@ -1,19 +1,62 @@
-//! Desks of the slots: eight on threads, two that alternate, one that learns a note, and a room
-//! that is shut amid a job. The rule that judges their records is written anew here.
+//! Desks of the slots: eight on threads, two that alternate, one that learns a note, one that is
+//! lost during a job, and a room that is shut or stays open during one. The rule that judges their
+//! records is written anew here.
 
 ghost use Rattle.std.specs.Prelude.{◌≡◌, IfOk};
-ghost use Rattle.desks.specs.Views.{new_desk};
+ghost use Rattle.desks.specs.Views.{IsDeskOf, new_desk};
+ghost use Rattle.slots.specs.System.{slots};
+ghost use Rattle.workers.specs.Workers.{IsLogOf};
 
 use desks::{Room, meet, shut, shut_all};
 use slot_desks::SlotJobs;
-use slot_desks::driving::{
-    SlotDesk, SlotRecord, SlotRoom, alternate, do_after, finish, last_desk, persist, put_desk,
-};
+use slot_desks::driving::{Shift, SlotDesk, SlotRecord, SlotRoom, alternate};
 use slot_desks::on_threads::{shut_shifts, take_and_give_at_once};
 use slots::{Job, UpToTwo};
 use std::alloc::Global;
 use std::ops::Range;
 use std::test::Fail;
+use workers::{
+    BackOff, Routine, Yielding, at_once, do_after, finish, last_desk, persist, put_desk,
+    shut_if_idle,
+};
+
+/// Gives up after one try, of three steps.
+struct OneTry;
+
+impl BackOff for OneTry {
+    fn patience(&self, _desk: u32) -> u32 {
+        3
+    }
+
+    fn try_again(&self, _made: u64) -> bool {
+        false
+    }
+}
+
+/// Begins job 7, and gives up on it.
+#[derive(Drop)]
+struct GivesUp<'a> {
+    room: &'a SlotRoom,
+}
+
+impl Routine<Shift> for GivesUp<'_> {
+    ghost Begins = { λ routine shift. IsDeskOf shift.desk routine.room.now tt
+        × IsLogOf slots shift.desk shift.log.items };
+
+    ghost Ends = { λ routine shift after. IsDeskOf after.desk routine.room.now tt
+        × (after.desk.number ≡ shift.desk.number) × IsLogOf slots after.desk after.log.items };
+
+    fn run(&self, mut shift: Shift) -> Shift
+        requires { IsDeskOf shift.desk self.now.room.now tt
+            × IsLogOf slots shift.desk shift.log.items }
+        ensures { IsDeskOf result.desk self.now.room.now tt
+            × (result.desk.number ≡ shift.desk.number)
+            × IsLogOf slots result.desk result.log.items }
+    {
+        let _ended = shift.work(self.room, &(), 7, Job::Take, &OneTry);
+        shift
+    }
+}
 
 /// The bit of a slot, or 0 if there is no slot of this number.
 fn bit(slot: u32) -> u64 {
@@ -122,7 +165,9 @@ fn eight_desks_take_and_give_slots_on_threads(rt: HostRuntime) -> Result<(), Fai
     let records: Vec<&SlotRecord> = logs.collect(alloc)?;
     let turns = records.len();
     let busy = after_all(records);
-    let words = shut_shifts(alloc, room, shifts)?.ok_or("each job has ended")?;
+    let Ok(words) = shut_shifts(alloc, room, shifts) else {
+        return Err("each job has ended".into());
+    };
     // A round of each desk takes a slot and frees it, or takes two slots and frees each.
     assert!(rt; turns >= 16_000);
     assert!(rt; busy.is_some_and(|slots| slots.count_ones() == 8));
@@ -137,18 +182,18 @@ fn two_desks_take_and_give_slots_in_turn(rt: HostRuntime) -> Result<(), Fail> {
     let mut log = Vec::new(alloc);
     alternate(&room, &mut zero, &mut one, 2_000, &mut log);
     meet(&room, &(), &mut zero, &mut one);
-    if let Some(reported) = finish(&room, &mut zero, 100) {
+    if let Some(reported) = finish(&room, &(), &mut zero, 100) {
         log.push(reported)?;
     }
     zero.give_back(&room, &());
     one.give_back(&room, &());
-    if let Some(reported) = finish(&room, &mut one, 100) {
+    if let Some(reported) = finish(&room, &(), &mut one, 100) {
         log.push(reported)?;
     }
     assert!(rt; zero.is_idle() && one.is_idle());
     let mut all: Vec<SlotDesk> = Vec::with_capacity(alloc, 2)?;
-    put_desk(&room, &mut all, zero);
-    put_desk(&room, &mut all, one);
+    put_desk(&room, &(), &mut all, zero);
+    put_desk(&room, &(), &mut all, one);
     let Ok(words) = shut_all::<SlotJobs>(alloc, room, &(), all) else {
         return Err("there is memory for five words".into());
     };
@@ -162,11 +207,13 @@ fn two_desks_take_and_give_slots_in_turn(rt: HostRuntime) -> Result<(), Fail> {
 fn a_job_comes_after_those_of_a_note(rt: HostRuntime) -> Result<(), Fail> {
     let (room, mut zero, mut one) = room_of_two(rt.alloc())?;
     assert!(rt; one.assign(5, Job::Take));
-    let first = persist(&room, &mut one).ok_or("the first job ends")?;
+    let first = persist(&room, &(), &mut one, &Yielding).ok_or("the first job ends")?;
     let mut note = one.note(&room);
     let copy = note.copy(&room);
     drop(note);
-    let then = do_after(&room, &mut zero, copy, 6, Job::Take).ok_or("the second job ends")?;
+    let then = do_after(&room, &(), &mut zero, copy, 6, Job::Take, &Yielding).ok_or(
+        "the second job ends",
+    )?;
     assert!(rt; first.turn == 0 && first.actor == 1 && first.number == 5);
     assert!(rt; first.reply.slots() == UpToTwo::One(0));
     assert!(rt; then.turn == 1 && then.actor == 0 && then.number == 6);
@@ -175,14 +222,63 @@ fn a_job_comes_after_those_of_a_note(rt: HostRuntime) -> Result<(), Fail> {
 }
 
 #[test]
-fn a_room_is_shut_amid_a_job(rt: HostRuntime) -> Result<(), Fail> {
+fn a_room_is_shut_during_a_job(rt: HostRuntime) -> Result<(), Fail> {
     let (room, zero, mut one) = room_of_two(rt.alloc())?;
     assert!(rt; one.assign(0, Job::Take));
     // Request and seize the bank's lock, test its word, turn, mark a slot; the lock is still held.
-    assert!(rt; finish(&room, &mut one, 5).is_none());
+    assert!(rt; finish(&room, &(), &mut one, 5).is_none());
     let Ok(words) = shut::<SlotJobs>(rt.alloc(), room, &(), zero) else {
         return Err("there is memory for five words".into());
     };
     assert!(rt; words.as_slice() == [1, 0, 2, 0, 1].as_slice());
+    Ok(())
+}
+
+#[test]
+fn a_room_stays_open_during_a_job(rt: HostRuntime) -> Result<(), Fail> {
+    let alloc = rt.alloc();
+    let (room, desks) = Room::<SlotJobs>::open(alloc, &(), 2)?;
+    let shifts = at_once(&rt, alloc, &room, &(), desks, &GivesUp { room: &room })?;
+    let Err(back) = shut_if_idle(alloc, room, &(), shifts) else {
+        return Err("no job has ended".into());
+    };
+    assert!(rt; !back.were_idle);
+    assert!(rt; back.shifts.len() == 2);
+    assert!(rt; back.shifts.iter().all(|shift| shift.last().is_none()));
+    Ok(())
+}
+
+#[test]
+fn a_shift_goes_on_with_its_job(rt: HostRuntime) -> Result<(), Fail> {
+    let alloc = rt.alloc();
+    let (room, zero, _one) = room_of_two(alloc)?;
+    let mut shift = Shift::new(alloc, zero);
+    assert!(rt; !shift.work(&room, &(), 7, Job::Take, &OneTry));
+    assert!(rt; !shift.work(&room, &(), 8, Job::Take, &Yielding));
+    assert!(rt; shift.last().is_none());
+    assert!(rt; shift.go_on(&room, &(), &Yielding));
+    assert!(rt;
+        shift
+            .last()
+            .is_some_and(|reported| reported.number == 7 && reported.turn == 0)
+    );
+    assert!(rt; !shift.go_on(&room, &(), &Yielding));
+    assert!(rt; shift.log.len() == 1);
+    Ok(())
+}
+
+#[test]
+fn a_lost_desk_keeps_its_lock(rt: HostRuntime) -> Result<(), Fail> {
+    let (room, mut zero, mut one) = room_of_two(rt.alloc())?;
+    assert_eq!(rt; zero.holder(&room, &(), &0), None);
+    assert!(rt; one.assign(0, Job::Take));
+    // Request and seize the lock of bank 0.
+    assert!(rt; finish(&room, &(), &mut one, 2).is_none());
+    assert_eq!(rt; one.holder(&room, &(), &0), Some(1));
+    drop(one);
+    assert!(rt; zero.assign(1, Job::Take));
+    assert!(rt; finish(&room, &(), &mut zero, 100).is_none());
+    assert_eq!(rt; zero.holder(&room, &(), &0), Some(1));
+    assert_eq!(rt; zero.holder(&room, &(), &1), None);
     Ok(())
 }

@@ -1,5 +1,5 @@
 use Rattle.std.specs.Prelude.{◌≡◌, ℕ, List, IfSome, slice_get, true}
-use Rattle.xbar_core.specs.Exchange.{is_idle}
+use Rattle.xbar_moves.specs.Exchange.{is_idle}
 use Rattle.xbar_fabric.specs.Views.{DeskView, FabricView, IsDeskOf}
 
 -- idle desks of these shared words, each at the index of its marker

@@ -6,13 +6,18 @@ use std::alloc::Global;
 use std::io::{Read, Write};
 use std::process::Abort;
 use std::test::Fail;
-use test_tools::{Call, Endless, FailAt, Recorder, check, check_eq};
+use test_tools::{DeviceCall, Endless, FailAt, Recorder, check, check_eq};
 
 mod stand_ins;
 mod still;
 mod stuck;
 
-const READS: &[Call] = &[Call::Read(5), Call::Read(3), Call::Read(0), Call::Read(5)];
+const READS: &[DeviceCall] = &[
+    DeviceCall::Read(5),
+    DeviceCall::Read(3),
+    DeviceCall::Read(0),
+    DeviceCall::Read(5),
+];
 
 #[test]
 fn each_read_reaches_the_device_once(rt: HostRuntime) -> Result<(), Fail> {
@@ -26,16 +31,16 @@ fn each_read_reaches_the_device_once(rt: HostRuntime) -> Result<(), Fail> {
     Ok(())
 }
 
-const WRITES: &[Call] = &[
-    Call::Write(4),
-    Call::Flush,
-    Call::Write(0),
-    Call::Write(6),
-    Call::Flush,
+const WRITES: &[DeviceCall] = &[
+    DeviceCall::Write(4),
+    DeviceCall::Flush,
+    DeviceCall::Write(0),
+    DeviceCall::Write(6),
+    DeviceCall::Flush,
 ];
 
 /// Checks that the device got these calls and holds these bytes.
-fn check_device(rt: &impl Abort, device: &Recorder<Vec<u8>>, calls: &[Call], bytes: &[u8]) {
+fn check_device(rt: &impl Abort, device: &Recorder<Vec<u8>>, calls: &[DeviceCall], bytes: &[u8]) {
     check_eq!(rt; device.calls.as_slice(), calls);
     check_eq!(rt; device.inner.as_slice(), bytes);
 }
@@ -61,7 +66,7 @@ fn each_failure_is_the_device_s_own(rt: HostRuntime) {
     let mut source = Counted::new(Recorder::new(alloc, device));
     check!(rt; source.read_and_count(&mut [0; 3]).is_err());
     check_eq!(rt; source.failures(), 1);
-    check_eq!(rt; source.get_ref().calls.as_slice(), [Call::Read(3)].as_slice());
+    check_eq!(rt; source.get_ref().calls.as_slice(), [DeviceCall::Read(3)].as_slice());
     for calls in 0..2 {
         let device = FailAt::new(calls, Vec::new(alloc));
         let mut sink = Counted::new(Recorder::new(alloc, device));
@@ -69,12 +74,12 @@ fn each_failure_is_the_device_s_own(rt: HostRuntime) {
         let has_failed_flush = sink.flush_and_count().is_err();
         check_eq!(rt; [has_failed_write, has_failed_flush], [calls == 0, calls == 1]);
         check_eq!(rt; sink.failures(), 1);
-        let wanted = [Call::Write(2), Call::Flush];
+        let wanted = [DeviceCall::Write(2), DeviceCall::Flush];
         check_eq!(rt; sink.get_ref().calls.as_slice(), wanted.as_slice());
     }
 }
 
-const FULL_CHUNKS: &[Call] = &[Call::Read(4096); 4];
+const FULL_CHUNKS: &[DeviceCall] = &[DeviceCall::Read(4096); 4];
 
 #[test]
 fn all_is_read_by_full_chunks(rt: HostRuntime) -> Result<(), Fail> {
@@ -86,9 +91,9 @@ fn all_is_read_by_full_chunks(rt: HostRuntime) -> Result<(), Fail> {
 }
 
 /// Bytes, and the calls that write all of them.
-const WHOLE_WRITES: &[(&[u8], &[Call])] = &[
-    (b"8 bytes\n", &[Call::Write(8), Call::Flush]),
-    (b"", &[Call::Flush]),
+const WHOLE_WRITES: &[(&[u8], &[DeviceCall])] = &[
+    (b"8 bytes\n", &[DeviceCall::Write(8), DeviceCall::Flush]),
+    (b"", &[DeviceCall::Flush]),
 ];
 
 #[test]

@@ -4,11 +4,11 @@ use std::test::Fail;
 use test_tools::{check, check_eq};
 use xbar_equip::Len;
 use xbar_office::{Cards, End, Job, Record, Reply};
-use xbar_report::{ReadFault, read, report};
+use xbar_report::{ReportFault, read, report};
 
 /// Texts, each with its fault, if it has one: one with three cards and counts, one whose third
 /// line is a card of no record, and one with a wrong turn.
-const TEXTS: &[(&str, Option<ReadFault>)] = &[
+const TEXTS: &[(&str, Option<ReportFault>)] = &[
     (
         "0,1,0,D,3041,-,TROUBLE,-,-,-\n\
         1,2,1,C,3052,2340004,CONNECTED,1,3052-0-600,3100-1-601\n\
@@ -23,11 +23,11 @@ const TEXTS: &[(&str, Option<ReadFault>)] = &[
         "0,1,0,D,3041,-,TROUBLE,-,-,-\n\
         1,2,1,D,3052,-,LINEBUSY,-,-,-\n\
         TROUBLE,2,1,1,JU340\n",
-        Some(ReadFault::Line { number: 3 }),
+        Some(ReportFault::Line { number: 3 }),
     ),
     (
         "1,1,0,D,3041,-,NOPATH,-,-,-\n",
-        Some(ReadFault::Turns { place: 0 }),
+        Some(ReportFault::Turns { place: 0 }),
     ),
 ];
 
@@ -36,7 +36,7 @@ const TEXTS: &[(&str, Option<ReadFault>)] = &[
 fn a_text_is_judged_right_or_memory_is_told(rt: HostRuntime) {
     for (text, wanted) in TEXTS {
         let fault = read(rt.alloc(), text.as_bytes()).err();
-        if fault != Some(ReadFault::Memory) {
+        if fault != Some(ReportFault::Memory) {
             check_eq!(rt; fault, *wanted);
         }
     }

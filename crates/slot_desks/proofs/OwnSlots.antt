@@ -1,6 +1,6 @@
 -- a desk that frees only slots that it has
 use Rattle.std.proofs.Common.{◌≡◌, ℕ, Bool, true, false, List, [], ◌∷◌, ◌++◌, map, inl, inr, refl, sym, ◌∙◌, ap, subst, append_assoc}
-use Rattle.std.specs.Prelude.{◌==◌, Option, Some, None, IfNone, IfSome, if◌then◌else◌}
+use Rattle.std.specs.Prelude.{◌==◌, Err, IfNone, IfOk, IfSome, None, Ok, Option, Result, Some, if◌then◌else◌}
 use Rattle.std.proofs.lemmas.Bool.{eq-eqb}
 use Rattle.desks.specs.Desks.{as_record}
 use Rattle.desks.specs.Parts.{Begins}
@@ -8,7 +8,8 @@ use Rattle.desks.specs.declared.progress.JobRecord.{JobRecord}
 use Rattle.slots.specs.System.{slots}
 use Rattle.slots.specs.declared.job.Job.{Job}
 use Rattle.slots.specs.declared.job.Job.TheVariants.{Take, TakeBoth, Give}
-use Rattle.slot_desks.specs.Driving.{LogsGiving, LogsOne, records}
+use Rattle.slot_desks.specs.Driving.{LogsGiving, LogsJob}
+use Rattle.workers.specs.Workers.{records}
 use Rattle.slot_desks.specs.Ended.{GivesIts, GivesOwn, has_after, without}
 use Rattle.turns.specs.Among.{IsIn}
 use Rattle.turns.specs.World.{RecordOf}
@@ -42,7 +43,7 @@ pub record HasTaken (log log_after : Log) (taken : List ℕ) : Type 0 where
   pub own : GivesOwn [] (records log_after)
   pub had_is : had_after [] (records log_after) ≡ taken ++ had_after [] (records log)
 
-pub has_taken : (log log_after : Log) (job : Job) (taken : List ℕ) → IsTaking job → GivesOwn [] (records log) → LogsOne log log_after job taken → HasTaken log log_after taken
+pub has_taken : (log log_after : Log) (job : Job) (taken : List ℕ) → IsTaking job → GivesOwn [] (records log) → LogsJob log log_after job taken → HasTaken log log_after taken
 has_taken log log_after job taken takes own one =
     let r = as_record one.reported in
     let had = had_after [] (records log) in
@@ -53,7 +54,7 @@ has_taken log log_after job taken takes own one =
       had_is = ap (had_after []) all ∙ had_on [] (records log) (r ∷ []) ∙ ap (λ (job : Job). has_after had job r.reply) one.job_is ∙ ap (λ (l : List ℕ). has_after had job l) one.reply_is ∙ its.1;
     }
 
-pub worked_own : {T : Type 0} (slots_of : T → List ℕ) (result : Option T) (log log_after : Log) (job : Job) → IsTaking job → GivesOwn [] (records log) → IfSome result (λ taken. LogsOne log log_after job (slots_of taken)) → IfNone result (log_after ≡ log) → GivesOwn [] (records log_after)
+pub worked_own : {T : Type 0} (slots_of : T → List ℕ) (result : Option T) (log log_after : Log) (job : Job) → IsTaking job → GivesOwn [] (records log) → IfSome result (λ taken. LogsJob log log_after job (slots_of taken)) → IfNone result (log_after ≡ log) → GivesOwn [] (records log_after)
 worked_own slots_of (Some taken) log log_after job takes own one same = (has_taken log log_after job (slots_of taken) takes own one).own
 worked_own slots_of None log log_after job takes own one same = subst (λ (l : Log). GivesOwn [] (records l)) (sym same) own
 
@@ -82,7 +83,7 @@ give_these (slot ∷ taken) had (reported ∷ given) begins =
     (subst (GivesIts (slot ∷ (taken ++ had))) same.0 (inl refl), subst (λ (l : List ℕ). GivesOwn l (records given)) (sym left) (give_these taken had given (begins.0, same.1)))
 
 -- the same after a job that took slots, and the jobs that freed them
-pub gave_own : (log between log_after : Log) (job : Job) (taken : List ℕ) → IsTaking job → GivesOwn [] (records log) → LogsOne log between job taken → LogsGiving between log_after taken → GivesOwn [] (records log_after)
+pub gave_own : (log between log_after : Log) (job : Job) (taken : List ℕ) → IsTaking job → GivesOwn [] (records log) → LogsJob log between job taken → LogsGiving between log_after taken → GivesOwn [] (records log_after)
 gave_own log between log_after job taken takes own one giving =
     let took = has_taken log between job taken takes own one in
     let had = had_after [] (records log) in
@@ -107,10 +108,10 @@ gave_none log log_after taken same = record { given = []; log_is = same ∙ sym 
   none_behind [] = refl
   none_behind (reported ∷ l) = ap (λ (m : Log). reported ∷ m) (none_behind l)
 
-pub gave_first : (log log_after : Log) (slot : ℕ) (more reply : List ℕ) → LogsOne log log_after (Give slot) reply → LogsGiving log log_after (slot ∷ more)
+pub gave_first : (log log_after : Log) (slot : ℕ) (more reply : List ℕ) → LogsJob log log_after (Give slot) reply → LogsGiving log log_after (slot ∷ more)
 gave_first log log_after slot more reply one = record { given = one.reported ∷ []; log_is = one.log_is; jobs_are = (map Give more, ap (λ (job : Job). job ∷ map Give more) (sym one.job_is)) }
 
-pub gave_both : (log between log_after : Log) (slot other : ℕ) (reply more : List ℕ) → LogsOne log between (Give slot) reply → LogsOne between log_after (Give other) more → LogsGiving log log_after (slot ∷ other ∷ [])
+pub gave_both : (log between log_after : Log) (slot other : ℕ) (reply more : List ℕ) → LogsJob log between (Give slot) reply → LogsJob between log_after (Give other) more → LogsGiving log log_after (slot ∷ other ∷ [])
 gave_both log between log_after slot other reply more one two = record {
   given = one.reported ∷ two.reported ∷ [];
   log_is = two.log_is ∙ ap (λ (l : Log). l ++ two.reported ∷ []) one.log_is ∙ append_assoc log (one.reported ∷ []) (two.reported ∷ []);
@@ -118,11 +119,16 @@ gave_both log between log_after slot other reply more one two = record {
 }
 
 -- one slot is freed, and another once the first was
-pub gave_this : {T : Type 0} (slots_of : T → List ℕ) (result : Option T) (log log_after : Log) (slot : ℕ) (more : List ℕ) → IfSome result (λ taken. LogsOne log log_after (Give slot) (slots_of taken)) → IfNone result (log_after ≡ log) → LogsGiving log log_after (slot ∷ more)
+pub gave_this : {T : Type 0} (slots_of : T → List ℕ) (result : Option T) (log log_after : Log) (slot : ℕ) (more : List ℕ) → IfSome result (λ taken. LogsJob log log_after (Give slot) (slots_of taken)) → IfNone result (log_after ≡ log) → LogsGiving log log_after (slot ∷ more)
 gave_this slots_of (Some taken) log log_after slot more one same = gave_first log log_after slot more (slots_of taken) one
 gave_this slots_of None log log_after slot more one same = gave_none log log_after (slot ∷ more) same
 
-pub gave_too : {T : Type 0} (slots_of : T → List ℕ) (result : Option T) (log between log_after : Log) (slot other : ℕ) (reply : List ℕ) → LogsOne log between (Give slot) reply → IfSome result (λ taken. LogsOne between log_after (Give other) (slots_of taken)) → IfNone result (log_after ≡ between) → LogsGiving log log_after (slot ∷ other ∷ [])
+pub gave_too : {T : Type 0} (slots_of : T → List ℕ) (result : Option T) (log between log_after : Log) (slot other : ℕ) (reply : List ℕ) → LogsJob log between (Give slot) reply → IfSome result (λ taken. LogsJob between log_after (Give other) (slots_of taken)) → IfNone result (log_after ≡ between) → LogsGiving log log_after (slot ∷ other ∷ [])
 gave_too slots_of (Some taken) log between log_after slot other reply one two same = gave_both log between log_after slot other reply (slots_of taken) one two
 gave_too slots_of None log between log_after slot other reply one two same =
     subst (λ (l : Log). LogsGiving log l (slot ∷ other ∷ [])) (sym same) (gave_first log between slot (other ∷ []) reply one)
+
+-- what follows from what is known of an Ok
+pub if_ok : {A E : Type 0} (P Q : A → Type 0) (r : Result A E) → ((a : A) → P a → Q a) → IfOk r P → IfOk r Q
+if_ok P Q (Ok a) follows holds = follows a holds
+if_ok P Q (Err e) follows holds = tt

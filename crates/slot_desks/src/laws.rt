@@ -31,8 +31,8 @@ pub fn no_slot_is_taken_twice()
     desks::laws::reports_make_up_the_order::<SlotJobs>();
 }
 
-/// Even if a room is shut amid jobs, the word of a bank whose lock nobody holds shows which of the
-/// bank's slots are taken after all turns, whoever holds the other bank's lock.
+/// Even if a room is shut with jobs under way, the word of a bank whose lock nobody holds shows
+/// which of the bank's slots are taken after all turns, whoever holds the other bank's lock.
 pub fn shut_banks_show_their_slots()
     ensures { (desks : List (DeskView (Unit {0}) ℕ Job (List ℕ) Effect)) (words : List ℕ)
         (shut : AreShut slots desks words) (slot : ℕ) → slot < SLOT_COUNT

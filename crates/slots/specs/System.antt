@@ -1,11 +1,12 @@
-use Rattle.std.specs.Prelude.{◌≡◌, ℕ, ◌+◌, ◌-◌, ◌*◌, ◌/◌, ◌%◌, ◌^◌, ◌<◌, ◌==◌, Option, Some, None, List, [], ◌∷◌, map, replicate, slice_index, ⊤}
+use Rattle.std.specs.Prelude.{◌≡◌, ℕ, ◌-◌, ◌*◌, ◌/◌, ◌%◌, ◌^◌, ◌<◌, ◌==◌, Option, Some, None, List, [], ◌∷◌, map, option_to_list, slice_index, ⊤}
 use Rattle.std.specs.Int.{bit_at}
-use Rattle.turns.specs.Script.{Script, Ends, TestThen, SeizeThen}
+use Rattle.turns.specs.Layouts.{Layout, JobsOver, laid_out, one_each}
+use Rattle.turns.specs.Script.{Script, Ends, ◌>>=◌, ◌>>◌, seize, test}
 use Rattle.turns.specs.Sharings.{preferring}
 use Rattle.turns.specs.System.{System, SystemOver, system_of}
 use Rattle.turns.specs.declared.operation.Operation.{Operation}
 use Rattle.turns.specs.declared.operation.Operation.TheVariants.{Or, And}
-use Rattle.slots.specs.Slots.{Busy, none_busy, lowest_free, whole}
+use Rattle.slots.specs.Slots.{Busy, none_busy, lowest_free, both_of, whole}
 use Rattle.slots.specs.declared.bank.TheConstants.{BANK_SIZE, SLOT_COUNT}
 use Rattle.slots.specs.declared.decision.Decision.{Decision}
 use Rattle.slots.specs.declared.decision.Decision.TheVariants.{Takes, Gives}
@@ -20,9 +21,9 @@ pub record Shows (words : List ℕ) (busy : Busy) : Type 0 where
   pub bits : (slot : ℕ) → slot < SLOT_COUNT
       → busy slot ≡ (bit_at (slice_index words (slot / BANK_SIZE)) (slot % BANK_SIZE) == 1)
 
--- a bank's lock protects the bank's word
-abbrev pub Protects : ℕ → ℕ → Type 0
-Protects bank word = (word ≡ bank) × (word < 2)
+-- each bank has one word, under the bank's lock
+abbrev pub banks : Layout
+banks = one_each 2
 
 -- the operation that marks a slot in its bank's word, or clears it there
 abbrev pub operation_of : Effect → Operation
@@ -54,33 +55,33 @@ abbrev pub free_in : ℕ → ℕ → Option ℕ
 free_in bank word =
     lowest_free (λ slot. bit_at word (slot % BANK_SIZE) == 1) (BANK_SIZE * bank) BANK_SIZE
 
--- take a slot if one was found, otherwise go on
-abbrev pub taken_or : Option ℕ → Script ℕ Decision → Script ℕ Decision
-taken_or (Some slot) otherwise = Ends (Takes (slot ∷ []))
-taken_or None otherwise = otherwise
+-- seize a bank's lock, and find the bank's lowest free slot
+unfoldable pub slot_steps : ℕ → Script ℕ (Option ℕ)
+slot_steps bank = seize bank >> (test bank >>= (λ word. Ends (free_in bank word)))
 
--- take a slot of each bank if both were found, otherwise none
-abbrev pub both_or_none : Option ℕ → Option ℕ → Script ℕ Decision
-both_or_none (Some lower) (Some upper) = Ends (Takes (lower ∷ upper ∷ []))
-both_or_none (Some lower) None = Ends (Takes [])
-both_or_none None upper = Ends (Takes [])
+-- take a slot of the upper bank, or none
+unfoldable pub upper_steps : Script ℕ Decision
+upper_steps = slot_steps 1 >>= (λ upper. Ends (Takes (option_to_list upper)))
 
--- with a slot of the lower bank, look for one of the upper bank; with none, take none
+-- take this slot of the lower bank and one of the upper bank, or none
+unfoldable pub upper_too_steps : ℕ → Script ℕ Decision
+upper_too_steps lower = slot_steps 1 >>= (λ upper. Ends (Takes (both_of (Some lower) upper)))
+
+-- with a slot of the lower bank, take it; with none, take one of the upper bank
+abbrev pub or_upper : Option ℕ → Script ℕ Decision
+or_upper (Some lower) = Ends (Takes (lower ∷ []))
+or_upper None = upper_steps
+
+-- with a slot of the lower bank, take one of the upper bank too; with none, take none
 abbrev pub and_upper : Option ℕ → Script ℕ Decision
-and_upper (Some lower) =
-    SeizeThen 1 (TestThen 1 (λ word. both_or_none (Some lower) (free_in 1 word)))
+and_upper (Some lower) = upper_too_steps lower
 and_upper None = Ends (Takes [])
 
 -- the script of a job
 abbrev pub script : Job → Script ℕ Decision
-script Take =
-    SeizeThen 0
-    (TestThen 0
-    (λ lower.
-    taken_or (free_in 0 lower)
-    (SeizeThen 1 (TestThen 1 (λ upper. taken_or (free_in 1 upper) (Ends (Takes [])))))))
-script TakeBoth = SeizeThen 0 (TestThen 0 (λ lower. and_upper (free_in 0 lower)))
-script (Give slot) = SeizeThen (slot / BANK_SIZE) (Ends (Gives slot))
+script Take = slot_steps 0 >>= or_upper
+script TakeBoth = slot_steps 0 >>= and_upper
+script (Give slot) = seize (slot / BANK_SIZE) >> Ends (Gives slot)
 
 -- the lock that a job seizes first
 abbrev pub first_lock : Job → ℕ
@@ -94,16 +95,13 @@ IsJob Take = ⊤
 IsJob TakeBoth = ⊤
 IsJob (Give slot) = slot < SLOT_COUNT
 
--- the slots as a system, over the types of its locks, jobs, replies and effects
-abbrev pub slots_over : SystemOver ℕ Job (List ℕ) Effect
-slots_over = record {
+-- the slots as jobs, over the types of their jobs, replies and effects
+abbrev pub slot_jobs : JobsOver Job (List ℕ) Effect
+slot_jobs = record {
   IsJob = IsJob;
   State = Busy;
   whole = whole;
   opening = none_busy;
-  initial = replicate 5 0;
-  IsLock = λ bank. bank < 2;
-  same = λ a b. a == b;
   Decision = Decision;
   first = first_lock;
   script = script;
@@ -112,14 +110,13 @@ slots_over = record {
   effect_word = λ effect. slot_of effect / BANK_SIZE;
   operation_of = operation_of;
   Due = Due;
-  size = 5;
-  Protects = Protects;
-  lock_word = λ bank. 2 + bank;
   sharing = preferring;
-  turn_word = 4;
   Shows = Shows;
 }
 
--- the slots as a system
+-- the slots as a system, on the banks' words
+abbrev pub slots_over : SystemOver ℕ Job (List ℕ) Effect
+slots_over = laid_out banks slot_jobs
+
 abbrev pub slots : System
 slots = system_of slots_over

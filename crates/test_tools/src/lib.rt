@@ -4,7 +4,7 @@
 pub use checks::{Failed, check_equal, check_holds};
 pub use endless::Endless;
 pub use fail_at::FailAt;
-pub use recorder::{Call, Recorder};
+pub use recorder::{DeviceCall, Recorder};
 
 mod checks;
 mod endless;

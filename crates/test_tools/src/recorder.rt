@@ -6,7 +6,7 @@ use std::io::{Read, Write};
 
 /// A call of a reader or writer, with the length of its buffer.
 #[derive(Clone, Copy, Debug, PartialEq, Eq)]
-pub enum Call {
+pub enum DeviceCall {
     Read(usize),
     Write(usize),
     Flush,
@@ -16,7 +16,7 @@ pub enum Call {
 #[derive(Debug, Drop)]
 pub struct Recorder<T> {
     pub inner: T,
-    pub calls: Vec<Call>,
+    pub calls: Vec<DeviceCall>,
 }
 
 impl<T> Recorder<T> {
@@ -36,7 +36,7 @@ impl<T: Read> Read for Recorder<T> {
     ghost remaining = { λ device. T.remaining device.inner };
 
     fn read(&mut self, buf: &mut [u8]) -> io::Result<usize> {
-        self.calls.push(Call::Read(buf.len()))?;
+        self.calls.push(DeviceCall::Read(buf.len()))?;
         self.inner.read(buf)
     }
 }
@@ -45,12 +45,12 @@ impl<T: Write> Write for Recorder<T> {
     ghost contents = { λ device. T.contents device.inner };
 
     fn write(&mut self, buf: &[u8]) -> io::Result<usize> {
-        self.calls.push(Call::Write(buf.len()))?;
+        self.calls.push(DeviceCall::Write(buf.len()))?;
         self.inner.write(buf)
     }
 
     fn flush(&mut self) -> io::Result<()> {
-        self.calls.push(Call::Flush)?;
+        self.calls.push(DeviceCall::Flush)?;
         self.inner.flush()
     }
 }

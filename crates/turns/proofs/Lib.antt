@@ -31,3 +31,6 @@ pub mod CompleteWords
 pub mod KeptLocks
 pub mod Denied
 pub mod PastTurn
+pub mod LostActors
+pub mod OwnSystem
+pub mod Layouts

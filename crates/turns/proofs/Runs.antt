@@ -45,12 +45,12 @@ module _ (O : System) (system : IsSystem O) where
     backs_at (some Idle) there = law
     backs_at (some (Does number a)) there = gives_back O system w law k number a there
 
-  made_lawful : (w : World O) (move : Move O.Job) → Lawful O w → IsMove O move → Lawful O (after_move O w move)
+  pub made_lawful : (w : World O) (move : Move O.Job) → Lawful O w → IsMove O move → Lawful O (after_move O w move)
   made_lawful w (Assigns k number job) law is = assigns_at w law k number job (get_elem? w.actors k) is refl
   made_lawful w (Steps k) law is = steps_at w law k (get_elem? w.actors k) refl
   made_lawful w (Backs k) law is = backs_at w law k (get_elem? w.actors k) refl
 
-  run_lawful : (w : World O) (moves : List (Move O.Job)) → Lawful O w → AreMoves O moves → Lawful O (run_from O w moves)
+  pub run_lawful : (w : World O) (moves : List (Move O.Job)) → Lawful O w → AreMoves O moves → Lawful O (run_from O w moves)
   run_lawful w [] law are = law
   run_lawful w (move ∷ moves) law are = run_lawful (after_move O w move) moves (made_lawful w move law are.0) are.1
 

@@ -1,5 +1,5 @@
 -- words are of 64 bits, whatever is done to them
-use Rattle.std.proofs.Common.{◌≡◌, ℕ, zero, suc, ◌+◌, ◌<◌, ◌^◌, Bool, true, false, List, [], ◌∷◌, ◌++◌, replicate, slice_index, slice_set, sym, inl, inr, refl, arith, subst}
+use Rattle.std.proofs.Common.{◌≡◌, ℕ, zero, suc, ◌+◌, ◌-◌, ◌<◌, ◌^◌, Bool, true, false, List, [], ◌∷◌, ◌++◌, replicate, slice_index, slice_set, sym, inl, inr, refl, arith, subst}
 use Rattle.std.proofs.lemmas.Nat.{and_le_l, or_lt}
 use Rattle.std.proofs.Math.Nat.{mod-lt}
 use Rattle.std.specs.Prelude.{Some, ◌==◌, find, option_map, if◌then◌else◌}
@@ -12,7 +12,7 @@ use Rattle.turns.specs.Seen.{AreReadWords}
 use Rattle.turns.specs.System.{System, AreWords, FitWords, effect_on}
 use Rattle.turns.specs.World.{ActorOf, effects_left_of, value_after, completed_word, completed_from}
 use Rattle.turns.specs.declared.operation.Operation.{Operation}
-use Rattle.turns.specs.declared.operation.Operation.TheVariants.{Load, Or, And, Add, CompareExchange}
+use Rattle.turns.specs.declared.operation.Operation.TheVariants.{Load, Or, And, Add, Sub, Store, CompareExchange}
 use Rattle.turns.specs.declared.reading.Reading.{Reading}
 use Rattle.turns.proofs.Lists.{in_more}
 
@@ -22,6 +22,8 @@ applied_below Load found fits below = below
 applied_below (Or bits) found fits below = or_lt 64 found bits below fits
 applied_below (And mask) found fits below = omega (arith, and_le_l found mask)
 applied_below (Add more) found fits below = mod-lt (found + more) {m = 2 ^ 64} (omega arith)
+applied_below (Sub less) found fits below = mod-lt (found + (2 ^ 64 - less)) {m = 2 ^ 64} (omega arith)
+applied_below (Store value) found fits below = fits
 applied_below (CompareExchange expected new) found fits below = at (found == expected) where
   at : (t : Bool) → (if t then new else found) < 2 ^ 64
   at true = fits

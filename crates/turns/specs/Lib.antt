@@ -13,3 +13,5 @@ pub mod Bounds
 pub mod Ending
 pub mod Denied
 pub mod Outcomes
+pub mod Deciding
+pub mod Layouts

@@ -1,4 +1,4 @@
-use Rattle.std.specs.Prelude.{ℕ, Bool, true, false, List, [], ◌∷◌, ⊤, if◌then◌else◌}
+use Rattle.std.specs.Prelude.{◌≡◌, ℕ, Bool, true, false, List, [], ◌∷◌, ⊤, if◌then◌else◌}
 use mathlib.Core.Option.{Option, some, none}
 use lib.ListN.{get_elem?}
 use Rattle.turns.specs.System.{System}
@@ -13,6 +13,17 @@ pub data Move (Job : Type 0) : Type 0 where
   Assigns : ℕ → ℕ → Job → Move Job
   Steps : ℕ → Move Job
   Backs : ℕ → Move Job
+
+-- the actor whose move it is
+abbrev pub mover : {Job : Type 0} → Move Job → ℕ
+mover (Assigns k number job) = k
+mover (Steps k) = k
+mover (Backs k) = k
+
+-- no move is one of these actors'
+abbrev pub AreOfOthers : {Job : Type 0} → (ℕ → Bool) → List (Move Job) → Type 0
+AreOfOthers lost [] = ⊤
+AreOfOthers lost (move ∷ moves) = (lost (mover move) ≡ false) × AreOfOthers lost moves
 
 abbrev pub is_finished : {Lock Effect : Type 0} → Act Lock Effect → Bool
 is_finished Finished = true

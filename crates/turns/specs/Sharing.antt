@@ -1,4 +1,4 @@
-use Rattle.std.specs.Prelude.{◌≡◌, ◌≢◌, ℕ, suc, ◌<◌, ◌⊎◌, Bool, true, false, ◌^◌}
+use Rattle.std.specs.Prelude.{◌≡◌, ◌≢◌, ℕ, zero, suc, ◌<◌, ◌⊎◌, Bool, true, false, ◌^◌, Option, Some, None}
 use Rattle.turns.specs.Operations.{applied}
 use Rattle.turns.specs.declared.operation.Operation.{Operation}
 use Rattle.turns.specs.declared.judgement.Judgement.{Judgement}
@@ -23,6 +23,15 @@ pub record Sharing : Type 1 where
   pub freeing : Operation
   -- whether actor k, which requests the lock, may seize it by this word
   pub judged : ℕ → ℕ → Judgement
+
+-- the actor of a holder's number, which is 0, or one more than the actor's
+abbrev pub actor_of_holder : ℕ → Option ℕ
+actor_of_holder zero = None
+actor_of_holder (suc k) = Some k
+
+-- the actor that holds a lock, by the lock's word
+abbrev pub held_by : Sharing → ℕ → Option ℕ
+held_by S word = actor_of_holder (S.holder word)
 
 -- the word with actor k's request
 abbrev pub with_request : Sharing → ℕ → ℕ → ℕ

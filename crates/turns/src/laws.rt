@@ -1,7 +1,7 @@
 //! What holds of every system of jobs. Each function does nothing: its contract is the law.
 
 ghost use Rattle.std.specs.Prelude.{◌≡◌, ◌≢◌, ◌⊎◌, ◌<◌, ◌≤◌, ◌+◌, ◌*◌, ◌++◌, ◌^◌, ◌%◌, ◌↔◌};
-ghost use Rattle.std.specs.Prelude.{ℕ, suc, [], List, Ok, Some, true};
+ghost use Rattle.std.specs.Prelude.{ℕ, suc, [], Bool, List, Ok, Some, false, true};
 ghost use Rattle.std.specs.Prelude.{length, slice_get, slice_index};
 ghost use mathlib.Core.Option.{some};
 ghost use lib.ListN.{get_elem?};
@@ -16,7 +16,7 @@ ghost use Rattle.turns.specs.World.{World, ActorOf, RecordOf, Does, moved, place
 ghost use Rattle.turns.specs.World.{assigned, given_back, fresh_world, completed, after, effects_left_of, value_after};
 ghost use Rattle.turns.specs.Law.{Lawful, IsAvailable, IsLegal, IsRecorded, WasDecided};
 ghost use Rattle.turns.specs.Law.{Holds, HasRequested, MaySeize, holder_at, word_at};
-ghost use Rattle.turns.specs.Runs.{Move, AreMoves, after_move, run_from, run_of};
+ghost use Rattle.turns.specs.Runs.{Move, AreMoves, AreOfOthers, after_move, run_from, run_of};
 ghost use Rattle.turns.specs.Bounds.{AreBounded, AreSteady, IsAside, after_steps};
 ghost use Rattle.turns.specs.Ending.{ComesToEnd, own_steps};
 ghost use Rattle.turns.specs.Denied.{IsDeniedBy};
@@ -271,6 +271,52 @@ pub fn jobs_past_their_turns_end<F: Family>()
         → get_elem? w.actors k ≡ some (Does number a) → a.phase ≡ Phase.Operates turn
         → length a.effects + length a.held ≤ own_steps k moves
         → ComesToEnd O w moves k number turn a.job }
+{}
+
+/// A lost actor keeps the locks that it holds for good, and the words under them stay as they are.
+/// A lost actor is one that makes no more moves, as when its thread has died.
+///
+/// In a run without a move of any lost actor, each of them stays as it is, even in the middle of a
+/// job. A lock that it holds is still held by it, and by nobody else, and a request of its that is
+/// pending stays so. A word that has changed and is under a lock is under no lock that a lost actor
+/// holds. The order grows by records of other actors alone.
+pub fn lost_actors_keep_their_locks<F: Family>()
+    ensures stay { (setting : F.Setting) → let O = F.system setting in
+        (lost : ℕ → Bool) (w : World O) (moves : List (Move O.Job)) (k : ℕ)
+        → AreOfOthers lost moves → lost k ≡ true
+        → get_elem? (run_from O w moves).actors k ≡ get_elem? w.actors k }
+    ensures hold { (setting : F.Setting) → let O = F.system setting in
+        (lost : ℕ → Bool) (w : World O) (moves : List (Move O.Job)) (k : ℕ) (lock : O.Lock)
+        → IsSystem O → Lawful O w → AreMoves O moves → AreOfOthers lost moves → lost k ≡ true
+        → Holds O w.actors k lock
+        → Holds O (run_from O w moves).actors k lock
+        × (holder_at O (run_from O w moves).words lock ≡ suc k) }
+    ensures alone { (setting : F.Setting) → let O = F.system setting in
+        (lost : ℕ → Bool) (w : World O) (moves : List (Move O.Job)) (k j : ℕ) (lock : O.Lock)
+        → IsSystem O → Lawful O w → AreMoves O moves → AreOfOthers lost moves → lost k ≡ true
+        → Holds O w.actors k lock → Holds O (run_from O w moves).actors j lock → j ≡ k }
+    ensures requests { (setting : F.Setting) → let O = F.system setting in
+        (lost : ℕ → Bool) (w : World O) (moves : List (Move O.Job)) (k : ℕ) (lock : O.Lock)
+        → IsSystem O → Lawful O w → AreMoves O moves → AreOfOthers lost moves → lost k ≡ true
+        → O.IsLock lock → HasRequested O w.actors k lock
+        → HasRequested O (run_from O w moves).actors k lock
+        × (ShowsRequests O.sharing
+        → O.sharing.requests k (word_at O (run_from O w moves).words lock) ≡ true) }
+    ensures words { (setting : F.Setting) → let O = F.system setting in
+        (lost : ℕ → Bool) (w : World O) (moves : List (Move O.Job)) (k : ℕ) (lock : O.Lock) (n : ℕ)
+        → IsSystem O → Lawful O w → AreMoves O moves → AreOfOthers lost moves → lost k ≡ true
+        → Holds O w.actors k lock → O.Protects lock n
+        → slice_index (run_from O w moves).words n ≡ slice_index w.words n }
+    ensures changed { (setting : F.Setting) → let O = F.system setting in
+        (lost : ℕ → Bool) (w : World O) (moves : List (Move O.Job)) (k : ℕ) (lock : O.Lock) (n : ℕ)
+        → IsSystem O → Lawful O w → AreMoves O moves → AreOfOthers lost moves
+        → slice_index (run_from O w moves).words n ≢ slice_index w.words n → O.Protects lock n
+        → Holds O w.actors k lock → lost k ≡ false }
+    ensures order { (setting : F.Setting) → let O = F.system setting in
+        (lost : ℕ → Bool) (w : World O) (moves : List (Move O.Job))
+        → AreOfOthers lost moves
+        → (later : List (RecordOf O)) × ((run_from O w moves).order ≡ w.order ++ later)
+        × ((r : RecordOf O) → IsIn r later → lost r.actor ≡ false) }
 {}
 
 /// An actor that is left alone ends its job in a bounded number of steps. No other actor may hold

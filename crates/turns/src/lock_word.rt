@@ -3,7 +3,7 @@
 //! actor's request.
 
 ghost use Rattle.std.specs.Prelude.{◌≡◌, ◌<◌};
-ghost use Rattle.turns.specs.Sharing.{with_request, without_holder as freed_word, without_request};
+ghost use Rattle.turns.specs.Sharing.{held_by, with_request, without_holder as freed_word, without_request};
 ghost use Rattle.turns.specs.Sharings.{preferring, request_bit as request_bit_of, seized_by as seized_by_of};
 
 /// The bit of an actor's request.
@@ -44,4 +44,12 @@ pub fn freed(word: u64) -> u64
     ensures { result ≡ freed_word preferring word }
 {
     word & !63
+}
+
+/// The actor that holds the lock, by its word.
+pub fn holder(word: u64) -> Option<u32>
+    ensures { result ≡ held_by preferring word }
+{
+    let holder = (word % 64) as u32;
+    if holder > 0 { Some(holder - 1) } else { None }
 }

@@ -12,6 +12,10 @@ pub enum Operation {
     And(u64),
     /// Adds this number, modulo 2^64.
     Add(u64),
+    /// Subtracts this number, modulo 2^64.
+    Sub(u64),
+    /// Puts this number there, whatever is found.
+    Store(u64),
     /// Replaces `expected` by `new`, and leaves any other number.
     CompareExchange { expected: u64, new: u64 },
 }
@@ -26,6 +30,8 @@ impl Operation {
             Operation::Or(bits) => found | bits,
             Operation::And(mask) => found & mask,
             Operation::Add(more) => found.wrapping_add(more),
+            Operation::Sub(less) => found.wrapping_sub(less),
+            Operation::Store(value) => value,
             Operation::CompareExchange { expected, new } => {
                 if found == expected { new } else { found }
             }

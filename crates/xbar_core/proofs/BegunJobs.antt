@@ -11,15 +11,15 @@ use Rattle.xbar_office.specs.declared.job.Job.{Job}
 use Rattle.xbar_jobs.specs.Attempt.{Attempt, Phase, step_of}
 use Rattle.xbar_jobs.specs.Jobs.{first_conn}
 use Rattle.xbar_jobs.specs.Office.{office}
-use Rattle.xbar_core.specs.AtWork.{IsBackingIn, gives_up, answer_to_step}
-use Rattle.xbar_core.specs.Exchange.{Exchange}
-use Rattle.xbar_core.specs.Holding.{IsAt}
-use Rattle.xbar_core.specs.Moves.{begun_anew, frees_left, given_at, given_back, given_by, request_count, after_step, steps}
-use Rattle.xbar_core.specs.declared.given.Given.TheVariants as given
-use Rattle.xbar_core.proofs.Backing.{Answers, anew_in, answers, back_goes, by_backing, gives_up_goes, goes_with, left_in, left_is, no_more, one_less}
-use Rattle.xbar_core.proofs.Jobs.{anew_at, at_job_is}
-use Rattle.xbar_core.proofs.StepCases.{gone_on}
-use Rattle.xbar_core.proofs.Worlds.{answer_is, found_by}
+use Rattle.xbar_moves.specs.AtWork.{IsBackingIn, withdraws_or_frees, answer_to_step}
+use Rattle.xbar_moves.specs.Exchange.{Exchange}
+use Rattle.xbar_moves.specs.Holding.{IsAt}
+use Rattle.xbar_moves.specs.Moves.{begun_anew, frees_left, given_at, given_back, given_by, request_count, after_step, steps}
+use Rattle.xbar_moves.specs.declared.given.Given.TheVariants as given
+use Rattle.xbar_moves.proofs.Backing.{Answers, anew_in, answers, back_goes, by_backing, gives_up_goes, goes_with, left_in, left_is, no_more, one_less}
+use Rattle.xbar_moves.proofs.Jobs.{anew_at, at_job_is}
+use Rattle.xbar_moves.proofs.StepCases.{gone_on}
+use Rattle.xbar_moves.proofs.Worlds.{answer_is, found_by}
 
 -- a job before its first step
 abbrev begun : Job → Attempt
@@ -52,7 +52,7 @@ module _ (plan : Tables) where
 
   module _ (k number : ℕ) (job : Job) where
     abbrev BeginsBy : ℕ → Attempt → Phase → Type 0
-    BeginsBy found a phase = gives_up (step_of (act_in phase a)) ≡ true → Begins job (changed (office plan) a phase (generic.answer_to (office plan) k (act_in phase a) found))
+    BeginsBy found a phase = withdraws_or_frees (step_of (act_in phase a)) ≡ true → Begins job (changed (office plan) a phase (generic.answer_to (office plan) k (act_in phase a) found))
 
     back_begins : (found : ℕ) (a : Attempt) → a.job ≡ job → (phase : Phase) → IsBackingIn a phase → BeginsBy found a phase
     back_begins found a is = by_backing (BeginsBy found a) a

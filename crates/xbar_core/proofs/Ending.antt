@@ -14,13 +14,13 @@ use Rattle.xbar_plan.specs.Tables.{Tables}
 use Rattle.xbar_jobs.specs.Attempt.{Attempt, Phase}
 use Rattle.xbar_jobs.specs.Office.{office}
 use Rattle.xbar_jobs.specs.declared.effect.Effect.{Effect}
-use Rattle.xbar_core.specs.AtWork.{answer_to_step}
-use Rattle.xbar_core.specs.Exchange.{Exchange, Marker, Work, is_idle}
-use Rattle.xbar_core.specs.Holding.{IsAt}
-use Rattle.xbar_core.specs.Moves.{after_answer, steps}
-use Rattle.xbar_core.proofs.StepCases.{now_at, step_made}
-use Rattle.xbar_core.proofs.Stepping.{step_idle}
-use Rattle.xbar_core.proofs.Worlds.{answer_is, found_by}
+use Rattle.xbar_moves.specs.AtWork.{answer_to_step}
+use Rattle.xbar_moves.specs.Exchange.{Exchange, Marker, Work, is_idle}
+use Rattle.xbar_moves.specs.Holding.{IsAt}
+use Rattle.xbar_moves.specs.Moves.{after_answer, steps}
+use Rattle.xbar_moves.proofs.StepCases.{now_at, step_made}
+use Rattle.xbar_moves.proofs.Stepping.{step_idle}
+use Rattle.xbar_moves.proofs.Worlds.{answer_is, found_by}
 
 -- marker k is idle
 pub record IsIdleAt (e : Exchange) (k : ℕ) : Type 0 where

@@ -4,14 +4,14 @@ use Rattle.std.specs.Prelude.{Option, Some, None, slice_get}
 use Rattle.xbar_plan.specs.Tables.{Tables}
 use Rattle.xbar_office.specs.declared.job.Job.{Job}
 use Rattle.xbar_office.specs.declared.reply.Record.{Record}
-use Rattle.xbar_core.specs.AtWork.{answer_to_step}
-use Rattle.xbar_core.specs.Exchange.{Exchange, Marker}
-use Rattle.xbar_core.specs.Moves.{assigned, added_record, refusal, after_step}
-use Rattle.xbar_core.specs.Runs.{Assigns, BeginsAnew, GivesBack, Move, Settles, Steps, after_move, run_from, unless_refused}
-use Rattle.xbar_core.specs.declared.assign_fault.AssignFault.{AssignFault}
-use Rattle.xbar_core.proofs.GivenBack.{records_stay}
-use Rattle.xbar_core.proofs.Keeping.{KeepsRestarts, KeepsSteps, begun_keeps, settled_keeps}
-use Rattle.xbar_core.proofs.StepCases.{step_cases}
+use Rattle.xbar_moves.specs.AtWork.{answer_to_step}
+use Rattle.xbar_moves.specs.Exchange.{Exchange, Marker}
+use Rattle.xbar_moves.specs.Moves.{assigned, added_record, refusal, after_step}
+use Rattle.xbar_moves.specs.Runs.{Assigns, BeginsAnew, GivesBack, Move, Settles, Steps, after_move, run_from, unless_refused}
+use Rattle.xbar_moves.specs.declared.assign_fault.AssignFault.{AssignFault}
+use Rattle.xbar_moves.proofs.GivenBack.{records_stay}
+use Rattle.xbar_moves.proofs.Keeping.{KeepsRestarts, KeepsSteps, begun_keeps, settled_keeps}
+use Rattle.xbar_moves.proofs.StepCases.{step_cases}
 
 -- these records begin those of an office
 abbrev pub Begin : List Record → Exchange → Type 0

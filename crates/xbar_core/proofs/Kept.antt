@@ -27,18 +27,19 @@ use Rattle.xbar_jobs.specs.Office.{office}
 use Rattle.xbar_jobs.specs.Standing.{IsValid}
 use Rattle.xbar_jobs.specs.declared.effect.Effect.{Effect}
 use Rattle.xbar_jobs.proofs.AttemptStands.{stands_after, stands_again, stands_begun}
-use Rattle.xbar_core.specs.AtWork.{answer_to_step}
-use Rattle.xbar_core.specs.Exchange.{Exchange, IsLawfulExchange, Marker, Work, fresh_exchange, turned}
-use Rattle.xbar_core.specs.Holding.{IsAt}
-use Rattle.xbar_core.specs.Moves.{added_record, refusal, after_step, with_work, work_anew}
+use Rattle.xbar_moves.specs.AtWork.{answer_to_step}
+use Rattle.xbar_moves.specs.Exchange.{Exchange, IsLawfulExchange, Marker, Work, fresh_exchange, turned}
+use Rattle.xbar_moves.specs.Holding.{IsAt}
+use Rattle.xbar_moves.specs.Moves.{added_record, refusal, after_step, with_work, work_anew}
 use Rattle.xbar_core.specs.Standing.{HasRoom, IsExchange, StandsAt, waiting, waits, waits_in}
-use Rattle.xbar_core.specs.declared.kind.Kind.{Kind}
-use Rattle.xbar_core.proofs.Actors.{actor_at}
-use Rattle.xbar_core.proofs.Jobs.{assigned_is, past_turn}
-use Rattle.xbar_core.proofs.Markers.{marker_else, marker_set, waiting_most, waiting_set, waits_most}
-use Rattle.xbar_core.proofs.Keeping.{KeepsRestarts, anew_keeps}
-use Rattle.xbar_core.proofs.StepCases.{step_cases}
-use Rattle.xbar_core.proofs.Worlds.{added_at, answer_is, found_by, lawful_assigned, lawful_opened, lawful_stepped, restarted_lawful, taken}
+use Rattle.xbar_moves.specs.declared.kind.Kind.{Kind}
+use Rattle.xbar_moves.proofs.Actors.{actor_at}
+use Rattle.xbar_moves.proofs.Jobs.{assigned_is, past_turn}
+use Rattle.xbar_moves.proofs.Markers.{marker_else, marker_set}
+use Rattle.xbar_core.proofs.WaitingMarkers.{waiting_most, waiting_set, waits_most}
+use Rattle.xbar_moves.proofs.Keeping.{KeepsRestarts, anew_keeps}
+use Rattle.xbar_moves.proofs.StepCases.{step_cases}
+use Rattle.xbar_moves.proofs.Worlds.{added_at, answer_is, found_by, lawful_assigned, lawful_opened, lawful_stepped, restarted_lawful, taken}
 
 module _ (plan : Tables) where
   abbrev pub AreStanding : List Marker → Type 0

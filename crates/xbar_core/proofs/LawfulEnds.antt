@@ -29,17 +29,17 @@ use Rattle.xbar_jobs.specs.declared.effect.Effect.{Effect}
 use Rattle.xbar_jobs.proofs.FewConns.{few_distinct}
 use Rattle.xbar_jobs.proofs.JobBounds.{jobs_bounded}
 use Rattle.xbar_jobs.proofs.OfficeSystem.{office_is}
-use Rattle.xbar_core.specs.Exchange.{Exchange, IsLawfulExchange, is_idle, world}
-use Rattle.xbar_core.specs.Holding.{IsAt}
-use Rattle.xbar_core.specs.Moves.{after_step, steps}
-use Rattle.xbar_core.specs.Settling.{most_steps_alone}
-use Rattle.xbar_core.proofs.Actors.{actor_at}
+use Rattle.xbar_moves.specs.Exchange.{Exchange, IsLawfulExchange, is_idle, world}
+use Rattle.xbar_moves.specs.Holding.{IsAt}
+use Rattle.xbar_moves.specs.Moves.{after_step, steps}
+use Rattle.xbar_moves.specs.Settling.{most_steps_alone}
+use Rattle.xbar_moves.proofs.Actors.{actor_at}
 use Rattle.xbar_core.proofs.Ending.{IsIdleAt, free_idle, past_ends}
-use Rattle.xbar_core.proofs.Markers.{marker_there}
-use Rattle.xbar_core.proofs.StepCases.{gone_on}
-use Rattle.xbar_core.proofs.Stepping.{step_idle}
-use Rattle.xbar_core.proofs.WorldMoves.{has_to_give, steps_in_world}
-use Rattle.xbar_core.proofs.Worlds.{lawful_stepped}
+use Rattle.xbar_moves.proofs.Markers.{marker_there}
+use Rattle.xbar_moves.proofs.StepCases.{gone_on}
+use Rattle.xbar_moves.proofs.Stepping.{step_idle}
+use Rattle.xbar_moves.proofs.WorldMoves.{has_to_give, steps_in_world}
+use Rattle.xbar_moves.proofs.Worlds.{lawful_stepped}
 
 -- the place of a connector's word among the connectors' words
 abbrev place_of : Conn → ℕ

@@ -14,13 +14,13 @@ use Rattle.xbar_jobs.specs.Attempt.{Act, Attempt, next_step}
 use Rattle.xbar_jobs.specs.Office.{office}
 use Rattle.xbar_jobs.specs.OnWords.{words_after}
 use Rattle.xbar_jobs.proofs.PastTurn.{words_led}
-use Rattle.xbar_core.specs.Exchange.{Exchange, Marker, Work}
-use Rattle.xbar_core.specs.Holding.{IsAt}
-use Rattle.xbar_core.specs.declared.kind.Kind.{Kind}
-use Rattle.xbar_core.specs.Moves.{added_record, after_step, steps}
-use Rattle.xbar_core.proofs.Markers.{marker_same, marker_set}
-use Rattle.xbar_core.proofs.StepCases.{step_made}
-use Rattle.xbar_core.proofs.Worlds.{answer_is}
+use Rattle.xbar_moves.specs.Exchange.{Exchange, Marker, Work}
+use Rattle.xbar_moves.specs.Holding.{IsAt}
+use Rattle.xbar_moves.specs.declared.kind.Kind.{Kind}
+use Rattle.xbar_moves.specs.Moves.{added_record, after_step, steps}
+use Rattle.xbar_moves.proofs.Markers.{marker_same, marker_set}
+use Rattle.xbar_moves.proofs.StepCases.{step_made}
+use Rattle.xbar_moves.proofs.Worlds.{answer_is}
 
 -- a marker that is set twice is what it is set to last
 set_again : (markers : List Marker) (k : ℕ) (first last : Marker) → slice_set (slice_set markers k first) k last ≡ slice_set markers k last

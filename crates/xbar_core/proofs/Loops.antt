@@ -2,14 +2,14 @@
 use Rattle.std.proofs.Common.{◌≡◌, ℕ, suc, ◌+◌, ◌-◌, ◌<◌, ◌≤◌, length, refl, sym, ◌∙◌, ap, arith}
 use Rattle.std.specs.Prelude.{Option, Some, None, slice_get, true}
 use Rattle.xbar_plan.specs.Tables.{Tables}
-use Rattle.xbar_core.specs.Exchange.{Exchange, Marker, OfPlan, is_idle}
-use Rattle.xbar_core.specs.Moves.{given_back, after_step, steps}
-use Rattle.xbar_core.specs.Settling.{ended, ended_past_turn, for_each, settled}
+use Rattle.xbar_moves.specs.Exchange.{Exchange, Marker, OfPlan, is_idle}
+use Rattle.xbar_moves.specs.Moves.{given_back, after_step, steps}
+use Rattle.xbar_moves.specs.Settling.{ended, ended_past_turn, for_each, settled}
 use Rattle.xbar_core.proofs.Ending.{steps_idle}
-use Rattle.xbar_core.proofs.Markers.{none_within}
-use Rattle.xbar_core.proofs.Keeping.{count_back, count_end, count_past, for_each_keeps, steps_keep}
+use Rattle.xbar_moves.proofs.Markers.{none_within}
+use Rattle.xbar_moves.proofs.Keeping.{count_back, count_end, count_past, for_each_keeps, steps_keep}
 use Rattle.xbar_core.proofs.LedSteps.{steps_then}
-use Rattle.xbar_core.proofs.StepCases.{step_count}
+use Rattle.xbar_moves.proofs.StepCases.{step_count}
 
 -- the steps that are left lead to what all of a marker's steps lead to
 pub record AreLeft (first now : OfPlan) (k count left : ℕ) : Type 0 where

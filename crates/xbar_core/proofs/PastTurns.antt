@@ -18,20 +18,20 @@ use Rattle.xbar_office.specs.declared.job.Job.{Job}
 use Rattle.xbar_jobs.specs.Attempt.{Act, Attempt, Phase}
 use Rattle.xbar_jobs.specs.Office.{office}
 use Rattle.xbar_jobs.specs.declared.effect.Effect.{Effect}
-use Rattle.xbar_core.specs.AtWork.{answer_to_step}
+use Rattle.xbar_moves.specs.AtWork.{answer_to_step}
 use Rattle.xbar_core.specs.Ends.{ComesToEnd, is_step_of, own_steps}
-use Rattle.xbar_core.specs.Exchange.{Exchange, is_idle}
-use Rattle.xbar_core.specs.Holding.{IsAt}
-use Rattle.xbar_core.specs.Moves.{assigned, refusal, after_step, with_work}
-use Rattle.xbar_core.specs.Runs.{Assigns, BeginsAnew, GivesBack, Move, Settles, Steps, after_move, unless_refused}
-use Rattle.xbar_core.specs.declared.assign_fault.AssignFault.{AssignFault}
-use Rattle.xbar_core.proofs.Keeping.{KeepsRestarts, KeepsSteps, back_keeps, begun_keeps, settled_keeps}
-use Rattle.xbar_core.proofs.Jobs.{assigned_is, one_job, set_at, work_at}
-use Rattle.xbar_core.proofs.Markers.{marker_else}
-use Rattle.xbar_core.proofs.ReleaseTurns.{makes_one}
-use Rattle.xbar_core.proofs.StepCases.{gone_on, step_else}
-use Rattle.xbar_core.proofs.Stepping.{step_idle}
-use Rattle.xbar_core.proofs.Worlds.{answer_is, found_by, taken}
+use Rattle.xbar_moves.specs.Exchange.{Exchange, is_idle}
+use Rattle.xbar_moves.specs.Holding.{IsAt}
+use Rattle.xbar_moves.specs.Moves.{assigned, refusal, after_step, with_work}
+use Rattle.xbar_moves.specs.Runs.{Assigns, BeginsAnew, GivesBack, Move, Settles, Steps, after_move, unless_refused}
+use Rattle.xbar_moves.specs.declared.assign_fault.AssignFault.{AssignFault}
+use Rattle.xbar_moves.proofs.Keeping.{KeepsRestarts, KeepsSteps, back_keeps, begun_keeps, settled_keeps}
+use Rattle.xbar_moves.proofs.Jobs.{assigned_is, one_job, set_at, work_at}
+use Rattle.xbar_moves.proofs.Markers.{marker_else}
+use Rattle.xbar_moves.proofs.ReleaseTurns.{makes_one}
+use Rattle.xbar_moves.proofs.StepCases.{gone_on, step_else}
+use Rattle.xbar_moves.proofs.Stepping.{step_idle}
+use Rattle.xbar_moves.proofs.Worlds.{answer_is, found_by, taken}
 
 module _ (plan : Tables) (e : Exchange) (k number turn : ℕ) (a : Attempt) (conn : Conn) (held : List Conn) (at : IsAt e k number a) (past : a.phase ≡ Operates turn) (none : a.effects ≡ []) (first : a.held ≡ conn ∷ held) where
   -- past its turn, with no effect left, the next step frees the first connector

@@ -17,23 +17,23 @@ use Rattle.xbar_jobs.specs.Attempt.{Attempt}
 use Rattle.xbar_jobs.specs.Jobs.{first_conn}
 use Rattle.xbar_jobs.specs.Office.{office}
 use Rattle.xbar_core.specs.Ends.{EachMakes, EndsIfPast, GivesBack, IsPast, RunsToEnd, Settles}
-use Rattle.xbar_core.specs.Exchange.{Exchange, IsLawfulExchange, Marker, Work, is_idle, world}
-use Rattle.xbar_core.specs.Holding.{IsAt}
-use Rattle.xbar_core.specs.Moves.{given_at, given_back, given_by, steps}
-use Rattle.xbar_core.specs.Settling.{ended, ended_past_turn, for_each, most_steps_alone, settled}
-use Rattle.xbar_core.specs.declared.given.Given.{Given}
-use Rattle.xbar_core.specs.declared.given.Given.TheVariants as given
-use Rattle.xbar_core.proofs.Backing.{Answers, answers, back_rests, gives}
+use Rattle.xbar_moves.specs.Exchange.{Exchange, IsLawfulExchange, Marker, Work, is_idle, world}
+use Rattle.xbar_moves.specs.Holding.{IsAt}
+use Rattle.xbar_moves.specs.Moves.{given_at, given_back, given_by, steps}
+use Rattle.xbar_moves.specs.Settling.{ended, ended_past_turn, for_each, most_steps_alone, settled}
+use Rattle.xbar_moves.specs.declared.given.Given.{Given}
+use Rattle.xbar_moves.specs.declared.given.Given.TheVariants as given
+use Rattle.xbar_moves.proofs.Backing.{Answers, answers, back_rests, gives}
 use Rattle.xbar_core.proofs.BegunJobs.{given_back_begins}
 use Rattle.xbar_core.proofs.Ending.{IsIdleAt, stays_idle, steps_idle}
-use Rattle.xbar_core.proofs.GivenBack.{others_stay}
-use Rattle.xbar_core.proofs.Jobs.{at_job_has, at_job_is, given_is, past_turn, work_at}
-use Rattle.xbar_core.proofs.Keeping.{count_back, count_end, past_turn_keeps, steps_keep}
+use Rattle.xbar_moves.proofs.GivenBack.{others_stay}
+use Rattle.xbar_moves.proofs.Jobs.{at_job_has, at_job_is, given_is, past_turn, work_at}
+use Rattle.xbar_moves.proofs.Keeping.{count_back, count_end, past_turn_keeps, steps_keep}
 use Rattle.xbar_core.proofs.LawfulEnds.{aside_idle, past_idle}
-use Rattle.xbar_core.proofs.Markers.{marker_there, none_within}
+use Rattle.xbar_moves.proofs.Markers.{marker_there, none_within}
 use Rattle.xbar_core.proofs.Stages.{IsStage, each_does, each_keeps, each_made, one_settles, past_or_not}
-use Rattle.xbar_core.proofs.StepCases.{step_count, step_else}
-use Rattle.xbar_core.proofs.Worlds.{idle_free, lawful_given_back, lawful_stepped}
+use Rattle.xbar_moves.proofs.StepCases.{step_count, step_else}
+use Rattle.xbar_moves.proofs.Worlds.{idle_free, lawful_given_back, lawful_stepped}
 
 -- all markers have this
 abbrev AllAre : (Work → Type 0) → Exchange → Type 0

@@ -5,13 +5,13 @@ use Rattle.std.specs.Prelude.{Some, slice_get}
 use Rattle.turns.proofs.Lists.{one_or_two}
 use Rattle.xbar_plan.specs.Tables.{Tables}
 use Rattle.xbar_core.specs.Ends.{EachMakes, EndsIfPast, GivesBack, IsPast, RunsToEnd, Settles}
-use Rattle.xbar_core.specs.Exchange.{Exchange, Marker, Work, is_idle}
-use Rattle.xbar_core.specs.Moves.{given_at, after_step, steps}
-use Rattle.xbar_core.specs.Settling.{for_each}
-use Rattle.xbar_core.specs.declared.given.Given.{Given}
-use Rattle.xbar_core.specs.declared.given.Given.TheVariants as given
-use Rattle.xbar_core.proofs.Keeping.{for_each_keeps}
-use Rattle.xbar_core.proofs.StepCases.{step_cases}
+use Rattle.xbar_moves.specs.Exchange.{Exchange, Marker, Work, is_idle}
+use Rattle.xbar_moves.specs.Moves.{given_at, after_step, steps}
+use Rattle.xbar_moves.specs.Settling.{for_each}
+use Rattle.xbar_moves.specs.declared.given.Given.{Given}
+use Rattle.xbar_moves.specs.declared.given.Given.TheVariants as given
+use Rattle.xbar_moves.proofs.Keeping.{for_each_keeps}
+use Rattle.xbar_moves.proofs.StepCases.{step_cases}
 
 -- what a marker makes keeps this, leaves the other markers as they are, and has that of it
 pub record IsStage (Makes : ℕ → Exchange → Exchange → Type 0) (Has : Exchange → Type 0) (Done : Work → Type 0) : Type 0 where

@@ -11,13 +11,13 @@ use Rattle.xbar_office.specs.declared.reply.Record.{Record}
 use Rattle.xbar_office.specs.declared.reply.Reply.{Reply}
 use Rattle.xbar_jobs.specs.Attempt.{Attempt}
 use Rattle.xbar_jobs.specs.Office.{office}
-use Rattle.xbar_core.specs.AtWork.{answer_to_step}
-use Rattle.xbar_core.specs.Exchange.{Exchange, IsLawfulExchange, world}
-use Rattle.xbar_core.specs.Holding.{IsAt}
-use Rattle.xbar_core.specs.Moves.{event_at_step, event_of}
-use Rattle.xbar_core.specs.declared.event.Event.{Event}
-use Rattle.xbar_core.specs.declared.event.Event.TheVariants as event
-use Rattle.xbar_core.proofs.Actors.{actor_at}
+use Rattle.xbar_moves.specs.AtWork.{answer_to_step}
+use Rattle.xbar_moves.specs.Exchange.{Exchange, IsLawfulExchange, world}
+use Rattle.xbar_moves.specs.Holding.{IsAt}
+use Rattle.xbar_moves.specs.Moves.{event_at_step, event_of}
+use Rattle.xbar_moves.specs.declared.event.Event.{Event}
+use Rattle.xbar_moves.specs.declared.event.Event.TheVariants as event
+use Rattle.xbar_moves.proofs.Actors.{actor_at}
 
 module _ (plan : Tables) where
   -- the event of an attempt's step, by the answer

@@ -6,12 +6,12 @@ use Rattle.turns.specs.declared.phase.Phase.TheVariants.{Operates}
 use Rattle.xbar_plan.specs.Tables.{Tables}
 use Rattle.xbar_office.specs.declared.job.Job.{Job}
 use Rattle.xbar_jobs.specs.Attempt.{Attempt}
-use Rattle.xbar_core.specs.Exchange.{Exchange, Marker, is_idle}
-use Rattle.xbar_core.specs.Holding.{IsAt}
-use Rattle.xbar_core.specs.Moves.{given_at, given_back, steps}
-use Rattle.xbar_core.specs.Runs as runs
-use Rattle.xbar_core.specs.Runs.{Move, run_from}
-use Rattle.xbar_core.specs.declared.given.Given.TheVariants as given
+use Rattle.xbar_moves.specs.Exchange.{Exchange, Marker, is_idle}
+use Rattle.xbar_moves.specs.Holding.{IsAt}
+use Rattle.xbar_moves.specs.Moves.{given_at, given_back, steps}
+use Rattle.xbar_moves.specs.Runs as runs
+use Rattle.xbar_moves.specs.Runs.{Move, run_from}
+use Rattle.xbar_moves.specs.declared.given.Given.TheVariants as given
 
 -- whether a move is a step of marker k
 abbrev pub is_step_of : ℕ → Move → Bool

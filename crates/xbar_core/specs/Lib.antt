@@ -2,13 +2,5 @@ pub use Rattle.xbar_plan.specs.Tables
 pub use Rattle.xbar_office.specs.Legal
 pub use Rattle.xbar_jobs.specs.Office
 pub use Rattle.xbar_jobs.specs.OnWords
-pub mod Kinds
-pub mod Exchange
-pub mod Moves
-pub mod Settling
 pub mod Standing
-pub mod Runs
-pub mod Holding
-pub mod Links
-pub mod AtWork
 pub mod Ends

@@ -1,12 +1,19 @@
-use Rattle.std.specs.Prelude.{◌≡◌, ℕ, ◌+◌, ◌≤◌, Some, is_some, List, [], ◌∷◌, length, slice_get, ⊤, if◌then◌else◌}
+use Rattle.std.specs.Prelude.{◌≡◌, ℕ, ◌+◌, ◌≤◌, Option, None, Some, is_some, List, [], ◌∷◌, length, slice_get, ⊤, if◌then◌else◌}
 use Rattle.turns.specs.Attempt.{turn_in}
+use Rattle.turns.specs.World.{Idle, Does}
 use Rattle.xbar_plan.specs.Tables.{Tables}
 use Rattle.xbar_jobs.specs.Attempt.{Phase}
 use Rattle.xbar_jobs.specs.Standing.{IsValid}
-use Rattle.xbar_core.specs.Exchange.{Exchange, IsLawfulExchange, Marker, Work, on_job}
+use Rattle.xbar_moves.specs.Exchange.{Exchange, IsLawfulExchange, Marker, Work as TheWork, on_job}
+use Rattle.xbar_core.specs.declared.work.Work.{Work}
+
+-- a marker's work in the definitions: none, or its job's number with the attempt at it
+abbrev pub work_of : Option Work → TheWork
+work_of None = Idle
+work_of (Some work) = Does work.job_no work.program.attempt
 
 -- a marker's attempt is valid, if it has one
-abbrev pub StandsAt : Tables → Work → Type 0
+abbrev pub StandsAt : Tables → TheWork → Type 0
 StandsAt plan work = on_job ⊤ (λ number a. IsValid plan a) work
 
 -- what every office of markers keeps: it is lawful, and each marker's attempt is valid
@@ -19,7 +26,7 @@ abbrev pub waits_in : Phase → ℕ
 waits_in phase = if is_some (turn_in phase) then 0 else 1
 
 -- 1 if a marker has a job whose turn is still to come, else 0
-abbrev pub waits : Work → ℕ
+abbrev pub waits : TheWork → ℕ
 waits work = on_job 0 (λ number a. waits_in a.phase) work
 
 -- how many markers have a job whose turn is still to come

@@ -3,28 +3,21 @@
 ghost use Rattle.std.specs.Prelude.{◌≡◌, ◌↔◌, ◌<◌, ◌≤◌, ◌⊎◌, ◌^◌, ℕ, IfOk, IfErr, OnOk, OnErr, Ok, Err, Some, None, true, length, map, slice_get};
 ghost use Rattle.turns.specs.World.{Idle};
 ghost use Rattle.xbar_equip.specs.Word.{word_count};
-ghost use Rattle.xbar_core.specs.AtWork.{IsBackingAt, gives_up_at, is_turned, next_step_at};
+ghost use Rattle.xbar_moves.specs.AtWork.{IsBackingAt, withdraws_or_frees_at, is_turned, next_step_at};
 ghost use Rattle.xbar_core.specs.Ends.{Settles};
-ghost use Rattle.xbar_core.specs.Exchange.{IsLawfulExchange, Marker as TheMarker, is_idle as is_idle_work, fresh_exchange};
-ghost use Rattle.xbar_core.specs.Moves.{assigned, begun_anew, event_at_step, frees_left, given_at, given_back, refusal, after_step, steps};
-ghost use Rattle.xbar_core.specs.Settling.{ended, ended_past_turn, for_each, settled};
+ghost use Rattle.xbar_moves.specs.Exchange.{IsLawfulExchange, Marker as TheMarker, is_idle as is_idle_work, fresh_exchange};
+ghost use Rattle.xbar_moves.specs.Moves.{assigned, begun_anew, event_at_step, frees_left, given_at, given_back, refusal, after_step, steps};
+ghost use Rattle.xbar_moves.specs.Settling.{ended, ended_past_turn, for_each, settled};
 
-use crate::assign_fault::AssignFault;
-use crate::event::Event;
-use crate::given::Given;
-use crate::kind::Kind;
 use crate::marker::Marker;
-use crate::open_fault::OpenFault;
 use std::alloc::{AllocError, Global};
 use std::marker::Model;
 use xbar_equip::WORD_COUNT;
 use xbar_jobs::Step;
+use xbar_moves::{AssignFault, Event, Given, Kind, MOST_MARKERS, OpenFault};
 use xbar_office::laws::job_is_in_range;
 use xbar_office::{Job, Record};
 use xbar_plan::Plan;
-
-/// The largest number of markers of an office.
-pub const MOST_MARKERS: usize = 48;
 
 /// The most steps to the end of its job of a marker with no other in its way: two to withdraw and
 /// to try again, 18 frees, and the 114 of the job anew.
@@ -40,7 +33,7 @@ pub struct Exchange<'p> {
 }
 
 impl<'p> Model for Exchange<'p> {
-    ghost use Rattle.xbar_core.specs.Exchange.{OfPlan};
+    ghost use Rattle.xbar_moves.specs.Exchange.{OfPlan};
     ghost use Rattle.xbar_core.specs.Standing.{HasRoom, IsExchange};
 
     ghost Value = { OfPlan };
@@ -166,12 +159,12 @@ impl<'p> Exchange<'p> {
     }
 
     /// Whether the marker's next step withdraws a request, or frees a connector.
-    pub fn is_giving_up(&self, marker: u32) -> bool
+    pub fn withdraws_or_frees(&self, marker: u32) -> bool
         requires { marker < length self.now.exchange.markers }
         ensures { (m : TheMarker) → slice_get self.now.exchange.markers marker ≡ Some m →
-            result ≡ gives_up_at m.work }
+            result ≡ withdraws_or_frees_at m.work }
     {
-        self.marker(marker).is_giving_up()
+        self.marker(marker).withdraws_or_frees()
     }
 
     /// Why the job can't be assigned to the marker. None if it can.
@@ -261,7 +254,7 @@ impl<'p> Exchange<'p> {
               steps self.old.plan marker (frees_left self.old.exchange marker) self.old.exchange;
         } }
     {
-        while self.marker(marker).is_giving_up() {
+        while self.marker(marker).withdraws_or_frees() {
             self.advance(marker);
         }
     }

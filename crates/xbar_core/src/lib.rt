@@ -1,19 +1,11 @@
-//! Many markers at once, as plain data: the office's words, its markers, and their moves.
+//! An office of many markers as plain data: it makes the moves of `xbar_moves`, one at a time, in
+//! the order that its caller chooses.
 #![tactic(auto)]
 
-pub use assign_fault::AssignFault;
-pub use event::Event;
-pub use exchange::{Exchange, MOST_MARKERS};
-pub use given::Given;
-pub use kind::Kind;
-pub use open_fault::OpenFault;
+pub use exchange::Exchange;
+pub use xbar_moves::{AssignFault, Event, Given, Kind, MOST_MARKERS, OpenFault};
 
-mod assign_fault;
-mod event;
 mod exchange;
-mod given;
-mod kind;
 pub mod laws;
 mod marker;
-mod open_fault;
 mod work;

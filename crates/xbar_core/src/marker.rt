@@ -6,18 +6,15 @@ ghost use Rattle.xbar_office.specs.declared.reply.Record.{Record as TheRecord};
 ghost use Rattle.xbar_plan.specs.Tables.{Tables};
 ghost use Rattle.xbar_jobs.specs.Attempt.{Attempt, next_step};
 ghost use Rattle.xbar_jobs.specs.Jobs.{first_conn};
-ghost use Rattle.xbar_core.specs.AtWork.{gives_up_at, is_turned, next_step_at};
-ghost use Rattle.xbar_core.specs.Exchange.{Marker as TheMarker, Work as TheWork, is_idle as is_idle_at};
-ghost use Rattle.xbar_core.specs.Moves.{IsAnswered, event_by, event_of, given_by, refusal_of, after_step, steps, work_anew};
+ghost use Rattle.xbar_moves.specs.AtWork.{withdraws_or_frees_at, is_turned, next_step_at};
+ghost use Rattle.xbar_moves.specs.Exchange.{Marker as TheMarker, Work as TheWork, is_idle as is_idle_at};
+ghost use Rattle.xbar_moves.specs.Moves.{IsAnswered, event_by, event_of, given_by, refusal_of, after_step, steps, work_anew};
 ghost use Rattle.xbar_core.specs.Standing.{StandsAt, waits};
 
-use crate::assign_fault::AssignFault;
-use crate::event::Event;
-use crate::given::Given;
-use crate::kind::Kind;
 use crate::work::Work;
 use std::marker::Model;
 use xbar_jobs::{Answer, Step};
+use xbar_moves::{AssignFault, Event, Given, Kind};
 use xbar_office::{Job, Record};
 use xbar_plan::Plan;
 
@@ -29,8 +26,8 @@ pub struct Marker {
 }
 
 impl Model for Marker {
-    ghost use Rattle.xbar_core.specs.Exchange.{Marker as TheMarker};
-    ghost use Rattle.xbar_core.specs.AtWork.{work_of};
+    ghost use Rattle.xbar_moves.specs.Exchange.{Marker as TheMarker};
+    ghost use Rattle.xbar_core.specs.Standing.{work_of};
 
     ghost Value = { TheMarker };
 
@@ -83,12 +80,12 @@ impl Marker {
     }
 
     /// Whether the marker's next step withdraws a request, or frees a connector.
-    pub fn is_giving_up(&self) -> bool
-        ensures { result ≡ gives_up_at self.now.work }
+    pub fn withdraws_or_frees(&self) -> bool
+        ensures { result ≡ withdraws_or_frees_at self.now.work }
     {
         match &self.work {
             None => false,
-            Some(work) => work.is_giving_up(),
+            Some(work) => work.withdraws_or_frees(),
         }
     }
 

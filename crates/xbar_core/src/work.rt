@@ -9,13 +9,13 @@ ghost use Rattle.xbar_jobs.specs.Attempt.{Attempt, counted, fresh, next_step, wi
 ghost use Rattle.xbar_jobs.specs.Office.{office};
 ghost use Rattle.xbar_jobs.specs.OnWords.{words_after};
 ghost use Rattle.xbar_jobs.specs.Standing.{IsValid};
-ghost use Rattle.xbar_core.specs.AtWork.{conn_asked, gives_up as gives_up_of, answer_to_step};
-ghost use Rattle.xbar_core.specs.Moves.{event_of, own_record, added_record};
+ghost use Rattle.xbar_moves.specs.AtWork.{conn_asked, withdraws_or_frees as withdraws_or_frees_in, answer_to_step};
+ghost use Rattle.xbar_moves.specs.Moves.{event_of, own_record, added_record};
 ghost use Rattle.xbar_core.specs.Standing.{waits_in};
 
-use crate::event::Event;
 use xbar_equip::{Conn, conn_word};
 use xbar_jobs::{Answer, Program, Step};
+use xbar_moves::Event;
 use xbar_office::{Job, Record};
 use xbar_plan::Plan;
 
@@ -27,8 +27,8 @@ pub struct Work {
 }
 
 /// Whether a step withdraws a request, or frees a connector.
-fn gives_up(step: Step) -> bool
-    ensures { result ≡ gives_up_of step }
+fn withdraws_or_frees(step: Step) -> bool
+    ensures { result ≡ withdraws_or_frees_in step }
 {
     match step {
         Step::Withdraw(_) | Step::Free(_) => true,
@@ -91,10 +91,10 @@ impl Work {
     }
 
     /// Whether the job's next step withdraws a request, or frees a connector.
-    pub fn is_giving_up(&self) -> bool
-        ensures { result ≡ gives_up_of (next_step self.now.program.attempt) }
+    pub fn withdraws_or_frees(&self) -> bool
+        ensures { result ≡ withdraws_or_frees_in (next_step self.now.program.attempt) }
     {
-        gives_up(self.program.next())
+        withdraws_or_frees(self.program.next())
     }
 
     /// Restarts the job: the next steps give back all that is held, and then it begins anew. Past

@@ -11,7 +11,7 @@ use Rattle.xbar_office.specs.declared.job.Job.{Job}
 use Rattle.xbar_office.specs.declared.reply.Record.{Record}
 use Rattle.xbar_office.specs.declared.reply.Reply.{Reply}
 use Rattle.xbar_jobs.specs.Office.{ShowsOffice, office}
-use Rattle.xbar_core.specs.Exchange.{is_idle}
+use Rattle.xbar_moves.specs.Exchange.{is_idle}
 use Rattle.xbar_fabric.specs.Meetings.{AreAllIdle, FabricHasClosed}
 use Rattle.xbar_fabric.specs.Views.{AreBelow, DeskView, FabricView, IsDeskOf, RoomDesk, entered, own, view_at}
 use Rattle.xbar_fabric.proofs.Meets.{after_entered, words_after}

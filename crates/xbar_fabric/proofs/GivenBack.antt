@@ -12,10 +12,10 @@ use Rattle.xbar_plan.specs.Tables.{Tables}
 use Rattle.xbar_jobs.specs.Attempt.{Attempt, Phase}
 use Rattle.xbar_jobs.specs.Jobs.{first_conn}
 use Rattle.xbar_jobs.specs.Office.{office}
-use Rattle.xbar_core.specs.Exchange.{Work}
-use Rattle.xbar_core.specs.Moves.{event_of, given_by}
-use Rattle.xbar_core.specs.declared.given.Given.TheVariants as given
-use Rattle.xbar_core.specs.declared.kind.Kind.{Kind}
+use Rattle.xbar_moves.specs.Exchange.{Work}
+use Rattle.xbar_moves.specs.Moves.{event_of, given_by}
+use Rattle.xbar_moves.specs.declared.given.Given.TheVariants as given
+use Rattle.xbar_moves.specs.declared.kind.Kind.{Kind}
 use Rattle.xbar_fabric.specs.Advances.{MarkerHasGivenBack, MarkerHasMade}
 use Rattle.xbar_fabric.proofs.Offices.{Order}
 use Rattle.xbar_fabric.proofs.Steps.{desk_at, has_stepped}

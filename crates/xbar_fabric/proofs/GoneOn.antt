@@ -14,9 +14,9 @@ use Rattle.xbar_plan.specs.Lawful.{IsLawful}
 use Rattle.xbar_office.specs.declared.job.Job.{Job}
 use Rattle.xbar_office.specs.declared.reply.Reply.{Reply}
 use Rattle.xbar_jobs.specs.Office.{office}
-use Rattle.xbar_core.specs.Exchange.{Work, is_idle}
-use Rattle.xbar_core.specs.declared.event.Event.TheVariants as event
-use Rattle.xbar_core.specs.declared.kind.Kind.{Kind}
+use Rattle.xbar_moves.specs.Exchange.{Work, is_idle}
+use Rattle.xbar_moves.specs.declared.event.Event.TheVariants as event
+use Rattle.xbar_moves.specs.declared.kind.Kind.{Kind}
 use Rattle.xbar_fabric.specs.Advances.{IsAnswered}
 use Rattle.xbar_fabric.proofs.Offices.{Order}
 use Rattle.xbar_fabric.proofs.Steps.{has_stepped, is_answered}

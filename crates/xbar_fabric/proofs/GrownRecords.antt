@@ -13,14 +13,14 @@ use Rattle.xbar_office.specs.declared.reply.Record.{Record}
 use Rattle.xbar_office.specs.declared.reply.Reply.{Reply}
 use Rattle.xbar_jobs.specs.Attempt.{Attempt}
 use Rattle.xbar_jobs.specs.Office.{office}
-use Rattle.xbar_core.specs.AtWork.{answer_to_step}
-use Rattle.xbar_core.specs.Exchange.{Exchange, Marker, Work, is_idle, on_job}
-use Rattle.xbar_core.specs.Moves.{added_record, after_step, event_of, finished, given_by, moved_on, own_record, record_of, refused_by, work_anew}
-use Rattle.xbar_core.specs.declared.event.Event.{Event}
-use Rattle.xbar_core.specs.declared.event.Event.TheVariants as event
-use Rattle.xbar_core.specs.declared.given.Given.TheVariants as given
-use Rattle.xbar_core.proofs.StepCases.{IsMade, gone_on, step_cases}
-use Rattle.xbar_core.proofs.Steps.{has_come}
+use Rattle.xbar_moves.specs.AtWork.{answer_to_step}
+use Rattle.xbar_moves.specs.Exchange.{Exchange, Marker, Work, is_idle, on_job}
+use Rattle.xbar_moves.specs.Moves.{added_record, after_step, event_of, finished, given_by, moved_on, own_record, record_of, refused_by, work_anew}
+use Rattle.xbar_moves.specs.declared.event.Event.{Event}
+use Rattle.xbar_moves.specs.declared.event.Event.TheVariants as event
+use Rattle.xbar_moves.specs.declared.given.Given.TheVariants as given
+use Rattle.xbar_moves.proofs.StepCases.{IsMade, gone_on, step_cases}
+use Rattle.xbar_moves.proofs.Steps.{has_come}
 use Rattle.xbar_fabric.specs.Advances.{MarkerHasAdvanced, MarkerHasGivenBack, MarkerHasMade, MarkerHasStepped, at_beginning}
 use Rattle.xbar_fabric.specs.Histories.{job_at, turned_of}
 use Rattle.xbar_fabric.specs.Views.{DeskView, marker_of, mine, own}
@@ -79,11 +79,11 @@ module _ (before after : DeskView) (event : Event) (step : MarkerHasStepped befo
   -- the step changed nothing
   none_made : now ≡ step.office → HasGrown before after
   none_made is =
-      let work = work_now before.work (marker_of before) refl (ap (λ (x : Exchange). slice_get x.markers before.marker) is ∙ step.amid.there) in
+      let work = work_now before.work (marker_of before) refl (ap (λ (x : Exchange). slice_get x.markers before.marker) is ∙ step.agrees.there) in
       record {
         more = [];
         marker = marker_same;
-        mine_is = mine_now ∙ ap (λ (x : Exchange). own before.marker x.records) is ∙ step.amid.own_is ∙ sym (append-nil (mine before));
+        mine_is = mine_now ∙ ap (λ (x : Exchange). own before.marker x.records) is ∙ step.agrees.own_is ∙ sym (append-nil (mine before));
         turned_is = turned_now ∙ ap (turned_at before.marker) work ∙ sym (append-nil (turned_of before));
         job = ap job_at work;
       }
@@ -95,7 +95,7 @@ module _ (before after : DeskView) (event : Event) (step : MarkerHasStepped befo
       let a = made.attempt in
       let reported = answer_to_step before.marker step.office.words made.attempt in
       let later = gone_on before.plan step.office before.marker n a made.at made.goes in
-      let was : before.work ≡ Does made.number made.attempt = ap (λ (o : Marker). o.work) (same_Some (marker_of before) made.at.marker (sym step.amid.there ∙ made.at.there)) ∙ made.at.work in
+      let was : before.work ≡ Does made.number made.attempt = ap (λ (o : Marker). o.work) (same_Some (marker_of before) made.at.marker (sym step.agrees.there ∙ made.at.there)) ∙ made.at.work in
       let work = work_now (Does n (change (office before.plan) a reported)) later.marker later.work later.there in
       record {
         more = added_record before.marker made.number made.attempt (answer_to_step before.marker step.office.words made.attempt);
@@ -103,7 +103,7 @@ module _ (before after : DeskView) (event : Event) (step : MarkerHasStepped befo
         mine_is = mine_now
             ∙ ap (λ (x : Exchange). own before.marker x.records) made.is
             ∙ own_append before.marker step.office.records (added_record before.marker n a reported)
-            ∙ ap (λ (l : List Record). l ++ own before.marker (added_record before.marker n a reported)) step.amid.own_is
+            ∙ ap (λ (l : List Record). l ++ own before.marker (added_record before.marker n a reported)) step.agrees.own_is
             ∙ ap (λ (l : List Record). mine before ++ l) (own_added before.marker n a reported);
         turned_is = turned_now
             ∙ ap (turned_at before.marker) work
@@ -166,7 +166,7 @@ module _ (k number : ℕ) (after : Attempt) (r : Record) where
 step_ends : (before after : DeskView) (r : Record) → is_idle before.work ≡ false → MarkerHasStepped before after (event.Finished r) → turned_of after ≡ r ∷ []
 step_ends before after r busy step =
     let come = has_come before.plan step.office before.marker (event.Finished r) (λ same. cc) (sym step.event_is) in
-    let was : before.work ≡ Does come.number come.attempt = ap (λ (o : Marker). o.work) (same_Some (marker_of before) come.at.marker (sym step.amid.there ∙ come.at.there)) ∙ come.at.work in
+    let was : before.work ≡ Does come.number come.attempt = ap (λ (o : Marker). o.work) (same_Some (marker_of before) come.at.marker (sym step.agrees.there ∙ come.at.there)) ∙ come.at.work in
     let goes = subst (λ (w : Work). is_idle w ≡ false) was busy in
     let later = gone_on before.plan step.office before.marker come.number come.attempt come.at goes in
     turned_now before after (event.Finished r) step

@@ -12,9 +12,9 @@ use Rattle.xbar_equip.specs.declared.conn.Conn.{Conn}
 use Rattle.xbar_plan.specs.Tables.{Tables}
 use Rattle.xbar_office.specs.Legal.{after}
 use Rattle.xbar_jobs.specs.Office.{ShowsOffice, office}
-use Rattle.xbar_core.specs.Exchange.{Exchange, Work}
-use Rattle.xbar_core.specs.declared.kind.Kind.{Kind}
-use Rattle.xbar_core.proofs.Records.{after_same}
+use Rattle.xbar_moves.specs.Exchange.{Exchange, Work}
+use Rattle.xbar_moves.specs.declared.kind.Kind.{Kind}
+use Rattle.xbar_moves.proofs.Records.{after_same}
 use Rattle.xbar_fabric.specs.Meetings.{AreWordsAfter, MarkersHaveMet, IsFreeConn, FabricIsShut}
 use Rattle.xbar_fabric.specs.Views.{entered}
 use Rattle.xbar_fabric.proofs.Offices.{Order, begins_entered, is_history, is_lawful, length-entered, length-made, marker_made, office_of, own_same, turned_entered}
@@ -48,7 +48,7 @@ module _ (plan : Tables) where
   pub is_shut : (t : TableId) (kind : Kind) (count k : ℕ) (work : Work) (seen : Order) (words : List ℕ) → desks.IsShut (office plan) count k work seen words → FabricIsShut count (desk_at t plan kind k work seen) words
   is_shut t kind count k work seen words shut = record {
     office = e;
-    amid = record {
+    agrees = record {
       lawful = is_lawful plan kind w shut.lawful;
       there = marker_made plan kind shut.actors k work shut.actor_is;
       begins = begins_entered seen shut.order shut.begins;

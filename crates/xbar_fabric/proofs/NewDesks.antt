@@ -3,9 +3,9 @@ use Rattle.std.proofs.Common.{refl, ◌≡◌, ℕ, zero, suc, true, ◌+◌, �
 use Rattle.std.specs.Prelude.{IfSome, slice_get}
 use Rattle.desks.specs.Views as views
 use Rattle.xbar_plan.specs.Tables.{Tables}
-use Rattle.xbar_core.specs.declared.kind.Kind.{Kind}
-use Rattle.xbar_core.specs.declared.kind.Kind.TheVariants.{Dial}
-use Rattle.xbar_core.specs.Exchange.{is_idle}
+use Rattle.xbar_moves.specs.declared.kind.Kind.{Kind}
+use Rattle.xbar_moves.specs.declared.kind.Kind.TheVariants.{Dial}
+use Rattle.xbar_moves.specs.Exchange.{is_idle}
 use Rattle.xbar_fabric.specs.Meetings.{AreAllIdle}
 use Rattle.xbar_fabric.specs.Views.{AreDesksOf, DeskView, FabricView, IsDeskOf, RoomDesk, new_desks, view_at}
 

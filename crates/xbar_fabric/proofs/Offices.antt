@@ -14,10 +14,10 @@ use Rattle.xbar_office.specs.declared.job.Job.{Job}
 use Rattle.xbar_office.specs.declared.reply.Record.{Record}
 use Rattle.xbar_office.specs.declared.reply.Reply.{Reply}
 use Rattle.xbar_jobs.specs.Office.{office}
-use Rattle.xbar_core.specs.Exchange.{Exchange, IsLawfulExchange, Marker, Work, turned, world}
-use Rattle.xbar_core.specs.declared.kind.Kind.{Kind}
-use Rattle.xbar_core.proofs.Markers.{works}
-use Rattle.xbar_core.proofs.Records.{jobs_legal, replies_legal, turns_legal}
+use Rattle.xbar_moves.specs.Exchange.{Exchange, IsLawfulExchange, Marker, Work, turned, world}
+use Rattle.xbar_moves.specs.declared.kind.Kind.{Kind}
+use Rattle.xbar_moves.proofs.Markers.{works}
+use Rattle.xbar_moves.proofs.Records.{jobs_legal, replies_legal, turns_legal}
 use Rattle.xbar_fabric.specs.Histories.{IsHistory}
 use Rattle.xbar_fabric.specs.Views.{entered, own}
 

@@ -19,8 +19,8 @@ use Rattle.xbar_jobs.specs.Office.{office}
 use Rattle.xbar_jobs.specs.declared.decision.Decision.{Decision}
 use Rattle.xbar_jobs.specs.declared.effect.Effect.{Effect}
 use Rattle.xbar_jobs.proofs.StepActs.{act_answer}
-use Rattle.xbar_core.specs.AtWork.{answer_to_step}
-use Rattle.xbar_core.specs.Moves.{added_record, own_record, record_of}
+use Rattle.xbar_moves.specs.AtWork.{answer_to_step}
+use Rattle.xbar_moves.specs.Moves.{added_record, own_record, record_of}
 use Rattle.xbar_fabric.specs.Views.{own}
 use Rattle.xbar_fabric.proofs.Finishing.{closed_done, freed_done}
 

@@ -9,9 +9,9 @@ use Rattle.desks.specs.Desks as desks
 use Rattle.xbar_plan.specs.Tables.{Tables}
 use Rattle.xbar_plan.specs.Lawful.{IsLawful}
 use Rattle.xbar_jobs.specs.Office.{office}
-use Rattle.xbar_core.specs.Exchange.{Work, is_idle}
-use Rattle.xbar_core.specs.Moves.{event_of}
-use Rattle.xbar_core.specs.declared.kind.Kind.{Kind}
+use Rattle.xbar_moves.specs.Exchange.{Work, is_idle}
+use Rattle.xbar_moves.specs.Moves.{event_of}
+use Rattle.xbar_moves.specs.declared.kind.Kind.{Kind}
 use Rattle.xbar_fabric.specs.Advances.{MarkerHasRun}
 use Rattle.xbar_fabric.specs.Views.{HasJobNo}
 use Rattle.xbar_fabric.proofs.GoneOn.{step_answered}

@@ -10,7 +10,7 @@ use Rattle.desk_attempts.specs.contracts.jobs.AttemptsJobs.TheImpl as jobs
 use Rattle.atomic_table.below.core.specs.contracts.clone.Clone+copy.TheImpl as copies
 use Rattle.desks.proofs.desk.Desk.TheSendSync as below
 use Rattle.std.specs.contracts.snapshot.Snapshot as snapshot
-use Rattle.xbar_core.proofs.kind.Kind.TheSendSync as kind_sent
+use Rattle.xbar_moves.proofs.kind.Kind.TheSendSync as kind_sent
 use Rattle.xbar_equip.proofs.conn.Conn.TheSendSync as conn_sent
 use Rattle.xbar_equip.specs.contracts.conn.Conn as conn
 use Rattle.xbar_equip.specs.contracts.conn.ConnDefault.TheImpl as conn_default
@@ -21,10 +21,10 @@ use Rattle.xbar_fabric.specs.contracts.office.SharedOffices as shared
 use Rattle.xbar_fabric.specs.contracts.office.SharedOfficesOnWords4219.TheImpl as on_words
 use Rattle.xbar_fabric.specs.contracts.office.SharedOfficesScripts4219.TheImpl as scripts
 use Rattle.xbar_jobs.proofs.decided.Decided.TheSendSync as decided_sent
-use Rattle.xbar_jobs.proofs.way.Way.TheSendSync as way_sent
+use Rattle.xbar_jobs.proofs.walk_progress.WalkProgress.TheSendSync as progress_sent
 use Rattle.xbar_jobs.specs.contracts.decided.Decided as decided
 use Rattle.xbar_jobs.specs.contracts.office_effect.OfficeEffect as effect
-use Rattle.xbar_jobs.specs.contracts.way.Way as way
+use Rattle.xbar_jobs.specs.contracts.walk_progress.WalkProgress as point
 use Rattle.xbar_office.proofs.job.Job.TheSendSync as job_sent
 use Rattle.xbar_office.specs.contracts.job.Job as job
 use Rattle.xbar_office.specs.contracts.reply.Reply as reply
@@ -34,10 +34,10 @@ snapshot_send : send.IsSend (snapshot.the_row plan.the_row)
 snapshot_send = record { owned = λ d vs. ((λ vss. (tt, ((λ uss. (tt, tt)), tt))), tt); leaving = λ k f vs. tt }
 
 abbrev attempt_row : RattleType
-attempt_row = attempt.the_row conn.the_row job.the_row decided.the_row way.the_row (param.number 42) (param.number 19)
+attempt_row = attempt.the_row conn.the_row job.the_row decided.the_row point.the_row (param.number 42) (param.number 19)
 
 attempt_send : send.IsSend attempt_row
-attempt_send = attempt_sent.the_send conn.the_row job.the_row decided.the_row way.the_row (param.number 42) (param.number 19) conn_sent.the_send job_sent.the_send decided_sent.the_send way_sent.the_send
+attempt_send = attempt_sent.the_send conn.the_row job.the_row decided.the_row point.the_row (param.number 42) (param.number 19) conn_sent.the_send job_sent.the_send decided_sent.the_send progress_sent.the_send
 
 pub desk_send : send.IsSend desk.the_row
 desk_send =
@@ -47,7 +47,7 @@ desk_send =
       below.the_send (attempts.the_row shared.the_row (param.number 42) (param.number 19)) plan.the_row (snapshot.the_row plan.the_row) conn.the_row
           job.the_row reply.the_row effect.the_row attempt_row
           (jobs.ghosts shared.the_row (param.number 42) (param.number 19) (snapshot.the_row plan.the_row) plan.the_row conn.the_row job.the_row
-          reply.the_row effect.the_row decided.the_row way.the_row on_words.ghosts jobs.no_dict scripts.ghosts jobs.no_dict
+          reply.the_row effect.the_row decided.the_row point.the_row on_words.ghosts jobs.no_dict scripts.ghosts jobs.no_dict
           (copies.ghosts conn.the_row) jobs.no_dict conn_default.ghosts jobs.no_dict conn_equal.ghosts jobs.no_dict
           (copies.ghosts job.the_row) jobs.no_dict (copies.ghosts effect.the_row) jobs.no_dict jobs.no_dict jobs.no_dict jobs.no_dict jobs.no_dict)
           snapshot_send attempt_send,

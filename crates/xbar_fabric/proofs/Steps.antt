@@ -19,20 +19,20 @@ use Rattle.xbar_jobs.specs.Attempt.{Act, Attempt, next_step}
 use Rattle.xbar_jobs.specs.Office.{office}
 use Rattle.xbar_jobs.specs.OnWords.{step_answer}
 use Rattle.xbar_jobs.proofs.StepActs.{act_answer, act_word}
-use Rattle.xbar_core.specs.AtWork.{answer_to_step}
-use Rattle.xbar_core.specs.Exchange.{Exchange, IsLawfulExchange, Work, world}
-use Rattle.xbar_core.specs.Holding.{IsAt}
-use Rattle.xbar_core.specs.Moves as moves
-use Rattle.xbar_core.specs.Moves.{after_step, event_at_step, event_by, event_of}
-use Rattle.xbar_core.specs.declared.event.Event.{Event}
-use Rattle.xbar_core.specs.declared.event.Event.TheVariants as event
-use Rattle.xbar_core.specs.declared.kind.Kind.{Kind}
-use Rattle.xbar_core.proofs.Markers.{marker_set}
-use Rattle.xbar_core.proofs.StepCases.{step_made}
-use Rattle.xbar_core.proofs.Stepping.{event_there}
-use Rattle.xbar_core.proofs.WorldMoves.{has_to_give, steps_in_world}
+use Rattle.xbar_moves.specs.AtWork.{answer_to_step}
+use Rattle.xbar_moves.specs.Exchange.{Exchange, IsLawfulExchange, Work, world}
+use Rattle.xbar_moves.specs.Holding.{IsAt}
+use Rattle.xbar_moves.specs.Moves as moves
+use Rattle.xbar_moves.specs.Moves.{after_step, event_at_step, event_by, event_of}
+use Rattle.xbar_moves.specs.declared.event.Event.{Event}
+use Rattle.xbar_moves.specs.declared.event.Event.TheVariants as event
+use Rattle.xbar_moves.specs.declared.kind.Kind.{Kind}
+use Rattle.xbar_moves.proofs.Markers.{marker_set}
+use Rattle.xbar_moves.proofs.StepCases.{step_made}
+use Rattle.xbar_moves.proofs.Stepping.{event_there}
+use Rattle.xbar_moves.proofs.WorldMoves.{has_to_give, steps_in_world}
 use Rattle.xbar_fabric.specs.Advances.{MarkerHasStepped}
-use Rattle.xbar_fabric.specs.Views.{DeskView, IsAmid, entered, view_at}
+use Rattle.xbar_fabric.specs.Views.{DeskView, AgreesWith, entered, view_at}
 use Rattle.xbar_fabric.proofs.Offices.{Order, begins_entered, entered_turned, is_lawful, marker_at, marker_made, office_of, own_same, world_is}
 
 busy_act : (x : Act) → x ≢ Finished → is_finished x ≡ false
@@ -123,8 +123,8 @@ module _ (plan : Tables) (kind : Kind) (k : ℕ) (before after : Work) (seen see
       ∙ ap (λ (idle : Bool). if idle then event.Idle else event_of k step.number a (change (office plan) a (answer_to_step k e.words a)) (answer_to_step k e.words a)) goes_on_at
       ∙ ap (λ (t : Answer). event_of k step.number a (change (office plan) a t) t) reported
 
-  pub amid : (table : TableId) → IsAmid (desk_at table plan kind k before seen) e
-  amid table = record {
+  pub agrees : (table : TableId) → AgreesWith (desk_at table plan kind k before seen) e
+  agrees table = record {
     lawful = lawful;
     there = at.there;
     begins = begins_entered seen step.world.order step.begins;
@@ -141,7 +141,7 @@ module _ (plan : Tables) (kind : Kind) (k : ℕ) (before after : Work) (seen see
   unfoldable pub has_stepped : (table : TableId) (what : Event) → what ≡ event_of k step.number a (change (office plan) a answer) answer → MarkerHasStepped (desk_at table plan kind k before seen) (desk_at table plan kind k after seen_after) what
   has_stepped table what is = record {
     office = e;
-    amid = amid table;
+    agrees = agrees table;
     same = refl;
     there = there_after;
     seen_is = seen_is;

@@ -26,13 +26,13 @@ use Rattle.xbar_office.specs.declared.reply.Reply.{Reply}
 use Rattle.xbar_jobs.specs.Attempt.{Attempt}
 use Rattle.xbar_jobs.specs.Office.{office}
 use Rattle.xbar_jobs.proofs.OfficeSystem.{office_is}
-use Rattle.xbar_core.specs.Exchange.{Work, is_idle, on_job}
-use Rattle.xbar_core.specs.Moves.{event_at_step, event_of, finished, moved_on, record_of, refused_by}
-use Rattle.xbar_core.specs.declared.event.Event.{Event}
-use Rattle.xbar_core.specs.declared.event.Event.TheVariants as event
-use Rattle.xbar_core.specs.declared.kind.Kind.{Kind}
-use Rattle.xbar_core.proofs.FinishedJobs.{finished_at, finishes}
-use Rattle.xbar_core.proofs.Steps.{step_adds}
+use Rattle.xbar_moves.specs.Exchange.{Work, is_idle, on_job}
+use Rattle.xbar_moves.specs.Moves.{event_at_step, event_of, finished, moved_on, record_of, refused_by}
+use Rattle.xbar_moves.specs.declared.event.Event.{Event}
+use Rattle.xbar_moves.specs.declared.event.Event.TheVariants as event
+use Rattle.xbar_moves.specs.declared.kind.Kind.{Kind}
+use Rattle.xbar_moves.proofs.FinishedJobs.{finished_at, finishes}
+use Rattle.xbar_moves.proofs.Steps.{step_adds}
 use Rattle.xbar_fabric.specs.Advances.{MarkerHasAdvanced}
 use Rattle.xbar_fabric.specs.Histories.{IsReportedRecord}
 use Rattle.xbar_fabric.specs.Views.{DeskView, entered}

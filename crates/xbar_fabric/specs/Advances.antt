@@ -7,20 +7,20 @@ use Rattle.desks.specs.Desks.{asked_by}
 use Rattle.desks.specs.Parts.{Begins}
 use Rattle.xbar_office.specs.declared.reply.Record.{Record}
 use Rattle.xbar_jobs.specs.Jobs.{first_conn}
-use Rattle.xbar_core.specs.Exchange.{Exchange, Work, is_idle, on_job}
-use Rattle.xbar_core.specs.Moves as moves
-use Rattle.xbar_core.specs.Moves.{after_step, event_at_step, work_anew}
-use Rattle.xbar_core.specs.declared.event.Event.{Event}
-use Rattle.xbar_core.specs.declared.event.Event.TheVariants.{Idle, Finished}
+use Rattle.xbar_moves.specs.Exchange.{Exchange, Work, is_idle, on_job}
+use Rattle.xbar_moves.specs.Moves as moves
+use Rattle.xbar_moves.specs.Moves.{after_step, event_at_step, work_anew}
+use Rattle.xbar_moves.specs.declared.event.Event.{Event}
+use Rattle.xbar_moves.specs.declared.event.Event.TheVariants.{Idle, Finished}
 use Rattle.xbar_fabric.specs.Histories.{IsReportedRecord}
-use Rattle.xbar_fabric.specs.Views.{DeskView, IsAmid, marker_of}
+use Rattle.xbar_fabric.specs.Views.{DeskView, AgreesWith, marker_of}
 
 -- the desk's marker made its next step in an office that agreed with what the desk knew: the
 -- desk's marker is now what it is in the office after the step, the desk has seen all records by
 -- then, and this is the step's event
 pub record MarkerHasStepped (before after : DeskView) (event : Event) : Type 0 where
   pub office : Exchange
-  pub amid : IsAmid before office
+  pub agrees : AgreesWith before office
   pub same : after ≡ record before { work = after.work; seen = after.seen }
   pub there : slice_get (after_step before.plan before.marker office).markers before.marker
       ≡ Some (marker_of after)

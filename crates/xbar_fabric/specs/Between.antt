@@ -2,7 +2,7 @@ use Rattle.std.specs.Prelude.{◌≡◌, ℕ, List, length}
 use Rattle.desks.specs.Kept.{IsKept, KnownOf}
 use Rattle.xbar_plan.specs.Tables.{Tables}
 use Rattle.xbar_jobs.specs.Office.{office}
-use Rattle.xbar_core.specs.Exchange.{Exchange, IsLawfulExchange}
+use Rattle.xbar_moves.specs.Exchange.{Exchange, IsLawfulExchange}
 
 -- what a desk knows of the markers, in the table of shared words
 abbrev pub Known : Tables → Type 0

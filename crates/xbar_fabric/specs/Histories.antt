@@ -4,8 +4,8 @@ use Rattle.xbar_plan.specs.Tables.{Tables}
 use Rattle.xbar_office.specs.Legal.{AreJobs, HaveReplies, IsLegal, jobs_of}
 use Rattle.xbar_office.specs.declared.job.Job.{Job}
 use Rattle.xbar_office.specs.declared.reply.Record.{Record}
-use Rattle.xbar_core.specs.Exchange.{Work, on_job}
-use Rattle.xbar_core.specs.Moves.{own_record}
+use Rattle.xbar_moves.specs.Exchange.{Work, on_job}
+use Rattle.xbar_moves.specs.Moves.{own_record}
 use Rattle.xbar_fabric.specs.Views.{DeskView, mine}
 
 -- a history: records of jobs of the office, with the replies of the one-marker office, which does

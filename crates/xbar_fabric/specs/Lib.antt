@@ -1,5 +1,5 @@
-pub use Rattle.xbar_core.specs.Moves
-pub use Rattle.xbar_core.specs.Links
+pub use Rattle.xbar_moves.specs.Moves
+pub use Rattle.xbar_moves.specs.Links
 pub mod Views
 pub mod Histories
 pub mod Advances

@@ -9,10 +9,10 @@ use Rattle.xbar_plan.specs.Tables.{Tables}
 use Rattle.xbar_office.specs.Legal.{after}
 use Rattle.xbar_office.specs.declared.reply.Record.{Record}
 use Rattle.xbar_jobs.specs.Office.{ShowsOffice}
-use Rattle.xbar_core.specs.Exchange.{Exchange, is_idle}
+use Rattle.xbar_moves.specs.Exchange.{Exchange, is_idle}
 use Rattle.xbar_fabric.specs.Between.{IsOfficeOn}
 use Rattle.xbar_fabric.specs.Histories.{IsHistory}
-use Rattle.xbar_fabric.specs.Views.{DeskView, FabricView, IsAmid, IsDeskOf, mine, own}
+use Rattle.xbar_fabric.specs.Views.{DeskView, FabricView, AgreesWith, IsDeskOf, mine, own}
 
 -- two desks have met: both have now seen one history, which begins with what each had seen, and in
 -- which each has the same own records as before
@@ -41,12 +41,12 @@ pub record AreWordsAfter (plan : Tables) (records : List Record) (words : List �
   pub shows : ((conn : Conn) → IsConn conn → IsFreeConn words conn)
       → ShowsOffice plan words (after plan records)
 
--- the shared words of `count` markers were shut with this desk, amid whatever jobs: they are the
--- words of a lawful office that agrees with what the desk knew, and words after the office's
--- records, which are a history
+-- the shared words of `count` markers were shut with this desk, whatever jobs were under way: they
+-- are the words of a lawful office that agrees with what the desk knew, and words after the
+-- office's records, which are a history
 pub record FabricIsShut (count : ℕ) (desk : DeskView) (words : List ℕ) : Type 0 where
   pub office : Exchange
-  pub amid : IsAmid desk office
+  pub agrees : AgreesWith desk office
   pub office_is : IsOfficeOn desk.plan count words office
   pub history : IsHistory desk.plan office.records
   pub words_are : AreWordsAfter desk.plan office.records words

@@ -10,8 +10,8 @@ use Rattle.xbar_office.specs.declared.job.Job.{Job}
 use Rattle.xbar_office.specs.declared.reply.Record.{Record}
 use Rattle.xbar_office.specs.declared.reply.Reply.{Reply}
 use Rattle.xbar_jobs.specs.declared.effect.Effect.{Effect}
-use Rattle.xbar_core.specs.Exchange.{Exchange, IsLawfulExchange, Marker, Work, on_job}
-use Rattle.xbar_core.specs.declared.kind.Kind.{Kind}
+use Rattle.xbar_moves.specs.Exchange.{Exchange, IsLawfulExchange, Marker, Work, on_job}
+use Rattle.xbar_moves.specs.declared.kind.Kind.{Kind}
 
 -- the shared words as callers see them: their table, their plan, and the number of desks that they
 -- were opened with
@@ -102,7 +102,7 @@ mine desk = own desk.marker desk.seen
 
 -- a lawful office agrees with what a desk knows: it has the desk's marker as the desk has it, its
 -- records begin with what the desk has seen, and it has no other records of this marker
-pub record IsAmid (desk : DeskView) (e : Exchange) : Type 0 where
+pub record AgreesWith (desk : DeskView) (e : Exchange) : Type 0 where
   pub lawful : IsLawfulExchange desk.plan e
   pub there : slice_get e.markers desk.marker ≡ Some (marker_of desk)
   pub begins : Begins desk.seen e.records

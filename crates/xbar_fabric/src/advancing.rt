@@ -7,8 +7,8 @@ ghost use Rattle.desks.specs.Desks.{as_record};
 ghost use Rattle.desks.specs.Running.{NothingLeftPastTurn};
 ghost use Rattle.desks.specs.Watching.{watched_more};
 ghost use Rattle.xbar_jobs.specs.Attempt.{Attempt};
-ghost use Rattle.xbar_core.specs.Exchange.{is_idle};
-ghost use Rattle.xbar_core.specs.Moves.{event_of, given_by};
+ghost use Rattle.xbar_moves.specs.Exchange.{is_idle};
+ghost use Rattle.xbar_moves.specs.Moves.{event_of, given_by};
 ghost use Rattle.xbar_fabric.specs.Advances.{MarkerHasAdvanced, MarkerHasGivenBack, MarkerHasRun, IsAnswered};
 ghost use Rattle.xbar_fabric.specs.Histories.{turned_of};
 ghost use Rattle.xbar_fabric.specs.Views.{IsDeskOf, entered};
@@ -18,9 +18,9 @@ use crate::fabric::Fabric;
 use crate::office::SharedOffices;
 use desk_attempts::asked;
 use desks::{JobRecord, Watch};
-use xbar_core::{Event, Given};
 use xbar_equip::Conn;
 use xbar_jobs::Answer;
+use xbar_moves::{Event, Given};
 use xbar_office::{Job, Record, Reply};
 
 /// The outcome of a step after which something is left of the job, by the connector that it asked

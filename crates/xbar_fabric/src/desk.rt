@@ -3,15 +3,15 @@ ghost use Rattle.turns.specs.Attempt.{begin_with};
 ghost use Rattle.turns.specs.World.{Does};
 ghost use Rattle.xbar_jobs.specs.Jobs.{first_conn};
 ghost use Rattle.desks.specs.Desks.{gives_back};
-ghost use Rattle.xbar_core.specs.Exchange.{is_idle as is_idle_work};
-ghost use Rattle.xbar_core.specs.Moves.{given_by, refusal_of};
+ghost use Rattle.xbar_moves.specs.Exchange.{is_idle as is_idle_work};
+ghost use Rattle.xbar_moves.specs.Moves.{given_by, refusal_of};
 ghost use Rattle.xbar_fabric.specs.Histories.{IsHistory};
 ghost use Rattle.xbar_fabric.specs.Views.{marker_of};
 
 use crate::office::{Office, SharedOffices};
 use desk_attempts::turn;
 use std::marker::Model;
-use xbar_core::{AssignFault, Given, Kind};
+use xbar_moves::{AssignFault, Given, Kind};
 use xbar_office::Job;
 use xbar_office::laws::job_is_in_range;
 
@@ -66,7 +66,7 @@ impl Desk {
 
     /// Whether the marker was denied a connector, and still has a request to withdraw or
     /// connectors to free.
-    pub fn is_giving_up(&self) -> bool
+    pub fn is_giving_back(&self) -> bool
         ensures { result ≡ gives_back self.now.work }
     {
         self.desk.is_giving_back()

@@ -8,7 +8,7 @@ use crate::office::Office;
 use desks::Room;
 use std::alloc::Global;
 use std::marker::Model;
-use xbar_core::{Kind, MOST_MARKERS, OpenFault};
+use xbar_moves::{Kind, MOST_MARKERS, OpenFault};
 use xbar_plan::Plan;
 
 /// The office's shared words, under a plan. Threads share it by reference.

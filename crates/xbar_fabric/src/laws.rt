@@ -17,22 +17,22 @@ ghost use Rattle.xbar_office.specs.declared.reply.Card.{Card};
 ghost use Rattle.xbar_office.specs.declared.reply.End.TheVariants.{Released};
 ghost use Rattle.xbar_office.specs.declared.reply.Record.{Record};
 ghost use Rattle.xbar_jobs.specs.Attempt.{Attempt};
-ghost use Rattle.xbar_core.specs.Exchange.{Exchange};
-ghost use Rattle.xbar_core.specs.Holding.{AsksFor, HasRequested, Holds, IsAt};
-ghost use Rattle.xbar_core.specs.Links.{BelongsTo, IsAtLink, IsClosed, OpensItsOwn};
-ghost use Rattle.xbar_core.specs.Moves.{given_by};
+ghost use Rattle.xbar_moves.specs.Exchange.{Exchange};
+ghost use Rattle.xbar_moves.specs.Holding.{AsksFor, HasRequested, Holds, IsAt};
+ghost use Rattle.xbar_moves.specs.Links.{BelongsTo, IsAtLink, IsClosed, OpensItsOwn};
+ghost use Rattle.xbar_moves.specs.Moves.{given_by};
 ghost use Rattle.xbar_fabric.specs.Advances.{MarkerHasAdvanced, MarkerHasGivenBack, MarkerHasStepped};
 ghost use Rattle.xbar_fabric.specs.Between.{IsOfficeOn, Keeps, Known};
 ghost use Rattle.xbar_fabric.specs.Histories.{IsHistory, job_at, turned_of};
 ghost use Rattle.xbar_fabric.specs.Views.{DeskView, mine};
 
 use turns::Phase;
-use xbar_core::{Event, Given};
+use xbar_moves::{Event, Given};
 
 /// Whatever the table of shared words keeps between any two steps, there is an office with these
-/// words. In each office with these words, also amid jobs, each closed crosspoint belongs to a
-/// path, all closed crosspoints at one link belong to one path, and a marker past its turn that
-/// releases a call has left to open only what its reply names.
+/// words. In each office with these words, also with jobs under way, each closed crosspoint belongs
+/// to a path, all closed crosspoints at one link belong to one path, and a marker past its turn
+/// that releases a call has left to open only what its reply names.
 pub fn between_steps_there_is_an_office()
     ensures office { (plan : Tables) (count : ℕ) (words : List ℕ) (known : List (Known plan)) →
         Keeps plan count words known → (e : Exchange) × IsOfficeOn plan count words e }
@@ -50,8 +50,8 @@ pub fn between_steps_there_is_an_office()
         a.reply ≡ Some (record { end = Released own other; cards = cards }) →
         OpensItsOwn plan own other words a.effects }
 {
-    xbar_core::laws::no_link_carries_two_calls();
-    xbar_core::laws::a_release_opens_its_own_crosspoints();
+    xbar_moves::laws::no_link_carries_two_calls();
+    xbar_moves::laws::a_release_opens_its_own_crosspoints();
 }
 
 /// What an answer says is true in the office in which the step was made. If a desk is refused a
@@ -71,7 +71,7 @@ pub fn steps_tell_the_truth()
         → AsksFor step.office before.marker conn → (j : ℕ) → j < other
         → ¬ HasRequested step.office j conn }
 {
-    xbar_core::laws::events_tell_the_truth();
+    xbar_moves::laws::events_tell_the_truth();
 }
 
 /// A desk's own records are those of its earlier jobs, and then that of its job, once it has taken

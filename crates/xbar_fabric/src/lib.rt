@@ -6,8 +6,8 @@ pub use desks::Watch;
 pub use fabric::Fabric;
 pub use meeting::meet;
 pub use shutting::{ShutAllFault, ShutFault, shut, shut_all};
-pub use xbar_core::{AssignFault, Event as Progress, Given, Kind, OpenFault};
 pub use xbar_jobs::Answer;
+pub use xbar_moves::{AssignFault, Event as Progress, Given, Kind, OpenFault};
 
 mod advancing;
 mod desk;

@@ -17,7 +17,7 @@ pub type Office = Attempts<SharedOffices, 42, 19>;
 
 type Decision = <Offices as Scripts<42, 19>>::Decision;
 
-type Way = <Offices as Scripts<42, 19>>::ResumePoint;
+type WalkProgress = <Offices as Scripts<42, 19>>::ResumePoint;
 
 impl Scripts<42, 19> for SharedOffices {
     ghost use Rattle.attempts.specs.SystemWith.{without_decisions};
@@ -39,7 +39,7 @@ impl Scripts<42, 19> for SharedOffices {
 
     type Decision = Decision;
 
-    type ResumePoint = Way;
+    type ResumePoint = WalkProgress;
 
     ghost system = { λ plan. without_decisions (office_over plan) };
 
@@ -49,34 +49,34 @@ impl Scripts<42, 19> for SharedOffices {
 
     ghost IsSetting = { IsLawful };
 
-    ghost ResumePointIsValid = { λ _ job way seen. ResumePointIsValid (job_line job) way seen };
+    ghost ResumePointIsValid = { λ _ job point seen. ResumePointIsValid (job_line job) point seen };
 
     fn first(job: &Job) -> Conn {
         Offices::first(job)
     }
 
-    fn start(job: &Job) -> Way {
+    fn start(job: &Job) -> WalkProgress {
         Offices::start(job)
     }
 
     fn walk(
         plan: &Plan,
         job: &Job,
-        way: &mut Way,
+        point: &mut WalkProgress,
         seen: &mut Seen<Conn, 42, 19>,
         words: &mut [u64],
     ) -> Result<Decision, Wanted<Conn, usize>> {
-        Offices::walk(plan, job, way, seen, words)
+        Offices::walk(plan, job, point, seen, words)
     }
 
     fn following(
         plan: &Plan,
         job: &Job,
-        way: &Way,
+        point: &WalkProgress,
         seen: &Seen<Conn, 42, 19>,
         word: usize,
     ) -> Option<usize> {
-        Offices::following(plan, job, way, seen, word)
+        Offices::following(plan, job, point, seen, word)
     }
 
     fn reply(decision: &Decision) -> Reply {

@@ -15,9 +15,9 @@ pub struct ShutFault<'p> {
     pub desk: Desk,
 }
 
-/// Shuts the shared words with one of their desks, which may be amid a job like the others, and
-/// returns all 453, each at the index of its number. They are the words of an office, as at every
-/// moment.
+/// Shuts the shared words with one of their desks, whose jobs may be under way, like the others',
+/// and returns all 453, each at the index of its number. They are the words of an office, as at
+/// every moment.
 pub fn shut<'p>(alloc: Global, fabric: Fabric<'p>, desk: Desk) -> Result<Vec<u64>, ShutFault<'p>>
     requires { IsDeskOf desk fabric }
     ensures { MatchResult result

@@ -31,8 +31,8 @@ use Rattle.xbar_jobs.specs.Tracing.{HasTraced, ResumePointIsValid, approach, cha
 use Rattle.xbar_jobs.specs.declared.decision.Decision.{Decision}
 use Rattle.xbar_jobs.specs.declared.leave.Leave.{Leave}
 use Rattle.xbar_jobs.specs.declared.party.Party.{Party}
-use Rattle.xbar_jobs.specs.declared.way.Way.{Way}
-use Rattle.xbar_jobs.specs.declared.way.Way.TheVariants.{Begun, Approached, Traced}
+use Rattle.xbar_jobs.specs.declared.walk_progress.WalkProgress.{WalkProgress}
+use Rattle.xbar_jobs.specs.declared.walk_progress.WalkProgress.TheVariants.{Begun, Approached, Traced}
 use Rattle.xbar_jobs.proofs.Items.{if_found}
 use Rattle.xbar_jobs.proofs.JunctorRows.{BeginsWith, KeepsRows, connect_rows, dial_rows, row_goes_on, rows_bind}
 
@@ -83,7 +83,7 @@ still_traced line calling own seen more extends has = record {
   traced = gone_through conn_eq seen more (trace calling) own extends has.traced;
 }
 
-pub known_on : (line : Line) (way : Way) (seen more : Seen) → Extends conn_eq seen more → ResumePointIsValid line way seen → ResumePointIsValid line way more
+pub known_on : (line : Line) (point : WalkProgress) (seen more : Seen) → Extends conn_eq seen more → ResumePointIsValid line point seen → ResumePointIsValid line point more
 known_on line Begun seen more extends valid_point = tt
 known_on line (Approached calling) seen more extends valid_point = gone_through conn_eq seen more (approach line) calling extends valid_point
 known_on line (Traced calling own) seen more extends valid_point = still_traced line calling own seen more extends valid_point
@@ -144,15 +144,15 @@ not_some None e = refl
 not_some (Some n) e = absurd cc
 
 -- a job that tests its rows in order goes on in a row, whatever a line junctor switch shows
-goes_in_row : (plan : Tables) (laws : IsLawful plan) (seen : Seen) (job : Job) (way : Way) (word next : ℕ) → IsJob job → TestsRows job way → ResumePointIsValid (job_line job) way seen → IsNextJunctor word next → value_read seen.readings next ≡ None → walk seen (script plan job) ≡ Err (Test word) → GoesOnTo conn_eq seen (script plan job) word next
+goes_in_row : (plan : Tables) (laws : IsLawful plan) (seen : Seen) (job : Job) (point : WalkProgress) (word next : ℕ) → IsJob job → TestsRows job point → ResumePointIsValid (job_line job) point seen → IsNextJunctor word next → value_read seen.readings next ≡ None → walk seen (script plan job) ≡ Err (Test word) → GoesOnTo conn_eq seen (script plan job) word next
 unfolding script
-goes_in_row plan laws seen (Dial line) way word next range rows valid_point is unread wants = row_goes_on seen word next _ (dial_rows plan line range) is unread wants
+goes_in_row plan laws seen (Dial line) point word next range rows valid_point is unread wants = row_goes_on seen word next _ (dial_rows plan line range) is unread wants
 goes_in_row plan laws seen (Complete line dialled) Begun word next range rows valid_point is unread wants = absurd rows
 goes_in_row plan laws seen (Complete line dialled) (Approached calling) word next range rows valid_point is unread wants = absurd rows
 goes_in_row plan laws seen (Complete line dialled) (Traced calling own) word next range rows valid_point is unread wants = traced_goes_on plan laws seen line dialled word next calling own is unread valid_point wants
-goes_in_row plan laws seen (Release line) way word next range rows valid_point is unread wants = absurd rows
+goes_in_row plan laws seen (Release line) point word next range rows valid_point is unread wants = absurd rows
 
 -- the job goes on to the word that was found, if one was
-pub row_found : (plan : Tables) (laws : IsLawful plan) (seen : Seen) (job : Job) (way : Way) (word : ℕ) (found : Option ℕ) → IsJob job → TestsRows job way → ResumePointIsValid (job_line job) way seen → walk seen (script plan job) ≡ Err (Test word) → IfSome found (λ next. IsNextJunctor word next) → IfSome found (λ next. value_read seen.readings next ≡ None) → IfSome found (GoesOnTo conn_eq seen (script plan job) word)
-row_found plan laws seen job way word None range rows valid_point wants is unread = tt
-row_found plan laws seen job way word (Some next) range rows valid_point wants is unread = goes_in_row plan laws seen job way word next range rows valid_point is unread wants
+pub row_found : (plan : Tables) (laws : IsLawful plan) (seen : Seen) (job : Job) (point : WalkProgress) (word : ℕ) (found : Option ℕ) → IsJob job → TestsRows job point → ResumePointIsValid (job_line job) point seen → walk seen (script plan job) ≡ Err (Test word) → IfSome found (λ next. IsNextJunctor word next) → IfSome found (λ next. value_read seen.readings next ≡ None) → IfSome found (GoesOnTo conn_eq seen (script plan job) word)
+row_found plan laws seen job point word None range rows valid_point wants is unread = tt
+row_found plan laws seen job point word (Some next) range rows valid_point wants is unread = goes_in_row plan laws seen job point word next range rows valid_point is unread wants

@@ -21,21 +21,21 @@ module _ (plan : Tables) (calling : Party) (dialled : ℕ) (leave : Leave) where
   abbrev pub later : Script Decision
   later = call plan (party_after (leave_effects leave) calling) dialled (route_of plan (code_of dialled))
 
-  as_later : (course : WalkState) (words : List ℕ) → walk_on_words [] (as_if_made (leave_effects leave) later) course words ≡ walk_on_words (leave_effects leave) later course words
-  as_later course words = sym (live_read_with conn_eq conn_word 42 19 (value_after (leave_effects leave)) later course words)
+  as_later : (state : WalkState) (words : List ℕ) → walk_on_words [] (as_if_made (leave_effects leave) later) state words ≡ walk_on_words (leave_effects leave) later state words
+  as_later state words = sym (live_read_with conn_eq conn_word 42 19 (value_after (leave_effects leave)) later state words)
 
-  module _ (course more last : WalkState) (words after now : List ℕ) (held : ⊤) (own : walk_on_words [] (seize (Group leave.group)) course words ≡ comes (Ok held) more after) where
+  module _ (state more last : WalkState) (words after now : List ℕ) (held : ⊤) (own : walk_on_words [] (seize (Group leave.group)) state words ≡ comes (Ok held) more after) where
     -- the register is let go once it is decided
-    pub call_decides : (decision : Decision) → walk_on_words (leave_effects leave) later more after ≡ comes (Ok decision) last now → walk_on_words [] (call_without plan calling dialled leave) course words ≡ comes (Ok (leaving leave decision)) last now
+    pub call_decides : (decision : Decision) → walk_on_words (leave_effects leave) later more after ≡ comes (Ok decision) last now → walk_on_words [] (call_without plan calling dialled leave) state words ≡ comes (Ok (leaving leave decision)) last now
     unfolding call_without
     call_decides decision decides =
-        goes_on [] (seize (Group leave.group)) _ course more words after held own
+        goes_on [] (seize (Group leave.group)) _ state more words after held own
         ∙ goes_on [] (as_if_made (leave_effects leave) later) _ more last after now decision (as_later more after ∙ decides)
         ∙ live_end conn_eq conn_word 42 19 (value_after []) (leaving leave decision) last now
 
     -- what the call needs next, the walk needs next
-    pub call_stops : (wanted : Wanted) → walk_on_words (leave_effects leave) later more after ≡ comes (Err wanted) last now → walk_on_words [] (call_without plan calling dialled leave) course words ≡ comes (Err wanted) last now
+    pub call_stops : (wanted : Wanted) → walk_on_words (leave_effects leave) later more after ≡ comes (Err wanted) last now → walk_on_words [] (call_without plan calling dialled leave) state words ≡ comes (Err wanted) last now
     unfolding call_without
     call_stops wanted wants =
-        goes_on [] (seize (Group leave.group)) _ course more words after held own
+        goes_on [] (seize (Group leave.group)) _ state more words after held own
         ∙ stops [] (as_if_made (leave_effects leave) later) _ more last after now wanted (as_later more after ∙ wants)

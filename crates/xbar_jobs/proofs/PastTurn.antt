@@ -26,7 +26,7 @@ use Rattle.xbar_jobs.specs.Running.{MadeOnePastTurn, RunsOut}
 use Rattle.xbar_jobs.specs.Script.{Seen}
 use Rattle.xbar_jobs.specs.Standing.{Doing, IsAttempt, IsValid, attempt_at}
 use Rattle.xbar_jobs.specs.declared.effect.Effect.{Effect}
-use Rattle.xbar_jobs.specs.declared.way.Way.{Way}
+use Rattle.xbar_jobs.specs.declared.walk_progress.WalkProgress.{WalkProgress}
 use Rattle.xbar_jobs.proofs.AttemptStands.{stands_after}
 use Rattle.xbar_jobs.proofs.Programs.{is_attempt}
 use Rattle.xbar_jobs.proofs.StepActs.{act_operation, act_word}
@@ -41,9 +41,9 @@ turned_at Turns past = absurd cc
 turned_at (Withdraws conn) past = absurd cc
 turned_at GivesBack past = absurd cc
 
--- what its way says matters no more
-pub knows_past : (ResumePointIsValid : Job → Way → Seen → Type 0) (a : Attempt) (way : Way) (phase : Phase) → is_some (turn_in phase) ≡ true → ResumePointIsValidIn ResumePointIsValid a way phase
-knows_past ResumePointIsValid a way phase past = subst (λ (phase : Phase). ResumePointIsValidIn ResumePointIsValid a way phase) (sym (turned_at phase past).1) tt
+-- its resume point matters no more
+pub knows_past : (ResumePointIsValid : Job → WalkProgress → Seen → Type 0) (a : Attempt) (point : WalkProgress) (phase : Phase) → is_some (turn_in phase) ≡ true → ResumePointIsValidIn ResumePointIsValid a point phase
+knows_past ResumePointIsValid a point phase past = subst (λ (phase : Phase). ResumePointIsValidIn ResumePointIsValid a point phase) (sym (turned_at phase past).1) tt
 
 -- one step more is counted
 count_more : (done count : ℕ) → counted_by 1 (counted_by done count) ≡ counted_by (done + 1) count

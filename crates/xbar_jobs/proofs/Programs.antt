@@ -33,7 +33,7 @@ use Rattle.xbar_jobs.specs.Turning.{DoesAsOffice, IsAct, IsStep}
 use Rattle.xbar_jobs.specs.declared.decision.Decision.{Decision}
 use Rattle.xbar_jobs.specs.declared.effect.Effect.{Effect}
 use Rattle.xbar_jobs.specs.declared.effect.Effect.TheVariants.{Close, Open, SetBit, ClearBit}
-use Rattle.xbar_jobs.specs.declared.way.Way.{Way}
+use Rattle.xbar_jobs.specs.declared.walk_progress.WalkProgress.{WalkProgress}
 use Rattle.xbar_jobs.proofs.AttemptStands.{stands_after, stands_led}
 use Rattle.xbar_jobs.proofs.CompletingRows.{known_on}
 use Rattle.xbar_jobs.proofs.JobBounds.{jobs_bounded}
@@ -152,15 +152,15 @@ attempt_restarted_in plan a (Operates turn) at is = is
 pub attempt_restarted : (plan : Tables) (a new : Attempt) → IsAttempt a → new ≡ restarted (office plan) a → IsAttempt new
 attempt_restarted plan a new is made = subst IsAttempt (sym made) (attempt_restarted_in plan a a.phase refl is)
 
-abbrev KnowsHere : Job → Way → Seen → Type 0
-KnowsHere job way seen = ResumePointIsValid (job_line job) way seen
+abbrev KnowsHere : Job → WalkProgress → Seen → Type 0
+KnowsHere job point seen = ResumePointIsValid (job_line job) point seen
 
 -- the jobs are scripts
 pub scripts_are : (plan : Tables) → IsLawful plan → AreScripts conn_eq reply_of effects_of (without_decisions (office_over plan)) KnowsHere most_readings most_seizings
 scripts_are plan laws = record {
   is_system = office_is plan laws;
   asks = (jobs_bounded plan laws).asks;
-  stays_valid = λ job way seen more extends valid_point. known_on (job_line job) way seen more extends valid_point;
+  stays_valid = λ job point seen more extends valid_point. known_on (job_line job) point seen more extends valid_point;
 }
 
 pub stands_here : (plan : Tables) (p : Doing) → IsValid plan (attempt_at p) → ResumePointIsValidIn KnowsHere (attempt_at p) p.point p.phase → standing.IsValid conn_eq reply_of effects_of (without_decisions (office_over plan)) KnowsHere most_readings most_seizings p

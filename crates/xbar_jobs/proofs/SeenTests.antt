@@ -9,7 +9,7 @@ use Rattle.xbar_jobs.specs.Script.{WalkOutcome, WalkState, Wanted, conn_word, wa
 use Rattle.xbar_jobs.specs.declared.effect.Effect.{Effect}
 
 -- a word is seen as effects will leave what is read in it
-pub value_seen : (made : List Effect) (word : ℕ) (course more : WalkState) (words after : List ℕ) (found : Result ℕ Wanted) → record { found = found; course = more; words = after } ≡ walk_on_words [] (TestThen word Ends) course words → then_on conn_eq conn_word 42 19 (value_after made) (record { found = found; course = more; words = after }) (λ value course words. record { found = Ok (value_after made word value); course = course; words = words }) ≡ walk_on_words made (TestThen word Ends) course words
-value_seen made word course more words after found is =
-    ap (λ (comes : WalkOutcome ℕ). then_on conn_eq conn_word 42 19 (value_after made) comes (λ value course words. record { found = Ok (value_after made word value); course = course; words = words })) is
-    ∙ sym (live_test_with conn_eq conn_word 42 19 (value_after made) word course words)
+pub value_seen : (made : List Effect) (word : ℕ) (state more : WalkState) (words after : List ℕ) (found : Result ℕ Wanted) → record { found = found; state = more; words = after } ≡ walk_on_words [] (TestThen word Ends) state words → then_on conn_eq conn_word 42 19 (value_after made) (record { found = found; state = more; words = after }) (λ value state words. record { found = Ok (value_after made word value); state = state; words = words }) ≡ walk_on_words made (TestThen word Ends) state words
+value_seen made word state more words after found is =
+    ap (λ (comes : WalkOutcome ℕ). then_on conn_eq conn_word 42 19 (value_after made) comes (λ value state words. record { found = Ok (value_after made word value); state = state; words = words })) is
+    ∙ sym (live_test_with conn_eq conn_word 42 19 (value_after made) word state words)

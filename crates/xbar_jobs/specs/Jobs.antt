@@ -16,8 +16,8 @@ use Rattle.xbar_jobs.specs.Script.{Script}
 use Rattle.xbar_jobs.specs.Tracing.{approach, channel_of}
 use Rattle.xbar_jobs.specs.declared.decision.Decision.{Decision}
 use Rattle.xbar_jobs.specs.declared.party.Party.{Party}
-use Rattle.xbar_jobs.specs.declared.way.Way.{Way}
-use Rattle.xbar_jobs.specs.declared.way.Way.TheVariants.{Begun, Approached, Traced}
+use Rattle.xbar_jobs.specs.declared.walk_progress.WalkProgress.{WalkProgress}
+use Rattle.xbar_jobs.specs.declared.walk_progress.WalkProgress.TheVariants.{Begun, Approached, Traced}
 
 -- a line that has a path is busy; any other is joined to a register
 unfoldable pub serve_idle_line : Tables → Party → Option ℕ → Script Decision
@@ -48,9 +48,9 @@ script plan (Release line) = release_steps plan line
 
 -- from this resume point on, a job tests line junctor switches only in whole rows: a dial tone job
 -- always, a completing one once the line's own path was traced
-abbrev pub TestsRows : Job → Way → Type 0
-TestsRows (Dial line) way = ⊤
+abbrev pub TestsRows : Job → WalkProgress → Type 0
+TestsRows (Dial line) point = ⊤
 TestsRows (Complete line dialled) Begun = ⊥
 TestsRows (Complete line dialled) (Approached calling) = ⊥
 TestsRows (Complete line dialled) (Traced calling own) = ⊤
-TestsRows (Release line) way = ⊥
+TestsRows (Release line) point = ⊥

@@ -47,8 +47,8 @@ conn_word conn = word_number (ConnWord conn)
 -- leave it
 abbrev pub walk_on_words : {A : Type 0} → List Effect → Script A → WalkState → List ℕ
     → WalkOutcome A
-walk_on_words made script course words =
-    live_by.walk_on_words conn_eq conn_word 42 19 (value_after made) script course words
+walk_on_words made script state words =
+    live_by.walk_on_words conn_eq conn_word 42 19 (value_after made) script state words
 
 -- a script that takes words as effects will leave them
 abbrev pub as_if_made : {A : Type 0} → List Effect → Script A → Script A

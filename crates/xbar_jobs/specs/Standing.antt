@@ -22,7 +22,7 @@ use Rattle.xbar_jobs.specs.Tracing.{ResumePointIsValid}
 use Rattle.xbar_jobs.specs.Turning.{IsStep}
 use Rattle.xbar_jobs.specs.declared.decision.Decision.{Decision}
 use Rattle.xbar_jobs.specs.declared.step.Step.{Step}
-use Rattle.xbar_jobs.specs.declared.way.Way.{Way}
+use Rattle.xbar_jobs.specs.declared.walk_progress.WalkProgress.{WalkProgress}
 
 -- the most words that an attempt ever reads
 abbrev pub most_readings : ℕ
@@ -114,7 +114,7 @@ pub record IsValid (plan : Tables) (a : Attempt) : Type 0 where
 
 -- the run-time form of an attempt, with its decision and its resume point
 abbrev pub Doing : Type 0
-Doing = standing.AttemptView Conn Job Decision Way
+Doing = standing.AttemptView Conn Job Decision WalkProgress
 
 -- the reply of a decision
 abbrev pub reply_of : Decision → Reply
@@ -130,5 +130,5 @@ pub record IsProgram (p : Doing) (next : Step) : Type 0 where
   pub attempt : IsAttempt (attempt_at p)
   pub next_is : IsNextStep (attempt_at p) next
   pub valid_point : standing.ResumePointIsValidIn
-      (λ job way seen. ResumePointIsValid (job_line job) way seen) (attempt_at p)
+      (λ job point seen. ResumePointIsValid (job_line job) point seen) (attempt_at p)
       p.point p.phase

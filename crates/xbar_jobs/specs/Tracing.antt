@@ -10,8 +10,8 @@ use Rattle.xbar_match.specs.Traces.{field_at_place, place_at_field}
 use Rattle.turns.specs.Script.{Ends, ◌>>=◌, ◌>>◌, seize}
 use Rattle.xbar_jobs.specs.Script.{Script, Seen, test, walk}
 use Rattle.xbar_jobs.specs.declared.party.Party.{Party}
-use Rattle.xbar_jobs.specs.declared.way.Way.{Way}
-use Rattle.xbar_jobs.specs.declared.way.Way.TheVariants.{Begun, Approached, Traced}
+use Rattle.xbar_jobs.specs.declared.walk_progress.WalkProgress.{WalkProgress}
+use Rattle.xbar_jobs.specs.declared.walk_progress.WalkProgress.TheVariants.{Begun, Approached, Traced}
 
 -- approach a line: seize its frame and test its line switch
 unfoldable pub approach : Line → Script Party
@@ -61,7 +61,7 @@ pub record HasTraced (line : Line) (calling : Party) (own : Option Path) (seen :
 
 -- a resume point is valid: what it says of the line and its path is what a walk finds in what was
 -- seen
-abbrev pub ResumePointIsValid : Line → Way → Seen → Type 0
+abbrev pub ResumePointIsValid : Line → WalkProgress → Seen → Type 0
 ResumePointIsValid line Begun seen = ⊤
 ResumePointIsValid line (Approached calling) seen = walk seen (approach line) ≡ Ok calling
 ResumePointIsValid line (Traced calling own) seen = HasTraced line calling own seen

@@ -18,7 +18,7 @@ use crate::leave::Leave;
 use crate::party::{CallParties, Party};
 use crate::seen::require_held;
 use crate::tracing::approach;
-use crate::way::Way;
+use crate::walk_progress::WalkProgress;
 use xbar_equip::{Conn, Dialled, DirNo, Len, Path};
 use xbar_office::{Aim, End, leads_inside};
 use xbar_plan::{MemberPlace, Plan};
@@ -34,7 +34,7 @@ fn hunt(
     lines: &[Len],
 ) -> Result<Option<Party>, Wanted>
     requires made { AreEffects made.now }
-    ensures { record { found = result; course = seen.new; words = words.new }
+    ensures { record { found = result; state = seen.new; words = words.new }
         ≡ walk_on_words made.now (hunt_script calling lines.now) seen.old words.old }
 {
     for line in lines {
@@ -62,7 +62,7 @@ fn call_number(
 ) -> Result<Decision, Wanted>
     requires made { AreEffects made.now }
     requires groups { AreGroups plan.now groups.now }
-    ensures { record { found = result; course = seen.new; words = words.new }
+    ensures { record { found = result; state = seen.new; words = words.new }
         ≡ walk_on_words made.now
         (call_number_script plan.now calling.now groups.now (lines_of plan.now number))
         seen.old words.old }
@@ -92,7 +92,7 @@ fn call(
     dialled: Dialled,
 ) -> Result<Decision, Wanted>
     requires made { AreEffects made.now }
-    ensures { record { found = result; course = seen.new; words = words.new }
+    ensures { record { found = result; state = seen.new; words = words.new }
         ≡ walk_on_words made.now
         (call_script plan.now calling.now dialled (route_of plan.now (code_of dialled)))
         seen.old words.old }
@@ -123,7 +123,7 @@ fn call_without(
 ) -> Result<Decision, Wanted>
     requires group { leave.group < 16 }
     requires index { leave.index < 40 }
-    ensures { record { found = result; course = seen.new; words = words.new }
+    ensures { record { found = result; state = seen.new; words = words.new }
         ≡ walk_on_words []
         (call_without_script plan.now calling.now dialled leave) seen.old words.old }
 {
@@ -160,15 +160,15 @@ pub fn complete(
     words: &mut [u64],
     line: Len,
     dialled: Dialled,
-    way: &mut Way,
+    point: &mut WalkProgress,
 ) -> Result<Decision, Wanted>
-    requires { ResumePointIsValid line way.old seen.old.seen }
-    ensures walk { record { found = result; course = seen.new; words = words.new }
+    requires { ResumePointIsValid line point.old seen.old.seen }
+    ensures walk { record { found = result; state = seen.new; words = words.new }
         ≡ walk_on_words [] (complete_steps plan.now line dialled) seen.old words.old }
-    ensures valid_point { ResumePointIsValid line way.new seen.new.seen }
+    ensures valid_point { ResumePointIsValid line point.new seen.new.seen }
 {
-    let calling = way.approach(seen, words, line)?;
-    let Some(own) = way.trace(seen, words, line, &calling)? else {
+    let calling = point.approach(seen, words, line)?;
+    let Some(own) = point.trace(seen, words, line, &calling)? else {
         return Ok(Decision::refused(End::NoRegister));
     };
     let Some(found) = register_at(plan, &own) else {

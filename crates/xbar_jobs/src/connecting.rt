@@ -38,7 +38,7 @@ pub fn connect(
 ) -> Result<Decision, Wanted>
     requires made { AreEffects made.now }
     requires groups { AreGroups plan.now groups.now }
-    ensures { record { found = result; course = seen.new; words = words.new }
+    ensures { record { found = result; state = seen.new; words = words.new }
         ≡ walk_on_words made.now
         (connect_script plan.now aim parties.now groups.now) seen.old words.old }
 {

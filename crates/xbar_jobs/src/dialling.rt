@@ -9,7 +9,7 @@ use crate::connecting::connect;
 use crate::decision::Decision;
 use crate::kinds::{Seen, Wanted};
 use crate::party::CallParties;
-use crate::way::Way;
+use crate::walk_progress::WalkProgress;
 use xbar_equip::Len;
 use xbar_office::{Aim, End};
 use xbar_plan::Plan;
@@ -23,14 +23,14 @@ pub fn dial(
     seen: &mut Seen,
     words: &mut [u64],
     line: Len,
-    way: &mut Way,
+    point: &mut WalkProgress,
 ) -> Result<Decision, Wanted>
-    requires { ResumePointIsValid line way.old seen.old.seen }
-    ensures walk { record { found = result; course = seen.new; words = words.new }
+    requires { ResumePointIsValid line point.old seen.old.seen }
+    ensures walk { record { found = result; state = seen.new; words = words.new }
         ≡ walk_on_words [] (dial_steps plan.now line) seen.old words.old }
-    ensures valid_point { ResumePointIsValid line way.new seen.new.seen }
+    ensures valid_point { ResumePointIsValid line point.new seen.new.seen }
 {
-    let calling = way.approach(seen, words, line)?;
+    let calling = point.approach(seen, words, line)?;
     if calling.channel().is_some() {
         return Ok(Decision::refused(End::LineBusy));
     }

@@ -34,4 +34,4 @@ mod trials;
 mod trunk;
 mod trunks;
 mod walk;
-mod way;
+mod walk_progress;

@@ -2,7 +2,7 @@ use crate::decided::Decided;
 use crate::kinds::{Seen, Wanted};
 use crate::office_effect::OfficeEffect;
 use crate::walk::{first_conn, next_in_row, walk};
-use crate::way::Way;
+use crate::walk_progress::WalkProgress;
 use attempts::Scripts;
 use turns::laws::Family;
 use xbar_equip::Conn;
@@ -41,7 +41,7 @@ impl Scripts<42, 19> for Offices {
 
     type Decision = Decided;
 
-    type ResumePoint = Way;
+    type ResumePoint = WalkProgress;
 
     ghost system = { λ plan. without_decisions (office_over plan) };
 
@@ -51,28 +51,34 @@ impl Scripts<42, 19> for Offices {
 
     ghost IsSetting = { IsLawful };
 
-    ghost ResumePointIsValid = { λ _ job way seen. ResumePointIsValid (job_line job) way seen };
+    ghost ResumePointIsValid = { λ _ job point seen. ResumePointIsValid (job_line job) point seen };
 
     fn first(job: &Job) -> Conn {
         first_conn(job)
     }
 
-    fn start(_job: &Job) -> Way {
-        Way::Begun
+    fn start(_job: &Job) -> WalkProgress {
+        WalkProgress::Begun
     }
 
     fn walk(
         plan: &Plan,
         job: &Job,
-        way: &mut Way,
+        point: &mut WalkProgress,
         seen: &mut Seen,
         words: &mut [u64],
     ) -> Result<Decided, Wanted> {
-        walk(plan, seen, words, job, way)
+        walk(plan, seen, words, job, point)
     }
 
-    fn following(plan: &Plan, job: &Job, way: &Way, seen: &Seen, word: usize) -> Option<usize> {
-        next_in_row(plan, seen, job, way, word)
+    fn following(
+        plan: &Plan,
+        job: &Job,
+        point: &WalkProgress,
+        seen: &Seen,
+        word: usize,
+    ) -> Option<usize> {
+        next_in_row(plan, seen, job, point, word)
     }
 
     fn reply(decision: &Decided) -> Reply {

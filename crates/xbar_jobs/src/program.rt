@@ -58,14 +58,14 @@ fn effects_are(attempt: &AttemptOf<Offices, 42, 19>)
 fn may_go_on(attempt: &AttemptOf<Offices, 42, 19>, plan: &Plan)
     requires valid { IsValid plan.now (attempt_at attempt.now) }
     requires valid_point { ResumePointIsValidIn
-        (λ job way seen. ResumePointIsValid (job_line job) way seen)
+        (λ job point seen. ResumePointIsValid (job_line job) point seen)
         (attempt_at attempt.now) attempt.now.point attempt.now.phase }
     ensures lawful { IsLawful plan.now }
     ensures scripts { AreScripts conn_eq reply_of effects_of
         (without_decisions (office_over plan.now))
-        (λ job way seen. ResumePointIsValid (job_line job) way seen) most_readings most_seizings }
+        (λ job point seen. ResumePointIsValid (job_line job) point seen) most_readings most_seizings }
     ensures valid { IsValidAttempt conn_eq reply_of effects_of (without_decisions (office_over plan.now))
-        (λ job way seen. ResumePointIsValid (job_line job) way seen) most_readings most_seizings
+        (λ job point seen. ResumePointIsValid (job_line job) point seen) most_readings most_seizings
         attempt.now }
 {
     let _ = attempt;

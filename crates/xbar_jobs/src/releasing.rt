@@ -10,7 +10,7 @@ use crate::kinds::{Seen, Wanted};
 use crate::leave::Leave;
 use crate::seen::require_held;
 use crate::tracing::trace_back;
-use crate::way::Way;
+use crate::walk_progress::WalkProgress;
 use xbar_equip::{Conn, Len, Path, Ten};
 use xbar_office::End;
 use xbar_plan::Plan;
@@ -22,7 +22,7 @@ fn trace_other(
     words: &mut [u64],
     place: Option<Ten>,
 ) -> Result<Option<Path>, Wanted>
-    ensures { record { found = result; course = seen.new; words = words.new }
+    ensures { record { found = result; state = seen.new; words = words.new }
         ≡ walk_on_words [] (trace_other_script place) seen.old words.old }
 {
     match place {
@@ -40,7 +40,7 @@ fn release_from(
     words: &mut [u64],
     own: &Option<Path>,
 ) -> Result<Decision, Wanted>
-    ensures { record { found = result; course = seen.new; words = words.new }
+    ensures { record { found = result; state = seen.new; words = words.new }
         ≡ walk_on_words [] (release_from_script plan.now own.now) seen.old words.old }
 {
     let Some(own) = own else {
@@ -65,14 +65,14 @@ pub fn release(
     seen: &mut Seen,
     words: &mut [u64],
     line: Len,
-    way: &mut Way,
+    point: &mut WalkProgress,
 ) -> Result<Decision, Wanted>
-    requires { ResumePointIsValid line way.old seen.old.seen }
-    ensures walk { record { found = result; course = seen.new; words = words.new }
+    requires { ResumePointIsValid line point.old seen.old.seen }
+    ensures walk { record { found = result; state = seen.new; words = words.new }
         ≡ walk_on_words [] (release_steps plan.now line) seen.old words.old }
-    ensures valid_point { ResumePointIsValid line way.new seen.new.seen }
+    ensures valid_point { ResumePointIsValid line point.new seen.new.seen }
 {
-    let calling = way.approach(seen, words, line)?;
-    let own = way.trace(seen, words, line, &calling)?;
+    let calling = point.approach(seen, words, line)?;
+    let own = point.trace(seen, words, line, &calling)?;
     release_from(plan, seen, words, &own)
 }

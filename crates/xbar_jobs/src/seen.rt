@@ -17,7 +17,7 @@ use xbar_equip::{Conn, WordNo, conn_word};
 pub fn require_held(seen: &mut Seen, words: &mut [u64], conn: Conn) -> Result<(), Wanted>
     requires { IsConn conn }
     ensures { (made : List Effect) →
-        record { found = result; course = seen.new; words = words.new }
+        record { found = result; state = seen.new; words = words.new }
         ≡ walk_on_words made (seize_script conn) seen.old words.old }
 {
     seen.seize(conn, usize::from(conn_word(conn).number()), words)
@@ -25,7 +25,7 @@ pub fn require_held(seen: &mut Seen, words: &mut [u64], conn: Conn) -> Result<()
 
 /// Returns the word's value. If it wasn't read, and can't be read at once, the walk ends.
 pub fn read(seen: &mut Seen, words: &[u64], word: WordNo) -> Result<u64, Wanted>
-    ensures { record { found = result; course = seen.new; words = words.now }
+    ensures { record { found = result; state = seen.new; words = words.now }
         ≡ walk_on_words [] (TestThen word Ends) seen.old words.now }
 {
     seen.test(usize::from(word.number()), words)
@@ -40,7 +40,7 @@ pub fn value_of(
     word: WordNo,
 ) -> Result<u64, Wanted>
     requires { AreEffects made.now }
-    ensures { record { found = result; course = seen.new; words = words.now }
+    ensures { record { found = result; state = seen.new; words = words.now }
         ≡ walk_on_words made.now (TestThen word Ends) seen.old words.now }
 {
     match read(seen, words, word) {

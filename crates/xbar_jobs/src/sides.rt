@@ -57,7 +57,7 @@ fn test_junctors(
 ) -> Result<[u64; 10], Wanted>
     requires made { AreEffects made.now }
     requires frame { frame < 10 }
-    ensures { record { found = result; course = seen.new; words = words.now }
+    ensures { record { found = result; state = seen.new; words = words.now }
         ≡ walk_on_words made.now (junctors_script frame 0 10) seen.old words.now }
 {
     let mut row = [0; 10];
@@ -102,7 +102,7 @@ impl Side {
     #[tactic(auto, using(attempts::proofs::WalksOnWords::live_bind, attempts::proofs::WalksOnWords::live_end), unfolding(crate::specs::Sides::test_side))]
     fn test(seen: &mut Seen, words: &[u64], made: &[Effect], party: &Party) -> Result<Side, Wanted>
         requires made { AreEffects made.now }
-        ensures { record { found = result; course = seen.new; words = words.now }
+        ensures { record { found = result; state = seen.new; words = words.now }
             ≡ walk_on_words made.now (test_side_script party.now) seen.old words.now }
     {
         let junctors = test_junctors(seen, words, made, party.line.frame())?;
@@ -155,7 +155,7 @@ fn test_called(
     party: &Option<Party>,
 ) -> Result<Option<Side>, Wanted>
     requires made { AreEffects made.now }
-    ensures { record { found = result; course = seen.new; words = words.now }
+    ensures { record { found = result; state = seen.new; words = words.now }
         ≡ walk_on_words made.now (test_called_script party.now) seen.old words.now }
 {
     match party {
@@ -203,7 +203,7 @@ impl Sides {
         parties: &CallParties,
     ) -> Result<Sides, Wanted>
         requires made { AreEffects made.now }
-        ensures { record { found = result; course = seen.new; words = words.now }
+        ensures { record { found = result; state = seen.new; words = words.now }
             ≡ walk_on_words made.now (test_sides_script parties.now) seen.old words.now }
     {
         let calling = Side::test(seen, words, made, &parties.calling)?;

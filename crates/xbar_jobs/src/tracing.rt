@@ -25,7 +25,7 @@ pub fn approach(
     line: Len,
 ) -> Result<Party, Wanted>
     requires made { AreEffects made.now }
-    ensures { record { found = result; course = seen.new; words = words.new }
+    ensures { record { found = result; state = seen.new; words = words.new }
         ≡ walk_on_words made.now (approach_script line) seen.old words.old }
 {
     require_held(seen, words, Conn::Llf(line.frame()))?;
@@ -44,7 +44,7 @@ fn trace_to(
 ) -> Result<Option<Path>, Wanted>
     requires channel { channel < 10 }
     requires frame { IfSome frame (λ f. f < 10) }
-    ensures { record { found = result; course = seen.new; words = words.new }
+    ensures { record { found = result; state = seen.new; words = words.new }
         ≡ walk_on_words [] (trace_to_script line channel frame) seen.old words.old }
 {
     let Some(frame) = frame else {
@@ -70,7 +70,7 @@ fn trace_to(
 /// shows, counts as none.
 #[tactic(auto, using(attempts::proofs::WalksOnWords::live_bind, attempts::proofs::WalksOnWords::live_end), unfolding(crate::specs::Tracing::trace, crate::specs::Tracing::trace_by))]
 pub fn trace(seen: &mut Seen, words: &mut [u64], party: &Party) -> Result<Option<Path>, Wanted>
-    ensures { record { found = result; course = seen.new; words = words.new }
+    ensures { record { found = result; state = seen.new; words = words.new }
         ≡ walk_on_words [] (trace_script party.now) seen.old words.old }
 {
     let line = party.line;
@@ -92,7 +92,7 @@ fn trace_back_to(
 ) -> Result<Option<Path>, Wanted>
     requires channel { channel < 10 }
     requires frame { IfSome frame (λ f. f < 10) }
-    ensures { record { found = result; course = seen.new; words = words.new }
+    ensures { record { found = result; state = seen.new; words = words.new }
         ≡ walk_on_words [] (trace_back_to_script place channel frame) seen.old words.old }
 {
     let Some(frame) = frame else {
@@ -117,7 +117,7 @@ fn trace_back_to(
 /// Traces the path of a trunk place, whose frame is held, from switch to switch.
 #[tactic(auto, using(attempts::proofs::WalksOnWords::live_bind, attempts::proofs::WalksOnWords::live_end), unfolding(crate::specs::Tracing::trace_back, crate::specs::Tracing::trace_back_by))]
 pub fn trace_back(seen: &mut Seen, words: &mut [u64], place: Ten) -> Result<Option<Path>, Wanted>
-    ensures { record { found = result; course = seen.new; words = words.new }
+    ensures { record { found = result; state = seen.new; words = words.new }
         ≡ walk_on_words [] (trace_back_script place) seen.old words.old }
 {
     let word = read(seen, words, trunk_switch(place.frame(), place.switch()))?;

@@ -45,7 +45,7 @@ fn second_trial(
     requires made { AreEffects made.now }
     requires index { index < 40 }
     requires cards { length cards ≤ 1 }
-    ensures { record { found = result; course = seen.new; words = words.new }
+    ensures { record { found = result; state = seen.new; words = words.new }
         ≡ walk_on_words made.now (second_trial_steps plan.now sides.now cards index member.now)
         seen.old words.old }
 {
@@ -70,7 +70,7 @@ fn second_trial_at(
     requires index { index < length trunks.now.members }
     requires size { length trunks.now.members ≤ 40 }
     requires cards { length cards ≤ 1 }
-    ensures { record { found = result; course = seen.new; words = words.new }
+    ensures { record { found = result; state = seen.new; words = words.new }
         ≡ walk_on_words made.now (second_trial_at_script plan.now sides.now trunks.now cards index)
         seen.old words.old }
 {
@@ -93,7 +93,7 @@ fn after_first_trial(
     requires made { AreEffects made.now }
     requires index { first < length trunks.now.members }
     requires size { length trunks.now.members ≤ 40 }
-    ensures { record { found = result; course = seen.new; words = words.new }
+    ensures { record { found = result; state = seen.new; words = words.new }
         ≡ walk_on_words made.now (after_first_script plan.now sides.now trunks.now first end)
         seen.old words.old }
 {
@@ -121,7 +121,7 @@ fn first_trial(
     requires made { AreEffects made.now }
     requires index { first < length trunks.now.members }
     requires size { length trunks.now.members ≤ 40 }
-    ensures { record { found = result; course = seen.new; words = words.new }
+    ensures { record { found = result; state = seen.new; words = words.new }
         ≡ walk_on_words made.now
         (first_trial_steps plan.now parties.now trunks.now first member.now)
         seen.old words.old }
@@ -146,7 +146,7 @@ pub fn two_trials(
     requires made { AreEffects made.now }
     requires index { first < length trunks.now.members }
     requires size { length trunks.now.members ≤ 40 }
-    ensures { record { found = result; course = seen.new; words = words.new }
+    ensures { record { found = result; state = seen.new; words = words.new }
         ≡ walk_on_words made.now (two_trials_steps plan.now parties.now trunks.now first)
         seen.old words.old }
 {

@@ -50,7 +50,7 @@ fn test_place(
     place: Ten,
 ) -> Result<Reached, Wanted>
     requires made { AreEffects made.now }
-    ensures { record { found = result; course = seen.new; words = words.now }
+    ensures { record { found = result; state = seen.new; words = words.now }
         ≡ walk_on_words made.now (test_place_script place) seen.old words.now }
 {
     let word = value_of(
@@ -71,7 +71,7 @@ fn test_second(
     place: Option<Ten>,
 ) -> Result<Option<Reached>, Wanted>
     requires made { AreEffects made.now }
-    ensures { record { found = result; course = seen.new; words = words.now }
+    ensures { record { found = result; state = seen.new; words = words.now }
         ≡ walk_on_words made.now (test_second_script place) seen.old words.now }
 {
     match place {
@@ -90,7 +90,7 @@ pub fn reach(
     member: &Member,
 ) -> Result<Trunk, Wanted>
     requires made { AreEffects made.now }
-    ensures { record { found = result; course = seen.new; words = words.new }
+    ensures { record { found = result; state = seen.new; words = words.new }
         ≡ walk_on_words made.now (reach_script member.now) seen.old words.old }
 {
     require_held(seen, words, Conn::Tlf(member.first.frame()))?;

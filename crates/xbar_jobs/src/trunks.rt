@@ -99,7 +99,7 @@ pub fn find_trunk(
 ) -> Result<Option<IdleGroup>, Wanted>
     requires made { AreEffects made.now }
     requires groups { AreGroups plan.now groups.now }
-    ensures walk { record { found = result; course = seen.new; words = words.new }
+    ensures walk { record { found = result; state = seen.new; words = words.new }
         ≡ walk_on_words made.now (find_trunk_script plan.now groups.now) seen.old words.old }
     ensures range { IfOk result (λ found. IfSome found (λ idle. IsOfPlan plan.now idle)) }
 {

@@ -16,7 +16,7 @@ use crate::dialling::dial;
 use crate::kinds::{Seen, Wanted};
 use crate::releasing::release;
 use crate::sides::next_junctor;
-use crate::way::Way;
+use crate::walk_progress::WalkProgress;
 use xbar_equip::{Conn, Len};
 use xbar_office::Job;
 use xbar_plan::Plan;
@@ -45,17 +45,17 @@ fn follow(
     seen: &mut Seen,
     words: &mut [u64],
     job: &Job,
-    way: &mut Way,
+    point: &mut WalkProgress,
 ) -> Result<Decision, Wanted>
-    requires { ResumePointIsValid (job_line job.now) way.old seen.old.seen }
-    ensures walk { record { found = result; course = seen.new; words = words.new }
+    requires { ResumePointIsValid (job_line job.now) point.old seen.old.seen }
+    ensures walk { record { found = result; state = seen.new; words = words.new }
         ≡ walk_on_words [] (script plan.now job.now) seen.old words.old }
-    ensures valid_point { ResumePointIsValid (job_line job.now) way.new seen.new.seen }
+    ensures valid_point { ResumePointIsValid (job_line job.now) point.new seen.new.seen }
 {
     match job {
-        Job::Dial(line) => dial(plan, seen, words, *line, way),
-        Job::Complete(line, dialled) => complete(plan, seen, words, *line, *dialled, way),
-        Job::Release(line) => release(plan, seen, words, *line, way),
+        Job::Dial(line) => dial(plan, seen, words, *line, point),
+        Job::Complete(line, dialled) => complete(plan, seen, words, *line, *dialled, point),
+        Job::Release(line) => release(plan, seen, words, *line, point),
     }
 }
 
@@ -65,15 +65,15 @@ pub fn walk(
     seen: &mut Seen,
     words: &mut [u64],
     job: &Job,
-    way: &mut Way,
+    point: &mut WalkProgress,
 ) -> Result<Decided, Wanted>
     requires job { IsJob job.now }
-    requires valid_point { ResumePointIsValid (job_line job.now) way.old seen.old.seen }
-    ensures walk { record { found = result; course = seen.new; words = words.new }
+    requires valid_point { ResumePointIsValid (job_line job.now) point.old seen.old.seen }
+    ensures walk { record { found = result; state = seen.new; words = words.new }
         ≡ walk_on_words [] (script plan.now job.now) seen.old words.old }
-    ensures valid_point { ResumePointIsValid (job_line job.now) way.new seen.new.seen }
+    ensures valid_point { ResumePointIsValid (job_line job.now) point.new seen.new.seen }
 {
-    let decision = follow(plan, seen, words, job, way)?;
+    let decision = follow(plan, seen, words, job, point)?;
     // Called only for their contracts.
     xbar_plan::laws::every_plan_is_lawful(plan);
     seen.fits_words();
@@ -81,14 +81,14 @@ pub fn walk(
 }
 
 /// Whether the job, from here on, tests line junctor switches only in whole rows.
-fn tests_rows(job: &Job, way: &Way) -> bool
-    ensures { IsTrue result → TestsRows job.now way.now }
+fn tests_rows(job: &Job, point: &WalkProgress) -> bool
+    ensures { IsTrue result → TestsRows job.now point.now }
 {
     match job {
         Job::Dial(_) => true,
-        Job::Complete(_, _) => match way {
-            Way::Begun | Way::Approached { .. } => false,
-            Way::Traced { .. } => true,
+        Job::Complete(_, _) => match point {
+            WalkProgress::Begun | WalkProgress::Approached { .. } => false,
+            WalkProgress::Traced { .. } => true,
         },
         Job::Release(_) => false,
     }
@@ -110,15 +110,21 @@ fn unread_after(seen: &Seen, word: usize) -> Option<usize>
 /// The word that a job tests after the one that it needs next, if that is known without a walk.
 /// The ten line junctor switches of a frame are tested in order, whatever they show and whatever
 /// the plan is.
-pub fn next_in_row(plan: &Plan, seen: &Seen, job: &Job, way: &Way, word: usize) -> Option<usize>
+pub fn next_in_row(
+    plan: &Plan,
+    seen: &Seen,
+    job: &Job,
+    point: &WalkProgress,
+    word: usize,
+) -> Option<usize>
     requires job { IsJob job.now }
-    requires valid_point { ResumePointIsValid (job_line job.now) way.now seen.now.seen }
+    requires valid_point { ResumePointIsValid (job_line job.now) point.now seen.now.seen }
     requires wants { walk_of seen.now.seen (script plan.now job.now) ≡ Err (Test word) }
     ensures { IfSome result (GoesOnTo conn_eq seen.now.seen (script plan.now job.now) word) }
 {
     // Called only for its contract.
     xbar_plan::laws::every_plan_is_lawful(plan);
-    if tests_rows(job, way) {
+    if tests_rows(job, point) {
         unread_after(seen, word)
     } else {
         None

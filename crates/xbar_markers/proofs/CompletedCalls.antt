@@ -3,9 +3,9 @@ use Rattle.std.proofs.Common.{◌≡◌, ◌∙◌, ◌+◌, ◌*◌, [], Some, 
 use Rattle.std.proofs.lemmas.List.Elements.{All-head}
 use Rattle.xbar_office.specs.declared.job.Job.TheVariants.{Complete, Release}
 use Rattle.xbar_office.specs.declared.reply.Record.{Record}
-use Rattle.xbar_core.specs.Kinds.{takes}
-use Rattle.xbar_core.specs.declared.kind.Kind.{Kind}
-use Rattle.xbar_core.specs.declared.kind.Kind.TheVariants.{Completing}
+use Rattle.xbar_moves.specs.Kinds.{takes}
+use Rattle.xbar_moves.specs.declared.kind.Kind.{Kind}
+use Rattle.xbar_moves.specs.declared.kind.Kind.TheVariants.{Completing}
 use Rattle.xbar_fabric.specs.Views.{DeskView}
 use Rattle.xbar_markers.specs.Calls.{HasDialTone, is_connected}
 use Rattle.xbar_markers.specs.Shares.{HasCompleted}

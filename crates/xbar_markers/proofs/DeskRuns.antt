@@ -7,10 +7,10 @@ use Rattle.std.proofs.lemmas.List.Sums.{sum_by-append}
 use Rattle.std.proofs.lemmas.Option.{slice_get-map}
 use Rattle.std.specs.Prelude.{OnOk, Some, Result, Ok, Err, option_map, slice_get, slice_set}
 use Rattle.fair_queue.specs.Tickets.{TicketView, with_fewer_parts}
-use Rattle.xbar_core.specs.declared.kind.Kind.{Kind}
-use Rattle.xbar_core.specs.declared.kind.Kind.TheVariants.{Completing, Dial}
+use Rattle.xbar_moves.specs.declared.kind.Kind.{Kind}
+use Rattle.xbar_moves.specs.declared.kind.Kind.TheVariants.{Completing, Dial}
 use Rattle.xbar_fabric.specs.Views.{DeskView, FabricView}
-use Rattle.xbar_markers.specs.ThreadStates.{AreStatesOf, HaveServed, IsThreadState, IsThere, StayOf, desk_at, desks_at}
+use Rattle.xbar_markers.specs.ThreadStates.{AreStatesOf, HaveServed, IsThreadState, IsThere, KeepShares, desk_at, desks_at}
 use Rattle.xbar_markers.specs.Shares.{HasServed, HasStopped, IsFilled, IsShareOf, in_tasks, out_of}
 use Rattle.xbar_markers.specs.DesksByKind.{kinds_of}
 use Rattle.xbar_markers.specs.Work.{AreShort}
@@ -112,7 +112,7 @@ module _ {G : Type 0} where
 
   -- once all shares are in one, it is that of all desks
   pub all_gathered : (n : ℕ) (befores : List DeskView) (states first last dialled completed : List (ThreadState DeskView G)) (whole one two : Share) (workers : List (Worker DeskView G))
-      → AreStatesOf befores states → first ≡ take n states → last ≡ drop n states → StayOf first dialled → StayOf last completed → IsShareOf [] [] whole → Gathers dialled whole one → Gathers completed one two
+      → AreStatesOf befores states → first ≡ take n states → last ≡ drop n states → KeepShares first dialled → KeepShares last completed → IsShareOf [] [] whole → Gathers dialled whole one → Gathers completed one two
       → workers ≡ map worker_of dialled ++ map worker_of completed → IsShareOf befores (desks_at workers) two
   all_gathered n befores states first last dialled completed whole one two workers are first_is last_is stay_first stay_last none gathers_one gathers_two workers_are =
       let of_first = stay_first (take n befores) (subst (AreStatesOf (take n befores)) (sym first_is) (first_seats n befores states are)) in

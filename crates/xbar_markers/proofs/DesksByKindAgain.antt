@@ -2,8 +2,8 @@
 use Rattle.std.proofs.Common.{◌≡◌, ℕ, zero, suc, true, List, [], ◌∷◌, All, map, length, ap, ◌∙◌, arith, refl}
 use Rattle.std.specs.Prelude.{IfSome, slice_get}
 use Rattle.xbar_office.specs.declared.reply.Record.{Record}
-use Rattle.xbar_core.specs.Exchange.{is_idle}
-use Rattle.xbar_core.specs.declared.kind.Kind.{Kind}
+use Rattle.xbar_moves.specs.Exchange.{is_idle}
+use Rattle.xbar_moves.specs.declared.kind.Kind.{Kind}
 use Rattle.xbar_fabric.specs.Meetings.{AreAllIdle}
 use Rattle.xbar_fabric.specs.Views.{DeskView, FabricView, IsDeskOf}
 use Rattle.xbar_markers.specs.DesksByKind.{AreDesksByKind}

@@ -8,12 +8,12 @@ use Rattle.desks.specs.Parts.{Begins}
 use Rattle.xbar_office.specs.declared.job.Job.{Job}
 use Rattle.xbar_office.specs.declared.reply.Record.{Record}
 use Rattle.xbar_jobs.specs.Jobs.{first_conn}
-use Rattle.xbar_core.specs.AtWork.{answer_to_step}
-use Rattle.xbar_core.specs.Exchange.{Exchange, Work}
-use Rattle.xbar_core.specs.Moves.{added_record, after_step, work_anew}
-use Rattle.xbar_core.specs.declared.event.Event.{Event}
-use Rattle.xbar_core.specs.declared.event.Event.TheVariants.{Finished}
-use Rattle.xbar_core.proofs.StepCases.{step_cases}
+use Rattle.xbar_moves.specs.AtWork.{answer_to_step}
+use Rattle.xbar_moves.specs.Exchange.{Exchange, Work}
+use Rattle.xbar_moves.specs.Moves.{added_record, after_step, work_anew}
+use Rattle.xbar_moves.specs.declared.event.Event.{Event}
+use Rattle.xbar_moves.specs.declared.event.Event.TheVariants.{Finished}
+use Rattle.xbar_moves.proofs.StepCases.{step_cases}
 use Rattle.xbar_fabric.specs.Advances.{MarkerHasAdvanced, MarkerHasGivenBack, MarkerHasMade, MarkerHasStepped, at_beginning}
 use Rattle.xbar_fabric.specs.Histories.{job_at, turned_of}
 use Rattle.xbar_fabric.specs.Views.{DeskView, mine}
@@ -37,7 +37,7 @@ records_grow before after event step = elim (step_cases before.plan step.office 
 -- and so does what a desk has seen
 step_begins : (before after : DeskView) (event : Event) → MarkerHasStepped before after event → Begins before.seen after.seen
 step_begins before after event step =
-    let all = begins_both before.seen step.office.records (after_step before.plan before.marker step.office).records step.amid.begins (records_grow before after event step) in
+    let all = begins_both before.seen step.office.records (after_step before.plan before.marker step.office).records step.agrees.begins (records_grow before after event step) in
     (all.0, step.seen_is ∙ all.1)
 
 -- by many steps too

@@ -9,9 +9,9 @@ use Rattle.xbar_office.specs.declared.job.Job.{Job}
 use Rattle.xbar_office.specs.declared.reply.Record.{Record}
 use Rattle.xbar_office.specs.declared.reply.Reply.{Reply}
 use Rattle.xbar_jobs.specs.Jobs.{first_conn}
-use Rattle.xbar_core.specs.Exchange.{Work, is_idle, on_job}
-use Rattle.xbar_core.specs.Moves.{own_record}
-use Rattle.xbar_core.specs.declared.event.Event.{Event}
+use Rattle.xbar_moves.specs.Exchange.{Work, is_idle, on_job}
+use Rattle.xbar_moves.specs.Moves.{own_record}
+use Rattle.xbar_moves.specs.declared.event.Event.{Event}
 use Rattle.xbar_fabric.specs.Advances.{MarkerHasAdvanced, MarkerHasRun}
 use Rattle.xbar_fabric.specs.Histories.{job_at, turned_of}
 use Rattle.xbar_fabric.specs.Views.{DeskView, FabricView, IsDeskOf, mine}

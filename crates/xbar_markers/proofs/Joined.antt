@@ -7,8 +7,8 @@ use Rattle.std.proofs.lemmas.List.Sums.{sum_by-append}
 use Rattle.std.proofs.lemmas.Grind.{flat_map-append}
 use Rattle.fair_queue.specs.Items.{SameItems}
 use Rattle.fair_queue.specs.Tickets.{QueueName, new_ticket, ticket_of_both}
-use Rattle.xbar_core.specs.Exchange.{is_idle}
-use Rattle.xbar_core.specs.Kinds.{takes}
+use Rattle.xbar_moves.specs.Exchange.{is_idle}
+use Rattle.xbar_moves.specs.Kinds.{takes}
 use Rattle.xbar_fabric.specs.Views.{DeskView}
 use Rattle.xbar_office.specs.declared.job.Job.TheVariants.{Release}
 use Rattle.xbar_office.specs.declared.reply.Record.{Record}

@@ -3,7 +3,7 @@ use Rattle.std.proofs.Common.{◌≡◌, ◌∙◌, ℕ, ◌+◌, List, [], ◌�
 use Rattle.std.proofs.lemmas.List.Sums.{sum_by-cons, sum_by_push}
 use Rattle.std.proofs.lemmas.List.Elements.{All-cons, All-nil, All-pop}
 use Rattle.fair_queue.specs.Tickets.{TicketView}
-use Rattle.xbar_core.specs.Exchange.{is_idle}
+use Rattle.xbar_moves.specs.Exchange.{is_idle}
 use Rattle.xbar_fabric.specs.Views.{DeskView}
 use Rattle.xbar_markers.specs.Calls.{HasDialTone, IsServed}
 use Rattle.xbar_markers.specs.Shares.{HasCompleted, HasServed}

@@ -2,8 +2,8 @@
 use Rattle.std.proofs.Common.{◌≡◌, ℕ, zero, suc, ◌+◌, ◌<◌, ◌≤◌, List, [], ◌∷◌, map, length, ap, ◌∙◌, arith, refl, replicate}
 use native.Mathlib.Decide.{dec_lt}
 use Rattle.std.specs.Prelude.{slice_index_or}
-use Rattle.xbar_core.specs.declared.kind.Kind.{Kind}
-use Rattle.xbar_core.specs.declared.kind.Kind.TheVariants.{Completing, Dial}
+use Rattle.xbar_moves.specs.declared.kind.Kind.{Kind}
+use Rattle.xbar_moves.specs.declared.kind.Kind.TheVariants.{Completing, Dial}
 use Rattle.xbar_fabric.specs.Views.{DeskView}
 use Rattle.xbar_markers.specs.DesksByKind.{kinds_of}
 

@@ -5,7 +5,7 @@ use Rattle.std.proofs.lemmas.List.Elements.{All-cons, All-nil, All-push}
 use Rattle.fair_queue.specs.Tickets.{TicketView, with_taken}
 use Rattle.xbar_office.specs.declared.job.Job.TheVariants.{Complete, Release}
 use Rattle.xbar_office.specs.declared.reply.Record.{Record}
-use Rattle.xbar_core.specs.Exchange.{is_idle}
+use Rattle.xbar_moves.specs.Exchange.{is_idle}
 use Rattle.xbar_fabric.specs.Views.{DeskView}
 use Rattle.xbar_markers.specs.Calls.{Follows, HasDialTone, IsDialled, IsRecordOf, IsServed, IsToRelease, is_connected, is_dial_tone}
 use Rattle.xbar_markers.specs.Shares.{HasCompleted, HasPassedOn, HasServed}

@@ -3,9 +3,9 @@
 use Rattle.std.proofs.Common.{◌≡◌, ℕ, suc, ◌<◌, List, [], ◌∷◌, IfOk, Ok, Result, length, get_or, map, refl, sym, ap, ◌∙◌, subst, arith}
 use Rattle.std.specs.declared.alloc.AllocError.{AllocError}
 use Rattle.std.proofs.lemmas.List.{get_or-map, length-map}
-use Rattle.xbar_core.specs.declared.kind.Kind.{Kind}
+use Rattle.xbar_moves.specs.declared.kind.Kind.{Kind}
 use Rattle.xbar_fabric.specs.Views.{DeskView, FabricView}
-use Rattle.xbar_markers.specs.ThreadStates.{HasStayed, HaveStayed, IsThreadState, StayOf, StaysOf, desk_at}
+use Rattle.xbar_markers.specs.ThreadStates.{HasWorkedOn, HaveWorkedOn, IsThreadState, KeepShares, KeepsShare, desk_at}
 use Rattle.xbar_markers.specs.Shares.{HasServed, HasTickets, MayUse}
 use Rattle.xbar_markers.specs.Work.{IsReady}
 use Rattle.xbar_markers.specs.declared.queues.Queues.{Queues}
@@ -33,10 +33,10 @@ module _ {G : Type 0} (kind : Kind) (fabric : FabricView) (queues : Queues) wher
       → IsReady (desk_at after) fabric → (desk_at after).kind ≡ kind
       → HasTickets state.share after.share
       → HasServed (desk_at state) state.share (desk_at after) after.share
-      → HasStayed kind fabric queues state after
+      → HasWorkedOn kind fabric queues state after
   seat_stayed state after is_seat ready kind_is tickets served =
       record {
-        seat_is = record {
+        state_is = record {
           ready = ready;
           kind_is = kind_is;
           may = still_may queues state.share after.share tickets is_seat.may;
@@ -44,13 +44,13 @@ module _ {G : Type 0} (kind : Kind) (fabric : FabricView) (queues : Queues) wher
           tasks_parts = tickets.tasks_parts ∙ is_seat.tasks_parts;
           calls_put = tickets.calls_put ∙ is_seat.calls_put;
         };
-        stays = λ before. served (before ∷ []) (desk_at state ∷ []) 0 refl;
+        keeps_share = λ before. served (before ∷ []) (desk_at state ∷ []) 0 refl;
       }
 
   -- thread states that stayed, one by one
   stay_by_each : (states after : List (ThreadState DeskView G)) → length after ≡ length states
       → ((i : ℕ) (d e : ThreadState DeskView G) → i < length states
-      → StaysOf (get_or states i d) (get_or after i e)) → StayOf states after
+      → KeepsShare (get_or states i d) (get_or after i e)) → KeepShares states after
   stay_by_each [] [] count each [] are = are
   stay_by_each [] [] count each (b ∷ befores) are = are
   stay_by_each [] (a ∷ after) count each befores are = absurd (omega arith)
@@ -67,30 +67,30 @@ module _ {G : Type 0} (kind : Kind) (fabric : FabricView) (queues : Queues) wher
   GaveBack states results =
       (i : ℕ) (d : Result (ThreadState DeskView G) AllocError) → i < length states
       → (state : ThreadState DeskView G) × ((e : ThreadState DeskView G) → get_or states i e ≡ state)
-      × IfOk (get_or results i d) (HasStayed kind fabric queues state)
+      × IfOk (get_or results i d) (HasWorkedOn kind fabric queues state)
 
   pub all_stayed : (states after : List (ThreadState DeskView G))
       (results : List (Result (ThreadState DeskView G) AllocError)) → results ≡ map Ok after
       → length results ≡ length states → GaveBack states results
-      → HaveStayed kind fabric queues states after
+      → HaveWorkedOn kind fabric queues states after
   all_stayed states after results ok count gave =
       let back : ThreadState DeskView G → Result (ThreadState DeskView G) AllocError = λ state. Ok state in
       let as_many = ap length ok in
       let count_after : length after ≡ length states = omega (arith, length-map after back, count) in
       let each : (i : ℕ) (d e : ThreadState DeskView G) → i < length states
-      → HasStayed kind fabric queues (get_or states i d) (get_or after i e) =
+      → HasWorkedOn kind fabric queues (get_or states i d) (get_or after i e) =
       λ i d e lt.
       let one = gave i (Ok e) lt in
       let read : get_or results i (Ok e) ≡ Ok (get_or after i e) =
       ap (λ (l : List (Result (ThreadState DeskView G) AllocError)). get_or l i (Ok e)) ok
       ∙ get_or-map back after i e (Ok e) (omega (arith, count_after)) in
-      subst (λ (state : ThreadState DeskView G). HasStayed kind fabric queues state (get_or after i e))
+      subst (λ (state : ThreadState DeskView G). HasWorkedOn kind fabric queues state (get_or after i e))
       (sym (one.1 d))
       (subst
-      (λ (r : Result (ThreadState DeskView G) AllocError). IfOk r (HasStayed kind fabric queues one.0))
+      (λ (r : Result (ThreadState DeskView G) AllocError). IfOk r (HasWorkedOn kind fabric queues one.0))
       read one.2) in
       record {
-        each = λ i d lt. (each i d d (omega (arith, count_after))).seat_is;
+        each = λ i d lt. (each i d d (omega (arith, count_after))).state_is;
         count = count_after;
-        stay = stay_by_each states after count_after (λ i d e lt. (each i d e lt).stays);
+        keep_shares = stay_by_each states after count_after (λ i d e lt. (each i d e lt).keeps_share);
       }

@@ -2,8 +2,8 @@
 use Rattle.std.proofs.Common.{◌≡◌, Some, sym, ap}
 use Rattle.std.proofs.lemmas.Option.{same_Some}
 use Rattle.xbar_office.specs.declared.reply.Record.{Record}
-use Rattle.xbar_core.specs.declared.event.Event.{Event}
-use Rattle.xbar_core.specs.declared.event.Event.TheVariants.{Idle, Moved, Refused, Preferred, Finished}
+use Rattle.xbar_moves.specs.declared.event.Event.{Event}
+use Rattle.xbar_moves.specs.declared.event.Event.TheVariants.{Idle, Moved, Refused, Preferred, Finished}
 use Rattle.xbar_markers.specs.Work.{reported_record}
 
 -- if a step reported a record, its job ended with that

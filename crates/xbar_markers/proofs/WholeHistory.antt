@@ -8,8 +8,8 @@ use Rattle.turns.specs.Among.{IsIn}
 use Rattle.turns.specs.World.{Idle}
 use Rattle.fair_queue.specs.Items.{SameItems}
 use Rattle.xbar_office.specs.declared.reply.Record.{Record}
-use Rattle.xbar_core.specs.Kinds.{takes}
-use Rattle.xbar_core.specs.declared.kind.Kind.{Kind}
+use Rattle.xbar_moves.specs.Kinds.{takes}
+use Rattle.xbar_moves.specs.declared.kind.Kind.{Kind}
 use Rattle.xbar_fabric.specs.Views.{DeskView, FabricView, new_desks, own}
 use Rattle.xbar_markers.specs.Work.{WorkerHasWorked, HaveWorked}
 

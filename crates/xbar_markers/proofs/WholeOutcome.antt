@@ -9,7 +9,7 @@ use Rattle.xbar_plan.specs.Tables.{Tables}
 use Rattle.xbar_office.specs.Legal.{IsLegal, after}
 use Rattle.xbar_office.specs.declared.reply.Record.{Record}
 use Rattle.xbar_jobs.specs.Office.{ShowsOffice}
-use Rattle.xbar_core.specs.declared.kind.Kind.{Kind}
+use Rattle.xbar_moves.specs.declared.kind.Kind.{Kind}
 use Rattle.xbar_fabric.specs.Meetings.{AreWordsAfter, FabricHasClosed}
 use Rattle.xbar_fabric.specs.Views.{DeskView, FabricView, new_desks, own}
 use Rattle.xbar_markers.specs.Calls.{AreServed}

@@ -6,9 +6,9 @@ use Rattle.fair_queue.specs.Items.{SameItems}
 use Rattle.desks.specs.Parts.{Begins}
 use Rattle.xbar_office.specs.declared.job.Job.{Job}
 use Rattle.xbar_office.specs.declared.reply.Record.{Record}
-use Rattle.xbar_core.specs.Exchange.{is_idle}
-use Rattle.xbar_core.specs.Kinds.{takes}
-use Rattle.xbar_core.specs.declared.kind.Kind.{Kind}
+use Rattle.xbar_moves.specs.Exchange.{is_idle}
+use Rattle.xbar_moves.specs.Kinds.{takes}
+use Rattle.xbar_moves.specs.declared.kind.Kind.{Kind}
 use Rattle.xbar_fabric.specs.Views.{DeskView, FabricView, mine}
 use Rattle.xbar_markers.specs.Work.{AreShort, HasDone, WorkerHasWorked, HaveWorked, IsReady}
 

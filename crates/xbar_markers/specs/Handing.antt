@@ -5,8 +5,8 @@ use Rattle.desks.specs.Parts.{Begins}
 use Rattle.xbar_office.specs.declared.job.Job.{Job}
 use Rattle.xbar_office.specs.declared.reply.Record.{Record}
 use Rattle.xbar_jobs.specs.Jobs.{first_conn}
-use Rattle.xbar_core.specs.Moves.{refusal_of}
-use Rattle.xbar_core.specs.declared.assign_fault.AssignFault.{AssignFault}
+use Rattle.xbar_moves.specs.Moves.{refusal_of}
+use Rattle.xbar_moves.specs.declared.assign_fault.AssignFault.{AssignFault}
 use Rattle.xbar_fabric.specs.Views.{DeskView, marker_of, mine}
 use Rattle.xbar_markers.specs.Work.{HasDone, IsDoing}
 use Rattle.xbar_markers.specs.declared.handing.Handed.{Handed}

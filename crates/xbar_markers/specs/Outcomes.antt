@@ -6,8 +6,8 @@ use Rattle.xbar_plan.specs.Tables.{Tables}
 use Rattle.xbar_office.specs.Legal.{IsLegal, after}
 use Rattle.xbar_office.specs.declared.reply.Record.{Record}
 use Rattle.xbar_jobs.specs.Office.{ShowsOffice}
-use Rattle.xbar_core.specs.Kinds.{takes}
-use Rattle.xbar_core.specs.declared.kind.Kind.{Kind}
+use Rattle.xbar_moves.specs.Kinds.{takes}
+use Rattle.xbar_moves.specs.declared.kind.Kind.{Kind}
 use Rattle.xbar_fabric.specs.Meetings.{AreWordsAfter, IsUnused}
 use Rattle.xbar_fabric.specs.Views.{own}
 use Rattle.xbar_markers.specs.Calls.{AreServed}

@@ -1,6 +1,6 @@
 -- Workers with their shares, before they go to threads and when they come back.
 use Rattle.std.specs.Prelude.{◌≡◌, ℕ, IsSomeAnd, List, [], ◌∷◌, All, length, map, slice_get, ⊤}
-use Rattle.xbar_core.specs.declared.kind.Kind.{Kind}
+use Rattle.xbar_moves.specs.declared.kind.Kind.{Kind}
 use Rattle.xbar_fabric.specs.Views.{DeskView, FabricView}
 use Rattle.xbar_markers.specs.Shares.{IsShareOf, MayUse}
 use Rattle.xbar_markers.specs.Work.{IsReady}
@@ -48,25 +48,25 @@ module _ {G : Type 0} where
   AreStatesOf _ _ = ⊥
 
   -- after more work the share is still that of all of its desk's work
-  abbrev pub StaysOf : ThreadState DeskView G → ThreadState DeskView G → Type 0
-  StaysOf state after = (before : DeskView)
+  abbrev pub KeepsShare : ThreadState DeskView G → ThreadState DeskView G → Type 0
+  KeepsShare state after = (before : DeskView)
       → IsShareOf (before ∷ []) (desk_at state ∷ []) state.share
       → IsShareOf (before ∷ []) (desk_at after ∷ []) after.share
 
   -- after more work the shares are still those of all of their desks' work
-  abbrev pub StayOf : List (ThreadState DeskView G) → List (ThreadState DeskView G) → Type 0
-  StayOf states after =
+  abbrev pub KeepShares : List (ThreadState DeskView G) → List (ThreadState DeskView G) → Type 0
+  KeepShares states after =
       (befores : List DeskView) → AreStatesOf befores states → AreStatesOf befores after
 
   -- a thread state of this kind after more work
-  pub record HasStayed (kind : Kind) (fabric : FabricView) (queues : Queues)
+  pub record HasWorkedOn (kind : Kind) (fabric : FabricView) (queues : Queues)
       (state after : ThreadState DeskView G) : Type 0 where
-    pub seat_is : IsThreadState kind fabric queues after
-    pub stays : StaysOf state after
+    pub state_is : IsThreadState kind fabric queues after
+    pub keeps_share : KeepsShare state after
 
   -- thread states of this kind after more work, as many as before
-  pub record HaveStayed (kind : Kind) (fabric : FabricView) (queues : Queues)
+  pub record HaveWorkedOn (kind : Kind) (fabric : FabricView) (queues : Queues)
       (states after : List (ThreadState DeskView G)) : Type 0 where
     pub each : All (IsThreadState kind fabric queues) after
     pub count : length after ≡ length states
-    pub stay : StayOf states after
+    pub keep_shares : KeepShares states after

@@ -4,11 +4,11 @@ use Rattle.fair_queue.specs.Items.{SameItems}
 use Rattle.desks.specs.Parts.{Begins}
 use Rattle.xbar_office.specs.declared.job.Job.{Job}
 use Rattle.xbar_office.specs.declared.reply.Record.{Record}
-use Rattle.xbar_core.specs.Exchange.{is_idle}
-use Rattle.xbar_core.specs.declared.event.Event.{Event}
-use Rattle.xbar_core.specs.declared.event.Event.TheVariants.{Idle, Moved, Refused, Preferred, Finished}
+use Rattle.xbar_moves.specs.Exchange.{is_idle}
+use Rattle.xbar_moves.specs.declared.event.Event.{Event}
+use Rattle.xbar_moves.specs.declared.event.Event.TheVariants.{Idle, Moved, Refused, Preferred, Finished}
 use Rattle.xbar_fabric.specs.Advances.{MarkerHasAdvanced}
-use Rattle.xbar_core.specs.Kinds.{takes}
+use Rattle.xbar_moves.specs.Kinds.{takes}
 use Rattle.xbar_fabric.specs.Histories.{job_at, turned_of}
 use Rattle.xbar_fabric.specs.Views.{DeskView, FabricView, IsDeskOf, mine}
 

@@ -2,7 +2,7 @@
 
 ghost use Rattle.std.specs.Prelude.{◌≡◌, ℕ, Some, None, MatchResult, true, false};
 ghost use Rattle.std.specs.Thread.{IsSend, IsSync};
-ghost use Rattle.xbar_core.specs.Moves.{refusal_of};
+ghost use Rattle.xbar_moves.specs.Moves.{refusal_of};
 ghost use Rattle.xbar_fabric.specs.Views.{DeskView, IsDeskOf, marker_of};
 ghost use Rattle.xbar_markers.specs.Handing.{HasGiven, IsAtHand, IsBegun, IsHanded};
 ghost use Rattle.xbar_markers.specs.Work.{HasDone, WorkerHasStepped, IsDoing};
@@ -42,11 +42,11 @@ fn make_step(fabric: &Fabric, desk: &mut Desk) -> Option<Record>
     requires { IsDeskOf desk.old fabric.now }
     ensures { WorkerHasStepped desk.old desk.new result }
 {
-    let was_giving_up = desk.is_giving_up();
+    let was_giving_back = desk.is_giving_back();
     if let Progress::Finished(record) = desk.advance(fabric) {
         return Some(record);
     }
-    yield_once_given_back(desk, was_giving_up);
+    yield_once_given_back(desk, was_giving_back);
     None
 }
 

@@ -7,8 +7,8 @@ ghost use Rattle.xbar_markers.specs.DesksByKind.{AreDesksByKind, kinds_of};
 
 use crate::run_fault::RunFault;
 use std::alloc::{AllocError, Global};
-use xbar_core::MOST_MARKERS;
 use xbar_fabric::{Desk, Fabric, Kind};
+use xbar_moves::MOST_MARKERS;
 use xbar_plan::Plan;
 
 /// The kinds of `dialling` markers that dial, followed by `completing` that complete calls.

@@ -2,9 +2,9 @@
 
 ghost use Rattle.std.specs.Prelude.{◌≡◌, All, IfOk, Ok, map, vec_len};
 ghost use Rattle.std.specs.Thread.{IsSend, IsSync};
-ghost use Rattle.xbar_core.specs.declared.kind.Kind.TheVariants.{Completing, Dial};
+ghost use Rattle.xbar_moves.specs.declared.kind.Kind.TheVariants.{Completing, Dial};
 ghost use Rattle.xbar_fabric.specs.Views.{DeskView};
-ghost use Rattle.xbar_markers.specs.ThreadStates.{HasStayed, HaveStayed, IsThreadState};
+ghost use Rattle.xbar_markers.specs.ThreadStates.{HasWorkedOn, HaveWorkedOn, IsThreadState};
 ghost use Rattle.xbar_markers.specs.Shares.{AreOpen, HasStopped, MayUse};
 
 use crate::gate::Gate;
@@ -38,7 +38,7 @@ fn dial_at<G: Gate + Drop, R: Wait>(
 ) -> Result<ThreadState<Desk, G>, AllocError>
     requires open { AreOpen queues.now }
     requires state { IsThreadState Dial fabric.now queues.now state }
-    ensures { IfOk result (HasStayed Dial fabric.now queues.now state) }
+    ensures { IfOk result (HasWorkedOn Dial fabric.now queues.now state) }
 {
     state.worker.dial_all(rt, fabric, queues, &mut state.share)?;
     Ok(state)
@@ -55,7 +55,7 @@ fn dial_stage<G: Gate + Send + Drop, R: Threads + Wait + Sync>(
     requires open { AreOpen queues.now }
     requires states { All (IsThreadState Dial fabric.now queues.now) states.items }
     ensures { IfOk result (λ after.
-        HaveStayed Dial fabric.now queues.now states.items after.items) }
+        HaveWorkedOn Dial fabric.now queues.now states.items after.items) }
 {
     let after = map_vec(
         rt,
@@ -63,7 +63,7 @@ fn dial_stage<G: Gate + Send + Drop, R: Threads + Wait + Sync>(
         &|state: ThreadState<Desk, G>| -> Result<ThreadState<Desk, G>, AllocError>
             requires open { AreOpen queues.now }
             requires state { IsThreadState Dial fabric.now queues.now state }
-            ensures { IfOk result (HasStayed Dial fabric.entry.now queues.entry.now state) }
+            ensures { IfOk result (HasWorkedOn Dial fabric.entry.now queues.entry.now state) }
         { dial_at(rt, fabric, queues, state) },
     )?;
     all_ok(alloc, after)
@@ -78,7 +78,7 @@ fn complete_at<G: Gate + Drop, R: Wait>(
 ) -> Result<ThreadState<Desk, G>, AllocError>
     requires open { AreOpen queues.now }
     requires state { IsThreadState Completing fabric.now queues.now state }
-    ensures { IfOk result (HasStayed Completing fabric.now queues.now state) }
+    ensures { IfOk result (HasWorkedOn Completing fabric.now queues.now state) }
 {
     state
         .worker
@@ -97,7 +97,7 @@ fn complete_stage<G: Gate + Send + Drop, R: Threads + Wait + Sync>(
     requires open { AreOpen queues.now }
     requires states { All (IsThreadState Completing fabric.now queues.now) states.items }
     ensures { IfOk result (λ after.
-        HaveStayed Completing fabric.now queues.now states.items after.items) }
+        HaveWorkedOn Completing fabric.now queues.now states.items after.items) }
 {
     let after = map_vec(
         rt,
@@ -105,7 +105,7 @@ fn complete_stage<G: Gate + Send + Drop, R: Threads + Wait + Sync>(
         &|state: ThreadState<Desk, G>| -> Result<ThreadState<Desk, G>, AllocError>
             requires open { AreOpen queues.now }
             requires state { IsThreadState Completing fabric.now queues.now state }
-            ensures { IfOk result (HasStayed Completing fabric.entry.now queues.entry.now state) }
+            ensures { IfOk result (HasWorkedOn Completing fabric.entry.now queues.entry.now state) }
         { complete_at(rt, fabric, queues, state) },
     )?;
     all_ok(alloc, after)
@@ -153,7 +153,7 @@ fn dial_and_stop<G: Gate + Send + Drop, R: Threads + Wait + Sync>(
     requires states { All (IsThreadState Dial fabric.now queues.now) states.items }
     requires may { MayUse whole queues.now }
     ensures states { IfOk result.0 (λ after.
-        HaveStayed Dial fabric.now queues.now states.items after.items) }
+        HaveWorkedOn Dial fabric.now queues.now states.items after.items) }
     ensures whole { HasStopped whole result.1 }
 {
     let states = dial_stage(rt, alloc, fabric, queues, states);
@@ -183,8 +183,8 @@ pub fn run_stages<G: Gate + Send + Drop, R: Threads + Wait + Sync>(
         (IsThreadState Completing fabric.now queues.now) before.completing.items }
     requires may { MayUse before.whole queues.now }
     ensures dialling { IfOk result (λ after.
-        HaveStayed Dial fabric.now queues.now before.dialling.items after.dialling.items) }
-    ensures completing { IfOk result (λ after. HaveStayed Completing fabric.now queues.now
+        HaveWorkedOn Dial fabric.now queues.now before.dialling.items after.dialling.items) }
+    ensures completing { IfOk result (λ after. HaveWorkedOn Completing fabric.now queues.now
         before.completing.items after.completing.items) }
     ensures whole { IfOk result (λ after. HasStopped before.whole after.whole) }
 {
@@ -200,14 +200,14 @@ pub fn run_stages<G: Gate + Send + Drop, R: Threads + Wait + Sync>(
         move || -> Result<Vec<ThreadState<Desk, G>>, AllocError>
             requires { IsSync R.row × IsSend G.row × AreOpen queues.now
                 × All (IsThreadState Completing fabric.now queues.now) completing.items }
-            ensures { IfOk result (λ after. HaveStayed Completing fabric.entry.now
+            ensures { IfOk result (λ after. HaveWorkedOn Completing fabric.entry.now
                 queues.entry.now completing.items after.items) }
         { complete_stage(rt, alloc, fabric, queues, completing) },
         move || -> (Result<Vec<ThreadState<Desk, G>>, AllocError>, Share)
             requires { IsSync R.row × IsSend G.row × AreOpen queues.now
                 × All (IsThreadState Dial fabric.now queues.now) dialling.items
                 × MayUse whole queues.now }
-            ensures { IfOk result.0 (λ after. HaveStayed Dial fabric.entry.now queues.entry.now
+            ensures { IfOk result.0 (λ after. HaveWorkedOn Dial fabric.entry.now queues.entry.now
                 dialling.items after.items)
                 × HasStopped whole result.1 }
         { dial_and_stop(rt, alloc, fabric, queues, dialling, whole, stops) },

@@ -1,7 +1,7 @@
 //! A worker, which does whole jobs, one after another.
 
 ghost use Rattle.std.specs.Prelude.{◌≡◌, ℕ, true};
-ghost use Rattle.xbar_core.specs.Kinds.{takes};
+ghost use Rattle.xbar_moves.specs.Kinds.{takes};
 ghost use Rattle.xbar_fabric.specs.Views.{DeskView, IsDeskOf};
 ghost use Rattle.xbar_markers.specs.Work.{HasDone, IsDoing, IsReady};
 
@@ -31,7 +31,7 @@ pub fn yield_once_given_back(desk: &Desk, was_put_off: bool) -> bool {
     if !was_put_off {
         return false;
     }
-    if desk.is_giving_up() {
+    if desk.is_giving_back() {
         return true;
     }
     thread::yield_now();

@@ -15,8 +15,8 @@ use Rattle.xbar_equip.specs.TextLines.{lines}
 use Rattle.xbar_report.specs.Sheet.{Sheet, sheet_text, IsSheet, IsReport}
 use Rattle.xbar_report.specs.Text.{record_line, trouble_line, count_lines, records_text, troubles_of}
 use Rattle.xbar_report.specs.declared.counts.Counts.{Counts}
-use Rattle.xbar_report.specs.declared.read_fault.ReadFault.{ReadFault}
-use Rattle.xbar_report.specs.declared.read_fault.ReadFault.TheVariants as fault
+use Rattle.xbar_report.specs.declared.report_fault.ReportFault.{ReportFault}
+use Rattle.xbar_report.specs.declared.report_fault.ReportFault.TheVariants as fault
 use Rattle.xbar_equip.proofs.WholeLines.{joined_lines}
 use Rattle.xbar_report.proofs.Reports.{dealt_lines, dealt_range, dealt_turns, taken_and_left}
 use Rattle.xbar_report.proofs.Sheets.{range_of_sheet, sheet_text_is, texts_are, texts_range}
@@ -89,7 +89,7 @@ no_wrong_turn records place turns wrong =
     never (slice_get records place) (λ r. r.turn ≢ place) wrong.here (λ r here other. other (turn_at records place r turns here))
 
 -- the lines of a report's text have no fault
-pub no_line_fault : (text : List ℕ) (records : List Record) (counts : Option Counts) (why : ReadFault) → IsReport records counts → text ≡ records_text records counts
+pub no_line_fault : (text : List ℕ) (records : List Record) (counts : Option Counts) (why : ReportFault) → IsReport records counts → text ≡ records_text records counts
     → IsLineFault text why → why ≡ fault.Memory
 no_line_fault text records counts (fault.Line number) report is stray =
     absurd (stray.here text (sheet_of records counts, report_range records counts report, is ∙ sym (report_text_is records counts)) refl)

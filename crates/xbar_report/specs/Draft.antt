@@ -5,8 +5,8 @@ use Rattle.xbar_equip.specs.TextLines.{lines}
 use Rattle.xbar_report.specs.Reading.{IsFirstStrayLine}
 use Rattle.xbar_report.specs.Sheet.{Sheet, IsSheetText}
 use Rattle.xbar_report.specs.declared.trouble_line.TroubleLine.{TroubleLine}
-use Rattle.xbar_report.specs.declared.read_fault.ReadFault.{ReadFault}
-use Rattle.xbar_report.specs.declared.read_fault.ReadFault.TheVariants as fault
+use Rattle.xbar_report.specs.declared.report_fault.ReportFault.{ReportFault}
+use Rattle.xbar_report.specs.declared.report_fault.ReportFault.TheVariants as fault
 use Rattle.xbar_report.specs.declared.draft.Draft.{Draft}
 use Rattle.xbar_report.specs.declared.draft.Tally.{Tally}
 use Rattle.xbar_report.specs.declared.draft.Tally.TheVariants.{Missing, Begun, Whole}
@@ -53,7 +53,7 @@ abbrev pub IsReadAs : List ℕ → Sheet → Type 0
 IsReadAs text s = AreTextsOf (lines text) (lines_of_sheet s)
 
 -- the fault of a text that isn't a sheet's: its first stray line, unless memory was refused
-abbrev pub IsLineFault : List ℕ → ReadFault → Type 0
+abbrev pub IsLineFault : List ℕ → ReportFault → Type 0
 IsLineFault text (fault.Line number) = IsFirstStrayLine IsSheetText text number
 IsLineFault text (fault.Turns place) = ⊥
 IsLineFault text fault.Memory = ⊤

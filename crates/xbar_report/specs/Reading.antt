@@ -3,8 +3,8 @@ use Rattle.xbar_equip.specs.TextLines.{lines}
 use Rattle.xbar_office.specs.Audit.{IsFirstWrongTurn}
 use Rattle.xbar_office.specs.Legal.{HaveTurns}
 use Rattle.xbar_report.specs.Sheet.{Sheet, sheet_text, IsSheet, IsSheetText, IsReportText}
-use Rattle.xbar_report.specs.declared.read_fault.ReadFault.{ReadFault}
-use Rattle.xbar_report.specs.declared.read_fault.ReadFault.TheVariants.{Line, Turns, Memory}
+use Rattle.xbar_report.specs.declared.report_fault.ReportFault.{ReportFault}
+use Rattle.xbar_report.specs.declared.report_fault.ReportFault.TheVariants.{Line, Turns, Memory}
 
 -- two texts have the same first `count` lines; all lines, if there are fewer
 abbrev pub HaveSameLines : ℕ → List ℕ → List ℕ → Type 0
@@ -22,7 +22,7 @@ HasTurns text = (s : Sheet) × IsSheet s × (text ≡ sheet_text s) × HaveTurns
 
 -- the fault of a text that is no report's: the lines are checked first, each by itself, then the
 -- turns, then the owners of the cards; memory may be refused for any text
-abbrev pub IsFaultOf : List ℕ → ReadFault → Type 0
+abbrev pub IsFaultOf : List ℕ → ReportFault → Type 0
 IsFaultOf text (Line number) =
     IsFirstStrayLine IsSheetText text number
     ⊎ (HasTurns text × IsFirstStrayLine IsReportText text number)

@@ -3,8 +3,8 @@
 
 pub use counts::Counts;
 pub use end_fields::name_of;
-pub use read_fault::ReadFault;
 pub use reading::{Report, read};
+pub use report_fault::ReportFault;
 pub use report_text::{record_text, report};
 pub use trouble_line::TroubleLine;
 
@@ -18,9 +18,9 @@ mod line;
 mod number;
 mod path_field;
 mod ranges;
-mod read_fault;
 mod reading;
 mod record_line;
+mod report_fault;
 mod report_text;
 mod split;
 mod trouble_line;

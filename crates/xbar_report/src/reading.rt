@@ -12,7 +12,7 @@ use crate::counts::Counts;
 use crate::deal::deal;
 use crate::draft::{Draft, Tally};
 use crate::line::Line;
-use crate::read_fault::ReadFault;
+use crate::report_fault::ReportFault;
 use crate::split::first_line;
 use std::alloc::Global;
 use xbar_office::{Record, first_wrong_turn};
@@ -27,7 +27,7 @@ pub struct Report {
 
 /// Reads the lines of a text, each by itself. The turns of the records and the owners of the cards
 /// aren't checked here.
-fn read_lines(alloc: Global, text: &[u8]) -> Result<(Draft, Option<Counts>), ReadFault>
+fn read_lines(alloc: Global, text: &[u8]) -> Result<(Draft, Option<Counts>), ReportFault>
     ensures lines { IfOk result (λ found. IsReadAs text.now (record {
       records = found.0.records.items;
       cards = found.0.cards.items;
@@ -40,10 +40,10 @@ fn read_lines(alloc: Global, text: &[u8]) -> Result<(Draft, Option<Counts>), Rea
     let mut rest = text;
     while let Some((line, behind)) = first_line(rest) {
         let Some(line) = Line::read(alloc, line)? else {
-            return Err(ReadFault::Line { number });
+            return Err(ReportFault::Line { number });
         };
         if !draft.add(line)? {
-            return Err(ReadFault::Line { number });
+            return Err(ReportFault::Line { number });
         }
         number += 1;
         rest = behind;
@@ -51,14 +51,14 @@ fn read_lines(alloc: Global, text: &[u8]) -> Result<(Draft, Option<Counts>), Rea
     match draft.tally {
         Tally::Missing if rest.is_empty() => Ok((draft, None)),
         Tally::Whole(counts) if rest.is_empty() => Ok((draft, Some(counts))),
-        _ => Err(ReadFault::Line { number }),
+        _ => Err(ReportFault::Line { number }),
     }
 }
 
 /// Reads the text of a report: record lines, then the lines of trouble cards, then two count lines
 /// or none. The records have the turns 0, 1, 2 and so on. The cards are in turn order, each with
 /// the job number of its record. Each number has one form, and each line ends with one line feed.
-pub fn read(alloc: Global, text: &[u8]) -> Result<Report, ReadFault>
+pub fn read(alloc: Global, text: &[u8]) -> Result<Report, ReportFault>
     // The report that was read has exactly this text.
     ensures only { IfOk result (λ report. IsReport report.records.items report.counts ×
         (text.now ≡ records_text report.records.items report.counts)) }
@@ -67,7 +67,7 @@ pub fn read(alloc: Global, text: &[u8]) -> Result<Report, ReadFault>
         IsReport records counts → text.now ≡ records_text records counts →
         MatchResult result
         (λ report. (report.records.items ≡ records) × (report.counts ≡ counts))
-        (λ fault. fault ≡ ReadFault.Memory) }
+        (λ fault. fault ≡ ReportFault.Memory) }
     ensures fault { IfErr result (IsFaultOf text.now) }
 {
     let (draft, counts) = read_lines(alloc, text)?;
@@ -77,12 +77,12 @@ pub fn read(alloc: Global, text: &[u8]) -> Result<Report, ReadFault>
         ..
     } = draft;
     if let Some(place) = first_wrong_turn(&records) {
-        return Err(ReadFault::Turns { place });
+        return Err(ReportFault::Turns { place });
     }
     let left = deal(&mut records, &cards);
     if left > 0 {
         let number = records.len() + (cards.len() - left) + 1;
-        return Err(ReadFault::Line { number });
+        return Err(ReportFault::Line { number });
     }
     Ok(Report { records, counts })
 }

@@ -1,6 +1,6 @@
 -- which walk an office and a story have reached
 use Rattle.std.proofs.Common.{◌≡◌, ℕ, ◌<◌, length, refl, sym, subst, arith}
-use Rattle.xbar_core.specs.Exchange.{OfPlan}
+use Rattle.xbar_moves.specs.Exchange.{OfPlan}
 use Rattle.xbar_walk.specs.Stories.{AgreesWith, ChangesAs}
 use Rattle.xbar_walk.specs.Walks.{Walk}
 use Rattle.xbar_walk.specs.declared.story.Story.{Story}

@@ -5,16 +5,16 @@ use Rattle.turns.specs.Attempt.{turn_in}
 use Rattle.turns.specs.World.{Idle, Does}
 use Rattle.xbar_plan.specs.Tables.{Tables}
 use Rattle.xbar_jobs.specs.Attempt.{next_step}
-use Rattle.xbar_core.specs.AtWork.{IsBackingAt, gives_up, gives_up_at, is_turned}
-use Rattle.xbar_core.specs.Exchange.{Exchange, Marker, OfPlan, Work, at_marker, is_idle, on_job}
-use Rattle.xbar_core.specs.Moves.{backed_as, begun_anew, frees_left, given_at, given_back, given_by, after_step, steps}
-use Rattle.xbar_core.specs.Settling.{ended, ended_past_turn, for_each, most_steps_alone, settled}
-use Rattle.xbar_core.specs.declared.given.Given.{Given}
-use Rattle.xbar_core.specs.declared.given.Given.TheVariants as given
-use Rattle.xbar_core.proofs.Backing.{IsBacking, GaveUp, anew, backing, gave_up, none_left}
-use Rattle.xbar_core.proofs.Jobs.{given_is}
-use Rattle.xbar_core.proofs.Keeping.{begun_keeps, count_back, count_end, count_past}
-use Rattle.xbar_core.proofs.Markers.{none_within}
+use Rattle.xbar_moves.specs.AtWork.{IsBackingAt, withdraws_or_frees, withdraws_or_frees_at, is_turned}
+use Rattle.xbar_moves.specs.Exchange.{Exchange, Marker, OfPlan, Work, at_marker, is_idle, on_job}
+use Rattle.xbar_moves.specs.Moves.{backed_as, begun_anew, frees_left, given_at, given_back, given_by, after_step, steps}
+use Rattle.xbar_moves.specs.Settling.{ended, ended_past_turn, for_each, most_steps_alone, settled}
+use Rattle.xbar_moves.specs.declared.given.Given.{Given}
+use Rattle.xbar_moves.specs.declared.given.Given.TheVariants as given
+use Rattle.xbar_moves.proofs.Backing.{IsBacking, GaveUp, anew, backing, gave_up, none_left}
+use Rattle.xbar_moves.proofs.Jobs.{given_is}
+use Rattle.xbar_moves.proofs.Keeping.{begun_keeps, count_back, count_end, count_past}
+use Rattle.xbar_moves.proofs.Markers.{none_within}
 use Rattle.xbar_walk.specs.Walks.{Walk, walk_of_step, is_past_turn_in, to_begin_anew, walk_of_rollback, walk_of_end, walk_of_end_past_turn, walk_for_each, walk_of_give_back, walk_of_settling, walk_of_steps}
 use Rattle.xbar_walk.specs.Items.{Says}
 use Rattle.xbar_walk.specs.Lines.{settling_line}
@@ -103,10 +103,10 @@ module _ (first now : Walk) (k : ℕ) (so_far : IsGoingBack first now k) where
   back : IsBacking now.office.exchange k
   back = backing now.office.exchange k so_far.backs
 
-  next_up : (goes : Bool) → ((m : Marker) → slice_get now.office.exchange.markers k ≡ Some m → goes ≡ gives_up_at m.work) → gives_up (next_step back.attempt) ≡ goes
-  next_up goes observed = sym (observed back.at.marker back.at.there ∙ ap gives_up_at back.at.work)
+  next_up : (goes : Bool) → ((m : Marker) → slice_get now.office.exchange.markers k ≡ Some m → goes ≡ withdraws_or_frees_at m.work) → withdraws_or_frees (next_step back.attempt) ≡ goes
+  next_up goes observed = sym (observed back.at.marker back.at.there ∙ ap withdraws_or_frees_at back.at.work)
 
-  module _ (next : Walk) (goes : (m : Marker) → slice_get now.office.exchange.markers k ≡ Some m → true ≡ gives_up_at m.work) (is : next ≡ walk_of_step k now) where
+  module _ (next : Walk) (goes : (m : Marker) → slice_get now.office.exchange.markers k ≡ Some m → true ≡ withdraws_or_frees_at m.work) (is : next ≡ walk_of_step k now) where
     gave : GaveUp (after_step now.office.plan k now.office.exchange) k (frees_left now.office.exchange k)
     gave = gave_up now.office.plan now.office.exchange k back (next_up true goes)
 
@@ -127,7 +127,7 @@ module _ (first now : Walk) (k : ℕ) (so_far : IsGoingBack first now k) where
     pub less_back : frees_left next.office.exchange k < frees_left now.office.exchange k
     less_back = let less = one_less in omega (arith, less)
 
-  pub all_back : ((m : Marker) → slice_get now.office.exchange.markers k ≡ Some m → false ≡ gives_up_at m.work) → now ≡ walk_of_steps k (frees_left first.office.exchange k) first
+  pub all_back : ((m : Marker) → slice_get now.office.exchange.markers k ≡ Some m → false ≡ withdraws_or_frees_at m.work) → now ≡ walk_of_steps k (frees_left first.office.exchange k) first
   unfolding walk_of_steps
   all_back rests =
       let none = none_left now.office.plan now.office.exchange k back (next_up false rests) in
@@ -137,13 +137,13 @@ module _ (first now : Walk) (k : ℕ) (so_far : IsGoingBack first now k) where
 pub on_office : (o next : OfPlan) (k : ℕ) → o ≡ next → IsBackingAt (slice_get o.exchange.markers k) → IsBackingAt (slice_get next.exchange.markers k)
 on_office o next k is backs = subst (λ (x : OfPlan). IsBackingAt (slice_get x.exchange.markers k)) is backs
 
-pub ups_at : (goes : Bool) (o next : OfPlan) (k : ℕ) → o ≡ next → ((m : Marker) → slice_get next.exchange.markers k ≡ Some m → goes ≡ gives_up_at m.work)
-    → (m : Marker) → slice_get o.exchange.markers k ≡ Some m → goes ≡ gives_up_at m.work
+pub ups_at : (goes : Bool) (o next : OfPlan) (k : ℕ) → o ≡ next → ((m : Marker) → slice_get next.exchange.markers k ≡ Some m → goes ≡ withdraws_or_frees_at m.work)
+    → (m : Marker) → slice_get o.exchange.markers k ≡ Some m → goes ≡ withdraws_or_frees_at m.work
 ups_at goes o next k is observed m there = observed m (ap (λ (x : OfPlan). slice_get x.exchange.markers k) (sym is) ∙ there)
 
 -- the marker has one connector less to free
 pub less_left : (o next later : OfPlan) (s observed more : Story) (k : ℕ) → Reaches (λ first now. IsGoingBack first now k) o s next observed
-    → ((m : Marker) → slice_get next.exchange.markers k ≡ Some m → true ≡ gives_up_at m.work) → ChangesAs (walk_of_step k) next observed later more → frees_left later.exchange k < frees_left next.exchange k
+    → ((m : Marker) → slice_get next.exchange.markers k ≡ Some m → true ≡ withdraws_or_frees_at m.work) → ChangesAs (walk_of_step k) next observed later more → frees_left later.exchange k < frees_left next.exchange k
 less_left o next later s observed more k reached goes tells =
     let at = reached s.detail (own_walk o s) (own_stands o s) in
     let later_at = tells s.detail at.0 at.1 in
@@ -154,7 +154,7 @@ less_left o next later s observed more k reached goes tells =
 
 -- and at last none
 pub back_ended : (o next : OfPlan) (s observed : Story) (k : ℕ) → Reaches (λ first now. IsGoingBack first now k) o s next observed
-    → ((m : Marker) → slice_get next.exchange.markers k ≡ Some m → false ≡ gives_up_at m.work) → ChangesAs (walk_of_steps k (frees_left o.exchange k)) o s next observed
+    → ((m : Marker) → slice_get next.exchange.markers k ≡ Some m → false ≡ withdraws_or_frees_at m.work) → ChangesAs (walk_of_steps k (frees_left o.exchange k)) o s next observed
 back_ended o next s observed k reached rests detail w stands =
     let at = reached detail w stands in
     let all = all_back w at.0 k at.2 (ups_at false at.0.office next k at.1.office_is rests) in

@@ -3,9 +3,9 @@ use Rattle.std.proofs.Common.{◌≡◌, ℕ, zero, suc, Bool, true, false, List
 use Rattle.std.specs.Prelude.{flat_map, if◌then◌else◌, map, replicate}
 use Rattle.std.proofs.lemmas.Grind.{flat_map-append}
 use Rattle.xbar_plan.specs.Tables.{Tables}
-use Rattle.xbar_core.specs.Exchange.{Exchange, OfPlan}
-use Rattle.xbar_core.specs.Moves.{after_step}
-use Rattle.xbar_core.specs.Runs.{Steps, run_from}
+use Rattle.xbar_moves.specs.Exchange.{Exchange, OfPlan}
+use Rattle.xbar_moves.specs.Moves.{after_step}
+use Rattle.xbar_moves.specs.Runs.{Steps, run_from}
 use Rattle.xbar_walk.specs.Items.{item_lines, step_item, walk_text_of}
 use Rattle.xbar_walk.specs.Lines.{one_more, step_lines}
 use Rattle.xbar_walk.specs.Runs.{Made, last_number, made_by, made_items, made_lines, walk_of_run}

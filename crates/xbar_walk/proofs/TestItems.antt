@@ -8,11 +8,11 @@ use Rattle.xbar_jobs.specs.Attempt.{next_step}
 use Rattle.xbar_jobs.specs.OnWords.{step_answer, step_word}
 use Rattle.xbar_jobs.specs.declared.step.Step.{Step}
 use Rattle.xbar_jobs.specs.declared.step.Step.TheVariants as step
-use Rattle.xbar_core.specs.AtWork.{next_step_at}
-use Rattle.xbar_core.specs.Exchange.{Exchange, at_marker}
-use Rattle.xbar_core.specs.Moves.{added_record}
-use Rattle.xbar_core.specs.declared.event.Event.{Event}
-use Rattle.xbar_core.proofs.StepCases.{step_cases}
+use Rattle.xbar_moves.specs.AtWork.{next_step_at}
+use Rattle.xbar_moves.specs.Exchange.{Exchange, at_marker}
+use Rattle.xbar_moves.specs.Moves.{added_record}
+use Rattle.xbar_moves.specs.declared.event.Event.{Event}
+use Rattle.xbar_moves.proofs.StepCases.{step_cases}
 use Rattle.xbar_walk.specs.Items.{item_lines, step_item}
 use Rattle.xbar_walk.specs.Lines.{marker_line, step_lines}
 use Rattle.xbar_walk.specs.Rows.{test_line}

@@ -5,15 +5,15 @@ use Rattle.xbar_plan.specs.Tables.{Tables}
 use Rattle.xbar_office.specs.declared.reply.Record.{Record}
 use Rattle.xbar_jobs.specs.declared.step.Step.{Step}
 use Rattle.xbar_jobs.specs.declared.step.Step.TheVariants as step
-use Rattle.xbar_core.specs.AtWork.{next_step_at}
-use Rattle.xbar_core.specs.Exchange.{Exchange, Marker, OfPlan, at_marker, is_idle}
-use Rattle.xbar_core.specs.Moves.{after_step, event_at_step}
-use Rattle.xbar_core.specs.Runs.{Steps}
-use Rattle.xbar_core.specs.declared.event.Event.{Event}
+use Rattle.xbar_moves.specs.AtWork.{next_step_at}
+use Rattle.xbar_moves.specs.Exchange.{Exchange, Marker, OfPlan, at_marker, is_idle}
+use Rattle.xbar_moves.specs.Moves.{after_step, event_at_step}
+use Rattle.xbar_moves.specs.Runs.{Steps}
+use Rattle.xbar_moves.specs.declared.event.Event.{Event}
 use Rattle.xbar_core.proofs.GrownRecords.{move_begins}
-use Rattle.xbar_core.proofs.Markers.{none_within}
-use Rattle.xbar_core.proofs.StepCases.{step_count}
-use Rattle.xbar_core.proofs.Stepping.{step_idle}
+use Rattle.xbar_moves.proofs.Markers.{none_within}
+use Rattle.xbar_moves.proofs.StepCases.{step_count}
+use Rattle.xbar_moves.proofs.Stepping.{step_idle}
 use Rattle.xbar_walk.specs.Walks.{Walk, added_by, walk_of_step, found_by, is_idle_in, next_of, observation_of, walk_of_steps}
 use Rattle.xbar_walk.specs.Items.{Item, step_item}
 use Rattle.xbar_walk.specs.Lines.{one_more}

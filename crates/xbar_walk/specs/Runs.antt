@@ -1,8 +1,8 @@
 use Rattle.std.specs.Prelude.{ℕ, List, [], ◌∷◌, ◌++◌, if◌then◌else◌}
 use Rattle.xbar_plan.specs.Tables.{Tables}
 use Rattle.xbar_office.specs.declared.reply.Record.{Record}
-use Rattle.xbar_core.specs.Exchange.{Exchange}
-use Rattle.xbar_core.specs.Moves.{after_step}
+use Rattle.xbar_moves.specs.Exchange.{Exchange}
+use Rattle.xbar_moves.specs.Moves.{after_step}
 use Rattle.xbar_walk.specs.Items.{Item, step_item}
 use Rattle.xbar_walk.specs.Lines.{one_more, step_lines}
 use Rattle.xbar_walk.specs.Walks.{Walk, added_by, walk_of_step, is_idle_in, observation_of}

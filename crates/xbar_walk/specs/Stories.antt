@@ -1,6 +1,6 @@
 -- What a story describes.
 use Rattle.std.specs.Prelude.{◌≡◌, ℕ, List, [], ◌∷◌, ◌++◌, map, string_bytes}
-use Rattle.xbar_core.specs.Exchange.{OfPlan}
+use Rattle.xbar_moves.specs.Exchange.{OfPlan}
 use Rattle.xbar_walk.specs.Items.{Item, Tests, walk_text_of}
 use Rattle.xbar_walk.specs.Lines.{one_more}
 use Rattle.xbar_walk.specs.Walks.{Walk}

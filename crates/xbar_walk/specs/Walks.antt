@@ -3,12 +3,12 @@ use Rattle.xbar_plan.specs.Tables.{Tables}
 use Rattle.xbar_office.specs.declared.reply.Record.{Record}
 use Rattle.xbar_jobs.specs.declared.step.Step.{Step}
 use Rattle.xbar_jobs.specs.declared.step.Step.TheVariants as step
-use Rattle.xbar_core.specs.AtWork.{is_turned, next_step_at}
-use Rattle.xbar_core.specs.Exchange.{Exchange, OfPlan, at_marker, is_idle}
-use Rattle.xbar_core.specs.Moves.{begun_anew, event_at_step, frees_left, given_at, after_step}
-use Rattle.xbar_core.specs.Settling.{most_steps_alone}
-use Rattle.xbar_core.specs.declared.given.Given.{Given}
-use Rattle.xbar_core.specs.declared.given.Given.TheVariants as given
+use Rattle.xbar_moves.specs.AtWork.{is_turned, next_step_at}
+use Rattle.xbar_moves.specs.Exchange.{Exchange, OfPlan, at_marker, is_idle}
+use Rattle.xbar_moves.specs.Moves.{begun_anew, event_at_step, frees_left, given_at, after_step}
+use Rattle.xbar_moves.specs.Settling.{most_steps_alone}
+use Rattle.xbar_moves.specs.declared.given.Given.{Given}
+use Rattle.xbar_moves.specs.declared.given.Given.TheVariants as given
 use Rattle.xbar_walk.specs.Items.{Item, Says, step_item}
 use Rattle.xbar_walk.specs.Lines.{one_more, settling_line}
 use Rattle.xbar_walk.specs.declared.observation.Observation.{Observation}

@@ -13,8 +13,8 @@ use Rattle.xbar_office.specs.declared.reply.Record.{Record}
 use Rattle.xbar_report.specs.Parts.{end_name}
 use Rattle.xbar_jobs.specs.declared.step.Step.{Step}
 use Rattle.xbar_jobs.specs.declared.step.Step.TheVariants as step
-use Rattle.xbar_core.specs.declared.event.Event.{Event}
-use Rattle.xbar_core.specs.declared.event.Event.TheVariants as event
+use Rattle.xbar_moves.specs.declared.event.Event.{Event}
+use Rattle.xbar_moves.specs.declared.event.Event.TheVariants as event
 use Rattle.xbar_walk.specs.Places.{conn_name, place_name, place_of}
 use Rattle.xbar_walk.specs.Shown.{listed, shown}
 use Rattle.xbar_walk.specs.declared.place.Place.{Place}

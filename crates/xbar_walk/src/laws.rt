@@ -1,8 +1,8 @@
 //! Laws of the text that describes a walk. Each function does nothing: its contract is the law.
 
 ghost use Rattle.std.specs.Prelude.{◌≡◌, ◌<◌, ◌++◌, ℕ, All, List, flat_map, map, replicate, true};
-ghost use Rattle.xbar_core.specs.Runs as runs;
-ghost use Rattle.xbar_core.specs.Runs.{run_from};
+ghost use Rattle.xbar_moves.specs.Runs as runs;
+ghost use Rattle.xbar_moves.specs.Runs.{run_from};
 ghost use Rattle.xbar_equip.specs.Word as words;
 ghost use Rattle.xbar_equip.specs.Word.{word_number};
 ghost use Rattle.xbar_walk.specs.Places.{place_of};

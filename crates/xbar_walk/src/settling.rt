@@ -1,9 +1,9 @@
 //! Settles an office and describes each step.
 
 ghost use Rattle.std.specs.Prelude.{◌≡◌, ◌<◌, OnOk, length, slice_get};
-ghost use Rattle.xbar_core.specs.AtWork.{IsBackingAt};
-ghost use Rattle.xbar_core.specs.Moves.{frees_left};
-ghost use Rattle.xbar_core.specs.Settling.{settled};
+ghost use Rattle.xbar_moves.specs.AtWork.{IsBackingAt};
+ghost use Rattle.xbar_moves.specs.Moves.{frees_left};
+ghost use Rattle.xbar_moves.specs.Settling.{settled};
 ghost use Rattle.xbar_walk.specs.Parts.{walk_of_part};
 ghost use Rattle.xbar_walk.specs.Stories.{ChangesAs};
 ghost use Rattle.xbar_walk.specs.Walks.{walk_of_end, walk_of_end_past_turn, walk_for_each, walk_of_give_back, walk_of_settling, walk_of_steps};
@@ -60,7 +60,7 @@ fn walk_back(exchange: &mut Exchange<'_>, marker: u32, story: &mut Story) -> Res
         (ChangesAs (walk_of_steps marker (frees_left exchange.old.exchange marker))
         exchange.old story.old exchange.new story.new) }
 {
-    while exchange.is_giving_up(marker) {
+    while exchange.withdraws_or_frees(marker) {
         walk_step(exchange, marker, story)?;
     }
     Ok(())

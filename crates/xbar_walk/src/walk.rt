@@ -1,7 +1,7 @@
 //! Makes the steps of markers and describes each of them.
 
 ghost use Rattle.std.specs.Prelude.{◌≡◌, ◌<◌, ◌≤◌, OnOk, drop, length};
-ghost use Rattle.xbar_core.specs.Moves.{after_step, steps};
+ghost use Rattle.xbar_moves.specs.Moves.{after_step, steps};
 ghost use Rattle.xbar_walk.specs.Items.{step_item};
 ghost use Rattle.xbar_walk.specs.Stories.{AddsStep, ChangesAs};
 ghost use Rattle.xbar_walk.specs.Walks.{walk_of_step, observation_of, walk_of_steps};

@@ -39,11 +39,16 @@ fn calls_are_kept(rt: HostRuntime) -> Result<(), Fail> {
     let mut reader = Recorder::new(rt.alloc(), b"abc".as_slice());
     let reads = [reader.read(&mut [0; 2])?, reader.read(&mut [])?];
     check_eq!(rt; reads, [2, 0]);
-    let wanted = [Call::Read(2), Call::Read(0)];
+    let wanted = [DeviceCall::Read(2), DeviceCall::Read(0)];
     check_eq!(rt; reader.calls.as_slice(), wanted.as_slice());
     let mut writer = Recorder::new(rt.alloc(), Vec::new(rt.alloc()));
     check_eq!(rt; writer.write(b"abc")?, 3);
     writer.flush()?;
-    check_device(&rt, &writer, &[Call::Write(3), Call::Flush], b"abc");
+    check_device(
+        &rt,
+        &writer,
+        &[DeviceCall::Write(3), DeviceCall::Flush],
+        b"abc",
+    );
     Ok(())
 }

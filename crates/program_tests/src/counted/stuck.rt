@@ -36,12 +36,12 @@ impl Write for Stuck {
     }
 }
 
-const BIT_BY_BIT: &[Call] = &[
-    Call::Write(8),
-    Call::Write(6),
-    Call::Write(4),
-    Call::Write(2),
-    Call::Flush,
+const BIT_BY_BIT: &[DeviceCall] = &[
+    DeviceCall::Write(8),
+    DeviceCall::Write(6),
+    DeviceCall::Write(4),
+    DeviceCall::Write(2),
+    DeviceCall::Flush,
 ];
 
 #[test]

@@ -5,7 +5,7 @@ use crossbar5::EngineFault;
 use crossbar5_cli::Ending;
 use std::process::Abort;
 use std::test::Fail;
-use test_tools::{Call, Endless, Recorder, check, check_eq};
+use test_tools::{DeviceCall, Endless, Recorder, check, check_eq};
 
 /// Command lines, each with an input.
 const TASKS: &[(&str, &str)] = &[
@@ -167,9 +167,9 @@ fn output_goes_out_in_one_write_and_one_flush(rt: HostRuntime) -> Result<(), Fai
         &mut errors,
     )?;
     // The second read finds the end.
-    let reads = [Call::Read(4096); 2];
+    let reads = [DeviceCall::Read(4096); 2];
     check_eq!(rt; input.get_ref().calls.as_slice(), reads.as_slice());
-    let writes = [Call::Write(FIRST_TEXT.len()), Call::Flush];
+    let writes = [DeviceCall::Write(FIRST_TEXT.len()), DeviceCall::Flush];
     check_eq!(rt; output.get_ref().calls.as_slice(), writes.as_slice());
     check_eq!(rt; text_in(&errors), "");
     Ok(())

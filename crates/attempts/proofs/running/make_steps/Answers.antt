@@ -11,7 +11,7 @@ pub continue_with-requires : goal.continue_with-requires
 continue_with-requires g c = search
 
 pub overflow_sub-result : goal.overflow_sub-result
-overflow_sub-result g c = left_fits g.S.Lock.PartialEq.eq g.S.Scripts.reply_of g.S.Scripts.effects_of (g.S.Scripts.system c.args.setting.now) (g.S.Scripts.ResumePointIsValid c.args.setting.now) g.row.READINGS g.row.HELD c.requires.may.scripts c.args.actor c.requires.actor c.args.attempt.now c.requires.may.valid c.in-Some.ensures.wants c.args.most c.args.words.now c.walk_by_steps-found.new.words c.are_words.ensures (subst (λ (hold : ℕ). hold < 2 ^ 64) c.seized_word-word.ensures c.seized_word-word.type_inv) c.walk_by_steps-found.result c.walk_by_steps-found.new.attempt c.walk_by_steps-found.new.left (subst (λ (hold : ℕ). WalksBySteps g.S.Lock.PartialEq.eq (g.S.Scripts.system c.args.setting.now) (g.S.Scripts.ResumePointIsValid c.args.setting.now) g.row.READINGS g.row.HELD c.args.most hold c.args.attempt.now c.args.words.now c.walk_by_steps-found.new.attempt c.walk_by_steps-found.new.words c.walk_by_steps-found.result c.walk_by_steps-found.new.left) c.seized_word-word.ensures c.walk_by_steps-found.ensures)
+overflow_sub-result g c = left_fits g.S.Lock.PartialEq.eq g.S.Scripts.reply_of g.S.Scripts.effects_of (g.S.Scripts.system c.args.setting.now) (g.S.Scripts.ResumePointIsValid c.args.setting.now) g.row.READINGS g.row.HELD c.requires.may.scripts c.args.actor c.requires.actor c.args.attempt.now c.requires.may.valid c.in-Some.ensures.wants c.args.most c.args.words.now c.walk_by_steps-found.new.words c.are_words.ensures (subst (λ (held_word : ℕ). held_word < 2 ^ 64) c.seized_word-word.ensures c.seized_word-word.type_inv) c.walk_by_steps-found.result c.walk_by_steps-found.new.attempt c.walk_by_steps-found.new.left (subst (λ (held_word : ℕ). WalksBySteps g.S.Lock.PartialEq.eq (g.S.Scripts.system c.args.setting.now) (g.S.Scripts.ResumePointIsValid c.args.setting.now) g.row.READINGS g.row.HELD c.args.most held_word c.args.attempt.now c.args.words.now c.walk_by_steps-found.new.attempt c.walk_by_steps-found.new.words c.walk_by_steps-found.result c.walk_by_steps-found.new.left) c.seized_word-word.ensures c.walk_by_steps-found.ensures)
 
 pub returns : goal.returns
-returns g c = runs_on g.S.Lock.PartialEq.eq g.S.Scripts.reply_of g.S.Scripts.effects_of (g.S.Scripts.system c.args.setting.now) (g.S.Scripts.ResumePointIsValid c.args.setting.now) g.row.READINGS g.row.HELD c.requires.may.scripts c.args.actor c.requires.actor c.args.attempt.now c.requires.may.valid c.in-Some.ensures.wants c.args.most c.args.words.now c.walk_by_steps-found.new.words c.are_words.ensures (subst (λ (hold : ℕ). hold < 2 ^ 64) c.seized_word-word.ensures c.seized_word-word.type_inv) c.walk_by_steps-found.result c.walk_by_steps-found.new.attempt c.walk_by_steps-found.new.left (subst (λ (hold : ℕ). WalksBySteps g.S.Lock.PartialEq.eq (g.S.Scripts.system c.args.setting.now) (g.S.Scripts.ResumePointIsValid c.args.setting.now) g.row.READINGS g.row.HELD c.args.most hold c.args.attempt.now c.args.words.now c.walk_by_steps-found.new.attempt c.walk_by_steps-found.new.words c.walk_by_steps-found.result c.walk_by_steps-found.new.left) c.seized_word-word.ensures c.walk_by_steps-found.ensures) c.continue_with.new.self c.continue_with.ensures
+returns g c = runs_on g.S.Lock.PartialEq.eq g.S.Scripts.reply_of g.S.Scripts.effects_of (g.S.Scripts.system c.args.setting.now) (g.S.Scripts.ResumePointIsValid c.args.setting.now) g.row.READINGS g.row.HELD c.requires.may.scripts c.args.actor c.requires.actor c.args.attempt.now c.requires.may.valid c.in-Some.ensures.wants c.args.most c.args.words.now c.walk_by_steps-found.new.words c.are_words.ensures (subst (λ (held_word : ℕ). held_word < 2 ^ 64) c.seized_word-word.ensures c.seized_word-word.type_inv) c.walk_by_steps-found.result c.walk_by_steps-found.new.attempt c.walk_by_steps-found.new.left (subst (λ (held_word : ℕ). WalksBySteps g.S.Lock.PartialEq.eq (g.S.Scripts.system c.args.setting.now) (g.S.Scripts.ResumePointIsValid c.args.setting.now) g.row.READINGS g.row.HELD c.args.most held_word c.args.attempt.now c.args.words.now c.walk_by_steps-found.new.attempt c.walk_by_steps-found.new.words c.walk_by_steps-found.result c.walk_by_steps-found.new.left) c.seized_word-word.ensures c.walk_by_steps-found.ensures) c.continue_with.new.self c.continue_with.ensures

@@ -1,5 +1,5 @@
+use Rattle.crossbar5_answer.proofs.PlanRefusals.{refused_input}
 use Rattle.crossbar5.specs.Task.{IsDoneUnder}
-use Rattle.crossbar5.proofs.PlanRefusals.{refused_input}
 use Rattle.crossbar5.proofs.engine.do_task.Goals as goal
 
 pub returns-in-Refused-clause-done : goal.returns-in-Refused-clause-done

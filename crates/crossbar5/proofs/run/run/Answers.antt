@@ -1,10 +1,10 @@
 use Rattle.std.proofs.Common.{List, length, get_or, arith, sym, ◌∙◌, ap, subst}
 use Rattle.std.specs.Prelude.{IfOk}
 use Rattle.xbar_plan.specs.Tables.{Tables}
-use Rattle.xbar_core.specs.Settling.{settled}
+use Rattle.xbar_moves.specs.Settling.{settled}
 use Rattle.crossbar5.specs.Run.{IsOneHistory, Leaves}
 use Rattle.xbar_traffic.specs.declared.row.Row.{Row}
-use Rattle.crossbar5.proofs.RunRows.{end_refused, end_settled, history_if_ok, left_if_ok, refused_history, row_done, row_refused, rows_done, written_as}
+use Rattle.crossbar5.proofs.RunRows.{end_refused, end_settled, history_if_ok, left_if_ok, refused_as, refused_history, row_done, row_refused, rows_done, written_as}
 use Rattle.crossbar5.proofs.run.run.Goals as goal
 
 pub returns-in-Some-clause-written : goal.returns-in-Some-clause-written
@@ -12,7 +12,7 @@ returns-in-Some-clause-written c =
     let same = c.deref-row-items.ensures.value in
     let size = ap length same in
     let here = c.row-item.is ∙ ap (λ (rows : List Row). get_or rows c.loop-row.row-index c.row-item.result) same in
-    written_as _ _ _
+    refused_as _ _ _
     (row_refused c.args.plan.now c.args.kinds.now c.args.traffic.now.rows.items c.args.traffic.now.fault c.loop-row.office c.loop-row.number c.loop-row.row-index c.loop-row.invariant c.row-item.result c.in-Some.why (omega arith) here (sym c.in_ok-why.ensures.fault ∙ c.in-Some.is))
     c.refused.ensures
 
@@ -35,7 +35,7 @@ pub returns-in-Some-refusal-clause-written : goal.returns-in-Some-refusal-clause
 returns-in-Some-refusal-clause-written c =
     let size = ap length c.deref-row-items.ensures.value in
     let past = c.loop-row-test.false in
-    written_as _ _ _
+    refused_as _ _ _
     (rows_done c.args.plan.now c.args.kinds.now c.args.traffic.now.rows.items c.args.traffic.now.fault c.loop-row.office c.loop-row.number c.loop-row.row-index c.loop-row.invariant (omega arith)
     ∙ end_refused c.args.plan.now c.loop-row.office.exchange c.loop-row.number _ c.args.traffic.now.fault c.in-Some-refusal.fault (omega (arith, c.deref-row-items.ensures.len, c.loop-row.invariant.count)) (sym c.refusal.ensures ∙ c.in-Some-refusal.is))
     c.refused-in-Some-refusal.ensures

@@ -1,5 +1,5 @@
 use Rattle.std.proofs.Common.{ℕ, ◌<◌, ◌^◌, ◌∙◌, length, sym, ap, subst}
-use Rattle.xbar_core.specs.Exchange.{OfPlan}
+use Rattle.xbar_moves.specs.Exchange.{OfPlan}
 use Rattle.crossbar5.specs.Run.{IsOneHistory}
 use Rattle.crossbar5.proofs.SettledHistory.{settled_history}
 use Rattle.crossbar5.proofs.run.settled.Goals as goal

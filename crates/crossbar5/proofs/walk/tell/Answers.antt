@@ -1,6 +1,6 @@
 use Rattle.std.proofs.Common.{List, length, get_or, arith, sym, ◌∙◌, ap}
 use Rattle.xbar_plan.specs.Tables.{Tables}
-use Rattle.xbar_core.specs.Settling.{settled}
+use Rattle.xbar_moves.specs.Settling.{settled}
 use Rattle.xbar_traffic.specs.declared.row.Row.{Row}
 use Rattle.crossbar5.specs.Run.{Leaves}
 use Rattle.crossbar5.proofs.RunRows.{end_refused, end_settled, has_opened, row_done, row_refused, rows_done}

@@ -1,10 +1,10 @@
 use Rattle.std.proofs.Common.{◌≡◌, ◌∙◌, ◌-◌, ℕ, List, Option, Result, Ok, Err, ap, option_map, rules, subst, sym}
-use Rattle.crossbar5.specs.declared.response.Response.{Response}
-use Rattle.crossbar5.specs.declared.engine_fault.EngineFault.{EngineFault}
-use Rattle.crossbar5.specs.declared.engine_fault.EngineFault.TheVariants.{Device, Markers}
-use Rattle.crossbar5_cli.specs.Endings.{ending_of_run}
-use Rattle.crossbar5_cli.specs.Sentences.{sentence_on_run}
-use Rattle.crossbar5_cli.specs.declared.ending.Ending.TheVariants.{Failed}
+use Rattle.crossbar5_answer.specs.declared.response.Response.{Response}
+use Rattle.crossbar5_answer.specs.declared.engine_fault.EngineFault.{EngineFault}
+use Rattle.crossbar5_answer.specs.declared.engine_fault.EngineFault.TheVariants.{Device, Markers}
+use Rattle.crossbar5_endings.specs.Endings.{ending_of_run}
+use Rattle.crossbar5_endings.specs.Sentences.{sentence_on_run}
+use Rattle.crossbar5_endings.specs.declared.ending.Ending.TheVariants.{Failed}
 use Rattle.crossbar5_cli.proofs.Answering.{run_end}
 use Rattle.crossbar5_cli.proofs.asked.perform.Goals as goal
 

@@ -1,5 +1,5 @@
+use Rattle.crossbar5_answer.proofs.PlanRefusals.{refused_input}
 use Rattle.crossbar5_live.specs.Live.{IsLiveUnder}
-use Rattle.crossbar5.proofs.PlanRefusals.{refused_input}
 use Rattle.crossbar5_live.proofs.answer.do_live.Goals as goal
 
 pub returns-in-Refused-clause-live : goal.returns-in-Refused-clause-live

@@ -1,5 +1,5 @@
 use Rattle.std.proofs.Common.{rules, ◌≡◌, ◌∙◌, ap, Err}
-use Rattle.crossbar5.specs.declared.engine_fault.EngineFault.{EngineFault}
+use Rattle.crossbar5_answer.specs.declared.engine_fault.EngineFault.{EngineFault}
 use Rattle.crossbar5_live.proofs.answer.run_live.Goals as goal
 
 pub returns-in_err-answer-clause-no_failure : goal.returns-in_err-answer-clause-no_failure

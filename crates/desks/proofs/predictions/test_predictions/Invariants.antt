@@ -24,5 +24,5 @@ decreases-loop-prediction g l = length (g.F.Jobs.predictions_of l.program) - l.m
 
 abbrev pub ghosts-make : goal.ghosts-make
 ghosts-make g a =
-    let O = system_of (g.F.Jobs.system a.setting.now) in
-    record { then = λ before found after. HasMoved O a.actor a._number (confirmed O (g.F.Jobs.attempt a._program.now) (g.F.Jobs.predictions_of a._program.now) a._tested) (seen_in before) found after }
+    let O = system_of (g.F.Jobs.system a._setting.now) in
+    record { then = λ before found after. HasMoved O a._actor a._number (confirmed O (g.F.Jobs.attempt a._program.now) (g.F.Jobs.predictions_of a._program.now) a._tested) (seen_in before) found after }

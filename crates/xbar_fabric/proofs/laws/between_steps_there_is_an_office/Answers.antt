@@ -1,8 +1,8 @@
 use Rattle.std.proofs.Common.{ℕ, List, refl, sym, subst, ◌∙◌}
 use Rattle.turns.specs.World.{World}
 use Rattle.xbar_jobs.specs.Office.{office}
-use Rattle.xbar_core.specs.Links.{IsClosed, OpensItsOwn}
-use Rattle.xbar_core.specs.declared.kind.Kind.TheVariants.{Combined}
+use Rattle.xbar_moves.specs.Links.{IsClosed, OpensItsOwn}
+use Rattle.xbar_moves.specs.declared.kind.Kind.TheVariants.{Combined}
 use Rattle.xbar_fabric.proofs.Offices.{is_lawful, length-made, office_of}
 use Rattle.xbar_fabric.proofs.laws.between_steps_there_is_an_office.Goals as goal
 

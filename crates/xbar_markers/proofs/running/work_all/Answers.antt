@@ -1,6 +1,6 @@
 use Rattle.std.proofs.Common.{◌≡◌, ℕ, ◌++◌, List, arith, map, length, take, drop, sym, ap, ◌∙◌, subst}
 use Rattle.std.proofs.lemmas.List.Elements.{All-same}
-use Rattle.xbar_core.specs.declared.kind.Kind.TheVariants.{Completing, Dial}
+use Rattle.xbar_moves.specs.declared.kind.Kind.TheVariants.{Completing, Dial}
 use Rattle.xbar_fabric.specs.Views.{DeskView}
 use Rattle.xbar_markers.specs.ThreadStates.{IsThreadState, IsThere}
 use Rattle.xbar_markers.specs.declared.thread_state.ThreadState.{ThreadState}
@@ -82,6 +82,6 @@ returns-clause-share g c =
     (c.in_ok-gather.ensures.workers ∙ ap (λ (l : List (Worker DeskView g.row.G.Denot)). l ++ map (λ (s : ThreadState DeskView g.row.G.Denot). s.worker) ran.dialling.items) c.new-workers.ensures.items) in
     all_gathered c.count_dialling-dialling_count.result c.args.desks.items c.in_ok-dialling.dialling.items c.split_off.new.self.items c.in_ok-completing.completing.items ran.dialling.items ran.completing.items
     ran.whole c.gather.new.whole c.gather-2.new.whole c.gather-2.new.workers.items
-    hired.none c.in_ok-completing.ensures.items c.in_ok-completing.ensures.tail stayed.dialling.stay stayed.completing.stay
+    hired.none c.in_ok-completing.ensures.items c.in_ok-completing.ensures.tail stayed.dialling.keep_shares stayed.completing.keep_shares
     (nobodys_after c.args.queues.now filled.0 _ c.args.whole c.open_states.new.whole ran.whole filled.1 hired.calls hired.tasks (ap (λ (v : _). v.items) hired.lists.0) (ap (λ (v : _). v.items) hired.lists.1) stayed.whole)
     c.in_ok-gather.ensures.shares c.in_ok-gather-2.ensures.shares workers

@@ -2,7 +2,7 @@ use Rattle.std.proofs.Common.{arith}
 use Rattle.std.proofs.lemmas.Result.{IfOk-weaker}
 use denote.Exit.{no}
 use denote.Param.Send.{arg_send, param_send}
-use Rattle.xbar_core.specs.declared.kind.Kind.TheVariants.{Completing}
+use Rattle.xbar_moves.specs.declared.kind.Kind.TheVariants.{Completing}
 use Rattle.xbar_markers.proofs.Sent.{seat_or_error_send, seat_send}
 use Rattle.xbar_markers.proofs.Stayed.{all_stayed}
 use Rattle.xbar_markers.proofs.stages.complete_stage.Goals as goal

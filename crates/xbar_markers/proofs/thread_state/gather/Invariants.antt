@@ -1,5 +1,5 @@
 use Rattle.std.proofs.Common.{◌≡◌, ◌+◌, ◌++◌, List, All, length, map}
-use Rattle.xbar_core.specs.declared.kind.Kind.{Kind}
+use Rattle.xbar_moves.specs.declared.kind.Kind.{Kind}
 use Rattle.xbar_fabric.specs.Views.{DeskView}
 use Rattle.xbar_markers.specs.ThreadStates.{AreStatesOf, IsThreadState, desk_at}
 use Rattle.xbar_markers.specs.Shares.{IsShareOf, MayUse}

@@ -9,8 +9,8 @@ loop-exchange-init c =
     reaches_none c.args.exchange.now c.args.story.now (λ first now. IsGoingBack first now c.args.marker)
     (λ w is. none_back w c.args.marker (on_office c.args.exchange.now w.office c.args.marker (sym is) c.requires.backs))
 
-pub is_giving_up-requires : goal.is_giving_up-requires
-is_giving_up-requires c = reached_within _ _ _ _ _ c.loop-exchange.invariant c.args.marker (λ first now back. back.size) c.requires.within
+pub withdraws_or_frees-requires : goal.withdraws_or_frees-requires
+withdraws_or_frees-requires c = reached_within _ _ _ _ _ c.loop-exchange.invariant c.args.marker (λ first now back. back.size) c.requires.within
 
 pub walk_step-requires : goal.walk_step-requires
 walk_step-requires c = reached_within _ _ _ _ _ c.loop-exchange.invariant c.args.marker (λ first now back. back.size) c.requires.within

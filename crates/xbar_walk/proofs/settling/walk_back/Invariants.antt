@@ -1,4 +1,4 @@
-use Rattle.xbar_core.specs.Moves.{frees_left}
+use Rattle.xbar_moves.specs.Moves.{frees_left}
 use Rattle.xbar_walk.proofs.Reaching.{Reaches}
 use Rattle.xbar_walk.proofs.Settlings.{IsGoingBack}
 use Rattle.xbar_walk.proofs.settling.walk_back.Given as goal

@@ -1,5 +1,5 @@
 use Rattle.std.proofs.Common.{true, false, sym, ◌∙◌, ap}
-use Rattle.xbar_core.specs.Exchange.{OfPlan}
+use Rattle.xbar_moves.specs.Exchange.{OfPlan}
 use Rattle.xbar_walk.specs.Walks.{is_past_turn_in, walk_of_end, walk_of_end_past_turn}
 use Rattle.xbar_walk.proofs.Reaching.{stays_told, told_as}
 use Rattle.xbar_walk.proofs.Settlings.{other_stays, past_ends, past_is}

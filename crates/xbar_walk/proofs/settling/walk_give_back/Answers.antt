@@ -1,7 +1,7 @@
 use Rattle.std.proofs.Common.{false, true, ◌∙◌, ap}
-use Rattle.xbar_core.specs.Exchange.{OfPlan}
-use Rattle.xbar_core.specs.Moves.{given_at}
-use Rattle.xbar_core.specs.declared.given.Given.TheVariants as given
+use Rattle.xbar_moves.specs.Exchange.{OfPlan}
+use Rattle.xbar_moves.specs.Moves.{given_at}
+use Rattle.xbar_moves.specs.declared.given.Given.TheVariants as given
 use Rattle.xbar_walk.specs.Walks.{walk_of_give_back}
 use Rattle.xbar_walk.proofs.Reaching.{stays_told}
 use Rattle.xbar_walk.proofs.Settlings.{anew_backs, anew_within, back_tells, given_as, given_tells, idle_given}

@@ -1,6 +1,6 @@
 use Rattle.std.proofs.Common.{true, false, length, ◌∙◌, ap, arith}
 use Rattle.xbar_office.specs.declared.reply.Record.{Record}
-use Rattle.xbar_core.specs.Exchange.{OfPlan}
+use Rattle.xbar_moves.specs.Exchange.{OfPlan}
 use Rattle.xbar_walk.specs.Walks.{walk_of_step, is_idle_in}
 use Rattle.xbar_walk.proofs.Reaching.{stays_told}
 use Rattle.xbar_walk.proofs.ToldSteps.{idle_is, idle_tells_none, made_tells, records_within}

@@ -1,5 +1,5 @@
 use Rattle.std.proofs.Common.{true, refl, ap, ◌∙◌, arith}
-use Rattle.xbar_core.specs.Exchange.{OfPlan}
+use Rattle.xbar_moves.specs.Exchange.{OfPlan}
 use Rattle.xbar_walk.specs.Walks.{walk_of_step, is_idle_in, walk_of_steps}
 use Rattle.xbar_walk.proofs.Reaching.{office_told, own_walk, reached_within, reaches_all, reaches_none, reaches_on}
 use Rattle.xbar_walk.proofs.Settlings.{steps_make}

@@ -4,4 +4,4 @@ use Rattle.attempts.specs.WalkOnWords.{WalkState}
 use Rattle.attempts.proofs.seen.Seen.fits_words.Goals as goal
 
 pub returns : goal.returns
-returns g c = subst (λ (course : WalkState _). AreReadWords course.seen.readings) c.self.view_is c.as_slice-readings.ensures.words
+returns g c = subst (λ (state : WalkState _). AreReadWords state.seen.readings) c.self.view_is c.as_slice-readings.ensures.words

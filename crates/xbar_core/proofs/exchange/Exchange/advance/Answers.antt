@@ -1,10 +1,10 @@
 use Rattle.std.proofs.Common.{◌<◌, length, sym, ◌∙◌, ap, subst, arith}
-use Rattle.xbar_core.specs.Exchange.{Exchange, OfPlan}
-use Rattle.xbar_core.specs.Moves.{after_step}
+use Rattle.xbar_moves.specs.Exchange.{Exchange, OfPlan}
+use Rattle.xbar_moves.specs.Moves.{after_step}
 use Rattle.xbar_core.specs.Standing.{HasRoom, IsExchange}
-use Rattle.xbar_core.proofs.Markers.{waits_among}
+use Rattle.xbar_core.proofs.WaitingMarkers.{waits_among}
 use Rattle.xbar_core.proofs.Kept.{kept_stepped, room_stepped}
-use Rattle.xbar_core.proofs.Stepping.{marker_read, step_whole}
+use Rattle.xbar_core.proofs.MarkerSteps.{marker_read, step_whole}
 use Rattle.xbar_core.proofs.exchange.Exchange.advance.Goals as goal
 
 pub advance-requires-clause-room : goal.advance-requires-clause-room

@@ -2,12 +2,12 @@ use Rattle.std.proofs.Common.{◌≡◌, slice_set, sym, ◌∙◌, ap, subst, a
 use Rattle.turns.specs.Attempt.{begin_with}
 use Rattle.turns.specs.World.{Does}
 use Rattle.xbar_jobs.specs.Jobs.{first_conn}
-use Rattle.xbar_core.specs.Exchange.{Exchange, OfPlan}
-use Rattle.xbar_core.specs.Moves.{assigned, refusal}
+use Rattle.xbar_moves.specs.Exchange.{Exchange, OfPlan}
+use Rattle.xbar_moves.specs.Moves.{assigned, refusal}
 use Rattle.xbar_core.specs.Standing.{HasRoom, IsExchange}
-use Rattle.xbar_core.proofs.Jobs.{assigned_is}
+use Rattle.xbar_moves.proofs.Jobs.{assigned_is}
 use Rattle.xbar_core.proofs.Kept.{kept_assigned, room_assigned, within_if_taken}
-use Rattle.xbar_core.proofs.Stepping.{marker_read}
+use Rattle.xbar_core.proofs.MarkerSteps.{marker_read}
 use Rattle.xbar_core.proofs.exchange.Exchange.assign.Goals as goal
 
 pub invariant_of-self-2 : goal.invariant_of-self-2

@@ -1,4 +1,4 @@
-use Rattle.xbar_core.specs.Settling.{ended}
+use Rattle.xbar_moves.specs.Settling.{ended}
 use Rattle.xbar_core.proofs.Loops.{end_counts, none_changed, one_changed}
 use Rattle.xbar_core.proofs.exchange.Exchange.end_all.Goals as goal
 

@@ -1,4 +1,4 @@
-use Rattle.xbar_core.specs.Settling.{ended}
+use Rattle.xbar_moves.specs.Settling.{ended}
 use Rattle.xbar_core.proofs.Loops.{AreChanged}
 use Rattle.xbar_core.proofs.exchange.Exchange.end_all.Given as goal
 

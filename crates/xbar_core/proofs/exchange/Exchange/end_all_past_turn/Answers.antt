@@ -1,4 +1,4 @@
-use Rattle.xbar_core.specs.Settling.{ended_past_turn}
+use Rattle.xbar_moves.specs.Settling.{ended_past_turn}
 use Rattle.xbar_core.proofs.Loops.{past_counts, none_changed, one_changed}
 use Rattle.xbar_core.proofs.exchange.Exchange.end_all_past_turn.Goals as goal
 

@@ -1,8 +1,8 @@
 use Rattle.std.proofs.Common.{◌≡◌, ℕ, sym, ◌∙◌, ap}
-use Rattle.xbar_core.specs.Exchange.{Exchange, OfPlan}
-use Rattle.xbar_core.specs.Moves.{begun_anew, frees_left, given_at, steps}
-use Rattle.xbar_core.proofs.Backing.{anew, back_goes, back_rests}
-use Rattle.xbar_core.proofs.Jobs.{given_is}
+use Rattle.xbar_moves.specs.Exchange.{Exchange, OfPlan}
+use Rattle.xbar_moves.specs.Moves.{begun_anew, frees_left, given_at, steps}
+use Rattle.xbar_moves.proofs.Backing.{anew, back_goes, back_rests}
+use Rattle.xbar_moves.proofs.Jobs.{given_is}
 use Rattle.xbar_core.proofs.exchange.Exchange.give_back.Goals as goal
 
 pub returns-in-Given-clause-back : goal.returns-in-Given-clause-back

@@ -1,4 +1,4 @@
-use Rattle.xbar_core.specs.Moves.{given_back}
+use Rattle.xbar_moves.specs.Moves.{given_back}
 use Rattle.xbar_core.proofs.Loops.{back_counts, none_changed, one_changed}
 use Rattle.xbar_core.proofs.exchange.Exchange.give_back_all.Goals as goal
 

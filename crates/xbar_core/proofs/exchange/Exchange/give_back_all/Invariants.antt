@@ -1,4 +1,4 @@
-use Rattle.xbar_core.specs.Moves.{given_back}
+use Rattle.xbar_moves.specs.Moves.{given_back}
 use Rattle.xbar_core.proofs.Loops.{AreChanged}
 use Rattle.xbar_core.proofs.exchange.Exchange.give_back_all.Given as goal
 

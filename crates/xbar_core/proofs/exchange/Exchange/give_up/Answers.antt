@@ -1,5 +1,5 @@
 use Rattle.std.proofs.Common.{sym}
-use Rattle.xbar_core.proofs.Backing.{all_given, less_given, none_given, one_given}
+use Rattle.xbar_moves.proofs.Backing.{all_given, less_given, none_given, one_given}
 use Rattle.xbar_core.proofs.exchange.Exchange.give_up.Goals as goal
 
 pub loop-self-init : goal.loop-self-init

@@ -1,5 +1,5 @@
-use Rattle.xbar_core.specs.Moves.{frees_left}
-use Rattle.xbar_core.proofs.Backing.{IsGivingUp}
+use Rattle.xbar_moves.specs.Moves.{frees_left}
+use Rattle.xbar_moves.proofs.Backing.{IsGivingUp}
 use Rattle.xbar_core.proofs.exchange.Exchange.give_up.Given as goal
 
 abbrev pub invariant-loop-self : goal.invariant-loop-self

@@ -1,5 +1,5 @@
 use Rattle.std.proofs.Common.{◌≡◌, sym, subst, arith}
-use Rattle.xbar_core.specs.Exchange.{Exchange, fresh_exchange}
+use Rattle.xbar_moves.specs.Exchange.{Exchange, fresh_exchange}
 use Rattle.xbar_core.specs.Standing.{HasRoom, IsExchange}
 use Rattle.xbar_core.proofs.Kept.{kept_opened, none_waits}
 use Rattle.xbar_core.proofs.exchange.Exchange.open.Goals as goal

@@ -1,10 +1,10 @@
 use Rattle.std.proofs.Common.{◌<◌, length, slice_set, sym, ◌∙◌, ap, subst, arith}
-use Rattle.xbar_core.specs.Exchange.{Exchange, OfPlan}
-use Rattle.xbar_core.specs.Moves.{begun_anew}
+use Rattle.xbar_moves.specs.Exchange.{Exchange, OfPlan}
+use Rattle.xbar_moves.specs.Moves.{begun_anew}
 use Rattle.xbar_core.specs.Standing.{HasRoom, IsExchange}
-use Rattle.xbar_core.proofs.Jobs.{begun_is}
+use Rattle.xbar_moves.proofs.Jobs.{begun_is}
 use Rattle.xbar_core.proofs.Kept.{kept_anew, room_anew}
-use Rattle.xbar_core.proofs.Stepping.{marker_read}
+use Rattle.xbar_core.proofs.MarkerSteps.{marker_read}
 use Rattle.xbar_core.proofs.exchange.Exchange.restart.Goals as goal
 
 pub invariant_of-self : goal.invariant_of-self

@@ -1,10 +1,10 @@
 use Rattle.std.proofs.Common.{◌<◌, length, sym, ◌∙◌, ap, subst, arith}
-use Rattle.xbar_core.specs.Exchange.{Exchange, OfPlan}
-use Rattle.xbar_core.specs.Moves.{steps}
+use Rattle.xbar_moves.specs.Exchange.{Exchange, OfPlan}
+use Rattle.xbar_moves.specs.Moves.{steps}
 use Rattle.xbar_core.specs.Standing.{HasRoom, IsExchange}
-use Rattle.xbar_core.proofs.Keeping.{steps_keep}
+use Rattle.xbar_moves.proofs.Keeping.{steps_keep}
 use Rattle.xbar_core.proofs.Kept.{kept_stepped, room_stepped}
-use Rattle.xbar_core.proofs.Stepping.{marker_read, steps_whole}
+use Rattle.xbar_core.proofs.MarkerSteps.{marker_read, steps_whole}
 use Rattle.xbar_core.proofs.exchange.Exchange.run.Goals as goal
 
 pub invariant_of-self : goal.invariant_of-self

@@ -1,8 +1,8 @@
 use Rattle.std.proofs.Common.{sym, ◌∙◌, ap, subst}
 use Rattle.std.specs.Prelude.{slice_get}
 use Rattle.xbar_core.specs.Ends.{Settles}
-use Rattle.xbar_core.specs.Exchange.{Exchange, OfPlan}
-use Rattle.xbar_core.specs.Settling.{settled}
+use Rattle.xbar_moves.specs.Exchange.{Exchange, OfPlan}
+use Rattle.xbar_moves.specs.Settling.{settled}
 use Rattle.xbar_core.proofs.Loops.{settled_is}
 use Rattle.xbar_core.proofs.SettledOffices.{office_settles, settled_idle}
 use Rattle.xbar_core.proofs.exchange.Exchange.settle.Goals as goal

@@ -1,5 +1,5 @@
 use Rattle.std.proofs.Common.{ap, length, arith}
-use Rattle.xbar_core.specs.Exchange.{OfPlan}
+use Rattle.xbar_moves.specs.Exchange.{OfPlan}
 use Rattle.xbar_core.proofs.Loops.{none_ran, one_made}
 use Rattle.xbar_core.proofs.exchange.Exchange.some_steps.Goals as goal
 

@@ -1,10 +1,11 @@
 use Rattle.std.proofs.Common.{◌<◌, length, sym, ◌∙◌, ap, subst, arith}
-use Rattle.xbar_core.specs.Exchange.{Exchange, OfPlan}
-use Rattle.xbar_core.specs.Moves.{event_at_step, event_by, after_step}
+use Rattle.xbar_moves.specs.Exchange.{Exchange, OfPlan}
+use Rattle.xbar_moves.specs.Moves.{event_at_step, event_by, after_step}
 use Rattle.xbar_core.specs.Standing.{HasRoom, IsExchange}
-use Rattle.xbar_core.proofs.Markers.{waits_among}
+use Rattle.xbar_core.proofs.WaitingMarkers.{waits_among}
 use Rattle.xbar_core.proofs.Kept.{kept_stepped, room_stepped}
-use Rattle.xbar_core.proofs.Stepping.{event_there, marker_read, step_whole}
+use Rattle.xbar_moves.proofs.Stepping.{event_there}
+use Rattle.xbar_core.proofs.MarkerSteps.{marker_read, step_whole}
 use Rattle.xbar_core.proofs.exchange.Exchange.step.Goals as goal
 
 pub advance-answer-requires-clause-room : goal.advance-answer-requires-clause-room

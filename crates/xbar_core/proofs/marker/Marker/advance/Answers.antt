@@ -1,10 +1,10 @@
 use Rattle.std.proofs.Common.{slice_set, sym, ◌∙◌, ap}
 use Rattle.std.specs.Prelude.{Option}
-use Rattle.xbar_core.specs.AtWork.{work_of}
-use Rattle.xbar_core.specs.Exchange.{Exchange, Marker, is_idle}
+use Rattle.xbar_core.specs.Standing.{work_of}
+use Rattle.xbar_moves.specs.Exchange.{Exchange, Marker, is_idle}
 use Rattle.xbar_core.specs.declared.marker.Marker.TheInside.{Inside}
 use Rattle.xbar_core.specs.declared.work.Work.{Work}
-use Rattle.xbar_core.proofs.Stepping.{step_goes, step_rests}
+use Rattle.xbar_core.proofs.MarkerSteps.{step_goes, step_rests}
 use Rattle.xbar_core.proofs.marker.Marker.advance.Goals as goal
 use Rattle.xbar_core.proofs.marker.Marker.advance.Goals.{in-None, in-Some, in-Some-2}
 

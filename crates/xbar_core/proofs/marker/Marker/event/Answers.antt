@@ -1,4 +1,4 @@
-use Rattle.xbar_core.proofs.Stepping.{event_answered, event_idle}
+use Rattle.xbar_core.proofs.MarkerSteps.{event_answered, event_idle}
 use Rattle.xbar_core.proofs.marker.Marker.event.Goals as goal
 
 pub returns-in-None : goal.returns-in-None

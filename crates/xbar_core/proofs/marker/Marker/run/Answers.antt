@@ -1,8 +1,8 @@
 use Rattle.std.proofs.Common.{ℕ, slice_set, sym, ◌∙◌, ap}
 use Rattle.std.specs.Prelude.{Option}
-use Rattle.xbar_core.specs.AtWork.{work_of}
-use Rattle.xbar_core.specs.Exchange.{Exchange, Marker}
-use Rattle.xbar_core.specs.Moves.{steps}
+use Rattle.xbar_core.specs.Standing.{work_of}
+use Rattle.xbar_moves.specs.Exchange.{Exchange, Marker}
+use Rattle.xbar_moves.specs.Moves.{steps}
 use Rattle.xbar_core.specs.declared.marker.Marker.TheInside.{Inside}
 use Rattle.xbar_core.specs.declared.work.Work.{Work}
 use Rattle.xbar_core.proofs.LedSteps.{marker_led, marker_rests}

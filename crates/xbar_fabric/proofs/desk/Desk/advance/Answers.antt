@@ -3,7 +3,7 @@ use Rattle.turns.specs.Attempt.{asked_in, change}
 use Rattle.desks.specs.Desks as desks
 use Rattle.xbar_jobs.specs.Attempt.{Attempt}
 use Rattle.xbar_jobs.specs.Office.{office}
-use Rattle.xbar_core.specs.declared.event.Event.TheVariants as event
+use Rattle.xbar_moves.specs.declared.event.Event.TheVariants as event
 use Rattle.xbar_fabric.specs.Advances.{MarkerHasAdvanced}
 use Rattle.xbar_fabric.specs.Views.{DeskView}
 use Rattle.xbar_fabric.proofs.Steps.{as_seen, desk_at}

@@ -1,6 +1,6 @@
 use Rattle.std.proofs.Common.{◌≡◌, sym, ap, ◌∙◌}
-use Rattle.xbar_core.specs.Moves.{given_by}
-use Rattle.xbar_core.specs.declared.given.Given.TheVariants as given
+use Rattle.xbar_moves.specs.Moves.{given_by}
+use Rattle.xbar_moves.specs.declared.given.Given.TheVariants as given
 use Rattle.xbar_fabric.specs.Advances.{MarkerHasGivenBack}
 use Rattle.xbar_fabric.proofs.GivenBack.{gives_back}
 use Rattle.xbar_fabric.proofs.Steps.{as_seen}

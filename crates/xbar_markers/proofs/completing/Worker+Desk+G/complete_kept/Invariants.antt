@@ -1,5 +1,5 @@
 use Rattle.std.proofs.Common.{◌≡◌, All, length}
-use Rattle.xbar_core.specs.declared.kind.Kind.TheVariants.{Completing}
+use Rattle.xbar_moves.specs.declared.kind.Kind.TheVariants.{Completing}
 use Rattle.xbar_markers.specs.Calls.{HasDialTone}
 use Rattle.xbar_markers.specs.Shares.{HasServed}
 use Rattle.xbar_markers.specs.Work.{IsReady}

@@ -1,0 +1,3 @@
+pub mod Bank
+pub mod Sums
+pub mod System

@@ -1,0 +1,2 @@
+pub mod LogSums
+pub mod Ends

@@ -1,0 +1,174 @@
+//! The jobs of the bank, as `attempts` and `desk_attempts` take them. The setting is the balance
+//! with which each account opens.
+
+ghost use Rattle.std.specs.Prelude.{◌≡◌, ◌≤◌, ◌<◌, ◌+◌, ◌^◌, IfSome, slice_get};
+
+use crate::walks::{balance_of, decide_if, fits, lock_word, negative};
+use attempts::{Scripts, Seen};
+use bank::accounts::{ACCOUNTS, SHARD_SIZE, WORDS};
+use bank::{Decision, Effect, Job, Reply};
+use desk_attempts::{Attempts, OnWords};
+use std::alloc::{AllocError, Global};
+use std::ops::Range;
+use turns::{Operation, Wanted};
+
+/// The scripts of the bank's jobs, as walks.
+pub struct BankScripts;
+
+/// The jobs of the bank as desks do them: each tests at most two words and seizes at most two
+/// locks.
+pub type BankJobs = Attempts<BankScripts, 2, 2>;
+
+impl Scripts<2, 2> for BankScripts {
+    ghost use Rattle.attempts.specs.SystemWith.{without_decisions};
+    ghost use Rattle.bank.specs.System.{bank_over, effects_of, reply_of};
+
+    type Setting = u64;
+
+    type Lock = u32;
+
+    type Job = Job;
+
+    type Reply = Reply;
+
+    type Effect = Effect;
+
+    type Decision = Decision;
+
+    type ResumePoint = ();
+
+    ghost system = { λ opening. without_decisions (bank_over opening) };
+
+    ghost reply_of = { reply_of };
+
+    ghost effects_of = { effects_of };
+
+    ghost IsSetting = { λ opening. opening < 2 ^ 64 };
+
+    ghost ResumePointIsValid = { λ _ _ _ _. Unit {0} };
+
+    fn first(job: &Job) -> u32 {
+        match job {
+            Job::Deposit(account, _) => account / SHARD_SIZE,
+            Job::Withdraw(account, _) => account / SHARD_SIZE,
+            Job::Transfer(from, _, _) => from / SHARD_SIZE,
+            Job::Balance(account) => account / SHARD_SIZE,
+        }
+    }
+
+    fn start(_job: &Job) {}
+
+    #[tactic(auto, using(attempts::proofs::WalksOnWords::live_bind, attempts::proofs::WalksOnWords::live_end))]
+    fn walk(
+        _opening: &u64,
+        job: &Job,
+        _point: &mut (),
+        seen: &mut Seen<u32, 2, 2>,
+        words: &mut [u64],
+    ) -> Result<Decision, Wanted<u32, usize>> {
+        match *job {
+            Job::Deposit(account, amount) => {
+                let has = balance_of(seen, words, account)?;
+                Ok(decide_if(fits(has, amount), Decision::Adds(account, amount)))
+            }
+            Job::Withdraw(account, amount) => {
+                let has = balance_of(seen, words, account)?;
+                Ok(decide_if(amount <= has, Decision::Adds(account, negative(amount))))
+            }
+            Job::Transfer(from, to, amount) => {
+                let left = balance_of(seen, words, from)?;
+                let has = balance_of(seen, words, to)?;
+                let may_move = amount <= left && fits(has, amount);
+                Ok(decide_if(may_move, Decision::Moves(from, to, amount)))
+            }
+            Job::Balance(account) => {
+                let has = balance_of(seen, words, account)?;
+                Ok(Decision::Replies(Reply::Has(has)))
+            }
+        }
+    }
+
+    fn following(
+        _opening: &u64,
+        _job: &Job,
+        _point: &(),
+        _seen: &Seen<u32, 2, 2>,
+        _word: usize,
+    ) -> Option<usize> {
+        None
+    }
+
+    fn reply(decision: &Decision) -> Reply {
+        match decision {
+            Decision::Replies(reply) => *reply,
+            _ => Reply::Done,
+        }
+    }
+
+    fn effect(decision: &Decision, place: usize) -> Option<Effect> {
+        match (decision, place) {
+            (Decision::Adds(account, added), 0) => Some(Effect {
+                account: *account,
+                added: *added,
+            }),
+            (Decision::Moves(from, _, amount), 0) => Some(Effect {
+                account: *from,
+                added: negative(*amount),
+            }),
+            (Decision::Moves(_, to, amount), 1) => Some(Effect {
+                account: *to,
+                added: *amount,
+            }),
+            _ => None,
+        }
+    }
+}
+
+impl OnWords<2, 2> for BankScripts {
+    ghost use Rattle.bank.proofs.BankSystem.{bank_bounded, bank_system};
+
+    type Kept = u64;
+
+    ghost kept = { λ opening. opening };
+
+    fn keep(opening: &u64) -> u64 {
+        *opening
+    }
+
+    fn effect_word(_opening: &u64, effect: Effect) -> usize {
+        effect.account as usize
+    }
+
+    fn effect_operation(_opening: &u64, effect: Effect) -> Operation {
+        Operation::Add(effect.added)
+    }
+
+    fn size(_opening: &u64) -> usize {
+        WORDS as usize
+    }
+
+    fn initial(alloc: Global, opening: &u64) -> Result<Vec<u64>, AllocError> {
+        let mut words = vec![in alloc; *opening; ACCOUNTS as usize]?;
+        words.extend_from_slice(&[0; 5])?;
+        Ok(words)
+    }
+
+    fn turn_word(_opening: &u64) -> usize {
+        20
+    }
+
+    fn lock_word(_opening: &u64, shard: u32) -> usize {
+        lock_word(shard)
+    }
+
+    fn words_under(_opening: &u64, shard: u32) -> Range<usize> {
+        let first = (shard % 4 * SHARD_SIZE) as usize;
+        first..first + SHARD_SIZE as usize
+    }
+
+    ghost are_scripts = { λ opening small. record {
+      is_system = bank_system opening small;
+      asks = λ job right. (bank_bounded opening).asks job right;
+      stays_valid = λ _ _ _ _ _ _. tt;
+    } };
+}

@@ -1,0 +1,8 @@
+//! The bank of `bank` as jobs that desks do, on words that threads share.
+#![tactic(auto)]
+
+pub use jobs::{BankJobs, BankScripts};
+
+mod jobs;
+pub mod shutting;
+mod walks;

@@ -1,0 +1,2 @@
+pub mod PlanRefusals
+pub mod KindLetters

@@ -1,0 +1,9 @@
+pub use Rattle.xbar_plan.specs.Tables
+pub use Rattle.xbar_traffic.specs.Fault
+pub use Rattle.counted_io.specs.Counts
+pub mod Faults
+pub mod Kinds
+pub mod PlanRefusal
+pub mod Refusal
+pub mod TrafficRefusal
+pub mod Input

@@ -1,0 +1,7 @@
+pub mod Endings
+pub mod Streams
+pub mod Causes
+pub mod Sentences
+pub mod Named
+pub mod Asks
+pub mod Printed

@@ -1,0 +1,34 @@
+use Rattle.std.specs.Prelude.{◌≡◌, ◌⊎◌, Bool, true, false}
+use Rattle.clap.specs.Words.{kind_of}
+use Rattle.clap.specs.declared.error.kind.ErrorKind.{ErrorKind}
+use Rattle.clap.specs.declared.error.kind.ErrorKind.TheVariants.{DisplayHelp, DisplayVersion}
+use Rattle.crossbar5_answer.specs.declared.engine_fault.EngineFault.TheVariants.{Memory, Device}
+use Rattle.crossbar5_command.specs.declared.command_fault.CommandFault.{CommandFault}
+use Rattle.crossbar5_command.specs.declared.command_fault.CommandFault.TheVariants as command
+use Rattle.crossbar5_endings.specs.declared.ending.Ending.{Ending}
+use Rattle.crossbar5_endings.specs.declared.ending.Ending.TheVariants.{Printed, Refused, Failed}
+use Rattle.crossbar5_endings.specs.declared.stream.Stream.{Stream}
+use Rattle.crossbar5_endings.specs.declared.stream.Stream.TheVariants.{Output, Errors}
+
+-- the stream of clap's text of this kind: standard output for help and the version
+abbrev pub stream_of : ErrorKind → Stream
+stream_of DisplayHelp = Output
+stream_of DisplayVersion = Output
+stream_of _ = Errors
+
+-- how a run ends once clap's text was written to a stream, or couldn't be: words that are refused
+-- are refused either way
+abbrev pub printed_on : Stream → Bool → Ending
+printed_on Errors _ = Refused
+printed_on Output true = Printed
+printed_on Output false = Failed Device
+
+-- how a run may end that writes clap's text to a stream
+abbrev pub MayEndOn : Stream → Ending → Type 0
+MayEndOn Errors ending = ending ≡ Refused
+MayEndOn Output ending = (ending ≡ Printed) ⊎ (ending ≡ Failed Device)
+
+-- how a run may end whose words ask for nothing to be done
+abbrev pub MayEndOf : CommandFault → Ending → Type 0
+MayEndOf command.Memory ending = ending ≡ Failed Memory
+MayEndOf (command.Refused error) ending = MayEndOn (stream_of (kind_of error)) ending

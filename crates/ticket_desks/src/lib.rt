@@ -1,0 +1,128 @@
+//! The jobs of `tickets` as walks, for desks that threads own.
+#![tactic(auto)]
+
+ghost use Rattle.std.specs.Prelude.{◌≡◌, ◌<◌, ◌+◌, ◌^◌, IfSome, slice_get};
+
+use attempts::{Scripts, Seen};
+use desk_attempts::{Attempts, OnWords};
+use std::alloc::{AllocError, Global};
+use std::ops::Range;
+use tickets::{Decision, Effect, Job};
+use turns::{Operation, Wanted};
+
+/// The jobs' scripts, as walks.
+pub struct TicketScripts;
+
+// change: the most words that a script tests, and the most locks that it seizes, here and below
+/// The jobs as desks do them.
+pub type TicketJobs = Attempts<TicketScripts, 1, 1>;
+
+impl Scripts<1, 1> for TicketScripts {
+    ghost use Rattle.attempts.specs.SystemWith.{without_decisions};
+    ghost use Rattle.tickets.specs.System.{effects_of, reply_of, tickets_over};
+
+    type Setting = ();
+
+    type Lock = u32;
+
+    type Job = Job;
+
+    type Reply = u64;
+
+    type Effect = Effect;
+
+    type Decision = Decision;
+
+    type ResumePoint = ();
+
+    ghost system = { λ _. without_decisions tickets_over };
+
+    ghost reply_of = { reply_of };
+
+    ghost effects_of = { effects_of };
+
+    ghost IsSetting = { λ _. Unit {0} };
+
+    // change: the lock that a job seizes first
+    fn first(_job: &Job) -> u32 {
+        0
+    }
+
+    fn start(_job: &Job) {}
+
+    // change: each script as code
+    #[tactic(auto, using(attempts::proofs::WalksOnWords::live_bind, attempts::proofs::WalksOnWords::live_end))]
+    fn walk(
+        _setting: &(),
+        job: &Job,
+        _point: &mut (),
+        seen: &mut Seen<u32, 1, 1>,
+        words: &mut [u64],
+    ) -> Result<Decision, Wanted<u32, usize>> {
+        seen.seize(0, 1, words)?;
+        let number = seen.test(0, words)?;
+        match job {
+            Job::Take => Ok(Decision::Takes(number)),
+            Job::Look => Ok(Decision::Tells(number)),
+        }
+    }
+
+    // change: the reply and the effects of a decision
+    fn reply(decision: &Decision) -> u64 {
+        match decision {
+            Decision::Takes(number) | Decision::Tells(number) => *number,
+        }
+    }
+
+    fn effect(decision: &Decision, place: usize) -> Option<Effect> {
+        match (decision, place) {
+            (Decision::Takes(_), 0) => Some(Effect::AddOne),
+            _ => None,
+        }
+    }
+}
+
+// change: which words there are, and what an effect does to which word
+impl OnWords<1, 1> for TicketScripts {
+    ghost use Rattle.tickets.proofs.IsSystem.{asks, tickets_system};
+
+    type Kept = ();
+
+    ghost kept = { λ unit. unit };
+
+    fn keep(_setting: &()) {}
+
+    fn effect_word(_setting: &(), _effect: Effect) -> usize {
+        0
+    }
+
+    fn effect_operation(_setting: &(), _effect: Effect) -> Operation {
+        Operation::Add(1)
+    }
+
+    fn size(_setting: &()) -> usize {
+        3
+    }
+
+    fn initial(alloc: Global, _setting: &()) -> Result<Vec<u64>, AllocError> {
+        vec![in alloc; 0; 3]
+    }
+
+    fn turn_word(_setting: &()) -> usize {
+        2
+    }
+
+    fn lock_word(_setting: &(), lock: u32) -> usize {
+        1 + lock as usize
+    }
+
+    fn words_under(_setting: &(), _lock: u32) -> Range<usize> {
+        0..1
+    }
+
+    ghost are_scripts = { λ _ _. record {
+      is_system = tickets_system;
+      asks = λ job right. asks job;
+      stays_valid = λ _ _ _ _ _ _. tt;
+    } };
+}

@@ -1,5 +1,0 @@
-use Rattle.xbar_core.proofs.Connectors.{tells_truth}
-use Rattle.xbar_core.proofs.laws.connectors_tell_the_truth.Goals as goal
-
-pub returns : goal.returns
-returns c = λ plan e conn lawful range. tells_truth plan e lawful conn range

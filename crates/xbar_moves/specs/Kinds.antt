@@ -1,0 +1,15 @@
+use Rattle.std.specs.Prelude.{Bool, true, false}
+use Rattle.xbar_office.specs.declared.job.Job.{Job}
+use Rattle.xbar_office.specs.declared.job.Job.TheVariants as job
+use Rattle.xbar_moves.specs.declared.kind.Kind.{Kind}
+use Rattle.xbar_moves.specs.declared.kind.Kind.TheVariants as kind
+
+-- which jobs a marker of a kind takes: dial tone jobs, completing jobs and releases, or all
+abbrev pub takes : Kind → Job → Bool
+takes kind.Combined _ = true
+takes kind.Dial (job.Dial line) = true
+takes kind.Dial (job.Complete line dialled) = false
+takes kind.Dial (job.Release line) = false
+takes kind.Completing (job.Dial line) = false
+takes kind.Completing (job.Complete line dialled) = true
+takes kind.Completing (job.Release line) = true
