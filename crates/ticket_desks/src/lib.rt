@@ -120,6 +120,7 @@ impl OnWords<1, 1> for TicketScripts {
         0..1
     }
 
+    // change: which lemmas say that the jobs are a system, and how much a script asks for
     ghost are_scripts = { λ _ _. record {
       is_system = tickets_system;
       asks = λ job right. asks job;

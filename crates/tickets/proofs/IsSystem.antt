@@ -7,7 +7,7 @@ use Rattle.turns.specs.declared.wanted.Wanted.TheVariants.{Seize}
 use Rattle.turns.proofs.Layouts.{ones_are, words_apart, zeros_open}
 use Rattle.turns.proofs.OwnSystem.{index_same, makes_more, makes_none, same_number, under_its_lock}
 use Rattle.turns.proofs.Preferring.{preferring_is, zero_unused}
-use Rattle.tickets.specs.System.{Shows, layout, script, ticket_jobs, tickets, whole}
+use Rattle.tickets.specs.System.{Shows, layout, script, tickets, tickets_jobs, whole}
 use Rattle.tickets.specs.declared.jobs.Effect.TheVariants.{AddOne}
 use Rattle.tickets.specs.declared.jobs.Job.{Job}
 use Rattle.tickets.specs.declared.jobs.Job.TheVariants.{Take, Look}
@@ -48,12 +48,12 @@ pub tickets_system : IsSystem tickets
 tickets_system = record {
   sharing = preferring_is;
   same = same_number;
-  words = words_apart layout ticket_jobs (ones_are 1);
+  words = words_apart layout tickets_jobs (ones_are 1);
   first = λ job right. firsts job;
   keeps = λ job right. keeps job;
   decides = λ job words taken right long are shows. decides job words taken long shows;
   looks = λ words other taken alike shows. record { next = sym (alike.under 0 0 (refl, omega arith)) ∙ shows.next };
-  opens = zeros_open layout ticket_jobs (record { next = refl }) zero_unused;
+  opens = zeros_open layout tickets_jobs (record { next = refl }) zero_unused;
 }
 
 -- change: a job tests at most one word and seizes at most one lock

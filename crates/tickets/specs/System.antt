@@ -38,17 +38,21 @@ effects_of (Tells number) = []
 abbrev pub layout : Layout
 layout = one_each 1
 
-abbrev pub ticket_jobs : JobsOver Job ℕ Effect
-ticket_jobs = record {
+abbrev pub tickets_jobs : JobsOver Job ℕ Effect
+tickets_jobs = record {
+  -- change: which jobs there are (such as: the row that they name exists)
   IsJob = λ job. ⊤;
+  -- change: the states, and the first of them
   State = ℕ;
   whole = whole;
   opening = 0;
   Decision = Decision;
+  -- change: the lock that a job seizes first
   first = λ job. 0;
   script = script;
   reply_of = reply_of;
   effects_of = effects_of;
+  -- change: an effect's word, its operation there, and what it relies on
   effect_word = λ effect. 0;
   operation_of = λ effect. Add 1;
   Due = λ effect value. ⊤;
@@ -57,7 +61,7 @@ ticket_jobs = record {
 }
 
 abbrev pub tickets_over : SystemOver ℕ Job ℕ Effect
-tickets_over = laid_out layout ticket_jobs
+tickets_over = laid_out layout tickets_jobs
 
 abbrev pub tickets : System
 tickets = system_of tickets_over
