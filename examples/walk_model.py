@@ -450,7 +450,7 @@ def number(text, top):
 def is_line(text):
     return len(text) == 4 and text.isascii() and text.isdigit() and text[2] <= "5" and text[3] <= "4"
 
-def traffic(office, text):
+def rows_done(office, text):
     """Does the rows; a fault line, or nothing."""
     seen = set()
     rows = [r for r in csv.reader(io.StringIO(text, newline="")) if r]
@@ -489,8 +489,14 @@ def traffic(office, text):
             for _ in range(int(r[2])):
                 if not office.step(k):
                     break
-    office.settle()
     return None
+
+def traffic(office, text):
+    """Does the rows, and settles the office; a fault line, or nothing."""
+    fault = rows_done(office, text)
+    if not fault:
+        office.settle()
+    return fault
 
 
 # ---- rows of tests in one line, after FORMATS.md -----------------------------------------------------------

@@ -77,8 +77,9 @@ pub fn walk_on<S: Scripts<READINGS, HELD>, const READINGS: usize, const HELD: us
     requires walk { CanWalk S.Lock.eq S.Scripts setting.now attempt.old }
     ensures { WalksOn S.Lock.eq S.Scripts setting.now attempt.old attempt.new }
 {
-    // The walk may make no steps of its own. The result is matched here and not in
-    // `continue_with`, so that a walk that stops early moves no room for a decision.
+    // The walk is allowed no steps of its own. The result is matched here and not in
+    // `continue_with`, so that a walk that stops early doesn't move a `Result` as large as a
+    // decision.
     match walk_by_steps::<S, READINGS, HELD>(attempt, setting, &mut [], &mut 0, 0) {
         Ok(decision) => attempt.decide(decision),
         Err(wanted) => attempt.want(wanted),

@@ -201,8 +201,9 @@ impl<
         }
     }
 
-    /// Adds a lock that was seized. This and the functions below that change an attempt are for
-    /// callers that go on by predictions, and come back to what steps have found (`desk_attempts`).
+    /// Adds a lock that was seized. Like the other public functions below that change an attempt,
+    /// it is for `desk_attempts`, which tries predictions and then returns to what steps have
+    /// found.
     pub fn hold(&mut self, lock: L)
         requires { length self.old.held < HELD }
         ensures { self.new ≡ record self.old { held = self.old.held ++ lock ∷ [] } }
@@ -233,8 +234,8 @@ impl<
         self.decision.is_some()
     }
 
-    /// Keeps the first `kept` readings. The resume point stays, so the caller has to know that it
-    /// needs no others.
+    /// Keeps the first `kept` readings. The resume point stays: the caller has to know that it is
+    /// valid on these readings alone.
     pub fn keep_readings(&mut self, kept: usize)
         ensures { self.new ≡ record self.old { readings = take kept self.old.readings } }
     {
@@ -320,6 +321,13 @@ impl<
         ensures { option_copied result ≡ self.now.decision }
     {
         self.decision.as_ref()
+    }
+
+    /// The number of the decision's effects that are made.
+    pub fn made(&self) -> usize
+        ensures { result ≡ self.now.made }
+    {
+        self.made
     }
 
     /// What the walks have found: the next one resumes from there.

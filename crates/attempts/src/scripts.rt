@@ -33,8 +33,8 @@ pub trait Scripts<const READINGS: usize, const HELD: usize> {
     /// What a script ends with: the reply and the effects follow from it.
     type Decision: Drop;
 
-    /// What earlier walks have found, for the next one to resume from. `()` if each walk starts
-    /// from scratch.
+    /// What a walk keeps for the next one, which then needn't compute it again. `()` if each walk
+    /// computes everything anew.
     type ResumePoint: Drop;
 
     // The system of `turns` for a setting, without its equality of locks and its maps from

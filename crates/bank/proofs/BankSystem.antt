@@ -1,26 +1,27 @@
 -- the bank is a system of jobs
-use Rattle.std.proofs.Common.{◌≡◌, ℕ, ◌+◌, ◌-◌, ◌/◌, ◌%◌, ◌^◌, ◌<◌, ◌≤◌, zero, suc, Bool, true, false, List, [], ◌∷◌, ◌++◌, length, length-set, slice_index, slice_set, inl, inr, refl, sym, ◌∙◌, ap, subst, arith}
+use Rattle.std.proofs.Common.{◌≡◌, ℕ, ◌+◌, ◌-◌, ◌/◌, ◌^◌, ◌<◌, ◌≤◌, zero, suc, Bool, true, false, List, [], ◌∷◌, ◌++◌, length, length-set, slice_index, slice_set, inl, inr, refl, sym, ◌∙◌, ap, subst, arith}
 use Rattle.std.specs.Prelude.{◌==◌, nat_le, if◌then◌else◌, Err, replicate}
-use Rattle.std.proofs.lemmas.Bool.{eqb-true, eqb-false, eq-eqb, ltb-true, leb-true, and_parts}
+use Rattle.std.proofs.lemmas.Bool.{eqb-true, eqb-false, ltb-true, leb-true, and_parts}
 use Rattle.turns.specs.Among.{IsIn}
 use Rattle.turns.specs.Bounds.{AreBounded, AllEndsHave}
+use Rattle.turns.specs.Operations.{FitsWord, applied}
 use Rattle.turns.specs.Script.{◌>>=◌, AsksAtMost, run, first_wanted}
 use Rattle.turns.specs.Sharing.{IsUnused}
 use Rattle.turns.specs.Sharings.{preferring}
 use Rattle.turns.specs.System.{AreWords, DecidesAs, DecidesUnder, IsSystem, IsUnder, KeepsTo, MayMake, perform, perform_all}
+use Rattle.turns.specs.declared.operation.Operation.{Operation}
+use Rattle.turns.specs.declared.operation.Operation.TheVariants.{Add, Sub}
 use Rattle.turns.specs.declared.wanted.Wanted.TheVariants.{Seize}
-use Rattle.turns.proofs.Lists.{index_other, index_same}
+use Rattle.turns.proofs.OwnSystem.{added_is, decides_if, either_has, index_other, index_same, makes_more, makes_none, same_number, subtracted_is, under_its_lock, zeros_below}
 use Rattle.turns.proofs.Preferring.{preferring_is, zero_unused}
-use Rattle.turns.proofs.Words.{zeros_below}
 use Rattle.bank.specs.Bank.{Balances, with_balance, credited, debited, fits, may_move, done_if, whole}
-use Rattle.bank.specs.System.{Shows, adds, negative, effects_of, decide_if, balance_of, script, first_account, IsJob, opening_words, bank}
+use Rattle.bank.specs.System.{Effect, Shows, effects_of, or_refuse, balance_of, script, first_account, IsJob, opening_words, bank}
 use Rattle.bank.specs.declared.accounts.TheConstants.{ACCOUNTS, SHARD_SIZE, WORDS}
 use Rattle.bank.specs.declared.decision.Decision.{Decision}
-use Rattle.bank.specs.declared.decision.Decision.TheVariants.{Adds, Moves}
-use Rattle.bank.specs.declared.effect.Effect.{Effect}
+use Rattle.bank.specs.declared.decision.Decision.TheVariants.{Replies, Changes, Moves}
 use Rattle.bank.specs.declared.job.Job.{Job}
 use Rattle.bank.specs.declared.job.Job.TheVariants.{Deposit, Withdraw, Transfer, Balance}
-use Rattle.bank.specs.declared.job.Reply.TheVariants.{Done, Has}
+use Rattle.bank.specs.declared.job.Reply.TheVariants.{Done, Refused, Has}
 
 -- the balances in the opening words
 opening_at : (count value n : ℕ) (rest : List ℕ) → n < count → value ≡ slice_index (replicate count value ++ rest) n
@@ -36,30 +37,25 @@ opening_below (suc count) value rest small are (suc n) = opening_below count val
 module _ (opening : ℕ) where
   -- effects that may be made with these locks held
   word_under : (held : List ℕ) (account : ℕ) → account < ACCOUNTS → IsIn (account / SHARD_SIZE) held → IsUnder (bank opening) held account
-  word_under held account below own = record { lock = account / SHARD_SIZE; protects = (refl, below); held = own }
+  word_under held account below own = under_its_lock (bank opening) held (account / SHARD_SIZE) account (refl, below) own
 
-  may_none : (held : List ℕ) → MayMake (bank opening) held []
-  may_none held = record { under = λ effect none. absurd none; fit = λ effect none. absurd none }
+  may_change : (held : List ℕ) (account : ℕ) (operation : Operation) (more : List Effect) → account < ACCOUNTS → IsIn (account / SHARD_SIZE) held → FitsWord operation → MayMake (bank opening) held more → MayMake (bank opening) held ((account, operation) ∷ more)
+  may_change held account operation more below own fits may = makes_more (bank opening) held (account, operation) more (word_under held account below own) fits may
 
-  may_more : (held : List ℕ) (first : Effect) (effects : List Effect) → first.account < ACCOUNTS → IsIn (first.account / SHARD_SIZE) held → MayMake (bank opening) held effects → MayMake (bank opening) held (first ∷ effects)
-  may_more held first effects below own may = record { under = under; fit = λ effect within. tt } where
-    under : (effect : Effect) → IsIn effect (first ∷ effects) → IsUnder (bank opening) held effect.account
-    under effect (inl e) = subst (λ (x : Effect). IsUnder (bank opening) held x.account) (sym e) (word_under held first.account below own)
-    under effect (inr later) = may.under effect later
-
-  may_if : (held : List ℕ) (t : Bool) (decision : Decision) → MayMake (bank opening) held (effects_of decision) → MayMake (bank opening) held (effects_of (decide_if t decision))
-  may_if held true decision may = may
-  may_if held false decision may = may_none held
+  may_if : (held : List ℕ) (t : Bool) (decision : Decision) → MayMake (bank opening) held (effects_of decision) → MayMake (bank opening) held (effects_of (or_refuse t decision))
+  may_if held t decision may = either_has (λ d. MayMake (bank opening) held (effects_of d)) t decision (Replies Refused) (λ is. may) (λ is. makes_none (bank opening) held)
 
   keeps : (job : Job) → IsJob job → KeepsTo (bank opening) (DecidesUnder (bank opening)) [] (script job)
   unfolding KeepsTo balance_of ◌>>=◌
-  keeps (Deposit a x) low = let held : List ℕ = a / SHARD_SIZE ∷ [] in (omega arith, (word_under held a low (inl refl), λ has below. may_if held (fits (has + x)) (Adds a x) (may_more held (adds a x) [] low (inl refl) (may_none held))))
-  keeps (Withdraw a x) low = let held : List ℕ = a / SHARD_SIZE ∷ [] in (omega arith, (word_under held a low (inl refl), λ has below. may_if held (nat_le x has) (Adds a (negative x)) (may_more held (adds a (negative x)) [] low (inl refl) (may_none held))))
+  keeps (Deposit a x) low = let held : List ℕ = a / SHARD_SIZE ∷ [] in (omega arith, (word_under held a low (inl refl), λ has below. may_if held (fits (has + x)) (Changes a (Add x)) (may_change held a (Add x) [] low (inl refl) tt (makes_none (bank opening) held))))
+  keeps (Withdraw a x) low = let held : List ℕ = a / SHARD_SIZE ∷ [] in (omega arith, (word_under held a low (inl refl), λ has below. may_if held (nat_le x has) (Changes a (Sub x)) (may_change held a (Sub x) [] low (inl refl) tt (makes_none (bank opening) held))))
   keeps (Transfer a b x) low =
       let one : List ℕ = a / SHARD_SIZE ∷ [] in
       let held : List ℕ = a / SHARD_SIZE ∷ b / SHARD_SIZE ∷ [] in
-      (omega (arith, low.0), (word_under one a low.0 (inl refl), λ left below. (omega (arith, low.1), (word_under held b low.1 (inr (inl refl)), λ has below. may_if held (may_move left has x) (Moves a b x) (may_more held (adds a (negative x)) (adds b x ∷ []) low.0 (inl refl) (may_more held (adds b x) [] low.1 (inr (inl refl)) (may_none held)))))))
-  keeps (Balance a) low = let held : List ℕ = a / SHARD_SIZE ∷ [] in (omega arith, (word_under held a low (inl refl), λ has below. may_none held))
+      let put = may_change held b (Add x) [] low.1 (inr (inl refl)) tt (makes_none (bank opening) held) in
+      let both = may_change held a (Sub x) ((b, Add x) ∷ []) low.0 (inl refl) tt put in
+      (omega (arith, low.0), (word_under one a low.0 (inl refl), λ left below. (omega (arith, low.1), (word_under held b low.1 (inr (inl refl)), λ has below. may_if held (may_move left has x) (Moves a b x) both))))
+  keeps (Balance a) low = let held : List ℕ = a / SHARD_SIZE ∷ [] in (omega arith, (word_under held a low (inl refl), λ has below. makes_none (bank opening) held))
 
   firsts : (job : Job) → first_wanted (script job) ≡ Err (Seize (first_account job / SHARD_SIZE))
   unfolding first_wanted balance_of ◌>>=◌
@@ -76,31 +72,32 @@ module _ (opening : ℕ) where
       at a below true e = sym (ap (slice_index (slice_set words account balance)) (eqb-true a account e) ∙ index_same words account balance (omega arith))
       at a below false e = shows.each a below ∙ sym (index_other words account a balance (eqb-false a account e))
 
-    shows_added : (account added balance : ℕ) → account < ACCOUNTS → (has account + added) % 2 ^ 64 ≡ balance → Shows (perform (bank opening) words (adds account added)) (with_balance has account balance)
-    shows_added account added balance low e = subst (λ (v : ℕ). Shows (slice_set words account ((v + added) % 2 ^ 64)) (with_balance has account balance)) (shows.each account low) (subst (λ (v : ℕ). Shows (slice_set words account v) (with_balance has account balance)) (sym e) (shows_set account balance low))
+    shows_changed : (account balance : ℕ) (operation : Operation) → account < ACCOUNTS → applied operation (has account) ≡ balance → Shows (perform (bank opening) words (account, operation)) (with_balance has account balance)
+    shows_changed account balance operation low is =
+        subst (λ (v : ℕ). Shows (slice_set words account (applied operation v)) (with_balance has account balance)) (shows.each account low)
+        (subst (λ (v : ℕ). Shows (slice_set words account v) (with_balance has account balance)) (sym is) (shows_set account balance low))
 
     -- a job is refused, or done as it is whole
-    decides_if : (t : Bool) (after : Balances) (decision : Decision) → (t ≡ true → DecidesAs (bank opening) words (record { state = after; reply = Done }) decision) → DecidesAs (bank opening) words (done_if t has after) (decide_if t decision)
+    done_or_refused : (t : Bool) (after : Balances) (decision : Decision) → (t ≡ true → DecidesAs (bank opening) words (record { state = after; reply = Done }) decision) → DecidesAs (bank opening) words (done_if t has after) (or_refuse t decision)
     unfolding perform_all
-    decides_if true after decision doing = doing refl
-    decides_if false after decision doing = record { reply = refl; shows = shows; due = tt }
+    done_or_refused t after decision doing = decides_if (bank opening) words t (record { state = after; reply = Done }) (record { state = has; reply = Refused }) decision (Replies Refused) doing (λ is. record { reply = refl; shows = shows; due = tt })
 
   module _ (words : List ℕ) (has : Balances) (long : length words ≡ WORDS) (are : AreWords words) (shows : Shows words has) where
     -- balances fit words
     small : (a : ℕ) → a < ACCOUNTS → has a < 2 ^ 64
     small a low = omega (arith, shows.each a low, are a)
 
+    debits_as : (a x : ℕ) → a < ACCOUNTS → x ≤ has a → Shows (perform (bank opening) words (a, Sub x)) (debited has a x)
+    debits_as a x low enough = shows_changed words has long shows a (has a - x) (Sub x) low (subtracted_is (has a) x (small a low) enough)
+
     moves_as : (a b x : ℕ) → a < ACCOUNTS → b < ACCOUNTS → x ≤ has a → has b + x < 2 ^ 64 → DecidesAs (bank opening) words (record { state = credited (debited has a x) b x; reply = Done }) (Moves a b x)
     unfolding perform_all
-    moves_as a b x low high enough room = record { reply = refl; shows = shows_added after (debited has a x) (length-set words a now ∙ long) taken b x (debited has a x b + x) high (omega (arith, more)); due = (tt, (tt, tt)) } where
+    moves_as a b x low high enough room = record { reply = refl; shows = shows_changed after (debited has a x) (length-set words a now ∙ long) (debits_as a x low enough) b (debited has a x b + x) (Add x) high (added_is (debited has a x b) x more); due = (tt, (tt, tt)) } where
       now : ℕ
-      now = (slice_index words a + negative x) % 2 ^ 64
+      now = applied (Sub x) (slice_index words a)
 
       after : List ℕ
       after = slice_set words a now
-
-      taken : Shows after (debited has a x)
-      taken = shows_added words has long shows a (negative x) (has a - x) low (omega (arith, small a low))
 
       more : debited has a x b + x < 2 ^ 64
       more = at (b == a) refl where
@@ -110,16 +107,16 @@ module _ (opening : ℕ) where
 
     decides : (job : Job) → IsJob job → DecidesAs (bank opening) words (whole has job) (run words (script job))
     unfolding run perform_all balance_of ◌>>=◌
-    decides (Deposit a x) low = subst (λ (n : ℕ). DecidesAs (bank opening) words (whole has (Deposit a x)) (decide_if (fits (n + x)) (Adds a x))) (shows.each a low)
-        (decides_if words has long shows (fits (has a + x)) (credited has a x) (Adds a x) (λ t.
-        record { reply = refl; shows = shows_added words has long shows a x (has a + x) low (omega (arith, ltb-true (has a + x) (2 ^ 64) t)); due = (tt, tt) }))
-    decides (Withdraw a x) low = subst (λ (n : ℕ). DecidesAs (bank opening) words (whole has (Withdraw a x)) (decide_if (nat_le x n) (Adds a (negative x)))) (shows.each a low)
-        (decides_if words has long shows (nat_le x (has a)) (debited has a x) (Adds a (negative x)) (λ t.
-        record { reply = refl; shows = shows_added words has long shows a (negative x) (has a - x) low (omega (arith, small a low, leb-true x (has a) t)); due = (tt, tt) }))
+    decides (Deposit a x) low = subst (λ (n : ℕ). DecidesAs (bank opening) words (whole has (Deposit a x)) (or_refuse (fits (n + x)) (Changes a (Add x)))) (shows.each a low)
+        (done_or_refused words has long shows (fits (has a + x)) (credited has a x) (Changes a (Add x)) (λ t.
+        record { reply = refl; shows = shows_changed words has long shows a (has a + x) (Add x) low (added_is (has a) x (ltb-true (has a + x) (2 ^ 64) t)); due = (tt, tt) }))
+    decides (Withdraw a x) low = subst (λ (n : ℕ). DecidesAs (bank opening) words (whole has (Withdraw a x)) (or_refuse (nat_le x n) (Changes a (Sub x)))) (shows.each a low)
+        (done_or_refused words has long shows (nat_le x (has a)) (debited has a x) (Changes a (Sub x)) (λ t.
+        record { reply = refl; shows = debits_as a x low (leb-true x (has a) t); due = (tt, tt) }))
     decides (Transfer a b x) low =
-        subst (λ (n : ℕ). DecidesAs (bank opening) words (whole has (Transfer a b x)) (decide_if (may_move n (slice_index words b) x) (Moves a b x))) (shows.each a low.0)
-        (subst (λ (n : ℕ). DecidesAs (bank opening) words (whole has (Transfer a b x)) (decide_if (may_move (has a) n x) (Moves a b x))) (shows.each b low.1)
-        (decides_if words has long shows (may_move (has a) (has b) x) (credited (debited has a x) b x) (Moves a b x) (λ t.
+        subst (λ (n : ℕ). DecidesAs (bank opening) words (whole has (Transfer a b x)) (or_refuse (may_move n (slice_index words b) x) (Moves a b x))) (shows.each a low.0)
+        (subst (λ (n : ℕ). DecidesAs (bank opening) words (whole has (Transfer a b x)) (or_refuse (may_move (has a) n x) (Moves a b x))) (shows.each b low.1)
+        (done_or_refused words has long shows (may_move (has a) (has b) x) (credited (debited has a x) b x) (Moves a b x) (λ t.
         let both = and_parts (nat_le x (has a)) (fits (has b + x)) t in
         moves_as a b x low.0 low.1 (leb-true x (has a) both.0) (ltb-true (has b + x) (2 ^ 64) both.1))))
     decides (Balance a) low = record { reply = ap Has (sym (shows.each a low)); shows = shows; due = tt }
@@ -134,7 +131,7 @@ module _ (opening : ℕ) where
   pub bank_system : opening < 2 ^ 64 → IsSystem (bank opening)
   bank_system small = record {
     sharing = preferring_is;
-    same = λ a b. (eqb-true a b, eq-eqb a b);
+    same = same_number;
     words = record {
       one_lock_word = λ a b isa isb e. omega arith;
       lock_word_there = λ a isa. omega arith;
@@ -167,14 +164,13 @@ module _ (opening : ℕ) where
   asks (Transfer a b x) = λ left below has low. tt
   asks (Balance a) = λ has below. tt
 
-  few_if : (t : Bool) (decision : Decision) → length (effects_of decision) ≤ 2 → length (effects_of (decide_if t decision)) ≤ 2
-  few_if true decision few = few
-  few_if false decision few = omega arith
+  few_if : (t : Bool) (decision : Decision) → length (effects_of decision) ≤ 2 → length (effects_of (or_refuse t decision)) ≤ 2
+  few_if t decision few = either_has (λ d. length (effects_of d) ≤ 2) t decision (Replies Refused) (λ is. few) (λ is. omega arith)
 
   ends : (job : Job) → AllEndsHave (λ decision. length (effects_of decision) ≤ 2) (script job)
   unfolding AllEndsHave balance_of ◌>>=◌
-  ends (Deposit a x) = λ has below. few_if (fits (has + x)) (Adds a x) (omega arith)
-  ends (Withdraw a x) = λ has below. few_if (nat_le x has) (Adds a (negative x)) (omega arith)
+  ends (Deposit a x) = λ has below. few_if (fits (has + x)) (Changes a (Add x)) (omega arith)
+  ends (Withdraw a x) = λ has below. few_if (nat_le x has) (Changes a (Sub x)) (omega arith)
   ends (Transfer a b x) = λ left below has low. few_if (may_move left has x) (Moves a b x) (omega arith)
   ends (Balance a) = λ has below. omega arith
 

@@ -1,4 +1,5 @@
-use Rattle.std.specs.Prelude.{ℕ, ◌+◌, ◌-◌, ◌^◌, ◌==◌, ◌&&◌, nat_lt, nat_le, Bool, true, false, if◌then◌else◌}
+use Rattle.std.specs.Prelude.{ℕ, ◌+◌, ◌-◌, ◌^◌, ◌==◌, ◌&&◌, nat_lt, nat_le, Bool, if◌then◌else◌}
+use Rattle.turns.specs.Deciding.{decide_if}
 use Rattle.turns.specs.System.{Whole}
 use Rattle.bank.specs.declared.job.Job.{Job}
 use Rattle.bank.specs.declared.job.Job.TheVariants.{Deposit, Withdraw, Transfer, Balance}
@@ -34,8 +35,9 @@ may_move from to amount = nat_le amount from && fits (to + amount)
 
 -- a job is done, or it is refused and nothing changes
 abbrev pub done_if : Bool → Balances → Balances → Whole Balances Reply
-done_if true has after = record { state = after; reply = Done }
-done_if false has after = record { state = has; reply = Refused }
+done_if test has after =
+    decide_if test (record { state = after; reply = Done })
+    (record { state = has; reply = Refused })
 
 -- what a job does, done whole
 abbrev pub whole : Balances → Job → Whole Balances Reply

@@ -1,13 +1,14 @@
-use Rattle.std.specs.Prelude.{◌≡◌, ℕ, ◌+◌, ◌-◌, ◌/◌, ◌%◌, ◌^◌, ◌<◌, ◌==◌, nat_le, Bool, true, false, List, [], ◌∷◌, ◌++◌, replicate, slice_index, ⊤}
+use Rattle.std.specs.Prelude.{◌≡◌, ℕ, ◌+◌, ◌/◌, ◌<◌, ◌==◌, nat_le, Bool, List, [], ◌∷◌, ◌++◌, replicate, slice_index, ⊤}
+use Rattle.turns.specs.Deciding.{decide_if}
 use Rattle.turns.specs.Script.{Script, Ends, ◌>>=◌, ◌>>◌, seize, test}
 use Rattle.turns.specs.Sharings.{preferring}
 use Rattle.turns.specs.System.{System, SystemOver, system_of}
-use Rattle.turns.specs.declared.operation.Operation.TheVariants.{Add}
+use Rattle.turns.specs.declared.operation.Operation.{Operation}
+use Rattle.turns.specs.declared.operation.Operation.TheVariants.{Add, Sub}
 use Rattle.bank.specs.Bank.{Balances, all_have, fits, may_move, whole}
 use Rattle.bank.specs.declared.accounts.TheConstants.{ACCOUNTS, SHARD_SIZE, WORDS}
 use Rattle.bank.specs.declared.decision.Decision.{Decision}
-use Rattle.bank.specs.declared.decision.Decision.TheVariants.{Replies, Adds, Moves}
-use Rattle.bank.specs.declared.effect.Effect.{Effect}
+use Rattle.bank.specs.declared.decision.Decision.TheVariants.{Replies, Changes, Moves}
 use Rattle.bank.specs.declared.job.Job.{Job}
 use Rattle.bank.specs.declared.job.Job.TheVariants.{Deposit, Withdraw, Transfer, Balance}
 use Rattle.bank.specs.declared.job.Reply.{Reply}
@@ -22,29 +23,25 @@ pub record Shows (words : List ℕ) (has : Balances) : Type 0 where
 abbrev pub Protects : ℕ → ℕ → Type 0
 Protects shard word = (word / SHARD_SIZE ≡ shard) × (word < ACCOUNTS)
 
--- an amount is taken out by adding this, modulo 2 ^ 64
-abbrev pub negative : ℕ → ℕ
-negative amount = (2 ^ 64 - amount) % 2 ^ 64
-
-abbrev pub adds : ℕ → ℕ → Effect
-adds account added = record { account = account; added = added }
+-- an effect is an operation on an account's balance
+abbrev pub Effect : Type 0
+Effect = ℕ × Operation
 
 -- the reply of a decision
 abbrev pub reply_of : Decision → Reply
 reply_of (Replies reply) = reply
-reply_of (Adds account added) = Done
+reply_of (Changes account operation) = Done
 reply_of (Moves from to amount) = Done
 
 -- the effects of a decision, in their order
 abbrev pub effects_of : Decision → List Effect
 effects_of (Replies reply) = []
-effects_of (Adds account added) = adds account added ∷ []
-effects_of (Moves from to amount) = adds from (negative amount) ∷ adds to amount ∷ []
+effects_of (Changes account operation) = (account, operation) ∷ []
+effects_of (Moves from to amount) = (from, Sub amount) ∷ (to, Add amount) ∷ []
 
 -- a decision is taken, or the job is refused
-abbrev pub decide_if : Bool → Decision → Decision
-decide_if true decision = decision
-decide_if false decision = Replies Refused
+abbrev pub or_refuse : Bool → Decision → Decision
+or_refuse test decision = decide_if test decision (Replies Refused)
 
 -- seize the lock of an account's shard, and test its balance
 unfoldable pub balance_of : ℕ → Script ℕ ℕ
@@ -53,14 +50,15 @@ balance_of account = seize (account / SHARD_SIZE) >> test account
 -- the script of a job
 abbrev pub script : Job → Script ℕ Decision
 script (Deposit account amount) =
-    balance_of account >>= (λ has. Ends (decide_if (fits (has + amount)) (Adds account amount)))
+    balance_of account
+    >>= (λ has. Ends (or_refuse (fits (has + amount)) (Changes account (Add amount))))
 script (Withdraw account amount) =
     balance_of account
-    >>= (λ has. Ends (decide_if (nat_le amount has) (Adds account (negative amount))))
+    >>= (λ has. Ends (or_refuse (nat_le amount has) (Changes account (Sub amount))))
 script (Transfer from to amount) =
     balance_of from
     >>= (λ left. balance_of to
-    >>= (λ has. Ends (decide_if (may_move left has amount) (Moves from to amount))))
+    >>= (λ has. Ends (or_refuse (may_move left has amount) (Moves from to amount))))
 script (Balance account) = balance_of account >>= (λ has. Ends (Replies (Has has)))
 
 -- the account that a job looks at first
@@ -97,8 +95,8 @@ bank_over opening = record {
   script = script;
   reply_of = reply_of;
   effects_of = effects_of;
-  effect_word = λ effect. effect.account;
-  operation_of = λ effect. Add effect.added;
+  effect_word = λ effect. effect.0;
+  operation_of = λ effect. effect.1;
   Due = λ effect value. ⊤;
   size = WORDS;
   Protects = Protects;

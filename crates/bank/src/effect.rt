@@ -1,6 +1,4 @@
-/// A change of an account's balance: `added` is added to it, modulo 2^64.
-#[derive(Clone, Copy, Debug, PartialEq, Eq)]
-pub struct Effect {
-    pub account: u32,
-    pub added: u64,
-}
+use turns::Operation;
+
+/// A change of an account's balance: an operation on the account's word.
+pub type Effect = (u32, Operation);

@@ -11,7 +11,7 @@ use Rattle.bank.specs.declared.accounts.TheConstants.{ACCOUNTS}
 use Rattle.bank.specs.declared.job.Job.{Job}
 use Rattle.bank.specs.declared.job.Reply.{Reply}
 use Rattle.workers.specs.Workers.{HaveShut}
-use Rattle.bank_desks.specs.Ended.{HasEnded, in_logs}
+use Rattle.bank_desks.specs.Ended.{HasEnded}
 use Rattle.bank_desks.proofs.LogSums.{in_order}
 
 -- words that show the balances after a legal order have its sum

@@ -3,7 +3,7 @@
 
 ghost use Rattle.std.specs.Prelude.{◌≡◌, ◌≤◌, ◌<◌, ◌+◌, ◌^◌, IfSome, slice_get};
 
-use crate::walks::{balance_of, decide_if, fits, lock_word, negative};
+use crate::walks::{balance_of, fits, lock_word, or_refuse};
 use attempts::{Scripts, Seen};
 use bank::accounts::{ACCOUNTS, SHARD_SIZE, WORDS};
 use bank::{Decision, Effect, Job, Reply};
@@ -45,14 +45,10 @@ impl Scripts<2, 2> for BankScripts {
 
     ghost IsSetting = { λ opening. opening < 2 ^ 64 };
 
-    ghost ResumePointIsValid = { λ _ _ _ _. Unit {0} };
-
     fn first(job: &Job) -> u32 {
         match job {
-            Job::Deposit(account, _) => account / SHARD_SIZE,
-            Job::Withdraw(account, _) => account / SHARD_SIZE,
-            Job::Transfer(from, _, _) => from / SHARD_SIZE,
-            Job::Balance(account) => account / SHARD_SIZE,
+            Job::Deposit(first, _) | Job::Withdraw(first, _) => first / SHARD_SIZE,
+            Job::Transfer(first, _, _) | Job::Balance(first) => first / SHARD_SIZE,
         }
     }
 
@@ -69,33 +65,25 @@ impl Scripts<2, 2> for BankScripts {
         match *job {
             Job::Deposit(account, amount) => {
                 let has = balance_of(seen, words, account)?;
-                Ok(decide_if(fits(has, amount), Decision::Adds(account, amount)))
+                let put = Decision::Changes(account, Operation::Add(amount));
+                Ok(or_refuse(fits(has, amount), put))
             }
             Job::Withdraw(account, amount) => {
                 let has = balance_of(seen, words, account)?;
-                Ok(decide_if(amount <= has, Decision::Adds(account, negative(amount))))
+                let take = Decision::Changes(account, Operation::Sub(amount));
+                Ok(or_refuse(amount <= has, take))
             }
             Job::Transfer(from, to, amount) => {
                 let left = balance_of(seen, words, from)?;
                 let has = balance_of(seen, words, to)?;
                 let may_move = amount <= left && fits(has, amount);
-                Ok(decide_if(may_move, Decision::Moves(from, to, amount)))
+                Ok(or_refuse(may_move, Decision::Moves(from, to, amount)))
             }
             Job::Balance(account) => {
                 let has = balance_of(seen, words, account)?;
                 Ok(Decision::Replies(Reply::Has(has)))
             }
         }
-    }
-
-    fn following(
-        _opening: &u64,
-        _job: &Job,
-        _point: &(),
-        _seen: &Seen<u32, 2, 2>,
-        _word: usize,
-    ) -> Option<usize> {
-        None
     }
 
     fn reply(decision: &Decision) -> Reply {
@@ -107,18 +95,9 @@ impl Scripts<2, 2> for BankScripts {
 
     fn effect(decision: &Decision, place: usize) -> Option<Effect> {
         match (decision, place) {
-            (Decision::Adds(account, added), 0) => Some(Effect {
-                account: *account,
-                added: *added,
-            }),
-            (Decision::Moves(from, _, amount), 0) => Some(Effect {
-                account: *from,
-                added: negative(*amount),
-            }),
-            (Decision::Moves(_, to, amount), 1) => Some(Effect {
-                account: *to,
-                added: *amount,
-            }),
+            (Decision::Changes(account, operation), 0) => Some((*account, *operation)),
+            (Decision::Moves(from, _, amount), 0) => Some((*from, Operation::Sub(*amount))),
+            (Decision::Moves(_, to, amount), 1) => Some((*to, Operation::Add(*amount))),
             _ => None,
         }
     }
@@ -136,11 +115,11 @@ impl OnWords<2, 2> for BankScripts {
     }
 
     fn effect_word(_opening: &u64, effect: Effect) -> usize {
-        effect.account as usize
+        effect.0 as usize
     }
 
     fn effect_operation(_opening: &u64, effect: Effect) -> Operation {
-        Operation::Add(effect.added)
+        effect.1
     }
 
     fn size(_opening: &u64) -> usize {

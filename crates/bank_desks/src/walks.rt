@@ -3,7 +3,7 @@
 ghost use Rattle.std.specs.Prelude.{◌≡◌, ◌+◌, nat_eq};
 ghost use Rattle.attempts.specs.WalkOnWords.{walk_on_words};
 ghost use Rattle.bank.specs.Bank.{fits as fits_spec};
-ghost use Rattle.bank.specs.System.{balance_of as balance_script, decide_if as decide_if_spec, negative as negative_of};
+ghost use Rattle.bank.specs.System.{balance_of as balance_script, or_refuse as or_refuse_spec};
 
 use attempts::Seen;
 use bank::accounts::{ACCOUNTS, SHARD_SIZE};
@@ -17,16 +17,9 @@ pub fn fits(balance: u64, amount: u64) -> bool
     amount <= u64::MAX - balance
 }
 
-/// The number whose addition takes an amount out.
-pub fn negative(amount: u64) -> u64
-    ensures { result ≡ negative_of amount }
-{
-    0_u64.wrapping_sub(amount)
-}
-
 /// A decision, or that the job is refused.
-pub fn decide_if(holds: bool, decision: Decision) -> Decision
-    ensures { result ≡ decide_if_spec holds decision }
+pub fn or_refuse(holds: bool, decision: Decision) -> Decision
+    ensures { result ≡ or_refuse_spec holds decision }
 {
     if holds {
         decision

@@ -1,6 +1,9 @@
 pub mod RunRows
+pub mod ReachedRows
 pub mod Replays
 pub mod Audits
 pub mod FindingTexts
 pub mod SettledHistory
 pub mod Tellings
+pub mod LastEvents
+pub mod LookTexts

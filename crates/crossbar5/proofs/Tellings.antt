@@ -10,8 +10,7 @@ use Rattle.xbar_office.specs.declared.job.Job.{Job}
 use Rattle.xbar_moves.specs.Exchange.{OfPlan}
 use Rattle.xbar_moves.specs.Moves.{assigned}
 use Rattle.xbar_moves.specs.declared.kind.Kind.{Kind}
-use Rattle.xbar_walk.specs.Items.{Says}
-use Rattle.xbar_walk.specs.Lines.{assignment_line}
+use Rattle.xbar_walk.specs.Items.{assignment_item}
 use Rattle.xbar_walk.specs.Stories.{Adds, IsStory, AgreesWith, ChangesAs}
 use Rattle.xbar_walk.specs.Walks.{Walk, walk_of_settling}
 use Rattle.xbar_walk.specs.declared.story.Story.{Story}
@@ -24,13 +23,13 @@ use Rattle.crossbar5.specs.Walk.{IsWalkResult, opened, walk_after_row, walk_afte
 -- the description so far, continued with the remaining rows, is the description of all rows
 pub record HasTold (detail : Detail) (plan : Tables) (kinds : List Kind) (rows : List Row) (office : OfPlan) (story : Story) (index : ℕ) : Type 0 where
   pub now : Walk
-  pub rest : walk_after_rows rows (opened plan kinds) ≡ walk_after_rows (drop index rows) now
-  pub stands : AgreesWith detail office story now
+  pub rest : walk_after_rows rows (opened detail plan kinds) ≡ walk_after_rows (drop index rows) now
+  pub stands : AgreesWith office story now
 
 pub none_told : (detail : Detail) (plan : Tables) (kinds : List Kind) (rows : List Row) (office : OfPlan) (story : Story)
-    → office ≡ (opened plan kinds).office → IsStory detail story 0 [] → HasTold detail plan kinds rows office story 0
+    → office ≡ (opened detail plan kinds).office → IsStory detail story 0 [] → HasTold detail plan kinds rows office story 0
 none_told detail plan kinds rows office story is begun = record {
-  now = opened plan kinds;
+  now = opened detail plan kinds;
   rest = refl;
   stands = record { office_is = sym is; story_is = begun };
 }
@@ -47,34 +46,34 @@ module _ (detail : Detail) (plan : Tables) (kinds : List Kind) (rows : List Row)
             has.rest
             ∙ ap (λ (left : List Row). walk_after_rows left has.now) (drop-cons rows index row within ∙ ap (λ (first : Row). first ∷ drop (suc index) rows) (sym is))
             ∙ ap (λ (n : ℕ). walk_after_rows (drop n rows) (walk_after_row row has.now)) later;
-        stands = tells detail has.now has.stands;
+        stands = tells has.now has.stands;
       }
 
-  pub all_told : length rows ≤ index → walk_after_rows rows (opened plan kinds) ≡ has.now
+  pub all_told : length rows ≤ index → walk_after_rows rows (opened detail plan kinds) ≡ has.now
   unfolding walk_after_rows
   all_told past = has.rest ∙ ap (λ (left : List Row). walk_after_rows left has.now) (drop_all index rows past)
 
 -- an assignment is made, and its line is added
 pub assignment_told : (marker job_no : ℕ) (job : Job) (office next : OfPlan) (story told : Story)
     → next ≡ record office { exchange = assigned marker job_no job office.exchange }
-    → Adds (Says (assignment_line marker job_no job)) story told
+    → Adds (λ detail. assignment_item detail marker job_no job) story told
     → ChangesAs (walk_after_row (row.Assign marker job_no job)) office story next told
 unfolding walk_after_row
-assignment_told marker job_no job office next story told is adds = λ detail w stands. record {
+assignment_told marker job_no job office next story told is adds = λ w stands. record {
   office_is = ap (λ (o : OfPlan). record o { exchange = assigned marker job_no job o.exchange }) stands.office_is ∙ sym is;
-  story_is = adds detail w.number w.items stands.story_is;
+  story_is = adds w.detail w.number w.items stands.story_is;
 }
 
 -- what is written for traffic that is refused
-pub refusal_told : {E : Type 0} (detail : Detail) (result : Result Written E) (told : Walk) (came : Outcome) (fault : TrafficFault) → came ≡ RefusesTraffic fault
-    → IfOk result (λ written. IsTrafficRefusal fault written.text.items written.status) → IfOk result (λ written. IsWalkResult detail told came written.text.items written.status)
-refusal_told detail (Ok written) told came fault is text = subst (λ (o : Outcome). IsWalkResult detail told o written.text.items written.status) (sym is)
+pub refusal_told : {E : Type 0} (result : Result Written E) (told : Walk) (came : Outcome) (fault : TrafficFault) → came ≡ RefusesTraffic fault
+    → IfOk result (λ written. IsTrafficRefusal fault written.text.items written.status) → IfOk result (λ written. IsWalkResult told came written.text.items written.status)
+refusal_told (Ok written) told came fault is text = subst (λ (o : Outcome). IsWalkResult told o written.text.items written.status) (sym is)
     (record { same = tt; text_is = text.text_is; status_is = text.status_is })
-refusal_told detail (Err e) told came fault is text = tt
+refusal_told (Err e) told came fault is text = tt
 
 -- and for traffic whose rows are all done
-pub settling_told : {E : Type 0} (detail : Detail) (result : Result Written E) (rows now : Walk) (came other : Outcome) → rows ≡ now → came ≡ other
-    → IfOk result (λ written. IsWalkResult detail (walk_of_settling now) other written.text.items written.status) → IfOk result (λ written. IsWalkResult detail (walk_of_settling rows) came written.text.items written.status)
-settling_told detail result rows now came other same is text =
-    subst (λ (w : Walk). IfOk result (λ written. IsWalkResult detail (walk_of_settling w) came written.text.items written.status)) (sym same)
-    (subst (λ (o : Outcome). IfOk result (λ written. IsWalkResult detail (walk_of_settling now) o written.text.items written.status)) (sym is) text)
+pub settling_told : {E : Type 0} (result : Result Written E) (rows now : Walk) (came other : Outcome) → rows ≡ now → came ≡ other
+    → IfOk result (λ written. IsWalkResult (walk_of_settling now) other written.text.items written.status) → IfOk result (λ written. IsWalkResult (walk_of_settling rows) came written.text.items written.status)
+settling_told result rows now came other same is text =
+    subst (λ (w : Walk). IfOk result (λ written. IsWalkResult (walk_of_settling w) came written.text.items written.status)) (sym same)
+    (subst (λ (o : Outcome). IfOk result (λ written. IsWalkResult (walk_of_settling now) o written.text.items written.status)) (sym is) text)

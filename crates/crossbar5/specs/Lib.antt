@@ -19,3 +19,4 @@ pub mod Audit
 pub mod Draw
 pub mod Task
 pub mod Walk
+pub mod Look

@@ -30,11 +30,11 @@ pub data Outcome : Type 0 where
   RefusesTraffic : TrafficFault → Outcome
   Leaves : Exchange → Outcome
 
--- after the last good row: the traffic is refused if the row after it has a fault; otherwise the
--- office settles
-abbrev pub at_end : Tables → Exchange → ℕ → Option RowFault → Outcome
-at_end plan e row (Some fault) = RefusesTraffic (record { row = row; fault = fault })
-at_end plan e row None = Leaves (settled plan e)
+-- after the last good row: the traffic is refused if the row after it has a fault; otherwise it
+-- leaves the office as it stands
+abbrev pub at_end : Exchange → ℕ → Option RowFault → Outcome
+at_end e row (Some fault) = RefusesTraffic (record { row = row; fault = fault })
+at_end e row None = Leaves e
 
 -- a row that its marker can't do refuses the traffic; otherwise the later rows decide
 abbrev pub judged : ℕ → Option MarkerFault → Outcome → Outcome
@@ -43,14 +43,28 @@ judged row (Some why) later = RefusesTraffic (record { row = row; fault = AtMark
 
 -- the outcome of rows that are judged and done one after another, numbered from this number on
 unfoldable pub outcome_from : Tables → Exchange → ℕ → List Row → Option RowFault → Outcome
-outcome_from plan e number [] fault = at_end plan e number fault
+outcome_from plan e number [] fault = at_end e number fault
 outcome_from plan e number (row ∷ rows) fault =
     judged number (row_fault e row) (outcome_from plan (done plan e row) (number + 1) rows fault)
 
--- the outcome of rows in a new office with markers of these kinds, and of the fault of the row
--- after them, if it has one
+-- the outcome of rows by the first fault among them, or by the office after them
+abbrev pub outcome_by : Option TrafficFault → Exchange → Outcome
+outcome_by None e = Leaves e
+outcome_by (Some fault) e = RefusesTraffic fault
+
+-- what rows lead to in a new office with markers of these kinds, and the fault of the row after
+-- them, if it has one
+abbrev pub reached : Tables → List Kind → List Row → Option RowFault → Outcome
+reached plan kinds rows fault = outcome_from plan (fresh_exchange kinds) 1 rows fault
+
+-- the office that is left settles
+abbrev pub settling : Tables → Outcome → Outcome
+settling plan (RefusesTraffic fault) = RefusesTraffic fault
+settling plan (Leaves e) = Leaves (settled plan e)
+
+-- the outcome of a replay: after the last row the office settles
 abbrev pub outcome : Tables → List Kind → List Row → Option RowFault → Outcome
-outcome plan kinds rows fault = outcome_from plan (fresh_exchange kinds) 1 rows fault
+outcome plan kinds rows fault = settling plan (reached plan kinds rows fault)
 
 -- what is written for an outcome
 abbrev pub outcome_text : Outcome → List ℕ

@@ -7,15 +7,17 @@ use Rattle.crossbar5_answer.specs.declared.status.Status.{Status}
 use Rattle.crossbar5_answer.specs.declared.status.Status.TheVariants.{Fine}
 use Rattle.crossbar5.specs.Audit.{IsAuditUnder}
 use Rattle.crossbar5.specs.Draw.{IsDrawUnder}
+use Rattle.crossbar5.specs.Look.{IsLookUnder}
 use Rattle.crossbar5.specs.Run.{IsReplayUnder}
 use Rattle.crossbar5.specs.Walk.{IsWalkUnder}
 use Rattle.crossbar5.specs.declared.task.Task.{Task}
-use Rattle.crossbar5.specs.declared.task.Task.TheVariants.{Replay, Walk, Audit, Draw}
+use Rattle.crossbar5.specs.declared.task.Task.TheVariants.{Replay, Walk, Look, Audit, Draw}
 
--- a replay and a walk have 1 to 48 markers; an audit and a drawing need none
+-- a replay, a walk and a look have 1 to 48 markers; an audit and a drawing need none
 abbrev pub HasItsMarkers : Task → Type 0
 HasItsMarkers (Replay kinds) = IsMarkerCount (length kinds.now)
 HasItsMarkers (Walk kinds detail) = IsMarkerCount (length kinds.now)
+HasItsMarkers (Look kinds view) = IsMarkerCount (length kinds.now)
 HasItsMarkers Audit = Unit {0}
 HasItsMarkers (Draw look) = Unit {0}
 
@@ -24,6 +26,8 @@ abbrev pub IsDoneUnder : Task → Tables → List ℕ → List ℕ → Status �
 IsDoneUnder (Replay kinds) plan input text status = IsReplayUnder plan kinds.now input text status
 IsDoneUnder (Walk kinds detail) plan input text status =
     IsWalkUnder detail plan kinds.now input text status
+IsDoneUnder (Look kinds view) plan input text status =
+    IsLookUnder view plan kinds.now input text status
 IsDoneUnder Audit plan input text status = IsAuditUnder plan input text status
 IsDoneUnder (Draw look) plan input text status = IsDrawUnder look plan input text status
 
@@ -40,6 +44,7 @@ IsUnreadTask task plan = ¬ HasItsMarkers task ⊎ IsRefusedPlan plan
 abbrev pub is_output : Task → Status → Bool
 is_output (Replay kinds) status = true
 is_output (Walk kinds detail) status = true
+is_output (Look kinds view) status = true
 is_output Audit status = true
 is_output (Draw look) Fine = true
 is_output (Draw look) _ = false

@@ -11,6 +11,7 @@ pub use engine::answer_task;
 pub use look::Look;
 pub use runs::run_replay;
 pub use task::Task;
+pub use view::View;
 pub use xbar_report::report;
 pub use xbar_walk::Detail;
 
@@ -19,8 +20,10 @@ mod draw;
 mod engine;
 mod finding;
 mod look;
+mod looks;
 mod rows;
 mod run;
 mod runs;
 mod task;
+mod view;
 mod walk;

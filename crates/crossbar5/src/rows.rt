@@ -1,15 +1,16 @@
 //! Does rows of traffic in an office.
 
-ghost use Rattle.std.specs.Prelude.{◌≡◌, IfOk, None, OnErr, slice_get};
+ghost use Rattle.std.specs.Prelude.{◌≡◌, All, IfOk, None, OnErr, slice_get};
 ghost use Rattle.xbar_moves.specs.Moves.{assigned, refusal, steps};
 ghost use Rattle.xbar_traffic.specs.Row.{IsRow, mode_of};
 ghost use Rattle.xbar_traffic.specs.declared.mode.Mode.{Mode};
 ghost use Rattle.crossbar5.specs.Rows.{IsUnrefusedJob, done, no_marker_fault, assignment_fault, row_fault};
+ghost use Rattle.crossbar5.specs.Run.{outcome_by, outcome_from};
 
 use std::alloc::AllocError;
 use xbar_core::{AssignFault, Exchange};
 use xbar_office::Job;
-use xbar_traffic::{MarkerFault, Row};
+use xbar_traffic::{MarkerFault, Row, RowFault, TrafficFault};
 
 /// Assigns a job to a marker, or returns why it can't.
 pub fn assign(
@@ -68,4 +69,27 @@ pub fn do_row(office: &mut Exchange, row: &Row) -> Result<Option<MarkerFault>, A
         Row::Steps { marker, count } => Ok(make_steps(office, *marker, *count)),
         Row::Call { .. } => unreachable!(),
     }
+}
+
+/// Does rows one after another, up to the first that can't be done. Returns that row's fault, with
+/// the row's number, counted from 1.
+pub fn do_rows(office: &mut Exchange, rows: &[Row]) -> Result<Option<TrafficFault>, AllocError>
+    requires range { All IsRow rows.now }
+    requires mode { All (λ row. mode_of row ≡ Mode.Replay) rows.now }
+    ensures reached { IfOk result (λ fault.
+        outcome_from office.old.plan office.old.exchange 1 rows.now None
+        ≡ outcome_by fault office.new.exchange) }
+    ensures plan { IfOk result (λ fault. fault ≡ None → office.new.plan ≡ office.old.plan) }
+{
+    let mut number = 1;
+    for row in rows {
+        if let Some(why) = do_row(office, row)? {
+            return Ok(Some(TrafficFault {
+                row: number,
+                fault: RowFault::Marker(why),
+            }));
+        }
+        number += 1;
+    }
+    Ok(None)
 }

@@ -8,14 +8,14 @@ ghost use Rattle.xbar_traffic.specs.declared.mode.Mode.{Mode};
 ghost use Rattle.crossbar5_answer.specs.Faults.{IsMarkerCount};
 ghost use Rattle.crossbar5.specs.Run.{IsOneHistory, IsWrittenOf, Leaves, LeavesOneHistory, IsReplayUnder, outcome};
 
-use crate::rows::do_row;
+use crate::rows::do_rows;
 use crossbar5_answer::{Status, Written, refused};
 use std::alloc::{AllocError, Global};
 use xbar_core::{Exchange, Kind, OpenFault};
 use xbar_match::{count_closed, count_paths};
 use xbar_plan::Plan;
 use xbar_report::report;
-use xbar_traffic::{Mode, RowFault, Traffic, TrafficFault};
+use xbar_traffic::{Mode, Traffic};
 
 /// Opens an office. The number of markers is known to be in range.
 pub fn open<'p>(alloc: Global, plan: &'p Plan, kinds: &[Kind]) -> Result<Exchange<'p>, AllocError>
@@ -70,16 +70,8 @@ fn run(
         (outcome plan.now kinds.now traffic.now.rows.items traffic.now.fault)) }
 {
     let mut office = open(alloc, plan, kinds)?;
-    let mut number = 1;
-    for row in &traffic.rows {
-        if let Some(why) = do_row(&mut office, row)? {
-            let fault = TrafficFault {
-                row: number,
-                fault: RowFault::Marker(why),
-            };
-            return refused(alloc, Mode::Replay, bytes, fault);
-        }
-        number += 1;
+    if let Some(fault) = do_rows(&mut office, &traffic.rows)? {
+        return refused(alloc, Mode::Replay, bytes, fault);
     }
     match traffic.refusal() {
         Some(fault) => refused(alloc, Mode::Replay, bytes, fault),

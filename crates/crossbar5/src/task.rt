@@ -1,7 +1,9 @@
 use crate::audit::audit_text;
 use crate::draw::draw_text;
 use crate::look::Look;
+use crate::looks::look;
 use crate::run::replay;
+use crate::view::View;
 use crate::walk::walk;
 use crossbar5_answer::{Status, Written};
 use std::alloc::{AllocError, Global};
@@ -16,6 +18,9 @@ pub enum Task<'a> {
     Replay { kinds: &'a [Kind] },
     /// Replays traffic and describes each step of the markers, in this detail.
     Walk { kinds: &'a [Kind], detail: Detail },
+    /// Does traffic with markers of these kinds, and shows the office as it stands then, in this
+    /// view.
+    Look { kinds: &'a [Kind], view: View },
     /// Audits records.
     Audit,
     /// Draws the office after records.
@@ -31,7 +36,7 @@ impl Task<'_> {
         ensures { IsTrue result ↔ HasItsMarkers self.entry }
     {
         match self {
-            Task::Replay { kinds } | Task::Walk { kinds, .. } => {
+            Task::Replay { kinds } | Task::Walk { kinds, .. } | Task::Look { kinds, .. } => {
                 !kinds.is_empty() && kinds.len() <= MOST_MARKERS
             }
             Task::Audit | Task::Draw { .. } => true,
@@ -52,6 +57,7 @@ impl Task<'_> {
         match self {
             Task::Replay { kinds } => replay(alloc, plan, kinds, input),
             Task::Walk { kinds, detail } => walk(alloc, plan, kinds, detail, input),
+            Task::Look { kinds, view } => look(alloc, plan, kinds, view, input),
             Task::Audit => audit_text(alloc, plan, input),
             Task::Draw { look } => draw_text(alloc, plan, look, input),
         }
@@ -63,7 +69,7 @@ impl Task<'_> {
         ensures { result ≡ is_output self.entry status }
     {
         match self {
-            Task::Replay { .. } | Task::Walk { .. } | Task::Audit => true,
+            Task::Replay { .. } | Task::Walk { .. } | Task::Look { .. } | Task::Audit => true,
             Task::Draw { .. } => status == Status::Fine,
         }
     }

@@ -8,7 +8,6 @@ ghost use Rattle.xbar_traffic.specs.declared.mode.Mode.{Mode};
 ghost use Rattle.xbar_traffic.specs.declared.row.Row.{Row as TheRow};
 ghost use Rattle.xbar_walk.specs.Stories.{AgreesWith, ChangesAs};
 ghost use Rattle.xbar_walk.specs.Walks.{Walk, walk_of_settling};
-ghost use Rattle.xbar_walk.specs.declared.detail.Detail.{Detail as TheDetail};
 ghost use Rattle.crossbar5_answer.specs.Faults.{IsMarkerCount};
 ghost use Rattle.crossbar5.specs.Rows.{done, no_marker_fault, assignment_fault, row_fault};
 ghost use Rattle.crossbar5.specs.Run.{Leaves, outcome};
@@ -73,7 +72,7 @@ fn walk_marker_steps(
 }
 
 /// Does a row of a replay and describes it, or returns why it can't.
-fn walk_row(
+pub fn walk_row(
     office: &mut Exchange,
     row: &Row,
     story: &mut Story,
@@ -100,8 +99,8 @@ fn walk_row(
 
 /// Settles the office, describes each step, and finishes the text.
 fn walk_settling_rows(mut office: Exchange<'_>, mut story: Story) -> Result<Written, AllocError>
-    ensures { (detail : TheDetail) (w : Walk) → AgreesWith detail office.entry story w
-        → IfOk result (λ written. IsWalkResult detail (walk_of_settling w)
+    ensures { (w : Walk) → AgreesWith office.entry story w
+        → IfOk result (λ written. IsWalkResult (walk_of_settling w)
         (Leaves (settled office.entry.plan office.entry.exchange))
         written.text.items written.status) }
 {
@@ -127,8 +126,8 @@ fn tell(
     requires kinds { IsMarkerCount (length kinds.now) }
     requires range { All IsRow traffic.now.rows.items }
     requires mode { All (λ row. mode_of row ≡ Mode.Replay) traffic.now.rows.items }
-    ensures { IfOk result (λ written. IsWalkResult detail
-        (whole_walk plan.now kinds.now traffic.now.rows.items)
+    ensures { IfOk result (λ written. IsWalkResult
+        (whole_walk detail plan.now kinds.now traffic.now.rows.items)
         (outcome plan.now kinds.now traffic.now.rows.items traffic.now.fault)
         written.text.items written.status) }
 {

@@ -1,9 +1,9 @@
 -- What the program does for the words of its command line.
 use Rattle.std.specs.Prelude.{◌≡◌, [], ℕ, Bool, List, Option, Result, Ok, Err, IfErr, IfOk, IfSome, IsTrue, MatchResult, option_map, true}
 use Rattle.std.specs.Io.KnownBytes.{Appends, Keeps}
-use Rattle.clap.specs.Words.{Text, fault_of, subcommand_of, takes}
+use Rattle.clap.specs.Words.{Text, subcommand_of, takes}
 use Rattle.crossbar5_command.specs.Ask.{IsAskOf, IsAskWith}
-use Rattle.crossbar5_command.specs.Fault.{IsFaultAmong}
+use Rattle.crossbar5_command.specs.Fault.{IsFaultAmong, conflict_of, faults_of}
 use Rattle.crossbar5_command.specs.Program.{program, subcommands}
 use Rattle.crossbar5_command.specs.Subcommand.{AskFor, GivenOption, Subcommand, value_of}
 use Rattle.crossbar5_command.specs.declared.ask.Ask.{Ask}
@@ -19,14 +19,14 @@ use Rattle.crossbar5_endings.specs.declared.sentence.Sentence.{Sentence}
 use Rattle.crossbar5_cli.specs.Runs.{IsEndAsAsked}
 
 -- the words are read as this: words that ask for a subcommand with options, as what they ask for;
--- and all words as clap's definition of the program says
+-- and all words as clap's definition of the program says, unless they have two forms
 pub record IsReadAs (words : List Text) (asked : Result Ask CommandFault) : Type 0 where
   pub named : (s : Subcommand) (given : List GivenOption) → AskFor subcommands words s given
       → IfOk asked (IsAskWith s.name (value_of s.options given))
   pub found : IfOk asked (IsAskOf (subcommand_of program words))
-  pub taken : takes program words ≡ true → IfErr asked (λ fault. fault ≡ Memory)
-  pub faults : MatchResult asked (λ _. fault_of program words ≡ [])
-      (IsFaultAmong (fault_of program words))
+  pub taken : takes program words ≡ true → conflict_of (subcommand_of program words) ≡ []
+      → IfErr asked (λ fault. fault ≡ Memory)
+  pub faults : MatchResult asked (λ _. faults_of words ≡ []) (IsFaultAmong (faults_of words))
 
 -- what a stream is known to contain before a run and after it
 pub record Written : Type 0 where

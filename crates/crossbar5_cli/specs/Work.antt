@@ -4,7 +4,7 @@ use Rattle.std.specs.Borrow.{Bor}
 use Rattle.std.specs.Io.KnownBytes.{Appends}
 use Rattle.xbar_moves.specs.declared.kind.Kind.{Kind}
 use Rattle.xbar_walk.specs.declared.detail.Detail.{Detail}
-use Rattle.xbar_walk.specs.declared.detail.Detail.TheVariants.{Each, Short}
+use Rattle.xbar_walk.specs.declared.detail.Detail.TheVariants as detail
 use Rattle.crossbar5_answer.specs.Faults.{IsLiveMarkerCount}
 use Rattle.crossbar5_answer.specs.PlanRefusal.{IsRefusedPlan}
 use Rattle.crossbar5_answer.specs.Refusal.{ReportsFaultOf}
@@ -14,16 +14,29 @@ use Rattle.crossbar5.specs.Task.{HasItsMarkers, IsDone, output_of as task_output
 use Rattle.crossbar5.specs.declared.look.Look.{Look}
 use Rattle.crossbar5.specs.declared.look.Look.TheVariants as look
 use Rattle.crossbar5.specs.declared.task.Task.TheVariants as task
+use Rattle.crossbar5.specs.declared.view.View.{View}
+use Rattle.crossbar5.specs.declared.view.View.TheVariants as view
 use Rattle.crossbar5_live.specs.Live.{IsLive}
 use Rattle.crossbar5_command.specs.declared.ask.Ask.{Ask}
-use Rattle.crossbar5_command.specs.declared.ask.Ask.TheVariants.{Audit, Draw, Live, Page, Replay, Walk}
+use Rattle.crossbar5_command.specs.declared.ask.Ask.TheVariants as ask
+use Rattle.crossbar5_command.specs.declared.look_form.LookForm.{LookForm}
+use Rattle.crossbar5_command.specs.declared.look_form.LookForm.TheVariants as look_form
+use Rattle.crossbar5_command.specs.declared.walk_form.WalkForm.{WalkForm}
+use Rattle.crossbar5_command.specs.declared.walk_form.WalkForm.TheVariants as walk_form
 use Rattle.crossbar5_cli.specs.declared.work.Work.{Work}
 use Rattle.crossbar5_cli.specs.declared.work.Work.TheVariants.{Calls, Task}
 
--- a walk is described in short, or each step of it
-abbrev pub detail_of : Bool → Detail
-detail_of true = Short
-detail_of false = Each
+-- how a walk of this form is described: each step, in short, or as JSON objects
+abbrev pub detail_of : WalkForm → Detail
+detail_of walk_form.Each = detail.Each
+detail_of walk_form.Short = detail.Short
+detail_of walk_form.Json = detail.JsonLines
+
+-- how an office of this form is shown as it stands
+abbrev pub view_of : LookForm → View
+view_of look_form.Words = view.Words
+view_of look_form.Json = view.Json
+view_of look_form.Drawing = view.Drawing
 
 -- an office is drawn as text for a terminal, or as SVG
 abbrev pub look_of : Bool → Look
@@ -32,12 +45,13 @@ look_of false = look.Drawing
 
 -- the work that is asked for, with markers of these kinds if the command takes kinds
 abbrev pub work_of : Ask → Bor (List Kind) → Work
-work_of (Replay file letters) kinds = Task (task.Replay kinds)
-work_of (Walk file letters short) kinds = Task (task.Walk kinds (detail_of short))
-work_of (Live file dial completing) kinds = Calls dial completing
-work_of (Audit file) kinds = Task task.Audit
-work_of (Draw file text) kinds = Task (task.Draw (look_of text))
-work_of (Page file) kinds = Task (task.Draw look.Page)
+work_of (ask.Replay file letters) kinds = Task (task.Replay kinds)
+work_of (ask.Walk file letters form) kinds = Task (task.Walk kinds (detail_of form))
+work_of (ask.Look file letters form) kinds = Task (task.Look kinds (view_of form))
+work_of (ask.Live file dial completing) kinds = Calls dial completing
+work_of (ask.Audit file) kinds = Task task.Audit
+work_of (ask.Draw file text) kinds = Task (task.Draw (look_of text))
+work_of (ask.Page file) kinds = Task (task.Draw look.Page)
 
 -- the work has a valid number of markers, if it needs markers
 abbrev pub HasMarkers : Work → Type 0

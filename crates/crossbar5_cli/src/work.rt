@@ -9,9 +9,9 @@ ghost use Rattle.crossbar5_cli.specs.Work as specs;
 ghost use Rattle.crossbar5_cli.specs.Work.{HasGates, HasMarkers, IsAnswer, IsReady, IsDiagnosticOf, IsUnread};
 
 use counted_io::{Sink, Source};
-use crossbar5::{Detail, Look, Task, answer_task};
+use crossbar5::{Detail, Look, Task, View, answer_task};
 use crossbar5_answer::{EngineFault, Response};
-use crossbar5_command::Ask;
+use crossbar5_command::{Ask, LookForm, WalkForm};
 use crossbar5_live::{answer_live, open_gates};
 use std::alloc::Global;
 use std::sync::Wait;
@@ -35,9 +35,13 @@ pub fn work_of<'k>(ask: &Ask, kinds: &'k [Kind]) -> Work<'k>
 {
     match ask {
         Ask::Replay { .. } => Work::Task(Task::Replay { kinds }),
-        Ask::Walk { short, .. } => Work::Task(Task::Walk {
+        Ask::Walk { form, .. } => Work::Task(Task::Walk {
             kinds,
-            detail: detail_of(*short),
+            detail: detail_of(*form),
+        }),
+        Ask::Look { form, .. } => Work::Task(Task::Look {
+            kinds,
+            view: view_of(*form),
         }),
         Ask::Live {
             dial,
@@ -55,11 +59,26 @@ pub fn work_of<'k>(ask: &Ask, kinds: &'k [Kind]) -> Work<'k>
     }
 }
 
-/// How a walk is described, by the option `--short`.
-fn detail_of(short: bool) -> Detail
-    ensures { result ≡ specs.detail_of short }
+/// How a walk of this form is described.
+fn detail_of(form: WalkForm) -> Detail
+    ensures { result ≡ specs.detail_of form }
 {
-    if short { Detail::Short } else { Detail::Each }
+    match form {
+        WalkForm::Each => Detail::Each,
+        WalkForm::Short => Detail::Short,
+        WalkForm::Json => Detail::JsonLines,
+    }
+}
+
+/// How an office of this form is shown.
+fn view_of(form: LookForm) -> View
+    ensures { result ≡ specs.view_of form }
+{
+    match form {
+        LookForm::Words => View::Words,
+        LookForm::Json => View::Json,
+        LookForm::Drawing => View::Drawing,
+    }
 }
 
 /// How an office is drawn, by the option `--text`.
@@ -72,7 +91,7 @@ fn look_of(text: bool) -> Look
 /// What to type as the input of the work, with an example.
 pub fn input_of(work: Work<'_>) -> &'static str {
     match work {
-        Work::Task(Task::Replay { .. } | Task::Walk { .. }) => {
+        Work::Task(Task::Replay { .. } | Task::Walk { .. } | Task::Look { .. }) => {
             "rows, such as J,0,1,D,3041 and S,0,128,,"
         }
         Work::Task(Task::Audit | Task::Draw { .. }) => "records, as a replay prints them",

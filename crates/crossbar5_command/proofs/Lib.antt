@@ -7,6 +7,7 @@ pub mod OptionWords
 pub mod SubcommandWords
 pub mod OtherWords
 pub mod MetSubcommand
+pub mod Answered
 pub mod AddedSubcommands
 pub mod MadeOfRows
 pub mod AddedOptions

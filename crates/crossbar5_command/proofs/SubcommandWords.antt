@@ -15,6 +15,7 @@ use Rattle.clap.proofs.OnLiterals.{clap_on_literals}
 use Rattle.clap.proofs.WalkLemmas.{find-map, walk_stopped}
 use Rattle.std.proofs.Math.Bool.{or-false}
 use Rattle.crossbar5_command.specs.Ask.{IsAskOf, IsAskWith}
+use Rattle.crossbar5_command.specs.Fault.{conflict_in, conflict_of}
 use Rattle.crossbar5_command.specs.Program.{program, program_of, subcommands}
 use Rattle.crossbar5_command.specs.Subcommand.{AreOptions, AreValues, AskFor, GivenOption, Subcommand, subcommand_named, value_of, words_of}
 use Rattle.crossbar5_command.specs.declared.ask.Ask.{Ask}
@@ -193,7 +194,7 @@ words_taken (line ∷ name ∷ more) s given asks values =
     (ap (λ ws. level_passes (level s) [] nothing_held ws false) asks.1 ∙ level_taken name s asks.0 given asks.2 values)
 
 -- with the same values the ask is the same
-pub same_values : (name : Text) (values others : Text → Option Text) (ask : Ask) → ((id : Text) → values id ≡ others id)
+same_values : (name : Text) (values others : Text → Option Text) (ask : Ask) → ((id : Text) → values id ≡ others id)
     → IsAskWith name values ask → IsAskWith name others ask
 same_values name values others ask same is = subst (λ vs. IsAskWith name vs ask) (λ i id. same id i) is
 
@@ -207,3 +208,15 @@ words_read (line ∷ name ∷ more) s given ask asks none of_clap =
     same_values s.name _ _ ask
     (λ id. ap (λ ws. first_of id (rows_after (rules_for s.options) [] ws)) asks.1 ∙ level_read name s asks.0 given asks.2 none_behind id)
     (subst (λ met. IsAskOf met ask) here of_clap)
+
+-- two forms among the options are two forms in what clap found
+pub words_conflict : (words : List Text) (s : Subcommand) (given : List GivenOption) → AskFor subcommands words s given
+    → fault_of program words ≡ [] → conflict_of (subcommand_of program words) ≡ conflict_in s.options (value_of s.options given)
+words_conflict [] s given asks none = absurd asks
+words_conflict (line ∷ []) s given asks none = absurd asks
+words_conflict (line ∷ name ∷ more) s given asks none =
+    let rows = rows_after (rules_for s.options) [] more in
+    let none_behind = sym (ap (λ ws. level_fault (level s) [] nothing_held ws false []) asks.1) ∙ fault_of-subcommand name s asks.0 line more none in
+    ap conflict_of (subcommand_is name s asks.0 line more)
+    ∙ ap (λ met. option_map_or (λ s. conflict_in s.options (λ id. first_of id rows)) met []) (found name s asks.0)
+    ∙ ap (conflict_in s.options) (λ i id. (ap (λ ws. first_of id (rows_after (rules_for s.options) [] ws)) asks.1 ∙ level_read name s asks.0 given asks.2 none_behind id) i)

@@ -1,5 +1,6 @@
 pub mod Subcommand
 pub mod Program
-pub mod Ask
+pub mod Forms
 pub mod Fault
+pub mod Ask
 pub mod Table

@@ -29,8 +29,26 @@ replay = record { name = codes "replay"; options = plan ∷ markers ∷ [] }
 abbrev pub in_short : NamedOption
 in_short = record { name = codes "short"; argument = nothing }
 
+-- `--json`
+abbrev pub as_json : NamedOption
+as_json = record { name = codes "json"; argument = nothing }
+
 abbrev pub walk : Subcommand
-walk = record { name = codes "walk"; options = plan ∷ markers ∷ in_short ∷ [] }
+walk = record { name = codes "walk"; options = plan ∷ markers ∷ in_short ∷ as_json ∷ [] }
+
+-- `--words`
+abbrev pub in_words : NamedOption
+in_words = record { name = codes "words"; argument = nothing }
+
+-- `--svg`
+abbrev pub as_svg : NamedOption
+as_svg = record { name = codes "svg"; argument = nothing }
+
+abbrev pub look : Subcommand
+look = record {
+  name = codes "look";
+  options = plan ∷ markers ∷ in_words ∷ as_json ∷ as_svg ∷ [];
+}
 
 -- the default number of markers
 abbrev pub one : Text
@@ -65,7 +83,11 @@ abbrev pub page : Subcommand
 page = record { name = codes "page"; options = plan ∷ [] }
 
 abbrev pub subcommands : List Subcommand
-subcommands = replay ∷ walk ∷ live ∷ audit ∷ draw ∷ page ∷ []
+subcommands = replay ∷ walk ∷ look ∷ live ∷ audit ∷ draw ∷ page ∷ []
+
+-- the options that say in which form to print. At most one of them may be given
+abbrev pub forms : List NamedOption
+forms = in_short ∷ in_words ∷ as_json ∷ as_svg ∷ []
 
 -- ---- their definition for clap
 

@@ -1,3 +1,6 @@
+use crate::look_form::LookForm;
+use crate::walk_form::WalkForm;
+
 /// What a command line asks for.
 #[derive(Drop)]
 pub enum Ask {
@@ -14,8 +17,15 @@ pub enum Ask {
         plan: Option<String>,
         /// A letter for the kind of each marker, as for a replay.
         kinds: String,
-        /// Whether the tests of a row of switches are described in one line.
-        short: bool,
+        form: WalkForm,
+    },
+    /// Do the traffic on standard input, and show the office as it then stands.
+    Look {
+        /// The name of the plan's file. None is for the example plan.
+        plan: Option<String>,
+        /// A letter for the kind of each marker, as for a replay.
+        kinds: String,
+        form: LookForm,
     },
     /// Do the calls on standard input, by markers on threads.
     Live {

@@ -1,33 +1,43 @@
-ghost use Rattle.std.specs.Prelude.{◌≡◌, ◌↔◌, ◌≤◌, [], List, MatchResult, IfErr, IfOk, IfSome};
-ghost use Rattle.std.specs.Prelude.{IsSome, IsTrue, length, option_and_then, option_map, true};
+ghost use Rattle.std.specs.Prelude.{◌≡◌, ◌<◌, ◌≤◌, [], ◌∷◌, List, MatchResult, IfErr, IfOk, IfSome, IsErrAnd};
+ghost use Rattle.std.specs.Prelude.{IsSome, length, option_and_then, option_map, true};
 ghost use Rattle.std.specs.String.{string_bytes};
 ghost use Rattle.clap.specs.Walk.{texts};
-ghost use Rattle.clap.specs.Words.{fault_of, first_value, found_of, subcommand_of};
+ghost use Rattle.clap.specs.Words.{first_value, found_of, subcommand_of};
 ghost use Rattle.clap.specs.Words.{subcommand_rows_of, takes};
-ghost use Rattle.crossbar5_command.specs.Ask.{IsAskOf, IsAskWith, IsGiven, IsNumberOf, IsUnnamedAsk, name_of};
-ghost use Rattle.crossbar5_command.specs.Fault.{IsFaultAmong};
-ghost use Rattle.crossbar5_command.specs.Program.{audit, draw, live, page, program, replay, subcommands, walk};
+ghost use Rattle.crossbar5_command.specs.Ask.{IsAnswerTo, IsAnswerWith, IsAskOf, IsAskWith, IsNumberOf, IsUnnamedAsk, name_of};
+ghost use Rattle.crossbar5_command.specs.Fault.{IsFaultAmong, conflict_of, faults_of, form_count};
+ghost use Rattle.crossbar5_command.specs.Forms as specs;
+ghost use Rattle.crossbar5_command.specs.Program.{audit, draw, live, look, page, program, replay, subcommands, walk};
 ghost use Rattle.crossbar5_command.specs.Subcommand.{AreValues, AskFor, GivenOption, NamesOnly};
 ghost use Rattle.crossbar5_command.specs.Subcommand.{Subcommand, subcommand_named, value_of};
 ghost use Rattle.crossbar5_command.specs.declared.command_fault.CommandFault.TheVariants.{Memory};
 
-use crate::options::{COMPLETING, DEFAULT_KINDS, DIAL, MARKERS, ONE, PLAN, SHORT, TEXT};
-use crate::program::program;
-use crate::subcommands::{AUDIT, DRAW, LIVE, PAGE, REPLAY, WALK};
-use crate::{Ask, CommandFault};
-use clap::ArgMatches;
+use crate::options::{
+    COMPLETING, DEFAULT_KINDS, DIAL, JSON, MARKERS, ONE, PLAN, SHORT, SVG, TEXT, WORDS,
+};
+use crate::program::{NAME, program};
+use crate::subcommands::{AUDIT, DRAW, LIVE, LOOK, PAGE, REPLAY, USAGE_LOOK, USAGE_WALK, WALK};
+use crate::{Ask, CommandFault, LookForm, WalkForm};
+use clap::error::ErrorKind;
+use clap::{ArgMatches, Command};
 use std::alloc::{AllocError, Global};
 
 /// Returns what the words ask for. The first word is the program's name, whatever it is. The
 /// options of a subcommand follow its name in any order.
 pub fn command(alloc: Global, words: &[&str]) -> Result<Ask, CommandFault>
-    // Words that ask for a subcommand are accepted, and the result has the values in them.
+    // Words that ask for a subcommand, in at most one form, are accepted, and the result has the
+    // values in them. Two forms are refused.
     ensures taken { (s : Subcommand) (given : List GivenOption)
         → AskFor subcommands (texts words.now) s given → AreValues s.options given
+        → form_count s.options (value_of s.options given) ≤ 1
         → IfErr result (λ fault. fault ≡ Memory) }
     ensures asked { (s : Subcommand) (given : List GivenOption)
         → AskFor subcommands (texts words.now) s given
         → IfOk result (IsAskWith s.name (value_of s.options given)) }
+    ensures apart { (s : Subcommand) (given : List GivenOption)
+        → AskFor subcommands (texts words.now) s given → AreValues s.options given
+        → 1 < form_count s.options (value_of s.options given)
+        → IsErrAnd result (IsFaultAmong (ErrorKind.ArgumentConflict ∷ [])) }
     // The program's name alone, and no words at all, ask for a replay without options.
     ensures unnamed { length words.now ≤ 1
         → MatchResult result IsUnnamedAsk (λ fault. fault ≡ Memory) }
@@ -35,22 +45,24 @@ pub fn command(alloc: Global, words: &[&str]) -> Result<Ask, CommandFault>
     // A word that names no subcommand is refused, and so is an option in its place.
     ensures only { IfOk result (λ ask. NamesOnly replay.name (name_of ask) (texts words.now)) }
 
-    // For all words the result is what clap's definition finds for this program.
+    // For all words the result is what clap's definition finds for this program, unless that has
+    // two forms.
     ensures matches { IfOk result (IsAskOf (subcommand_of program (texts words.now))) }
     ensures passes { takes program (texts words.now) ≡ true
+        → conflict_of (subcommand_of program (texts words.now)) ≡ []
         → IfErr result (λ fault. fault ≡ Memory) }
-    ensures faults { MatchResult result (λ _. fault_of program (texts words.now) ≡ [])
-        (IsFaultAmong (fault_of program (texts words.now))) }
+    ensures faults { MatchResult result (λ _. faults_of (texts words.now) ≡ [])
+        (IsFaultAmong (faults_of (texts words.now))) }
 {
     let matches = program(alloc)?.try_get_matches_from(words)?;
-    Ok(ask_of(alloc, &matches)?)
+    ask_of(alloc, &matches)
 }
 
 /// What clap's matches ask for: their subcommand, or a replay if they have none.
-fn ask_of(alloc: Global, matches: &ArgMatches) -> Result<Ask, AllocError>
+fn ask_of(alloc: Global, matches: &ArgMatches) -> Result<Ask, CommandFault>
     ensures { IfSome (subcommand_rows_of matches.now)
         (λ met. IsSome (subcommand_named subcommands met.0))
-        → IfOk result (IsAskOf (subcommand_rows_of matches.now)) }
+        → IsAnswerTo (subcommand_rows_of matches.now) result }
 {
     if let Some(options) = matches.subcommand_matches(LIVE) {
         return live_of(alloc, options);
@@ -67,24 +79,90 @@ fn ask_of(alloc: Global, matches: &ArgMatches) -> Result<Ask, AllocError>
     if let Some(options) = matches.subcommand_matches(PAGE) {
         return page_of(alloc, options);
     }
+    if let Some(options) = matches.subcommand_matches(LOOK) {
+        return look_of(alloc, options);
+    }
     replay_of(alloc, matches.subcommand_matches(REPLAY))
 }
 
 /// The walk with the values of its options.
-fn walk_of(alloc: Global, options: &ArgMatches) -> Result<Ask, AllocError>
-    ensures { IfOk result (IsAskWith walk.name (first_value (found_of options.now))) }
+fn walk_of(alloc: Global, options: &ArgMatches) -> Result<Ask, CommandFault>
+    ensures { IsAnswerWith walk (first_value (found_of options.now)) result }
 {
+    let short = is_given(options.get_str(SHORT));
+    let json = is_given(options.get_str(JSON));
+    let Some(form) = walk_form(short, json) else {
+        return Err(two_forms(
+            alloc,
+            USAGE_WALK,
+            "only one of '--short' and '--json' can be used",
+        ));
+    };
     let kinds = options.get_str(MARKERS).unwrap_or(DEFAULT_KINDS);
     Ok(Ask::Walk {
         plan: copy_of(alloc, options.get_str(PLAN))?,
         kinds: String::from_str(alloc, kinds)?,
-        short: is_given(options.get_str(SHORT)),
+        form,
     })
 }
 
+/// The form of a walk, by its options. None if both are given.
+fn walk_form(short: bool, json: bool) -> Option<WalkForm>
+    ensures { result ≡ specs.walk_form short json }
+{
+    match (short, json) {
+        (false, false) => Some(WalkForm::Each),
+        (true, false) => Some(WalkForm::Short),
+        (false, true) => Some(WalkForm::Json),
+        (true, true) => None,
+    }
+}
+
+/// The office as it stands, with the values of the options.
+fn look_of(alloc: Global, options: &ArgMatches) -> Result<Ask, CommandFault>
+    ensures { IsAnswerWith look (first_value (found_of options.now)) result }
+{
+    let words = is_given(options.get_str(WORDS));
+    let json = is_given(options.get_str(JSON));
+    let svg = is_given(options.get_str(SVG));
+    let Some(form) = look_form(words, json, svg) else {
+        let message = "only one of '--words', '--json' and '--svg' can be used";
+        return Err(two_forms(alloc, USAGE_LOOK, message));
+    };
+    let kinds = options.get_str(MARKERS).unwrap_or(DEFAULT_KINDS);
+    Ok(Ask::Look {
+        plan: copy_of(alloc, options.get_str(PLAN))?,
+        kinds: String::from_str(alloc, kinds)?,
+        form,
+    })
+}
+
+/// The form of an office as it stands, by its options. None if two are given.
+fn look_form(words: bool, json: bool, svg: bool) -> Option<LookForm>
+    ensures { result ≡ specs.look_form words json svg }
+{
+    match (words, json, svg) {
+        (_, false, false) => Some(LookForm::Words),
+        (false, true, false) => Some(LookForm::Json),
+        (false, false, true) => Some(LookForm::Drawing),
+        _ => None,
+    }
+}
+
+/// The refusal of two forms, with the usage of the subcommand.
+fn two_forms(alloc: Global, usage: &str, message: &str) -> CommandFault
+    ensures { IsFaultAmong (ErrorKind.ArgumentConflict ∷ []) result }
+{
+    let mut command = Command::new(alloc, NAME).override_usage(usage);
+    match command.error(ErrorKind::ArgumentConflict, message) {
+        Ok(error) => CommandFault::Refused(error),
+        Err(_) => CommandFault::Memory,
+    }
+}
+
 /// The live calls with the values of their options.
-fn live_of(alloc: Global, options: &ArgMatches) -> Result<Ask, AllocError>
-    ensures { IfOk result (IsAskWith live.name (first_value (found_of options.now))) }
+fn live_of(alloc: Global, options: &ArgMatches) -> Result<Ask, CommandFault>
+    ensures { IsAnswerWith live (first_value (found_of options.now)) result }
 {
     Ok(Ask::Live {
         plan: copy_of(alloc, options.get_str(PLAN))?,
@@ -101,8 +179,8 @@ fn number_of(text: &str) -> u32
 }
 
 /// The audit with the values of its options.
-fn audit_of(alloc: Global, options: &ArgMatches) -> Result<Ask, AllocError>
-    ensures { IfOk result (IsAskWith audit.name (first_value (found_of options.now))) }
+fn audit_of(alloc: Global, options: &ArgMatches) -> Result<Ask, CommandFault>
+    ensures { IsAnswerWith audit (first_value (found_of options.now)) result }
 {
     Ok(Ask::Audit {
         plan: copy_of(alloc, options.get_str(PLAN))?,
@@ -110,8 +188,8 @@ fn audit_of(alloc: Global, options: &ArgMatches) -> Result<Ask, AllocError>
 }
 
 /// The drawing with the values of its options.
-fn draw_of(alloc: Global, options: &ArgMatches) -> Result<Ask, AllocError>
-    ensures { IfOk result (IsAskWith draw.name (first_value (found_of options.now))) }
+fn draw_of(alloc: Global, options: &ArgMatches) -> Result<Ask, CommandFault>
+    ensures { IsAnswerWith draw (first_value (found_of options.now)) result }
 {
     Ok(Ask::Draw {
         plan: copy_of(alloc, options.get_str(PLAN))?,
@@ -120,8 +198,8 @@ fn draw_of(alloc: Global, options: &ArgMatches) -> Result<Ask, AllocError>
 }
 
 /// The page with the values of its options.
-fn page_of(alloc: Global, options: &ArgMatches) -> Result<Ask, AllocError>
-    ensures { IfOk result (IsAskWith page.name (first_value (found_of options.now))) }
+fn page_of(alloc: Global, options: &ArgMatches) -> Result<Ask, CommandFault>
+    ensures { IsAnswerWith page (first_value (found_of options.now)) result }
 {
     Ok(Ask::Page {
         plan: copy_of(alloc, options.get_str(PLAN))?,
@@ -130,7 +208,7 @@ fn page_of(alloc: Global, options: &ArgMatches) -> Result<Ask, AllocError>
 
 /// Whether an option that takes no value is given, by the value that clap has for it.
 fn is_given(value: Option<&str>) -> bool
-    ensures { IsTrue result ↔ IsGiven (option_map (λ s. s.now) value.entry) }
+    ensures { result ≡ specs.is_given (option_map (λ s. s.now) value.entry) }
 {
     match value {
         Some(value) => value == "true",
@@ -139,9 +217,9 @@ fn is_given(value: Option<&str>) -> bool
 }
 
 /// The replay with the values of its options, or with defaults if there are no matches.
-fn replay_of(alloc: Global, options: Option<&ArgMatches>) -> Result<Ask, AllocError>
-    ensures { IfOk result (IsAskWith replay.name (λ name.
-        option_and_then (λ m. first_value (found_of m.now) name) options.entry)) }
+fn replay_of(alloc: Global, options: Option<&ArgMatches>) -> Result<Ask, CommandFault>
+    ensures { IsAnswerWith replay (λ name.
+        option_and_then (λ m. first_value (found_of m.now) name) options.entry) result }
 {
     let kinds = text_of(options, MARKERS).unwrap_or(DEFAULT_KINDS);
     Ok(Ask::Replay {

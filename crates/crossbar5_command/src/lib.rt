@@ -4,13 +4,17 @@
 pub use ask::Ask;
 pub use command_fault::CommandFault;
 pub use command_line::command;
+pub use look_form::LookForm;
 pub use options::CommandOption;
 pub use program::{ABOUT, AFTER_HELP, NAME, VERSION};
 pub use subcommands::{SUBCOMMANDS, Subcommand};
+pub use walk_form::WalkForm;
 
 mod ask;
 mod command_fault;
 mod command_line;
+mod look_form;
 mod options;
 mod program;
 mod subcommands;
+mod walk_form;

@@ -25,6 +25,15 @@ pub const COMPLETING: &str = "completing";
 /// The id and name of the option for a walk in fewer lines.
 pub const SHORT: &str = "short";
 
+/// The id and name of the option for an office in words.
+pub const WORDS: &str = "words";
+
+/// The id and name of the option for JSON.
+pub const JSON: &str = "json";
+
+/// The id and name of the option for an office as SVG.
+pub const SVG: &str = "svg";
+
 /// The id and name of the option for a text in place of SVG.
 pub const TEXT: &str = "text";
 
@@ -60,6 +69,14 @@ with those that dial at most 48";
 
 const ABOUT_SHORT: &str = "Describe the tests of a row of switches in one line";
 
+const ABOUT_EVENTS: &str = "Write each event as a JSON object on a line of its own";
+
+const ABOUT_WORDS: &str = "Describe the office in words, the default";
+
+const ABOUT_JSON: &str = "Write the office as one JSON object";
+
+const ABOUT_SVG: &str = "Draw the office as SVG";
+
 const ABOUT_TEXT: &str = "Draw for a terminal of 80 columns";
 
 /// An option of a subcommand.
@@ -70,6 +87,12 @@ pub enum CommandOption {
     Dial,
     Completing,
     Short,
+    /// `--json` of a walk.
+    Events,
+    Words,
+    /// `--json` of an office as it stands.
+    Json,
+    Svg,
     Text,
 }
 
@@ -82,6 +105,9 @@ impl CommandOption {
             CommandOption::Dial => DIAL,
             CommandOption::Completing => COMPLETING,
             CommandOption::Short => SHORT,
+            CommandOption::Events | CommandOption::Json => JSON,
+            CommandOption::Words => WORDS,
+            CommandOption::Svg => SVG,
             CommandOption::Text => TEXT,
         }
     }
@@ -92,7 +118,7 @@ impl CommandOption {
             CommandOption::Plan => Some(FILE),
             CommandOption::Markers => Some(KINDS),
             CommandOption::Dial | CommandOption::Completing => Some(NUMBER),
-            CommandOption::Short | CommandOption::Text => None,
+            _ => None,
         }
     }
 
@@ -101,7 +127,7 @@ impl CommandOption {
         match self {
             CommandOption::Markers => Some(DEFAULT_KINDS),
             CommandOption::Dial | CommandOption::Completing => Some(ONE),
-            CommandOption::Plan | CommandOption::Short | CommandOption::Text => None,
+            _ => None,
         }
     }
 
@@ -113,6 +139,10 @@ impl CommandOption {
             CommandOption::Dial => ABOUT_DIAL,
             CommandOption::Completing => ABOUT_COMPLETING,
             CommandOption::Short => ABOUT_SHORT,
+            CommandOption::Events => ABOUT_EVENTS,
+            CommandOption::Words => ABOUT_WORDS,
+            CommandOption::Json => ABOUT_JSON,
+            CommandOption::Svg => ABOUT_SVG,
             CommandOption::Text => ABOUT_TEXT,
         }
     }
@@ -128,6 +158,10 @@ impl CommandOption {
             CommandOption::Dial => count_option(alloc, DIAL, ABOUT_DIAL),
             CommandOption::Completing => count_option(alloc, COMPLETING, ABOUT_COMPLETING),
             CommandOption::Short => flag_option(alloc, SHORT, ABOUT_SHORT),
+            CommandOption::Events => flag_option(alloc, JSON, ABOUT_EVENTS),
+            CommandOption::Words => flag_option(alloc, WORDS, ABOUT_WORDS),
+            CommandOption::Json => flag_option(alloc, JSON, ABOUT_JSON),
+            CommandOption::Svg => flag_option(alloc, SVG, ABOUT_SVG),
             CommandOption::Text => flag_option(alloc, TEXT, ABOUT_TEXT),
         }
     }

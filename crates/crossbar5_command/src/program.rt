@@ -24,7 +24,8 @@ the rows with the example plan and two markers that take all jobs.";
 const USAGE: &str = "\
 crossbar5 [COMMAND]
        crossbar5 replay [--plan <FILE>] [--markers <KINDS>]
-       crossbar5 walk [--plan <FILE>] [--markers <KINDS>] [--short]
+       crossbar5 walk [--plan <FILE>] [--markers <KINDS>] [--short | --json]
+       crossbar5 look [--plan <FILE>] [--markers <KINDS>] [--words | --json | --svg]
        crossbar5 live [--plan <FILE>] [--dial <N>] [--completing <N>]
        crossbar5 audit [--plan <FILE>]
        crossbar5 draw [--plan <FILE>] [--text]

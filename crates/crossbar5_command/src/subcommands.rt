@@ -16,6 +16,8 @@ pub const REPLAY: &str = "replay";
 
 pub const WALK: &str = "walk";
 
+pub const LOOK: &str = "look";
+
 pub const LIVE: &str = "live";
 
 pub const AUDIT: &str = "audit";
@@ -45,12 +47,26 @@ pub const SUBCOMMANDS: &[Subcommand] = &[
     Subcommand {
         name: WALK,
         about: "Replay rows of traffic and describe each step of each marker",
-        usage: "crossbar5 walk [--plan <FILE>] [--markers <KINDS>] [--short] < TRAFFIC",
+        usage: USAGE_WALK,
         example: EXAMPLE_WALK,
         options: &[
             CommandOption::Plan,
             CommandOption::Markers,
             CommandOption::Short,
+            CommandOption::Events,
+        ],
+    },
+    Subcommand {
+        name: LOOK,
+        about: "Show the office as it stands after rows of traffic, not settled",
+        usage: USAGE_LOOK,
+        example: EXAMPLE_LOOK,
+        options: &[
+            CommandOption::Plan,
+            CommandOption::Markers,
+            CommandOption::Words,
+            CommandOption::Json,
+            CommandOption::Svg,
         ],
     },
     Subcommand {
@@ -87,6 +103,14 @@ pub const SUBCOMMANDS: &[Subcommand] = &[
     },
 ];
 
+/// The usage of a walk.
+pub const USAGE_WALK: &str = "\
+crossbar5 walk [--plan <FILE>] [--markers <KINDS>] [--short | --json] < TRAFFIC";
+
+/// The usage of `look`.
+pub const USAGE_LOOK: &str = "\
+crossbar5 look [--plan <FILE>] [--markers <KINDS>] [--words | --json | --svg] < TRAFFIC";
+
 const EXAMPLE_REPLAY: &str = "\
 Example:
   printf 'J,0,1,D,3041\\nS,0,128,,\\n' | crossbar5 replay
@@ -104,6 +128,14 @@ Example:
   Line 3041 wants dial tone: each connector that the marker requests, seizes
   and frees, each word that it tests, its turn, and each crosspoint that it
   closes.";
+
+const EXAMPLE_LOOK: &str = "\
+Example:
+  printf 'J,0,1,D,3041\\nS,0,3,,\\n' | crossbar5 look
+
+  Marker 0 makes three steps for line 3041, and is left there. Printed are its
+  job, its next step, what it holds, requests and has yet to do, and how much
+  of its paths is closed; then records and counts, as in a replay.";
 
 const EXAMPLE_LIVE: &str = "\
 Example:

@@ -8,7 +8,7 @@ use Rattle.crossbar5_answer.specs.Kinds.{Names}
 use Rattle.crossbar5_answer.specs.declared.engine_fault.EngineFault.{EngineFault}
 use Rattle.crossbar5_answer.specs.declared.engine_fault.EngineFault.TheVariants.{Markers}
 use Rattle.crossbar5_command.specs.declared.ask.Ask.{Ask}
-use Rattle.crossbar5_command.specs.declared.ask.Ask.TheVariants.{Audit, Draw, Live, Page, Replay, Walk}
+use Rattle.crossbar5_command.specs.declared.ask.Ask.TheVariants.{Audit, Draw, Live, Look, Page, Replay, Walk}
 use Rattle.crossbar5_endings.specs.Endings.{IsOfRun}
 use Rattle.crossbar5_endings.specs.Named.{letters_of}
 use Rattle.crossbar5_endings.specs.Sentences.{End, sentence_on_kinds}
@@ -22,7 +22,8 @@ NamesNone letters = (kinds : List Kind) → ¬ Names letters kinds
 -- the markers that are asked for are refused. An audit, a drawing and a page ask for none
 abbrev pub RefusesMarkers : Ask → Type 0
 RefusesMarkers (Replay file letters) = NamesNone (string_bytes letters)
-RefusesMarkers (Walk file letters short) = NamesNone (string_bytes letters)
+RefusesMarkers (Walk file letters form) = NamesNone (string_bytes letters)
+RefusesMarkers (Look file letters form) = NamesNone (string_bytes letters)
 RefusesMarkers (Live file dial completing) = ¬ IsLiveMarkerCount dial completing
 RefusesMarkers (Audit file) = ⊥
 RefusesMarkers (Draw file text) = ⊥

@@ -6,13 +6,14 @@ use Rattle.xbar_plan_text.specs.Document.{plan_of}
 use Rattle.xbar_plan.specs.Example.{example}
 use Rattle.crossbar5_answer.specs.Kinds.{Names}
 use Rattle.crossbar5_command.specs.declared.ask.Ask.{Ask}
-use Rattle.crossbar5_command.specs.declared.ask.Ask.TheVariants.{Audit, Draw, Live, Page, Replay, Walk}
+use Rattle.crossbar5_command.specs.declared.ask.Ask.TheVariants.{Audit, Draw, Live, Look, Page, Replay, Walk}
 use Rattle.crossbar5_endings.specs.Sentences.{FileName}
 
 -- the name of the plan's file, if one is named
 abbrev pub file_of : Ask → Option (List ℕ)
 file_of (Replay file letters) = option_map string_bytes file
-file_of (Walk file letters short) = option_map string_bytes file
+file_of (Walk file letters form) = option_map string_bytes file
+file_of (Look file letters form) = option_map string_bytes file
 file_of (Live file dial completing) = option_map string_bytes file
 file_of (Audit file) = option_map string_bytes file
 file_of (Draw file text) = option_map string_bytes file
@@ -21,7 +22,8 @@ file_of (Page file) = option_map string_bytes file
 -- the letters of the markers' kinds, if the command takes them
 abbrev pub letters_of : Ask → Option (List ℕ)
 letters_of (Replay file letters) = Some (string_bytes letters)
-letters_of (Walk file letters short) = Some (string_bytes letters)
+letters_of (Walk file letters form) = Some (string_bytes letters)
+letters_of (Look file letters form) = Some (string_bytes letters)
 letters_of (Live file dial completing) = None
 letters_of (Audit file) = None
 letters_of (Draw file text) = None

@@ -10,7 +10,6 @@ use Rattle.crossbar5_endings.specs.Endings.{line_of}
 use Rattle.crossbar5_endings.specs.Sentences.{sentence_on_printing, text_of}
 use Rattle.crossbar5_endings.specs.Streams.{stream_of}
 use Rattle.crossbar5_endings.specs.declared.ending.Ending.{Ending}
-use Rattle.crossbar5_endings.specs.declared.sentence.Sentence.{Sentence}
 use Rattle.crossbar5_endings.specs.declared.stream.Stream.{Stream}
 use Rattle.crossbar5_endings.specs.declared.stream.Stream.TheVariants.{Errors, Output}
 

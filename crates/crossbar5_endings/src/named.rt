@@ -20,6 +20,7 @@ pub fn file_of(ask: &Ask) -> Option<&str>
     match ask {
         Ask::Replay { plan, .. } => name_of(plan),
         Ask::Walk { plan, .. } => name_of(plan),
+        Ask::Look { plan, .. } => name_of(plan),
         Ask::Live { plan, .. } => name_of(plan),
         Ask::Audit { plan } => name_of(plan),
         Ask::Draw { plan, .. } => name_of(plan),
@@ -43,6 +44,7 @@ fn letters_of(ask: &Ask) -> Option<&str>
     match ask {
         Ask::Replay { kinds, .. } => Some(kinds.as_str()),
         Ask::Walk { kinds, .. } => Some(kinds.as_str()),
+        Ask::Look { kinds, .. } => Some(kinds.as_str()),
         Ask::Live { .. } | Ask::Audit { .. } | Ask::Draw { .. } | Ask::Page { .. } => None,
     }
 }

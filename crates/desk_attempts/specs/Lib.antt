@@ -1,2 +1,3 @@
 pub mod Speculation
 pub mod Of
+pub mod Groups

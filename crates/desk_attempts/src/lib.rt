@@ -5,12 +5,14 @@
 
 pub use jobs::Attempts;
 pub use now::{asked, turn};
+pub use on_groups::{Groups, InGroups, OnGroups};
 pub use on_words::OnWords;
 pub use speculation::{Speculation, SpeculationOf};
 
 mod answering;
 mod jobs;
 mod now;
+mod on_groups;
 mod on_words;
 mod predicting;
 mod speculation;

@@ -8,7 +8,8 @@ use std::test::Fail;
 use xbar_core::Event;
 use xbar_equip::WordNo;
 use xbar_jobs::Step;
-use xbar_walk::{Detail, Observation, Story};
+use xbar_step_text::Observation;
+use xbar_walk::{Detail, Story};
 
 /// The tests, each with its marker, the number of its word and the value found there; and the text
 /// that describes them.

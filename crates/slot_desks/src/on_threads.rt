@@ -14,33 +14,7 @@ use crate::jobs::SlotJobs;
 use crate::laws::no_slot_is_taken_twice;
 use std::alloc::{AllocError, Global};
 use std::thread::Threads;
-use workers::{NotShut, Routine, at_once, shut_if_idle};
-
-/// A worker's routine: `take_and_give` so many times.
-#[derive(Drop)]
-struct TakesAndGives<'a> {
-    room: &'a SlotRoom,
-    rounds: u64,
-}
-
-impl Routine<Shift> for TakesAndGives<'_> {
-    ghost Begins = { λ routine shift. IsDeskOf shift.desk routine.room.now tt
-        × IsLogOf slots shift.desk shift.log.items × (shift.log.items ≡ []) };
-
-    ghost Ends = { λ routine shift after. IsDeskOf after.desk routine.room.now tt
-        × (after.desk.number ≡ shift.desk.number) × IsLogOf slots after.desk after.log.items
-        × GivesOwn [] (records after.log.items) };
-
-    fn run(&self, shift: Shift) -> Shift
-        requires { IsDeskOf shift.desk self.now.room.now tt
-            × IsLogOf slots shift.desk shift.log.items × (shift.log.items ≡ []) }
-        ensures { IsDeskOf result.desk self.now.room.now tt
-            × (result.desk.number ≡ shift.desk.number) × IsLogOf slots result.desk result.log.items
-            × GivesOwn [] (records result.log.items) }
-    {
-        take_and_give(self.room, shift, self.rounds)
-    }
-}
+use workers::{NotShut, at_once, shut_if_idle};
 
 /// Has all desks take slots and free them, each on a thread of its own if one can be made.
 /// Returns them in their order, with their logs.
@@ -61,7 +35,22 @@ pub fn take_and_give_at_once<R: Threads + Sync>(
         AllGiveOwn (map (λ shift. records shift.log.items) shifts.items)) }
     ensures len { IfOk result (λ shifts. vec_len shifts ≡ vec_len desks) }
 {
-    at_once(rt, alloc, room, &(), desks, &TakesAndGives { room, rounds })
+    at_once(
+        rt,
+        alloc,
+        room,
+        &(),
+        desks,
+        &|shift: Shift| -> Shift
+            requires desk { IsDeskOf shift.desk room.now tt }
+            requires log { IsLogOf slots shift.desk shift.log.items }
+            requires own { GivesOwn [] (records shift.log.items) }
+            ensures desk { IsDeskOf result.desk room.entry.now tt }
+            ensures number { result.desk.number ≡ shift.desk.number }
+            ensures log { IsLogOf slots result.desk result.log.items }
+            ensures own { GivesOwn [] (records result.log.items) }
+        { take_and_give(room, shift, rounds) },
+    )
 }
 
 /// Shuts the room with the desks of shifts, and returns its words. If a desk is still at a job, or

@@ -4,9 +4,7 @@
 ghost use Rattle.std.specs.Prelude.{◌≡◌, ◌<◌, ◌+◌, ◌^◌, IfSome, slice_get};
 
 use attempts::{Scripts, Seen};
-use desk_attempts::{Attempts, OnWords};
-use std::alloc::{AllocError, Global};
-use std::ops::Range;
+use desk_attempts::{Attempts, Groups, InGroups, OnGroups};
 use tickets::{Decision, Effect, Job};
 use turns::{Operation, Wanted};
 
@@ -15,7 +13,7 @@ pub struct TicketScripts;
 
 // change: the most words that a script tests, and the most locks that it seizes, here and below
 /// The jobs as desks do them.
-pub type TicketJobs = Attempts<TicketScripts, 1, 1>;
+pub type TicketJobs = Attempts<InGroups<TicketScripts>, 1, 1>;
 
 impl Scripts<1, 1> for TicketScripts {
     ghost use Rattle.attempts.specs.SystemWith.{without_decisions};
@@ -82,8 +80,8 @@ impl Scripts<1, 1> for TicketScripts {
     }
 }
 
-// change: which words there are, and what an effect does to which word
-impl OnWords<1, 1> for TicketScripts {
+// change: the groups of the words, and what an effect does to which word
+impl OnGroups<1, 1> for TicketScripts {
     ghost use Rattle.tickets.proofs.IsSystem.{asks, tickets_system};
 
     type Kept = ();
@@ -92,32 +90,16 @@ impl OnWords<1, 1> for TicketScripts {
 
     fn keep(_setting: &()) {}
 
+    fn groups(_setting: &()) -> Groups {
+        Groups { count: 1, each: 1 }
+    }
+
     fn effect_word(_setting: &(), _effect: Effect) -> usize {
         0
     }
 
     fn effect_operation(_setting: &(), _effect: Effect) -> Operation {
         Operation::Add(1)
-    }
-
-    fn size(_setting: &()) -> usize {
-        3
-    }
-
-    fn initial(alloc: Global, _setting: &()) -> Result<Vec<u64>, AllocError> {
-        vec![in alloc; 0; 3]
-    }
-
-    fn turn_word(_setting: &()) -> usize {
-        2
-    }
-
-    fn lock_word(_setting: &(), lock: u32) -> usize {
-        1 + lock as usize
-    }
-
-    fn words_under(_setting: &(), _lock: u32) -> Range<usize> {
-        0..1
     }
 
     // change: which lemmas say that the jobs are a system, and how much a script asks for

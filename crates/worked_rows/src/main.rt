@@ -11,7 +11,7 @@ use std::{fs, io};
 use toml::Value;
 use work::run_row;
 
-const FILES: [&str; 12] = [
+const FILES: [&str; 13] = [
     "forms.toml",
     "calls.toml",
     "replies.toml",
@@ -22,6 +22,7 @@ const FILES: [&str; 12] = [
     "records.toml",
     "walks.toml",
     "steps.toml",
+    "looks.toml",
     "drawings.toml",
     "pages.toml",
 ];

@@ -1,4 +1,4 @@
-use crossbar5::{Detail, Look};
+use crossbar5::{Detail, Look, View};
 use std::alloc::{AllocError, Global};
 use toml::Value;
 
@@ -9,6 +9,7 @@ pub enum Verb {
     /// A replay, and then an audit of what it wrote.
     ReplayAndAudit,
     Walk(Detail),
+    Look(View),
     Audit,
     Draw(Look),
 }
@@ -41,6 +42,10 @@ fn verb_of(word: &str) -> Option<Verb> {
         "replay and audit" => Some(Verb::ReplayAndAudit),
         "walk" => Some(Verb::Walk(Detail::Each)),
         "walk in short" => Some(Verb::Walk(Detail::Short)),
+        "walk as JSON" => Some(Verb::Walk(Detail::JsonLines)),
+        "look" => Some(Verb::Look(View::Words)),
+        "look as JSON" => Some(Verb::Look(View::Json)),
+        "look in SVG" => Some(Verb::Look(View::Drawing)),
         "audit" => Some(Verb::Audit),
         "draw" => Some(Verb::Draw(Look::Text)),
         "draw in SVG" => Some(Verb::Draw(Look::Drawing)),

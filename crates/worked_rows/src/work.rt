@@ -47,6 +47,10 @@ fn done(alloc: Global, row: &Row<'_>) -> Result<RowResult, EngineFault> {
             let kinds = kinds.as_slice();
             written(alloc, Task::Walk { kinds, detail }, row.plan, input)
         }
+        Verb::Look(view) => {
+            let kinds = kinds.as_slice();
+            written(alloc, Task::Look { kinds, view }, row.plan, input)
+        }
         Verb::Audit => written(alloc, Task::Audit, row.plan, input),
         Verb::Draw(look) => written(alloc, Task::Draw { look }, row.plan, input),
         Verb::ReplayAndAudit => {

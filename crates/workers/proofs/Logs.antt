@@ -11,17 +11,25 @@ use Rattle.desks.specs.Parts.{Begins}
 use Rattle.desks.specs.Reports.{ComesAfter, HasWorked, job_of, unreported}
 use Rattle.desks.specs.Views.{RoomView, new_desk}
 use Rattle.desks.specs.declared.progress.JobRecord.{JobRecord}
-use Rattle.workers.specs.Workers.{HasLast, IsAfter, IsLogOf, LogsOne, records}
+use Rattle.workers.specs.Workers.{HasFinished, HasLast, IsAfter, IsLogOf, LogsOne, records}
 
 module _ (O : System) where
   abbrev Order : Type 0
   Order = List (RecordOf O)
 
-  -- a desk works on, and its number stays the same
-  pub worked_more : (k n : ℕ) (a b c : ActorOf O) (s t u reported more : Order)
+  -- a desk that has reported nothing yet works on
+  pub finished_more : {Setting : Type 0} (a b c : DeskOf O Setting) (result : Option (JobRecord O.Job O.Reply))
       → ((k : ℕ) (a b c : ActorOf O) (s t u reported more : Order) → HasWorked O k a b s t reported → HasWorked O k b c t u more → HasWorked O k a c s u (reported ++ more))
-      → n ≡ k → HasWorked O k a b s t reported → HasWorked O n b c t u more → HasWorked O k a c s u (reported ++ more)
-  worked_more k n a b c s t u reported more both same one other = both k a b c s t u reported more one (subst (λ (x : ℕ). HasWorked O x b c t u more) same other)
+      → HasFinished O a b None → HasFinished O b c result → HasFinished O a c result
+  finished_more a b c result both one other = record {
+    number = other.number ∙ one.number;
+    worked = both a.number a.actor b.actor c.actor a.seen b.seen c.seen [] (records (option_to_list result)) one.worked (subst (λ (k : ℕ). HasWorked O k b.actor c.actor b.seen c.seen (records (option_to_list result))) one.number other.worked);
+    job = other.job ∙ one.job;
+    its_job = its result other.its_job;
+  } where
+    its : (r : Option (JobRecord O.Job O.Reply)) → IfSome r (λ reported. job_of O b.actor ≡ Some (reported.number, reported.job)) → IfSome r (λ reported. job_of O a.actor ≡ Some (reported.number, reported.job))
+    its None none = tt
+    its (Some reported) is = sym one.job ∙ is
 
   -- a new desk has an empty log
   pub new_log : {Setting : Type 0} (room : RoomView Setting) (i : ℕ) (desk : DeskOf O Setting) → desk ≡ new_desk room i → IsLogOf O desk []

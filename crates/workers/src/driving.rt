@@ -1,10 +1,9 @@
 //! Drives a desk to the end of its job.
 
-ghost use Rattle.std.specs.Prelude.{◌≡◌, ◌≤◌, ◌^◌, IfSome, Some, length, option_to_list};
-ghost use Rattle.desks.specs.Reports.{HasWorked, job_of};
+ghost use Rattle.std.specs.Prelude.{◌≡◌, ◌≤◌, ◌^◌, IfSome, length};
 ghost use Rattle.desks.specs.Views.{IsDeskOf};
 ghost use Rattle.turns.specs.System.{system_of};
-ghost use Rattle.workers.specs.Workers.{IsAfter, records};
+ghost use Rattle.workers.specs.Workers.{HasFinished, IsAfter};
 
 use crate::back_off::BackOff;
 use desks::{Desk, JobRecord, Jobs, Note, Progress, Room, laws};
@@ -19,13 +18,7 @@ pub fn finish<F: Jobs>(
 ) -> Option<JobRecord<F::Job, F::Reply>>
     requires { IsDeskOf desk.old room.now setting.now }
     ensures desk { IsDeskOf desk.new room.now setting.now }
-    ensures number { desk.new.number ≡ desk.old.number }
-    ensures worked { HasWorked (system_of (F.system setting.now)) desk.old.number desk.old.actor
-        desk.new.actor desk.old.seen desk.new.seen (records (option_to_list result)) }
-    ensures job { let O = system_of (F.system setting.now) in
-        job_of O desk.new.actor ≡ job_of O desk.old.actor }
-    ensures its_job { IfSome result (λ reported. job_of (system_of (F.system setting.now))
-        desk.old.actor ≡ Some (reported.number, reported.job)) }
+    ensures finished { HasFinished (system_of (F.system setting.now)) desk.old desk.new result }
 {
     laws::desks_report_their_records::<F>();
     laws::reports_are_of_assigned_jobs::<F>();
@@ -49,13 +42,7 @@ fn finish_or_give_back<F: Jobs>(
 ) -> Option<JobRecord<F::Job, F::Reply>>
     requires { IsDeskOf desk.old room.now setting.now }
     ensures desk { IsDeskOf desk.new room.now setting.now }
-    ensures number { desk.new.number ≡ desk.old.number }
-    ensures worked { HasWorked (system_of (F.system setting.now)) desk.old.number desk.old.actor
-        desk.new.actor desk.old.seen desk.new.seen (records (option_to_list result)) }
-    ensures job { let O = system_of (F.system setting.now) in
-        job_of O desk.new.actor ≡ job_of O desk.old.actor }
-    ensures its_job { IfSome result (λ reported. job_of (system_of (F.system setting.now))
-        desk.old.actor ≡ Some (reported.number, reported.job)) }
+    ensures finished { HasFinished (system_of (F.system setting.now)) desk.old desk.new result }
 {
     laws::desks_report_their_records::<F>();
     laws::reports_are_of_assigned_jobs::<F>();
@@ -77,13 +64,7 @@ pub fn persist<F: Jobs, B: BackOff>(
 ) -> Option<JobRecord<F::Job, F::Reply>>
     requires { IsDeskOf desk.old room.now setting.now }
     ensures desk { IsDeskOf desk.new room.now setting.now }
-    ensures number { desk.new.number ≡ desk.old.number }
-    ensures worked { HasWorked (system_of (F.system setting.now)) desk.old.number desk.old.actor
-        desk.new.actor desk.old.seen desk.new.seen (records (option_to_list result)) }
-    ensures job { let O = system_of (F.system setting.now) in
-        job_of O desk.new.actor ≡ job_of O desk.old.actor }
-    ensures its_job { IfSome result (λ reported. job_of (system_of (F.system setting.now))
-        desk.old.actor ≡ Some (reported.number, reported.job)) }
+    ensures finished { HasFinished (system_of (F.system setting.now)) desk.old desk.new result }
 {
     laws::desks_report_their_records::<F>();
     if desk.is_idle() {

@@ -26,6 +26,17 @@ pub trait Routine<S> {
         ensures { Ends self.now shift result };
 }
 
+/// A closure is a routine too.
+impl<S, C: Fn(S) -> S> Routine<S> for C {
+    ghost Begins = { λ work shift. C.pre work shift };
+
+    ghost Ends = { λ work shift after. C.post work shift after };
+
+    fn run(&self, shift: S) -> S {
+        self(shift)
+    }
+}
+
 /// Has a worker at each desk of a new room do the routine, from an empty log on, each on a thread
 /// of its own if one can be made. Returns their shifts in the order of the desks. A job may still
 /// be under way at the end of a shift.

@@ -115,6 +115,13 @@ impl<'p> Exchange<'p> {
         self.markers.len() as u32
     }
 
+    /// The markers, each at the index of its number.
+    pub fn markers(&self) -> &[Marker]
+        ensures { result.now ≡ self.now.exchange.markers }
+    {
+        self.markers.as_slice()
+    }
+
     fn marker(&self, marker: u32) -> &Marker
         requires { marker < length self.now.exchange.markers }
         ensures { slice_get self.now.exchange.markers marker ≡ Some result.now }

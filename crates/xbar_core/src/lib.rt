@@ -3,6 +3,8 @@
 #![tactic(auto)]
 
 pub use exchange::Exchange;
+pub use marker::Marker;
+pub use work::Work;
 pub use xbar_moves::{AssignFault, Event, Given, Kind, MOST_MARKERS, OpenFault};
 
 mod exchange;

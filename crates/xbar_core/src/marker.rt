@@ -1,4 +1,4 @@
-ghost use Rattle.std.specs.Prelude.{◌≡◌, ◌+◌, ◌<◌, ◌≤◌, ℕ, List, Some, length, slice_get, slice_set, vec_capacity};
+ghost use Rattle.std.specs.Prelude.{◌≡◌, ◌+◌, ◌<◌, ◌≤◌, ℕ, List, Some, length, option_copied, slice_get, slice_set, vec_capacity};
 ghost use Rattle.turns.specs.Attempt.{begin_with};
 ghost use Rattle.turns.specs.World.{Idle, Does};
 ghost use Rattle.xbar_equip.specs.Word.{word_count};
@@ -9,7 +9,7 @@ ghost use Rattle.xbar_jobs.specs.Jobs.{first_conn};
 ghost use Rattle.xbar_moves.specs.AtWork.{withdraws_or_frees_at, is_turned, next_step_at};
 ghost use Rattle.xbar_moves.specs.Exchange.{Marker as TheMarker, Work as TheWork, is_idle as is_idle_at};
 ghost use Rattle.xbar_moves.specs.Moves.{IsAnswered, event_by, event_of, given_by, refusal_of, after_step, steps, work_anew};
-ghost use Rattle.xbar_core.specs.Standing.{StandsAt, waits};
+ghost use Rattle.xbar_core.specs.Standing.{StandsAt, waits, work_of};
 
 use crate::work::Work;
 use std::marker::Model;
@@ -47,6 +47,13 @@ impl Marker {
         ensures { result ≡ self.now.kind }
     {
         self.kind
+    }
+
+    /// The marker's job with its attempt, or its last one. None before its first.
+    pub fn work(&self) -> Option<&Work>
+        ensures { work_of (option_copied result) ≡ self.now.work }
+    {
+        self.work.as_ref()
     }
 
     /// Whether the marker has no job, or nothing is left of it.

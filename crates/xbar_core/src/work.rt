@@ -69,6 +69,20 @@ impl Work {
         }
     }
 
+    /// The number under which the job was assigned.
+    pub fn job_no(&self) -> u32
+        ensures { result ≡ self.now.job_no }
+    {
+        self.job_no
+    }
+
+    /// The marker's attempt at the job.
+    pub fn program(&self) -> &Program
+        ensures { result.now ≡ self.now.program }
+    {
+        &self.program
+    }
+
     /// The job's next step: `Finished` once nothing is left of the job.
     pub fn next_step(&self) -> Step
         ensures { result ≡ next_step self.now.program.attempt }

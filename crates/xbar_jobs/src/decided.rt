@@ -1,9 +1,10 @@
-ghost use Rattle.std.specs.Prelude.{◌≡◌, ◌≤◌, ◌<◌, ◌+◌, ◌^◌, IfSome, length, slice_get};
+ghost use Rattle.std.specs.Prelude.{◌≡◌, ◌≤◌, ◌<◌, ◌+◌, ◌^◌, IfSome, drop, length, slice_get};
 ghost use Rattle.xbar_jobs.specs.Closing.{effects as effects_of};
 ghost use Rattle.xbar_jobs.specs.Keeping.{AreEffects};
 ghost use Rattle.xbar_jobs.specs.Standing.{most_effects};
 
 use crate::decision::Decision;
+use crate::effect::Effect;
 use crate::effects::Effects;
 use crate::office_effect::OfficeEffect;
 use std::marker::Model;
@@ -56,6 +57,18 @@ impl Decided {
             Some(OfficeEffect::new(effects[place]))
         } else {
             None
+        }
+    }
+
+    /// The effects from index `place` on. Empty past the last one.
+    pub fn effects_from(&self, place: usize) -> &[Effect]
+        ensures { result.now ≡ drop place (effects_of self.now) }
+    {
+        let effects = self.effects.as_slice();
+        if place <= effects.len() {
+            &effects[place..]
+        } else {
+            &[]
         }
     }
 

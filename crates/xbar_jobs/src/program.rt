@@ -13,12 +13,13 @@ ghost use Rattle.xbar_jobs.specs.Tracing.{ResumePointIsValid};
 ghost use Rattle.xbar_jobs.specs.Turning.{IsAct, IsStep};
 
 use crate::closing::close;
+use crate::effect::Effect;
 use crate::office_effect::OfficeEffect;
 use crate::offices::Offices;
 use crate::step::Step;
 use attempts::{AttemptOf, apply, begin, next, restart, run};
 use std::marker::Model;
-use turns::Answer;
+use turns::{Answer, Phase};
 use xbar_equip::{Conn, WordNo};
 use xbar_office::laws::job_is_in_range;
 use xbar_office::{Job, Reply};
@@ -104,7 +105,7 @@ fn step_of(attempt: &AttemptOf<Offices, 42, 19>) -> Step
 
 impl Program {
     ghost use Rattle.std.specs.Prelude.{ℕ};
-    ghost use Rattle.turns.specs.Attempt.{act, change, reply_in, restarted, turn_in, IsAnswerTo};
+    ghost use Rattle.turns.specs.Attempt.{act, change, reply_in, request_in, restarted, turn_in, IsAnswerTo};
     ghost use Rattle.turns.specs.Runs.{is_finished};
     ghost use Rattle.attempts.specs.Counting.{counted_by};
     ghost use Rattle.attempts.specs.WalkOnWords.{LeadsTo};
@@ -147,6 +148,36 @@ impl Program {
         self.attempt.job()
     }
 
+    /// The connectors held, in the order of seizing.
+    pub fn held(&self) -> &[Conn]
+        ensures { result.now ≡ self.now.attempt.held }
+    {
+        self.attempt.held()
+    }
+
+    /// The connector that is requested: neither seized yet, nor is the request withdrawn.
+    pub fn requested(&self) -> Option<Conn>
+        ensures { result ≡ request_in self.now.attempt.phase }
+    {
+        let phase = self.attempt.phase();
+        match phase {
+            Phase::Seizes(conn, _) | Phase::Withdraws(conn) => Some(conn),
+            _ => None,
+        }
+    }
+
+    /// The effects that are left to make, in their order. Empty until the job is decided.
+    pub fn effects_left(&self) -> &[Effect]
+        ensures effects { result.now ≡ self.now.attempt.effects }
+        ensures range { AreEffects result.now }
+    {
+        effects_are(&self.attempt);
+        match self.attempt.decision() {
+            Some(decided) => decided.effects_from(self.attempt.made()),
+            None => &[],
+        }
+    }
+
     /// The number of the job's turn, once it is taken.
     pub fn turn(&self) -> Option<u64>
         ensures { result ≡ turn_in self.now.attempt.phase }
@@ -161,6 +192,13 @@ impl Program {
         ensures known { is_some result ≡ is_some (turn_in self.now.attempt.phase) }
     {
         self.attempt.turn()?;
+        Some(self.attempt.decision()?.reply())
+    }
+
+    /// The reply that the job decided on. The turn gives it its place among the replies.
+    pub fn decided(&self) -> Option<&Reply>
+        ensures { option_copied result ≡ self.now.attempt.reply }
+    {
         Some(self.attempt.decision()?.reply())
     }
 

@@ -3,9 +3,9 @@ use Rattle.std.proofs.Common.{◌≡◌, ℕ, Bool, true, false, List, [], ◌�
 use Rattle.std.specs.Prelude.{◌||◌, codes, if◌then◌else◌}
 use Rattle.std.proofs.lemmas.Grind.{flat_map-append}
 use Rattle.xbar_walk.specs.Rows.{finds, row_found}
-use Rattle.xbar_walk.specs.Shown.{has_any, listed, shown}
+use Rattle.xbar_step_text.specs.Shown.{has_any, listed, shown}
 use Rattle.xbar_walk.specs.declared.tested.Tested.{Tested}
-use Rattle.xbar_walk.proofs.Listed.{any_on, ends_with_none, ends_with_some, listed_on}
+use Rattle.xbar_step_text.proofs.Listed.{any_on, ends_with_none, ends_with_some, listed_on}
 
 abbrev closed : List ℕ
 closed = codes "closed: "

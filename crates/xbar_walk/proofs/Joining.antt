@@ -7,7 +7,6 @@ use Rattle.std.proofs.lemmas.Grind.{flat_map-append}
 use Rattle.xbar_walk.specs.Items.{IsRun, Item, Says, Tests, before_runs, in_first, item_lines, joins, joins_first, run_lines, runs_of, tests_of, walk_text_of}
 use Rattle.xbar_walk.specs.Rows.{are_joined, goes_on, is_short, last_of, leads, shares_line, row_line, tests_line, tests_text, test_line}
 use Rattle.xbar_walk.specs.declared.detail.Detail.{Detail}
-use Rattle.xbar_walk.specs.declared.detail.Detail.TheVariants.{Each}
 use Rattle.xbar_walk.specs.declared.tested.Tested.{Tested}
 
 -- whether an item shares the line of the last of these items
@@ -163,25 +162,25 @@ pub kept_joined : (detail : Detail) (tests after : List Tested) (tested : Tested
 kept_joined detail tests after tested true joined leads is = ap (are_joined detail) is ∙ one_joined detail tests tested joined leads
 kept_joined detail tests after tested false joined leads is = ap (are_joined detail) is ∙ joined
 
--- in long each item is a run
-each_parted : (item : Item) (later : List Item) → joins_first Each item later ≡ false
-each_parted item [] = refl
-each_parted (Tests tested) (Tests next ∷ later) = refl
-each_parted (Tests tested) (Says lines ∷ later) = refl
-each_parted (Says lines) (next ∷ later) = refl
+-- if no tests share a line, each item is a run
+each_parted : (detail : Detail) → is_short detail ≡ false → (item : Item) (later : List Item) → joins_first detail item later ≡ false
+each_parted detail long item [] = refl
+each_parted detail long (Tests tested) (Tests next ∷ later) = ap (λ (b : Bool). b && goes_on tested next) long
+each_parted detail long (Tests tested) (Says lines ∷ later) = refl
+each_parted detail long (Says lines) (next ∷ later) = refl
 
 run_of_one : (item : Item) → run_lines (item ∷ []) ≡ item_lines item
 unfolding run_lines item_lines tests_line
 run_of_one (Tests tested) = refl
 run_of_one (Says lines) = refl
 
-pub each_alone : (items : List Item) → walk_text_of Each items ≡ flat_map item_lines items
+pub each_alone : (detail : Detail) (items : List Item) → is_short detail ≡ false → walk_text_of detail items ≡ flat_map item_lines items
 unfolding walk_text_of runs_of
-each_alone [] = refl
-each_alone (item ∷ later) =
-    ap (λ (joined : Bool). flat_map run_lines (before_runs joined item (runs_of Each later))) (each_parted item later)
-    ∙ ap (λ (lines : List ℕ). lines ++ walk_text_of Each later) (run_of_one item)
-    ∙ ap (λ (lines : List ℕ). item_lines item ++ lines) (each_alone later)
+each_alone detail [] long = refl
+each_alone detail (item ∷ later) long =
+    ap (λ (joined : Bool). flat_map run_lines (before_runs joined item (runs_of detail later))) (each_parted detail long item later)
+    ∙ ap (λ (lines : List ℕ). lines ++ walk_text_of detail later) (run_of_one item)
+    ∙ ap (λ (lines : List ℕ). item_lines item ++ lines) (each_alone detail later long)
 
 -- a test before a run that goes on with it is a run with it
 joined_run : (detail : Detail) (before tested : Tested) (rest : List Item) → (is_short detail && goes_on before tested) ≡ true → IsRun detail (Tests tested ∷ rest) → IsRun detail (Tests before ∷ Tests tested ∷ rest)

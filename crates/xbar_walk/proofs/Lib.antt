@@ -1,11 +1,8 @@
 pub mod ToldSteps
-pub mod Listed
 pub mod Settlings
 pub mod StepItems
-pub mod ChangedWords
 pub mod TestItems
 pub mod TellingRuns
-pub mod WordPlaces
 pub mod Finding
 pub mod Joining
 pub mod Storytelling

@@ -16,8 +16,7 @@ use Rattle.xbar_moves.proofs.Jobs.{given_is}
 use Rattle.xbar_moves.proofs.Keeping.{begun_keeps, count_back, count_end, count_past}
 use Rattle.xbar_moves.proofs.Markers.{none_within}
 use Rattle.xbar_walk.specs.Walks.{Walk, walk_of_step, is_past_turn_in, to_begin_anew, walk_of_rollback, walk_of_end, walk_of_end_past_turn, walk_for_each, walk_of_give_back, walk_of_settling, walk_of_steps}
-use Rattle.xbar_walk.specs.Items.{Says}
-use Rattle.xbar_walk.specs.Lines.{settling_line}
+use Rattle.xbar_walk.specs.Items.{settling_item}
 use Rattle.xbar_walk.specs.Parts.{walk_of_part}
 use Rattle.xbar_walk.specs.Stories.{Adds, AgreesWith, ChangesAs}
 use Rattle.xbar_walk.specs.declared.settling.Part.{Part}
@@ -145,8 +144,8 @@ ups_at goes o next k is observed m there = observed m (ap (λ (x : OfPlan). slic
 pub less_left : (o next later : OfPlan) (s observed more : Story) (k : ℕ) → Reaches (λ first now. IsGoingBack first now k) o s next observed
     → ((m : Marker) → slice_get next.exchange.markers k ≡ Some m → true ≡ withdraws_or_frees_at m.work) → ChangesAs (walk_of_step k) next observed later more → frees_left later.exchange k < frees_left next.exchange k
 less_left o next later s observed more k reached goes tells =
-    let at = reached s.detail (own_walk o s) (own_stands o s) in
-    let later_at = tells s.detail at.0 at.1 in
+    let at = reached (own_walk o s) (own_stands o s) in
+    let later_at = tells at.0 at.1 in
     let less = less_back (own_walk o s) at.0 k at.2 (walk_of_step k at.0) (ups_at true at.0.office next k at.1.office_is goes) refl in
     let before = ap (λ (x : OfPlan). frees_left x.exchange k) at.1.office_is in
     let after = ap (λ (x : OfPlan). frees_left x.exchange k) later_at.office_is in
@@ -155,10 +154,10 @@ less_left o next later s observed more k reached goes tells =
 -- and at last none
 pub back_ended : (o next : OfPlan) (s observed : Story) (k : ℕ) → Reaches (λ first now. IsGoingBack first now k) o s next observed
     → ((m : Marker) → slice_get next.exchange.markers k ≡ Some m → false ≡ withdraws_or_frees_at m.work) → ChangesAs (walk_of_steps k (frees_left o.exchange k)) o s next observed
-back_ended o next s observed k reached rests detail w stands =
-    let at = reached detail w stands in
+back_ended o next s observed k reached rests w stands =
+    let at = reached w stands in
     let all = all_back w at.0 k at.2 (ups_at false at.0.office next k at.1.office_is rests) in
-    subst (AgreesWith detail next observed) (all ∙ ap (λ (x : OfPlan). walk_of_steps k (frees_left x.exchange k) w) stands.office_is) at.1
+    subst (AgreesWith next observed) (all ∙ ap (λ (x : OfPlan). walk_of_steps k (frees_left x.exchange k) w) stands.office_is) at.1
 
 -- the office after a change of marker k
 abbrev changed_by : (Tables → ℕ → Exchange → Exchange) → ℕ → OfPlan → OfPlan
@@ -262,11 +261,11 @@ all_done part first now count made all so_far = so_far.is ∙ ap (λ (n : ℕ). 
 abbrev each_of : (ℕ → Walk → Walk) → Walk → Walk
 each_of part w = walk_for_each part (length w.office.exchange.markers) w
 
-module _ (w said past freed last : Walk) (begins : said ≡ record w { items = w.items ++ Says settling_line ∷ [] }) (one : past ≡ each_of walk_of_end_past_turn said) (two : freed ≡ each_of walk_of_give_back past) (three : last ≡ each_of walk_of_end freed) where
+module _ (w said past freed last : Walk) (begins : said ≡ record w { items = w.items ++ settling_item w.detail ∷ [] }) (one : past ≡ each_of walk_of_end_past_turn said) (two : freed ≡ each_of walk_of_give_back past) (three : last ≡ each_of walk_of_end freed) where
   pub settling_is : last ≡ walk_of_settling w
   settling_is =
       let n : ℕ = length w.office.exchange.markers in
-      let first : Walk = record w { items = w.items ++ Says settling_line ∷ [] } in
+      let first : Walk = record w { items = w.items ++ settling_item w.detail ∷ [] } in
       let ends : past ≡ walk_for_each walk_of_end_past_turn n first = one ∙ ap (each_of walk_of_end_past_turn) begins in
       let many = ap (λ (x : Walk). length x.office.exchange.markers) ends ∙ each_size walk_of_end_past_turn past_size n first in
       let gives : freed ≡ walk_for_each walk_of_give_back n (walk_for_each walk_of_end_past_turn n first) =
@@ -277,7 +276,7 @@ module _ (w said past freed last : Walk) (begins : said ≡ record w { items = w
 pub settling_settles : (w : Walk) → (walk_of_settling w).office ≡ record w.office { exchange = settled w.office.plan w.office.exchange }
 settling_settles w =
     let n : ℕ = length w.office.exchange.markers in
-    let first : Walk = record w { items = w.items ++ Says settling_line ∷ [] } in
+    let first : Walk = record w { items = w.items ++ settling_item w.detail ∷ [] } in
     let past : Walk = walk_for_each walk_of_end_past_turn n first in
     let back : Walk = walk_for_each walk_of_give_back n past in
     each_makes ended walk_of_end end_makes n back
@@ -286,27 +285,27 @@ settling_settles w =
     ∙ ap (λ (o : OfPlan). record o { exchange = for_each (given_back o.plan) n o.exchange }) (each_makes ended_past_turn walk_of_end_past_turn past_makes n first))
 
 -- so an office and a story settle
-pub settling_tells : (o past freed last : OfPlan) (s said observed more all : Story) → Adds (Says settling_line) s said
+pub settling_tells : (o past freed last : OfPlan) (s said observed more all : Story) → Adds settling_item s said
     → ChangesAs (walk_for_each walk_of_end_past_turn (length o.exchange.markers)) o said past observed → ChangesAs (walk_for_each walk_of_give_back (length past.exchange.markers)) past observed freed more
     → ChangesAs (walk_for_each walk_of_end (length freed.exchange.markers)) freed more last all → ChangesAs walk_of_settling o s last all
-settling_tells o past freed last s said observed more all adds one two three detail w stands =
-    let first : Walk = record w { items = w.items ++ Says settling_line ∷ [] } in
-    let begun : AgreesWith detail o said first = record { office_is = stands.office_is; story_is = adds detail w.number w.items stands.story_is } in
+settling_tells o past freed last s said observed more all adds one two three w stands =
+    let first : Walk = record w { items = w.items ++ settling_item w.detail ∷ [] } in
+    let begun : AgreesWith o said first = record { office_is = stands.office_is; story_is = adds w.detail w.number w.items stands.story_is } in
     let ended : Walk = walk_for_each walk_of_end_past_turn (length o.exchange.markers) first in
-    let at_past = one detail first begun in
+    let at_past = one first begun in
     let given : Walk = walk_for_each walk_of_give_back (length past.exchange.markers) ended in
-    let at_freed = two detail ended at_past in
-    subst (AgreesWith detail last all)
+    let at_freed = two ended at_past in
+    subst (AgreesWith last all)
     (settling_is w first ended given (walk_for_each walk_of_end (length freed.exchange.markers) given) refl
     (ap (λ (x : OfPlan). walk_for_each walk_of_end_past_turn (length x.exchange.markers) first) (sym begun.office_is))
     (ap (λ (x : OfPlan). walk_for_each walk_of_give_back (length x.exchange.markers) ended) (sym at_past.office_is))
     (ap (λ (x : OfPlan). walk_for_each walk_of_end (length x.exchange.markers) given) (sym at_freed.office_is)))
-    (three detail given at_freed)
+    (three given at_freed)
 
 -- a marker that is to begin its job anew gives back all that it holds
 pub back_tells : (k : ℕ) (o begun last : OfPlan) (s all : Story) → given_at o.exchange k ≡ given.Given → begun ≡ record o { exchange = begun_anew o.plan k o.exchange }
     → ChangesAs (walk_of_steps k (frees_left begun.exchange k)) begun s last all → ChangesAs (walk_of_give_back k) o s last all
-back_tells k o begun last s all gives is tells detail w stands =
-    subst (AgreesWith detail last all)
+back_tells k o begun last s all gives is tells w stands =
+    subst (AgreesWith last all)
     (back_told k w begun (ap (λ (x : OfPlan). given_at x.exchange k) stands.office_is ∙ gives) (is ∙ ap (λ (x : OfPlan). record x { exchange = begun_anew x.plan k x.exchange }) (sym stands.office_is)))
-    (tells detail (record w { office = begun }) (record { office_is = refl; story_is = stands.story_is }))
+    (tells (record w { office = begun }) (record { office_is = refl; story_is = stands.story_is }))

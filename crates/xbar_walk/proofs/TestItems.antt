@@ -14,10 +14,11 @@ use Rattle.xbar_moves.specs.Moves.{added_record}
 use Rattle.xbar_moves.specs.declared.event.Event.{Event}
 use Rattle.xbar_moves.proofs.StepCases.{step_cases}
 use Rattle.xbar_walk.specs.Items.{item_lines, step_item}
-use Rattle.xbar_walk.specs.Lines.{marker_line, step_lines}
+use Rattle.xbar_step_text.specs.Lines.{marker_line, step_lines}
 use Rattle.xbar_walk.specs.Rows.{test_line}
 use Rattle.xbar_walk.specs.Walks.{added_by, next_of, observation_of}
-use Rattle.xbar_walk.specs.Words.{step_words}
+use Rattle.xbar_step_text.specs.Words.{step_words}
+use Rattle.xbar_walk.specs.declared.detail.Detail.TheVariants.{Each}
 
 no_more : (records : List Record) → drop (length records) records ≡ []
 no_more records = drop_all (length records) records (omega arith)
@@ -34,14 +35,14 @@ test_adds_none plan k e word tests = elim (step_cases plan e k) [
 ]
 
 lines_of : (number k found : ℕ) (event : Event) (next made : Step) (records : List Record) → ((word : ℕ) → made ≡ step.Test word → records ≡ [])
-    → item_lines (step_item number k (record { step = made; found = found; event = event; next = next }) records) ≡ step_lines number k (record { step = made; found = found; event = event; next = next }) records
+    → item_lines (step_item Each number k (record { step = made; found = found; event = event; next = next }) records) ≡ step_lines number k (record { step = made; found = found; event = event; next = next }) records
 unfolding item_lines step_item step_lines test_line step_words
 lines_of number k found event next (step.Test word) records none =
     sym (ap (λ (rs : List Record). step_lines number k (record { step = step.Test word; found = found; event = event; next = next }) rs) (none word refl)
     ∙ append-nil (marker_line number k (step_words (record { step = step.Test word; found = found; event = event; next = next }) [])))
 lines_of number k found event next _ records none = refl
 
-pub step_item_lines : (plan : Tables) (k : ℕ) (e : Exchange) (number : ℕ) → item_lines (step_item number k (observation_of plan k e) (added_by plan k e)) ≡ step_lines number k (observation_of plan k e) (added_by plan k e)
+pub step_item_lines : (plan : Tables) (k : ℕ) (e : Exchange) (number : ℕ) → item_lines (step_item Each number k (observation_of plan k e) (added_by plan k e)) ≡ step_lines number k (observation_of plan k e) (added_by plan k e)
 step_item_lines plan k e number =
     let observed = observation_of plan k e in
     lines_of number k observed.found observed.event observed.next observed.step (added_by plan k e) (test_adds_none plan k e)

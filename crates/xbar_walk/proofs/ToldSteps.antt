@@ -14,12 +14,13 @@ use Rattle.xbar_core.proofs.GrownRecords.{move_begins}
 use Rattle.xbar_moves.proofs.Markers.{none_within}
 use Rattle.xbar_moves.proofs.StepCases.{step_count}
 use Rattle.xbar_moves.proofs.Stepping.{step_idle}
-use Rattle.xbar_walk.specs.Walks.{Walk, added_by, walk_of_step, found_by, is_idle_in, next_of, observation_of, walk_of_steps}
+use Rattle.xbar_walk.specs.Walks.{Walk, added_by, walk_of_step, is_idle_in, next_of, observation_of, walk_of_steps}
 use Rattle.xbar_walk.specs.Items.{Item, step_item}
-use Rattle.xbar_walk.specs.Lines.{one_more}
+use Rattle.xbar_step_text.specs.Lines.{one_more}
+use Rattle.xbar_step_text.specs.Observed.{found_by}
 use Rattle.xbar_walk.specs.Stories.{AddsStep, IsStory, AgreesWith, ChangesAs}
 use Rattle.xbar_walk.specs.declared.story.Story.{Story}
-use Rattle.xbar_walk.specs.declared.observation.Observation.{Observation}
+use Rattle.xbar_step_text.specs.declared.observation.Observation.{Observation}
 
 -- the office after marker k's next step
 abbrev pub stepped : ℕ → OfPlan → OfPlan
@@ -28,9 +29,10 @@ stepped k o = record o { exchange = after_step o.plan k o.exchange }
 -- the walk after a step that is made
 abbrev pub after_made : ℕ → Walk → Walk
 after_made k w = record {
+  detail = w.detail;
   office = stepped k w.office;
   number = one_more w.number;
-  items = w.items ++ step_item (one_more w.number) k (observation_of w.office.plan k w.office.exchange) (added_by w.office.plan k w.office.exchange) ∷ [];
+  items = w.items ++ step_item w.detail (one_more w.number) k (observation_of w.office.plan k w.office.exchange) (added_by w.office.plan k w.office.exchange) ∷ [];
 }
 
 -- if there is no marker with a number, none makes a step
@@ -135,16 +137,17 @@ told_is o next k found made after came step_is found_is came_is is after_is =
 
 -- an office and a story after a step that was made and added agree with the walk after it
 pub made_tells : (k : ℕ) (office next : OfPlan) (story later : Story) (before : ℕ) (observed : Observation) → is_idle_in office.exchange k ≡ false → next ≡ stepped k office → observed ≡ observation_of office.plan k office.exchange
-    → before ≡ length office.exchange.records → AddsStep (λ number. step_item number k observed (drop before next.exchange.records)) story later → ChangesAs (walk_of_step k) office story next later
-made_tells k office next story later before observed goes next_is told_is before_is adds detail w stands =
+    → before ≡ length office.exchange.records → AddsStep (λ detail number. step_item detail number k observed (drop before next.exchange.records)) story later → ChangesAs (walk_of_step k) office story next later
+made_tells k office next story later before observed goes next_is told_is before_is adds w stands =
+    let d = w.detail in
     let n = one_more w.number in
     let same =
-    ap (λ (t : Observation). step_item n k t (drop before next.exchange.records)) told_is
-    ∙ ap (λ (b : ℕ). step_item n k (observation_of office.plan k office.exchange) (drop b next.exchange.records)) before_is
-    ∙ ap (λ (o : OfPlan). step_item n k (observation_of office.plan k office.exchange) (drop (length office.exchange.records) o.exchange.records)) next_is
-    ∙ ap (λ (o : OfPlan). step_item n k (observation_of o.plan k o.exchange) (added_by o.plan k o.exchange)) (sym stands.office_is) in
-    let made : AgreesWith detail next later (after_made k w) = record {
+    ap (λ (t : Observation). step_item d n k t (drop before next.exchange.records)) told_is
+    ∙ ap (λ (b : ℕ). step_item d n k (observation_of office.plan k office.exchange) (drop b next.exchange.records)) before_is
+    ∙ ap (λ (o : OfPlan). step_item d n k (observation_of office.plan k office.exchange) (drop (length office.exchange.records) o.exchange.records)) next_is
+    ∙ ap (λ (o : OfPlan). step_item d n k (observation_of o.plan k o.exchange) (added_by o.plan k o.exchange)) (sym stands.office_is) in
+    let made : AgreesWith next later (after_made k w) = record {
       office_is = ap (stepped k) stands.office_is ∙ sym next_is;
-      story_is = subst (λ (item : Item). IsStory detail later n (w.items ++ item ∷ [])) same (adds detail w.number w.items stands.story_is);
+      story_is = subst (λ (item : Item). IsStory d later n (w.items ++ item ∷ [])) same (adds d w.number w.items stands.story_is);
     } in
-    subst (AgreesWith detail next later) (sym (made_is_told k w (ap (λ (o : OfPlan). is_idle_in o.exchange k) stands.office_is ∙ goes))) made
+    subst (AgreesWith next later) (sym (made_is_told k w (ap (λ (o : OfPlan). is_idle_in o.exchange k) stands.office_is ∙ goes))) made

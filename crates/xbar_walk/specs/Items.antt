@@ -1,14 +1,17 @@
 -- The items that describe a walk, and their text.
-use Rattle.std.specs.Prelude.{◌≡◌, ℕ, ◌&&◌, ◌⊎◌, Bool, true, false, List, [], ◌∷◌, flat_map, map, if◌then◌else◌}
+use Rattle.std.specs.Prelude.{◌≡◌, ℕ, ◌&&◌, ◌⊎◌, Bool, true, false, List, [], ◌∷◌, ◌++◌, codes, flat_map, map, if◌then◌else◌}
+use Rattle.xbar_office.specs.declared.job.Job.{Job}
 use Rattle.xbar_office.specs.declared.reply.Record.{Record}
 use Rattle.xbar_jobs.specs.declared.step.Step.{Step}
 use Rattle.xbar_jobs.specs.declared.step.Step.TheVariants as step
-use Rattle.xbar_walk.specs.Lines.{step_lines}
-use Rattle.xbar_walk.specs.Places.{place_of}
+use Rattle.xbar_step_text.specs.Lines.{assignment_line, settling_line, step_lines}
+use Rattle.xbar_step_text.specs.Objects.{assignment_object, settling_object, step_object}
+use Rattle.xbar_step_text.specs.Places.{place_of}
 use Rattle.xbar_walk.specs.Rows.{are_joined, goes_on, is_short, test_line, tests_line}
 use Rattle.xbar_walk.specs.declared.detail.Detail.{Detail}
+use Rattle.xbar_walk.specs.declared.detail.Detail.TheVariants.{Each, Short, JsonLines, JsonList}
 use Rattle.xbar_walk.specs.declared.tested.Tested.{Tested}
-use Rattle.xbar_walk.specs.declared.observation.Observation.{Observation}
+use Rattle.xbar_step_text.specs.declared.observation.Observation.{Observation}
 
 -- an item of a description: a test, which may share its line with others, or lines of its own
 pub data Item : Type 0 where
@@ -20,16 +23,51 @@ unfoldable pub item_lines : Item → List ℕ
 item_lines (Tests tested) = test_line tested
 item_lines (Says lines) = lines
 
--- the item of a step, by its kind: of a test only the test, of any other step its lines
+-- the item of a step in words, by its kind: of a test only the test, of any other step its lines
 abbrev pub item_of : Step → ℕ → ℕ → Observation → List Record → Item
 item_of (step.Test word) number marker observed records =
     Tests (record
     { number = number; marker = marker; place = place_of word; word = observed.found })
 item_of _ number marker observed records = Says (step_lines number marker observed records)
 
+-- whether events are described as objects
+abbrev pub is_json : Detail → Bool
+is_json JsonLines = true
+is_json JsonList = true
+is_json _ = false
+
+-- what is written before an object, and after it
+abbrev pub before_object : Detail → List ℕ
+before_object JsonList = codes ","
+before_object _ = []
+
+abbrev pub after_object : Detail → List ℕ
+after_object JsonLines = codes "\n"
+after_object _ = []
+
+-- the item of an event, by its item in words and by its object, which has a line of its own or
+-- follows a comma
+abbrev pub item_in : Detail → Item → List ℕ → Item
+item_in Each item object = item
+item_in Short item object = item
+item_in JsonLines item object = Says (object ++ codes "\n")
+item_in JsonList item object = Says (codes "," ++ object)
+
 -- the item of a step, by its number, its marker, what was observed and the records that it added
-unfoldable pub step_item : ℕ → ℕ → Observation → List Record → Item
-step_item number marker observed records = item_of observed.step number marker observed records
+unfoldable pub step_item : Detail → ℕ → ℕ → Observation → List Record → Item
+step_item detail number marker observed records =
+    item_in detail (item_of observed.step number marker observed records)
+    (step_object number marker observed records)
+
+-- the item of a job's assignment to a marker
+unfoldable pub assignment_item : Detail → ℕ → ℕ → Job → Item
+assignment_item detail marker job_no job =
+    item_in detail (Says (assignment_line marker job_no job))
+    (assignment_object marker job_no job)
+
+-- the item that the office settles
+unfoldable pub settling_item : Detail → Item
+settling_item detail = item_in detail (Says settling_line) settling_object
 
 -- whether an item shares the line of the test before it: in short detail, if it is a test that
 -- continues the row

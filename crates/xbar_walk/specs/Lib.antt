@@ -1,7 +1,3 @@
-pub mod Places
-pub mod Shown
-pub mod Words
-pub mod Lines
 pub mod Rows
 pub mod Items
 pub mod Walks

@@ -1,14 +1,14 @@
 -- Tests that share one line: successive tests of a row of switches.
 use Rattle.std.specs.Prelude.{ℕ, ◌+◌, ◌==◌, ◌&&◌, Bool, true, false, List, [], ◌∷◌, codes, decimal, flat_map}
 use Rattle.std.specs.List.{concat}
-use Rattle.xbar_walk.specs.Lines.{marker_line}
-use Rattle.xbar_walk.specs.Places.{kind_name, place_numbers}
-use Rattle.xbar_walk.specs.Shown.{listed, shown}
-use Rattle.xbar_walk.specs.Words.{test_words}
-use Rattle.xbar_walk.specs.declared.place.Place.{Place}
-use Rattle.xbar_walk.specs.declared.place.Place.TheVariants.{LineJunctor, TrunkJunctor}
+use Rattle.xbar_step_text.specs.Lines.{marker_line}
+use Rattle.xbar_step_text.specs.Places.{kind_name, place_numbers}
+use Rattle.xbar_step_text.specs.Shown.{listed, shown}
+use Rattle.xbar_step_text.specs.Words.{test_words}
+use Rattle.xbar_step_text.specs.declared.place.Place.{Place}
+use Rattle.xbar_step_text.specs.declared.place.Place.TheVariants.{LineJunctor, TrunkJunctor}
 use Rattle.xbar_walk.specs.declared.detail.Detail.{Detail}
-use Rattle.xbar_walk.specs.declared.detail.Detail.TheVariants.{Each, Short}
+use Rattle.xbar_walk.specs.declared.detail.Detail.TheVariants.{Short}
 use Rattle.xbar_walk.specs.declared.tested.Tested.{Tested}
 
 -- whether the second place is the switch after the first in a row: a row is the junctor switches
@@ -66,8 +66,8 @@ tests_text (first ∷ later) = tests_line first later
 
 -- whether the tests of a row share one line
 abbrev pub is_short : Detail → Bool
-is_short Each = false
 is_short Short = true
+is_short _ = false
 
 -- whether the first of the later tests, if there is any, shares the line of a test
 abbrev pub leads : Detail → Tested → List Tested → Bool

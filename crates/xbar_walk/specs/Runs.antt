@@ -1,12 +1,14 @@
-use Rattle.std.specs.Prelude.{ℕ, List, [], ◌∷◌, ◌++◌, if◌then◌else◌}
+use Rattle.std.specs.Prelude.{ℕ, List, [], ◌∷◌, ◌++◌, codes, if◌then◌else◌}
 use Rattle.xbar_plan.specs.Tables.{Tables}
 use Rattle.xbar_office.specs.declared.reply.Record.{Record}
 use Rattle.xbar_moves.specs.Exchange.{Exchange}
 use Rattle.xbar_moves.specs.Moves.{after_step}
 use Rattle.xbar_walk.specs.Items.{Item, step_item}
-use Rattle.xbar_walk.specs.Lines.{one_more, step_lines}
+use Rattle.xbar_step_text.specs.Lines.{one_more, step_lines}
+use Rattle.xbar_step_text.specs.Objects.{step_object}
 use Rattle.xbar_walk.specs.Walks.{Walk, added_by, walk_of_step, is_idle_in, observation_of}
-use Rattle.xbar_walk.specs.declared.observation.Observation.{Observation}
+use Rattle.xbar_step_text.specs.declared.observation.Observation.{Observation}
+use Rattle.xbar_walk.specs.declared.detail.Detail.{Detail}
 
 -- a walk goes on with a step of each of these markers, in this order
 unfoldable pub walk_of_run : List ℕ → Walk → Walk
@@ -37,11 +39,11 @@ last_number number [] = number
 last_number number (made ∷ later) = last_number (one_more number) later
 
 -- the items of these steps, each with the next number
-unfoldable pub made_items : ℕ → List Made → List Item
-made_items number [] = []
-made_items number (made ∷ later) =
-    step_item (one_more number) made.marker made.observed made.records
-    ∷ made_items (one_more number) later
+unfoldable pub made_items : Detail → ℕ → List Made → List Item
+made_items detail number [] = []
+made_items detail number (made ∷ later) =
+    step_item detail (one_more number) made.marker made.observed made.records
+    ∷ made_items detail (one_more number) later
 
 -- the lines of these steps, each with the next number
 unfoldable pub made_lines : ℕ → List Made → List ℕ
@@ -49,3 +51,10 @@ made_lines number [] = []
 made_lines number (made ∷ later) =
     step_lines (one_more number) made.marker made.observed made.records
     ++ made_lines (one_more number) later
+
+-- the objects of these steps, each in a line and with the next number
+unfoldable pub made_objects : ℕ → List Made → List ℕ
+made_objects number [] = []
+made_objects number (made ∷ later) =
+    step_object (one_more number) made.marker made.observed made.records ++ codes "\n"
+    ++ made_objects (one_more number) later

@@ -1,4 +1,4 @@
-use Rattle.std.specs.Prelude.{ℕ, zero, suc, Bool, true, false, List, [], ◌∷◌, ◌++◌, drop, length, slice_get, slice_index, if◌then◌else◌}
+use Rattle.std.specs.Prelude.{ℕ, zero, suc, Bool, true, false, List, [], ◌∷◌, ◌++◌, drop, length, slice_get, if◌then◌else◌}
 use Rattle.xbar_plan.specs.Tables.{Tables}
 use Rattle.xbar_office.specs.declared.reply.Record.{Record}
 use Rattle.xbar_jobs.specs.declared.step.Step.{Step}
@@ -9,12 +9,16 @@ use Rattle.xbar_moves.specs.Moves.{begun_anew, event_at_step, frees_left, given_
 use Rattle.xbar_moves.specs.Settling.{most_steps_alone}
 use Rattle.xbar_moves.specs.declared.given.Given.{Given}
 use Rattle.xbar_moves.specs.declared.given.Given.TheVariants as given
-use Rattle.xbar_walk.specs.Items.{Item, Says, step_item}
-use Rattle.xbar_walk.specs.Lines.{one_more, settling_line}
-use Rattle.xbar_walk.specs.declared.observation.Observation.{Observation}
+use Rattle.xbar_walk.specs.Items.{Item, settling_item, step_item}
+use Rattle.xbar_step_text.specs.Lines.{one_more}
+use Rattle.xbar_step_text.specs.Observed.{found_by}
+use Rattle.xbar_step_text.specs.declared.observation.Observation.{Observation}
+use Rattle.xbar_walk.specs.declared.detail.Detail.{Detail}
 
--- an office, the number of steps described so far, and all items so far
+-- the detail of a description, an office, the number of steps described so far, and all items so
+-- far
 pub record Walk : Type 0 where
+  pub detail : Detail
   pub office : OfPlan
   pub number : ℕ
   pub items : List Item
@@ -26,12 +30,6 @@ next_of e k = at_marker step.Finished (λ m. next_step_at m.work) (slice_get e.m
 -- whether marker k is idle
 abbrev pub is_idle_in : Exchange → ℕ → Bool
 is_idle_in e k = at_marker true (λ m. is_idle m.work) (slice_get e.markers k)
-
--- the value of the word that a step tests or opens; 0 if it does neither
-abbrev pub found_by : List ℕ → Step → ℕ
-found_by words (step.Test word) = slice_index words word
-found_by words (step.Open word mask) = slice_index words word
-found_by words _ = 0
 
 -- what is observed of marker k's next step
 abbrev pub observation_of : Tables → ℕ → Exchange → Observation
@@ -53,10 +51,11 @@ walk_of_step k w =
     let e = w.office.exchange in
     if is_idle_in e k then w
     else (record {
+      detail = w.detail;
       office = record { plan = plan; exchange = after_step plan k e };
       number = one_more w.number;
       items =
-          w.items ++ step_item (one_more w.number) k (observation_of plan k e)
+          w.items ++ step_item w.detail (one_more w.number) k (observation_of plan k e)
           (added_by plan k e) ∷ [];
     })
 
@@ -106,4 +105,4 @@ walk_of_settling w =
     walk_for_each walk_of_end count
     (walk_for_each walk_of_give_back count
     (walk_for_each walk_of_end_past_turn count
-    (record w { items = w.items ++ Says settling_line ∷ [] })))
+    (record w { items = w.items ++ settling_item w.detail ∷ [] })))

@@ -1,14 +1,18 @@
 //! The line that the tests of a row of switches share.
 
-ghost use Rattle.std.specs.Prelude.{◌≡◌, ◌++◌, OnOk, string_bytes};
+ghost use Rattle.std.specs.Prelude.{◌≡◌, ◌++◌, OnOk, codes, string_bytes, if◌then◌else◌};
 ghost use Rattle.xbar_walk.specs.Rows.{row_found, row_line, test_line, tests_text};
 
-use crate::lines::InFour;
-use crate::place::PlaceNumbers;
-use crate::shown::{add_items, lead};
 use crate::tested::Tested;
-use crate::words::add_test;
 use std::alloc::AllocError;
+use xbar_step_text::{InFour, PlaceNumbers, add_items, add_test};
+
+/// The text before what a test found: a separator, or the head if nothing was found before.
+fn lead(any: bool) -> &'static str
+    ensures { result.now ≡ (if any then codes "; " else codes "closed: ") }
+{
+    if any { "; " } else { "closed: " }
+}
 
 /// Adds all that the tests found, or that nothing is closed.
 #[tactic(auto, unfolding(crate::specs::Rows::row_found))]
@@ -17,7 +21,7 @@ fn add_finds(text: &mut String, tests: &[Tested]) -> Result<(), AllocError>
 {
     let mut any = false;
     for tested in tests {
-        let head = lead(any, "closed: ", "; ");
+        let head = lead(any);
         let some = add_items(text, tested.place, tested.word, head, "; ")?;
         any = any || some;
     }
@@ -29,7 +33,7 @@ fn add_finds(text: &mut String, tests: &[Tested]) -> Result<(), AllocError>
 }
 
 /// Adds the line that the tests of a row share.
-#[tactic(auto, unfolding(crate::specs::Rows::row_line, crate::specs::Rows::row_words, crate::specs::Lines::marker_line))]
+#[tactic(auto, unfolding(crate::specs::Rows::row_line, crate::specs::Rows::row_words, xbar_step_text::specs::Lines::marker_line))]
 fn add_row(
     text: &mut String,
     first: &Tested,
@@ -57,7 +61,7 @@ fn add_row(
 }
 
 /// Adds the line of a single test.
-#[tactic(auto, unfolding(crate::specs::Rows::test_line, crate::specs::Lines::marker_line))]
+#[tactic(auto, unfolding(crate::specs::Rows::test_line, xbar_step_text::specs::Lines::marker_line))]
 fn add_one(text: &mut String, tested: &Tested) -> Result<(), AllocError>
     ensures { OnOk result (string_bytes text.new ≡ string_bytes text.old ++
         test_line tested.now) }

@@ -2,17 +2,17 @@ ghost use Rattle.std.specs.Prelude.{◌≡◌, ◌++◌, IfOk, OnOk, [], string_
 ghost use Rattle.xbar_walk.specs.Rows.{are_joined, shares_line, tests_text};
 
 use crate::detail::Detail;
-use crate::lines::add_step;
-use crate::observation::Observation;
-use crate::place::Place;
 use crate::rows::add_tests;
 use crate::tested::Tested;
-use crate::turn_words::JobWords;
 use std::alloc::{AllocError, Global};
 use xbar_jobs::Step;
 use xbar_office::{Job, Record};
+use xbar_step_text::{
+    AssignmentLine, AssignmentObject, Observation, Place, add_object, add_step, settling_line,
+    settling_object,
+};
 
-/// A description in words of what the markers of an office have done so far.
+/// A description of what the markers of an office have done so far.
 #[derive(Drop)]
 pub struct Story {
     detail: Detail,
@@ -26,8 +26,7 @@ pub struct Story {
 
 impl Story {
     ghost use Rattle.std.specs.Prelude.{ℕ, List};
-    ghost use Rattle.xbar_walk.specs.Items.{Item, Says, Tests, step_item, walk_text_of};
-    ghost use Rattle.xbar_walk.specs.Lines.{assignment_line, settling_line};
+    ghost use Rattle.xbar_walk.specs.Items.{Item, Tests, assignment_item, is_json, settling_item, step_item, walk_text_of};
     ghost use Rattle.xbar_walk.specs.Stories.{Adds, AddsStep, IsStory};
     ghost use Rattle.xbar_walk.specs.declared.detail.Detail.{Detail as TheTelling};
 
@@ -68,7 +67,7 @@ impl Story {
 
     /// Adds a test to the pending ones, or begins new ones if it doesn't share their line.
     fn add_test(&mut self, tested: Tested) -> Result<(), AllocError>
-        ensures { OnOk result (Adds (Tests tested) self.old self.new) }
+        ensures { OnOk result (Adds (λ detail. Tests tested) self.old self.new) }
     {
         if self.shares_pending_line(&tested) {
             self.tests.push(tested)?;
@@ -79,28 +78,67 @@ impl Story {
         Ok(())
     }
 
-    /// Adds that a marker is assigned a job. If memory runs out, a part of the line may have been
+    /// Adds that a marker is assigned a job. If memory runs out, a part of the text may have been
     /// added; so too in the methods below.
     pub fn add_assignment(&mut self, marker: u32, job_no: u32, job: &Job) -> Result<(), AllocError>
-        ensures { OnOk result (Adds (Says (assignment_line marker job_no job.now))
+        ensures { OnOk result (Adds (λ detail. assignment_item detail marker job_no job.now)
             self.old self.new) }
     {
+        let detail = self.detail;
         self.end_tests()?;
-        let job = JobWords(job);
-        writeln!(
-            self.text,
-            "      marker {marker}  is given job {job_no}: {job}"
-        )?;
+        if detail.is_json() {
+            let (before, after) = (detail.before_object(), detail.after_object());
+            let object = AssignmentObject {
+                marker,
+                job_no,
+                job,
+            };
+            write!(self.text, "{before}{object}{after}")?;
+            return Ok(());
+        }
+        let line = AssignmentLine {
+            marker,
+            job_no,
+            job,
+        };
+        write!(self.text, "{line}")?;
         Ok(())
     }
 
     /// Adds that no row is left and the office settles.
     pub fn add_settling(&mut self) -> Result<(), AllocError>
-        ensures { OnOk result (Adds (Says settling_line) self.old self.new) }
+        ensures { OnOk result (Adds settling_item self.old self.new) }
     {
+        let detail = self.detail;
         self.end_tests()?;
-        self.text
-            .push_str("      the rows are done, and the office settles\n")?;
+        if detail.is_json() {
+            let (before, after) = (detail.before_object(), detail.after_object());
+            let settled = settling_object();
+            write!(self.text, "{before}{settled}{after}")?;
+            return Ok(());
+        }
+        self.text.push_str(settling_line())?;
+        Ok(())
+    }
+
+    /// Adds the object of the step with this number.
+    fn add_step_object(
+        &mut self,
+        number: u64,
+        marker: u32,
+        observed: &Observation,
+        records: &[Record],
+    ) -> Result<(), AllocError>
+        requires { is_json self.old.detail ≡ true }
+        ensures { OnOk result
+            (Adds (λ detail. step_item detail number marker observed.now records.now)
+            self.old self.new) }
+    {
+        let detail = self.detail;
+        self.end_tests()?;
+        self.text.push_str(detail.before_object())?;
+        add_object(&mut self.text, number, marker, observed, records)?;
+        self.text.push_str(detail.after_object())?;
         Ok(())
     }
 
@@ -112,9 +150,14 @@ impl Story {
         observed: &Observation,
         records: &[Record],
     ) -> Result<(), AllocError>
-        ensures { OnOk result (Adds (step_item number marker observed.now records.now)
+        ensures { OnOk result
+            (Adds (λ detail. step_item detail number marker observed.now records.now)
             self.old self.new) }
     {
+        if self.detail.is_json() {
+            self.add_step_object(number, marker, observed, records)?;
+            return Ok(());
+        }
         if let Step::Test(word) = observed.step {
             let (place, word) = (Place::of(word), observed.found);
             self.add_test(Tested {
@@ -139,8 +182,8 @@ impl Story {
         records: &[Record],
     ) -> Result<(), AllocError>
         ensures { OnOk result
-            (AddsStep (λ number. step_item number marker observed.now records.now) self.old
-            self.new) }
+            (AddsStep (λ detail number. step_item detail number marker observed.now records.now)
+            self.old self.new) }
     {
         let number = self.number.wrapping_add(1);
         self.number = number;

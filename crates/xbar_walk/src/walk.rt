@@ -6,10 +6,10 @@ ghost use Rattle.xbar_walk.specs.Items.{step_item};
 ghost use Rattle.xbar_walk.specs.Stories.{AddsStep, ChangesAs};
 ghost use Rattle.xbar_walk.specs.Walks.{walk_of_step, observation_of, walk_of_steps};
 
-use crate::observation::{Observation, found_by};
 use crate::story::Story;
 use std::alloc::AllocError;
 use xbar_core::Exchange;
+use xbar_step_text::{Observation, found_by};
 
 /// Makes the marker's next step and returns what is observed of it.
 fn make_step(exchange: &mut Exchange<'_>, marker: u32) -> Observation
@@ -36,8 +36,8 @@ fn add_made(
 ) -> Result<(), AllocError>
     requires { before ≤ length exchange.now.exchange.records }
     ensures { OnOk result (AddsStep
-        (λ number. step_item number marker observed.now (drop before exchange.now.exchange.records))
-        story.old story.new) }
+        (λ detail number. step_item detail number marker observed.now
+        (drop before exchange.now.exchange.records)) story.old story.new) }
 {
     let records = exchange.records();
     story.add_step(marker, observed, &records[before..])

@@ -1,17 +1,20 @@
-use Rattle.std.proofs.Common.{◌≡◌, ◌∙◌, ap, sym, subst, true, MatchResult}
+use Rattle.std.proofs.Common.{◌≡◌, ◌∙◌, ap, sym, subst, true, List, [], ◌∷◌, MatchResult}
 use Rattle.std.specs.Prelude.{IfSome, IsSome}
 use Rattle.std.proofs.lemmas.List.{length-map}
 use Rattle.clap.specs.Kinds.{HasKind}
 use Rattle.clap.specs.Walk.{texts}
-use Rattle.clap.specs.Words.{App, fault_of, is_simple, is_simple_and_free, subcommand_of, takes}
-use Rattle.crossbar5_command.specs.Ask.{IsAskOf}
+use Rattle.clap.specs.Words.{App, Text, fault_of, is_simple, is_simple_and_free, subcommand_of, takes}
+use Rattle.clap.specs.declared.error.kind.ErrorKind.TheVariants.{ArgumentConflict}
+use Rattle.crossbar5_command.specs.Ask.{IsAnswerTo}
+use Rattle.crossbar5_command.specs.Fault.{conflict_of, faults_of}
 use Rattle.crossbar5_command.specs.Program.{program, subcommands}
 use Rattle.crossbar5_command.specs.Subcommand.{subcommand_named}
 use Rattle.crossbar5_command.specs.declared.ask.Ask.{Ask}
 use Rattle.crossbar5_command.specs.declared.command_fault.CommandFault.TheVariants.{Memory}
-use Rattle.crossbar5_command.proofs.FaultKinds.{fault_for-among, fault_for-memory, told}
-use Rattle.crossbar5_command.proofs.OtherWords.{names_only, no_subcommand, subcommand_known}
-use Rattle.crossbar5_command.proofs.SubcommandWords.{program_is_free, program_is_simple, words_read, words_taken}
+use Rattle.crossbar5_command.proofs.Answered.{answer_among, answer_asked, answer_named, answer_one_form, answer_passes, answer_read, answer_two_forms, answer_unnamed}
+use Rattle.crossbar5_command.proofs.FaultKinds.{fault_for-among, fault_for-memory, has_first, of_any_kind, told}
+use Rattle.crossbar5_command.proofs.OtherWords.{no_subcommand, subcommand_known}
+use Rattle.crossbar5_command.proofs.SubcommandWords.{program_is_free, program_is_simple, words_taken}
 use Rattle.crossbar5_command.proofs.command_line.command.Goals as goal
 
 -- ---- clap answered with an error
@@ -25,10 +28,14 @@ memory c P taken =
     (fault_for-memory c.in_err-matches.field-0.0 (c.in_err-matches.ensures.passes taken_here))
 
 pub returns-in_err-matches-clause-passes : goal.returns-in_err-matches-clause-passes
-returns-in_err-matches-clause-passes c = memory c _
+returns-in_err-matches-clause-passes c = λ taken no_conflict. memory c _ taken
 
 pub returns-in_err-matches-clause-taken : goal.returns-in_err-matches-clause-taken
-returns-in_err-matches-clause-taken c = λ s given asks values. memory c _ (words_taken (texts c.args.words.now) s given asks values)
+returns-in_err-matches-clause-taken c = λ s given asks values one_form. memory c _ (words_taken (texts c.args.words.now) s given asks values)
+
+pub returns-in_err-matches-clause-apart : goal.returns-in_err-matches-clause-apart
+returns-in_err-matches-clause-apart c = λ s given asks values two_forms.
+    of_any_kind c.from_residual-in_err-matches.result (ArgumentConflict ∷ []) (memory c (λ _. ⊥) (words_taken (texts c.args.words.now) s given asks values))
 
 pub returns-in_err-matches-clause-unnamed : goal.returns-in_err-matches-clause-unnamed
 returns-in_err-matches-clause-unnamed c = λ few. memory c _ (no_subcommand (texts c.args.words.now) (rw length-map few)).0
@@ -39,30 +46,47 @@ returns-in_err-matches-clause-faults c =
     let words = texts c.args.words.now in
     let free = ap is_simple_and_free c.in_ok-program.ensures ∙ program_is_free in
     let has = subst (λ (a : App). HasKind (fault_of a words) error) c.in_ok-program.ensures (c.in_err-matches.ensures.kinds free) in
-    told c.from_residual-in_err-matches.result _ _ _ c.from_residual-in_err-matches.ensures.1 (fault_for-among (fault_of program words) error has)
+    let among = has_first (fault_of program words) (conflict_of (subcommand_of program words)) error has in
+    told c.from_residual-in_err-matches.result _ _ _ c.from_residual-in_err-matches.ensures.1 (fault_for-among (faults_of words) error among)
 
 -- ---- clap found matches
 
-pub returns-clause-faults : goal.returns-clause-faults
-returns-clause-faults c =
-    let free = ap is_simple_and_free c.in_ok-program.ensures ∙ program_is_free in
-    ap (λ (a : App). fault_of a (texts c.args.words.now)) (sym c.in_ok-program.ensures) ∙ c.in_ok-matches.ensures.kinds free
+abbrev words_in : goal.Joined-matches → List Text
+words_in c = texts c.args.words.now
 
-pub returns-clause-matches : goal.returns-clause-matches
-returns-clause-matches c =
-    let words = texts c.args.words.now in
+no_fault : (c : goal.Joined-matches) → fault_of program (words_in c) ≡ []
+no_fault c =
+    let free = ap is_simple_and_free c.in_ok-program.ensures ∙ program_is_free in
+    ap (λ (a : App). fault_of a (words_in c)) (sym c.in_ok-program.ensures) ∙ c.in_ok-matches.ensures.kinds free
+
+answered : (c : goal.Joined-matches) → IsAnswerTo (subcommand_of program (words_in c)) c.ask_of.result
+answered c =
+    let words = words_in c in
     let met = (c.in_ok-matches.ensures.matches (ap is_simple c.in_ok-program.ensures ∙ program_is_simple)).1
     ∙ ap (λ (a : App). subcommand_of a words) c.in_ok-program.ensures in
-    let known = subst (λ met. IfSome met (λ p. IsSome (subcommand_named subcommands p.0))) (sym met) (subcommand_known words (returns-clause-faults c)) in
-    subst (λ met. IsAskOf met c.in_ok-ask_of.field-0) met (c.in_ok-ask_of.ensures known)
+    let known = subst (λ met. IfSome met (λ p. IsSome (subcommand_named subcommands p.0))) (sym met) (subcommand_known words (no_fault c)) in
+    subst (λ met. IsAnswerTo met c.ask_of.result) met (c.ask_of.ensures known)
+
+pub returns-clause-faults : goal.returns-clause-faults
+returns-clause-faults c = answer_among (words_in c) (no_fault c) c.ask_of.result (answered c)
+
+pub returns-clause-matches : goal.returns-clause-matches
+returns-clause-matches c = answer_asked (words_in c) (no_fault c) c.ask_of.result (answered c)
 
 pub returns-clause-asked : goal.returns-clause-asked
-returns-clause-asked c = λ s given asks.
-    words_read (texts c.args.words.now) s given c.in_ok-ask_of.field-0 asks (returns-clause-faults c) (returns-clause-matches c)
+returns-clause-asked c = answer_read (words_in c) (no_fault c) c.ask_of.result (answered c)
 
 pub returns-clause-only : goal.returns-clause-only
-returns-clause-only c = names_only (texts c.args.words.now) c.in_ok-ask_of.field-0 (returns-clause-faults c) (returns-clause-matches c)
+returns-clause-only c = answer_named (words_in c) (no_fault c) c.ask_of.result (answered c)
+
+pub returns-clause-passes : goal.returns-clause-passes
+returns-clause-passes c = λ taken. answer_passes (words_in c) (no_fault c) c.ask_of.result (answered c)
+
+pub returns-clause-taken : goal.returns-clause-taken
+returns-clause-taken c = λ s given asks values. answer_one_form (words_in c) (no_fault c) c.ask_of.result (answered c) s given asks
+
+pub returns-clause-apart : goal.returns-clause-apart
+returns-clause-apart c = λ s given asks values. answer_two_forms (words_in c) (no_fault c) c.ask_of.result (answered c) s given asks
 
 pub returns-clause-unnamed : goal.returns-clause-unnamed
-returns-clause-unnamed c = λ few.
-    subst (λ met. IsAskOf met c.in_ok-ask_of.field-0) (no_subcommand (texts c.args.words.now) (rw length-map few)).1 (returns-clause-matches c)
+returns-clause-unnamed c = λ few. answer_unnamed (words_in c) (no_fault c) c.ask_of.result (answered c) (rw length-map few)

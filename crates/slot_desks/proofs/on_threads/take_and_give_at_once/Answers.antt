@@ -8,5 +8,5 @@ use Rattle.slot_desks.proofs.on_threads.take_and_give_at_once.Goals as goal
 pub returns-clause-own : goal.returns-clause-own
 returns-clause-own g c =
     if_ok _ (λ shifts. AllGiveOwn (map (λ shift. records shift.log.items) shifts.items)) c.at_once.result
-    (λ shifts each. of_items (λ shift. records shift.log.items) _ (GivesOwn []) shifts.items (λ after ends. ends.1.3) each)
+    (λ shifts each. of_items (λ shift. records shift.log.items) _ (GivesOwn []) shifts.items (λ after ends. ends.1.1.1.1) each)
     c.at_once.ensures.each

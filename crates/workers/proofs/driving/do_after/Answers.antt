@@ -24,7 +24,7 @@ returns-clause-after g c =
     (λ earlier r. laws.noted setting c.args.note.seen learned.seen after.seen earlier r)
     (λ reported' r. laws.after setting desk.number desk.actor after.actor learned.seen after.seen reported' r)
     c.learn.ensures.learned.note_begins (subst (λ s. desk.actor ≡ assigned_if (system_of (g.F.Jobs.system s)) c.assign.result c.args.number c.args.job learned.actor) (ap (λ d. d.setting) c.learn.ensures.same ∙ c.requires.desk.desk_is) (ap (λ d. d.actor) c.assign.ensures.assigned)) c.if-not-assign.false legal
-    (subst (λ (s : List (RecordOf O)). HasWorked O desk.number desk.actor after.actor s after.seen (records (option_to_list reported))) seen c.persist-reported.ensures.worked)
+    (subst (λ (s : List (RecordOf O)). HasWorked O desk.number desk.actor after.actor s after.seen (records (option_to_list reported))) seen c.persist-reported.ensures.finished.worked)
 
 pub returns-clause-behind : goal.returns-clause-behind
 returns-clause-behind g c =
@@ -40,4 +40,4 @@ returns-clause-behind g c =
     behind_noted O desk.number c.args.number c.args.job learned.actor desk.actor after.actor c.assign.result c.args.note.seen learned.seen after.seen reported
     (λ reported' r. laws.after setting desk.number desk.actor after.actor learned.seen after.seen reported' r)
     c.learn.ensures.learned.note_begins (subst (λ s. desk.actor ≡ assigned_if (system_of (g.F.Jobs.system s)) c.assign.result c.args.number c.args.job learned.actor) (ap (λ d. d.setting) c.learn.ensures.same ∙ c.requires.desk.desk_is) (ap (λ d. d.actor) c.assign.ensures.assigned)) c.if-not-assign.false legal
-    (subst (λ (s : List (RecordOf O)). HasWorked O desk.number desk.actor after.actor s after.seen (records (option_to_list reported))) seen c.persist-reported.ensures.worked)
+    (subst (λ (s : List (RecordOf O)). HasWorked O desk.number desk.actor after.actor s after.seen (records (option_to_list reported))) seen c.persist-reported.ensures.finished.worked)

@@ -1,13 +1,11 @@
-use Rattle.std.proofs.Common.{◌≡◌, []}
-use Rattle.desks.specs.Reports.{HasWorked, job_of}
+use Rattle.std.specs.Prelude.{None}
 use Rattle.desks.specs.Views.{IsDeskOf}
 use Rattle.turns.specs.System.{system_of}
+use Rattle.workers.specs.Workers.{HasFinished}
 use Rattle.workers.proofs.driving.finish.Given as goal
 
 abbrev pub invariant-loop : goal.invariant-loop
 invariant-loop g l = record {
   desk : IsDeskOf l.desk l.room l.setting;
-  number : l.desk.number ≡ l.fn.desk.number;
-  job : job_of (system_of (g.F.Jobs.system l.setting)) l.desk.actor ≡ job_of (system_of (g.F.Jobs.system l.setting)) l.fn.desk.actor;
-  worked : HasWorked (system_of (g.F.Jobs.system l.setting)) l.fn.desk.number l.fn.desk.actor l.desk.actor l.fn.desk.seen l.desk.seen [];
+  finished : HasFinished (system_of (g.F.Jobs.system l.setting)) l.fn.desk l.desk None;
 }

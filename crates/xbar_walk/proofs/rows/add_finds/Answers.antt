@@ -3,7 +3,7 @@ use Rattle.std.specs.Prelude.{◌||◌, string_bytes}
 use Rattle.std.proofs.lemmas.List.{take_all, take_more}
 use Rattle.xbar_walk.specs.Rows.{row_found}
 use Rattle.xbar_walk.proofs.Finding.{AreFound, none_found, nothing_found, one_found, some_found}
-use Rattle.xbar_walk.specs.declared.place.Place.TheVariants.{LineSwitch}
+use Rattle.xbar_step_text.specs.declared.place.Place.TheVariants.{LineSwitch}
 use Rattle.xbar_walk.specs.declared.tested.Tested.{Tested}
 use Rattle.xbar_walk.proofs.rows.add_finds.Goals.{then-any, else-any}
 use Rattle.xbar_walk.proofs.rows.add_finds.Goals as goal

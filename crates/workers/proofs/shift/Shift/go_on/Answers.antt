@@ -5,7 +5,7 @@ use Rattle.workers.proofs.shift.Shift.go_on.Goals as goal
 pub returns-clause-done : goal.returns-clause-done
 returns-clause-done g c = λ _ number job is.
     let reported = c.in-Some.reported in
-    let its = same_job reported.number number reported.job job (sym c.in-Some.ensures.its_job ∙ is) in
+    let its = same_job reported.number number reported.job job (sym c.in-Some.ensures.finished.its_job ∙ is) in
     record {
       reported = reported;
       log_is = c.push_reserved.ensures.items ∙ ap (λ l. l ++ reported ∷ []) c.reserve.ensures.items;

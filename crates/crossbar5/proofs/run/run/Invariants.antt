@@ -1,5 +1,0 @@
-use Rattle.crossbar5.proofs.RunRows.{HasRun}
-use Rattle.crossbar5.proofs.run.run.Given as goal
-
-abbrev pub invariant-loop-row : goal.invariant-loop-row
-invariant-loop-row l = HasRun l.plan l.kinds l.traffic.rows.items l.traffic.fault l.office l.number l.row-index

@@ -1,0 +1,14 @@
+use Rattle.std.proofs.Common.{◌≡◌, length}
+use Rattle.desks.specs.Views.{IsDeskOf}
+use Rattle.turns.specs.System.{system_of}
+use Rattle.workers.specs.Workers.{AreAssigned, IsLogOf}
+use Rattle.workers.proofs.doing_all.do_jobs.Given as goal
+
+abbrev pub invariant-loop-ended : goal.invariant-loop-ended
+invariant-loop-ended g l = record {
+  desk : IsDeskOf l.shift.desk l.room l.setting;
+  number : l.shift.desk.number ≡ l.fn.shift.desk.number;
+  log : IsLogOf (system_of (g.F.Jobs.system l.setting)) l.shift.desk l.shift.log.items;
+  assigned : AreAssigned (goal.N-post g l.next_job l.fn.shift.desk.number) l.shift.log.items;
+  count : length l.shift.log.items ≡ l.ended;
+}

@@ -1,0 +1,5 @@
+pub mod Jobs
+pub mod Markers
+pub mod Lines
+pub mod Connectors
+pub mod Look

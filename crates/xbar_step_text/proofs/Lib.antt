@@ -1,0 +1,4 @@
+pub mod Added
+pub mod Listed
+pub mod ChangedWords
+pub mod WordPlaces

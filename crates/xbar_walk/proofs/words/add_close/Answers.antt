@@ -1,9 +1,0 @@
-use Rattle.std.proofs.Common.{◌≡◌, ◌++◌, ℕ, List, subst}
-use Rattle.std.specs.Prelude.{OnOk, string_bytes}
-use Rattle.xbar_walk.proofs.ChangedWords.{closes}
-use Rattle.xbar_walk.proofs.words.add_close.Goals as goal
-
-pub returns-in_default : goal.returns-in_default
-returns-in_default c =
-    subst (λ (words : List ℕ). OnOk c.add_switched.result (string_bytes c.add_switched.new.text ≡ string_bytes c.args.text.now ++ words))
-    (closes c.args.place c.args.bits c.in_default.not-Group) c.add_switched.ensures
