@@ -215,7 +215,7 @@ def look(text, plan=EXAMPLE, kinds="XX"):
     if fault:
         return fault
     office = Watched(Plan(plan), kinds)
-    for row in (r for r in csv.reader(io.StringIO(text, newline="")) if r):
+    for row in (r for r in csv.reader(io.StringIO(text.removeprefix("\ufeff"), newline="")) if r):
         office.events, office.in_row = [], 0
         rows_done(office, ",".join(row) + "\n")
     words = office.words

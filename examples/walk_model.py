@@ -453,7 +453,7 @@ def is_line(text):
 def rows_done(office, text):
     """Does the rows; a fault line, or nothing."""
     seen = set()
-    rows = [r for r in csv.reader(io.StringIO(text, newline="")) if r]
+    rows = [r for r in csv.reader(io.StringIO(text.removeprefix("\ufeff"), newline="")) if r]
     for i, r in enumerate(rows, 1):
         if len(r) != 5:
             return f"FAULT,T1,{i}"

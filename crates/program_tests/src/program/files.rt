@@ -32,7 +32,8 @@ const LINES: &[(&str, u8, &str)] = &[
         2,
         "error: unrecognized subcommand ''\n\n\
 Usage: crossbar5 [COMMAND]\n       crossbar5 replay [--plan <FILE>] [--markers <KINDS>]\n       \
-crossbar5 walk [--plan <FILE>] [--markers <KINDS>] [--short]\n       \
+crossbar5 walk [--plan <FILE>] [--markers <KINDS>] [--short | --json]\n       \
+crossbar5 look [--plan <FILE>] [--markers <KINDS>] [--words | --json | --svg]\n       \
 crossbar5 live [--plan <FILE>] [--dial <N>] [--completing <N>]\n       \
 crossbar5 audit [--plan <FILE>]\n       crossbar5 draw [--plan <FILE>] [--text]\n       \
 crossbar5 page [--plan <FILE>]\n\nFor more information, try '--help'.\n",
