@@ -1,5 +1,5 @@
 #!/usr/bin/env bash
-# Makes the traffic that docs/SPEED.md speaks of, has the built program replay it or do its calls, and prints
+# Makes the traffic that docs/SPEED.md speaks of, has the built program replay it, look at it or do its calls, and prints
 # for each the least and the median milliseconds of 31 whole processes: speed.sh [PROGRAM [PLAIN]]
 # PLAIN is examples/plain_steps.rs, built as it says: the same jobs in ordinary Rust.
 set -euo pipefail
@@ -96,6 +96,12 @@ measure ", 48 markers" "$program" calls48.csv replay "${all[@]}"
 measure ", 48 markers, the full plan" "$program" full.csv replay "${all[@]}" "${full[@]}"
 measure ", the full plan" "$program" wait.csv replay "${full[@]}"
 measure ", the full plan" "$program" wait_further.csv replay "${full[@]}"
+for count in 1 100 1000; do
+    head -n $((2 * count)) "$folder/calls48.csv" >"$folder/calls48_$count.csv"
+    for view in words json svg; do
+        measure ", 48 markers, look --$view" "$program" "calls48_$count.csv" look "--$view" "${all[@]}"
+    done
+done
 measure "" "$program" live.csv live
 measure ", two markers of each kind" "$program" live.csv live --dial 2 --completing 2
 if [[ -n $plain ]]; then

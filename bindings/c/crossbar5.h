@@ -65,8 +65,8 @@ struct crossbar5_answered {
    than `room`, `out` is left as it is: call again with room for `answer->length` bytes.
 
    No pointer may be NULL, even with a length of 0, and neither `out` nor `answer` may overlap anything else. Calls
-   malloc, realloc and free, and nothing else of the C library but memcpy and the like. So don't call it from a signal
-   handler. */
+   malloc, realloc and free, and nothing else of the C library but memcpy, memmove and memset. So don't call it from a
+   signal handler. A thread that calls it needs 256 KiB of stack. */
 void crossbar5_answer(uint32_t task,
                       const uint8_t *plan, size_t plan_length,
                       const uint8_t *kinds, size_t kinds_length,

@@ -224,7 +224,7 @@ static void try_many_calls(void)
     }
     after = resident();
     printf("resident after %d calls: %zu bytes; after %d calls: %zu bytes\n", CALLS / 4, before, CALLS, after);
-    if (after > before + 65536)
+    if (after > before + 262144)
         fail(&cases[0], "memory grows from call to call");
 }
 

@@ -7,7 +7,7 @@ fn main() {
     println!("cargo:rerun-if-env-changed=CROSSBAR5_LIB_DIR");
     let folder = match env::var_os("CROSSBAR5_LIB_DIR") {
         Some(folder) => PathBuf::from(folder),
-        None => Path::new(env!("CARGO_MANIFEST_DIR")).join("../out"),
+        None => Path::new(&env::var_os("CARGO_MANIFEST_DIR").unwrap()).join("../out"),
     };
     let library = folder.join("libcrossbar5.a");
     println!("cargo:rerun-if-changed={}", library.display());

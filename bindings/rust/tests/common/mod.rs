@@ -32,7 +32,7 @@ fn take<'a>(bytes: &mut &'a [u8], length: usize) -> &'a [u8] {
 pub fn cases() -> Vec<Case> {
     let path = match std::env::var_os("CROSSBAR5_CASES") {
         Some(path) => path.into(),
-        None => Path::new(env!("CARGO_MANIFEST_DIR")).join("../out/cases"),
+        None => Path::new(&std::env::var_os("CARGO_MANIFEST_DIR").unwrap()).join("../out/cases"),
     };
     let whole = fs::read(&path)
         .unwrap_or_else(|error| panic!("{}: {error}: run bindings/test", path.display()));
