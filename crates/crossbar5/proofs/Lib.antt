@@ -7,3 +7,4 @@ pub mod SettledHistory
 pub mod Tellings
 pub mod LastEvents
 pub mod LookTexts
+pub mod IdleOffices

@@ -1,8 +1,8 @@
 -- Looks: the office that rows lead to, as it stands.
-use Rattle.std.specs.Prelude.{◌≡◌, ◌⊎◌, ℕ, Option, List, [], ◌∷◌, drop}
+use Rattle.std.specs.Prelude.{◌≡◌, ◌⊎◌, ℕ, Option, Some, List, [], ◌∷◌, drop, slice_get, true}
 use Rattle.csv.specs.Reading.{default_config, records as csv_records, strip_bom}
 use Rattle.xbar_plan.specs.Tables.{Tables}
-use Rattle.xbar_moves.specs.Exchange.{Exchange, fresh_exchange}
+use Rattle.xbar_moves.specs.Exchange.{Exchange, Marker, fresh_exchange, is_idle}
 use Rattle.xbar_moves.specs.declared.kind.Kind.{Kind}
 use Rattle.xbar_office.specs.Legal.{after}
 use Rattle.xbar_office_drawing.specs.Drawing.{office_drawing}
@@ -20,6 +20,10 @@ use Rattle.crossbar5.specs.Run.{Leaves, Outcome, RefusesTraffic, outcome_status,
 use Rattle.crossbar5.specs.Walk.{begun_at, walk_after_row}
 use Rattle.crossbar5.specs.declared.view.View.{View}
 use Rattle.crossbar5.specs.declared.view.View.TheVariants.{Words, Json, Drawing}
+
+-- all markers are idle: nothing is left for a settling to do
+abbrev pub AreIdle : Exchange → Type 0
+AreIdle e = (k : ℕ) (m : Marker) → slice_get e.markers k ≡ Some m → is_idle m.work ≡ true
 
 -- a list of values, each after a comma
 abbrev pub BeginsWithComma : List ℕ → Type 0

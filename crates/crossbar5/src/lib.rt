@@ -19,6 +19,7 @@ mod audit;
 mod draw;
 mod engine;
 mod finding;
+pub mod laws;
 mod look;
 mod looks;
 mod rows;

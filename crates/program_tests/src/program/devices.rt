@@ -11,6 +11,10 @@ use test_tools::{DeviceCall, Endless, Recorder, check, check_eq};
 const TASKS: &[(&str, &str)] = &[
     ("replay", FIRST),
     ("walk", "J,0,7,R,3041\nS,0,9,,\n"),
+    ("walk --json", "J,0,7,R,3041\nS,0,9,,\n"),
+    ("look", "J,0,7,R,3041\nS,0,2,,\n"),
+    ("look --json", "J,0,7,R,3041\nS,0,2,,\n"),
+    ("look --svg", FIRST),
     ("live", "C,7,3041,5551234,R\n"),
     ("audit", FIRST_TEXT),
     // The record is wrong.
@@ -26,6 +30,7 @@ const TASKS: &[(&str, &str)] = &[
     // These inputs are refused.
     ("replay", "PATHS,0\n"),
     ("walk", "PATHS,0\n"),
+    ("look --json", "PATHS,0\n"),
     ("live", "PATHS,0\n"),
     ("audit", "PATHS,0\n"),
 ];

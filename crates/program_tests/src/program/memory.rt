@@ -27,6 +27,7 @@ const DONE: &[(&str, &str, &str)] = &[
 1,2,0,C,3041,2340004,CONNECTED,1,3041-0-600,3100-1-601\nPATHS,2\nCLOSED,8\n",
     ),
     ("walk", "J,0,7,R,3041\nS,0,9,,\n", WALK),
+    ("look", "J,0,7,R,3041\nS,0,2,,\n", LOOK),
     ("audit", FIRST_TEXT, "AUDIT,LEGAL,1\nPATHS,1\nCLOSED,4\n"),
     ("draw --text", "PATHS,0\nCLOSED,0\n", "No path is up.\n"),
     (
@@ -92,6 +93,15 @@ const WALK: &str = "      marker 0  is given job 7: release of line 3041
    4  marker 0  takes turn 0: job 7 ends NOCALL
    5  marker 0  frees line link frame 3, and has done job 7
       the rows are done, and the office settles
+";
+
+const LOOK: &str = "\
+marker 0, combined: job 7, release of line 3041
+  next: tests line switch 3,0
+  holds line link frame 3
+marker 1, combined: idle
+PATHS,0
+CLOSED,0
 ";
 
 const FAULTY_DRAWING: &str = "\
@@ -162,6 +172,9 @@ const LONG_TEXTS: &[&str] = &[
     "help audit",
     "help draw",
     "help page",
+    "help look",
+    "look --json",
+    "look --svg",
     "call",
     "--text",
 ];
