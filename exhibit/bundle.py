@@ -1,0 +1,152 @@
+"""Makes the one page of the exhibit from its parts.
+
+bundle(engine_script, module=None) gives the page as text. exhibit/page/index.html is the frame, and has placeholders:
+
+    @@STYLE@@   page/style.css
+    @@SCRIPT@@  page/*.js, in the order of page/order.txt, which has a name in each line
+    @@ENGINE@@  the engine's script, a file such as engine/inside.js; in it @@MODULE@@ is the module, its bytes packed by
+                gzip, in base64
+    @@TEXTS@@   an object: the content of each page/texts/*.json by its name without .json
+    @@PLANS@@   an object: the text of each examples/*.toml by its name without .toml, and of 'example', the plan that the
+                program has if none is named
+    @@FILMS@@   an array of {name, plan, kinds, rows}, by page/films.json: an array of objects with the same names, where
+                rows is a file of examples, and plan is one too, or null for the example plan. Here both are texts
+
+The last three are JSON in which no `<` stands for itself, so nothing in it ends a script element or begins a comment.
+What is missing, or can't stand where it is put, raises a BundleError that names it.
+"""
+
+import base64
+import gzip
+import json
+import os
+import re
+
+HERE = os.path.dirname(os.path.realpath(__file__))
+ROOT = os.path.dirname(HERE)
+PAGE = os.path.join(HERE, "page")
+EXAMPLES = os.path.join(ROOT, "examples")
+EXAMPLE_PLAN = os.path.join(ROOT, "crates", "worked_rows", "data", "example.toml")
+
+PLACEHOLDER = re.compile("@@([A-Z]+)@@")
+
+
+class BundleError(Exception):
+    """The page can't be made. The message says why, and names the file or the placeholder."""
+
+
+def shown(path):
+    return os.path.relpath(path, ROOT)
+
+
+def read(*path):
+    path = os.path.join(*path)
+    try:
+        with open(path, encoding="utf-8", newline="") as it:
+            return it.read()
+    except OSError as why:
+        raise BundleError(f"{shown(path)} can't be read: {why.strerror}") from why
+    except UnicodeDecodeError as why:
+        raise BundleError(f"{shown(path)} isn't UTF-8 text") from why
+
+
+def read_json(*path):
+    try:
+        return json.loads(read(*path))
+    except ValueError as why:
+        raise BundleError(f"{shown(os.path.join(*path))} isn't JSON: {why}") from why
+
+
+def names(folder, ending):
+    """The names of a folder's files with this ending, without it."""
+    try:
+        found = sorted(os.listdir(folder))
+    except OSError as why:
+        raise BundleError(f"{shown(folder)} can't be read: {why.strerror}") from why
+    return [name.removesuffix(ending) for name in found if name.endswith(ending)]
+
+
+def as_json(value):
+    """JSON for a script element. U+2028 and U+2029 are told by numbers too, as everything outside ASCII is."""
+    return json.dumps(value, separators=(",", ":")).replace("<", "\\u003c")
+
+
+def texts():
+    folder = os.path.join(PAGE, "texts")
+    return as_json({name: read_json(folder, f"{name}.json") for name in names(folder, ".json")})
+
+
+def plans():
+    of_examples = {name: read(EXAMPLES, f"{name}.toml") for name in names(EXAMPLES, ".toml")}
+    return as_json({"example": read(EXAMPLE_PLAN), **of_examples})
+
+
+def example(film, name):
+    """The text of a file of examples that a film names, with or without the folder."""
+    if not isinstance(name, str) or "/" in name.removeprefix("examples/"):
+        raise BundleError(f"exhibit/page/films.json, {film}: {name!r} isn't a file of examples")
+    return read(EXAMPLES, name.removeprefix("examples/"))
+
+
+def film(it):
+    if not isinstance(it, dict) or not {"name", "plan", "kinds", "rows"} <= it.keys():
+        raise BundleError(f"exhibit/page/films.json: {it!r} lacks one of name, plan, kinds and rows")
+    name, plan = it["name"], it["plan"]
+    plan = read(EXAMPLE_PLAN) if plan is None else example(name, plan)
+    return {**it, "plan": plan, "rows": example(name, it["rows"])}
+
+
+def films():
+    found = read_json(PAGE, "films.json")
+    if not isinstance(found, list):
+        raise BundleError("exhibit/page/films.json isn't a list")
+    return as_json([film(it) for it in found])
+
+
+def script():
+    """The page's scripts. Each file of the folder has to be in order.txt, so that none is forgotten."""
+    order = read(PAGE, "order.txt").split()
+    for name in names(PAGE, ".js"):
+        if f"{name}.js" not in order:
+            raise BundleError(f"exhibit/page/{name}.js isn't in exhibit/page/order.txt")
+    return without("</script", "\n".join(read(PAGE, name) for name in order), "a script of exhibit/page")
+
+
+def style():
+    return without("</style", read(PAGE, "style.css"), "exhibit/page/style.css")
+
+
+def without(ending, text, what):
+    """The text, which may not have what ends the element that it is put into."""
+    for word in (ending, "<!--"):
+        if word in text.lower():
+            raise BundleError(f"{what} has '{word}', which ends its element, or begins a comment")
+    return text
+
+
+def packed(module):
+    if module is None:
+        raise BundleError("@@MODULE@@ has no value: no module was given")
+    return base64.b64encode(gzip.compress(module, 9, mtime=0)).decode()
+
+
+def engine(path, module):
+    text = filled(read(path), shown(path), {"MODULE": lambda: packed(module)})
+    return without("</script", text, shown(path))
+
+
+def filled(text, name, values):
+    """The text with each placeholder replaced by its value. What a value has is not looked at again."""
+    def value(found):
+        if found[1] not in values:
+            raise BundleError(f"{name}: {found[0]} has no value")
+        return values[found[1]]()
+    return PLACEHOLDER.sub(value, text)
+
+
+def bundle(engine_script, module=None):
+    """The page with the engine's script, the path of a file, and the bytes of the module, if the script has one."""
+    return filled(read(PAGE, "index.html"), "exhibit/page/index.html", {
+        "STYLE": style, "SCRIPT": script, "TEXTS": texts, "FILMS": films, "PLANS": plans,
+        "ENGINE": lambda: engine(engine_script, module),
+    })
