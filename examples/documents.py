@@ -3,10 +3,10 @@
 
     examples/documents.py [PROGRAM]
 
-PROGRAM takes the place of bin/crossbar5. Read are README, TOUR, FORMATS and examples/README. A command is a line of
-code that begins with printf, bin/crossbar5 or crossbar5; the code after it, up to prose or to the next command, is what
-it prints. In FORMATS it stands in a sentence, `COMMAND` writes, before its code. A command with no text after it has to
-end with status 0. Prints a line for each, and ends with status 1 where one differs.
+PROGRAM takes the place of bin/crossbar5. Read are README, TOUR, LESSON, FORMATS and examples/README. A command is a
+line of code that begins with printf, (printf, bin/crossbar5 or crossbar5; the code after it, up to prose or to the next
+command, is what it prints. In FORMATS it stands in a sentence, `COMMAND` writes, before its code. A command with no
+text after it has to end with status 0. Prints a line for each, and ends with status 1 where one differs.
 """
 
 import os
@@ -16,8 +16,8 @@ import sys
 import tempfile
 
 ROOT = os.path.dirname(os.path.dirname(os.path.realpath(__file__)))
-DOCUMENTS = ["README.md", "docs/TOUR.md", "docs/FORMATS.md", "examples/README.md"]
-COMMAND = re.compile(r"(printf .*\| *)?(bin/)?crossbar5\b(?!:)")
+DOCUMENTS = ["README.md", "docs/TOUR.md", "docs/LESSON.md", "docs/FORMATS.md", "examples/README.md"]
+COMMAND = re.compile(r"(\(?printf .*\| *)?(bin/)?crossbar5\b(?!:)")
 # In FORMATS; placeholders such as TRAFFIC are no files.
 WRITES = re.compile(r"`((?:printf|crossbar5) [^`]*)` writes$")
 

@@ -1,0 +1,78 @@
+// Files: a plan or rows that a visitor opens or drops, and what can be saved of an office.
+const MOST_BYTES = 4 * 1024 * 1024;
+
+function save(name, type, text) {
+  const link = element('a', { href: URL.createObjectURL(new Blob([text], { type })), download: name });
+  document.body.append(link);
+  link.click();
+  link.remove();
+  setTimeout(() => URL.revokeObjectURL(link.href), 10000);
+}
+
+class Files {
+  constructor(page) {
+    this.page = page;
+    const stage = () => page.stage, session = () => page.stage.session;
+    $('save-rows').onclick = () => save('rows.csv', 'text/csv', session().text());
+    $('save-records').onclick = () => save('records.csv', 'text/csv', session().recordsText());
+    $('save-svg').onclick = () => this.saveDrawing(stage());
+    $('file').onchange = event => this.open([...event.target.files]);
+    document.addEventListener('dragover', event => event.preventDefault());
+    document.addEventListener('drop', event => {
+      event.preventDefault();
+      if (!page.isKiosk) this.open([...event.dataTransfer.files]);
+    });
+  }
+
+  async saveDrawing({ session }) {
+    const { text } = await session.engine.answer(TASK.drawing, session.plan, session.kinds, session.recordsText());
+    save('office.svg', 'image/svg+xml', text);
+  }
+
+  // Takes the first file: a plan if it is one, else rows. What is neither changes nothing, and its fault is told.
+  async open([file]) {
+    if (!file) return;
+    const name = file.name;
+    if (file.size > MOST_BYTES) return this.tell(t('file.large', { name, most: '4 MiB' }));
+    let text;
+    try {
+      text = new TextDecoder('utf-8', { fatal: true }).decode(await file.arrayBuffer());
+    } catch {
+      return this.tell(t('file.bytes', { name }));
+    }
+    if (/^\s*(version|groups|numbers|codes|faults)\s*=/m.test(text)) await this.openPlan(name, text);
+    else await this.openRows(name, text);
+    $('file').value = '';
+  }
+
+  // An office with this plan, for a visitor's day.
+  async openPlan(name, text) {
+    const fault = await this.page.faultOf(text, 'XX', '');
+    if (fault) return this.tell(t('file.refused', { name, why: faultWords(fault) }));
+    const { day } = this.page.stages;
+    await this.page.choose('day');
+    await day.begin(text, 'XX');
+    this.tell(t('file.plan', { name }));
+  }
+
+  // A film of these rows, in an office with the plan that is shown; with 48 markers where they need more.
+  async openRows(name, text) {
+    const { session, kinds } = this.page.stage, plan = session.plan;
+    let fault, taken = kinds;
+    for (const tried of [kinds, 'XX', 'X'.repeat(RUSH_MARKERS)]) {
+      taken = tried;
+      fault = await this.page.faultOf(plan, tried, text);
+      if (!fault || !fault.line.endsWith(',C1')) break;
+    }
+    if (fault) return this.tell(t('file.refused', { name, why: faultWords(fault) }));
+    await this.page.choose('film');
+    await this.page.stages.film.bring(name, plan, taken, rowsOf(text));
+    this.tell(t('file.rows', { name, count: this.page.stages.film.film.rows.length }));
+  }
+
+  tell(words) {
+    setText($('files-message'), words);
+    this.page.stage.message = words;
+    this.page.refresh(this.page.stage);
+  }
+}

@@ -1,0 +1,149 @@
+// The page: it opens the engine, shows the mode that the visitor chooses, and lets markers work by themselves.
+const DELAYS = [2500, 1800, 1200, 800, 500, 320, 200, 110, 60, 30, 0];
+
+class Page {
+  constructor(engine) {
+    this.engine = engine;
+    const changed = stage => this.refresh(stage);
+    this.stages = { day: new DayStage(engine, changed), break: new BreakStage(engine, changed), rush: new RushStage(engine, changed), film: new FilmStage(engine, changed) };
+    this.picture = new Picture($('picture'));
+    this.naive = new Picture($('naive'));
+    this.files = new Files(this);
+    this.listen();
+    this.showLanguages();
+  }
+
+  async start() {
+    await this.choose('day');
+    this.kiosk = new Kiosk(this);
+    this.work();
+  }
+
+  // Shows a mode. Its office is as it was left, or begins.
+  async choose(name) {
+    const stage = this.stages[name];
+    if (this.stage) this.stage.isOpen = false;
+    this.stage = stage;
+    stage.isOpen = true;
+    document.body.dataset.mode = name;
+    for (const tab of $('modes').children) {
+      const isThis = tab.dataset.mode === name;
+      tab.setAttribute('aria-selected', isThis);
+      tab.tabIndex = isThis ? 0 : -1;
+    }
+    $('panel').setAttribute('aria-labelledby', `tab-${name}`);
+    $('stage').replaceChildren(stage.place);
+    $('other').hidden = name !== 'break';
+    $('verdict').replaceChildren();
+    showTexts();
+    if (stage.session.office) this.refresh(stage);
+    else if (name === 'film') await stage.play(stage.film);
+    else await stage.begin();
+  }
+
+  refresh(stage) {
+    if (stage !== this.stage || !stage.session.office) return;
+    const { office } = stage.session;
+    stage.show();
+    this.picture.show(office, stage.lines);
+    if (stage.naive) this.naive.show(new Office(stage.naive.look, true), stage.lines, stage.naive.shared);
+    setText($('real-title'), t('real.title', { turns: office.records.length, paths: office.paths.length }));
+    showGroups($('groups'), office);
+    showMarkers($('markers'), stage);
+    showTurns($('turns'), office);
+    showCards($('cards'), office);
+    const last = office.events[office.events.length - 1];
+    setText($('say'), last ? eventWords(last, office) : t('say.start'));
+    setText($('message'), stage.message ?? '');
+    setText($('intro'), t(`intro.${stage.name}`));
+    $('auto').checked = stage.auto;
+    $('speed').value = stage.speed;
+    $('undo').disabled = !stage.session.marks.length;
+    $('one').disabled = office.isQuiet && stage.name !== 'rush' && stage.name !== 'film';
+    if (stage.session.rows.length !== this.shownRows) $('verdict').replaceChildren();
+    this.shownRows = stage.session.rows.length;
+  }
+
+  // The fault of a plan with rows in a text, or null if the engine takes them.
+  async faultOf(plan, kinds, rows) {
+    const { status, text } = await this.engine.answer(TASK.lookJson, plan, kinds, rows);
+    return status === 0 ? null : { status, line: text.trim() };
+  }
+
+  // Lets markers work, as fast as the visitor wants.
+  async work() {
+    for (;;) {
+      const { stage } = this;
+      await pause(DELAYS[stage.speed]);
+      if (stage.auto && stage === this.stage && stage.session.office && !document.querySelector('dialog[open]')) {
+        await stage.autoStep().catch(error => stage.session.failed(error));
+      }
+      if (DELAYS[stage.speed] === 0) await new Promise(requestAnimationFrame);
+    }
+  }
+
+  listen() {
+    const now = () => this.stage;
+    for (const tab of $('modes').children) tab.onclick = () => this.choose(tab.dataset.mode);
+    $('modes').onkeydown = event => this.moveTab(event);
+    $('auto').onchange = event => { now().auto = event.target.checked; this.refresh(now()); };
+    $('speed').oninput = event => { now().speed = Number(event.target.value); };
+    $('one').onclick = () => now().one();
+    $('undo').onclick = () => { now().auto = false; return now().undo(); };
+    $('again').onclick = () => { $('verdict').replaceChildren(); return now().again(); };
+    $('audit').onclick = () => judge(now().session, now().session.recordsText(), $('verdict'));
+    for (const name of ['files', 'about']) $(name).onclick = () => { this.showAbout(); $(`${name}-dialog`).showModal(); };
+    for (const close of document.querySelectorAll('dialog .close')) close.onclick = () => close.closest('dialog').close();
+    document.addEventListener('keydown', event => this.typed(event));
+  }
+
+  // Arrow keys lead from tab to tab.
+  moveTab(event) {
+    const far = { ArrowRight: 1, ArrowLeft: -1 }[event.key];
+    if (!far) return;
+    const tabs = [...$('modes').children], at = tabs.findIndex(tab => tab.dataset.mode === this.stage.name);
+    const tab = tabs[(at + far + tabs.length) % tabs.length];
+    tab.focus();
+    this.choose(tab.dataset.mode);
+  }
+
+  // Digits dial on the chosen telephone.
+  typed(event) {
+    const isText = event.target.matches('input, select, textarea');
+    if (/^\d$/.test(event.key) && !isText && !event.ctrlKey && !event.altKey && !event.metaKey && this.stage.name === 'day') this.stage.dial(event.key);
+  }
+
+  showLanguages() {
+    const choice = $('language');
+    choice.replaceChildren(...texts.languages.map(it => element('option', { value: it, lang: it }, TEXTS[it].name)));
+    choice.value = texts.language;
+    choice.onchange = () => {
+      texts.use(choice.value);
+      document.documentElement.lang = texts.language;
+      showTexts();
+      this.refresh(this.stage);
+    };
+    document.documentElement.lang = texts.language;
+    showTexts();
+  }
+
+  showAbout() {
+    const parts = ['about.what', 'about.proved', `about.${this.engine.name}`, 'about.page', 'about.naive', 'about.more'];
+    $('about-text').replaceChildren(...parts.map(key => element('p', {}, t(key))));
+  }
+}
+
+// For tests: what stands, and when nothing is under way.
+function exposed(page) {
+  const session = () => page.stage.session;
+  return {
+    rows: () => session().text(), plan: () => session().plan, kinds: () => session().kinds, look: () => session().office.look,
+    idle: async () => { await session().queue; await new Promise(requestAnimationFrame); }, timings: () => session().timings, engine: page.engine, page,
+  };
+}
+
+openEngine().then(async engine => {
+  const page = new Page(engine);
+  await page.start();
+  window.exhibit = exposed(page);
+}).catch(error => { $('message').textContent = t('fault.engine', { error: error.message ?? error }); showTexts(); });

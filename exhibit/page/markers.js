@@ -1,0 +1,53 @@
+// The list of markers: what each is about, what it does next, what it holds, and buttons to step it.
+const MANY_MARKERS = 4;
+
+function showMarkers(list, stage) {
+  const { office } = stage.session, many = office.markers.length > MANY_MARKERS;
+  list.classList.toggle('many', many);
+  const lastOf = new Map(office.events.map(event => [event.marker, event]));
+  const make = many ? makeTile : makeMarker;
+  keepList(list, office.markers, it => `${it.marker} ${many}`, it => make(it.marker, stage), (it, marker) => {
+    it.classList.toggle('working', Boolean(marker.job));
+    for (const name of ['step', 'finish']) {
+      const press = it.querySelector(`.${name}`);
+      if (press) press.disabled = !marker.job || stage.isPlaying;
+    }
+    if (many) updateTile(it, marker, office);
+    else updateMarker(it, marker, office, lastOf.get(marker.marker));
+  });
+}
+
+function makeMarker(number, stage) {
+  return element('li', { class: 'marker', 'data-marker': number, style: `--own:${markerColour(number)}` },
+    element('span', { class: 'mark', 'aria-hidden': 'true' }, number),
+    element('h3', {}), element('p', { class: 'next' }), element('p', { class: 'last' }), element('p', { class: 'holds' }),
+    element('div', { class: 'buttons' },
+      button(element('span', { 'data-t': 'step' }, t('step')), () => stage.step(number), { class: 'step' }),
+      button(element('span', { 'data-t': 'finish' }, t('finish')), () => stage.finish(number), { class: 'finish quiet' })));
+}
+
+function updateMarker(it, marker, office, last) {
+  const { job, next, held, requested } = marker;
+  setText(it.querySelector('h3'), t('marker.title', { marker: marker.marker, job: job ? jobWords(job, office) : t('idle') }));
+  setText(it.querySelector('.next'), next ? t('next', { words: stepWords(next, office) }) : '');
+  setText(it.querySelector('.last'), last?.event === 'step' ? t('last', { words: stepWords(last, office) }) : '');
+  const holds = held.length ? t('holds', { connectors: held.map(objectWords).join(', ') }) : '';
+  const wants = requested ? t('wants', { connector: objectWords(requested) }) : '';
+  setText(it.querySelector('.holds'), [holds, wants].filter(it => it).join(' '));
+  it.classList.toggle('denied', last?.event === 'step' && (last.holder !== null || last.preferred !== null));
+}
+
+function makeTile(number, stage) {
+  return element('li', { class: 'marker', 'data-marker': number, style: `--own:${markerColour(number)}` },
+    button(number, () => stage.step(number), { class: 'step' }));
+}
+
+function updateTile(it, marker, office) {
+  const words = t('marker.title', { marker: marker.marker, job: marker.job ? jobWords(marker.job, office) : t('idle') });
+  const next = marker.next ? t('next', { words: stepWords(marker.next, office) }) : '';
+  const press = it.querySelector('.step');
+  press.title = `${words}. ${next}`;
+  press.setAttribute('aria-label', press.title);
+  it.classList.toggle('holding', marker.held.length > 0);
+  it.classList.toggle('past', marker.turn !== null);
+}

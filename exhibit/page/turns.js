@@ -1,0 +1,43 @@
+// The records in the order of their turns, the audit's verdict on them, and the trouble cards.
+const MOST_SHOWN = 200;
+
+function showTurns(list, office) {
+  const shown = office.records.slice(-MOST_SHOWN);
+  const atEnd = list.scrollHeight - list.scrollTop - list.clientHeight < 40;
+  keepList(list, shown, it => `${it.turn} ${it.job.number} ${it.end} ${texts.language}`, it => makeTurn(it, office), () => {});
+  if (atEnd) list.scrollTop = list.scrollHeight;
+}
+
+function makeTurn(record, office) {
+  const words = endWords(record, office), path = [record.path, record.other].filter(it => it).join(' + ');
+  return element('li', { 'data-turn': record.turn, value: record.turn, style: `--own:${markerColour(record.marker)}` },
+    element('span', { class: 'turn' }, record.turn), element('span', { class: 'mark' }, record.marker), element('span', { class: 'words' }, words, path ? element('code', {}, path) : ''));
+}
+
+function showCards(place, office) {
+  const cards = office.records.flatMap(record => record.cards.map(card => ({ record, card }))).slice(-MOST_SHOWN);
+  place.parentElement.hidden = cards.length === 0;
+  keepList(place, cards, it => `${it.record.turn} ${it.card.trial} ${texts.language}`, it => makeCard(it, office), () => {});
+}
+
+// A trouble card as it is punched: the kind of the link, and its three digits, each in a row of ten places.
+function makeCard({ record, card }, office) {
+  const { kind, digits } = linkParts(card.link);
+  const names = [t(`punch.${kind}.0`), t(`punch.${kind}.1`), t('punch.channel')];
+  const rows = digits.map((digit, row) => element('div', { class: 'punches' }, element('span', {}, names[row]),
+    ...Array.from({ length: 10 }, (_, at) => element('i', { class: at === digit ? 'hole' : '' }, at))));
+  return element('article', { class: 'card' },
+    element('h3', {}, t('card.title'), element('b', {}, card.link)),
+    element('p', {}, t('card.says', { turn: record.turn, job: record.job.number, marker: record.marker, trial: card.trial, link: t(`link.${kind}`) })),
+    element('div', { class: 'punched', 'aria-hidden': 'true' }, ...rows));
+}
+
+// Asks the audit about these records, and shows its answer.
+async function judge(session, records, verdict) {
+  const answer = (await session.judge(records)).trim().split('\n');
+  const [, finding, place] = answer[0].split(',');
+  verdict.className = finding === 'LEGAL' ? 'legal' : 'illegal';
+  verdict.replaceChildren(element('code', {}, answer[0]), ' ', t(`audit.${finding}`, { place }));
+  if (finding === 'REPLY') verdict.append(element('pre', {}, answer.slice(1).join('\n')));
+  return answer[0];
+}
