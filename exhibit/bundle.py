@@ -21,6 +21,7 @@ import gzip
 import json
 import os
 import re
+import sys
 
 HERE = os.path.dirname(os.path.realpath(__file__))
 ROOT = os.path.dirname(HERE)
@@ -150,3 +151,19 @@ def bundle(engine_script, module=None):
         "STYLE": style, "SCRIPT": script, "TEXTS": texts, "FILMS": films, "PLANS": plans,
         "ENGINE": lambda: engine(engine_script, module),
     })
+
+
+def main():
+    """Prints the page: bundle.py ENGINE_SCRIPT [MODULE]"""
+    module = None
+    try:
+        if len(sys.argv) > 2:
+            with open(sys.argv[2], "rb") as it:
+                module = it.read()
+        sys.stdout.write(bundle(sys.argv[1], module))
+    except (BundleError, OSError) as why:
+        sys.exit(f"exhibit/bundle.py: {why}")
+
+
+if __name__ == "__main__":
+    main()
