@@ -1,0 +1,204 @@
+"""Hands of every kind: at a kiosk, at the keyboard alone, and on everything at once."""
+
+import random, time
+
+from browser import BrowserError
+from page import phone
+from scenario import scenario
+
+# Where the focus is: what it's on, and whether a visitor sees it there.
+FOCUS = """
+const here = document.activeElement;
+if (!here || here === document.body || here === document.documentElement) return {lost: true};
+const box = here.getBoundingClientRect();
+const parts = [here, here.parentElement, ...(here.labels ?? [])];
+const marked = parts.some(part => {
+    const style = getComputedStyle(part);
+    return (style.outlineStyle !== "none" && parseFloat(style.outlineWidth) >= 1) || style.boxShadow !== "none";
+});
+const inside = box.bottom > 0 && box.right > 0 && box.top < innerHeight && box.left < innerWidth;
+const name = here.tagName.toLowerCase() + (here.id ? "#" + here.id : "") + (here.className ? "." + here.className : "");
+return {lost: false, name, seen: marked && inside && box.width > 0 && box.height > 0};
+"""
+
+# Whether the focus is on the first element that fits a selector; else whether it's in the same group of controls.
+AT = """
+const wanted = document.querySelector(values[0]), here = document.activeElement;
+if (!wanted) return "absent";
+if (here === wanted || here.matches(values[0])) return "there";
+const group = "[role=tablist], [role=toolbar], [role=radiogroup], [role=listbox], [role=grid], [role=group]";
+return here.closest(group) && here.closest(group) === wanted.closest(group) ? "near" : "away";
+"""
+
+
+class Keys:
+    """A visitor who has a keyboard alone, and who must always see where the focus is."""
+
+    def __init__(self, test):
+        self.test, self.browser, self.page = test, test.browser, test.page
+
+    def press(self, name, modifiers=()):
+        self.browser.key(name, modifiers)
+        self.page.idle()
+        focus = self.browser.run(FOCUS)
+        if focus["lost"]:
+            self.test.check(name == "Tab", f"the focus is lost after {name}")
+        else:
+            self.test.check(focus["seen"], f"the focus isn't to be seen on {focus['name']}")
+
+    def go(self, css):
+        """Goes to an element with Tab, within a group of controls with the arrow keys."""
+        for _ in range(250):
+            at = self.browser.run(AT, css)
+            if at == "there":
+                return
+            if at == "near" and self._within(css):
+                return
+            self.press("Tab")
+        raise BrowserError(f"the keyboard doesn't lead to {css}")
+
+    def _within(self, css):
+        """Tries the arrow keys of a group, and says whether they led there."""
+        for arrow in ("ArrowRight", "ArrowDown"):
+            for _ in range(12):
+                self.press(arrow)
+                at = self.browser.run(AT, css)
+                if at != "near":
+                    return at == "there"
+        return False
+
+    def do(self, css, key="Enter"):
+        self.go(css)
+        self.press(key)
+
+
+def finish(keys):
+    """Presses the markers' own buttons, until all are idle."""
+    for _ in range(40):
+        if not keys.page.enabled(".marker button.finish"):
+            return
+        keys.do(".marker button.finish:enabled")
+    raise BrowserError("the markers don't come to an end by the keyboard")
+
+
+def step_and_listen(test, keys, steps):
+    """Makes steps, and compares what the live region says with the words of the step."""
+    for _ in range(steps):
+        keys.do(".marker button.step:enabled", "Space")
+        events = test.page.look()["events"]
+        said, words = test.page.text("#say"), events[-1]["says"] if events else ""
+        test.check(words and words in said, f"the live region says {said!r}, the step {words!r}")
+
+
+@scenario("h", "a call from start to end by the keyboard alone, with the focus always visible")
+def keyboard_alone(test):
+    page, keys = test.page, Keys(test)
+    page.automatic(False)
+    test.browser.run("document.activeElement.blur()")
+    keys.do(phone("0001", "button.lift"))
+    step_and_listen(test, keys, 4)
+    finish(keys)
+    page.wait_for_state("0001", ["tone"], 5)
+    for digit in "2340004":
+        keys.press(digit)
+    finish(keys)
+    page.wait_for_state("0004", ["ringing"], 5)
+    keys.do(phone("0004", "button.answer"), "Space")
+    page.wait_for_state("0001", ["talking"], 5)
+    keys.do(phone("0001", "button.hang"))
+    finish(keys)
+    page.wait_for_state("0001", ["idle"], 5)
+    live = test.browser.run("const say = document.querySelector('#say');"
+                            "return say.ariaLive || say.getAttribute('role')")
+    test.check(live in ("polite", "assertive", "status", "log", "alert"), f"#say is no live region: {live}")
+    test.check(page.ends()[:2] == ["DIALTONE", "CONNECTED"], f"the records end {page.ends()}")
+    test.check_office("by the keyboard")
+
+
+@scenario("h2", "the tabs and the choice of a phone by the arrow keys")
+def arrow_keys(test):
+    keys = Keys(test)
+    keys.go('[role=tab][data-mode="day"]')
+    for _ in range(4):
+        keys.press("ArrowRight")
+        if test.browser.run("return document.activeElement.dataset.mode") == "break":
+            break
+    keys.press("Enter")
+    mode = test.browser.run("return document.body.dataset.mode")
+    test.check(mode == "break", f"the arrow keys and Enter lead from day to {mode}")
+
+
+SIGHT = "return document.body.dataset.mode + exhibit.rows()"
+LINKS_OUT = """
+const here = location.href.split("#")[0], parts = [...document.querySelectorAll("a[href], area[href], form, iframe")];
+return parts.filter(part => part.checkVisibility() && (part.href ?? "x").split("#")[0] !== here)
+    .map(part => part.outerHTML.slice(0, 100));
+"""
+
+
+def check_attract(test, end):
+    """The page begins to play by itself, and ends that when a visitor comes."""
+    page, browser = test.page, test.browser
+    page.open("#kiosk=2")
+    first = browser.run(SIGHT)
+    browser.wait("return document.body.dataset.mode + exhibit.rows() !== values[0]", 20, first)
+    time.sleep(1)
+    end()
+    time.sleep(0.5)
+    page.idle()
+    sights = [browser.run(SIGHT)]
+    time.sleep(1)
+    sights.append(browser.run(SIGHT))
+    test.check(sights[0] == sights[1], "the page goes on by itself after a visitor came")
+    browser.wait("return document.body.dataset.mode + exhibit.rows() !== values[0]", 20, sights[1])
+
+
+@scenario("g", "kiosk: the page plays by itself, a key or a touch ends that, and no link leads out")
+def kiosk(test):
+    browser = test.browser
+    check_attract(test, lambda: browser.key("Enter"))
+    browser.size(1280, 720, touch=True)
+    check_attract(test, lambda: browser.tap(640, 360))
+    links = browser.run(LINKS_OUT)
+    test.check(not links, f"links lead out of the page: {links}")
+
+
+# A button that can be pressed, or a place of the window, but for those that ask for a file or lead away.
+ANYTHING = """
+const [wanted, x, y] = values, away = "input[type=file], label:has(input[type=file]), label[for=file], a[href]:not([href^='#'])";
+const buttons = [...document.querySelectorAll("button, select, input, [role=tab], summary")]
+    .filter(part => !part.disabled && part.checkVisibility() && !part.matches(away) && !part.closest(away));
+if (wanted < 0 || !buttons.length) return document.elementFromPoint(x, y)?.closest(away) ? null : [x, y];
+const part = buttons[wanted % buttons.length];
+part.scrollIntoView({block: "nearest", behavior: "instant"});
+const box = part.getBoundingClientRect();
+return [box.left + box.width / 2, box.top + box.height / 2];
+"""
+KEYS = [*"0123456789", "Tab", "Tab", "Tab", "Enter", "Enter", "Space", "Escape", "ArrowLeft", "ArrowRight", "ArrowUp",
+        "ArrowDown", "Home", "End", "PageDown", *"abemrsuz?"]
+
+
+def press_anything(browser, chance, width, height):
+    """One act of a visitor who doesn't look."""
+    if chance.random() < 0.4:
+        return browser.key(chance.choice(KEYS), ["Shift"] if chance.random() < 0.1 else [])
+    wanted = chance.randrange(1000) if chance.random() < 0.7 else -1
+    place = browser.run(ANYTHING, wanted, chance.randrange(width), chance.randrange(height))
+    if place and 0 <= place[0] < width and 0 <= place[1] < height:
+        browser.press(*place)
+
+
+@scenario("i", "300 random clicks and keys in 10 seconds leave an office that the program accepts")
+def everything_at_once(test):
+    page, browser = test.page, test.browser
+    for seed in range(3):
+        page.open()
+        chance, begun, acts = random.Random(seed), time.monotonic(), 0
+        while acts < 300:
+            press_anything(browser, chance, 1280, 720)
+            acts += 1
+            time.sleep(max(0, acts / 30 - (time.monotonic() - begun)))
+        test.figure(f"{acts} acts in {time.monotonic() - begun:.1f} s, {len(page.rows().splitlines())} rows,"
+                    f" mode {browser.run('return document.body.dataset.mode')}")
+        page.rest()
+        test.check_office(f"visitor {seed}")

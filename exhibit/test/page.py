@@ -1,0 +1,192 @@
+"""The exhibit's page as a visitor handles it: phones, markers, tabs, films, files."""
+
+import time
+
+from browser import BrowserError
+
+# What a visitor can do now, and what the office says, in one call.
+SITUATION = """
+await exhibit.idle();
+const all = css => [...document.querySelectorAll(css)], look = exhibit.look();
+return {
+    phones: Object.fromEntries(all(".phone").map(phone => [phone.dataset.number, phone.dataset.state])),
+    steps: all(".marker button.step:enabled").map(button => button.closest(".marker").dataset.marker),
+    undo: all("#undo:enabled").length > 0, one: all("#one:enabled").length > 0,
+    jobs: look.markers.filter(marker => marker.job).length,
+    ends: look.records.map(record => [record.job.kind, record.job.line, record.end]),
+};
+"""
+
+# The films by the values that choose them, and which kind of control chooses.
+FILMS = """
+const list = document.querySelector("select#film, select#films");
+if (list) return {list: "#" + list.id, names: [...list.options].map(option => option.value)};
+return {list: null, names: [...document.querySelectorAll("[data-film]")].map(part => part.dataset.film)};
+"""
+
+SELECT = """
+const list = document.querySelector(values[0]);
+list.value = values[1];
+for (const kind of ["input", "change"]) list.dispatchEvent(new Event(kind, {bubbles: true}));
+"""
+
+
+def phone(number, part=""):
+    """The selector of a phone, or of a part of it such as `button.lift`."""
+    return f'.phone[data-number="{number}"] {part}'.strip()
+
+
+def marker(number, part="button.step"):
+    return f'.marker[data-marker="{number}"] {part}'
+
+
+class Page:
+    def __init__(self, browser, address):
+        self.browser, self.address = browser, address
+
+    def open(self, fragment=""):
+        """Loads the page anew, and waits until it shows the empty office."""
+        self.browser.open(self.address + fragment)
+        self.browser.wait("return window.exhibit && await exhibit.idle().then(() => exhibit.look())", 60)
+
+    def idle(self):
+        self.browser.run("await exhibit.idle()")
+
+    def press(self, css):
+        """Clicks, and waits until the click is answered and drawn."""
+        self.browser.click(css)
+        self.idle()
+
+    def enabled(self, css):
+        return self.browser.run("return !!document.querySelector(values[0] + ':enabled')", css)
+
+    def text(self, css):
+        """The text of an element, empty if it isn't there."""
+        return self.browser.run("return document.querySelector(values[0])?.textContent.trim() ?? ''", css)
+
+    def count(self, css):
+        return self.browser.run("return document.querySelectorAll(values[0]).length", css)
+
+    # What the page holds.
+
+    def rows(self):
+        return self.browser.run("return exhibit.rows()")
+
+    def plan(self):
+        return self.browser.run("return exhibit.plan()")
+
+    def kinds(self):
+        return self.browser.run("return exhibit.kinds()")
+
+    def look(self):
+        return self.browser.run("return exhibit.look()")
+
+    def situation(self):
+        return self.browser.run(SITUATION)
+
+    def state(self, number):
+        return self.browser.run("return document.querySelector(values[0])?.dataset.state", phone(number))
+
+    def ends(self):
+        """The ends of the records so far."""
+        return [record["end"] for record in self.look()["records"]]
+
+    # What a visitor does.
+
+    def mode(self, name):
+        self.press(f'[role=tab][data-mode="{name}"]')
+        self.browser.wait("return document.body.dataset.mode === values[0]", 20, name)
+        self.idle()
+
+    def language(self, name):
+        self.browser.run(SELECT, "#language", name)
+        self.browser.wait("return document.documentElement.lang.startsWith(values[0])", 10, name)
+        self.idle()
+
+    def automatic(self, wanted, speed=None):
+        """Lets the markers work by themselves or not; at `End` the speed is the highest."""
+        if speed:
+            self.browser.run("document.querySelector('#speed').focus()")
+            self.browser.key(speed)
+        if self.browser.run("return document.querySelector('#auto').checked") != wanted:
+            self.browser.click("#auto")
+        if not wanted:
+            self.idle()
+
+    def lift(self, number):
+        self.press(phone(number, "button.lift"))
+
+    def choose(self, number):
+        """Chooses a phone, unless it's chosen."""
+        if self.browser.run("return document.querySelector(values[0]).ariaCurrent", phone(number)) != "true":
+            self.press(phone(number, "button.choose"))
+
+    def dial(self, number, digits, by="keyboard"):
+        """Dials digits at a phone by the keyboard, the `keypad` or the `rotary` dial."""
+        self.choose(number)
+        for digit in digits:
+            if by == "keyboard":
+                self.browser.key(digit)
+            else:
+                css = f'#{by} button[data-digit="{digit}"]'
+                self.browser.wait("return document.querySelector(values[0] + ':enabled')?.dataset.digit", 10, css)
+                self.browser.click(css)
+            self.idle()
+
+    def finish(self, most=200):
+        """Lets one marker after another finish, until all are idle."""
+        for _ in range(most):
+            if not self.enabled(".marker button.finish"):
+                return
+            self.press(".marker button.finish:enabled")
+        raise BrowserError("the markers don't come to an end")
+
+    def call(self, number, digits, by="keyboard"):
+        """Lifts a receiver, dials, and lets the markers finish."""
+        self.lift(number)
+        self.finish()
+        self.dial(number, digits, by)
+        self.finish()
+
+    def wait_for_state(self, number, states, seconds=20):
+        self.browser.wait("return values[1].includes(document.querySelector(values[0])?.dataset.state)", seconds,
+                          phone(number), states)
+        self.idle()
+
+    def wait_until_still(self, still=1.5, most=120):
+        """Waits until the rows have been the same for some seconds."""
+        rows, since, end = self.rows(), time.monotonic(), time.monotonic() + most
+        while time.monotonic() - since < still:
+            if time.monotonic() > end:
+                raise BrowserError(f"the office is still at work after {most} seconds")
+            time.sleep(0.1)
+            now = self.rows()
+            if now != rows:
+                rows, since = now, time.monotonic()
+        self.idle()
+
+    def rest(self):
+        """Stops what goes on by itself, also what was still to come when it was stopped."""
+        for _ in range(5):
+            self.automatic(False)
+            self.wait_until_still()
+            if not self.browser.run("return document.querySelector('#auto').checked"):
+                return
+        raise BrowserError("the markers can't be stopped")
+
+    def films(self):
+        return self.browser.run(FILMS)["names"]
+
+    def play(self, name):
+        """Chooses a film and lets it play as fast as it can."""
+        chooser = self.browser.run(FILMS)["list"]
+        if chooser:
+            self.browser.run(SELECT, chooser, name)
+        else:
+            self.browser.click(f'[data-film="{name}"]')
+        self.automatic(True, "End")
+
+    def drop(self, path):
+        self.browser.drop_file("body", path)
+        time.sleep(0.1)
+        self.idle()

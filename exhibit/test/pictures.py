@@ -1,0 +1,71 @@
+"""Screenshots of what a visitor sees at the page's best moments, at three sizes; for --pictures alone."""
+
+import os
+
+import plans
+from page import marker, phone
+from scenario import scenario
+from texts import SIZES
+
+
+def take(test, name):
+    os.makedirs(test.options.pictures, exist_ok=True)
+    for width, height in SIZES:
+        test.browser.size(width, height, touch=width < 600)
+        test.page.idle()
+        test.browser.run("scrollTo(0, 0)")
+        test.browser.screenshot(os.path.join(test.options.pictures, f"{name}-{width}x{height}.png"))
+    test.browser.size(1280, 720)
+
+
+def drop(test, name, content):
+    test.page.drop(test.file(name, content))
+    test.page.wait_until_still()
+
+
+def call(test):
+    test.page.call("0001", "2340004")
+    test.page.press(phone("0004", "button.answer"))
+    take(test, "call")
+
+
+def meeting(test):
+    """Two markers that want one frame, at the step at which one is denied it."""
+    for number in ("0001", "0002"):
+        test.page.lift(number)
+    for name in ("0", "1", "0", "1"):
+        if test.page.enabled(marker(name)):
+            test.page.press(marker(name))
+    take(test, "meeting")
+
+
+def trouble(test):
+    drop(test, "faults.toml", plans.plan_with_faults())
+    test.page.lift("0001")
+    test.page.finish()
+    take(test, "trouble")
+
+
+def forty_paths(test):
+    drop(test, "full.toml", plans.full_plan())
+    drop(test, "dials.csv", plans.dials(40))
+    paths = len(test.page.look()["records"])
+    test.check(paths == 40, f"{paths} jobs are done, not 40")
+    take(test, "forty-paths")
+
+
+def rush(test):
+    test.page.mode("rush")
+    test.page.automatic(True, "End")
+    test.browser.wait("return exhibit.look().records.length >= 20", 30)
+    take(test, "rush")
+
+
+@scenario("pictures", "screenshots of a call, a meeting, a trouble card, forty paths, the rush hour")
+def screenshots(test):
+    for act in (call, meeting, trouble, forty_paths, rush):
+        test.page.open()
+        if act is not rush:
+            test.page.automatic(False)
+        act(test)
+    test.figure(f"{len(SIZES) * 5} pictures in {test.options.pictures}")

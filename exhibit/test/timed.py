@@ -1,0 +1,42 @@
+"""How long a visitor waits for a step, by the page's own figures."""
+
+import statistics
+
+import plans
+from scenario import scenario
+
+SAMPLES = 40
+
+
+def time_steps(test, what, limit):
+    """Makes steps of whichever marker has a job, and compares the times with the limit."""
+    page, taken = test.page, []
+    while len(taken) < SAMPLES and page.enabled("#one"):
+        page.press("#one")
+        taken.append(test.browser.run("return exhibit.timings()")[-1])
+    if not test.check(taken, f"{what}: there was no step to make"):
+        return
+    middle, most = statistics.median(taken), max(taken)
+    test.figure(f"{what}: {len(taken)} steps, median {middle:.1f} ms, most {most:.1f} ms, at most {limit} wanted")
+    test.check(middle <= limit, f"{what}: a step takes {middle:.1f} ms, more than {limit}")
+
+
+@scenario("k1", "a step is answered and drawn within 16 ms with the example plan")
+def times_of_the_example(test):
+    test.page.automatic(False)
+    for number in ("0001", "0003"):
+        test.page.lift(number)
+    time_steps(test, "the example plan", 16)
+
+
+@scenario("k2", "a step is answered and drawn within 50 ms with a full plan and 100 jobs behind it")
+def times_of_a_full_plan(test):
+    page = test.page
+    page.automatic(False)
+    page.drop(test.file("full.toml", plans.full_plan()))
+    rows = plans.calls(50)
+    page.drop(test.file("calls.csv", rows + "J,0,9999,D,9954\n"))
+    page.wait_until_still()
+    records = page.look()["records"]
+    test.check(len(records) == 100, f"{len(records)} jobs are behind the step, not 100")
+    time_steps(test, "a full plan after 100 jobs", 50)
