@@ -14,7 +14,7 @@ class BreakStage extends Stage {
         button(element('span', { 'data-t': 'break.both' }), () => this.lift(...this.wanted), { id: 'both', class: 'main' }),
         button(element('span', { 'data-t': 'break.random' }), () => this.random(), { id: 'random' })),
       element('section', { class: 'naive' }, element('h3', { 'data-t': 'naive.mark' }), this.told,
-        element('p', { class: 'buttons' }, button(element('span', { 'data-t': 'break.judge' }), () => this.judgeBoth(), { id: 'audit-both' })),
+        element('p', { class: 'buttons' }, button(element('span', { 'data-t': 'break.judge' }), () => this.judge(), { id: 'audit-both' })),
         this.verdict));
   }
 
@@ -35,8 +35,8 @@ class BreakStage extends Stage {
     if (working.length) await this.step(working[Math.floor(Math.random() * working.length)].marker);
   }
 
-  async judgeBoth() {
-    await judge(this.session, this.session.recordsText(), $('verdict'));
+  async judge() {
+    await super.judge();
     await judge(this.session, this.naive.records.map(recordText).join('') + cardsText(this.naive.records), this.verdict);
   }
 

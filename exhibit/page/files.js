@@ -52,7 +52,7 @@ class Files {
     const { day } = this.page.stages;
     await this.page.choose('day');
     await day.begin(text, 'XX');
-    this.tell(t('file.plan', { name }));
+    this.tell('', t('file.plan', { name }));
   }
 
   // A film of these rows, in an office with the plan that is shown; with 48 markers where they need more.
@@ -67,12 +67,13 @@ class Files {
     if (fault) return this.tell(t('file.refused', { name, why: faultWords(fault) }));
     await this.page.choose('film');
     await this.page.stages.film.bring(name, plan, taken, rowsOf(text));
-    this.tell(t('file.rows', { name, count: this.page.stages.film.film.rows.length }));
+    this.tell('', t('file.rows', { name, count: this.page.stages.film.film.rows.length }));
   }
 
-  tell(words) {
-    setText($('files-message'), words);
-    this.page.stage.message = words;
+  // Tells what is wrong, or that all went well.
+  tell(wrong, well = '') {
+    setText($('files-message'), wrong || well);
+    this.page.stage.message = wrong;
     this.page.refresh(this.page.stage);
   }
 }

@@ -1,5 +1,7 @@
 // Film: rows that play by themselves, step by step, with a sentence for each stage. The page brings some; a
 // lesson's own are added by dropping a file.
+const MOST_PLAYED = 1000;
+
 class FilmStage extends Stage {
   constructor(engine, changed) {
     super('film', engine, changed);
@@ -65,10 +67,13 @@ class FilmStage extends Stage {
     this.tell(await this.session.inTurn(() => this.session.addNow([left], { rows: rows + 1, steps: 0 })));
   }
 
-  // Takes a film that a visitor brought, and shows it from its beginning.
+  // Takes a film that a visitor brought, and shows it from its beginning; one of many rows at its end.
   async bring(name, plan, kinds, rows) {
-    this.films = [...this.films.filter(it => it.name !== name), { name, plan, kinds, rows, isBrought: true }];
-    await this.play(this.films[this.films.length - 1]);
+    this.film = { name, plan, kinds, rows, isBrought: true };
+    this.films = [...this.films.filter(it => it.name !== name), this.film];
+    if (rows.length <= MOST_PLAYED) return this.play(this.film);
+    this.auto = false;
+    this.tell(await this.session.open(plan, kinds, [...rows], { rows: rows.length, steps: 0 }));
   }
 
   show() {

@@ -41,9 +41,21 @@ class Page {
     else await stage.begin();
   }
 
+  // Shows what has changed. Where the element that has the focus can't have it any more, one near it gets it.
   refresh(stage) {
     if (stage !== this.stage || !stage.session.office) return;
-    const { office } = stage.session;
+    const focused = document.activeElement;
+    this.show(stage, stage.session.office);
+    if (focused !== document.body && (focused.disabled || !focused.isConnected)) this.focusNear(focused);
+  }
+
+  focusNear(lost) {
+    const places = [lost.closest('.phone, .marker, .buttons'), document.querySelector('.phone[aria-current="true"]'), $('work')];
+    const next = places.map(it => it?.querySelector('button:enabled:not(.choose)')).find(it => it);
+    (next ?? $('panel')).focus();
+  }
+
+  show(stage, office) {
     stage.show();
     this.picture.show(office, stage.lines);
     if (stage.naive) this.naive.show(new Office(stage.naive.look, true), stage.lines, stage.naive.shared);
@@ -91,7 +103,7 @@ class Page {
     $('one').onclick = () => now().one();
     $('undo').onclick = () => { now().auto = false; return now().undo(); };
     $('again').onclick = () => { $('verdict').replaceChildren(); return now().again(); };
-    $('audit').onclick = () => judge(now().session, now().session.recordsText(), $('verdict'));
+    $('audit').onclick = () => now().judge();
     for (const name of ['files', 'about']) $(name).onclick = () => { this.showAbout(); $(`${name}-dialog`).showModal(); };
     for (const close of document.querySelectorAll('dialog .close')) close.onclick = () => close.closest('dialog').close();
     document.addEventListener('keydown', event => this.typed(event));
@@ -119,11 +131,16 @@ class Page {
     choice.value = texts.language;
     choice.onchange = () => {
       texts.use(choice.value);
-      document.documentElement.lang = texts.language;
-      showTexts();
+      this.showTexts();
       this.refresh(this.stage);
     };
+    this.showTexts();
+  }
+
+  showTexts() {
     document.documentElement.lang = texts.language;
+    document.title = t('title');
+    for (const verdict of document.querySelectorAll('output')) verdict.replaceChildren();
     showTexts();
   }
 

@@ -2,14 +2,18 @@
 class Picture {
   constructor(place) {
     this.place = place;
-    new ResizeObserver(() => this.show()).observe(place);
+    this.size = { width: 0, height: 0 };
+    new ResizeObserver(([{ contentRect: { width, height } }]) => {
+      this.size = { width: Math.floor(width), height: Math.floor(height) };
+      this.show();
+    }).observe(place);
   }
 
   // Shows an office. `lines` are lines that get a label even while nothing is closed for them, `shared` links that
   // carry more than one call.
   show(office = this.office, lines = this.lines ?? [], shared = this.shared ?? []) {
     Object.assign(this, { office, lines, shared });
-    const { clientWidth: width, clientHeight: height } = this.place;
+    const { width, height } = this.size;
     if (!office || width < 200 || height < 200) return;
     const key = [width, height, texts.language, office.plan.faults].join();
     if (this.key !== key) this.drawOffice(width, height, key);

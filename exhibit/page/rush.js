@@ -1,5 +1,5 @@
 // Rush hour: 48 markers, and lines that lift, dial and hang up by chance. It ends after a number of jobs.
-const RUSH_MARKERS = 48, RUSH_JOBS = 1000, RUSH_LINES = 40;
+const RUSH_MARKERS = 48, RUSH_JOBS = 1000, RUSH_LINES = 40, MOST_AT_ONCE = 28;
 
 class RushStage extends Stage {
   constructor(engine, changed) {
@@ -11,13 +11,13 @@ class RushStage extends Stage {
       element('p', { class: 'buttons' }, button(element('span', {}), () => { this.auto = !this.auto; this.changed(); }, { id: 'pause', class: 'main' })), this.told);
   }
 
-  // Several steps at once at the higher speeds: each is an action of its own, which one undo takes back.
-  async autoStep() { return this.act(this.speed < 7 ? 1 : this.speed < 9 ? 4 : this.speed < 10 ? 12 : 40); }
+  // At the higher speeds several markers make some steps each before they are shown. One undo takes back those of one.
+  async autoStep() { return this.act(this.speed < 6 ? 1 : this.speed < 8 ? 3 : this.speed < 10 ? 6 : 12, this.speed > 3); }
 
   async one() { return this.act(1); }
 
-  async act(count) {
-    const fault = await this.session.inTurn(() => this.session.addNow(this.chooseRows(count), this.session.visitor, false, true));
+  async act(count, isFast = false) {
+    const fault = await this.session.inTurn(() => this.session.addNow(this.chooseRows(count, isFast), this.session.visitor, false, true));
     if (this.isOver) this.auto = false;
     return this.tell(fault);
   }
@@ -25,13 +25,13 @@ class RushStage extends Stage {
   get isOver() { return this.session.nextJob() === null || this.session.nextJob() >= RUSH_JOBS; }
 
   // Rows by chance: jobs for idle markers now and then, and steps of those that have jobs.
-  chooseRows(count) {
+  chooseRows(count, isFast) {
     const { office } = this.session, rows = [];
     const working = office.markers.filter(it => it.job).map(it => it.marker), idle = office.markers.filter(it => !it.job).map(it => it.marker);
     const lines = new Set(office.markers.flatMap(it => it.job?.line ?? []));
     let number = this.isOver ? null : this.session.nextJob();
     for (; count > 0; count--) {
-      const job = number !== null && idle.length && (!working.length || Math.random() < 0.06) ? this.chooseJob(office, lines) : null;
+      const job = number !== null && idle.length && (!working.length || Math.random() < (isFast ? 0.3 : 0.06)) ? this.chooseJob(office, lines) : null;
       if (job) {
         const marker = idle.splice(Math.floor(Math.random() * idle.length), 1)[0];
         rows.push(assignment(marker, number, job.kind, job.args));
@@ -39,7 +39,7 @@ class RushStage extends Stage {
         working.push(marker);
         number = number + 1 < RUSH_JOBS ? number + 1 : null;
       } else if (working.length) {
-        rows.push(steps(working[Math.floor(Math.random() * working.length)], 1));
+        rows.push(steps(chosen(working), isFast ? 1 + Math.floor(Math.random() ** 2 * MOST_AT_ONCE) : 1));
       }
     }
     return rows;

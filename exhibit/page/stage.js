@@ -55,6 +55,9 @@ class Stage {
 
   async again() { return this.begin(); }
 
+  // Asks the audit about what was done.
+  async judge() { return judge(this.session, this.session.recordsText(), $('verdict')); }
+
   show() {}
 }
 

@@ -2,10 +2,12 @@
 const MOST_SHOWN = 200;
 
 function showTurns(list, office) {
-  const shown = office.records.slice(-MOST_SHOWN);
-  const atEnd = list.scrollHeight - list.scrollTop - list.clientHeight < 40;
+  const shown = office.records.slice(-MOST_SHOWN), last = `${texts.language} ${office.records.length}`;
+  if (list.dataset.last === last && shown.length === list.children.length) return;
+  list.dataset.last = last;
+  list.tabIndex = shown.length ? 0 : -1;
   keepList(list, shown, it => `${it.turn} ${it.job.number} ${it.end} ${texts.language}`, it => makeTurn(it, office), () => {});
-  if (atEnd) list.scrollTop = list.scrollHeight;
+  list.scrollTop = list.scrollHeight;
 }
 
 function makeTurn(record, office) {
@@ -25,7 +27,7 @@ function makeCard({ record, card }, office) {
   const { kind, digits } = linkParts(card.link);
   const names = [t(`punch.${kind}.0`), t(`punch.${kind}.1`), t('punch.channel')];
   const rows = digits.map((digit, row) => element('div', { class: 'punches' }, element('span', {}, names[row]),
-    ...Array.from({ length: 10 }, (_, at) => element('i', { class: at === digit ? 'hole' : '' }, at))));
+    ...Array.from({ length: 10 }, (_, at) => element('i', { class: at === digit ? 'hole' : '' }, at === digit ? '' : at))));
   return element('article', { class: 'card' },
     element('h3', {}, t('card.title'), element('b', {}, card.link)),
     element('p', {}, t('card.says', { turn: record.turn, job: record.job.number, marker: record.marker, trial: card.trial, link: t(`link.${kind}`) })),
