@@ -12,7 +12,7 @@ class RushStage extends Stage {
   }
 
   // At the higher speeds several markers make some steps each before they are shown. One undo takes back those of one.
-  async autoStep() { return this.act(this.speed < 6 ? 1 : this.speed < 8 ? 3 : this.speed < 10 ? 6 : 12, this.speed > 3); }
+  async autoStep() { return this.act(this.speed < 6 ? 1 : this.speed < 8 ? 3 : this.speed < 10 ? 8 : 20, this.speed > 3); }
 
   async one() { return this.act(1); }
 
@@ -24,11 +24,13 @@ class RushStage extends Stage {
 
   get isOver() { return this.session.nextJob() === null || this.session.nextJob() >= RUSH_JOBS; }
 
-  // Rows by chance: jobs for idle markers now and then, and steps of those that have jobs.
+  // Rows by chance: jobs for idle markers now and then, and steps of those that have jobs, at the higher speeds rather
+  // of those that hold a connector.
   chooseRows(count, isFast) {
     const { office } = this.session, rows = [];
     const working = office.markers.filter(it => it.job).map(it => it.marker), idle = office.markers.filter(it => !it.job).map(it => it.marker);
     const lines = new Set(office.markers.flatMap(it => it.job?.line ?? []));
+    const holding = office.markers.filter(it => it.held.length).map(it => it.marker);
     let number = this.isOver ? null : this.session.nextJob();
     for (; count > 0; count--) {
       const job = number !== null && idle.length && (!working.length || Math.random() < (isFast ? 0.3 : 0.06)) ? this.chooseJob(office, lines) : null;
@@ -39,7 +41,8 @@ class RushStage extends Stage {
         working.push(marker);
         number = number + 1 < RUSH_JOBS ? number + 1 : null;
       } else if (working.length) {
-        rows.push(steps(chosen(working), isFast ? 1 + Math.floor(Math.random() ** 2 * MOST_AT_ONCE) : 1));
+        const marker = isFast && holding.length && Math.random() < 0.5 ? chosen(holding) : chosen(working);
+        rows.push(steps(marker, isFast ? 1 + Math.floor(Math.random() ** 2 * MOST_AT_ONCE) : 1));
       }
     }
     return rows;
