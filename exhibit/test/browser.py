@@ -214,17 +214,16 @@ class Browser(ABC):
 
     def downloaded(self, act, seconds=20):
         """Does `act`, waits for the file that the page saves, and gives its name and bytes."""
-        before = set(os.listdir(self.downloads))
+        for name in os.listdir(self.downloads):
+            os.remove(os.path.join(self.downloads, name))
         act()
         end = time.monotonic() + seconds
         while time.monotonic() < end:
-            new = [name for name in os.listdir(self.downloads) if name not in before]
-            unfinished = [name for name in new if name.endswith((".crdownload", ".part", ".tmp"))]
-            if new and not unfinished and not name_begins_hidden(new):
-                time.sleep(0.05)
-                with open(os.path.join(self.downloads, new[0]), "rb") as file:
-                    return new[0], file.read()
-            time.sleep(0.02)
+            time.sleep(0.03)
+            names = os.listdir(self.downloads)
+            if names and not any(is_unfinished(name) for name in names):
+                with open(os.path.join(self.downloads, names[0]), "rb") as file:
+                    return names[0], file.read()
         raise BrowserError(f"no file was saved within {seconds} seconds")
 
     def close(self):
@@ -242,9 +241,9 @@ class Browser(ABC):
         self.close()
 
 
-def name_begins_hidden(names):
-    """Whether one of these files is hidden, as Chromium's are while it writes them."""
-    return any(name.startswith(".") for name in names)
+def is_unfinished(name):
+    """Whether a browser is still writing the file of this name."""
+    return name.startswith(".") or name.endswith((".crdownload", ".part", ".tmp"))
 
 
 def wrapped(javascript):

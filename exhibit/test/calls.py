@@ -67,15 +67,16 @@ def random_orders(test):
 
 
 def check_saved(test, where):
-    """The saved rows are the page's, and the saved records what the program replays of them."""
+    """The saved rows are the page's, and the saved records what the program replays of them, with or without counts."""
     page, rows = test.page, test.page.rows()
-    _, saved = test.browser.downloaded(lambda: test.browser.click("#save-rows"))
-    test.check(saved.decode() == rows, f"{where}: the saved rows aren't those of the page")
-    _, saved = test.browser.downloaded(lambda: test.browser.click("#save-records"))
+    test.check(page.save("#save-rows") == rows, f"{where}: the saved rows aren't those of the page")
     replayed = test.program.replay(page.plan(), page.kinds(), rows)
-    test.check(saved.decode() == replayed, f"{where}: the saved records aren't those of a replay")
-    _, saved = test.browser.downloaded(lambda: test.browser.click("#save-svg"))
-    test.check(is_drawing(saved), f"{where}: the saved picture is no SVG")
+    test.check(without_counts(page.save("#save-records")) == without_counts(replayed), f"{where}: the saved records aren't those of a replay")
+    test.check(is_drawing(page.save("#save-svg")), f"{where}: the saved drawing is no SVG")
+
+
+def without_counts(records):
+    return "".join(line for line in records.splitlines(True) if not line.startswith(("PATHS,", "CLOSED,")))
 
 
 def is_drawing(saved):
@@ -146,6 +147,7 @@ class Told:
 @scenario("b3", "a busy line, a wrong code, a wrong number, all trunks busy: each is told as it is")
 def calls_in_vain(test):
     told, page = Told(test), test.page
+    page.automatic(False)
     page.lift("0003")
     page.finish()
     for digits, end in (("2340003", "CALLEDBUSY"), ("9990001", "VACANTCODE"), ("2349999", "VACANTNUMBER")):
@@ -165,6 +167,7 @@ def calls_in_vain(test):
 def calls_across(test):
     """The first to take its turn finds the other busy, and then has no path: the other reaches it."""
     page = test.page
+    page.automatic(False)
     for number in ("0001", "0002"):
         page.lift(number)
     page.finish()

@@ -34,26 +34,29 @@ def race(test, seed):
         if not steps:
             break
         page.press(marker(order.choose(steps)))
-    page.press("#audit")
+    page.press("#audit-both")
     page.browser.wait("return document.querySelector('#naive-verdict').textContent.trim()", 20)
 
 
 @scenario("c", "try to break it: the naive office gives one link to two calls, the office never")
 def try_to_break(test):
-    page, broken = test.page, 0
+    page, broken, alarms = test.page, 0, 0
     for seed in range(ORDERS_TO_BREAK):
         race(test, seed)
         where = f"order {seed}"
         test.check_audit(where)
         test.check_office(where)
         verdict = page.text("#naive-verdict")
-        if "LEGAL" not in verdict:
+        shared = page.count("#naive .link.alarm")
+        if "AUDIT,LEGAL" not in verdict:
             broken += 1
-            test.check(page.text("#naive").replace(verdict, "").strip(), f"{where}: the naive office shows nothing")
+        test.check(not page.count("#picture .link.alarm"), f"{where}: the office shows two calls on one link")
+        test.check(not shared or "AUDIT,REPLY" in verdict, f"{where}: the naive office shows two calls on a link, {verdict}")
+        alarms += bool(shared)
         paths = [record["path"] for record in page.look()["records"]]
         test.check(len(set(paths)) == len(paths), f"{where}: the office has two calls on one path: {paths}")
-    test.check(broken, f"the naive office wasn't broken in {ORDERS_TO_BREAK} orders")
-    test.figure(f"the naive office was broken in {broken} of {ORDERS_TO_BREAK} orders")
+    test.check(alarms, f"the naive office shows no link with two calls in {ORDERS_TO_BREAK} orders")
+    test.figure(f"of {ORDERS_TO_BREAK} orders {broken} broke the naive office, {alarms} show two calls on one link")
 
 
 @scenario("d", "rush hour: 48 markers, a pause, a step, back, and the audit")

@@ -25,8 +25,7 @@ SETTINGS = {
     "browser.helperApps.neverAsk.saveToDisk": "text/csv,text/plain,image/svg+xml,application/octet-stream",
     "datareporting.policy.dataSubmissionEnabled": False, "toolkit.telemetry.reportingpolicy.firstRun": False,
     "extensions.update.enabled": False, "extensions.getAddons.cache.enabled": False,
-    "services.settings.server": "http://127.0.0.1:9/", "devtools.console.stdout.content": True,
-    "devtools.console.stdout.chrome": False,
+    "devtools.console.stdout.content": True, "devtools.console.stdout.chrome": False,
     "dom.disable_beforeunload": True, "dom.file.createInChild": True, "privacy.reduceTimerPrecision": False,
     "toolkit.startup.max_resumed_crashes": -1, "dom.max_script_run_time": 0, "ui.systemUsesDarkTheme": 0,
 }

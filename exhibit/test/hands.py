@@ -18,7 +18,8 @@ const marked = parts.some(part => {
 });
 const inside = box.bottom > 0 && box.right > 0 && box.top < innerHeight && box.left < innerWidth;
 const name = here.tagName.toLowerCase() + (here.id ? "#" + here.id : "") + (here.className ? "." + here.className : "");
-return {lost: false, name, seen: marked && inside && box.width > 0 && box.height > 0};
+const why = !marked ? "has no mark" : !inside ? "is outside the window" : !box.width || !box.height ? "has no size" : "";
+return {lost: false, name, why};
 """
 
 # Whether the focus is on the first element that fits a selector; else whether it's in the same group of controls.
@@ -26,7 +27,7 @@ AT = """
 const wanted = document.querySelector(values[0]), here = document.activeElement;
 if (!wanted) return "absent";
 if (here === wanted || here.matches(values[0])) return "there";
-const group = "[role=tablist], [role=toolbar], [role=radiogroup], [role=listbox], [role=grid], [role=group]";
+const group = "[role=tablist], [role=toolbar], [role=radiogroup], [role=listbox], [role=grid]";
 return here.closest(group) && here.closest(group) === wanted.closest(group) ? "near" : "away";
 """
 
@@ -36,15 +37,19 @@ class Keys:
 
     def __init__(self, test):
         self.test, self.browser, self.page = test, test.browser, test.page
+        self.lost = True  # nothing has the focus at first
 
     def press(self, name, modifiers=()):
+        """Presses a key. Only Tab may lead out of the page, at its end; no other key may lose the focus."""
+        was_lost, before = self.lost, self.browser.run(FOCUS)
         self.browser.key(name, modifiers)
         self.page.idle()
         focus = self.browser.run(FOCUS)
-        if focus["lost"]:
-            self.test.check(name == "Tab", f"the focus is lost after {name}")
+        self.lost = focus["lost"]
+        if self.lost:
+            self.test.check(was_lost or name == "Tab", f"the focus is lost after {name} on {before.get('name')}")
         else:
-            self.test.check(focus["seen"], f"the focus isn't to be seen on {focus['name']}")
+            self.test.check(not focus["why"], f"the focus on {focus['name']} isn't to be seen: it {focus['why']}")
 
     def go(self, css):
         """Goes to an element with Tab, within a group of controls with the arrow keys."""
@@ -163,13 +168,17 @@ def kiosk(test):
     test.check(not links, f"links lead out of the page: {links}")
 
 
-# A button that can be pressed, or a place of the window, but for those that ask for a file or lead away.
+# The middle of a control, of a dialog if one is open; 0 the phones and markers, 1 any, 2 a place of the window. What asks
+# for a file or leads away is left out.
 ANYTHING = """
-const [wanted, x, y] = values, away = "input[type=file], label:has(input[type=file]), label[for=file], a[href]:not([href^='#'])";
-const buttons = [...document.querySelectorAll("button, select, input, [role=tab], summary")]
-    .filter(part => !part.disabled && part.checkVisibility() && !part.matches(away) && !part.closest(away));
-if (wanted < 0 || !buttons.length) return document.elementFromPoint(x, y)?.closest(away) ? null : [x, y];
-const part = buttons[wanted % buttons.length];
+const [among, wanted, x, y] = values, away = "input[type=file], label:has(input[type=file]), a[href]:not([href^='#'])";
+const usual = ".phone button, [data-digit], .marker button, #one, #undo, #auto, .entry, #both, #random, #pause, #skip";
+const any = "button, select, input, [role=tab], summary";
+const place = document.querySelector("dialog[open]") ?? document;
+const parts = [...place.querySelectorAll(among === 0 && place === document ? usual : any)]
+    .filter(part => !part.disabled && part.checkVisibility() && !part.closest(away));
+if (among === 2 || !parts.length) return document.elementFromPoint(x, y)?.closest(away) ? null : [x, y];
+const part = parts[wanted % parts.length];
 part.scrollIntoView({block: "nearest", behavior: "instant"});
 const box = part.getBoundingClientRect();
 return [box.left + box.width / 2, box.top + box.height / 2];
@@ -180,10 +189,10 @@ KEYS = [*"0123456789", "Tab", "Tab", "Tab", "Enter", "Enter", "Space", "Escape",
 
 def press_anything(browser, chance, width, height):
     """One act of a visitor who doesn't look."""
-    if chance.random() < 0.4:
+    if chance.random() < 0.3:
         return browser.key(chance.choice(KEYS), ["Shift"] if chance.random() < 0.1 else [])
-    wanted = chance.randrange(1000) if chance.random() < 0.7 else -1
-    place = browser.run(ANYTHING, wanted, chance.randrange(width), chance.randrange(height))
+    among = chance.choices((0, 1, 2), (70, 15, 15))[0]
+    place = browser.run(ANYTHING, among, chance.randrange(1000), chance.randrange(width), chance.randrange(height))
     if place and 0 <= place[0] < width and 0 <= place[1] < height:
         browser.press(*place)
 

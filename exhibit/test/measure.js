@@ -135,7 +135,7 @@ function measureTexts() {
     every.textContent = "* { pointer-events: auto !important; transition: none !important; animation: none !important }";
     document.head.append(every);
     const found = shownTexts().map(text => ({text: text.text.slice(0, 60), where: nameOf(text.element),
-        size: sizeOf(text.element), contrast: contrastOf(text), disabled: !!text.element.closest(":disabled")}));
+        size: sizeOf(text.element), contrast: contrastOf(text), isSpoken: !text.element.closest("[aria-hidden=true]")}));
     every.remove();
     scrollTo(0, 0);
     return found;

@@ -17,12 +17,7 @@ return {
 };
 """
 
-# The films by the values that choose them, and which kind of control chooses.
-FILMS = """
-const list = document.querySelector("select#film, select#films");
-if (list) return {list: "#" + list.id, names: [...list.options].map(option => option.value)};
-return {list: null, names: [...document.querySelectorAll("[data-film]")].map(part => part.dataset.film)};
-"""
+FILMS = "return [...document.querySelectorAll('#film option')].map(option => option.value)"
 
 SELECT = """
 const list = document.querySelector(values[0]);
@@ -165,8 +160,29 @@ class Page:
                 rows, since = now, time.monotonic()
         self.idle()
 
+    def close_dialogs(self):
+        for _ in range(3):
+            if self.count("dialog[open]"):
+                self.browser.key("Escape")
+                self.idle()
+
+    def save(self, css):
+        """Saves something by a button of the dialog of files, and gives its text."""
+        self.browser.click("#files")
+        _, saved = self.browser.downloaded(lambda: self.browser.click(css))
+        self.browser.click("#files-dialog .close")
+        return saved.decode()
+
+    def skip(self, rows):
+        """Goes on in a film by as many rows as there still are, at most so many."""
+        for _ in range(rows):
+            if not self.enabled("#skip"):
+                return
+            self.press("#skip")
+
     def rest(self):
         """Stops what goes on by itself, also what was still to come when it was stopped."""
+        self.close_dialogs()
         for _ in range(5):
             self.automatic(False)
             self.wait_until_still()
@@ -175,18 +191,17 @@ class Page:
         raise BrowserError("the markers can't be stopped")
 
     def films(self):
-        return self.browser.run(FILMS)["names"]
+        return self.browser.run(FILMS)
 
     def play(self, name):
         """Chooses a film and lets it play as fast as it can."""
-        chooser = self.browser.run(FILMS)["list"]
-        if chooser:
-            self.browser.run(SELECT, chooser, name)
-        else:
-            self.browser.click(f'[data-film="{name}"]')
+        self.browser.run(SELECT, "#film", name)
+        self.idle()
         self.automatic(True, "End")
 
     def drop(self, path):
+        """Drops a file, and waits until the page says what it makes of it."""
+        self.browser.run("document.querySelector('#message').textContent = ''")
         self.browser.drop_file("body", path)
-        time.sleep(0.1)
+        self.browser.wait("return document.querySelector('#message').textContent", 90)
         self.idle()

@@ -20,7 +20,7 @@ def take(test, name):
 
 def drop(test, name, content):
     test.page.drop(test.file(name, content))
-    test.page.wait_until_still()
+    test.page.automatic(False)
 
 
 def call(test):
@@ -49,6 +49,7 @@ def trouble(test):
 def forty_paths(test):
     drop(test, "full.toml", plans.full_plan())
     drop(test, "dials.csv", plans.dials(40))
+    test.page.skip(100)
     paths = len(test.page.look()["records"])
     test.check(paths == 40, f"{paths} jobs are done, not 40")
     take(test, "forty-paths")

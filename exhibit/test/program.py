@@ -41,6 +41,21 @@ class Program:
         return self.answer("audit", plan, "", records)[1].split("\n")[0]
 
 
+def records_text(look):
+    """The records and trouble cards of a look, as a run writes them, without counts."""
+    def record(it):
+        job = it["job"]
+        parts = [it["turn"], job["number"], it["marker"], job["kind"], job["line"], job["dialled"], it["end"],
+                 it["trial"], it["path"], it["other"]]
+        return ",".join("-" if part is None else str(part) for part in parts) + "\n"
+
+    def card(it, card):
+        return f"TROUBLE,{it['turn']},{it['job']['number']},{card['trial']},{card['link']}\n"
+
+    records = look["records"]
+    return "".join(map(record, records)) + "".join(card(it, one) for it in records for one in it["cards"])
+
+
 def ready(path):
     """Whether the program can be run at once: bin/crossbar5 would first compile for minutes if it isn't built."""
     state = os.path.join(os.path.dirname(os.path.realpath(path)), "build")

@@ -3,6 +3,7 @@
 import os, tempfile
 
 from page import phone
+from program import records_text
 
 ALL = []  # the scenarios, in the order of their modules
 
@@ -67,13 +68,12 @@ class Test:
         self.check(sorted(turns) == told, f"{where}: the turns in the list are {turns}, in the office {told}"[:300])
 
     def check_audit(self, where):
-        """The page's audit says what the program's says of a replay, and that is that all is legal."""
+        """The page's audit says what the program's says of the records so far, and that is that all is legal."""
         page = self.page
         page.press("#audit")
         page.browser.wait("return document.querySelector('#verdict').textContent.includes('AUDIT,')", 30)
-        records = self.program.replay(page.plan(), page.kinds(), page.rows())
-        verdict = self.program.verdict(page.plan(), records)
-        shown = page.text("#verdict")
+        records = records_text(self.program.look(page.plan(), page.kinds(), page.rows()))
+        verdict, shown = self.program.verdict(page.plan(), records), page.text("#verdict")
         self.check(verdict.startswith("AUDIT,LEGAL,"), f"{where}: the program's audit says {verdict}")
         self.check(verdict in shown, f"{where}: the page's audit says {shown!r}, the program's {verdict}")
 

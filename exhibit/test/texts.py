@@ -9,7 +9,7 @@ from scenario import scenario
 HERE = os.path.dirname(os.path.realpath(__file__))
 MODES = ("day", "break", "rush", "film")
 SIZES = ((1920, 1080), (1280, 720), (390, 844))
-LEAST_SIZE, LARGE = 11, 24
+LEAST_SIZE, LARGE, NO_CONTRAST = 11, 24, 1.05
 
 
 def measured(test, call):
@@ -48,9 +48,8 @@ def same_keys(test):
     test.check("en" in found and len(found) > 1, f"the languages are {', '.join(found)}")
     english = found["en"]
     for name, texts in found.items():
-        missing, more = sorted(set(english) - set(texts)), sorted(set(texts) - set(english))
+        missing = sorted(set(english) - set(texts))
         test.check(not missing, f"{name} lacks {', '.join(missing)}")
-        test.check(not more, f"{name} has what English has not: {', '.join(more)}")
         empty = [key for key, text in texts.items() if not text.strip() and english.get(key, "").strip()]
         test.check(not empty, f"{name} has empty texts: {', '.join(empty)}")
         other = [key for key in set(english) & set(texts) if places(english[key]) != places(texts[key])]
@@ -151,13 +150,20 @@ def readable(test):
         test.browser.size(1280, 720)
 
 
+def is_pale(text):
+    """Whether a text has too little contrast. One that only fills a figure and has none isn't there to be seen."""
+    contrast = text["contrast"]
+    if contrast is None or contrast < NO_CONTRAST and not text["isSpoken"]:
+        return False
+    return contrast < (3 if text["size"] >= LARGE else 4.5)
+
+
 def check_texts(test, where):
     texts = measured(test, "measureTexts()")
     test.check(len(texts) >= 5, f"{where}: only {len(texts)} texts are shown")
     small = {f"{text['where']} {text['text']!r} {text['size']:.1f} px" for text in texts
              if text["size"] < LEAST_SIZE - 0.05}
-    pale = {f"{text['where']} {text['text']!r} {text['contrast']:.2f}" for text in texts if text["contrast"] is not None
-            and text["contrast"] < (3 if text["size"] >= LARGE else 4.5)}
+    pale = {f"{text['where']} {text['text']!r} {text['contrast']:.2f}" for text in texts if is_pale(text)}
     wide = {f"{part['where']} to {part['right']}" for part in measured(test, "measureWidths()")}
     for fault, found in (("too small", small), ("too pale", pale), ("too wide", wide)):
         test.check(not found, f"{where}: {len(found)} {fault}: {'; '.join(sorted(found)[:4])}")
