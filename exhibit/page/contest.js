@@ -6,27 +6,29 @@ class BreakStage extends Stage {
     this.plan = PLANS.example;
     this.kinds = 'XX';
     this.wanted = ['3041', '3052'];
-    this.phones = element('div', { class: 'phones', role: 'group', 'data-t-label': 'phones' }, ...this.wanted.map(line => this.makePhone(line)));
+    const phones = this.wanted.map(line => this.makePhone(line));
+    this.phones = element('div', { class: 'phones', role: 'group', 'data-t-label': 'phones' }, ...phones);
     this.verdict = element('output', { id: 'naive-verdict' });
     this.told = element('p', { class: 'told', role: 'status' });
     this.place.append(this.phones,
-      element('p', { class: 'buttons' },
-        button(element('span', { 'data-t': 'break.both' }), () => this.lift(...this.wanted), { id: 'both', class: 'main' }),
-        button(element('span', { 'data-t': 'break.random' }), () => this.random(), { id: 'random' })),
+      buttons(textButton('break.both', () => this.lift(...this.wanted), { id: 'both', class: 'main' }),
+        textButton('break.random', () => this.random(), { id: 'random' })),
       element('section', { class: 'naive' }, element('h3', { 'data-t': 'naive.mark' }), this.told,
-        element('p', { class: 'buttons' }, button(element('span', { 'data-t': 'break.judge' }), () => this.judge(), { id: 'audit-both' })),
+        buttons(textButton('break.judge', () => this.judge(), { id: 'audit-both' })),
         this.verdict));
   }
 
   makePhone(line) {
-    return element('article', { class: 'phone', 'data-line': line }, element('strong', {}), element('p', { class: 'state' }),
-      element('div', { class: 'buttons' }, button(element('span', { 'data-t': 'phone.lift' }), () => this.lift(line), { class: 'lift' })));
+    return element('article', { class: 'phone', 'data-line': line },
+      element('strong', {}), element('p', { class: 'state' }),
+      buttons(textButton('phone.lift', () => this.lift(line), { class: 'lift' })));
   }
 
   get lines() { return this.wanted; }
 
   async lift(...lines) {
-    return this.tell(await visit(this.session, (visitor, office) => lines.forEach(line => lift(visitor, office, line))));
+    const liftAll = (visitor, office) => lines.forEach(line => lift(visitor, office, line));
+    return this.tell(await visit(this.session, liftAll));
   }
 
   // A step of one of the markers that have a job, whichever comes.
@@ -37,7 +39,7 @@ class BreakStage extends Stage {
 
   async judge() {
     await super.judge();
-    await judge(this.session, this.naive.records.map(recordText).join('') + cardsText(this.naive.records), this.verdict);
+    await judge(this.session, recordsText(this.naive.records), this.verdict);
   }
 
   show() {
@@ -64,14 +66,16 @@ class BreakStage extends Stage {
   naiveWords(office) {
     const { shared, records } = this.naive;
     if (shared.length) {
-      const links = shared.map(it => it.link).join(', '), lines = shared[0].lines.map(line => office.lineName(line)).join(', ');
+      const links = shared.map(it => it.link).join(', ');
+      const lines = shared[0].lines.map(line => office.lineName(line)).join(', ');
       return `${t('naive.shared', { links, lines })} ${this.wrongWords(office)}`;
     }
     return t(records.length > 1 ? 'naive.lucky' : records.length ? 'naive.one' : 'naive.none');
   }
   // The lines that its switches show and that nobody lifted: what is left where two values are closed in one field.
   wrongWords(office) {
-    const shown = new Office(this.naive.look, true).closed[KINDS.lineSwitch].map(it => lineText(it.frame, it.number, it.value - 1));
+    const closed = new Office(this.naive.look, true).closed[KINDS.lineSwitch];
+    const shown = closed.map(it => lineText(it.frame, it.number, it.value - 1));
     const wrong = shown.filter(line => !this.wanted.includes(line)).map(line => office.lineName(line));
     return wrong.length ? t('naive.wrong', { lines: wrong.join(', ') }) : '';
   }

@@ -9,16 +9,22 @@ class DayStage extends Stage {
     this.auto = true;
     this.first = 0;
     this.phones = element('div', { class: 'phones', role: 'group', 'data-t-label': 'phones' });
-    this.more = element('p', { class: 'buttons' }, button(element('span', { 'data-t': 'phones.more' }), () => { this.first += MOST_PHONES; this.changed(); }));
+    this.more = buttons(textButton('phones.more', () => this.showMore()));
     this.heard = element('p', { class: 'heard', role: 'status', 'aria-live': 'polite' });
     this.directory = element('div', { class: 'directory' });
     const dialled = digit => this.dial(digit);
+    const listing = element('section', { class: 'listing' }, element('h3', { 'data-t': 'directory' }), this.directory);
     this.place.append(this.phones, this.more, this.heard,
-      element('div', { class: 'dials' }, rotary(dialled), keypad(dialled), element('section', { class: 'listing' }, element('h3', { 'data-t': 'directory' }), this.directory)));
+      element('div', { class: 'dials' }, rotary(dialled), keypad(dialled), listing));
+  }
+
+  showMore() {
+    this.first += MOST_PHONES;
+    this.changed();
   }
 
   get allPhones() {
-    return this.session.office.plan.numbers.flatMap(({ lines }) => lines).filter((line, at, all) => all.indexOf(line) === at);
+    return [...new Set(this.session.office.plan.numbers.flatMap(({ lines }) => lines))];
   }
 
   get shownPhones() {
@@ -56,10 +62,12 @@ class DayStage extends Stage {
   show() {
     const { office, visitor } = this.session, all = this.allPhones;
     this.more.hidden = all.length <= MOST_PHONES;
-    keepList(this.phones, this.shownPhones, line => line, line => this.makePhone(line), (it, line) => this.updatePhone(it, line));
+    const keyOf = line => line, update = (it, line) => this.updatePhone(it, line);
+    keepList(this.phones, this.shownPhones, keyOf, line => this.makePhone(line), update);
     const state = this.chosen === undefined ? 'idle' : phoneState(visitor, office, this.chosen);
     const canDial = ['tone', 'dialling'].includes(state);
-    setText(this.heard, this.chosen === undefined ? '' : t('heard', { line: office.lineName(this.chosen), words: this.stateWords(this.chosen, state) }));
+    const heard = line => t('heard', { line: office.lineName(line), words: this.stateWords(line, state) });
+    setText(this.heard, this.chosen === undefined ? '' : heard(this.chosen));
     for (const key of this.place.querySelectorAll('[data-digit]')) key.disabled = !canDial;
     this.showDirectory(canDial);
   }
@@ -69,14 +77,14 @@ class DayStage extends Stage {
     return element('article', { class: 'phone', 'data-number': name, 'data-line': line },
       button(element('strong', {}, name), () => this.choose(line), { class: 'choose' }),
       element('p', { class: 'state' }),
-      element('div', { class: 'buttons' },
-        button(element('span', { 'data-t': 'phone.lift' }, t('phone.lift')), () => this.lift(line), { class: 'lift' }),
-        button(element('span', { 'data-t': 'phone.answer' }, t('phone.answer')), () => this.lift(line), { class: 'answer' }),
-        button(element('span', { 'data-t': 'phone.hang' }, t('phone.hang')), () => this.hang(line), { class: 'hang' })));
+      buttons(textButton('phone.lift', () => this.lift(line), { class: 'lift' }),
+        textButton('phone.answer', () => this.lift(line), { class: 'answer' }),
+        textButton('phone.hang', () => this.hang(line), { class: 'hang' })));
   }
 
   updatePhone(it, line) {
-    const { office, visitor } = this.session, state = phoneState(visitor, office, line), { lifted, digits } = phoneOf(visitor, line);
+    const { office, visitor } = this.session, state = phoneState(visitor, office, line);
+    const { lifted, digits } = phoneOf(visitor, line);
     it.dataset.state = state;
     it.setAttribute('aria-current', line === this.chosen);
     it.classList.toggle('lifted', lifted);
@@ -91,22 +99,28 @@ class DayStage extends Stage {
   stateWords(line, state) {
     const { office } = this.session, path = office.pathOf(line);
     const partner = path && ['talking', 'ringback'].includes(state) ? partnerOf(office, path) : undefined;
-    return t(`phone.${state}`, { other: partner ? office.lineName(partner) : '', place: path ? office.placeName(path.place) : '' });
+    const other = partner ? office.lineName(partner) : '', place = path ? office.placeName(path.place) : '';
+    return t(`phone.${state}`, { other, place });
   }
 
   // What can be dialled: each code with the numbers that it leads to. One touch dials all seven digits.
   showDirectory(canDial) {
-    const { plan } = this.session.office, entries = [];
-    for (const { code, groups } of plan.codes) {
-      const isInside = plan.groups[groups[0]].kind === 'intra';
-      const numbers = isInside ? plan.numbers.slice(0, MOST_PHONES).map(it => it.number) : ['1234'];
-      for (const number of numbers) entries.push({ digits: code + number, words: isInside ? t('directory.inside', { number }) : t('directory.outside', { groups: groups.map(it => plan.groups[it].name).join(', ') }) });
-    }
-    entries.push({ digits: '9990001', words: t('directory.vacant') });
-    keepList(this.directory, entries, it => `${it.digits} ${it.words}`, ({ digits, words }) => button(element('b', {}, spaced(digits)), () => this.dial(digits), { class: 'entry' }),
-      (it, { words }) => {
-        if (it.children.length < 2) it.append(element('span', {}, words));
-        it.disabled = !canDial;
-      });
+    const { plan } = this.session.office;
+    const wrong = { digits: '9990001', words: t('directory.vacant') };
+    const entries = [...plan.codes.flatMap(code => entriesOf(plan, code)), wrong];
+    const make = ({ digits }) => button(element('b', {}, spaced(digits)), () => this.dial(digits), { class: 'entry' });
+    keepList(this.directory, entries, it => `${it.digits} ${it.words}`, make, (it, { words }) => {
+      if (it.children.length < 2) it.append(element('span', {}, words));
+      it.disabled = !canDial;
+    });
   }
+}
+
+// The numbers that a code leads to: some of this office, or one for all of another.
+function entriesOf(plan, { code, groups }) {
+  const names = groups.map(it => plan.groups[it].name).join(', ');
+  const outside = { digits: `${code}1234`, words: t('directory.outside', { groups: names }) };
+  if (plan.groups[groups[0]].kind !== 'intra') return [outside];
+  const inside = ({ number }) => ({ digits: code + number, words: t('directory.inside', { number }) });
+  return plan.numbers.slice(0, MOST_PHONES).map(inside);
 }

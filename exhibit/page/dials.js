@@ -16,12 +16,14 @@ function rotary(dialled) {
     const turn = () => { turnWheel(wheel, place); dialled(String(digit)); };
     wheel.append(button(digit, turn, { 'data-digit': digit, style: `left:${x.toFixed(2)}%;top:${y.toFixed(2)}%` }));
   });
-  return element('div', { id: 'rotary', role: 'group', 'data-t-label': 'rotary' }, wheel, element('div', { class: 'stop', 'aria-hidden': 'true' }), element('div', { class: 'hub', 'aria-hidden': 'true' }));
+  const parts = ['stop', 'hub'].map(name => element('div', { class: name, 'aria-hidden': 'true' }));
+  return element('div', { id: 'rotary', role: 'group', 'data-t-label': 'rotary' }, wheel, ...parts);
 }
 
 // Turns the wheel as far as the finger stop, and lets it come back.
 function turnWheel(wheel, place) {
   if (stillWanted.matches || !wheel.animate) return;
   const far = 90 + 30 * place;
-  wheel.animate([{ transform: 'rotate(0deg)' }, { transform: `rotate(${far}deg)`, offset: 0.4 }, { transform: 'rotate(0deg)' }], { duration: 300 + 2 * far, easing: 'ease-in-out' });
+  const turned = [0, far, 0].map(degrees => ({ transform: `rotate(${degrees}deg)` }));
+  wheel.animate(turned, { duration: 300 + 2 * far, easing: 'ease-in-out' });
 }

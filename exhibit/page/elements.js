@@ -29,6 +29,13 @@ function button(label, listener, attributes = {}) {
   return element('button', { type: 'button', ...attributes, onclick: listener }, label);
 }
 
+// A button whose label is a text of the page, by its key.
+function textButton(key, listener, attributes = {}) {
+  return button(element('span', { 'data-t': key }, t(key)), listener, attributes);
+}
+
+const buttons = (...contents) => element('p', { class: 'buttons' }, ...contents);
+
 // Replaces the children of an element one by one, and leaves those that are the same by key, so that
 // focus stays where it is. `make(item)` makes an element; `update(element, item)` brings it up to date.
 function keepList(parent, items, keyOf, make, update) {
@@ -50,6 +57,8 @@ function keepList(parent, items, keyOf, make, update) {
 // Changes an element's text or attribute only if it differs, so that a screen reader isn't disturbed.
 function setText(it, text) { if (it.textContent !== text) it.textContent = text; }
 function setFlag(it, name, value) { if (it.hasAttribute(name) !== value) it.toggleAttribute(name, value); }
+
+const isThere = value => value !== null && value !== undefined;
 
 const stillWanted = matchMedia('(prefers-reduced-motion: reduce)');
 const pause = ms => new Promise(done => setTimeout(done, ms));

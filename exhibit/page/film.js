@@ -7,13 +7,13 @@ class FilmStage extends Stage {
     super('film', engine, changed);
     this.films = FILMS.map(it => ({ ...it, rows: rowsOf(it.rows) }));
     this.film = this.films[0];
-    this.choice = element('select', { id: 'film', 'data-t-label': 'film.choice', onchange: () => this.play(this.films[this.choice.selectedIndex]) });
+    const choose = () => this.play(this.films[this.choice.selectedIndex]);
+    this.choice = element('select', { id: 'film', 'data-t-label': 'film.choice', onchange: choose });
     this.progress = element('progress', { 'data-t-label': 'film.progress' });
     this.sentence = element('p', { class: 'sentence', role: 'status', 'aria-live': 'polite' });
     this.place.append(this.choice,
-      element('p', { class: 'buttons' },
-        button(element('span', {}), () => this.toggle(), { id: 'play', class: 'main' }),
-        button(element('span', { 'data-t': 'film.skip' }), () => this.skip(), { id: 'skip' }), this.progress),
+      buttons(button(element('span', {}), () => this.toggle(), { id: 'play', class: 'main' }),
+        textButton('film.skip', () => this.skip(), { id: 'skip' }), this.progress),
       this.sentence);
   }
 
@@ -78,9 +78,11 @@ class FilmStage extends Stage {
 
   show() {
     const { office, visitor } = this.session;
-    keepList(this.choice, this.films, it => `${it.name} ${texts.language}`, it => element('option', {}, it.isBrought ? it.name : t(`film.${it.name}`)), () => {});
+    const nameOf = it => it.isBrought ? it.name : t(`film.${it.name}`);
+    keepList(this.choice, this.films, nameOf, it => element('option', {}, nameOf(it)), () => {});
     this.choice.selectedIndex = this.films.indexOf(this.film);
-    setText(this.place.querySelector('#play span'), t(this.isOver ? 'film.repeat' : this.auto ? 'film.pause' : 'film.play'));
+    const what = this.isOver ? 'repeat' : this.auto ? 'pause' : 'play';
+    setText(this.place.querySelector('#play span'), t(`film.${what}`));
     this.place.querySelector('#skip').disabled = this.isOver;
     this.progress.max = Math.max(this.film.rows.length, 1);
     this.progress.value = visitor.rows;
@@ -91,11 +93,11 @@ class FilmStage extends Stage {
   stageWords(office) {
     const event = office.events[office.events.length - 1];
     if (!event) return this.film.isBrought ? t('film.brought') : t(`film.${this.film.name}.says`);
-    if (event.event === 'assignment') return t('stage.assigned', { marker: event.marker, job: jobWords(event.job, office) });
-    if (event.record) return t('stage.turn', { marker: event.marker, turn: event.turn, end: endWords(event.record, office) });
-    if (event.holder !== null && event.holder !== undefined) return t('stage.held', { marker: event.marker, other: event.holder, connector: objectWords(event.object) });
-    if (event.preferred !== null && event.preferred !== undefined) return t('stage.preferred', { marker: event.marker, other: event.preferred, connector: objectWords(event.object) });
-    if (event.ended !== null && event.ended !== undefined) return t('stage.ended', { marker: event.marker });
-    return t(`stage.${event.act}`, { marker: event.marker, object: event.object ? objectWords(event.object) : '' });
+    const { marker, turn, record, holder, preferred } = event, object = event.object ? objectWords(event.object) : '';
+    if (event.event === 'assignment') return t('stage.assigned', { marker, job: jobWords(event.job, office) });
+    if (record) return t('stage.turn', { marker, turn, end: endWords(record, office) });
+    if (isThere(holder)) return t('stage.held', { marker, other: holder, connector: object });
+    if (isThere(preferred)) return t('stage.preferred', { marker, other: preferred, connector: object });
+    return t(`stage.${isThere(event.ended) ? 'ended' : event.act}`, { marker, object });
   }
 }

@@ -43,9 +43,10 @@ class Layout {
 
   // The two ends of a link.
   link(kind, [first, second, channel]) {
-    if (kind === 'LL') return [this.at(KINDS.lineSwitch, first, second), this.at(KINDS.lineJunctor, first, channel)];
-    if (kind === 'JU') return [this.at(KINDS.lineJunctor, first, channel), this.at(KINDS.trunkJunctor, second, channel)];
-    return [this.at(KINDS.trunkJunctor, first, channel), this.at(KINDS.trunkSwitch, first, second)];
+    const { lineSwitch, lineJunctor, trunkJunctor, trunkSwitch } = KINDS;
+    if (kind === 'LL') return [this.at(lineSwitch, first, second), this.at(lineJunctor, first, channel)];
+    if (kind === 'JU') return [this.at(lineJunctor, first, channel), this.at(trunkJunctor, second, channel)];
+    return [this.at(trunkJunctor, first, channel), this.at(trunkSwitch, first, second)];
   }
 }
 

@@ -5,7 +5,8 @@ class Page {
   constructor(engine) {
     this.engine = engine;
     const changed = stage => this.refresh(stage);
-    this.stages = { day: new DayStage(engine, changed), break: new BreakStage(engine, changed), rush: new RushStage(engine, changed), film: new FilmStage(engine, changed) };
+    const stage = Kind => new Kind(engine, changed);
+    this.stages = { day: stage(DayStage), break: stage(BreakStage), rush: stage(RushStage), film: stage(FilmStage) };
     this.picture = new Picture($('picture'));
     this.naive = new Picture($('naive'));
     this.files = new Files(this);
@@ -50,7 +51,8 @@ class Page {
   }
 
   focusNear(lost) {
-    const places = [lost.closest('.phone, .marker, .buttons'), document.querySelector('.phone[aria-current="true"]'), $('work')];
+    const chosen = document.querySelector('.phone[aria-current="true"]');
+    const places = [lost.closest('.phone, .marker, .buttons'), chosen, $('work')];
     const next = places.map(it => it?.querySelector('button:enabled:not(.choose)')).find(it => it);
     (next ?? $('panel')).focus();
   }
@@ -104,9 +106,14 @@ class Page {
     $('undo').onclick = () => { now().auto = false; return now().undo(); };
     $('again').onclick = () => { $('verdict').replaceChildren(); return now().again(); };
     $('audit').onclick = () => now().judge();
-    for (const name of ['files', 'about']) $(name).onclick = () => { this.showAbout(); $(`${name}-dialog`).showModal(); };
-    for (const close of document.querySelectorAll('dialog .close')) close.onclick = () => close.closest('dialog').close();
+    for (const name of ['files', 'about']) $(name).onclick = () => this.openDialog($(`${name}-dialog`));
     document.addEventListener('keydown', event => this.typed(event));
+  }
+
+  openDialog(dialog) {
+    this.showAbout();
+    dialog.querySelector('.close').onclick = () => dialog.close();
+    dialog.showModal();
   }
 
   // Arrow keys lead from tab to tab.
@@ -121,8 +128,8 @@ class Page {
 
   // Digits dial on the chosen telephone.
   typed(event) {
-    const isText = event.target.matches('input, select, textarea');
-    if (/^\d$/.test(event.key) && !isText && !event.ctrlKey && !event.altKey && !event.metaKey && this.stage.name === 'day') this.stage.dial(event.key);
+    const isOther = event.target.matches('input, select') || event.ctrlKey || event.altKey || event.metaKey;
+    if (/^\d$/.test(event.key) && !isOther && this.stage.name === 'day') this.stage.dial(event.key);
   }
 
   showLanguages() {
@@ -145,8 +152,8 @@ class Page {
   }
 
   showAbout() {
-    const parts = ['about.what', 'about.proved', `about.${this.engine.name}`, 'about.page', 'about.naive', 'about.more'];
-    $('about-text').replaceChildren(...parts.map(key => element('p', {}, t(key))));
+    const parts = ['what', 'proved', this.engine.name, 'page', 'naive', 'more'];
+    $('about-text').replaceChildren(...parts.map(part => element('p', {}, t(`about.${part}`))));
   }
 }
 
@@ -154,8 +161,14 @@ class Page {
 function exposed(page) {
   const session = () => page.stage.session;
   return {
-    rows: () => session().text(), plan: () => session().plan, kinds: () => session().kinds, look: () => session().office.look,
-    idle: async () => { await session().queue; await new Promise(requestAnimationFrame); }, timings: () => session().timings, engine: page.engine, page,
+    page,
+    engine: page.engine,
+    rows: () => session().text(),
+    plan: () => session().plan,
+    kinds: () => session().kinds,
+    look: () => session().office.look,
+    timings: () => session().timings,
+    idle: () => session().queue.then(() => new Promise(requestAnimationFrame)),
   };
 }
 

@@ -20,15 +20,14 @@ function showMarkers(list, stage) {
 function makeMarker(number, stage) {
   return element('li', { class: 'marker', 'data-marker': number, style: `--own:${markerColour(number)}` },
     element('span', { class: 'mark', 'aria-hidden': 'true' }, number),
-    element('h3', {}), element('p', { class: 'next' }), element('p', { class: 'last' }), element('p', { class: 'holds' }),
-    element('div', { class: 'buttons' },
-      button(element('span', { 'data-t': 'step' }, t('step')), () => stage.step(number), { class: 'step' }),
-      button(element('span', { 'data-t': 'finish' }, t('finish')), () => stage.finish(number), { class: 'finish quiet' })));
+    element('h3', {}), ...['next', 'last', 'holds'].map(name => element('p', { class: name })),
+    buttons(textButton('step', () => stage.step(number), { class: 'step' }),
+      textButton('finish', () => stage.finish(number), { class: 'finish quiet' })));
 }
 
 function updateMarker(it, marker, office, last) {
   const { job, next, held, requested } = marker;
-  setText(it.querySelector('h3'), t('marker.title', { marker: marker.marker, job: job ? jobWords(job, office) : t('idle') }));
+  setText(it.querySelector('h3'), markerTitle(marker, office));
   setText(it.querySelector('.next'), next ? t('next', { words: stepWords(next, office) }) : '');
   setText(it.querySelector('.last'), last?.event === 'step' ? t('last', { words: stepWords(last, office) }) : '');
   const holds = held.length ? t('holds', { connectors: held.map(objectWords).join(', ') }) : '';
@@ -37,13 +36,17 @@ function updateMarker(it, marker, office, last) {
   it.classList.toggle('denied', last?.event === 'step' && (last.holder !== null || last.preferred !== null));
 }
 
+function markerTitle({ marker, job }, office) {
+  return t('marker.title', { marker, job: job ? jobWords(job, office) : t('idle') });
+}
+
 function makeTile(number, stage) {
   return element('li', { class: 'marker', 'data-marker': number, style: `--own:${markerColour(number)}` },
     button(number, () => stage.step(number), { class: 'step' }));
 }
 
 function updateTile(it, marker, office) {
-  const words = t('marker.title', { marker: marker.marker, job: marker.job ? jobWords(marker.job, office) : t('idle') });
+  const words = markerTitle(marker, office);
   const next = marker.next ? t('next', { words: stepWords(marker.next, office) }) : '';
   const press = it.querySelector('.step');
   press.title = `${words}. ${next}`;

@@ -34,8 +34,6 @@ class NaiveOffice {
 
   field(word, field) { return this.fields.get(`${word},${field}`) ?? 0; }
 
-  close(word, field, value) { this.fields.set(`${word},${field}`, this.field(word, field) | value); }
-
   // A dial tone job. It stops at each `yield`, that is after each step.
   * dial(marker, number, line) {
     const { l, s, x } = pathParts(`${line}-0-000`);
@@ -61,7 +59,8 @@ class NaiveOffice {
       const path = found && !found.fault ? { end: 'DIALTONE', trial, path: found, member } : null;
       if (path) return yield* this.turn(marker, number, line, { ...path, cards, frees: 2 + kept.frames.size });
     }
-    yield* this.turn(marker, number, line, { end: cards.length ? 'TROUBLE' : 'NOPATH', cards, frees: 2 + kept.frames.size });
+    const end = cards.length ? 'TROUBLE' : 'NOPATH';
+    yield* this.turn(marker, number, line, { end, cards, frees: 2 + kept.frames.size });
   }
 
   // One trial: the first channel that it takes for idle, or a faulty link in it.
@@ -74,19 +73,22 @@ class NaiveOffice {
     const channels = Array.from({ length: 10 }, (_, at) => (start + at) % 10);
     const n = channels.find(it => !lineFields[it] && !junctors[it] && !trunkFields[it]);
     if (n === undefined) return null;
-    const fault = [`LL${l}${s}${n}`, `JU${l}${t}${n}`, `TL${t}${u}${n}`].find(link => this.faults.has(link));
-    return fault ? { fault } : pathParts(`${line}-${n}-${place}`);
+    const path = pathParts(`${line}-${n}-${place}`), fault = linksOf(path).find(link => this.faults.has(link));
+    return fault ? { fault } : path;
   }
 
   // The turn, the effects, and as many steps as the office's marker takes to free its connectors.
   * turn(marker, number, line, { end, trial = null, path = null, member = null, cards = [], frees }) {
     const job = { number, kind: 'D', line, dialled: null };
-    this.records.push({ turn: this.records.length, marker, job, end, trial, path: path?.text ?? null, other: null, cards });
+    const text = path?.text ?? null;
+    this.records.push({ turn: this.records.length, marker, job, end, trial, path: text, other: null, cards });
     yield;
     if (path) {
-      const { l, s, n, t, u, a, x } = path;
-      const closes = [[20 * l + s, n, x + 1], [20 * l + 10 + n, t, s + 1], [200 + 20 * t + 10 + n, l, u + 1], [200 + 20 * t + u, n, a + 1]];
-      for (const [word, field, value] of closes) { this.close(word, field, value); yield; }
+      const { s, u, a, x } = path, values = [x + 1, s + 1, u + 1, a + 1];
+      for (const [at, key] of crosspointsOf(path).entries()) {
+        this.fields.set(key, (this.fields.get(key) ?? 0) | values[at]);
+        yield;
+      }
       this.busy.add(member);
       yield;
     }
@@ -110,8 +112,8 @@ class NaiveOffice {
     const users = new Map();
     for (const { path } of this.records) {
       if (!path) continue;
-      const { l, s, n, t, u, line } = pathParts(path);
-      for (const link of [`LL${l}${s}${n}`, `JU${l}${t}${n}`, `TL${t}${u}${n}`]) users.set(link, [...users.get(link) ?? [], line]);
+      const parts = pathParts(path);
+      for (const link of linksOf(parts)) users.set(link, [...users.get(link) ?? [], parts.line]);
     }
     return [...users].filter(([, lines]) => lines.length > 1).map(([link, lines]) => ({ link, lines }));
   }
@@ -126,7 +128,8 @@ class NaiveOffice {
     }
     const busy = [...this.busy].map(field => ({ field, value: 1, name: '' }));
     const group = { word: 400 + this.registers, object: { kind: 'group', number: this.registers }, items: busy };
-    return { plan: this.plan, markers: [], connectors: [], shown: [...shown.values(), group], records: this.records, words: [], events: [] };
+    const { plan, records } = this;
+    return { plan, records, shown: [...shown.values(), group], markers: [], connectors: [], words: [], events: [] };
   }
 }
 
@@ -134,6 +137,6 @@ class NaiveOffice {
 function switchOf(word) {
   const trunks = word >= 200, at = trunks ? word - 200 : word, frame = Math.floor(at / 20), number = at % 10;
   const second = at % 20 >= 10;
-  const kind = trunks ? (second ? KINDS.trunkJunctor : KINDS.trunkSwitch) : (second ? KINDS.lineJunctor : KINDS.lineSwitch);
-  return { kind, frame, number };
+  const kinds = trunks ? [KINDS.trunkSwitch, KINDS.trunkJunctor] : [KINDS.lineSwitch, KINDS.lineJunctor];
+  return { kind: kinds[Number(second)], frame, number };
 }

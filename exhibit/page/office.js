@@ -1,5 +1,10 @@
 // An office as a look tells it. Everything that the page shows of an office comes from here.
-const KINDS = { lineSwitch: 'line switch', lineJunctor: 'line junctor switch', trunkJunctor: 'trunk junctor switch', trunkSwitch: 'trunk switch' };
+const KINDS = {
+  lineSwitch: 'line switch',
+  lineJunctor: 'line junctor switch',
+  trunkJunctor: 'trunk junctor switch',
+  trunkSwitch: 'trunk switch',
+};
 
 class Office {
   constructor(look, hasRows) {
@@ -54,10 +59,10 @@ class Office {
 
 // The closed crosspoints by kind of switch: each with its frame, the number of its switch, field and value.
 function closedCrosspoints(shown) {
-  const closed = { 'line switch': [], 'line junctor switch': [], 'trunk junctor switch': [], 'trunk switch': [] };
-  for (const { object, items } of shown) {
-    if (object.kind === 'group') continue;
-    for (const { field, value } of items) closed[object.kind].push({ frame: object.frame, number: object.number, field, value });
+  const closed = Object.fromEntries(Object.values(KINDS).map(kind => [kind, []]));
+  for (const { object: { kind, frame, number }, items } of shown) {
+    if (kind === 'group') continue;
+    closed[kind].push(...items.map(({ field, value }) => ({ frame, number, field, value })));
   }
   return closed;
 }
@@ -68,24 +73,31 @@ const lineText = (frame, number, place) => `${frame}${number}${Math.floor(place 
 // The whole paths that these crosspoints close: from a line over four crosspoints to a trunk place.
 function tracedPaths(closed) {
   const at = kind => new Map(closed[kind].map(it => [`${it.frame},${it.number},${it.field}`, it.value]));
-  const lineJunctor = closed['line junctor switch'], trunkJunctor = at('trunk junctor switch'), trunk = at('trunk switch');
+  const trunkJunctor = at(KINDS.trunkJunctor), trunk = at(KINDS.trunkSwitch);
   const paths = [];
-  for (const { frame: l, number: s, field: n, value } of closed['line switch']) {
-    const junctor = lineJunctor.find(it => it.frame === l && it.number === n && it.value === s + 1);
+  for (const { frame: l, number: s, field: n, value } of closed[KINDS.lineSwitch]) {
+    const junctor = closed[KINDS.lineJunctor].find(it => it.frame === l && it.number === n && it.value === s + 1);
     if (!junctor) continue;
     const t = junctor.field, u = trunkJunctor.get(`${t},${n},${l}`) - 1, a = trunk.get(`${t},${u},${n}`) - 1;
     if (!(u >= 0 && a >= 0)) continue;
-    const line = lineText(l, s, value - 1), place = `${t}${u}${a}`;
-    paths.push({ line, place, channel: n, text: `${line}-${n}-${place}`, l, s, n, t, u, a, x: value - 1 });
+    paths.push(pathParts(`${lineText(l, s, value - 1)}-${n}-${t}${u}${a}`));
   }
   return paths;
 }
 
 // The parts of a path by its text, such as 3041-0-417.
 function pathParts(text) {
-  const [line, channel, place] = text.split('-'), [l, s, group, file] = [...line].map(Number), [t, u, a] = [...place].map(Number);
-  return { line, place, channel: Number(channel), text, l, s, n: Number(channel), t, u, a, x: 5 * group + file };
+  const [line, channel, place] = text.split('-');
+  const [l, s, group, file] = [...line].map(Number), [t, u, a] = [...place].map(Number), n = Number(channel);
+  return { line, place, channel: n, text, l, s, n, t, u, a, x: 5 * group + file };
 }
 
 // The parts of a link by its name, such as JU340.
 const linkParts = link => ({ kind: link.slice(0, 2), digits: [...link.slice(2)].map(Number) });
+
+// The words and fields of a path's four crosspoints, from its line to its place.
+const crosspointsOf = ({ l, s, n, t, u }) =>
+  [`${20 * l + s},${n}`, `${20 * l + 10 + n},${t}`, `${200 + 20 * t + 10 + n},${l}`, `${200 + 20 * t + u},${n}`];
+
+// The names of its three links.
+const linksOf = ({ l, s, n, t, u }) => [`LL${l}${s}${n}`, `JU${l}${t}${n}`, `TL${t}${u}${n}`];

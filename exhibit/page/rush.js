@@ -1,5 +1,7 @@
 // Rush hour: 48 markers, and lines that lift, dial and hang up by chance. It ends after a number of jobs.
 const RUSH_MARKERS = 48, RUSH_JOBS = 1000, RUSH_LINES = 40, MOST_AT_ONCE = 28;
+// How many rows are made before the next look, by the speed.
+const AT_ONCE = [1, 1, 1, 1, 1, 1, 3, 3, 8, 8, 20];
 
 class RushStage extends Stage {
   constructor(engine, changed) {
@@ -7,17 +9,24 @@ class RushStage extends Stage {
     this.plan = PLANS.rush_hour;
     this.kinds = 'X'.repeat(RUSH_MARKERS);
     this.told = element('p', { class: 'told', role: 'status' });
-    this.place.append(
-      element('p', { class: 'buttons' }, button(element('span', {}), () => { this.auto = !this.auto; this.changed(); }, { id: 'pause', class: 'main' })), this.told);
+    const press = button(element('span', {}), () => this.toggle(), { id: 'pause', class: 'main' });
+    this.place.append(buttons(press), this.told);
   }
 
   // At the higher speeds several markers make some steps each before they are shown. One undo takes back those of one.
-  async autoStep() { return this.act(this.speed < 6 ? 1 : this.speed < 8 ? 3 : this.speed < 10 ? 8 : 20, this.speed > 3); }
+  async autoStep() { return this.act(AT_ONCE[this.speed], this.speed > 3); }
+
+  toggle() {
+    this.auto = !this.auto;
+    this.changed();
+  }
 
   async one() { return this.act(1); }
 
   async act(count, isFast = false) {
-    const fault = await this.session.inTurn(() => this.session.addNow(this.chooseRows(count, isFast), this.session.visitor, false, true));
+    const { session } = this;
+    const add = () => session.addNow(this.chooseRows(count, isFast), session.visitor, false, true);
+    const fault = await session.inTurn(add);
     if (this.isOver) this.auto = false;
     return this.tell(fault);
   }
@@ -28,12 +37,14 @@ class RushStage extends Stage {
   // of those that hold a connector.
   chooseRows(count, isFast) {
     const { office } = this.session, rows = [];
-    const working = office.markers.filter(it => it.job).map(it => it.marker), idle = office.markers.filter(it => !it.job).map(it => it.marker);
+    const those = test => office.markers.filter(test).map(it => it.marker);
+    const working = those(it => it.job), idle = those(it => !it.job), holding = those(it => it.held.length);
     const lines = new Set(office.markers.flatMap(it => it.job?.line ?? []));
-    const holding = office.markers.filter(it => it.held.length).map(it => it.marker);
+    const likely = isFast ? 0.3 : 0.06;
     let number = this.isOver ? null : this.session.nextJob();
     for (; count > 0; count--) {
-      const job = number !== null && idle.length && (!working.length || Math.random() < (isFast ? 0.3 : 0.06)) ? this.chooseJob(office, lines) : null;
+      const wantsJob = number !== null && idle.length && (!working.length || Math.random() < likely);
+      const job = wantsJob ? this.chooseJob(office, lines) : null;
       if (job) {
         const marker = idle.splice(Math.floor(Math.random() * idle.length), 1)[0];
         rows.push(assignment(marker, number, job.kind, job.args));
@@ -64,7 +75,8 @@ class RushStage extends Stage {
     setText(press, t(this.isOver ? 'rush.over' : this.auto ? 'rush.pause' : office.hasRows ? 'rush.on' : 'rush.start'));
     this.place.querySelector('#pause').disabled = this.isOver;
     const working = office.markers.filter(it => it.job).length;
-    setText(this.told, t('rush.told', { turns: office.records.length, working, paths: office.paths.length, cards: office.records.reduce((sum, it) => sum + it.cards.length, 0) }));
+    const cards = office.records.reduce((sum, it) => sum + it.cards.length, 0);
+    setText(this.told, t('rush.told', { turns: office.records.length, working, paths: office.paths.length, cards }));
   }
 }
 

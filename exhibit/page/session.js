@@ -71,7 +71,9 @@ class Session {
     const found = await this.lookAt(this.plan, this.kinds, [...this.rows, ...rows]);
     if (found.fault) return found.fault;
     if (!isJoined) this.marks.push({ length: this.rows.length, visitor: this.visitor });
-    if (isEachAlone) rows.slice(1).forEach((_, at) => this.marks.push({ length: this.rows.length + at + 1, visitor: this.visitor }));
+    for (let at = 1; isEachAlone && at < rows.length; at++) {
+      this.marks.push({ length: this.rows.length + at, visitor: this.visitor });
+    }
     this.rows.push(...rows);
     this.visitor = visitor;
     this.show(found, began);
@@ -114,12 +116,14 @@ class Session {
   }
 
   // The records so far, without counts, which an unsettled office need not have.
-  recordsText() { return this.office.records.map(recordText).join('') + cardsText(this.office.records); }
+  recordsText() { return recordsText(this.office.records); }
 
   async judge(records) { return (await this.engine.answer(TASK.audit, this.plan, this.kinds, records)).text; }
 }
 
-// A record and trouble cards as the program writes them.
+// Records, and their trouble cards, as the program writes them.
+const recordsText = records => records.map(recordText).join('') + cardsText(records);
+
 function recordText(it) {
   const { number, kind, line, dialled } = it.job;
   const parts = [it.turn, number, it.marker, kind, line, dialled, it.end, it.trial, it.path, it.other];

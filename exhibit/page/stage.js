@@ -5,7 +5,10 @@ class Stage {
     this.name = name;
     this.session = new Session(engine);
     this.session.changed = () => { if (this.isOpen) changed(this); };
-    this.session.failed = error => { this.message = t('fault.engine', { error: error.message ?? error }); if (this.isOpen) changed(this); };
+    this.session.failed = error => {
+      this.message = t('fault.engine', { error: error.message ?? error });
+      if (this.isOpen) changed(this);
+    };
     this.changed = () => changed(this);
     this.place = element('div', { class: `stage ${name}` });
     this.auto = false;

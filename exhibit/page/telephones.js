@@ -37,7 +37,8 @@ function assignWishes(visitor, session) {
     if (!waits && wish.kind === 'R' && !office.pathOf(wish.line)) continue;
     const place = idle.findIndex(it => takes(it.kind, wish.kind));
     if (waits || place < 0 || number === null) { kept.push(wish); lines.add(wish.line); continue; }
-    rows.push(assignment(idle[place].marker, number, wish.kind, wish.digits ? `${wish.line} ${wish.digits}` : wish.line));
+    const args = wish.digits ? `${wish.line} ${wish.digits}` : wish.line;
+    rows.push(assignment(idle[place].marker, number, wish.kind, args));
     lines.add(wish.line);
     idle.splice(place, 1);
     if (visitor.phones[wish.line]) visitor.phones[wish.line].job = number;
@@ -83,7 +84,8 @@ function partnerOf(office, path) {
 
 // What a telephone does or hears: a word of the list in the texts (`phone.*`).
 function phoneState(visitor, office, line) {
-  const phone = phoneOf(visitor, line), kind = visitor.wishes.find(it => it.line === line)?.kind ?? office.markerFor(line)?.job.kind;
+  const phone = phoneOf(visitor, line), wish = visitor.wishes.find(it => it.line === line);
+  const kind = wish?.kind ?? office.markerFor(line)?.job.kind;
   if (!phone.lifted) {
     if (kind === 'R') return 'leaving';
     return isCalled(office, line) ? 'ringing' : kind && !visitor.phones[line] ? 'working' : 'idle';

@@ -6,31 +6,36 @@ function showTurns(list, office) {
   if (list.dataset.last === last && shown.length === list.children.length) return;
   list.dataset.last = last;
   list.tabIndex = shown.length ? 0 : -1;
-  keepList(list, shown, it => `${it.turn} ${it.job.number} ${it.end} ${texts.language}`, it => makeTurn(it, office), () => {});
+  const keyOf = it => `${it.turn} ${it.job.number} ${it.end} ${texts.language}`;
+  keepList(list, shown, keyOf, it => makeTurn(it, office), () => {});
   list.scrollTop = list.scrollHeight;
 }
 
 function makeTurn(record, office) {
   const words = endWords(record, office), path = [record.path, record.other].filter(it => it).join(' + ');
   return element('li', { 'data-turn': record.turn, value: record.turn, style: `--own:${markerColour(record.marker)}` },
-    element('span', { class: 'turn' }, record.turn), element('span', { class: 'mark' }, record.marker), element('span', { class: 'words' }, words, path ? element('code', {}, path) : ''));
+    element('span', { class: 'turn' }, record.turn),
+    element('span', { class: 'mark' }, record.marker),
+    element('span', { class: 'words' }, words, path ? element('code', {}, path) : ''));
 }
 
 function showCards(place, office) {
   const cards = office.records.flatMap(record => record.cards.map(card => ({ record, card }))).slice(-MOST_SHOWN);
   place.parentElement.hidden = cards.length === 0;
-  keepList(place, cards, it => `${it.record.turn} ${it.card.trial} ${texts.language}`, it => makeCard(it, office), () => {});
+  const keyOf = it => `${it.record.turn} ${it.card.trial} ${texts.language}`;
+  keepList(place, cards, keyOf, makeCard, () => {});
 }
 
 // A trouble card as it is punched: the kind of the link, and its three digits, each in a row of ten places.
-function makeCard({ record, card }, office) {
-  const { kind, digits } = linkParts(card.link);
+function makeCard({ record, card }) {
+  const { kind, digits } = linkParts(card.link), { turn, job, marker } = record;
   const names = [t(`punch.${kind}.0`), t(`punch.${kind}.1`), t('punch.channel')];
+  const place = (digit, at) => at === digit ? element('i', { class: 'hole' }) : element('i', {}, at);
   const rows = digits.map((digit, row) => element('div', { class: 'punches' }, element('span', {}, names[row]),
-    ...Array.from({ length: 10 }, (_, at) => element('i', { class: at === digit ? 'hole' : '' }, at === digit ? '' : at))));
+    ...Array.from({ length: 10 }, (_, at) => place(digit, at))));
   return element('article', { class: 'card' },
     element('h3', {}, t('card.title'), element('b', {}, card.link)),
-    element('p', {}, t('card.says', { turn: record.turn, job: record.job.number, marker: record.marker, trial: card.trial, link: t(`link.${kind}`) })),
+    element('p', {}, t('card.says', { turn, job: job.number, marker, trial: card.trial, link: t(`link.${kind}`) })),
     element('div', { class: 'punched', 'aria-hidden': 'true' }, ...rows));
 }
 

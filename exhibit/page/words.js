@@ -14,31 +14,39 @@ const spaced = digits => digits ? `${digits.slice(0, 3)} ${digits.slice(3)}` : '
 // A step, or a marker's next step.
 function stepWords(step, office) {
   if (texts.own.steps === 'engine') return step.says;
-  const object = step.object && objectWords(step.object), items = (step.items ?? []).map(it => itemWords(step, it)).join(', ');
-  const denied = step.holder !== null && step.holder !== undefined ? t('denied.holder', { marker: step.holder })
-    : step.preferred !== null && step.preferred !== undefined ? t('denied.preferred', { marker: step.preferred }) : '';
-  const act = step.act === 'turn' && step.record ? t('act.turn', { turn: step.turn, end: endWords(step.record, office) }) : t(`act.${step.act}`, { object, items, turn: step.turn ?? '' });
+  const items = (step.items ?? []).map(it => itemWords(step, it)).join(', ');
+  const object = step.object ? objectWords(step.object) : '', end = step.record ? endWords(step.record, office) : '';
+  const act = t(`act.${step.act}`, { object, items, end, turn: step.turn ?? '' });
   const found = step.act === 'test' && 'found' in step ? (items ? t('found.some', { items }) : t('found.none')) : '';
-  const ended = step.ended !== null && step.ended !== undefined ? t('step.ended') : '';
-  return [act, found, denied, ended].filter(it => it).join(' ');
+  return [act, found, deniedWords(step), isThere(step.ended) ? t('step.ended') : ''].filter(it => it).join(' ');
+}
+
+function deniedWords({ holder, preferred }) {
+  if (isThere(holder)) return t('denied.holder', { marker: holder });
+  return isThere(preferred) ? t('denied.preferred', { marker: preferred }) : '';
 }
 
 function itemWords(step, item) {
-  return step.object.kind === 'group' ? t('item.member', { member: item.field }) : item.name.replace(' and ', ' – ').replace('line ', '').replace('place ', '');
+  if (step.object.kind === 'group') return t('item.member', { member: item.field });
+  return item.name.replace(' and ', ' – ').replace('line ', '').replace('place ', '');
 }
 
 // How a job ended, as a sentence.
 function endWords(record, office) {
-  const { job, end, path, other, trial } = record, at = path && pathParts(path);
+  const { job, end, path, other } = record, at = path && pathParts(path);
   return t(`end.${end}`, {
-    line: office.lineName(job.line), digits: spaced(job.dialled), channel: at?.channel, trial,
-    place: at ? office.placeName(at.place) : '', other: other ? office.lineName(pathParts(other).line) : '', with: other ? t('with', { other: office.lineName(pathParts(other).line) }) : '',
+    line: office.lineName(job.line),
+    digits: spaced(job.dialled),
+    channel: at?.channel,
+    place: at ? office.placeName(at.place) : '',
+    with: other ? t('with', { other: office.lineName(pathParts(other).line) }) : '',
   });
 }
 
 // An event as a sentence of its marker.
 function eventWords(event, office) {
-  const words = event.event === 'assignment' ? t('assigned', { job: jobWords(event.job, office) }) : event.event === 'step' ? stepWords(event, office) : '';
+  const isJob = event.event === 'assignment';
+  const words = isJob ? t('assigned', { job: jobWords(event.job, office) }) : stepWords(event, office);
   return t('marker.does', { marker: event.marker, words });
 }
 
