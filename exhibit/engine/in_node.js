@@ -1,17 +1,19 @@
 "use strict";
 
-// Tests inside.js and the module in node, for exhibit/test_engine: in_node.js MODULE CASES NARROW SHALLOW..
+// Tests inside.js and the module in node, for exhibit/test_engine: in_node.js MODULE CASES FOLDER..
 //
-// MODULE is the module of the page, and CASES a file of bindings/cases.py. NARROW is a folder of the same module with less
-// and less memory to grow to, and SHALLOW one whose stack is small. Prints a line for each thing that differs, and last
-// how many cases there were and how many differ.
+// MODULE is the module of the page, and CASES a file of bindings/cases.py. A FOLDER has the same module with more and more
+// memory to grow to, or more and more stack, in the order of the files' names. Prints a line for each thing that differs,
+// and last how many cases there were and how many differ.
 
 const { readFileSync, readdirSync } = require("fs");
+const { basename } = require("path");
 const { gzipSync } = require("zlib");
 const threads = require("worker_threads");
 
 const OUT_OF_MEMORY = 5;
 const ROWS = Buffer.from("J,0,1,D,3041\nS,0,128,,\n"), KINDS = Buffer.from("XX");
+const SILENT = { error() {} };
 const SCRIPT = readFileSync(`${__dirname}/inside.js`, "utf8");
 
 let cases = 0, differ = 0;
@@ -96,33 +98,29 @@ async function testGrowth(module, plan) {
         exports.memory.buffer.byteLength === before);
 }
 
-// Each answer is the right one, or says that memory ran out. With the least memory some run out, with the most none.
-async function testNarrow(folder, all) {
-    const few = all.filter((it) => it.input.length < 100_000 && it.plan.length < 100_000).slice(0, 60);
+// Modules with little memory or stack. Each answer is the right one, or says that memory ran out. With the least some run
+// out, with the most none, and a module goes on after a call that ran out.
+async function testLittle(folder, all) {
+    const short = all.filter((it) => it.input.length < 100_000 && it.plan.length < 100_000 && it.status !== 1);
+    const some = short.filter((_, k) => k % Math.ceil(short.length / 100) === 0);
     const counts = [];
+    let wentOn = 0;
     for (const file of readdirSync(folder).sort()) {
-        const module = readFileSync(`${folder}/${file}`), calls = inside(module).callsOfModule(module);
-        let refused = 0;
-        for (const it of few) {
+        const module = readFileSync(`${folder}/${file}`), calls = inside(module, { console: SILENT }).callsOfModule(module);
+        const refused = [];
+        for (const it of some) {
             const { status, bytes } = await calls.answerBytes(it.task, it.plan, it.kinds, it.input);
-            const isRefused = status === OUT_OF_MEMORY;
-            refused += isRefused;
-            check(`${it.name} with the memory of ${file}`,
-                isRefused ? bytes.length === 0 : status === it.status && same(bytes, it.text));
+            const ranOut = status === OUT_OF_MEMORY;
+            wentOn += !ranOut && refused.at(-1) === true;
+            refused.push(ranOut);
+            check(`${it.name} with ${file}`, ranOut ? bytes.length === 0 : status === it.status && same(bytes, it.text));
         }
-        counts.push(refused);
+        counts.push(refused.filter((it) => it).length);
     }
-    check(`memory ran out in ${counts} calls`, counts[0] > 0 && counts.at(-1) === 0);
-}
-
-// A stack that overflows stops the module, and the next call works.
-async function testShallow(file, plan) {
-    const module = readFileSync(file), said = [];
-    const calls = inside(module, { console: { error: (...words) => said.push(words) } }).callsOfModule(module);
-    const deep = await calls.answerBytes(0, plan, KINDS, ROWS);
-    check("a module whose stack overflows", deep.status === OUT_OF_MEMORY && deep.bytes.length === 0 && said.length === 1);
-    const next = await calls.answerBytes(0, plan, Buffer.from("?"), ROWS);
-    check("the call after that", next.status === 2 && said.length === 1);
+    console.log(`of ${some.length} calls each, ${counts.join(", ")} ran out of ${basename(folder)}`);
+    check(`with the least ${basename(folder)} some run out`, counts[0] > 0);
+    check(`with the most ${basename(folder)} none runs out`, counts.at(-1) === 0);
+    check(`calls after others that ran out of ${basename(folder)}`, wentOn > 0);
 }
 
 // A browser's worker, made of node's.
@@ -133,7 +131,7 @@ class Worker {
             'let onmessage; port.on("message", (data) => onmessage({ data }));\n';
         this.started = blob.text().then((text) => {
             const worker = new threads.Worker(before + text, { eval: true });
-            worker.on("message", (data) => this.onmessage({ data }));
+            worker.on("message", (data) => this.onmessage?.({ data }));
             worker.on("error", (error) => this.onerror(error));
             return worker;
         });
@@ -199,14 +197,13 @@ async function testLost(engine, plan, records) {
 }
 
 async function main() {
-    const [modulePath, casesPath, narrow, shallow] = process.argv.slice(2);
+    const [modulePath, casesPath, ...folders] = process.argv.slice(2);
     const module = readFileSync(modulePath), all = [...casesIn(casesPath)];
     const { plan } = all.find((it) => it.task === 0 && it.status === 0);
     await testCases(module, all);
     await testRooms(module, plan);
     await testGrowth(module, plan);
-    await testNarrow(narrow, all);
-    await testShallow(shallow, plan);
+    for (const folder of folders) await testLittle(folder, all);
     await testEngines(module, plan);
     console.log(`${cases} ${differ}`);
 }

@@ -147,6 +147,7 @@ function callsInWorker(module, lost) {
     }
 
     function loseAll(error) {
+        worker.onmessage = null;
         worker.terminate();
         lost();
         for (const call of waiting.values()) call.failed(error);

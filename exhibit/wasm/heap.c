@@ -20,7 +20,6 @@ _Static_assert(sizeof(u64) == 8 && sizeof(void *) == 8, "heap.c is for a target 
    module is stopped before it overwrites anything. */
 #define LIMIT (1ul << 31)
 #define PAGE 65536ul
-#define LEAST_GROWTH (16 * PAGE)
 #define CLASSES 112
 
 /* What the kit calls Tried. */
@@ -56,16 +55,12 @@ static u64 memory_bytes(void) { return __builtin_wasm_memory_size(0) * PAGE; }
 /* Whether there are this many bytes behind all blocks. Lets the memory grow if there aren't. Whether it grew is seen by
    its size alone: the answer of memory.grow is a number of 32 bits in the page's module, so its -1 isn't one here. */
 static int has_unused(u64 bytes) {
-    u64 had = memory_bytes();
-    if (unused + bytes > LIMIT)
+    u64 wanted = unused + bytes, had = memory_bytes();
+    if (wanted > LIMIT)
         return 0;
-    if (unused + bytes > had) {
-        u64 more = rounded_up(unused + bytes - had, PAGE);
-        if (more < LEAST_GROWTH && had + LEAST_GROWTH <= LIMIT)
-            more = LEAST_GROWTH;
-        __builtin_wasm_memory_grow(0, more / PAGE);
-    }
-    return unused + bytes <= memory_bytes();
+    if (wanted > had)
+        __builtin_wasm_memory_grow(0, rounded_up(wanted - had, PAGE) / PAGE);
+    return wanted <= memory_bytes();
 }
 
 /* A new block of this class, or 0. */

@@ -45,6 +45,8 @@ def sections(module):
     while at < len(module):
         kind = module[at]
         length, at = number(module, at + 1)
+        if at + length > len(module):
+            raise NotKnown("the module is cut short")
         yield kind, module[at:at + length]
         at += length
 
