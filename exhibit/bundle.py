@@ -4,13 +4,14 @@ bundle(engine_script, module=None) gives the page as text. exhibit/page/index.ht
 
     @@STYLE@@   page/style.css
     @@SCRIPT@@  page/*.js, in the order of page/order.txt, which has a name in each line
-    @@ENGINE@@  the engine's script, a file such as engine/inside.js; in it @@MODULE@@ is the module, its bytes packed by
-                gzip, in base64
+    @@ENGINE@@  the engine's script, a file such as engine/inside.js; in it @@MODULE@@ is the module, packed by gzip, in
+                base64
     @@TEXTS@@   an object: the content of each page/texts/*.json by its name without .json
-    @@PLANS@@   an object: the text of each examples/*.toml by its name without .toml, and of 'example', the plan that the
-                program has if none is named
-    @@FILMS@@   an array of {name, plan, kinds, rows}, by page/films.json: an array of objects with the same names, where
-                rows is a file of examples, and plan is one too, or null for the example plan. Here both are texts
+    @@PLANS@@   an object: the text of each examples/*.toml by its name without .toml, and by 'example' the plan that
+                the program has if none is named
+    @@FILMS@@   an array of {name, plan, kinds, rows}, by page/films.json: an array of objects with the same names,
+                where rows is a file of examples, and plan is one too, or null for the example plan. Here both are
+                texts
 
 The last three are JSON in which no `<` stands for itself, so nothing in it ends a script element or begins a comment.
 What is missing, or can't stand where it is put, raises a BundleError that names it.

@@ -177,8 +177,8 @@ async function testEngines(module, plan) {
         ["with a worker", { Worker, URL: AS_OBJECTS }, "worker"],
     ]) {
         const engine = await inside(module, given).openEngine();
-        const { about } = engine;
-        check(`${name}: what it says of itself`, engine.name === "inside" && about.key === key && about.bytes === module.length);
+        check(`${name}: its name`, engine.name === "inside");
+        check(`${name}: what it says of itself`, engine.about.key === key && engine.about.bytes === module.length);
         await testEngine(name, engine, text, records);
         if (key === "worker") await testLost(engine, text, records);
     }

@@ -76,8 +76,8 @@ function callsOfModule(module) {
     }
 
     async function answerNow(task, given, read) {
-        const compiled = await ready;
-        if (!Number.isInteger(task) || task < 0 || task >= 2 ** 32) return { status: NO_SUCH_TASK, made: read(new Uint8Array()) };
+        const compiled = await ready, nothing = new Uint8Array();
+        if (!Number.isInteger(task) || task < 0 || task >= 2 ** 32) return { status: NO_SUCH_TASK, made: read(nothing) };
         try {
             exports ??= (await WebAssembly.instantiate(compiled, {})).exports;
             const { status, bytes } = call(task, given());
@@ -86,7 +86,7 @@ function callsOfModule(module) {
         } catch (error) {
             exports = null;
             if (!isOutOfMemory(error)) throw error;
-            return { status: OUT_OF_MEMORY, made: read(new Uint8Array()) };
+            return { status: OUT_OF_MEMORY, made: read(nothing) };
         }
     }
 
