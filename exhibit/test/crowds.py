@@ -5,7 +5,7 @@ import random, time
 from page import marker
 from scenario import scenario
 
-ORDERS_TO_BREAK = 12
+ORDERS_TO_BREAK = 6
 
 
 class Order:

@@ -8,7 +8,6 @@ from program import EXAMPLE_PLAN
 from scenario import scenario
 
 EXAMPLES = os.path.join(os.path.dirname(os.path.realpath(__file__)), "../../examples")
-MOST_SECONDS = 90  # that the page may take for a file
 
 
 def example(name):
@@ -31,10 +30,10 @@ def give(test, path, dropped=True):
 
 def choose_file(test, path):
     """Chooses a file in the dialog of files, and leaves the dialog."""
-    test.browser.run("document.querySelector('#message').textContent = ''")
+    test.page.forget_messages()
     test.browser.click("#files")
     test.browser.files("#file", path)
-    test.browser.wait("return document.querySelector('#message').textContent", MOST_SECONDS)
+    test.page.wait_for_message()
     test.browser.click("#files-dialog .close")
 
 
@@ -56,12 +55,14 @@ def check_rows_taken(test, name, rows, dropped=True):
     replayed = test.program.replay(page.plan(), page.kinds(), rows)
     shown = test.program.replay(page.plan(), page.kinds(), page.rows())
     test.check(shown == replayed, f"{name}: the page's rows aren't those of the file")
+    test.check(not page.text("#message"), f"{name}: the page takes it and says {page.text('#message')!r}")
     test.check_office(name)
 
 
 def check_plan_taken(test, name, plan, dropped=True):
     give(test, test.file(name, plan), dropped)
     test.check(test.page.plan() == plan, f"{name}: the page doesn't have the plan of the file")
+    test.check(not test.page.text("#message"), f"{name}: the page takes it and says {test.page.text('#message')!r}")
     test.check_office(name)
 
 
@@ -97,24 +98,19 @@ def large_files(test):
         page.lift(number)
         page.finish()
         test.check(page.ends()[-1:] == ["DIALTONE"], f"with a full plan a lifted receiver ends {page.ends()[-1:]}")
-    kept, rows = (page.rows(), page.plan()), plans.many_jobs(10_000)
+    check_many_jobs(test, plans.many_jobs(10_000))
+
+
+def check_many_jobs(test, rows):
+    """Rows of very many jobs are taken to their end, or refused with a reason and without harm."""
+    page, begun = test.page, time.monotonic()
+    kept = page.rows(), page.plan()
     give(test, test.file("many.csv", rows))
-    if page.browser.run("return document.body.dataset.mode") == "film":
-        check_long_film(test)
-    else:
+    test.figure(f"10,000 jobs: {time.monotonic() - begun:.1f} s")
+    if page.text("#message"):
         test.check((page.rows(), page.plan()) == kept, "many.csv: the page doesn't keep what it had")
-        test.figure("10,000 jobs are refused: " + page.text("#message")[:100])
+        test.figure("they are refused: " + page.text("#message")[:100])
+    else:
+        turns = len(page.look()["records"])
+        test.check(turns == 10_000, f"many.csv: the page shows {turns} turns")
     test.check_office("many.csv")
-
-
-def check_long_film(test):
-    """A film of very many rows plays, and goes on quickly from row to row."""
-    page = test.page
-    test.figure("10,000 jobs: " + page.text("#message")[:100])
-    page.automatic(True, "End")
-    test.browser.wait("return exhibit.look().records.length >= 5", 60)
-    page.rest()
-    begun, first = time.monotonic(), page.rows()
-    page.skip(100)
-    test.figure(f"100 of its rows in {time.monotonic() - begun:.1f} s")
-    test.check(page.rows() != first, "many.csv: the film doesn't go on")

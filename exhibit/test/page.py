@@ -199,9 +199,16 @@ class Page:
         self.idle()
         self.automatic(True, "End")
 
-    def drop(self, path):
-        """Drops a file, and waits until the page says what it makes of it."""
-        self.browser.run("document.querySelector('#message').textContent = ''")
-        self.browser.drop_file("body", path)
-        self.browser.wait("return document.querySelector('#message').textContent", 90)
+    def forget_messages(self):
+        self.browser.run("for (const id of ['message', 'files-message']) document.getElementById(id).textContent = ''")
+
+    def wait_for_message(self, seconds=90):
+        """Waits until the page says what it makes of a file, be it good or bad."""
+        self.browser.wait("return document.querySelector('#message').textContent"
+                          " || document.querySelector('#files-message').textContent", seconds)
         self.idle()
+
+    def drop(self, path):
+        self.forget_messages()
+        self.browser.drop_file("body", path)
+        self.wait_for_message()

@@ -5,6 +5,7 @@ import os, tempfile
 from page import phone
 from program import records_text
 
+LISTED = 100  # of the last turns the page lists at least so many
 ALL = []  # the scenarios, in the order of their modules
 
 
@@ -65,7 +66,8 @@ class Test:
         turns = page.browser.run("return [...document.querySelectorAll('#turns li[data-turn]')]"
                                  ".map(item => +item.dataset.turn)")
         told = [record["turn"] for record in said["records"]]
-        self.check(sorted(turns) == told, f"{where}: the turns in the list are {turns}, in the office {told}"[:300])
+        listed = len(turns) >= min(len(told), LISTED) and turns == told[len(told) - len(turns):]
+        self.check(listed, f"{where}: the turns in the list are {turns}, in the office {told}"[:300])
 
     def check_audit(self, where):
         """The page's audit says what the program's says of the records so far, and that is that all is legal."""
