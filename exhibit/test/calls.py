@@ -17,13 +17,15 @@ class Order:
         self.test, self.page, self.chance = test, test.page, random.Random(seed)
         self.digits = {"0001": "2340002", "0003": "5550000"}
         self.by = ("keyboard", "keypad")[seed % 2]
-        self.undos = 0
+        self.undos, self.past = 0, []
 
     def run(self):
         for _ in range(MOST_ACTS):
             now = self.page.situation()
             if self._over(now):
                 return
+            if now["rows"] not in self.past[-1:]:
+                self.past.append(now["rows"])
             self._act(now)
         raise BrowserError(f"two calls aren't over after {MOST_ACTS} acts")
 
@@ -34,8 +36,7 @@ class Order:
     def _act(self, now):
         """Undoes or steps; a visitor's own part comes as soon as the phone lets it."""
         if now["undo"] and self.undos < MOST_UNDOS and self.chance.random() < 0.08:
-            self.undos += 1
-            return self.page.press("#undo")
+            return self._undo()
         for number, digits in self.digits.items():
             state = now["phones"][number]
             if state == "idle":
@@ -43,6 +44,16 @@ class Order:
             if state in ("tone", "dialling") and self.chance.random() < 0.3:
                 return self.page.dial(number, digits, self.by)
         self._step(now)
+
+    def _undo(self):
+        """Takes an act back. The rows are then those before it; a digit alone adds none."""
+        before = self.page.rows()
+        earlier = [rows for rows in self.past if rows != before]
+        self.page.press("#undo")
+        self.undos += 1
+        after = self.page.rows()
+        self.test.check(after in (before, *earlier[-1:]), f"after an undo the rows are {after!r}, before it {before!r}")
+        self.past = earlier if after != before else self.past
 
     def _step(self, now):
         if now["one"] and self.chance.random() < 0.2:

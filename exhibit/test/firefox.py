@@ -38,6 +38,12 @@ KEYS = {
     "Alt": "\ue00a", "Meta": "\ue03d",
 }
 
+# Lines of Firefox's own among those of the page's console: it misses its settings on the network.
+OWN_LINES = ("console.error: RSLoader:",)
+
+# Takes the bars around the page away, so that Tab leads from the page's end to its beginning.
+BARE = 'document.getElementById("navigator-toolbox").style.display = "none"'
+
 # Gives the shown page a size of its own within the browser's window.
 RESIZE = """
 const [width, height, scale, touch] = arguments, page = gBrowser.selectedBrowser;
@@ -72,6 +78,7 @@ class Firefox(Browser):
         self._read()
         self._call("WebDriver:NewSession", {"unhandledPromptBehavior": "accept"})
         self._call("WebDriver:SetTimeouts", {"script": PATIENCE * 1000, "pageLoad": PATIENCE * 1000})
+        self._chrome(BARE)
         self._chrome(REPORTED)
 
     def _write_settings(self, profile):
@@ -133,7 +140,8 @@ class Firefox(Browser):
         printed = self.process.printed()
         lines = printed[self.read_of_log:].splitlines()
         self.read_of_log = len(printed)
-        self.found += [line for line in lines if line.startswith(("console.error:", "console.assert:"))]
+        self.found += [line for line in lines if line.startswith(("console.error:", "console.assert:"))
+                       and not line.startswith(OWN_LINES)]
 
     def open(self, url):
         for address in ("about:blank", url):

@@ -133,7 +133,8 @@ def arrow_keys(test):
     test.check(mode == "break", f"the arrow keys and Enter lead from day to {mode}")
 
 
-SIGHT = "return document.body.dataset.mode + exhibit.rows()"
+# What moves when the page plays by itself.
+SIGHT = "return document.body.dataset.mode + document.querySelector('#say').textContent"
 LINKS_OUT = """
 const here = location.href.split("#")[0], parts = [...document.querySelectorAll("a[href], area[href], form, iframe")];
 return parts.filter(part => part.checkVisibility() && (part.href ?? "x").split("#")[0] !== here)
@@ -146,7 +147,7 @@ def check_attract(test, end):
     page, browser = test.page, test.browser
     page.open("#kiosk=2")
     first = browser.run(SIGHT)
-    browser.wait("return document.body.dataset.mode + exhibit.rows() !== values[0]", 20, first)
+    browser.wait(f"{SIGHT} !== values[0]", 20, first)
     time.sleep(1)
     end()
     time.sleep(0.5)
@@ -155,7 +156,7 @@ def check_attract(test, end):
     time.sleep(1)
     sights.append(browser.run(SIGHT))
     test.check(sights[0] == sights[1], "the page goes on by itself after a visitor came")
-    browser.wait("return document.body.dataset.mode + exhibit.rows() !== values[0]", 20, sights[1])
+    browser.wait(f"{SIGHT} !== values[0]", 20, sights[1])
 
 
 @scenario("g", "kiosk: the page plays by itself, a key or a touch ends that, and no link leads out")

@@ -12,7 +12,7 @@ return {
     phones: Object.fromEntries(all(".phone").map(phone => [phone.dataset.number, phone.dataset.state])),
     steps: all(".marker button.step:enabled").map(button => button.closest(".marker").dataset.marker),
     undo: all("#undo:enabled").length > 0, one: all("#one:enabled").length > 0,
-    jobs: look.markers.filter(marker => marker.job).length,
+    jobs: look.markers.filter(marker => marker.job).length, rows: exhibit.rows(),
     ends: look.records.map(record => [record.job.kind, record.job.line, record.end]),
 };
 """
@@ -143,7 +143,7 @@ class Page:
         self.dial(number, digits, by)
         self.finish()
 
-    def wait_for_state(self, number, states, seconds=20):
+    def wait_for_state(self, number, states, seconds=60):
         self.browser.wait("return values[1].includes(document.querySelector(values[0])?.dataset.state)", seconds,
                           phone(number), states)
         self.idle()

@@ -8,12 +8,14 @@ from scenario import scenario
 from texts import SIZES
 
 
-def take(test, name):
+def take(test, name, shown="body"):
+    """A screenshot at each size, with the first element that fits `shown` in view."""
     os.makedirs(test.options.pictures, exist_ok=True)
     for width, height in SIZES:
         test.browser.size(width, height, touch=width < 600)
         test.page.idle()
-        test.browser.run("scrollTo(0, 0)")
+        test.browser.run("document.querySelector(values[0]).scrollIntoView({behavior: 'instant'})", shown)
+        test.page.idle()
         test.browser.screenshot(os.path.join(test.options.pictures, f"{name}-{width}x{height}.png"))
     test.browser.size(1280, 720)
 
@@ -33,7 +35,7 @@ def meeting(test):
     """Two markers that want one frame, at the step at which one is denied it."""
     for number in ("0001", "0002"):
         test.page.lift(number)
-    for name in ("0", "1", "0", "1"):
+    for name in ("0", "0", "1"):
         if test.page.enabled(marker(name)):
             test.page.press(marker(name))
     take(test, "meeting")
@@ -43,7 +45,7 @@ def trouble(test):
     drop(test, "faults.toml", plans.plan_with_faults())
     test.page.lift("0001")
     test.page.finish()
-    take(test, "trouble")
+    take(test, "trouble", "#cards")
 
 
 def forty_paths(test):
