@@ -105,6 +105,9 @@ def whole_call(test, by):
     page.lift("0001")
     page.wait_for_state("0001", ["tone"])
     page.dial("0001", "2340004", by)
+    dialled = [marker["job"]["dialled"] for marker in page.look()["markers"] if marker["job"]]
+    dialled += [record["job"]["dialled"] for record in page.look()["records"]]
+    test.check("2340004" in dialled, f"2340004 was dialled, and the office has {dialled}")
     page.wait_for_state("0001", ["ringback"])
     page.wait_for_state("0004", ["ringing"])
     page.press(phone("0004", "button.answer"))

@@ -143,20 +143,22 @@ return parts.filter(part => part.checkVisibility() && (part.href ?? "x").split("
 
 
 def check_attract(test, end):
-    """The page begins to play by itself, and ends that when a visitor comes."""
+    """The page begins to play by itself, and ends that when a visitor comes, who can then lift a receiver."""
     page, browser = test.page, test.browser
-    page.open("#kiosk=2")
+    page.open("#kiosk=4")
     first = browser.run(SIGHT)
     browser.wait(f"{SIGHT} !== values[0]", 20, first)
     time.sleep(1)
     end()
-    time.sleep(0.5)
+    browser.wait("return document.body.dataset.mode === 'day'", 5)
+    time.sleep(0.3)
     page.idle()
-    sights = [browser.run(SIGHT)]
+    begun = browser.run(SIGHT)
     time.sleep(1)
-    sights.append(browser.run(SIGHT))
-    test.check(sights[0] == sights[1], "the page goes on by itself after a visitor came")
-    browser.wait(f"{SIGHT} !== values[0]", 20, sights[1])
+    test.check(browser.run(SIGHT) == begun, "the page goes on by itself after a visitor came")
+    page.lift("0001")
+    test.check(page.state("0001") != "idle", "a visitor can't lift a receiver after the films")
+    browser.wait("return document.body.dataset.mode === 'film'", 20)
 
 
 @scenario("g", "kiosk: the page plays by itself, a key or a touch ends that, and no link leads out")

@@ -55,13 +55,12 @@ function paintedBy(element, x, y) {
     return (gradient ?? [style.backgroundColor]).map(text => withOpacity(colourOf(text), opacity));
 }
 
-// The colours that can be behind an element's text at a point, or null if the text isn't to be seen there.
+// The colours that can be behind an element's text at a point, or null if the element isn't to be seen there.
 function behind(element, x, y) {
-    const stack = document.elementsFromPoint(x, y), own = stack.findIndex(part => part === element);
-    const first = own >= 0 ? own : stack.findIndex(part => part.contains(element));
-    if (first < 0) return null;
+    const stack = document.elementsFromPoint(x, y), own = stack.indexOf(element);
+    if (own < 0) return null;
     let found = [[255, 255, 255, 1]];
-    for (const part of stack.slice(first).reverse()) {
+    for (const part of stack.slice(own).reverse()) {
         if (part instanceof SVGTextContentElement) continue;
         const painted = paintedBy(part, x, y);
         if (painted.length) found = painted.flatMap(colour => found.map(bottom => over(colour, bottom)));
@@ -109,18 +108,19 @@ function inkOf(element) {
     return withOpacity(colourOf(style.color), opacity);
 }
 
-// The least contrast that a text has with what can be behind it, or null if it's covered.
+// The least contrast that a text has with what can be behind it, or null if nobody can see it.
 function contrastOf(text) {
-    let box = text.range.getClientRects()[0];
-    const outside = box.top < 0 || box.bottom > innerHeight || box.left < 0 || box.right > innerWidth;
-    if (outside) {
-        text.element.scrollIntoView({block: "center", inline: "center", behavior: "instant"});
-        box = text.range.getClientRects()[0];
-    }
-    const grounds = behind(text.element, box.left + box.width / 2, box.top + box.height / 2);
+    const grounds = groundsOf(text) ?? (text.element.scrollIntoView(MIDDLE), groundsOf(text));
     if (!grounds) return null;
     const ink = inkOf(text.element);
     return Math.min(...grounds.map(ground => contrast(over(ink, ground), ground)));
+}
+
+const MIDDLE = {block: "center", inline: "center", behavior: "instant"};
+
+function groundsOf(text) {
+    const box = text.range.getClientRects()[0];
+    return behind(text.element, box.left + box.width / 2, box.top + box.height / 2);
 }
 
 function nameOf(element) {

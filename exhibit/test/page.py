@@ -19,6 +19,12 @@ return {
 
 FILMS = "return [...document.querySelectorAll('#film option')].map(option => option.value)"
 
+# Whether a digit can be dialled: its hole or key is there, and the wheel has come back.
+AT_REST = """
+const wheel = document.querySelector(values[1]), digit = document.querySelector(values[0] + ":enabled");
+return digit && !wheel.getAnimations({subtree: true}).length;
+"""
+
 SELECT = """
 const list = document.querySelector(values[0]);
 list.value = values[1];
@@ -124,7 +130,7 @@ class Page:
                 self.browser.key(digit)
             else:
                 css = f'#{by} button[data-digit="{digit}"]'
-                self.browser.wait("return document.querySelector(values[0] + ':enabled')?.dataset.digit", 10, css)
+                self.browser.wait(AT_REST, 10, css, "#" + by)
                 self.browser.click(css)
             self.idle()
 
