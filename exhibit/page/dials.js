@@ -8,16 +8,19 @@ function keypad(dialled) {
   return element('div', { id: 'keypad', role: 'group', 'data-t-label': 'keypad' }, ...keys);
 }
 
-// The holes lie on a circle, 1 at the upper right and 0 at the lower right, as on a telephone.
+// The digits stand still, as on a telephone: 1 at the upper right, 0 at the lower right. The wheel with its holes turns
+// over them, and lets clicks through.
 function rotary(dialled) {
-  const wheel = element('div', { class: 'wheel' });
-  [1, 2, 3, 4, 5, 6, 7, 8, 9, 0].forEach((digit, place) => {
-    const angle = (-60 - 30 * place) * Math.PI / 180, x = 50 + 37 * Math.cos(angle), y = 50 + 37 * Math.sin(angle);
+  const wheel = element('div', { class: 'wheel', 'aria-hidden': 'true' });
+  const digits = [1, 2, 3, 4, 5, 6, 7, 8, 9, 0].map((digit, place) => {
+    const angle = (-60 - 30 * place) * Math.PI / 180;
+    const style = `left:${(50 + 37 * Math.cos(angle)).toFixed(2)}%;top:${(50 + 37 * Math.sin(angle)).toFixed(2)}%`;
+    wheel.append(element('span', { style }));
     const turn = () => { turnWheel(wheel, place); dialled(String(digit)); };
-    wheel.append(button(digit, turn, { 'data-digit': digit, style: `left:${x.toFixed(2)}%;top:${y.toFixed(2)}%` }));
+    return button(digit, turn, { 'data-digit': digit, style });
   });
   const parts = ['stop', 'hub'].map(name => element('div', { class: name, 'aria-hidden': 'true' }));
-  return element('div', { id: 'rotary', role: 'group', 'data-t-label': 'rotary' }, wheel, ...parts);
+  return element('div', { id: 'rotary', role: 'group', 'data-t-label': 'rotary' }, ...digits, wheel, ...parts);
 }
 
 // Turns the wheel as far as the finger stop, and lets it come back.

@@ -6,7 +6,7 @@ function showMarkers(list, stage) {
   list.classList.toggle('many', many);
   const lastOf = new Map(office.events.map(event => [event.marker, event]));
   const make = many ? makeTile : makeMarker;
-  keepList(list, office.markers, it => `${it.marker} ${many}`, it => make(it.marker, stage), (it, marker) => {
+  keepList(list, office.markers, it => `${stage.name} ${it.marker} ${many}`, it => make(it.marker, stage), (it, marker) => {
     it.classList.toggle('working', Boolean(marker.job));
     for (const name of ['step', 'finish']) {
       const press = it.querySelector(`.${name}`);

@@ -8,6 +8,7 @@ ghost use Rattle.std.specs.Prelude.{◌<◌, ◌≤◌, IfSome};
 mod live;
 mod lone_marker;
 mod markers;
+mod notes;
 mod plans;
 mod slot_threads;
 mod threads;
@@ -22,8 +23,8 @@ use std::thread::Threads;
 use std::{env, io};
 use xbar_plan::Plan;
 
-const USAGE: &str = "usage: benches [dials | calls | core [MARKERS] | plans | slots [THOUSANDS] \
-                     | threads [THOUSANDS] | live [HUNDREDS]]";
+const USAGE: &str = "usage: benches [dials | calls | core [MARKERS] | plans | notes [THOUSANDS] \
+                     | slots [THOUSANDS] | threads [THOUSANDS] | live [HUNDREDS]]";
 
 /// Does a tenth of each work whose counts are always the same, and prints these counts, by which
 /// two builds of the program can be compared.
@@ -67,6 +68,7 @@ fn measure<R: Print + Eprint + Clock + Threads + Wait + Sync>(
         Some("calls") => CALLS.measure(rt, plan),
         Some("core") => markers::measure(rt, alloc, plan, count(number, 1, 10)?),
         Some("plans") => plans::measure(rt, alloc),
+        Some("notes") => notes::measure(rt, alloc, count(number, 100, 100_000)?),
         Some("slots") => slot_threads::measure(rt, alloc, count(number, 100, 100_000)?),
         Some("threads") => threads::measure(rt, alloc, plan, count(number, 100, 100_000)?),
         Some("live") => live::measure(rt, alloc, plan, count(number, 3, 1000)?),
