@@ -1,7 +1,7 @@
 #!/usr/bin/env python3
-"""A model of `draw`, `draw --text` and `page`, after docs/FORMATS.md and the definitions of the crates svg, xbar_office_text,
-xbar_office_drawing and xbar_page. It trusts the records (no audit), reads them and a plan, and replays the set of paths by what the records
-tell: a path that comes is put into the order of lines, one that is taken out goes, and a completing job gives its register back.
+"""A model of `draw`, `draw --text` and `page`, after docs/FORMATS.md and the definitions of the crates svg, xbar_picture,
+xbar_office_text, xbar_office_drawing and xbar_page. It trusts the records (no audit), reads them and a plan, and replays the set of paths by
+what the records tell: a path that comes is put into the order of lines, one that is taken out goes, and a completing job gives its register back.
 Usage: drawing_model.py text|svg|page PLAN < RECORDS"""
 import sys, tomllib
 
@@ -158,7 +158,7 @@ def line_frame():
     for k in TEN: o += stroke(4, level(k), 124, level(k), "lines") + box(130, level(k) - 3, 36, 6, "switch") + box(290, level(k) - 3, 36, 6, "switch")
     return o
 def trunk_frame():
-    o = box(0, 0, 294, 80, "frame") + "".join(stroke(42, level(n), 166, level(u), "idle") for u in TEN for n in TEN)
+    o = box(0, 0, 294, 80, "frame") + "".join(stroke(42, level(n), 166, level(u), "idle") for n in TEN for u in TEN)
     for k in TEN: o += stroke(208, level(k), 288, level(k), "trunks") + box(6, level(k) - 3, 36, 6, "switch") + box(166, level(k) - 3, 36, 6, "switch")
     return o
 def mesh(): return trail("bar", (0, 2), (5, 2)) + trail("bar", (2, 0), (2, 5))
@@ -177,10 +177,6 @@ def shapes():
 # ---- the office
 def frame_top(f): return 62 + 83 * f
 def row(f, k): return frame_top(f) + level(k)
-def way(p, kind):
-    """a link from left to right, as the points of a trail"""
-    a, b, c, d = row(p.lf, p.ls), row(p.lf, p.n), row(p.tf, p.n), row(p.tf, p.ts)
-    return {"LL": [(376, a), (500, b)], "JU": [(536, b), ((750, b), (750, c), (964, c))], "TL": [(1000, c), (1124, d)]}[kind]
 def fault(l):
     a, b, n = (int(c) for c in l[2:])
     if l[:2] == "LL": return trail("fault", (376, row(a, b)), (500, row(a, n)))
@@ -193,16 +189,17 @@ def bundle(l, t):
     a, b = frame_top(l) + 40, frame_top(t) + 40
     return trail("bundle", (542, a), ((750, a), (750, b), (958, b)))
 def heads():
-    o = words(16, 52, "head", "line link frames") + words(1584, 52, "head end", "trunk link frames")
+    o = words(16, 52, "head", "line link frames")
     for x, name in ((274, "lines"), (358, "switches"), (438, "line links"), (518, "switches"), (750, "junctors"), (982, "switches"), (1062, "trunk links"), (1142, "switches"), (1206, "trunks")):
         o += words(x, 52, "head middle", name)
-    return o
+    return o + words(1584, 52, "head end", "trunk link frames")
+def sample(left, right, y, c): return stroke(left, y, right, y, c + " edge") + stroke(left, y, right, y, c)
 def key():
-    o = stroke(1130, 24, 1180, 24, "register edge") + stroke(1130, 24, 1180, 24, "register") + words(1188, 29, "plain", "to a register")
-    o += stroke(1310, 24, 1360, 24, "call") + words(1368, 29, "plain", "of a call")
+    o = sample(1130, 1180, 24, "register") + words(1188, 29, "plain", "to a register")
+    o += sample(1310, 1360, 24, "call") + words(1368, 29, "plain", "of a call")
     return o + stroke(1450, 24, 1500, 24, "fault") + words(1508, 29, "plain", "faulty link")
 def office(plan):
-    return (heads() + "".join(bundle(l, t) for l in TEN for t in TEN) + "".join(two_frames(f) for f in TEN) + "".join(fault(l) for l in plan.faults))
+    return (key() + heads() + "".join(bundle(l, t) for l in TEN for t in TEN) + "".join(two_frames(f) for f in TEN) + "".join(fault(l) for l in plan.faults))
 
 # ---- a path in it
 def course(p):
@@ -254,15 +251,13 @@ def card_face(r, trial, l):
     return o
 
 # ---- the drawing
-def entry(plan, k, p):
-    x, y = 40 + 390 * (k % 4), 940 + 24 * (k // 4)
-    c = plan.use_class(p)
+def entry(plan, p):
     number = plan.numbers.get(p.line)
-    o = stroke(x, y - 5, x + 30, y - 5, c + " edge") + stroke(x, y - 5, x + 30, y - 5, c)
-    return o + words(x + 40, y, "plain", p.text) + words(x + 134, y, "plain", (number + " to " if number else "to ") + plan.member(p))
+    return (sample(0, 30, 15, plan.use_class(p)) + words(40, 20, "plain", p.text)
+            + words(134, 20, "plain", (number + " " if number else "") + "to " + plan.member(p)))
 def title(paths): return words(16, 30, "big", f"paths: {len(paths)}, crosspoints closed: {4 * len(paths)}")
 def part(x, y, figures): return f'<g transform="translate({x} {y})">\n' + figures + "</g>\n"
-def cells(height, top, pictures): return "".join(part(40 + 520 * (i % 3), top + height * (i // 3), o) for i, o in enumerate(pictures))
+def laid_out(count, width, height, top, pictures): return "".join(part(40 + width * (k % count), top + height * (k // count), o) for k, o in enumerate(pictures))
 def rows(n, columns): return (n + columns - 1) // columns
 STYLE = ("text{font:14px Georgia,'DejaVu Serif',serif;fill:#2b2620}.sheet{fill:#f6f0e2}"
     ".frame{fill:#fbf8ef;stroke:#8c7d63}.switch{fill:#efe6d2;stroke:#8c7d63;stroke-width:.7}"
@@ -288,10 +283,10 @@ def svg(plan, records):
     below = 940 + 24 * rows(n, 4)
     under = below + 184 * rows(n, 3)
     height = under + 250 * rows(len(cards), 3)
-    o = picture_head(1600, height, STYLE) + shapes() + box(0, 0, 1600, height, "sheet")
-    o += title(paths) + key() + office(plan) + "".join(path_trails(plan, p) for p in paths) + "".join(path_dots(plan, p) for p in paths) + names(plan, paths)
-    o += "".join(entry(plan, k, p) for k, p in enumerate(paths))
-    o += cells(184, below, [path_card(plan, p) for p in paths]) + cells(250, under, [card_face(*c) for c in cards])
+    o = picture_head(1600, height, STYLE) + '<rect width="100%" height="100%" class="sheet"/>\n' + shapes()
+    o += part(0, 0, title(paths) + office(plan) + "".join(path_trails(plan, p) for p in paths) + "".join(path_dots(plan, p) for p in paths) + names(plan, paths))
+    o += laid_out(4, 390, 24, 920, [entry(plan, p) for p in paths]) + laid_out(3, 520, 184, below, [path_card(plan, p) for p in paths])
+    o += laid_out(3, 520, 250, under, [card_face(*c) for c in cards])
     return o + "</svg>\n"
 # ---- page
 PAGE_STYLE = (
@@ -427,7 +422,7 @@ def page(plan, records):
     o += ('<div id="frames" tabindex="0" role="region" aria-label="The office">\n<svg xmlns="http://www.w3.org/2000/svg" viewBox="0 0 1600 900" role="img" aria-labelledby="name said">\n'
           '<title id="name">The frames of the office, and its paths</title>\n<desc id="said">Ten line link frames at the left, ten trunk link frames at the right, and the junctors between them. A path is a line from a line to a trunk, with a dot at each of its four crosspoints.</desc>\n')
     now = [p for p, k, until in stays(plan, records) if until is None]
-    o += shapes() + f'<text x="16" y="30" class="big" id="count">paths: {len(now)}, crosspoints closed: {4 * len(now)}</text>\n' + key() + office(plan)
+    o += shapes() + f'<text x="16" y="30" class="big" id="count">paths: {len(now)}, crosspoints closed: {4 * len(now)}</text>\n' + office(plan)
     o += "".join(stay(plan, *s) for s in stays(plan, records)) + "</svg>\n</div>\n"
     return o + "</main>\n<script>" + SCRIPT + "</script>\n</body>\n</html>\n"
 
