@@ -20,7 +20,11 @@ class Plan:
                     self.at[a] = (g, i, b); self.at[b] = (g, i, a)
                 else:
                     self.at[m] = (g, i, None)
-        self.faults = set(t["faults"])
+        self.faults = t["faults"]
+        self.numbers = {}     # line -> the first number that has it
+        for item in t["numbers"]:
+            number, *lines = item.split(" ")
+            for l in lines: self.numbers.setdefault(l, number)
     def to_register(self, p):
         m = self.at.get(p.place)
         return m is not None and self.groups[m[0]][1] == "register"
@@ -135,102 +139,221 @@ def text(plan, records):
 def esc(s): return s.replace("&", "&amp;").replace("<", "&lt;").replace(">", "&gt;").replace('"', "&quot;")
 def box(x, y, w, h, c): return f'<rect x="{x}" y="{y}" width="{w}" height="{h}" class="{c}"/>\n'
 def stroke(x, y, x2, y2, c): return f'<line x1="{x}" y1="{y}" x2="{x2}" y2="{y2}" class="{c}"/>\n'
-def dot(x, y, c): return f'<circle cx="{x}" cy="{y}" r="4" class="{c}"/>\n'
+def dot(x, y, c): return f'<circle cx="{x}" cy="{y}" r="3" class="{c}"/>\n'
 def words(x, y, c, t): return f'<text x="{x}" y="{y}" class="{c}">{esc(t)}</text>\n'
-def sheet(h): return box(0, 0, 1000, h, "sheet")
+def copy(x, y, name): return f'<use href="#{name}" x="{x}" y="{y}"/>\n'
+def trail(c, first, *rest):
+    """a stroke through points; three points are a curve, which ends at the last of them"""
+    d = f"M{first[0]} {first[1]}"
+    for p in rest:
+        d += f"L{p[0]} {p[1]}" if len(p) == 2 else "C" + " ".join(f"{x} {y}" for x, y in p)
+    return f'<path d="{d}" class="{c}"/>\n'
+def named(name, figures): return f'<g id="{name}">\n' + figures + "</g>\n"
+TEN = range(10)
 
-def office_map(plan, paths):
-    top = lambda f: 76 + 128 * f
-    row = lambda f, n: top(f) + 5 + 10 * n
-    o = sheet(1360) + words(40, 34, "big", f"paths: {len(paths)}, crosspoints closed: {4 * len(paths)}")
-    o += stroke(620, 29, 660, 29, "register") + words(668, 33, "small", "to a register")
-    o += stroke(770, 29, 810, 29, "call") + words(818, 33, "small", "of a call")
-    for f in range(10):
-        for left, name in ((40, "line link frame "), (620, "trunk link frame ")):
-            o += words(left, top(f) - 4, "small", name + str(f)) + box(left, top(f), 300, 110, "frame")
-    for p in paths:
-        o += words(42 + 30 * p.ls, row(p.lf, p.n) + 8, "cell", p.line)
-        o += stroke(340, row(p.lf, p.n) + 5, 620, row(p.tf, p.n) + 5, plan.use_class(p))
-        o += words(622 + 30 * p.ts, row(p.tf, p.n) + 8, "cell", p.place)
+# ---- what is drawn once, and copied
+def level(k): return 4 + 8 * k        # the middle of the row of a switch in its frame
+def line_frame():
+    o = box(0, 0, 332, 80, "frame") + "".join(stroke(166, level(s), 290, level(n), "idle") for s in TEN for n in TEN)
+    for k in TEN: o += stroke(4, level(k), 124, level(k), "lines") + box(130, level(k) - 3, 36, 6, "switch") + box(290, level(k) - 3, 36, 6, "switch")
+    return o
+def trunk_frame():
+    o = box(0, 0, 294, 80, "frame") + "".join(stroke(42, level(n), 166, level(u), "idle") for n in TEN for u in TEN)
+    for k in TEN: o += stroke(208, level(k), 288, level(k), "trunks") + box(6, level(k) - 3, 36, 6, "switch") + box(166, level(k) - 3, 36, 6, "switch")
+    return o
+def mesh(): return trail("bar", (0, 2), (5, 2)) + trail("bar", (2, 0), (2, 5))
+CORNERS = [(24, 0), (480, 0), (480, 226), (0, 226), (0, 24), (24, 0)]
+def blank_card():
+    o = trail("card", *CORNERS)
+    for i, name in enumerate(("line link", "junctor", "trunk link")): o += box(140 + 110 * i, 98, 9, 15, "place") + words(155 + 110 * i, 111, "plain", name)
+    for d in TEN: o += words(194 + 28 * d, 136, "middle", str(d))
+    for i in range(3):
+        for d in TEN: o += box(190 + 28 * d, 142 + 26 * i, 9, 15, "place")
+    return o
+def shapes():
+    return ("<defs>\n" + named("line-frame", line_frame()) + named("trunk-frame", trunk_frame()) + named("blank-card", blank_card())
+            + '<pattern id="mesh" width="5" height="5" patternUnits="userSpaceOnUse">\n' + mesh() + "</pattern>\n</defs>\n")
+
+# ---- the office
+def frame_top(f): return 62 + 83 * f
+def row(f, k): return frame_top(f) + level(k)
+def fault(l):
+    a, b, n = (int(c) for c in l[2:])
+    if l[:2] == "LL": return trail("fault", (376, row(a, b)), (500, row(a, n)))
+    if l[:2] == "TL": return trail("fault", (1000, row(a, n)), (1124, row(a, b)))
+    return trail("fault", (536, row(a, n)), ((750, row(a, n)), (750, row(b, n)), (964, row(b, n))))
+def two_frames(f):
+    return (copy(210, frame_top(f), "line-frame") + words(24, frame_top(f) + 48, "number", str(f))
+            + copy(958, frame_top(f), "trunk-frame") + words(1576, frame_top(f) + 48, "number", str(f)))
+def bundle(l, t):
+    a, b = frame_top(l) + 40, frame_top(t) + 40
+    return trail("bundle", (542, a), ((750, a), (750, b), (958, b)))
+def heads():
+    o = words(16, 52, "head", "line link frames")
+    for x, name in ((274, "lines"), (358, "switches"), (438, "line links"), (518, "switches"), (750, "junctors"), (982, "switches"), (1062, "trunk links"), (1142, "switches"), (1206, "trunks")):
+        o += words(x, 52, "head middle", name)
+    return o + words(1584, 52, "head end", "trunk link frames")
+def sample(left, right, y, c): return stroke(left, y, right, y, c + " edge") + stroke(left, y, right, y, c)
+def key():
+    o = sample(1130, 1180, 24, "register") + words(1188, 29, "plain", "to a register")
+    o += sample(1310, 1360, 24, "call") + words(1368, 29, "plain", "of a call")
+    return o + stroke(1450, 24, 1500, 24, "fault") + words(1508, 29, "plain", "faulty link")
+def office(plan):
+    return (key() + heads() + "".join(bundle(l, t) for l in TEN for t in TEN) + "".join(two_frames(f) for f in TEN) + "".join(fault(l) for l in plan.faults))
+
+# ---- a path in it
+def course(p):
+    a, b, c, d = row(p.lf, p.ls), row(p.lf, p.n), row(p.tf, p.n), row(p.tf, p.ts)
+    return [(216 + 4 * p.lx, a), (376, a), (500, b), (536, b), ((750, b), (750, c), (964, c)), (1000, c), (1124, d), (1170 + 8 * p.ta, d)]
+def points(p):
+    return [(343 + 3 * p.n, row(p.lf, p.ls)), (503 + 3 * p.tf, row(p.lf, p.n)), (967 + 3 * p.lf, row(p.tf, p.n)), (1127 + 3 * p.n, row(p.tf, p.ts))]
+def path_trails(plan, p): return trail(plan.use_class(p) + " edge", *course(p)) + trail(plan.use_class(p), *course(p))
+def path_dots(plan, p): return "".join(dot(x, y, plan.use_class(p)) for x, y in points(p))
+def line_name(plan, p, column):
+    if column > 3: return ""
+    number = plan.numbers.get(p.line)
+    return words(204 - 40 * column, frame_top(p.lf) + 16 * (p.ls // 2) + 13, "line" if number else "line unlisted", number or p.line)
+def trunk_name(plan, p, column):
+    if column > 2: return ""
+    return words(1260 + 102 * column, frame_top(p.tf) + 16 * (p.ts // 2) + 13, "trunk", plan.member(p))
+def names(plan, paths):
+    o = ""
+    for i, p in enumerate(paths):
+        earlier = paths[:i]
+        o += line_name(plan, p, sum((q.lf, q.ls // 2) == (p.lf, p.ls // 2) for q in earlier))
+        o += trunk_name(plan, p, sum((q.tf, q.ts // 2) == (p.tf, p.ts // 2) for q in earlier))
     return o
 
-def frames(plan, p):
-    at = lambda i: 104 + 31 * i
-    o = words(40, 30, "big", p.text) + words(190, 30, "plain", f"line {p.line}, channel {p.n}, {plan.end_text(p)} at place {p.place}")
-    for left, name, f in ((110, "line link frame ", p.lf), (520, "trunk link frame ", p.tf)):
-        o += box(left, 46, 330, 356, "frame") + words(left + 165, 64, "middle", name + str(f))
-    look = lambda l: "fault" if l in plan.faults else "idle"
-    for n in range(10):
-        o += stroke(200, at(p.ls), 350, at(n), look(p.ll(n))) + stroke(420, at(n), 540, at(n), look(p.ju(n))) + stroke(610, at(n), 760, at(p.ts), look(p.tl(n)))
-    for left, name, used in ((130, "line switches", p.ls), (350, "junctor switches", p.n), (540, "junctor switches", p.n), (760, "trunk switches", p.ts)):
-        o += words(left + 35, 82, "small middle", name)
-        for i in range(10):
-            o += box(left, at(i) - 11, 70, 22, "used" if i == used else "switch") + words(left + 35, at(i) + 4, "middle", str(i))
-    a, b, c, k = at(p.ls), at(p.n), at(p.ts), plan.use_class(p)
-    o += stroke(40, a, 130, a, k) + stroke(200, a, 350, b, k) + stroke(420, b, 540, b, k) + stroke(610, b, 760, c, k) + stroke(830, c, 980, c, k)
-    o += words(40, a - 7, "plain", "line " + p.line) + words(275, (a + b) // 2 + 4, "name", p.ll()) + words(480, b + 4, "name", p.ju())
-    o += words(685, (b + c) // 2 + 4, "name", p.tl()) + words(856, c - 7, "small", plan.end_text(p))
-    return o
-
-def grid(left, columns, name, crosspoint):
+# ---- its switches
+def switch(left, columns, name, crosspoint):
     word, field, value = crosspoint
-    o = words(left, 438, "plain", name)
-    for f in range(10): o += stroke(left, 450 + 9 * f, left + 9 * columns, 450 + 9 * f, "idle")
-    for j in range(columns): o += stroke(left + 9 * j + 4, 446, left + 9 * j + 4, 536, "idle")
-    x, y = left + 9 * value - 5, 450 + 9 * field
-    o += stroke(left - 6, y, x, y, "closed") + stroke(x, y, x, 544, "closed") + dot(x, y, "point")
-    return o + words(left, 560, "field", f"word {word}, field {field} holds {value}")
-
-def path_picture(plan, p):
+    x, y = left + 5 * value - 3, 72 + 5 * field
+    o = words(left, 60, "plain", name) + box(left, 70, 5 * columns, 50, "mesh")
+    o += trail("closed", (left - 5, y), (x, y), (x, 124)) + dot(x, y, "point")
+    return o + words(left, 140, "field", f"word {word}") + words(left, 158, "field", f"field {field} = {value}")
+def heading(plan, p): return f"line {p.line}, channel {p.n}, {plan.end_text(p)} at place {p.place}"
+def path_card(plan, p):
     c = p.crosspoints()
-    return (sheet(590) + frames(plan, p) + grid(40, 30, f"line switch {p.lf},{p.ls}", c[0]) + grid(370, 10, f"line junctor switch {p.lf},{p.n}", c[1])
-            + grid(560, 10, f"trunk junctor switch {p.tf},{p.n}", c[2]) + grid(760, 10, f"trunk switch {p.tf},{p.ts}", c[3]))
+    o = words(0, 16, "big", p.text) + words(480, 16, "end", p.links()) + words(0, 36, "plain", heading(plan, p))
+    o += switch(5, 30, f"line switch {p.lf},{p.ls}", c[0]) + switch(190, 10, f"junctor {p.lf},{p.n}", c[1])
+    return o + switch(290, 10, f"junctor {p.tf},{p.n}", c[2]) + switch(390, 10, f"trunk {p.tf},{p.ts}", c[3])
 
+# ---- cards
 def card_face(r, trial, l):
-    o = sheet(250)
-    corners = [(64, 10), (574, 10), (574, 240), (40, 240), (40, 34), (64, 10)]
-    for (x, y), (x2, y2) in zip(corners, corners[1:]): o += stroke(x, y, x2, y2, "edge")
-    o += words(90, 40, "big", "TROUBLE") + words(550, 40, "told", l + " is faulty")
-    for left, name, v in ((90, "turn", r.turn), (270, "job", r.job), (380, "marker", r.marker), (470, "trial", trial)):
-        o += words(left, 66, "small", name) + words(left, 84, "plain", str(v))
-    punch = lambda x, y, yes: box(x, y, 9, 15, "hole" if yes else "place")
+    o = copy(0, 0, "blank-card") + words(40, 34, "big", "TROUBLE") + words(460, 34, "told", l + " is faulty")
+    for left, name, v in ((40, "turn", r.turn), (230, "job", r.job), (330, "marker", r.marker), (430, "trial", trial)):
+        o += words(left, 60, "small", name) + words(left, 80, "plain", str(v))
     kind = {"LL": 0, "JU": 1, "TL": 2}[l[:2]]
-    for i, name in enumerate(("line link", "junctor", "trunk link")):
-        o += punch(210 + 110 * i, 102, i == kind) + words(226 + 110 * i, 114, "small", name)
-    for d in range(10): o += words(214 + 34 * d, 140, "small middle", str(d))
+    o += box(140 + 110 * kind, 98, 9, 15, "hole")
     names = [("line link frame", "line switch"), ("line link frame", "trunk link frame"), ("trunk link frame", "trunk switch")][kind] + ("channel",)
     for i, name in enumerate(names):
-        o += words(194, 162 + 28 * i, "small end", name)
-        for d in range(10): o += punch(210 + 34 * d, 150 + 28 * i, str(d) == l[2 + i])
+        o += words(178, 155 + 26 * i, "end", name) + box(190 + 28 * int(l[2 + i]), 142 + 26 * i, 9, 15, "hole")
     return o
 
-STYLE = """text{font:12px Helvetica,Arial,'DejaVu Sans',sans-serif}.sheet{fill:#fff}.frame{fill:#f7f5ee;stroke:#8a8474}.switch{fill:#fff;stroke:#8a8474}.used{fill:#fff3c4;stroke:#5f5a4c;stroke-width:1.5}.idle{stroke:#d6d0c0}.fault{stroke:#d35400;stroke-width:3;stroke-dasharray:5 4}.call{stroke:#c0392b;stroke-width:3}.register{stroke:#2471a3;stroke-width:3}.closed{stroke:#5f5a4c;stroke-width:1.6}.point{fill:#c0392b}.edge{stroke:#b9976a;stroke-width:1.5}.hole{fill:#3a3a3a}.place{fill:none;stroke:#d9c7a3}.middle{text-anchor:middle}.end,.told{text-anchor:end}.name{text-anchor:middle;paint-order:stroke;stroke:#fff;stroke-width:5px;stroke-linejoin:round}.small,.field{font-size:10px;fill:#5f5a4c}.cell{font-size:9px}.big{font-size:17px;font-weight:bold}"""
-
-def picture(plan, paths, shown, cards, style=None):
-    h = 1360 + 590 * len(shown) + 250 * len(cards)
-    o = f'<svg xmlns="http://www.w3.org/2000/svg" viewBox="0 0 1000 {h}" width="1000" height="{h}">\n'
-    if style is not None: o += "<style>" + esc(style) + "</style>\n"
-    parts = [office_map(plan, paths)] + [path_picture(plan, p) for p in shown] + [card_face(*c) for c in cards]
-    down = [0] + [1360 + 590 * i for i in range(len(shown))] + [1360 + 590 * len(shown) + 250 * i for i in range(len(cards))]
-    for d, figures in zip(down, parts): o += f'<g transform="translate(0 {d})">\n' + figures + "</g>\n"
-    return o + "</svg>\n"
-
+# ---- the drawing
+def entry(plan, p):
+    number = plan.numbers.get(p.line)
+    return (sample(0, 30, 15, plan.use_class(p)) + words(40, 20, "plain", p.text)
+            + words(134, 20, "plain", (number + " " if number else "") + "to " + plan.member(p)))
+def title(paths): return words(16, 30, "big", f"paths: {len(paths)}, crosspoints closed: {4 * len(paths)}")
+def part(x, y, figures): return f'<g transform="translate({x} {y})">\n' + figures + "</g>\n"
+def laid_out(count, width, height, top, pictures): return "".join(part(40 + width * (k % count), top + height * (k // count), o) for k, o in enumerate(pictures))
+def rows(n, columns): return (n + columns - 1) // columns
+STYLE = ("text{font:14px Georgia,'DejaVu Serif',serif;fill:#2b2620}.sheet{fill:#f6f0e2}"
+    ".frame{fill:#fbf8ef;stroke:#8c7d63}.switch{fill:#efe6d2;stroke:#8c7d63;stroke-width:.7}"
+    ".lines{stroke:#a8997d;stroke-width:4;stroke-dasharray:1 3}.trunks{stroke:#a8997d;stroke-width:4;stroke-dasharray:1 7}"
+    ".idle{stroke:#c9bda3;stroke-width:.35}.bundle{fill:none;stroke:#d8cdb5;stroke-width:.6}.mesh{fill:url(#mesh)}.bar{stroke:#c0b396;stroke-width:.8}"
+    "path{fill:none}.call{stroke:#a3201b;stroke-width:2.4}.call.edge{stroke:#f6f0e2;stroke-width:5}"
+    ".register{stroke:#f6f0e2;stroke-width:1.6}.register.edge{stroke:#1f4e79;stroke-width:4.4}"
+    "circle.call{fill:#2b2620;stroke:#f6f0e2;stroke-width:1}circle.register{fill:#f6f0e2;stroke:#1f4e79;stroke-width:1.6}"
+    ".fault{stroke:#b35309;stroke-width:2.4;stroke-dasharray:6 4}"
+    ".closed{stroke:#2b2620;stroke-width:1.4}.point{fill:#a3201b}"
+    ".card{fill:#f3e3bf;stroke:#8c7d63}.place{fill:#fbf3dc;stroke:#cdb88a}.hole{fill:#2b2620}"
+    ".middle{text-anchor:middle}.end,.told,.line{text-anchor:end}.number{text-anchor:middle;font-size:24px;fill:#6f624b}"
+    ".head,.small,.field{fill:#5d523f}.head{font-style:italic}.unlisted{font-style:italic;fill:#5d523f}.big{font-size:18px;font-weight:bold}")
+def picture_head(width, height, style=None):
+    o = f'<svg xmlns="http://www.w3.org/2000/svg" viewBox="0 0 {width} {height}" width="{width}" height="{height}">\n'
+    return o + ("" if style is None else "<style>" + esc(style) + "</style>\n")
 def cards_in(r): return [(r, trial, l) for trial, l in r.cards]
-
 def svg(plan, records):
     paths = []
     for r in records: paths = after(plan, paths, r)
-    return picture(plan, paths, paths, [c for r in records for c in cards_in(r)], STYLE)
-
+    cards = [c for r in records for c in cards_in(r)]
+    n = len(paths)
+    below = 940 + 24 * rows(n, 4)
+    under = below + 184 * rows(n, 3)
+    height = under + 250 * rows(len(cards), 3)
+    o = picture_head(1600, height, STYLE) + '<rect width="100%" height="100%" class="sheet"/>\n' + shapes()
+    o += part(0, 0, title(paths) + office(plan) + "".join(path_trails(plan, p) for p in paths) + "".join(path_dots(plan, p) for p in paths) + names(plan, paths))
+    o += laid_out(4, 390, 24, 920, [entry(plan, p) for p in paths]) + laid_out(3, 520, 184, below, [path_card(plan, p) for p in paths])
+    o += laid_out(3, 520, 250, under, [card_face(*c) for c in cards])
+    return o + "</svg>\n"
 # ---- page
-PAGE_STYLE = """body{margin:0;font:16px Helvetica,Arial,'DejaVu Sans',sans-serif;color:#222}section{display:none;max-width:1480px;margin:auto;padding:16px 24px}section:target,section:last-of-type{display:block}section:target~section:last-of-type{display:none}h1{font-size:24px;margin:2px 230px 14px 0}nav{display:flex;flex-wrap:wrap;gap:8px}nav a,nav span,button{padding:6px 16px;border:1px solid #8a8474;border-radius:6px;background:#f7f5ee;color:#222;font:inherit;text-decoration:none}nav span{border-color:#d6d0c0;color:#b5b0a3}button{position:absolute;top:14px;right:24px;cursor:pointer}[hidden]{display:none}pre{overflow-x:auto;padding:8px 12px;background:#f7f5ee}.turn{display:flex;gap:28px;align-items:flex-start}.turn ul{flex:0 0 360px;position:sticky;top:16px;margin:0;padding-left:20px;line-height:1.5}.turn svg{flex:1 1 600px;min-width:0;height:auto}li{margin-bottom:8px}.trouble{margin-left:-20px;padding:6px 10px;list-style:none;background:#fbe9d0;border:1px solid #b9976a;border-radius:4px}@media(max-width:1000px){.turn{display:block}.turn ul{position:static;margin-bottom:16px}.turn svg{width:100%}}"""
-SCRIPT = """(()=>{const button=document.getElementById('walk'),label=button.textContent;let timer=0;const shown=()=>document.querySelector('section:target')||document.querySelector('section:last-of-type');const go=relation=>{const link=shown().querySelector('a[rel='+relation+']');if(link)location.hash=link.hash;return link;};const stop=()=>{clearInterval(timer);timer=0;button.textContent=label;};const step=()=>{if(!go('next'))stop();};button.onclick=()=>{if(timer)return stop();if(!go('next'))go('first');timer=setInterval(step,3000);button.textContent='stop';};const keys={ArrowLeft:'prev',ArrowRight:'next',Home:'first',End:'last'};addEventListener('keydown',event=>{const relation=keys[event.key];if(!relation||event.altKey||event.ctrlKey||event.metaKey||event.shiftKey)return;stop();go(relation);event.preventDefault();});button.hidden=false;})();"""
+PAGE_STYLE = (
+"*{box-sizing:border-box}body{margin:0;background:#f6f0e2;color:#2b2620;font:16px/1.45 Georgia,'DejaVu Serif',serif}"
+"svg{display:block;max-width:100%;height:auto}"
+"header{padding:10px 20px 8px;border-bottom:1px solid #c9bda3}h1{font-size:21px;margin:0 0 6px}h2{font-size:19px;margin:0 0 8px}"
+"a{color:#1f4e79}button,select,nav a{font:inherit;color:#2b2620;background:#fbf8ef;border:1px solid #8c7d63;border-radius:4px;padding:4px 12px;cursor:pointer}"
+"nav a{text-decoration:none;color:#1f4e79}button[aria-pressed=true]{background:#1f4e79;color:#fff}"
+":focus-visible{outline:3px solid #1f4e79;outline-offset:2px}"
+"#controls{display:flex;flex-wrap:wrap;gap:8px;align-items:center}#controls[hidden]{display:none}#at{flex:1 1 240px;min-width:120px;accent-color:#1f4e79}#told{min-width:96px}"
+"main{display:grid;grid-template-columns:minmax(0,1fr);gap:16px;padding:14px 20px}"
+"section,section nav{display:none}section{scroll-margin-top:100vh}#status{position:absolute;width:1px;height:1px;overflow:hidden;clip-path:inset(50%)}.now{display:block}"
+"ul{margin:0 0 8px;padding-left:20px}pre{margin:8px 0;font-size:13px;white-space:pre-wrap;overflow-wrap:anywhere;color:#5d523f}"
+".trouble{list-style:none;margin-left:-20px;padding:4px 10px;background:#f3e3bf;border-left:4px solid #b35309}"
+"summary{cursor:pointer;color:#1f4e79}.card-face,.switches{margin:8px 0;width:100%;max-width:480px}"
+"#frames{overflow-x:auto}#frames svg{min-width:960px;width:100%}"
+"#turns{margin:8px 0 0;padding:0;list-style:none;max-height:300px;overflow-y:auto;border-top:1px solid #c9bda3}"
+"#turns a{display:block;padding:2px 6px;text-decoration:none}#turns li{content-visibility:auto;contain-intrinsic-size:auto 27px}#turns a[aria-current]{background:#1f4e79;color:#fff}"
+"[data-from]{display:none}.stands{display:inline}"
+".stands path{opacity:.62}.stands text{opacity:.85;font-size:16px}.new path,.new text{opacity:1}"
+".new .call{stroke-width:4}.new .call.edge{stroke-width:9}.new .register{stroke-width:3}.new .register.edge{stroke-width:7.5}.new circle.call,.new circle.register{stroke-width:1.6}"
+".new text{font-size:20px;font-weight:bold}"
+"@media(min-width:1100px){main{grid-template-columns:330px minmax(0,1fr)}#told{min-width:120px}#aside{max-height:calc(100vh - 112px);overflow-y:auto;padding-right:6px}"
+"#frames svg{min-width:0;max-height:calc(100vh - 112px)}}"
+"@media(min-width:1500px){main{grid-template-columns:390px minmax(0,1fr)}}"
+"@media(max-width:600px){body{font-size:17px}button,select{padding:9px 14px}header,main{padding-left:12px;padding-right:12px}#turns a{padding:8px 6px}}"
+"@media(prefers-reduced-motion:no-preference){.new path{animation:lit .5s ease-out}@keyframes lit{from{opacity:0}}}")
+PLAIN_STYLE = ("section:target,section:last-of-type,[data-from]{display:block}section:target~section:last-of-type,[data-until]{display:none}"
+"section nav{display:flex;gap:8px;margin-bottom:8px}")
+SCRIPT = (
+"(()=>{const get=id=>document.getElementById(id),all=query=>[...document.querySelectorAll(query)];"
+"const sections=all('section'),links=all('#turns a'),last=sections.length-1;"
+"const places=new Map(sections.map((section,place)=>['#'+section.id,place]));"
+"const paths=all('[data-from]').map(group=>({group,from:+group.dataset.from,until:+(group.dataset.until||Infinity)}));let lit=[];"
+"const slider=get('at'),told=get('told'),play=get('play'),list=get('list'),speed=get('speed'),count=get('count');let now=0,timer=0;"
+"const align=(name,taken,isNew)=>{const line=name.classList.contains('line'),row=(line?'l':'t')+name.getAttribute('y');"
+"const from=taken.get(row)||0,to=from+(line?46:114)*(isNew?1.3:1);taken.set(row,to);name.setAttribute('x',line?204-from:1260+from);"
+"name.style.display=to>(line?174:304)?'none':'';};"
+"const show=place=>{const turn=place-1,taken=new Map();"
+"lit.forEach(path=>path.group.classList.remove('stands','new'));"
+"lit=paths.filter(path=>path.from>turn?false:path.until>turn).sort((a,b)=>(b.from===turn)-(a.from===turn));"
+"lit.forEach(path=>{path.group.classList.add('stands');if(path.from===turn)path.group.classList.add('new');"
+"path.group.querySelectorAll('text').forEach(name=>align(name,taken,path.from===turn));});"
+"count.textContent='paths: '+lit.length+', crosspoints closed: '+4*lit.length;"
+"sections[now].classList.remove('now');sections[place].classList.add('now');"
+"links[now].removeAttribute('aria-current');links[place].setAttribute('aria-current','true');"
+"if(list.open)get('turns').scrollTop=links[place].parentNode.offsetTop-get('turns').offsetTop-60;"
+"now=place;slider.value=place;slider.setAttribute('aria-valuetext',sections[place].querySelector('h2').textContent);"
+"told.textContent=place?'turn '+(place-1)+', last '+(last-1):'start';if(!timer)get('status').textContent=sections[place].querySelector('h2').textContent;};"
+"const go=place=>{stop();const to=Math.max(0,Math.min(last,place));history.replaceState(null,'','#'+sections[to].id);show(to);};"
+"const stop=()=>{clearInterval(timer);timer=0;play.textContent='play';play.setAttribute('aria-pressed','false');};"
+"const step=()=>show(now===last?0:now+1);"
+"const start=()=>{clearInterval(timer);timer=setInterval(step,1000*speed.value);play.textContent='stop';play.setAttribute('aria-pressed','true');};"
+"const follow=()=>{if(location.hash==='#play'){show(0);start();return;}stop();show(places.get(location.hash)||0);};"
+"get('first').onclick=()=>go(0);get('before').onclick=()=>go(now-1);get('after').onclick=()=>go(now+1);get('final').onclick=()=>go(last);"
+"play.onclick=()=>{if(timer){go(now);}else{history.replaceState(null,'','#play');start();}};"
+"speed.onchange=()=>{if(timer)start();};slider.oninput=()=>go(+slider.value);"
+"const keys={ArrowLeft:()=>now-1,ArrowRight:()=>now+1,Home:()=>0,End:()=>last};"
+"addEventListener('keydown',event=>{const to=keys[event.key];"
+"if(!to||event.altKey||event.ctrlKey||event.metaKey||event.shiftKey||event.target===slider||event.target===speed)return;"
+"go(to());event.preventDefault();});"
+"list.open=innerWidth>1099;slider.max=last;get('controls').hidden=false;addEventListener('hashchange',follow);follow();})();")
 
 def link(rel, to, label): return f'<a rel="{rel}" href="#{"start" if to is None else f"turn{to}"}">{label}</a>\n'
 def no_link(label): return f"<span>{label}</span>\n"
 def turn_link(rel, to, label): return no_link(label) if to is None else link(rel, to, label)
 BEFORE, AFTER = "&#8592; before", "after &#8594;"
-
 PLAIN = {"CALLEDBUSY": "Called busy: no line of the number that was dialled is idle, but perhaps the calling one.",
          "LINEBUSY": "Line busy: the line is in a path already.", "REGISTERSBUSY": "Registers busy: no register is idle.",
          "TRUNKSBUSY": "Trunks busy: no trunk that the code leads to is idle.", "NOPATH": "No path: no trial found an idle channel.",
@@ -251,29 +374,57 @@ def sentences(plan, r):
     o += [f"Channel {p.n} is idle from line {p.line} to place {p.place}: {p.links()}. Four crosspoints close." for p in brought(r)]
     return o
 
+def asked(r): return f"line {r.of} " + {"D": "wants dial tone", "C": f"calls {r.dialled}", "R": "hangs up"}[r.kind]
+def stays(plan, records):
+    """each path that a turn sets up, with the place of the turn that sets it up and of the one that takes it out"""
+    sets = [[]]
+    for r in records: sets.append(after(plan, sets[-1], r))
+    o = []
+    for k, (before, now) in enumerate(zip(sets, sets[1:])):
+        old = {p.text for p in before}
+        for p in now:
+            if p.text not in old:
+                until = next((j for j in range(k + 1, len(records)) if p.text not in {q.text for q in sets[j + 1]}), None)
+                o.append((p, k, until))
+    return o
+def stay(plan, p, k, until):
+    o = f'<g data-from="{k}"' + ("" if until is None else f' data-until="{until}"') + ">\n"
+    o += f"<title>{p.text}: {plan.end_text(p)}</title>\n"
+    return o + path_trails(plan, p) + path_dots(plan, p) + line_name(plan, p, 0) + trunk_name(plan, p, 0) + "</g>\n"
+def inset(height, figures, c): return f'<svg xmlns="http://www.w3.org/2000/svg" viewBox="0 0 480 {height}" class="{c}">\n' + figures + "</svg>\n"
+def switches(plan, p): return inset(164, path_card(plan, p), "switches")
+HEAD = ('<!DOCTYPE html>\n<html lang="en" xmlns="http://www.w3.org/1999/xhtml">\n<head>\n<meta charset="utf-8"/>\n'
+  '<meta name="viewport" content="width=device-width, initial-scale=1"/>\n<title>A No. 5 Crossbar office, turn by turn</title>\n<style>')
+CONTROLS = ('</style></noscript>\n</head>\n<body>\n<header>\n<h1>A No. 5 Crossbar office, turn by turn</h1>\n<div id="controls" role="group" aria-label="Turns" hidden="hidden">\n'
+  '<button id="first" type="button">start</button>\n<button id="before" type="button">&#8592; before</button>\n'
+  '<button id="play" type="button" aria-pressed="false">play</button>\n<button id="after" type="button">after &#8594;</button>\n<button id="final" type="button">last</button>\n'
+  '<input id="at" type="range" min="0" max="0" value="0" aria-label="Turn"/>\n<output id="told" for="at">start</output>\n'
+  '<label>one turn in <select id="speed"><option value="0.5">half a second</option><option value="1">1 second</option><option value="3" selected="selected">3 seconds</option><option value="8">8 seconds</option></select></label>\n'
+  '</div>\n<p id="status" role="status"></p>\n</header>\n<main>\n<div id="aside">\n')
 def page(plan, records):
-    o = ('<!DOCTYPE html>\n<html lang="en" xmlns="http://www.w3.org/1999/xhtml">\n<head>\n<meta charset="utf-8"/>\n'
-         '<meta name="viewport" content="width=device-width"/>\n<title>A No. 5 Crossbar office, turn by turn</title>\n<style>'
-         + STYLE + PAGE_STYLE + '</style>\n</head>\n<body>\n<button id="walk" type="button" hidden="hidden">walk through all turns</button>\n')
+    o = HEAD + STYLE + PAGE_STYLE + "</style>\n<noscript><style>" + PLAIN_STYLE + CONTROLS
     first = records[0].turn if records else None
     last = records[-1].turn if records else None
-    o += '<section id="start">\n<h1>The office before all turns</h1>\n<nav>\n' + no_link("start") + no_link(BEFORE)
-    o += turn_link("next", first, AFTER) + turn_link("last", last, "last") + "</nav>\n"
-    o += f'<div class="turn">\n<ul>\n<li>No path stands: all crosspoints are open.</li>\n<li>Jobs that take their turn: {len(records)}.</li>\n</ul>\n'
-    o += picture(plan, [], [], []) + "</div>\n</section>\n"
-    paths, before = [], None
+    o += '<section id="start">\n<h2>The office before all turns</h2>\n<nav>\n' + turn_link("next", first, AFTER) + "</nav>\n"
+    o += f'<ul>\n<li>No path stands: all crosspoints are open.</li>\n<li>Jobs that take their turn: {len(records)}.</li>\n</ul>\n</section>\n'
+    before = None
     for i, r in enumerate(records):
-        paths = after(plan, paths, r)
         following = records[i + 1].turn if i + 1 < len(records) else None
-        asked = {"D": "wants dial tone", "C": f"calls {r.dialled}", "R": "hangs up"}[r.kind]
-        o += f'<section id="turn{r.turn}">\n<h1>Turn {r.turn}: line {r.of} {asked}</h1>\n<nav>\n' + link("first", None, "start") + link("prev", before, BEFORE)
-        o += turn_link("next", following, AFTER) + turn_link("last", last, "last") + "</nav>\n"
-        o += "<pre><code>" + r.line + "\n" + "".join(f"TROUBLE,{r.turn},{r.job},{t},{l}\n" for t, l in r.cards) + "</code></pre>\n"
-        o += '<div class="turn">\n<ul>\n' + "".join(f"<li>{esc(s)}</li>\n" for s in sentences(plan, r))
+        o += f'<section id="turn{r.turn}">\n<h2>Turn {r.turn}: {asked(r)}</h2>\n<nav>\n' + link("prev", before, BEFORE)
+        o += turn_link("next", following, AFTER) + "</nav>\n"
+        o += '<ul>\n' + "".join(f"<li>{esc(s)}</li>\n" for s in sentences(plan, r))
         o += "".join(f'<li class="trouble">Trouble card: trial {t}, {l} is faulty.</li>\n' for t, l in r.cards) + "</ul>\n"
-        o += picture(plan, paths, brought(r), cards_in(r)) + "</div>\n</section>\n"
+        o += "".join(inset(228, card_face(*c), "card-face") for c in cards_in(r)) + "".join(switches(plan, p) for p in brought(r))
+        o += "<pre><code>" + r.line + "\n" + "".join(f"TROUBLE,{r.turn},{r.job},{t},{l}\n" for t, l in r.cards) + "</code></pre>\n</section>\n"
         before = r.turn
-    return o + "<script>" + SCRIPT + "</script>\n</body>\n</html>\n"
+    o += '<details id="list">\n<summary>All turns</summary>\n<ol id="turns">\n<li><a href="#start">before all turns</a></li>\n'
+    o += "".join(f'<li><a href="#turn{r.turn}">{r.turn}: {asked(r)}</a></li>\n' for r in records) + "</ol>\n</details>\n</div>\n"
+    o += ('<div id="frames" tabindex="0" role="region" aria-label="The office">\n<svg xmlns="http://www.w3.org/2000/svg" viewBox="0 0 1600 900" role="img" aria-labelledby="name said">\n'
+          '<title id="name">The frames of the office, and its paths</title>\n<desc id="said">Ten line link frames at the left, ten trunk link frames at the right, and the junctors between them. A path is a line from a line to a trunk, with a dot at each of its four crosspoints.</desc>\n')
+    now = [p for p, k, until in stays(plan, records) if until is None]
+    o += shapes() + f'<text x="16" y="30" class="big" id="count">paths: {len(now)}, crosspoints closed: {4 * len(now)}</text>\n' + office(plan)
+    o += "".join(stay(plan, *s) for s in stays(plan, records)) + "</svg>\n</div>\n"
+    return o + "</main>\n<script>" + SCRIPT + "</script>\n</body>\n</html>\n"
 
 MAKE = {"text": text, "svg": svg, "page": page}
 if __name__ == "__main__":

@@ -138,4 +138,5 @@ fn laws_can_be_called() {
     laws::each_path_has_one_line();
     laws::each_card_is_drawn_once();
     xbar_office_drawing::laws::each_crosspoint_and_each_card_is_drawn_once();
+    xbar_office_drawing::laws::each_part_of_a_page_is_drawn_once();
 }

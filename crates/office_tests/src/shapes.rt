@@ -3,7 +3,10 @@
 use std::alloc::Global;
 use std::process::Abort;
 use std::test::Fail;
-use svg::{Point, Shape, add_circle, add_drawing, add_escaped, add_group, add_group_end};
+use svg::{
+    Bend, Point, Shape, add_circle, add_drawing, add_escaped, add_group, add_group_end,
+    add_named_group,
+};
 use test_tools::check_eq;
 
 const SHAPES: &[Shape<'static>] = &[
@@ -33,18 +36,42 @@ const SHAPES: &[Shape<'static>] = &[
         class: "b",
         content: "",
     },
+    Shape::Trail {
+        from: Point { x: 1, y: 2 },
+        bends: &[
+            Bend::To(Point { x: 30, y: 2 }),
+            Bend::Curve(
+                Point { x: 40, y: 2 },
+                Point { x: 40, y: 65535 },
+                Point { x: 50, y: 9 },
+            ),
+        ],
+        class: "call edge",
+    },
+    Shape::Trail {
+        from: Point { x: 7, y: 0 },
+        bends: &[],
+        class: "c",
+    },
+    Shape::Copy {
+        at: Point { x: 210, y: 62 },
+        name: "a\"b",
+    },
 ];
 
 const DRAWING: &str =
-    r#"<!-- --><svg xmlns="http://www.w3.org/2000/svg" viewBox="0 0 960 640" width="960" height="640">
+    r##"<!-- --><svg xmlns="http://www.w3.org/2000/svg" viewBox="0 0 960 640" width="960" height="640">
 <style>.a&gt;.b{fill:none}</style>
 <rect x="110" y="46" width="330" height="356" class="frame"/>
 <line x1="200" y1="104" x2="350" y2="0" class="idle"/>
 <circle cx="233" cy="450" r="4" class="point"/>
 <text x="65535" y="64" class="small middle">R&amp;D &lt;1&gt;</text>
 <text x="4" y="5" class="b"></text>
+<path d="M1 2L30 2C40 2 40 65535 50 9" class="call edge"/>
+<path d="M7 0" class="c"/>
+<use href="#a&quot;b" x="210" y="62"/>
 </svg>
-"#;
+"##;
 
 #[test]
 fn a_drawing_is_whole(rt: HostRuntime) -> Result<(), Fail> {
@@ -76,16 +103,20 @@ fn texts_are_escaped(rt: HostRuntime) {
     }
 }
 
-const GROUP: &str = r#"<g transform="translate(0 18446744073709551616)">
+const GROUP: &str = r#"<g transform="translate(560 18446744073709551616)">
 <circle cx="1" cy="2" r="3" class="a"/>
+</g>
+<g id="r&amp;d">
 </g>
 "#;
 
 #[test]
-fn groups_are_drawn_further_down(rt: HostRuntime) -> Result<(), Fail> {
+fn groups_are_moved_and_named(rt: HostRuntime) -> Result<(), Fail> {
     let mut text = String::new(rt.alloc());
-    add_group(&mut text, 18446744073709551616)?;
+    add_group(&mut text, 560, 18446744073709551616)?;
     add_circle(&mut text, Point::new(1, 2), 3, "a")?;
+    add_group_end(&mut text)?;
+    add_named_group(&mut text, "r&d")?;
     add_group_end(&mut text)?;
     check_eq!(rt; text.as_str(), GROUP);
     Ok(())

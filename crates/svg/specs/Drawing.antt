@@ -20,9 +20,15 @@ head_text width height style =
 abbrev pub foot_text : List ℕ
 foot_text = codes "</svg>\n"
 
--- the beginning of a group that is moved down by this much
-abbrev pub group_text : ℕ → List ℕ
-group_text down = concat (codes "<g transform=\"translate(0 " ∷ decimal down ∷ codes ")\">\n" ∷ [])
+-- the beginning of a group that is moved across and down by this much
+unfoldable pub group_text : ℕ → ℕ → List ℕ
+group_text across down =
+    concat (codes "<g transform=\"translate(" ∷ decimal across ∷ codes " " ∷ decimal down
+    ∷ codes ")\">\n" ∷ [])
+
+-- the beginning of a group with a name
+unfoldable pub named_group_text : List ℕ → List ℕ
+named_group_text name = concat (codes "<g id=\"" ∷ escaped name ∷ codes "\">\n" ∷ [])
 
 -- the end of a group
 abbrev pub group_end_text : List ℕ

@@ -1,5 +1,5 @@
 ghost use Rattle.std.specs.Prelude.{◌≡◌, ◌++◌, OnOk, codes, flat_map, map, string_bytes};
-ghost use Rattle.svg.specs.Drawing.{drawing_text, foot_text, group_end_text, group_text, head_text, open_text};
+ghost use Rattle.svg.specs.Drawing.{drawing_text, foot_text, group_end_text, group_text, head_text, named_group_text, open_text};
 ghost use Rattle.svg.specs.Figure.{figure_of, figure_text};
 
 use crate::escape::add_escaped;
@@ -60,11 +60,25 @@ pub fn add_foot(text: &mut String) -> Result<(), AllocError>
     Ok(())
 }
 
-/// Adds the beginning of a group. All shapes of the group are moved down by this much.
-pub fn add_group(text: &mut String, down: u128) -> Result<(), AllocError>
-    ensures { OnOk result (string_bytes text.new ≡ string_bytes text.old ++ group_text down) }
+/// Adds the beginning of a group. All shapes of the group are moved across and down by this much.
+#[tactic(auto, unfolding(crate::specs::Drawing::group_text))]
+pub fn add_group(text: &mut String, across: u16, down: u128) -> Result<(), AllocError>
+    ensures { OnOk result (string_bytes text.new ≡ string_bytes text.old ++
+        group_text across down) }
 {
-    writeln!(text, "<g transform=\"translate(0 {down})\">")?;
+    writeln!(text, "<g transform=\"translate({across} {down})\">")?;
+    Ok(())
+}
+
+/// Adds the beginning of a group with a name, of which there can be copies.
+#[tactic(auto, unfolding(crate::specs::Drawing::named_group_text))]
+pub fn add_named_group(text: &mut String, name: &str) -> Result<(), AllocError>
+    ensures { OnOk result (string_bytes text.new ≡ string_bytes text.old ++
+        named_group_text name.now) }
+{
+    text.push_str("<g id=\"")?;
+    add_escaped(text, name)?;
+    text.push_str("\">\n")?;
     Ok(())
 }
 

@@ -15,6 +15,15 @@ impl Point {
     }
 }
 
+/// How a trail goes on from the point where it is.
+#[derive(Clone, Copy, Debug, PartialEq, Eq)]
+pub enum Bend {
+    /// Straight to a point.
+    To(Point),
+    /// In a curve with two handles, to the last point.
+    Curve(Point, Point, Point),
+}
+
 /// A shape of a drawing. The drawing's style sheet says how its class looks.
 #[derive(Clone, Copy, Debug)]
 pub enum Shape<'a> {
@@ -35,11 +44,22 @@ pub enum Shape<'a> {
         radius: u16,
         class: &'a str,
     },
+    /// A stroke from a point over bends.
+    Trail {
+        from: Point,
+        bends: &'a [Bend],
+        class: &'a str,
+    },
     /// One line of text. It begins at the point, or has its middle or its end there if its class
     /// says so.
     Text {
         at: Point,
         class: &'a str,
         content: &'a str,
+    },
+    /// The group with this name, moved to a point.
+    Copy {
+        at: Point,
+        name: &'a str,
     },
 }

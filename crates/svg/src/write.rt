@@ -1,8 +1,9 @@
-ghost use Rattle.std.specs.Prelude.{◌≡◌, ◌++◌, OnOk, string_bytes};
-ghost use Rattle.svg.specs.Figure.{Rectangle, Line, Circle, Words, figure_of, figure_text, in_class};
+ghost use Rattle.std.specs.Prelude.{◌≡◌, ◌++◌, OnOk, flat_map, string_bytes};
+ghost use Rattle.svg.specs.Figure.{Rectangle, Line, Circle, Trail, Words, Copy, bend_text, figure_of, figure_text, in_class, point_text};
+ghost use Rattle.svg.specs.declared.shape.Bend.TheVariants.{Curve};
 
 use crate::escape::add_escaped;
-use crate::shape::{Point, Shape};
+use crate::shape::{Bend, Point, Shape};
 use std::alloc::AllocError;
 
 /// Adds the element of a shape, on a line of its own. If memory runs out, a part of it may have
@@ -24,7 +25,9 @@ pub fn add_shape(text: &mut String, shape: &Shape<'_>) -> Result<(), AllocError>
             radius,
             class,
         } => add_circle(text, center, radius, class),
+        Shape::Trail { from, bends, class } => add_trail(text, from, bends, class),
         Shape::Text { at, class, content } => add_words(text, at, class, content),
+        Shape::Copy { at, name } => add_copy(text, at, name),
     }
 }
 
@@ -82,6 +85,86 @@ pub fn add_circle(
     write!(text, "<circle cx=\"{x}\" cy=\"{y}\" r=\"{radius}\"")?;
     add_class(text, class)?;
     text.push_str("/>\n")?;
+    Ok(())
+}
+
+/// Adds a trail, as `add_shape` does.
+#[tactic(auto, unfolding(crate::specs::Figure::figure_text))]
+pub fn add_trail(
+    text: &mut String,
+    from: Point,
+    bends: &[Bend],
+    class: &str,
+) -> Result<(), AllocError>
+    ensures { OnOk result (string_bytes text.new ≡ string_bytes text.old ++
+        figure_text (Trail from bends.now class.now)) }
+{
+    text.push_str("<path d=\"M")?;
+    add_point(text, from)?;
+    add_bends(text, bends)?;
+    text.push_str("\"")?;
+    add_class(text, class)?;
+    text.push_str("/>\n")?;
+    Ok(())
+}
+
+/// Adds the two numbers of a point.
+#[tactic(auto, unfolding(crate::specs::Figure::point_text))]
+fn add_point(text: &mut String, at: Point) -> Result<(), AllocError>
+    ensures { OnOk result (string_bytes text.new ≡ string_bytes text.old ++ point_text at) }
+{
+    let Point { x, y } = at;
+    write!(text, "{x} {y}")?;
+    Ok(())
+}
+
+fn add_bends(text: &mut String, bends: &[Bend]) -> Result<(), AllocError>
+    ensures { OnOk result (string_bytes text.new ≡ string_bytes text.old ++
+        flat_map bend_text bends.now) }
+{
+    for bend in bends {
+        add_bend(text, *bend)?;
+    }
+    Ok(())
+}
+
+/// Adds a bend as a command of a path.
+#[tactic(auto, unfolding(crate::specs::Figure::bend_text))]
+fn add_bend(text: &mut String, bend: Bend) -> Result<(), AllocError>
+    ensures { OnOk result (string_bytes text.new ≡ string_bytes text.old ++ bend_text bend) }
+{
+    match bend {
+        Bend::To(to) => {
+            text.push_str("L")?;
+            add_point(text, to)
+        }
+        Bend::Curve(first, second, to) => add_curve(text, first, second, to),
+    }
+}
+
+#[tactic(auto, unfolding(crate::specs::Figure::bend_text))]
+fn add_curve(text: &mut String, first: Point, second: Point, to: Point) -> Result<(), AllocError>
+    ensures { OnOk result (string_bytes text.new ≡ string_bytes text.old ++
+        bend_text (Curve first second to)) }
+{
+    text.push_str("C")?;
+    add_point(text, first)?;
+    text.push_str(" ")?;
+    add_point(text, second)?;
+    text.push_str(" ")?;
+    add_point(text, to)
+}
+
+/// Adds a copy of the group with a name, as `add_shape` does.
+#[tactic(auto, unfolding(crate::specs::Figure::figure_text))]
+pub fn add_copy(text: &mut String, at: Point, name: &str) -> Result<(), AllocError>
+    ensures { OnOk result (string_bytes text.new ≡ string_bytes text.old ++
+        figure_text (Copy at name.now)) }
+{
+    let Point { x, y } = at;
+    text.push_str("<use href=\"#")?;
+    add_escaped(text, name)?;
+    writeln!(text, "\" x=\"{x}\" y=\"{y}\"/>")?;
     Ok(())
 }
 

@@ -1,6 +1,6 @@
 pub mod Longer
-pub mod Stacking
+pub mod Laying
+pub mod NamesLeft
 pub mod Filters
-pub mod ToldPath
-pub mod ToldCard
-pub mod ToldOffice
+pub mod Told
+pub mod ToldDrawing

@@ -1,7 +1,7 @@
 -- A drawing of an office after its records.
-use Rattle.std.specs.Prelude.{ℕ, ◌+◌, ◌*◌, List, [], ◌∷◌, ◌++◌, codes, flat_map, length, map}
+use Rattle.std.specs.Prelude.{ℕ, ◌+◌, ◌*◌, ◌-◌, ◌/◌, List, [], ◌∷◌, ◌++◌, codes, decimal, flat_map, length, map}
 use Rattle.std.specs.List.{concat}
-use Rattle.svg.specs.Drawing.{foot_text, head_text, open_text}
+use Rattle.svg.specs.Drawing.{foot_text, head_text}
 use Rattle.svg.specs.Figure.{Figure}
 use Rattle.xbar_equip.specs.declared.path.Path.{Path}
 use Rattle.xbar_office.specs.declared.reply.Card.{Card}
@@ -9,11 +9,16 @@ use Rattle.xbar_office.specs.declared.reply.Record.{Record}
 use Rattle.xbar_plan.specs.Tables.{Tables}
 use Rattle.xbar_office_drawing.specs.declared.drawing.TheConstants.{STYLE}
 use Rattle.xbar_office_drawing.specs.declared.owned_card.OwnedCard.{OwnedCard}
-use Rattle.xbar_office_drawing.specs.CardFace.{card_face, card_height}
-use Rattle.xbar_office_drawing.specs.Figures.{Part, part_text, sheet, sheet_width}
-use Rattle.xbar_office_drawing.specs.Frames.{frames_picture}
-use Rattle.xbar_office_drawing.specs.Grids.{grids}
-use Rattle.xbar_office_drawing.specs.OfficeMap.{map_height, office_map}
+use Rattle.xbar_office_drawing.specs.CardFace.{card_face}
+use Rattle.xbar_office_drawing.specs.Figures.{Part, in_rows_of, laid_out, part_text, point, words}
+use Rattle.xbar_office_drawing.specs.Index.{entry}
+use Rattle.xbar_office_drawing.specs.Names.{line_name, names, trunk_name}
+use Rattle.xbar_office_drawing.specs.Office.{office}
+use Rattle.xbar_office_drawing.specs.PathInOffice.{path_dots, path_trails}
+use Rattle.xbar_office_drawing.specs.Shapes.{shapes_text}
+use Rattle.xbar_office_drawing.specs.Switches.{path_card}
+
+-- ---- the cards that are drawn
 
 -- a card, with the turn, job and marker of its record
 abbrev pub owned_by : Record → Card → OwnedCard
@@ -28,51 +33,83 @@ cards_in owner = map (owned_by owner) owner.reply.cards
 abbrev pub all_cards : List Record → List OwnedCard
 all_cards records = flat_map cards_in records
 
--- the height of the picture of a path
-abbrev pub path_height : ℕ
-path_height = 590
+-- ---- the picture of the office
 
--- a path through its frames, and below them its four switches
-unfoldable pub path_picture : Tables → Path → List Figure
-path_picture plan path = sheet path_height ∷ frames_picture plan path ++ grids path
+-- the number of paths, and the number of crosspoints that they close
+unfoldable pub count_text : ℕ → List ℕ
+count_text count =
+    concat (codes "paths: " ∷ decimal count ∷ codes ", crosspoints closed: " ∷ decimal (4 * count)
+    ∷ [])
 
--- pictures of one height, each below the one before
-unfoldable pub stacked : ℕ → ℕ → List (List Figure) → List Part
-stacked height down [] = []
-stacked height down (figures ∷ more) =
-    record { down = down; figures = figures } ∷ stacked height (down + height) more
+-- the title of the picture
+abbrev pub title : ℕ → Figure
+title count = words (point 16 30) (codes "big") (count_text count)
 
--- the upper edge of the first card, below this many paths
+-- the office with its paths: their trails, over them their dots, and their names
+unfoldable pub office_with : Tables → List Path → List Figure
+office_with plan paths =
+    title (length paths) ∷ office plan ++ flat_map (path_trails plan) paths
+    ++ flat_map (path_dots plan) paths ++ names plan paths
+
+-- a path alone, with its names in the first columns
+unfoldable pub path_alone : Tables → Path → List Figure
+path_alone plan path =
+    path_trails plan path ++ path_dots plan path ++ line_name plan 0 path ++ trunk_name plan 0 path
+
+-- ---- what is where
+
+-- how many rows of so many pictures there are
+abbrev pub row_count : ℕ → ℕ → ℕ
+row_count count pictures = (pictures + count - 1) / count
+
+-- the upper edge of the first card of a path, below the index of so many paths
+abbrev pub paths_top : ℕ → ℕ
+paths_top paths = 940 + 24 * row_count 4 paths
+
+-- the upper edge of the first trouble card
 abbrev pub cards_top : ℕ → ℕ
-cards_top paths = map_height + path_height * paths
+cards_top paths = paths_top paths + 184 * row_count 3 paths
 
--- the height of a drawing that shows this many paths and cards
+-- the height of a drawing with so many paths and cards
 abbrev pub drawing_height : ℕ → ℕ → ℕ
-drawing_height paths cards = cards_top paths + card_height * cards
+drawing_height paths cards = cards_top paths + 250 * row_count 3 cards
 
--- the parts of a picture: all paths at a glance, each of the paths that are shown through its
--- frames with its four switches, and the cards
-unfoldable pub picture_parts : Tables → List Path → List Path → List OwnedCard → List Part
-picture_parts plan paths shown cards =
-    record { down = 0; figures = office_map plan paths }
-    ∷ stacked path_height map_height (map (path_picture plan) shown)
-    ++ stacked card_height (cards_top (length shown)) (map card_face cards)
+-- the place of an entry of the index
+abbrev pub index_place : ℕ → List Figure → Part
+index_place = in_rows_of 4 390 24 920
+
+-- the place of a path's card, the first of which has this upper edge
+abbrev pub path_card_place : ℕ → ℕ → List Figure → Part
+path_card_place top = in_rows_of 3 520 184 top
+
+-- the place of a trouble card
+abbrev pub card_place : ℕ → ℕ → List Figure → Part
+card_place top = in_rows_of 3 520 250 top
+
+-- the parts of a drawing: the office, the index of the paths, a card for each path, and the trouble
+-- cards
+unfoldable pub drawing_parts : Tables → List Path → List OwnedCard → List Part
+drawing_parts plan paths cards =
+    record { across = 0; down = 0; figures = office_with plan paths }
+    ∷ laid_out index_place 0 (map (entry plan) paths)
+    ++ laid_out (path_card_place (paths_top (length paths))) 0 (map (path_card plan) paths)
+    ++ laid_out (card_place (cards_top (length paths))) 0 (map card_face cards)
+
+-- ---- the drawing
 
 -- the style sheet, which says how each class looks
 abbrev pub style : List ℕ
 style = STYLE.now
 
--- a picture whose style sheet is elsewhere
-unfoldable pub picture_of : Tables → List Path → List Path → List OwnedCard → List ℕ
-picture_of plan paths shown cards =
-    concat (open_text sheet_width (drawing_height (length shown) (length cards))
-    ∷ flat_map part_text (picture_parts plan paths shown cards) ∷ foot_text ∷ [])
+-- the sheet on which a drawing is
+abbrev pub sheet_text : List ℕ
+sheet_text = codes "<rect width=\"100%\" height=\"100%\" class=\"sheet\"/>\n"
 
--- a drawing: a picture that shows each path, with its style sheet
+-- a drawing, 1,600 units wide
 unfoldable pub drawing_of : Tables → List Path → List OwnedCard → List ℕ
 drawing_of plan paths cards =
-    concat (head_text sheet_width (drawing_height (length paths) (length cards)) style
-    ∷ flat_map part_text (picture_parts plan paths paths cards) ∷ foot_text ∷ [])
+    concat (head_text 1600 (drawing_height (length paths) (length cards)) style ∷ sheet_text
+    ∷ shapes_text ∷ flat_map part_text (drawing_parts plan paths cards) ∷ foot_text ∷ [])
 
 -- an office after its records, with all cards that are among them
 abbrev pub office_drawing : Tables → List Path → List Record → List ℕ

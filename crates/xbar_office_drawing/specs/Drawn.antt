@@ -1,37 +1,40 @@
 -- The figures of a drawing that show closed crosspoints and cards, among all its figures.
 use Rattle.std.specs.Prelude.{ℕ, ◌||◌, Bool, true, false, List, [], ◌∷◌, ◌++◌, codes, flat_map}
 use Rattle.std.specs.Str.{bytes_eq}
-use Rattle.svg.specs.Figure.{Figure, Rectangle, Line, Circle, Words}
+use Rattle.svg.specs.Figure.{Figure, Rectangle, Line, Circle, Trail, Words, Copy}
 use Rattle.xbar_equip.specs.Crosspoint.{crosspoints}
 use Rattle.xbar_equip.specs.declared.crosspoint.Crosspoint.{Crosspoint}
 use Rattle.xbar_equip.specs.declared.path.Path.{Path}
 use Rattle.xbar_office_drawing.specs.Figures.{Part}
-use Rattle.xbar_office_drawing.specs.Grids.{crossing, field_words}
+use Rattle.xbar_office_drawing.specs.Switches.{crossing, field_words, word_words}
 
 -- all figures of some parts
 abbrev pub figures_in : List Part → List Figure
 figures_in parts = flat_map (λ part. part.figures) parts
 
--- whether a figure is a dot, the text of a field, or the text of a card
+-- whether a figure is a dot, the text of a word or a field, or the text of a card
 abbrev pub is_evidence : Figure → Bool
 is_evidence (Rectangle corner width height class) = false
 is_evidence (Line from to class) = false
 is_evidence (Circle center radius class) = true
+is_evidence (Trail from bends class) = false
 is_evidence (Words at class content) =
     bytes_eq class (codes "field") || bytes_eq class (codes "told")
+is_evidence (Copy at name) = false
 
--- the figures of a closed crosspoint in the grid with this left edge: a dot at its field and its
--- value, and below the grid its word, its field and its value
+-- the figures of a closed crosspoint in the switch with this left edge: a dot at its field and its
+-- value, and below the switch its word, its field and its value
 abbrev pub crosspoint_evidence : ℕ → Crosspoint → List Figure
-crosspoint_evidence left crosspoint = crossing left crosspoint ∷ field_words left crosspoint ∷ []
+crosspoint_evidence left crosspoint =
+    crossing left crosspoint ∷ word_words left crosspoint ∷ field_words left crosspoint ∷ []
 
--- the figures of the four crosspoints of a path, each in the grid of its switch
+-- the figures of the four crosspoints of a path, each in its switch
 abbrev pub all_crosspoint_evidence : List Crosspoint → List Figure
 all_crosspoint_evidence (first ∷ second ∷ third ∷ fourth ∷ []) =
-    crosspoint_evidence 40 first ++ crosspoint_evidence 370 second ++ crosspoint_evidence 560 third
-    ++ crosspoint_evidence 760 fourth
+    crosspoint_evidence 5 first ++ crosspoint_evidence 190 second ++ crosspoint_evidence 290 third
+    ++ crosspoint_evidence 390 fourth
 all_crosspoint_evidence _ = []
 
--- the figures that show the closed crosspoints of a path
+-- the figures that show the closed crosspoints of a path on its card
 abbrev pub path_evidence : Path → List Figure
 path_evidence path = all_crosspoint_evidence (crosspoints path)

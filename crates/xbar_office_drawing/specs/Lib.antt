@@ -1,7 +1,10 @@
 pub mod Figures
-pub mod OfficeMap
-pub mod Frames
-pub mod Grids
+pub mod Shapes
+pub mod Office
+pub mod PathInOffice
+pub mod Names
+pub mod Switches
+pub mod Index
 pub mod CardFace
 pub mod Drawing
 pub mod Drawn

@@ -1,42 +1,52 @@
 //! The whole drawing.
 
-ghost use Rattle.std.specs.Prelude.{◌≡◌, ◌++◌, ◌≤◌, IfOk, OnOk, flat_map, length, map, string_bytes};
-ghost use Rattle.svg.specs.Figure.{Figure};
-ghost use Rattle.xbar_office_drawing.specs.CardFace.{card_face, card_height};
-ghost use Rattle.xbar_office_drawing.specs.Drawing.{cards_top as cards_top_of, drawing_height as drawing_height_of, drawing_of, office_drawing as the_drawing, path_height, path_picture, picture_of, picture_parts, stacked, style as the_style};
-ghost use Rattle.xbar_office_drawing.specs.Figures.{figures_text, part_text};
-ghost use Rattle.xbar_office_drawing.specs.OfficeMap.{map_height, office_map};
+ghost use Rattle.std.specs.Prelude.{◌≡◌, ◌++◌, ◌≤◌, IfOk, OnOk, flat_map, map, string_bytes};
+ghost use Rattle.svg.specs.Figure.{figure_text};
+ghost use Rattle.xbar_office_drawing.specs.CardFace.{card_face};
+ghost use Rattle.xbar_office_drawing.specs.Drawing.{card_place, count_text, drawing_of, drawing_parts, index_place, office_drawing as the_drawing, office_with, path_alone, path_card_place, sheet_text, style as the_style, title};
+ghost use Rattle.xbar_office_drawing.specs.Figures.{figures_text, laid_out, part_text};
+ghost use Rattle.xbar_office_drawing.specs.Index.{entry};
+ghost use Rattle.xbar_office_drawing.specs.PathInOffice.{path_dots, path_trails};
+ghost use Rattle.xbar_office_drawing.specs.Switches.{path_card};
 
-use crate::card_face::{CARD_HEIGHT, add_card};
-use crate::frames::add_frames;
-use crate::grids::add_grids;
-use crate::office_map::{MAP_HEIGHT, add_map};
+use crate::card_face::add_card;
+use crate::index::add_entry;
+use crate::names::{add_line_name, add_names, add_trunk_name};
+use crate::office::add_office;
 use crate::owned_card::{OwnedCard, all_cards};
-use crate::sheet::SHEET_WIDTH;
+use crate::path_in_office::{add_dots, add_trails};
+use crate::placing::{Rows, add_place, cards_top, drawing_height, paths_top};
+use crate::shapes::add_shapes;
+use crate::switches::add_path_card;
 use std::alloc::{AllocError, Global};
-use svg::{Point, add_foot, add_group, add_group_end, add_head, add_open, add_rectangle};
+use svg::{Point, add_foot, add_group, add_group_end, add_head, add_words};
 use xbar_equip::Path;
 use xbar_office::Record;
 use xbar_plan::Plan;
 
-/// The height of the picture of a path.
-const PATH_HEIGHT: u16 = 590;
-
 /// The style sheet, which says how each class looks.
 const STYLE: &str = "\
-text{font:12px Helvetica,Arial,'DejaVu Sans',sans-serif}.sheet{fill:#fff}\
-.frame{fill:#f7f5ee;stroke:#8a8474}.switch{fill:#fff;stroke:#8a8474}\
-.used{fill:#fff3c4;stroke:#5f5a4c;stroke-width:1.5}.idle{stroke:#d6d0c0}\
-.fault{stroke:#d35400;stroke-width:3;stroke-dasharray:5 4}\
-.call{stroke:#c0392b;stroke-width:3}.register{stroke:#2471a3;stroke-width:3}\
-.closed{stroke:#5f5a4c;stroke-width:1.6}.point{fill:#c0392b}\
-.edge{stroke:#b9976a;stroke-width:1.5}.hole{fill:#3a3a3a}.place{fill:none;stroke:#d9c7a3}\
-.middle{text-anchor:middle}.end,.told{text-anchor:end}\
-.name{text-anchor:middle;paint-order:stroke;stroke:#fff;stroke-width:5px;stroke-linejoin:round}\
-.small,.field{font-size:10px;fill:#5f5a4c}.cell{font-size:9px}.big{font-size:17px;font-weight:bold}";
+text{font:14px Georgia,'DejaVu Serif',serif;fill:#2b2620}.sheet{fill:#f6f0e2}\
+.frame{fill:#fbf8ef;stroke:#8c7d63}.switch{fill:#efe6d2;stroke:#8c7d63;stroke-width:.7}\
+.lines{stroke:#a8997d;stroke-width:4;stroke-dasharray:1 3}\
+.trunks{stroke:#a8997d;stroke-width:4;stroke-dasharray:1 7}\
+.idle{stroke:#c9bda3;stroke-width:.35}.bundle{fill:none;stroke:#d8cdb5;stroke-width:.6}\
+.mesh{fill:url(#mesh)}.bar{stroke:#c0b396;stroke-width:.8}path{fill:none}\
+.call{stroke:#a3201b;stroke-width:2.4}.call.edge{stroke:#f6f0e2;stroke-width:5}\
+.register{stroke:#f6f0e2;stroke-width:1.6}.register.edge{stroke:#1f4e79;stroke-width:4.4}\
+circle.call{fill:#2b2620;stroke:#f6f0e2;stroke-width:1}\
+circle.register{fill:#f6f0e2;stroke:#1f4e79;stroke-width:1.6}\
+.fault{stroke:#b35309;stroke-width:2.4;stroke-dasharray:6 4}\
+.closed{stroke:#2b2620;stroke-width:1.4}.point{fill:#a3201b}\
+.card{fill:#f3e3bf;stroke:#8c7d63}.place{fill:#fbf3dc;stroke:#cdb88a}.hole{fill:#2b2620}\
+.middle{text-anchor:middle}.end,.told,.line{text-anchor:end}\
+.number{text-anchor:middle;font-size:24px;fill:#6f624b}.head,.small,.field{fill:#5d523f}\
+.head{font-style:italic}.unlisted{font-style:italic;fill:#5d523f}\
+.big{font-size:18px;font-weight:bold}";
 
-/// The drawing in SVG of an office under this plan, with these paths after these records: all
-/// paths at a glance, each path, and each trouble card, one below the other, 1,000 units wide.
+/// The drawing in SVG of an office under this plan, with these paths after these records: the
+/// office at a glance, the index of the paths, the card of each path, and each trouble card, 1,600
+/// units wide.
 pub fn office_drawing(
     alloc: Global,
     plan: &Plan,
@@ -63,152 +73,232 @@ fn add_drawing(
         drawing_of plan.now paths.now cards.now) }
 {
     let height = drawing_height(paths.len(), cards.len());
-    add_head(text, SHEET_WIDTH, height, STYLE)?;
-    add_parts(alloc, text, plan, paths, paths, cards)?;
+    add_head(text, 1600, height, STYLE)?;
+    text.push_str("<rect width=\"100%\" height=\"100%\" class=\"sheet\"/>\n")?;
+    add_shapes(alloc, text)?;
+    add_parts(alloc, text, plan, paths, cards)?;
     add_foot(text)?;
     Ok(())
 }
 
-/// Adds a picture for a page that has the style sheet: all `paths` at a glance, each of the
-/// `shown` paths through its frames, and the cards, one below the other, 1,000 units wide.
-#[tactic(auto, unfolding(crate::specs::Drawing::picture_of))]
-pub fn add_picture(
-    alloc: Global,
-    text: &mut String,
-    plan: &Plan,
-    paths: &[Path],
-    shown: &[Path],
-    cards: &[OwnedCard],
-) -> Result<(), AllocError>
-    ensures { OnOk result (string_bytes text.new ≡ string_bytes text.old ++
-        picture_of plan.now paths.now shown.now cards.now) }
-{
-    let height = drawing_height(shown.len(), cards.len());
-    add_open(text, SHEET_WIDTH, height)?;
-    add_parts(alloc, text, plan, paths, shown, cards)?;
-    add_foot(text)?;
-    Ok(())
-}
-
-/// The style sheet of drawings and pictures.
+/// The style sheet of drawings and of what a page takes from them.
 pub fn style() -> &'static str
     ensures { result.now ≡ the_style }
 {
     STYLE
 }
 
-/// The upper edge of the first card, below this many paths.
-fn cards_top(paths: usize) -> u128
-    ensures value { result ≡ cards_top_of paths }
-    ensures range { result ≤ 20000000000000000000000 }
+// ---- the picture of the office
+
+/// Adds the number of paths, and the number of crosspoints that they close.
+#[tactic(auto, unfolding(crate::specs::Drawing::count_text))]
+pub fn add_count(text: &mut String, count: usize) -> Result<(), AllocError>
+    ensures { OnOk result (string_bytes text.new ≡ string_bytes text.old ++ count_text count) }
 {
-    u128::from(MAP_HEIGHT) + u128::from(PATH_HEIGHT) * paths as u128
+    let closed = 4 * count as u128;
+    write!(text, "paths: {count}, crosspoints closed: {closed}")?;
+    Ok(())
 }
 
-/// The height of a drawing that shows this many paths and cards.
-fn drawing_height(paths: usize, cards: usize) -> u128
-    ensures { result ≡ drawing_height_of paths cards }
+fn add_title(alloc: Global, text: &mut String, count: usize) -> Result<(), AllocError>
+    ensures { OnOk result (string_bytes text.new ≡ string_bytes text.old ++
+        figure_text (title count)) }
 {
-    cards_top(paths) + u128::from(CARD_HEIGHT) * cards as u128
+    let mut told = String::new(alloc);
+    add_count(&mut told, count)?;
+    add_words(text, Point::new(16, 30), "big", told.as_str())
 }
 
-/// Adds the parts of a picture: the map of all paths, the paths that are shown, and the cards.
-#[tactic(auto, unfolding(crate::specs::Drawing::picture_parts))]
+/// Adds the office with its paths: their trails, over them their dots, and their names.
+#[tactic(auto, unfolding(crate::specs::Drawing::office_with))]
+fn add_office_with(
+    alloc: Global,
+    text: &mut String,
+    plan: &Plan,
+    paths: &[Path],
+) -> Result<(), AllocError>
+    ensures { OnOk result (string_bytes text.new ≡ string_bytes text.old ++
+        figures_text (office_with plan.now paths.now)) }
+{
+    add_title(alloc, text, paths.len())?;
+    add_office(alloc, text, plan)?;
+    add_all_trails(alloc, text, plan, paths)?;
+    add_all_dots(text, plan, paths)?;
+    add_names(alloc, text, plan, paths)
+}
+
+fn add_all_trails(
+    alloc: Global,
+    text: &mut String,
+    plan: &Plan,
+    paths: &[Path],
+) -> Result<(), AllocError>
+    ensures { OnOk result (string_bytes text.new ≡ string_bytes text.old ++
+        figures_text (flat_map (path_trails plan.now) paths.now)) }
+{
+    for path in paths {
+        add_trails(alloc, text, plan, path)?;
+    }
+    Ok(())
+}
+
+fn add_all_dots(text: &mut String, plan: &Plan, paths: &[Path]) -> Result<(), AllocError>
+    ensures { OnOk result (string_bytes text.new ≡ string_bytes text.old ++
+        figures_text (flat_map (path_dots plan.now) paths.now)) }
+{
+    for path in paths {
+        add_dots(text, plan, path)?;
+    }
+    Ok(())
+}
+
+/// Adds a path alone, with its names in the first columns.
+#[tactic(auto, unfolding(crate::specs::Drawing::path_alone))]
+pub fn add_path_alone(
+    alloc: Global,
+    text: &mut String,
+    plan: &Plan,
+    path: &Path,
+) -> Result<(), AllocError>
+    ensures { OnOk result (string_bytes text.new ≡ string_bytes text.old ++
+        figures_text (path_alone plan.now path.now)) }
+{
+    add_trails(alloc, text, plan, path)?;
+    add_dots(text, plan, path)?;
+    add_line_name(alloc, text, plan, 0, path)?;
+    add_trunk_name(alloc, text, plan, 0, path)
+}
+
+// ---- the parts of a drawing
+
+/// Adds the parts of a drawing: the office, the index of the paths, the card of each path, and the
+/// trouble cards.
+#[tactic(auto, unfolding(crate::specs::Drawing::drawing_parts))]
 fn add_parts(
     alloc: Global,
     text: &mut String,
     plan: &Plan,
     paths: &[Path],
-    shown: &[Path],
     cards: &[OwnedCard],
 ) -> Result<(), AllocError>
     ensures { OnOk result (string_bytes text.new ≡ string_bytes text.old ++
-        flat_map part_text (picture_parts plan.now paths.now shown.now cards.now)) }
+        flat_map part_text (drawing_parts plan.now paths.now cards.now)) }
 {
-    let below = cards_top(shown.len());
-    add_map_part(alloc, text, plan, paths)?;
-    add_path_parts(alloc, text, plan, shown)?;
-    add_card_parts(alloc, text, below, cards)?;
+    let first_top = paths_top(paths.len());
+    let second_top = cards_top(paths.len());
+    add_office_part(alloc, text, plan, paths)?;
+    add_index(alloc, text, plan, paths)?;
+    add_path_cards(alloc, text, plan, first_top, paths)?;
+    add_trouble_cards(alloc, text, second_top, cards)?;
     Ok(())
 }
 
 #[tactic(auto, unfolding(crate::specs::Figures::part_text))]
-fn add_map_part(
+fn add_office_part(
     alloc: Global,
     text: &mut String,
     plan: &Plan,
     paths: &[Path],
 ) -> Result<(), AllocError>
     ensures { OnOk result (string_bytes text.new ≡ string_bytes text.old ++
-        part_text (record { down = 0; figures = office_map plan.now paths.now })) }
+        part_text (record { across = 0; down = 0; figures = office_with plan.now paths.now })) }
 {
-    add_group(text, 0)?;
-    add_map(alloc, text, plan, paths)?;
-    add_group_end(text)?;
-    Ok(())
+    add_group(text, 0, 0)?;
+    add_office_with(alloc, text, plan, paths)?;
+    add_group_end(text)
 }
 
-fn add_path_parts(
+fn add_index(
     alloc: Global,
     text: &mut String,
     plan: &Plan,
     paths: &[Path],
 ) -> Result<(), AllocError>
     ensures { OnOk result (string_bytes text.new ≡ string_bytes text.old ++
-        flat_map part_text
-        (stacked path_height map_height (map (path_picture plan.now) paths.now))) }
+        flat_map part_text (laid_out index_place 0 (map (entry plan.now) paths.now))) }
 {
-    let mut down = u128::from(MAP_HEIGHT);
-    for path in paths {
-        add_path_part(alloc, text, plan, down, path)?;
-        down += u128::from(PATH_HEIGHT);
+    for (k, path) in paths.iter().enumerate() {
+        add_entry_part(alloc, text, plan, k, path)?;
     }
     Ok(())
 }
 
 #[tactic(auto, unfolding(crate::specs::Figures::part_text))]
-fn add_path_part(
+fn add_entry_part(
     alloc: Global,
     text: &mut String,
     plan: &Plan,
-    down: u128,
+    k: usize,
     path: &Path,
 ) -> Result<(), AllocError>
     ensures { OnOk result (string_bytes text.new ≡ string_bytes text.old ++
-        part_text (record { down = down; figures = path_picture plan.now path.now })) }
+        part_text (index_place k (entry plan.now path.now))) }
 {
-    add_group(text, down)?;
-    add_path(alloc, text, plan, path)?;
-    add_group_end(text)?;
-    Ok(())
+    let rows = Rows {
+        count: 4,
+        width: 390,
+        height: 24,
+        top: 920,
+    };
+    add_place(text, rows, k)?;
+    add_entry(alloc, text, plan, path)?;
+    add_group_end(text)
 }
 
-/// Adds a path through its frames, and below them its four switches.
-#[tactic(auto, unfolding(crate::specs::Drawing::path_picture))]
-fn add_path(alloc: Global, text: &mut String, plan: &Plan, path: &Path) -> Result<(), AllocError>
-    ensures { OnOk result (string_bytes text.new ≡ string_bytes text.old ++
-        figures_text (path_picture plan.now path.now)) }
-{
-    add_rectangle(text, Point::new(0, 0), SHEET_WIDTH, PATH_HEIGHT, "sheet")?;
-    add_frames(alloc, text, plan, path)?;
-    add_grids(alloc, text, path)?;
-    Ok(())
-}
-
-fn add_card_parts(
+fn add_path_cards(
     alloc: Global,
     text: &mut String,
-    below: u128,
+    plan: &Plan,
+    top: u128,
+    paths: &[Path],
+) -> Result<(), AllocError>
+    requires { top ≤ 20000000000000000000000 }
+    ensures { OnOk result (string_bytes text.new ≡ string_bytes text.old ++
+        flat_map part_text
+        (laid_out (path_card_place top) 0 (map (path_card plan.now) paths.now))) }
+{
+    for (k, path) in paths.iter().enumerate() {
+        add_path_card_part(alloc, text, plan, top, k, path)?;
+    }
+    Ok(())
+}
+
+#[tactic(auto, unfolding(crate::specs::Figures::part_text))]
+fn add_path_card_part(
+    alloc: Global,
+    text: &mut String,
+    plan: &Plan,
+    top: u128,
+    k: usize,
+    path: &Path,
+) -> Result<(), AllocError>
+    requires { top ≤ 20000000000000000000000 }
+    ensures { OnOk result (string_bytes text.new ≡ string_bytes text.old ++
+        part_text (path_card_place top k (path_card plan.now path.now))) }
+{
+    let rows = Rows {
+        count: 3,
+        width: 520,
+        height: 184,
+        top,
+    };
+    add_place(text, rows, k)?;
+    add_path_card(alloc, text, plan, path)?;
+    add_group_end(text)
+}
+
+fn add_trouble_cards(
+    alloc: Global,
+    text: &mut String,
+    top: u128,
     cards: &[OwnedCard],
 ) -> Result<(), AllocError>
-    requires { below ≤ 20000000000000000000000 }
+    requires { top ≤ 20000000000000000000000 }
     ensures { OnOk result (string_bytes text.new ≡ string_bytes text.old ++
-        flat_map part_text (stacked card_height below (map card_face cards.now))) }
+        flat_map part_text (laid_out (card_place top) 0 (map card_face cards.now))) }
 {
-    let mut down = below;
-    for card in cards {
-        add_card_part(alloc, text, down, card)?;
-        down += u128::from(CARD_HEIGHT);
+    for (k, card) in cards.iter().enumerate() {
+        add_card_part(alloc, text, top, k, card)?;
     }
     Ok(())
 }
@@ -217,14 +307,21 @@ fn add_card_parts(
 fn add_card_part(
     alloc: Global,
     text: &mut String,
-    down: u128,
+    top: u128,
+    k: usize,
     card: &OwnedCard,
 ) -> Result<(), AllocError>
+    requires { top ≤ 20000000000000000000000 }
     ensures { OnOk result (string_bytes text.new ≡ string_bytes text.old ++
-        part_text (record { down = down; figures = card_face card.now })) }
+        part_text (card_place top k (card_face card.now))) }
 {
-    add_group(text, down)?;
+    let rows = Rows {
+        count: 3,
+        width: 520,
+        height: 250,
+        top,
+    };
+    add_place(text, rows, k)?;
     add_card(alloc, text, card)?;
-    add_group_end(text)?;
-    Ok(())
+    add_group_end(text)
 }

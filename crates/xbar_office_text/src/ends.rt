@@ -32,14 +32,14 @@ fn group_name(plan: &Plan, group: u8) -> &str
 
 /// The member at the place where a path ends.
 #[derive(Clone, Copy)]
-struct MemberName<'a>(&'a Plan, &'a Path);
+pub struct PathMember<'a>(pub &'a Plan, pub &'a Path);
 
-impl fmt::Display for MemberName<'_> {
+impl fmt::Display for PathMember<'_> {
     ghost output = { λ name. Some (member_text name.0.now name.1.now) };
 
     #[tactic(auto, unfolding(crate::specs::Ends::member_text))]
     fn fmt<W: fmt::Write>(&self, f: &mut fmt::Formatter<W>) -> fmt::Result {
-        let MemberName(plan, path) = self;
+        let PathMember(plan, path) = self;
         match plan.member_of(path.place) {
             Some(member) => write!(f, "{} {}", group_name(plan, member.group), member.index),
             None => f.write_str("no member"),
@@ -77,7 +77,7 @@ impl fmt::Display for PathUse<'_> {
     #[tactic(auto, unfolding(crate::specs::Ends::use_text))]
     fn fmt<W: fmt::Write>(&self, f: &mut fmt::Formatter<W>) -> fmt::Result {
         let PathUse(plan, path) = self;
-        let member = MemberName(plan, path);
+        let member = PathMember(plan, path);
         let other = OtherPlace(plan, path);
         if ends_at_register(plan, path) {
             write!(f, "register's path: {member}{other}")
@@ -92,7 +92,7 @@ impl fmt::Display for PathUse<'_> {
 pub fn path_end(alloc: Global, plan: &Plan, path: &Path) -> Result<String, AllocError>
     ensures { IfOk result (λ text. string_bytes text ≡ end_text plan.now path.now) }
 {
-    let member = MemberName(plan, path);
+    let member = PathMember(plan, path);
     if ends_at_register(plan, path) {
         format!(in alloc; "register {member}")
     } else {

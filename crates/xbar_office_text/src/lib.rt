@@ -2,7 +2,7 @@
 //! and the trouble cards.
 #![tactic(auto)]
 
-pub use ends::{ends_at_register, path_end};
+pub use ends::{PathMember, ends_at_register, path_end};
 pub use path::add_path_lines;
 pub use text::office_text;
 

@@ -8,23 +8,23 @@ use Rattle.xbar_office.specs.declared.reply.Record.{Record}
 use Rattle.xbar_plan.specs.Tables.{Tables}
 use Rattle.xbar_page.specs.Sections.{Section, sections_from, turn_at}
 
-module _ (plan : Tables) (last : Option ℕ) where
-  pub length-sections : (paths : List Path) (before : Option ℕ) (records : List Record) → length (sections_from plan last paths before records) ≡ length records
+module _ (plan : Tables) where
+  pub length-sections : (paths : List Path) (before : Option ℕ) (records : List Record) → length (sections_from plan paths before records) ≡ length records
   length-sections paths before [] = refl
   length-sections paths before (owner ∷ more) = ap suc (length-sections (whole plan paths owner.job).paths (Some owner.turn) more)
 
   shown_below : (paths : List Path) (before : Option ℕ) (records : List Record) (place : ℕ) (section : Section)
-      → slice_get (sections_from plan last paths before records) place ≡ Some section
+      → slice_get (sections_from plan paths before records) place ≡ Some section
       → (slice_get records place ≡ Some section.owner) × (section.paths ≡ after_jobs plan paths (jobs_of (take (suc place) records)))
   shown_below paths before [] place section is = absurd cc
   shown_below paths before (owner ∷ more) zero section is =
-      let first : Section = record { owner = owner; paths = (whole plan paths owner.job).paths; links = record { before = before; after = turn_at more 0; last = last } } in
+      let first : Section = record { owner = owner; paths = (whole plan paths owner.job).paths; links = record { before = before; after = turn_at more 0 } } in
       let same : first ≡ section = cc in
       (ap (λ (s : Section). Some s.owner) same, sym (ap (λ (s : Section). s.paths) same))
   shown_below paths before (owner ∷ more) (suc place) section is =
       shown_below (whole plan paths owner.job).paths (Some owner.turn) more place section is
 
   pub shown_at : (paths : List Path) (before : Option ℕ) (records : List Record) (place : ℕ) (section : Section)
-      → slice_get (sections_from plan last paths before records) place ≡ Some section
+      → slice_get (sections_from plan paths before records) place ≡ Some section
       → (slice_get records place ≡ Some section.owner) × (section.paths ≡ after_jobs plan paths (jobs_of (take (place + 1) records)))
   shown_at paths before records place section is = rw add-one (shown_below paths before records place section is)

@@ -14,27 +14,17 @@ link_to relation to label =
     concat (codes "<a rel=\"" ∷ relation ∷ codes "\" href=\"#" ∷ section_name to ∷ codes "\">"
     ∷ label ∷ codes "</a>\n" ∷ [])
 
--- the label of a link that would lead nowhere
-unfoldable pub no_link : List ℕ → List ℕ
-no_link label = concat (codes "<span>" ∷ label ∷ codes "</span>\n" ∷ [])
+-- the link to the turn after, or only its label if there is none
+unfoldable pub next_link : Option ℕ → List ℕ
+next_link None = codes "<span>after &#8594;</span>\n"
+next_link (Some turn) = link_to (codes "next") (Some turn) (codes "after &#8594;")
 
--- a link to a turn, or only its label if there is no turn
-unfoldable pub turn_link : List ℕ → Option ℕ → List ℕ → List ℕ
-turn_link relation None label = no_link label
-turn_link relation (Some turn) label = link_to relation (Some turn) label
-
--- the links of a turn: to the office before all turns, to the turn before, to the turn after and
--- to the last turn
+-- the links of a turn: to the turn before or to the office before all turns, and to the turn after
 unfoldable pub nav_text : Links → List ℕ
 nav_text links =
-    concat (codes "<nav>\n" ∷ link_to (codes "first") None (codes "start")
-    ∷ link_to (codes "prev") links.before (codes "&#8592; before")
-    ∷ turn_link (codes "next") links.after (codes "after &#8594;")
-    ∷ turn_link (codes "last") links.last (codes "last") ∷ codes "</nav>\n" ∷ [])
+    concat (codes "<nav>\n" ∷ link_to (codes "prev") links.before (codes "&#8592; before")
+    ∷ next_link links.after ∷ codes "</nav>\n" ∷ [])
 
 -- the links of the office before all turns
-unfoldable pub start_nav_text : Option ℕ → Option ℕ → List ℕ
-start_nav_text first last =
-    concat (codes "<nav>\n" ∷ no_link (codes "start") ∷ no_link (codes "&#8592; before")
-    ∷ turn_link (codes "next") first (codes "after &#8594;")
-    ∷ turn_link (codes "last") last (codes "last") ∷ codes "</nav>\n" ∷ [])
+unfoldable pub start_nav_text : Option ℕ → List ℕ
+start_nav_text first = concat (codes "<nav>\n" ∷ next_link first ∷ codes "</nav>\n" ∷ [])

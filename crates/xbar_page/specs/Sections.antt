@@ -1,5 +1,5 @@
 -- A section for each turn.
-use Rattle.std.specs.Prelude.{ℕ, ◌-◌, Option, Some, None, List, [], ◌∷◌, length, option_map, slice_get}
+use Rattle.std.specs.Prelude.{ℕ, Option, Some, None, List, [], ◌∷◌, option_map, slice_get}
 use Rattle.xbar_equip.specs.declared.path.Path.{Path}
 use Rattle.xbar_office.specs.Whole.{whole}
 use Rattle.xbar_office.specs.declared.reply.Record.{Record}
@@ -16,21 +16,17 @@ pub record Section : Type 0 where
 abbrev pub turn_at : List Record → ℕ → Option ℕ
 turn_at records place = option_map (λ r. r.turn) (slice_get records place)
 
--- the turn of the last record, if there is one
-abbrev pub last_turn : List Record → Option ℕ
-last_turn records = turn_at records (length records - 1)
-
 -- the sections of records on a set of paths, after a turn or none
-abbrev pub sections_from : Tables → Option ℕ → List Path → Option ℕ → List Record → List Section
-sections_from plan last paths before [] = []
-sections_from plan last paths before (owner ∷ more) =
+abbrev pub sections_from : Tables → List Path → Option ℕ → List Record → List Section
+sections_from plan paths before [] = []
+sections_from plan paths before (owner ∷ more) =
     record {
       owner = owner;
       paths = (whole plan paths owner.job).paths;
-      links = record { before = before; after = turn_at more 0; last = last };
+      links = record { before = before; after = turn_at more 0 };
     }
-    ∷ sections_from plan last (whole plan paths owner.job).paths (Some owner.turn) more
+    ∷ sections_from plan (whole plan paths owner.job).paths (Some owner.turn) more
 
 -- the sections of records on an office that begins with no path
 abbrev pub sections : Tables → List Record → List Section
-sections plan records = sections_from plan (last_turn records) [] None records
+sections plan records = sections_from plan [] None records

@@ -3,9 +3,13 @@
 
 pub use page::office_page;
 
+mod head;
 pub mod laws;
 mod links;
 mod page;
+mod picture;
+mod script;
 mod section;
 mod sentences;
+mod stays;
 mod words;

@@ -1,18 +1,16 @@
 //! Links from section to section.
 
 ghost use Rattle.std.specs.Prelude.{◌≡◌, ◌++◌, None, OnOk, Some, string_bytes};
-ghost use Rattle.xbar_page.specs.Links.{link_to, nav_text, no_link, section_name, start_nav_text, turn_link};
+ghost use Rattle.xbar_page.specs.Links.{link_to, nav_text, next_link, section_name, start_nav_text};
 
 use std::alloc::AllocError;
 use std::fmt;
 
-/// Where the links of a turn lead: to the turns before and after it, if there are any, and to the
-/// last turn.
+/// Where the links of a turn lead: to the turns before and after it, if there are any.
 #[derive(Clone, Copy)]
 pub struct Links {
     pub before: Option<u64>,
     pub after: Option<u64>,
-    pub last: Option<u64>,
 }
 
 /// The name of the section of a turn; without a turn, of the office before all turns.
@@ -47,29 +45,17 @@ fn add_link(
     Ok(())
 }
 
-/// Adds the label of a link that would lead nowhere.
-#[tactic(auto, unfolding(crate::specs::Links::no_link))]
-fn add_no_link(text: &mut String, label: &str) -> Result<(), AllocError>
-    ensures { OnOk result (string_bytes text.new ≡ string_bytes text.old ++ no_link label.now) }
-{
-    writeln!(text, "<span>{label}</span>")?;
-    Ok(())
-}
-
-/// Adds a link to a turn, or only its label if there is no turn.
-#[tactic(auto, unfolding(crate::specs::Links::turn_link))]
-fn add_turn_link(
-    text: &mut String,
-    relation: &str,
-    to: Option<u64>,
-    label: &str,
-) -> Result<(), AllocError>
-    ensures { OnOk result (string_bytes text.new ≡ string_bytes text.old ++
-        turn_link relation.now to label.now) }
+/// Adds the link to the turn after, or only its label if there is none.
+#[tactic(auto, unfolding(crate::specs::Links::next_link))]
+fn add_next_link(text: &mut String, to: Option<u64>) -> Result<(), AllocError>
+    ensures { OnOk result (string_bytes text.new ≡ string_bytes text.old ++ next_link to) }
 {
     match to {
-        None => add_no_link(text, label),
-        Some(turn) => add_link(text, relation, Some(turn), label),
+        None => {
+            text.push_str("<span>after &#8594;</span>\n")?;
+            Ok(())
+        }
+        Some(turn) => add_link(text, "next", Some(turn), "after &#8594;"),
     }
 }
 
@@ -79,29 +65,20 @@ pub fn add_nav(text: &mut String, links: Links) -> Result<(), AllocError>
     ensures { OnOk result (string_bytes text.new ≡ string_bytes text.old ++ nav_text links) }
 {
     text.push_str("<nav>\n")?;
-    add_link(text, "first", None, "start")?;
     add_link(text, "prev", links.before, "&#8592; before")?;
-    add_turn_link(text, "next", links.after, "after &#8594;")?;
-    add_turn_link(text, "last", links.last, "last")?;
+    add_next_link(text, links.after)?;
     text.push_str("</nav>\n")?;
     Ok(())
 }
 
-/// Adds the links of the office before all turns, to the first turn and to the last.
+/// Adds the links of the office before all turns.
 #[tactic(auto, unfolding(crate::specs::Links::start_nav_text))]
-pub fn add_start_nav(
-    text: &mut String,
-    first: Option<u64>,
-    last: Option<u64>,
-) -> Result<(), AllocError>
+pub fn add_start_nav(text: &mut String, first: Option<u64>) -> Result<(), AllocError>
     ensures { OnOk result (string_bytes text.new ≡ string_bytes text.old ++
-        start_nav_text first last) }
+        start_nav_text first) }
 {
     text.push_str("<nav>\n")?;
-    add_no_link(text, "start")?;
-    add_no_link(text, "&#8592; before")?;
-    add_turn_link(text, "next", first, "after &#8594;")?;
-    add_turn_link(text, "last", last, "last")?;
+    add_next_link(text, first)?;
     text.push_str("</nav>\n")?;
     Ok(())
 }

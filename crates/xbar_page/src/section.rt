@@ -1,7 +1,8 @@
 //! A section of the page, which shows a turn.
 
-ghost use Rattle.std.specs.Prelude.{◌≡◌, ◌++◌, OnOk, string_bytes};
-ghost use Rattle.xbar_page.specs.Section.{lines_text, section_end, section_text, title_text};
+ghost use Rattle.std.specs.Prelude.{◌≡◌, ◌++◌, List, OnOk, flat_map, string_bytes};
+ghost use Rattle.xbar_equip.specs.declared.path.Path.{Path as ThePath};
+ghost use Rattle.xbar_page.specs.Section.{card_inset, inset_start, lines_text, path_inset, section_end, section_text, title_text};
 
 use crate::links::{Links, SectionName, add_nav};
 use crate::sentences::{add_words, set_up};
@@ -9,7 +10,7 @@ use crate::words::Requested;
 use std::alloc::{AllocError, Global};
 use xbar_equip::Path;
 use xbar_office::Record;
-use xbar_office_drawing::{add_picture, cards_of};
+use xbar_office_drawing::{OwnedCard, add_card, add_path_card, cards_of};
 use xbar_plan::Plan;
 use xbar_report::record_text;
 
@@ -24,7 +25,7 @@ fn add_title(text: &mut String, owner: &Record) -> Result<(), AllocError>
     let asked = Requested(&owner.job);
     write!(
         text,
-        "<section id=\"{name}\">\n<h1>Turn {turn}: {asked}</h1>\n"
+        "<section id=\"{name}\">\n<h2>Turn {turn}: {asked}</h2>\n"
     )?;
     Ok(())
 }
@@ -42,26 +43,90 @@ fn add_lines(alloc: Global, text: &mut String, owner: &Record) -> Result<(), All
     Ok(())
 }
 
-/// Adds the section of a record's turn. `paths` are those of the office after it.
+/// Adds the beginning of figures of a class, 480 units wide.
+#[tactic(auto, unfolding(crate::specs::Section::inset_start))]
+fn add_inset_start(text: &mut String, height: u16, class: &str) -> Result<(), AllocError>
+    ensures { OnOk result (string_bytes text.new ≡ string_bytes text.old ++
+        inset_start height class.now) }
+{
+    text.push_str("<svg xmlns=\"http://www.w3.org/2000/svg\" viewBox=\"0 0 480 ")?;
+    writeln!(text, "{height}\" class=\"{class}\">")?;
+    Ok(())
+}
+
+/// Adds a trouble card of a turn.
+#[tactic(auto, unfolding(crate::specs::Section::card_inset, crate::specs::Section::inset_text))]
+fn add_card_inset(alloc: Global, text: &mut String, card: &OwnedCard) -> Result<(), AllocError>
+    ensures { OnOk result (string_bytes text.new ≡ string_bytes text.old ++ card_inset card.now) }
+{
+    add_inset_start(text, 228, "card-face")?;
+    add_card(alloc, text, card)?;
+    text.push_str("</svg>\n")?;
+    Ok(())
+}
+
+/// Adds the card of a path that a turn set up.
+#[tactic(auto, unfolding(crate::specs::Section::path_inset, crate::specs::Section::inset_text))]
+fn add_path_inset(
+    alloc: Global,
+    text: &mut String,
+    plan: &Plan,
+    path: &Path,
+) -> Result<(), AllocError>
+    ensures { OnOk result (string_bytes text.new ≡ string_bytes text.old ++
+        path_inset plan.now path.now) }
+{
+    add_inset_start(text, 164, "switches")?;
+    add_path_card(alloc, text, plan, path)?;
+    text.push_str("</svg>\n")?;
+    Ok(())
+}
+
+fn add_cards(alloc: Global, text: &mut String, cards: &[OwnedCard]) -> Result<(), AllocError>
+    ensures { OnOk result (string_bytes text.new ≡ string_bytes text.old ++
+        flat_map card_inset cards.now) }
+{
+    for card in cards {
+        add_card_inset(alloc, text, card)?;
+    }
+    Ok(())
+}
+
+fn add_paths(
+    alloc: Global,
+    text: &mut String,
+    plan: &Plan,
+    paths: &[Path],
+) -> Result<(), AllocError>
+    ensures { OnOk result (string_bytes text.new ≡ string_bytes text.old ++
+        flat_map (path_inset plan.now) paths.now) }
+{
+    for path in paths {
+        add_path_inset(alloc, text, plan, path)?;
+    }
+    Ok(())
+}
+
+/// Adds the section of a record's turn, whatever the paths after it.
 #[tactic(auto, unfolding(crate::specs::Section::section_text))]
 pub fn add_section(
     alloc: Global,
     text: &mut String,
     plan: &Plan,
     owner: &Record,
-    paths: &[Path],
     links: Links,
 ) -> Result<(), AllocError>
-    ensures { OnOk result (string_bytes text.new ≡ string_bytes text.old ++ section_text plan.now
-        (record { owner = owner.now; paths = paths.now; links = links })) }
+    ensures { (paths : List ThePath) → OnOk result (string_bytes text.new ≡ string_bytes text.old ++
+        section_text plan.now (record { owner = owner.now; paths = paths; links = links })) }
 {
     let set_up = set_up(alloc, &owner.reply.end)?;
     let cards = cards_of(alloc, owner)?;
     add_title(text, owner)?;
     add_nav(text, links)?;
-    add_lines(alloc, text, owner)?;
     add_words(alloc, text, plan, owner)?;
-    add_picture(alloc, text, plan, paths, &set_up, &cards)?;
+    add_cards(alloc, text, &cards)?;
+    add_paths(alloc, text, plan, &set_up)?;
+    add_lines(alloc, text, owner)?;
     add_section_end(text)?;
     Ok(())
 }
@@ -70,6 +135,6 @@ pub fn add_section(
 pub fn add_section_end(text: &mut String) -> Result<(), AllocError>
     ensures { OnOk result (string_bytes text.new ≡ string_bytes text.old ++ section_end) }
 {
-    text.push_str("</div>\n</section>\n")?;
+    text.push_str("</section>\n")?;
     Ok(())
 }

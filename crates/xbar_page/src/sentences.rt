@@ -156,7 +156,7 @@ pub fn add_words(
     ensures { OnOk result (string_bytes text.new ≡ string_bytes text.old ++
         words_text plan.now owner.now) }
 {
-    text.push_str("<div class=\"turn\">\n<ul>\n")?;
+    text.push_str("<ul>\n")?;
     add_sentences(alloc, text, plan, owner)?;
     add_cards(alloc, text, owner)?;
     text.push_str("</ul>\n")?;

@@ -6,8 +6,5 @@ use Rattle.xbar_page.proofs.page.add_sections.Given as goal
 
 abbrev pub invariant-loop-place : goal.invariant-loop-place
 invariant-loop-place l =
-    record {
-      plan : l.office.plan ≡ l.plan;
-      text : string_bytes l.text ++ flat_map (section_text l.plan) (sections_from l.plan l.last l.office.paths l.before (drop l.place l.records))
-          ≡ string_bytes l.initial.text ++ flat_map (section_text l.plan) (sections_from l.plan l.last [] None l.records);
-    }
+    string_bytes l.text ++ flat_map (section_text l.plan) (sections_from l.plan [] l.before (drop l.place l.records))
+    ≡ string_bytes l.initial.text ++ flat_map (section_text l.plan) (sections_from l.plan [] None l.records)

@@ -7,13 +7,10 @@ unfolding start_text
 returns c =
     rw (
       c.in_ok-add_section_end.ensures,
-      c.in_ok-add_picture.ensures,
-      c.in_ok-write.ensures.bytes,
-      c.in_ok-push_str-3.ensures.bytes,
+      c.in_ok-writeln.ensures.bytes,
       c.in_ok-push_str-2.ensures.bytes,
       c.in_ok-add_start_nav.ensures,
       c.in_ok-push_str.ensures.bytes,
       c.turn_at.ensures,
-      c.last_turn.ensures,
     )
     (simp append_assoc)

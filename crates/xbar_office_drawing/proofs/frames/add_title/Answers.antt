@@ -1,7 +1,0 @@
-use Rattle.std.proofs.Common.{append_assoc, append-nil}
-use Rattle.xbar_office_drawing.specs.Frames.{path_title}
-use Rattle.xbar_office_drawing.proofs.frames.add_title.Goals as goal
-
-pub returns : goal.returns
-unfolding path_title
-returns c = rw (c.in_ok-add_words-2.ensures, c.in_ok-add_words.ensures, c.as_str-2.ensures.value, c.as_str.ensures.value, c.in_ok-told.ensures, c.in_ok-title.ensures.ok, c.new-2.ensures, c.new.ensures) (simp (append_assoc, append-nil))

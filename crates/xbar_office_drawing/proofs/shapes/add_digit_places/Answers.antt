@@ -1,0 +1,7 @@
+use Rattle.std.proofs.Common.{append_assoc}
+use Rattle.xbar_office_drawing.specs.Shapes.{digit_place}
+use Rattle.xbar_office_drawing.proofs.Longer.{map_longer}
+use Rattle.xbar_office_drawing.proofs.shapes.add_digit_places.Goals as goal
+
+pub loop-digit-preserved : goal.loop-digit-preserved
+loop-digit-preserved c = rw (c.in_ok-add_digit_place.ensures, c.loop-digit.invariant, map_longer (digit_place c.args.row) c.loop-digit.digit) (simp append_assoc)
