@@ -67,6 +67,8 @@ class Page {
     showTurns($('turns'), office);
     showCards($('cards'), office);
     const last = office.events[office.events.length - 1];
+    // Quick steps would keep a screen reader from ever ending a sentence.
+    $('say').setAttribute('aria-live', stage.auto && DELAYS[stage.speed] < 1000 ? 'off' : 'polite');
     setText($('say'), last ? eventWords(last, office) : t('say.start'));
     setText($('message'), stage.message ?? '');
     setText($('intro'), t(`intro.${stage.name}`));
