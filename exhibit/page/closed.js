@@ -54,8 +54,8 @@ class Closed {
         const from = whole.get(calling), to = whole.get(called);
         if (!from || !to) continue;
         const one = this.layout.place(from.t, from.u, from.a), other = this.layout.place(to.t, to.u, to.a);
-        const far = Math.max(one.x, other.x) + 10;
-        const d = `M${one.x} ${one.y}C${far} ${one.y} ${far} ${other.y} ${other.x} ${other.y}`;
+        const far = Math.max(one.x, other.x) + 12, bend = one.y === other.y ? 9 : 0;
+        const d = `M${one.x} ${one.y}C${far} ${one.y - bend} ${far} ${other.y + bend} ${other.x} ${other.y}`;
         this.figures.push(figure('path', { d, class: 'link call' }));
       }
     }

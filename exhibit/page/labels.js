@@ -1,17 +1,21 @@
-// The labels of lines and trunk places, each once, moved apart where they would overlap.
+// The labels of lines and trunk places, each once, beside their own frame. Where a frame has more than fit there, the
+// last one says how many more there are.
 class Labels {
   constructor(layout) {
     Object.assign(this, { layout, lines: new Map(), places: new Map() });
   }
 
-  line(office, line) {
+  // A line that is in use has a stroke that leads to its place.
+  line(office, line, isUsed = true) {
     const { l, s, x } = pathParts(`${line}-0-000`), point = this.layout.line(l, s, x);
-    this.lines.set(line, { text: office.lineName(line), ...point, point });
+    const isKnown = this.lines.get(line)?.isUsed ?? false;
+    this.lines.set(line, { text: office.lineName(line), frame: l, y: point.y, point, isUsed: isUsed || isKnown });
   }
 
+  // The two places of a trunk for calls inside the office have one label, if they are on one switch.
   place(office, place) {
-    const [t, u, a] = [...place].map(Number), point = this.layout.place(t, u, a);
-    this.places.set(place, { text: office.placeName(place), ...point, point });
+    const [t, u, a] = [...place].map(Number), point = this.layout.place(t, u, a), text = office.placeName(place);
+    this.places.set(`${t}${u} ${text}`, { text, frame: t, y: point.y, point, isUsed: true });
   }
 
   figures() {
@@ -23,11 +27,21 @@ class Labels {
   }
 
   column(labels, x, anchor, away) {
-    const { font, height, top } = this.layout, most = Math.floor((height - top) / (font + 3));
-    const found = spread([...labels.values()].slice(-most), font + 3, top, height);
-    return found.flatMap(({ text, y, point }) => [
-      figure('path', { d: `M${x - away / 2} ${y}L${point.x} ${point.y}`, class: 'leader' }),
-      figure('text', { x: x + away / 2, y, class: `label ${anchor}` }, text),
-    ]);
+    return TEN.flatMap(frame => this.ofFrame(frame, [...labels.values()].filter(it => it.frame === frame)))
+      .flatMap(({ text, y, point, isUsed }) => [
+        ...(isUsed ? [figure('path', { d: `M${x - away / 2} ${y}L${point.x} ${point.y}`, class: 'leader' })] : []),
+        figure('text', { x: x + away / 2, y, class: `label ${anchor}` }, text),
+      ]);
+  }
+
+  // As many labels as fit beside a frame, moved apart where they would overlap.
+  ofFrame(frame, labels) {
+    const { font, pitch } = this.layout, step = font + 2, top = this.layout.frameTop(frame) - 2;
+    const most = Math.max(1, Math.floor((pitch + 2) / step));
+    labels.sort((one, other) => one.y - other.y);
+    if (labels.length <= most) return spread(labels, step, top, top + pitch + 2);
+    const shown = labels.slice(0, most - 1), left = labels.length - shown.length;
+    const more = { text: `+${left}`, y: top + pitch, isUsed: false };
+    return spread([...shown, more], step, top, top + pitch + 2);
   }
 }

@@ -5,7 +5,7 @@ class Layout {
     this.width = width;
     this.height = height;
     this.narrow = width < 620;
-    this.font = this.narrow ? 11 : width > 1000 ? 14 : 12;
+    this.font = this.narrow ? 11 : width > 1000 ? 15 : 12;
     this.lineMargin = this.narrow ? 44 : 96;
     this.placeMargin = this.narrow ? 72 : 140;
     const inner = width - this.lineMargin - this.placeMargin;

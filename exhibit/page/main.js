@@ -67,7 +67,9 @@ class Page {
     showTurns($('turns'), office);
     showCards($('cards'), office);
     const last = office.events[office.events.length - 1];
-    setText($('say'), last ? eventWords(last, office) : t('say.start'));
+    // Quick steps would keep a screen reader from ever ending a sentence.
+    $('say').setAttribute('aria-live', stage.auto && DELAYS[stage.speed] < 1000 ? 'off' : 'polite');
+    if (last || !office.hasRows) setText($('say'), last ? eventWords(last, office) : t('say.start'));
     setText($('message'), stage.message ?? '');
     setText($('intro'), t(`intro.${stage.name}`));
     $('auto').checked = stage.auto;
@@ -149,6 +151,12 @@ class Page {
     document.title = t('title');
     for (const verdict of document.querySelectorAll('output')) verdict.replaceChildren();
     showTexts();
+    this.showLegend();
+  }
+
+  showLegend() {
+    const entry = kind => [element('i', { class: kind }), t(`legend.${kind}`)];
+    $('legend').replaceChildren(...['register', 'call', 'fault', 'holder', 'asker'].flatMap(entry));
   }
 
   showAbout() {

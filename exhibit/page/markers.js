@@ -6,7 +6,8 @@ function showMarkers(list, stage) {
   list.classList.toggle('many', many);
   const lastOf = new Map(office.events.map(event => [event.marker, event]));
   const make = many ? makeTile : makeMarker;
-  keepList(list, office.markers, it => `${stage.name} ${it.marker} ${many}`, it => make(it.marker, stage), (it, marker) => {
+  const keyOf = it => `${stage.name} ${it.marker} ${many}`;
+  keepList(list, office.markers, keyOf, it => make(it.marker, stage), (it, marker) => {
     it.classList.toggle('working', Boolean(marker.job));
     for (const name of ['step', 'finish']) {
       const press = it.querySelector(`.${name}`);
@@ -20,8 +21,8 @@ function showMarkers(list, stage) {
 function makeMarker(number, stage) {
   return element('li', { class: 'marker', 'data-marker': number, style: `--own:${markerColour(number)}` },
     element('span', { class: 'mark', 'aria-hidden': 'true' }, number),
-    element('h3', {}), ...['next', 'last', 'holds'].map(name => element('p', { class: name })),
-    buttons(textButton('step', () => stage.step(number), { class: 'step' }),
+    element('h3', {}), ...['last', 'next', 'holds'].map(name => element('p', { class: name })),
+    buttons(textButton('step', () => stage.step(number), { class: 'step main' }),
       textButton('finish', () => stage.finish(number), { class: 'finish quiet' })));
 }
 

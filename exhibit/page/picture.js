@@ -1,3 +1,6 @@
+// So many links out of order have their names in the picture.
+const MOST_NAMED = 6;
+
 // The picture of an office: its frames, what is closed in them, and who holds what.
 class Picture {
   constructor(place) {
@@ -26,8 +29,9 @@ class Picture {
     this.key = key;
     this.layout = new Layout(width, height);
     const still = new Still(this.layout);
-    const fault = link => this.link(linkParts(link), 'fault', t('picture.faulty', { link }));
-    const faults = this.office.plan.faults.map(fault);
+    const links = this.office.plan.faults;
+    const faults = links.map(link => this.link(linkParts(link), 'fault', t('picture.faulty', { link })));
+    if (links.length <= MOST_NAMED) faults.push(...links.map(link => this.name(link, 'fault', link)));
     this.use = figure('g', { class: 'use' });
     const size = { width, height, viewBox: `0 0 ${width} ${height}`, style: `font-size:${this.layout.font}px` };
     const all = [...still.figures, ...faults, this.use];
@@ -43,37 +47,54 @@ class Picture {
   drawUse() {
     const labels = new Labels(this.layout);
     const shown = new Closed(this.office, this.layout, labels);
-    for (const line of this.lines) labels.line(this.office, line);
-    for (const { job } of this.office.markers) if (job) labels.line(this.office, job.line);
+    for (const line of this.lines) labels.line(this.office, line, false);
+    const { markers } = this.office, working = markers.length > MANY_MARKERS ? [] : markers.filter(it => it.job);
+    for (const { job } of working) labels.line(this.office, job.line);
+    const links = shown.links.map(it => this.link(linkParts(it.link), it.kinds, it.link, it.colour));
+    const alarms = this.shared.flatMap(it => this.alarm(it.link));
     this.use.replaceChildren(
-      ...this.connectors(), ...shown.links.map(it => this.link(linkParts(it.link), it.kinds, it.link, it.colour)),
-      ...shown.figures, ...this.shared.flatMap(it => this.alarm(it.link)), ...this.steps(), ...labels.figures());
+      ...this.edges(), ...links, ...shown.figures, ...alarms, ...this.steps(), ...this.badges(), ...labels.figures());
   }
 
-  // The frames whose connectors are held or requested: an edge in the holder's colour, and each marker's number.
-  connectors() {
-    const layout = this.layout, found = [];
-    for (const { connector: { kind, number }, holder, requests } of this.office.connectors) {
-      if (kind === 'group') continue;
-      const column = kind === 'line link frame' ? 0 : 2, x = layout.columns[column], y = layout.frameTop(number);
+  // The connectors of frames that are held or requested, each with the place of its frame.
+  get frames() {
+    const { layout } = this;
+    return this.office.connectors.filter(it => it.connector.kind !== 'group').map(it => {
+      const { kind, number } = it.connector, column = kind === 'line link frame' ? 0 : 2;
+      return { ...it, x: layout.columns[column], y: layout.frameTop(number) };
+    });
+  }
+
+  // Their edges, in the holder's colour.
+  edges() {
+    const { frameWidth: width, frameHeight: height } = this.layout;
+    return this.frames.map(({ x, y, holder }) => {
       const style = holder === null ? null : `stroke:${markerColour(holder)}`;
-      const { frameWidth: width, frameHeight: height } = layout, kinds = holder === null ? 'wanted' : 'held';
-      found.push(figure('rect', { x, y, width, height, rx: 3, class: kinds, style }));
-      const badges = (holder === null ? [] : [[holder, 'holder']]).concat(requests.map(it => [it, 'asker']));
-      const size = Math.min(11, layout.frameHeight * 0.28), middle = x + layout.frameWidth * 0.64;
-      badges.slice(0, 5).forEach(([marker, kind], place) => {
-        const at = middle + (place - (Math.min(badges.length, 5) - 1) / 2) * size * 2.3;
-        found.push(this.badge(marker, at, y + layout.frameHeight / 2, size, kind));
-      });
-    }
-    return found;
+      return figure('rect', { x, y, width, height, rx: 3, class: holder === null ? 'wanted' : 'held', style });
+    });
+  }
+
+  // A disc for the holder of each, and one for each marker that requests it, as many as there is room for.
+  badges() {
+    const { frameWidth: width, frameHeight: height } = this.layout, size = Math.min(11, height * 0.28);
+    const room = Math.max(1, Math.floor((width * 0.66) / (size * 2.3)));
+    return this.frames.flatMap(({ x, y, holder, requests }) => {
+      const holders = holder === null ? [] : [[holder, 'holder']];
+      const all = [...holders, ...requests.map(it => [it, 'asker'])].slice(0, room);
+      const at = place => x + width * 0.62 + (place - (all.length - 1) / 2) * size * 2.3;
+      return all.map(([marker, kind], place) => this.badge(marker, at(place), y + height / 2, size, kind));
+    });
   }
 
   // A link that carries two calls.
   alarm(link) {
-    const parts = linkParts(link), [from, to] = this.layout.link(parts.kind, parts.digits);
-    const x = (from.x + to.x) / 2, y = (from.y + to.y) / 2;
-    return [this.link(parts, 'alarm', link), figure('text', { x, y: y - 7, class: 'alarm' }, `${link} ×2`)];
+    return [this.link(linkParts(link), 'alarm', link), this.name(link, 'alarm', `${link} ×2`)];
+  }
+
+  // The name of a link, above its middle.
+  name(link, kinds, text) {
+    const { kind, digits } = linkParts(link), [from, to] = this.layout.link(kind, digits);
+    return figure('text', { x: (from.x + to.x) / 2, y: (from.y + to.y) / 2 - 7, class: `name ${kinds}` }, text);
   }
 
   badge(marker, x, y, size, kind) {

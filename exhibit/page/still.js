@@ -28,11 +28,11 @@ class Still {
   // A frame with its two columns of ten switches.
   frame(frame, column) {
     const { columns, frameWidth: width, frameHeight: height } = this.layout, x = columns[column];
-    const style = `font-size:${height * 0.55}px`;
+    const style = `font-size:${Math.max(13, height * 0.45)}px`;
     return [
       figure('rect', { x, y: this.layout.frameTop(frame), width, height, rx: 3, class: 'frame' }),
       this.links(frame, column),
-      figure('text', { x: x + width * 0.3, y: this.middle(frame), class: 'number', style }, frame),
+      figure('text', { x: x + width * 0.16, y: this.middle(frame), class: 'number', style }, frame),
       ...TEN.flatMap(number => [column, column + 1].map(end => this.switch(frame, end, number))),
     ];
   }
