@@ -155,7 +155,7 @@ const AS_OBJECTS = { createObjectURL: (blob) => blob };
 
 async function testEngine(name, engine, plan, records) {
     const order = [], rows = ROWS.toString();
-    const much = Array.from({ length: 300 }, (_, k) => `J,0,${k},${"DR"[k % 2]},3041\nS,0,128,,\n`).join("");
+    const much = Array.from({ length: 3000 }, (_, k) => `J,0,${k},${"DR"[k % 2]},3041\nS,0,128,,\n`).join("");
     const given = [[1, plan, "XX", much], [0, plan, "XX", rows], [NaN, plan, "XX", rows], [2 ** 32, plan, "XX", rows],
         [0, plan, "X\ud800", rows], [4, plan, "", records], [0, plan, "XX", "\ufeffJ\ud800"]];
     const answers = await Promise.all(given.map(async (it, k) => {
@@ -187,8 +187,9 @@ async function testEngines(module, plan) {
 // The last engine's worker is lost while it works.
 async function testLost(engine, plan, records) {
     const worker = Worker.all.at(-1);
-    const waiting = engine.answer(0, plan, "XX", ROWS.toString()).then(() => "kept", () => "failed");
-    await null;
+    const long = ROWS.toString() + "\n".repeat(100_000);
+    const waiting = engine.answer(0, plan, "XX", long).then(() => "kept", () => "failed");
+    for (let turns = 0; turns < 20; turns++) await null;
     worker.onerror({ message: "gone" });
     check("a call whose worker is lost", await waiting === "failed");
     await testEngine("after a worker was lost", engine, plan, records);

@@ -1,7 +1,8 @@
 "use strict";
 
-// The engine inside the page: the module of exhibit/wasm, in a worker, so that the page goes on while it works. Where the
-// browser gives no worker to the page, as some do to a page from a file, it works in the page's own thread.
+// The engine inside the page: the module of exhibit/wasm, for large calls in a worker, so that the page goes on while it
+// works. Where the browser gives no worker to the page, as some do to a page from a file, it works in the page's own
+// thread.
 //
 // openEngine() gives an object with
 //   answer(task, plan, kinds, input)  a promise of {status, text}. Numbers and statuses are those of docs/FORMATS.md,
@@ -177,19 +178,33 @@ async function callsInPage(module) {
     return calls;
 }
 
+// Calls with so many letters or fewer are answered in the page: they take a few milliseconds, and a browser may let a
+// worker's answer wait until it has drawn the screen.
+const SMALL = 1 << 16;
+
 async function openEngine() {
     const module = await unpackedModule();
     const about = { key: "worker", bytes: module.length };
+    const small = await callsInPage(module);
     const moveToPage = () => {
         about.key = "page";
-        calls = callsInPage(module);
-        return calls;
+        large = Promise.resolve(small);
+        return large;
     };
-    let calls = callsInWorker(module, moveToPage);
-    await calls.catch(moveToPage);
-    return {
-        name: "inside",
-        about,
-        answer: async (task, plan, kinds, input) => (await calls).answer(task, plan, kinds, input),
-    };
+    let large = callsInWorker(module, moveToPage);
+    await large.catch(moveToPage);
+    let last = Promise.resolve();
+
+    async function answerNow(task, plan, kinds, input) {
+        const isSmall = plan.length + kinds.length + input.length <= SMALL;
+        return (isSmall ? small : await large).answer(task, plan, kinds, input);
+    }
+
+    // One call after the other, so that answers come in the order of the calls.
+    function answer(...given) {
+        last = last.catch(() => {}).then(() => answerNow(...given));
+        return last;
+    }
+
+    return { name: "inside", about, answer };
 }
