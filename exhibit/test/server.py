@@ -13,6 +13,13 @@ def free_port():
         return place.getsockname()[1]
 
 
+def words_for(program):
+    """The words that name the program to the server, which finds the one of bin/build itself: bin/crossbar5 first looks
+    whether a source has changed, and so takes longer for each call."""
+    path = os.path.abspath(program)
+    return [] if path == os.path.join(os.path.dirname(os.path.dirname(SERVE)), "bin", "crossbar5") else ["--program", path]
+
+
 class Server:
     """With --serve, the server and the address of its page; otherwise nothing, and no address."""
 
@@ -22,7 +29,7 @@ class Server:
             port = free_port()
             self.address = f"http://127.0.0.1:{port}/"
             self.process = Process()
-            self.process.start([sys.executable, SERVE, "--port", str(port), "--program", os.path.abspath(given.program)])
+            self.process.start([sys.executable, SERVE, "--port", str(port), *words_for(given.program)])
             self._wait()
 
     def _wait(self):

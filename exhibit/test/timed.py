@@ -6,6 +6,9 @@ import plans
 from scenario import scenario
 
 SAMPLES, STEPS_OF_A_DIAL = 40, 28
+IN_THE_PAGE, FULL_PLAN = 16, 50
+# After a click Chromium draws the screen before it hands over what a server answered, which takes up to a frame more.
+SERVED = 34
 
 
 def time_steps(test, what, limit, most=SAMPLES):
@@ -21,12 +24,12 @@ def time_steps(test, what, limit, most=SAMPLES):
     test.check(middle <= limit, f"{what}: a step takes {middle:.1f} ms, more than {limit}")
 
 
-@scenario("k1", "a step is answered and drawn within 16 ms with the example plan")
+@scenario("k1", "a step is answered and drawn within 16 ms with the example plan, through the server within 34")
 def times_of_the_example(test):
     test.page.automatic(False)
     for number in ("0001", "0003"):
         test.page.lift(number)
-    time_steps(test, "the example plan", 16)
+    time_steps(test, "the example plan", SERVED if test.options.serve else IN_THE_PAGE)
 
 
 @scenario("k2", "a step is answered and drawn within 50 ms with a full plan and 100 jobs behind it")
@@ -39,4 +42,4 @@ def times_of_a_full_plan(test):
         page.press("#skip")
     records = page.look()["records"]
     test.check(len(records) == 100, f"{len(records)} jobs are behind the step, not 100")
-    time_steps(test, "a full plan after 100 jobs", 50, STEPS_OF_A_DIAL)
+    time_steps(test, "a full plan after 100 jobs", FULL_PLAN, STEPS_OF_A_DIAL)
