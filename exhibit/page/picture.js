@@ -29,9 +29,8 @@ class Picture {
     this.key = key;
     this.layout = new Layout(width, height);
     const still = new Still(this.layout);
-    const links = this.office.plan.faults;
-    const faults = links.map(link => this.link(linkParts(link), 'fault', t('picture.faulty', { link })));
-    if (links.length <= MOST_NAMED) faults.push(...links.map(link => this.name(link, 'fault', link)));
+    const fault = link => this.link(linkParts(link), 'fault', t('picture.faulty', { link }));
+    const faults = this.office.plan.faults.map(fault);
     this.use = figure('g', { class: 'use' });
     const size = { width, height, viewBox: `0 0 ${width} ${height}`, style: `font-size:${this.layout.font}px` };
     const all = [...still.figures, ...faults, this.use];
@@ -52,8 +51,10 @@ class Picture {
     for (const { job } of working) labels.line(this.office, job.line);
     const links = shown.links.map(it => this.link(linkParts(it.link), it.kinds, it.link, it.colour));
     const alarms = this.shared.flatMap(it => this.alarm(it.link));
+    const { faults } = this.office.plan, named = faults.length <= MOST_NAMED ? faults : [];
     this.use.replaceChildren(
-      ...this.edges(), ...links, ...shown.figures, ...alarms, ...this.steps(), ...this.badges(), ...labels.figures());
+      ...this.edges(), ...links, ...shown.figures, ...alarms, ...named.map(link => this.name(link, 'fault', link)),
+      ...this.steps(), ...this.badges(), ...labels.figures());
   }
 
   // The connectors of frames that are held or requested, each with the place of its frame.
@@ -76,7 +77,8 @@ class Picture {
 
   // A disc for the holder of each, and one for each marker that requests it, as many as there is room for.
   badges() {
-    const { frameWidth: width, frameHeight: height } = this.layout, size = Math.min(11, height * 0.28);
+    const { frameWidth: width, frameHeight: height, narrow } = this.layout;
+    const size = Math.min(narrow ? 8 : 11, height * 0.28);
     const room = Math.max(1, Math.floor((width * 0.66) / (size * 2.3)));
     return this.frames.flatMap(({ x, y, holder, requests }) => {
       const holders = holder === null ? [] : [[holder, 'holder']];
